@@ -13,7 +13,6 @@ use lib.Dec.{T}
 
 infixr 30 _and_
 infixr 25 _or_
-
 unfoldable pub pick {ℓ} : {X : Type ℓ} → Bool → X → X → X
 pick true x y = x
 pick false x y = y

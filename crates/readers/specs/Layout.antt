@@ -36,17 +36,17 @@ pub data Role : Type 0 where
 
 -- A token: what one step of a layout reads.
 pub data Token : Type 0 where
-  nothing : Token                 -- no bytes
-  number : Kind → Token           -- a number; what follows may go by it
-  bounded : ℕ → Token             -- a ULEB128 number, at most so large
-  forms : Token                   -- what stands before a value of DW_FORM_indirect: form numbers, up to the first that is another form
-  signed : Token                  -- a SLEB128 number
-  link : Kind → Role → Token      -- a number that a rewriting may change; what follows never goes by it
-  string : Token                  -- up to and with a zero byte
-  run : ℕ → Token                 -- so many bytes
-  block : Kind → Token            -- a length, and so many bytes
-  expression : Token              -- a ULEB128 length, and an expression of so many bytes
-  unknown : Token                 -- nothing that can be read
+  nothing : Token  -- no bytes
+  number : Kind → Token  -- a number; what follows may go by it
+  bounded : ℕ → Token  -- a ULEB128 number, at most so large
+  forms : Token  -- what stands before a value of DW_FORM_indirect: form numbers, up to the first that is another form
+  signed : Token  -- a SLEB128 number
+  link : Kind → Role → Token  -- a number that a rewriting may change; what follows never goes by it
+  string : Token  -- up to and with a zero byte
+  run : ℕ → Token  -- so many bytes
+  block : Kind → Token  -- a length, and so many bytes
+  expression : Token  -- a ULEB128 length, and an expression of so many bytes
+  unknown : Token  -- nothing that can be read
 
 -- A layout: a token, and then a layout that goes by its value.
 pub data Layout : Type 0 where
@@ -308,8 +308,7 @@ judged-law : (k : ℕ) (judge : Groups → Option Groups) → Judges judge → (
 judged-law k judge J s =
     all-bind (GroupsLaw k s) _ (groups k s) judge (groups-law k s)
     (λ a e q. all-map _ _ (judge a)
-    (λ t p.
-    (
+    (λ t p. (
       (rw (p .0) (q .1), rw (p .0) (p .1 ∙ q .2)),
       λ rest. subst (λ (m : ℕ). bind (groups k (take (suc m) s ++ rest)) judge ≡ some (t .0, t .1, rest)) (sym (p .0)) (bind-at judge (q .3 rest) ∙ p .2 rest),
     ))
@@ -475,8 +474,7 @@ module _ (big : Bool) where
       let one : take n s ++ [] ≡ take n s = append-nil (take n s) in
       let l : length (take n s ++ []) ≡ n = ap length one ∙ length-take-le n s h in
       let same : (rest : List ℕ) → tokenIn big ex t (take n s ++ rest) ≡ some (record { seen = v; start = k; pieces = copied (take n s) ∷ [] }, rest) =
-      (λ rest. again rest ∙ ap₂ (λ (x y : List ℕ). some (record { seen = v; start = k; pieces = copied x ∷ [] }, y)) (kept-take s rest n h n (omega arith)) (kept-drop s rest n h)) in
-      (
+      (λ rest. again rest ∙ ap₂ (λ (x y : List ℕ). some (record { seen = v; start = k; pieces = copied x ∷ [] }, y)) (kept-take s rest n h n (omega arith)) (kept-drop s rest n h)) in (
         rw l (h, refl),
         (λ f rest _. ap (λ x. tokenIn big ex t (x ++ rest)) one ∙ same rest),
         (λ rest. ap (λ m. tokenIn big ex t (take m s ++ rest)) l ∙ same rest),
@@ -515,14 +513,13 @@ module _ (big : Bool) where
         let la : length a ≡ w = length-take-le w s (q .0 .0) in
         let n : length (a ++ bytesOf big ps) ≡ w + t .1 = length-append a (bytesOf big ps) ∙ ap₂ _+_ la lp in
         let found : (b rest : List ℕ) (qs : List Piece) → length b ≡ t .1 → ex b ≡ some qs
-            → bind (uleb (a ++ (b ++ rest))) (asExpression ex (a ++ (b ++ rest)))
-            ≡ some (record { seen = 0; start = w; pieces = copied a ∷ qs }, rest) =
+        → bind (uleb (a ++ (b ++ rest))) (asExpression ex (a ++ (b ++ rest)))
+        ≡ some (record { seen = 0; start = w; pieces = copied a ∷ qs }, rest) =
         (λ b rest qs l k.
         bind-at _ (q .1 (b ++ rest))
         ∙ check-yes _ _ (yes-leb {a = t .1} {b = length (b ++ rest)} (omega (arith, length-append b rest)))
         ∙ bind-at _ (ap ex (take-at b rest (t .1) l) ∙ k)
-        ∙ ap₂ (λ (x y : List ℕ). some (record { seen = 0; start = w; pieces = copied x ∷ qs }, y)) (take-at a (b ++ rest) w la) (drop-at b rest (t .1) l)) in
-        (
+        ∙ ap₂ (λ (x y : List ℕ). some (record { seen = 0; start = w; pieces = copied x ∷ qs }, y)) (take-at a (b ++ rest) w la) (drop-at b rest (t .1) l)) in (
           rw n (took-add s w (t .1) (t .2) (drop (t .1) (t .2)) (q .0) (h, refl)),
           (λ f rest fit.
               ap (λ x. bind (uleb x) (asExpression ex x)) (append-assoc a (bytesOf big (patchPieces f ps)) rest)
@@ -542,8 +539,7 @@ module _ (big : Bool) where
         → TokenLaw ex (link k role) s (record { seen = 0; start = 0; pieces = linked (r .0) role (r .1) ∷ [] }, r .2)
     unfolding tokenIn asLink bytesOf pieceBytes patchPieces patchPiece patchRead FitPieces FitPiece
     link-law k role s r q =
-        let n : (v : ℕ) → length (numberBytes big (r .0) v ++ []) ≡ width (r .0) = (λ v. ap length (append-nil (numberBytes big (r .0) v)) ∙ length-number big (r .0) v) in
-        (
+        let n : (v : ℕ) → length (numberBytes big (r .0) v ++ []) ≡ width (r .0) = (λ v. ap length (append-nil (numberBytes big (r .0) v)) ∙ length-number big (r .0) v) in (
           rw (n (r .1)) (q .1),
           (λ f rest fit.
               ap (λ x. bind (numberIn big k (x ++ rest)) (asLink role)) (append-nil (numberBytes big (r .0) (f role (r .1))))

@@ -5,3 +5,5 @@ pub mod Tokens
 pub mod Operations
 pub mod Scan
 pub mod Expression
+pub mod Forms
+pub mod Cursors
