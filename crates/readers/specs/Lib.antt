@@ -7,3 +7,6 @@ pub mod Scan
 pub mod Expression
 pub mod Forms
 pub mod Cursors
+pub mod Fields
+pub mod Steps
+pub mod References

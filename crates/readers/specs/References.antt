@@ -1,0 +1,147 @@
+-- The references of an expression (document 01, "References" and "references of an expression").
+use Prim.Native.Nat.{ℕ, _+_, _*_, _-_, _/_}
+use mathlib.Core.Bool.{Bool, true, false}
+use mathlib.Core.List.{List, [], _∷_, _++_}
+use mathlib.Core.Option.{Option, none, some}
+use lib.ListN.{length, drop, replicate}
+use lib.Dec.{ltb, leb, eqb}
+use Rattle.readers.specs.Choice.{pick, _or_}
+use Rattle.readers.specs.Layout.{Encoded, width, Role, reference, typeReference, sibling, index, absolute, Piece, copied, linked, pieceBytes}
+use Rattle.readers.specs.Expression.{expressionIn}
+use Rattle.readers.specs.Scan.{Turn, more, stop, Scanned, scan}
+use Rattle.readers.specs.Steps.{operationAt}
+use Rattle.readers.specs.declared.cursor.Encoding.{Encoding}
+use Rattle.readers.specs.declared.cursor.Cursor.{Cursor}
+use Rattle.readers.specs.declared.fields.Field.{Field}
+use Rattle.readers.specs.declared.operations.Operation.{Operation}
+use Rattle.readers.specs.declared.operations.OperationRead.{OperationRead}
+use Rattle.readers.specs.declared.operations.OperationRead.the-variants.{Read as Operation′, Unreadable as NoOperation}
+use Rattle.readers.specs.declared.expressions.Walk.{Walk}
+use Rattle.readers.specs.declared.expressions.Walk.the-variants.{Walked, Unreadable}
+use Rattle.readers.specs.declared.expressions.Reference.{Reference}
+use Rattle.readers.specs.declared.expressions.Yield.{Yield}
+use Rattle.readers.specs.declared.expressions.Yield.the-variants.{Reference as Yielded, End}
+use Rattle.readers.specs.declared.expressions.References.{References}
+use Rattle.readers.specs.declared.expressions.References.the-variants.{Count, Refused}
+
+-- A reference: where its operand stands, the offset that it names, the operand's width.
+abbrev pub Named : Type 0
+Named = ℕ × ℕ × ℕ
+
+-- Operands of call2, call4 and GNU_parameter_ref, and, where not zero, of the type operations.
+unfoldable pub nameIn : ℕ → Piece → List Named
+nameIn at (copied l) = []
+nameIn at (linked e reference v) = (at, v, width e) ∷ []
+nameIn at (linked e typeReference v) = pick (eqb v 0) [] ((at, v, width e) ∷ [])
+nameIn at (linked e sibling v) = []
+nameIn at (linked e (index k) v) = []
+nameIn at (linked e absolute v) = []
+
+-- the references of pieces whose first byte is at a place
+unfoldable pub namesIn : Bool → ℕ → List Piece → List Named
+namesIn big at [] = []
+namesIn big at (p ∷ ps) = nameIn at p ++ namesIn big (at + length (pieceBytes big p)) ps
+
+unfoldable pub isAbsolute : Piece → Bool
+isAbsolute (copied l) = false
+isAbsolute (linked e reference v) = false
+isAbsolute (linked e typeReference v) = false
+isAbsolute (linked e sibling v) = false
+isAbsolute (linked e (index k) v) = false
+isAbsolute (linked e absolute v) = true
+
+-- whether an offset in the section is among the pieces
+unfoldable pub anyAbsolute : List Piece → Bool
+anyAbsolute [] = false
+anyAbsolute (p ∷ ps) = isAbsolute p or anyAbsolute ps
+
+-- ---- the walk of a whole expression
+
+unfoldable pub asWalk : Bool → Option (List Piece) → Walk
+asWalk big none = Unreadable
+asWalk big (some ps) = Walked (length (namesIn big 0 ps)) (anyAbsolute ps)
+
+unfoldable pub walkOf : Encoding → List ℕ → Walk
+walkOf e s = asWalk (e .«big_endian») (expressionIn e s)
+
+-- ---- one reference after the other: operation by operation, going on inside an entry value
+
+unfoldable pub named : Field → Cursor → Yield
+named f c = Yielded (record { place = f .start; target = record { 0 = f .value }; width = f .end - f .start; next = c })
+
+unfoldable pub namedType : Field → Cursor → Yield
+namedType f c = pick (eqb (f .value) 0) End (named f c)
+
+-- by the rows of Operations.antt: 12 and 13 name an entry, 14 and 17 a type by their first operand, 15 and 16 by their second
+unfoldable pub referenceOf : Operation → Yield
+referenceOf op =
+    pick (ltb (op .row) 12) End
+    (pick (leb (op .row) 13) (named (op .first) (op .next))
+    (pick (eqb (op .row) 14) (namedType (op .first) (op .next))
+    (pick (leb (op .row) 16) (namedType (op .second) (op .next))
+    (pick (eqb (op .row) 17) (namedType (op .first) (op .next))
+    End))))
+
+unfoldable pub counted : Yield → ℕ
+counted (Yielded r) = 1
+counted End = 0
+
+-- an operation by itself; rows 20 and 21 hold an offset in the section
+unfoldable pub ownWalk : Operation → Walk
+ownWalk op = pick (eqb (op .row) 20 or eqb (op .row) 21) (Walked 0 true) (Walked (counted (referenceOf op)) false)
+
+unfoldable pub yieldTurn : Yield → Cursor → Turn (Unit {0}) Yield
+yieldTurn (Yielded r) c = stop (Yielded r)
+yieldTurn End c = more tt (c .at)
+
+-- row 19 is an entry value
+unfoldable pub operationTurn : OperationRead → Turn (Unit {0}) Yield
+operationTurn (Operation′ op) = pick (eqb (op .row) 19) (more tt (op .first .start)) (yieldTurn (referenceOf op) (op .next))
+operationTurn NoOperation = stop End
+
+unfoldable pub walkTurn : Encoding → List ℕ → ℕ → Turn (Unit {0}) Yield
+walkTurn e s at = pick (ltb at (length s)) (operationTurn (operationAt e s at)) (stop End)
+
+unfoldable pub yielded : Option (Scanned (Unit {0}) Yield) → Yield
+yielded none = End
+yielded (some r) = r .1
+
+unfoldable pub nextReference : Encoding → List ℕ → ℕ → Yield
+nextReference e s at = yielded (scan (length s) (walkTurn e s) at)
+
+-- ---- the public call
+
+unfoldable pub expressionEncoding : ℕ → Encoding
+expressionEncoding n = record { version = 5; «offset_size» = 4; «address_size» = n; «big_endian» = false }
+
+-- in this order 2, 5, 7, 11; a table holds a third as many references as numbers
+unfoldable pub walkAnswer : ℕ → Walk → References
+walkAnswer room Unreadable = Refused 5
+walkAnswer room (Walked n true) = Refused 7
+walkAnswer room (Walked n false) = pick (leb n room) (Count n) (Refused 11)
+
+unfoldable pub referencesAnswer : ℕ → ℕ → List ℕ → References
+referencesAnswer n numbers s = pick (eqb n 4 or eqb n 8) (walkAnswer (numbers / 3) (walkOf (expressionEncoding n) s)) (Refused 2)
+
+abbrev pub zeros : ℕ → List ℕ
+zeros n = replicate n 0
+
+unfoldable pub numbersOf : List Named → List ℕ
+numbersOf [] = []
+numbersOf (r ∷ rs) = r .0 ∷ r .1 ∷ r .2 ∷ numbersOf rs
+
+-- the references of a readable expression
+unfoldable pub namesOr : Bool → Option (List Piece) → List Named
+namesOr big none = []
+namesOr big (some ps) = namesIn big 0 ps
+
+unfoldable pub referencesIn : Encoding → List ℕ → List Named
+referencesIn e s = namesOr (e .«big_endian») (expressionIn e s)
+
+-- the references, and zeros after them; zeros after a refusal
+unfoldable pub answerTable : ℕ → References → List Named → List ℕ
+answerTable numbers (Count n) rs = numbersOf rs ++ zeros (numbers - 3 * n)
+answerTable numbers (Refused k) rs = zeros numbers
+
+unfoldable pub referencesTable : ℕ → ℕ → List ℕ → List ℕ
+referencesTable n numbers s = answerTable numbers (referencesAnswer n numbers s) (referencesIn (expressionEncoding n) s)

@@ -1,0 +1,265 @@
+// Expressions: whether they can be read, and the entries that they name.
+ghost use mathlib.Core.Path.{_≡_};
+ghost use Prim.Native.Nat.{_-_};
+ghost use lib.ListN.{length};
+ghost use Rattle.readers.specs.References.{walkOf, ownWalk, named, namedType, referenceOf, nextReference, referencesAnswer, referencesTable, zeros};
+use crate::cursor::Cursor;
+use crate::cursor::Encoding;
+use crate::fields::Field;
+use crate::offsets::UnitOffset;
+use crate::operations::Operation;
+use crate::operations::OperationRead;
+
+// What a walk of a whole expression finds, nested ones included: how many references it holds, and whether it names anything by an offset in the
+// section.
+pub enum Walk {
+    Walked { references: usize, absolute: bool },
+    Unreadable,
+}
+
+// A reference of an expression: where its operand stands, the offset that it names, how many bytes the operand has, and where the walk goes on.
+pub struct Reference {
+    pub place: usize,
+    pub target: UnitOffset,
+    pub width: usize,
+    pub next: Cursor,
+}
+
+pub enum Yield {
+    Reference(Reference),
+    End,
+}
+
+// The answer of references_of_expression: how many there are, or the number of a refusal.
+pub enum References {
+    Count(usize),
+    Refused(u8),
+}
+
+// The bytes of a field.
+fn width(f: Field) -> usize
+    ensures { λ r. ⌜ r ≡ f .end - f .start ⌝ }
+{
+    if f.start <= f.end { f.end - f.start } else { 0 }
+}
+
+fn named(f: Field, next: Cursor) -> Yield
+    ensures { λ r. ⌜ r ≡ named f next ⌝ }
+{
+    Yield::Reference(Reference {
+        place: f.start,
+        target: UnitOffset(f.value),
+        width: width(f),
+        next,
+    })
+}
+
+// A type operand: 0 names nothing.
+fn named_type(f: Field, next: Cursor) -> Yield
+    ensures { λ r. ⌜ r ≡ namedType f next ⌝ }
+{
+    if f.value == 0 {
+        Yield::End
+    } else {
+        named(f, next)
+    }
+}
+
+// The reference of an operation, if it holds one.
+fn reference_of(op: Operation) -> Yield
+    ensures { λ r. ⌜ r ≡ referenceOf op ⌝ }
+{
+    let row = op.row;
+    let first = op.first;
+    let second = op.second;
+    let next = op.next;
+    if row < 12 {
+        return Yield::End;
+    }
+    if row <= 13 {
+        return named(first, next);
+    }
+    if row == 14 {
+        return named_type(first, next);
+    }
+    if row <= 16 {
+        return named_type(second, next);
+    }
+    if row == 17 {
+        return named_type(first, next);
+    }
+    Yield::End
+}
+
+// What an operation that is no entry value holds by itself.
+fn own_walk(op: Operation) -> Walk
+    ensures { λ r. ⌜ r ≡ ownWalk op ⌝ }
+{
+    let row = op.row;
+    if row == 20 {
+        return Walk::Walked {
+            references: 0,
+            absolute: true,
+        };
+    }
+    if row == 21 {
+        return Walk::Walked {
+            references: 0,
+            absolute: true,
+        };
+    }
+    match reference_of(op) {
+        Yield::Reference(_) => {
+            Walk::Walked {
+                references: 1,
+                absolute: false,
+            }
+        }
+        Yield::End => {
+            Walk::Walked {
+                references: 0,
+                absolute: false,
+            }
+        }
+    }
+}
+
+// Walks an expression to its end. An entry value is walked by the same routine, on the part that it holds.
+pub fn walk_expression(s: &[u8], e: Encoding) -> Walk
+    ensures { λ r. ⌜ r ≡ walkOf e (now (s .entry)) ⌝ }
+{
+    let mut at: usize = 0;
+    let mut references: usize = 0;
+    let mut absolute = false;
+    while at < s.len() {
+        let OperationRead::Read(op) = (Cursor { at }).operation(s, e) else {
+            return Walk::Unreadable;
+        };
+        let row = op.row;
+        let first = op.first;
+        let next = op.next;
+        if row == 19 {
+            let from = first.start;
+            let to = first.end;
+            let Walk::Walked {
+                references: more,
+                absolute: named,
+            } = walk_expression(&s[from..to], e)
+            else {
+                return Walk::Unreadable;
+            };
+            references += more;
+            absolute = absolute || named;
+        } else {
+            let Walk::Walked {
+                references: more,
+                absolute: named,
+            } = own_walk(op)
+            else {
+                return Walk::Unreadable;
+            };
+            references += more;
+            absolute = absolute || named;
+        }
+        at = next.at;
+    }
+    Walk::Walked {
+        references,
+        absolute,
+    }
+}
+
+impl Cursor {
+    // The next reference of an expression, at or after a place. The walk goes on inside an entry value, so that it passes each byte once.
+    pub fn next_reference(self, s: &[u8], e: Encoding) -> Yield
+        ensures { λ r. ⌜ r ≡ nextReference e (now (s .entry)) (self .at) ⌝ }
+    {
+        let mut at = self.at;
+        while at < s.len() {
+            let OperationRead::Read(op) = (Cursor { at }).operation(s, e) else {
+                return Yield::End;
+            };
+            let row = op.row;
+            let first = op.first;
+            let next = op.next;
+            if row == 19 {
+                at = first.start;
+            } else {
+                match reference_of(op) {
+                    Yield::Reference(r) => {
+                        return Yield::Reference(r);
+                    }
+                    Yield::End => {
+                        at = next.at;
+                    }
+                }
+            }
+        }
+        Yield::End
+    }
+}
+
+fn clear(table: &mut [u64])
+    ensures { λ _. ⌜ now (table .exit) ≡ zeros (length (now (table .entry))) ⌝ }
+{
+    let mut i: usize = 0;
+    while i < table.len() {
+        table[i] = 0;
+        i += 1;
+    }
+}
+
+// The references of an expression, in walk order: three numbers each, where its operand stands, the offset that it names, and the operand's width.
+// Refused with 2 for an address size other than 4 and 8, 5 for an unreadable expression, 7 for an offset in the section, 11 for a table that is too short.
+pub fn references_of_expression(s: &[u8], address_size: u8, table: &mut [u64]) -> References
+    ensures answer { λ r. ⌜ r ≡ referencesAnswer «address_size» (length (now (table .entry))) (now (s .entry)) ⌝ }
+    ensures filled { λ r. ⌜ now (table .exit) ≡ referencesTable «address_size» (length (now (table .entry))) (now (s .entry)) ⌝ }
+{
+    clear(table);
+    if address_size != 4 {
+        if address_size != 8 {
+            return References::Refused(2);
+        }
+    }
+    let e = Encoding {
+        version: 5,
+        offset_size: 4,
+        address_size,
+        big_endian: false,
+    };
+    let Walk::Walked {
+        references,
+        absolute,
+    } = walk_expression(s, e)
+    else {
+        return References::Refused(5);
+    };
+    if absolute {
+        return References::Refused(7);
+    }
+    if references > table.len() / 3 {
+        return References::Refused(11);
+    }
+    fill_references(s, e, table, references);
+    References::Count(references)
+}
+
+// Writes the first `count` references into a table that has room for them.
+fn fill_references(s: &[u8], e: Encoding, table: &mut [u64], count: usize) {
+    let mut c = Cursor { at: 0 };
+    let mut i: usize = 0;
+    while i < count {
+        let Yield::Reference(r) = c.next_reference(s, e) else {
+            return;
+        };
+        let target = r.target;
+        if table.len() < 3 * i + 3 {
+            return;
+        }
+        table[3 * i] = r.place as u64;
+        table[3 * i + 1] = target.0;
+        table[3 * i + 2] = r.width as u64;
+        c = r.next;
+        i += 1;
+    }
+}
