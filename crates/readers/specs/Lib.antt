@@ -10,3 +10,6 @@ pub mod Cursors
 pub mod Fields
 pub mod Steps
 pub mod References
+pub mod Header
+pub mod Lists
+pub mod Abbreviations
