@@ -4,24 +4,23 @@ use Prim.Native.Nat.{ℕ, zero, suc, _+_, _*_, _-_, _^_, _/_, _%_, _≤_, _<_}
 use native.Mathlib.Omega.{arith}
 use native.Mathlib.Numerals.{add-one}
 use native.Mathlib.Nat.{pow-suc, pow-le-pow-right, mul-le-mul-right}
-use mathlib.Core.Bool.{Bool, true, false, not}
+use mathlib.Core.Bool.{not}
 use mathlib.Core.Logic.{_⊎_, ⊎-elim}
 use mathlib.Core.List.{List, [], _∷_}
 use mathlib.Core.Option.{Option, none, some}
 use lib.ListN.{length, drop, getD, drop-of-length-le, length-drop}
 use lib.Seq.{drop-cons, drop-drop, getD-drop}
-use lib.Dec.{T, leb, ltb, eqb}
+use lib.Dec.{T, ltb}
 use lib.Pow.{areBytes}
 use mir.Syntax.{w8}
 use mir.Val.{Fits}
 use mir.Facts.{yes-ltb, no-ltb, ltb-yes, ltb-no, yes-leb, no-leb, yes-eqb, no-eqb, yes-and}
-use Rattle.readers.specs.Choice.{pick, pick-yes, pick-no, check, check-yes, check-no, bind, bind-at, bind-none, bind-bind, bind-ext, check-bind, either, All, all-of, all-some, all-pick, all-bind, all-triv}
+use Rattle.readers.specs.Choice.{pick-yes, pick-no, check, check-yes, check-no, bind, bind-at, bind-none, bind-bind, bind-ext, either, All, all-of, all-some, all-pick, all-bind, all-triv}
 use Rattle.readers.specs.Numbers.{Groups as Read, groups, below, GroupsLaw, groups-law, ExactGroups, groups-exact, uleb, unsigned64, sleb, signed64, negative}
 use Rattle.readers.specs.Layout.{short, within16, LebLaw, uleb-law, sleb-law, short-law, formsIn, afterForm, forms-step, FormsLaw, forms-law}
 use Rattle.readers.specs.Cursors.{cursor, groupsAt, asGroups, lebAt, asLebNumber, formsAt, asFormNumber}
 use Rattle.readers.specs.declared.cursor.Cursor.{Cursor}
 use Rattle.readers.specs.declared.cursor.Groups.{Groups}
-use Rattle.readers.specs.declared.cursor.Number.{Number}
 use Rattle.readers.specs.declared.cursor.Number.the-variants.{Value, Unreadable}
 use Rattle.readers.specs.declared.cursor.Groups.the-variants.{Whole, Unreadable as NoGroups}
 

@@ -1,6 +1,5 @@
 -- `Cursor::short` meets its contract. Assumes nothing.
 use borrow.Author.Needs.{needs}
-use native.Mathlib.Omega.{arith}
 use Rattle.readers.proofs.Lebs.{Found, whole, short-long, short-yes, short-no, short-none}
 use Rattle.readers.proofs.cursor.Cursor.short.Statement.{statement}
 use Rattle.readers.proofs.cursor.Cursor.short.Tie as tie
@@ -13,31 +12,24 @@ found : (l : lts.After-low (groups-reads.Asked, groups-reads.Learnt) reads.Pre r
     → Found (l .before .before .before .before .args .s .now) (l .before .before .before .before .args .self .at) (l .low .given .0 .0) (l .low .given .0 .1 .0) (l .low .given .0 .1 .1 .0) (l .low .given .0 .1 .1 .1 .0)
 found l = whole _ _ _ _ _ _ (l .before .before .before .shared-slice-known .given) _ (l .before .before .groups .ensures) (l .low .given .1)
 
--- src/cursor.rt:148:15
 groups-requires : tie.Need-groups-requires
 groups-requires c κs = search needs
 
--- src/cursor.rt:150:17
 enum-known-low : tie.Need-enum-known-low
 enum-known-low c = search needs
 
--- src/cursor.rt:156:21
 returns : tie.Need-returns
 returns c = short-long _ _ _ _ _ _ (found (c .before .before)) (c .if1 .taken)
 
--- src/cursor.rt:159:21
 returns-2 : tie.Need-returns-2
 returns-2 c = short-yes _ _ _ _ _ _ (found (c .before .before .before)) (c .before .if1 .left) (c .if2 .taken)
 
--- src/cursor.rt:163:35
 enum-told : tie.Need-enum-told
 enum-told c = search needs
 
--- src/cursor.rt:145:5
 returns-3 : tie.Need-returns-3
 returns-3 c = short-no _ _ _ _ _ _ (found (c .before .before .before)) (c .before .if1 .left) (c .if2 .left)
 
--- src/cursor.rt:145:5
 returns-4 : tie.Need-returns-4
 returns-4 c = short-none _ _ _ (c .before .before .groups .ensures) (c .enum-told .given .1)
 

@@ -13,63 +13,48 @@ found : (l : lts.After-low (groups-reads.Asked, groups-reads.Learnt) reads.Pre r
     → Found (l .before .before .before .before .args .s .now) (l .before .before .before .before .args .self .at) (l .low .given .0 .0) (l .low .given .0 .1 .0) (l .low .given .0 .1 .1 .0) (l .low .given .0 .1 .1 .1 .0)
 found l = whole _ _ _ _ _ _ (l .before .before .before .shared-slice-known .given) _ (l .before .before .groups .ensures) (l .low .given .1)
 
--- src/cursor.rt:119:15
 groups-requires : tie.Need-groups-requires
 groups-requires c κs = search needs
 
--- src/cursor.rt:121:17
 enum-known-low : tie.Need-enum-known-low
 enum-known-low c = search needs
 
--- src/cursor.rt:128:25
 returns : tie.Need-returns
 returns c = sleb-up _ _ _ _ _ _ (found (c .before .before .before)) (c .before .if1 .taken) (c .if2 .taken)
 
--- src/cursor.rt:131:46
 add-t11 : tie.Need-add-t11
 add-t11 c = omega (arith, found (c .before .before .before .before) .small)
 
--- src/cursor.rt:131:25
 returns-2 : tie.Need-returns-2
 returns-2 c = sleb-down _ _ _ _ _ _ (found (c .before .before .before .before)) (c .before .before .if1 .taken) (c .if3 .taken)
 
--- src/cursor.rt:133:21
 returns-3 : tie.Need-returns-3
 returns-3 c = sleb-no _ _ _ _ _ _ (found (c .before .before .before .before)) (c .before .before .if1 .taken) (c .before .if2 .left) (c .if3 .left)
 
--- src/cursor.rt:135:26
 mul-if4 : tie.Need-mul-if4
 mul-if4 c = omega (arith, light _ _ _ _ _ _ (found (c .before .before)) (c .if1 .left) .0)
 
--- src/cursor.rt:136:21
 returns-4 : tie.Need-returns-4
 returns-4 c = sleb-plus _ _ _ _ _ _ (found (c .before .before .before)) (c .before .if1 .left) (c .if4 .taken)
 
--- src/cursor.rt:138:55
 mul-t12 : tie.Need-mul-t12
 mul-t12 c = omega (arith, light _ _ _ _ _ _ (found (c .before .before .before)) (c .before .if1 .left) .0)
 
--- src/cursor.rt:138:31
 sub-t13 : tie.Need-sub-t13
 sub-t13 c = omega (arith, light _ _ _ _ _ _ (found (c .before .before .before)) (c .before .if1 .left) .0)
 
--- src/cursor.rt:138:31
 add-t14 : tie.Need-add-t14
-add-t14 c = ?
+add-t14 c = omega (arith, light _ _ _ _ _ _ (found (c .before .before .before)) (c .before .if1 .left) .1)
 
--- src/cursor.rt:138:31
 add-t15 : tie.Need-add-t15
 add-t15 c = omega (arith, light _ _ _ _ _ _ (found (c .before .before .before)) (c .before .if1 .left) .0, light _ _ _ _ _ _ (found (c .before .before .before)) (c .before .if1 .left) .1)
 
--- src/cursor.rt:140:35
 enum-told : tie.Need-enum-told
 enum-told c = search needs
 
--- src/cursor.rt:116:5
 returns-5 : tie.Need-returns-5
 returns-5 c = sleb-minus _ _ _ _ _ _ (found (c .before .before .before)) (c .before .if1 .left) (c .if4 .left)
 
--- src/cursor.rt:116:5
 returns-6 : tie.Need-returns-6
 returns-6 c = sleb-none _ _ _ (c .before .before .groups .ensures) (c .enum-told .given .1)
 

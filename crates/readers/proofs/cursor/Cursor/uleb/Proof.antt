@@ -13,35 +13,27 @@ found : (l : lts.After-low (groups-reads.Asked, groups-reads.Learnt) reads.Pre r
     → Found (l .before .before .before .before .args .s .now) (l .before .before .before .before .args .self .at) (l .low .given .0 .0) (l .low .given .0 .1 .0) (l .low .given .0 .1 .1 .0) (l .low .given .0 .1 .1 .1 .0)
 found l = whole _ _ _ _ _ _ (l .before .before .before .shared-slice-known .given) _ (l .before .before .groups .ensures) (l .low .given .1)
 
--- src/cursor.rt:98:15
 groups-requires : tie.Need-groups-requires
 groups-requires c κs = search needs
 
--- src/cursor.rt:100:17
 enum-known-low : tie.Need-enum-known-low
 enum-known-low c = search needs
 
--- src/cursor.rt:106:41
 mul-t10 : tie.Need-mul-t10
 mul-t10 c = search needs
 
--- src/cursor.rt:106:35
 add-t11 : tie.Need-add-t11
 add-t11 c = omega (arith, found (c .before .before) .small)
 
--- src/cursor.rt:111:35
 enum-told : tie.Need-enum-told
 enum-told c = search needs
 
--- src/cursor.rt:95:5
 returns : tie.Need-returns
 returns c = uleb-yes _ _ _ _ _ _ (found (c .before .before)) (c .if1 .taken)
 
--- src/cursor.rt:95:5
 returns-2 : tie.Need-returns-2
 returns-2 c = uleb-no _ _ _ _ _ _ (found (c .before .before)) (c .if1 .left)
 
--- src/cursor.rt:95:5
 returns-3 : tie.Need-returns-3
 returns-3 c = uleb-none _ _ _ (c .before .before .groups .ensures) (c .enum-told .given .1)
 
