@@ -1,2 +1,4 @@
 pub mod Widths
 pub mod Lebs
+pub mod Headers
+pub mod ListStarts
