@@ -7,7 +7,7 @@ use mathlib.Core.Bool.{Bool, true, false, not}
 use mathlib.Core.Option.{Option, none, some}
 use mathlib.Core.List.{List, [], _∷_, _++_, append-nil}
 use native.Mathlib.Omega.{arith}
-use lib.ListN.{length, take, drop, length-append, length-drop}
+use lib.ListN.{length, take, drop, length-append, length-drop, List·getD-eq-default}
 use lib.Seq.{length-take-le, drop-drop}
 use lib.Dec.{T, leb, eqb}
 use mir.Facts.{yes-leb, no-leb, leb-yes, leb-no, yes-eqb, no-eqb, eqb-yes, eqb-no}
@@ -15,7 +15,7 @@ use Rattle.readers.specs.Choice.{pick, pick-yes, pick-no, either, check,
 use Rattle.readers.specs.Numbers.{Groups, uleb, sleb}
 use Rattle.readers.specs.Layout.{Kind, fixed, leb128, Encoded, Found, width, Role, Piece, copied, linked, Read, ReadOf, RunOf, Token, nothing, number, bounded, forms, signed, link, string, run, block, expression, unknown, field, done, asBytes, asLeb, copy, asNumber, asLink, asBounded, asForms, asSigned, asString, asBlock, asExpression, before, numberIn, stringIn, formsIn, tokenIn, readIn, numberBytes, pieceBytes, bytesOf, length-number, NumberLaw, number-law, LebLaw, uleb-law, sleb-law, StringLaw, string-law, FormsLaw, forms-law, TokenLaw, token-law, as-bytes-law}
 use Rattle.readers.specs.Tokens.{Use, plain, as′, numberAs, tokenOf}
-use Rattle.readers.specs.Operations.{rowOf, rowLayout}
+use Rattle.readers.specs.Operations.{Row as Tokens, rows, unreadableRow, rowOf, rowLayout}
 use Rattle.readers.specs.Cursors.{cursor, asLebNumber, lebAt, asFixed, fixedAt, skipAt, asMoved, stringAt}
 use Rattle.readers.specs.Fields.{linkedValue, size, fieldOf, asField, rowOfReads, asRow, tokenAt, fieldAt, rowAt, numberField, boundedField, blockField, numberAt, partOf, exprlocAt}
 use Rattle.readers.specs.declared.cursor.Encoding.{Encoding}
@@ -36,6 +36,10 @@ order e = e .«big_endian»
 
 abbrev pub aField : ℕ → ℕ → ℕ → Field
 aField v a b = record { value = v; start = a; end = b }
+
+-- one number more is left out
+pub past : (t a : ℕ) → a < t → (t ≡ suc a → ⊥) → suc a < t
+past t a h n = omega arith
 
 -- ---- a field made of a number or of a move
 
@@ -317,6 +321,13 @@ module _ (e : Encoding) (s : List ℕ) (at : ℕ) where
   unfolding fieldAt tokenOf pick
   field-expression t h = ap (fieldAt e s at) h ∙ token-expression
 
+  pub field-lengthy : (t : ℕ) → 17 < t → t ≤ 19 → fieldAt e s at t ≡ blockField s (lebAt uleb s at)
+  field-lengthy t lo hi =
+      ⊎-elim
+      (λ u. field-block t (eqb-yes {a = t} {b = 18} u))
+      (λ u. let h : t ≡ 18 → ⊥ = eqb-no {a = t} {b = 18} u in field-expression t (omega arith))
+      (either (eqb t 18))
+
   pub field-bounded : (t : ℕ) → t ≡ 20 → fieldAt e s at t ≡ boundedField at (lebAt uleb s at)
   unfolding fieldAt tokenOf pick
   field-bounded t h = ap (fieldAt e s at) h ∙ token-bounded
@@ -541,3 +552,73 @@ module _ (e : Encoding) (s : List ℕ) (at l : ℕ) (r : Row) where
       let i : Inside s at (r .first) × Inside s (r .first .end) (r .second) × Inside s (r .second .end) (r .third) = row-inside x in
       (omega (arith, i .0 .after, i .0 .forward, i .1 .after, i .1 .forward, i .2 .after, i .2 .forward),
       omega (arith, i .0 .after, i .0 .forward, i .0 .within, i .1 .after, i .1 .forward, i .1 .within, i .2 .within))
+
+-- ---- the expression of an exprloc
+
+block-shape : (s : List ℕ) (f : Field) (n : Number) → blockField s n ≡ Field′ f → (f .start ≤ f .end) × (f .end - f .start ≤ length s - f .start)
+unfolding blockField
+block-shape s f (Value v c) e =
+    ⊎-elim
+    (λ u. let q : aField 0 (c .at) (c .at + v) ≡ f = cc (pick-yes (leb v (length s - c .at)) (Field′ (aField 0 (c .at) (c .at + v))) NoField u) in
+    let h : v ≤ length s - c .at = leb-yes u in
+    subst (λ (f : Field). (f .start ≤ f .end) × (f .end - f .start ≤ length s - f .start)) q (omega arith, omega arith))
+    (λ u. let z : _≡_ {A = ℕ} 0 1 = cc (pick-no (leb v (length s - c .at)) (Field′ (aField 0 (c .at) (c .at + v))) NoField u) in absurd (omega arith))
+    (either (leb v (length s - c .at)))
+block-shape s f Unreadable e = let z : _≡_ {A = ℕ} 0 1 = cc in absurd (omega arith)
+
+module _ (s : List ℕ) (at : ℕ) (n : Number) (r : FieldRead) (p : n ≡ lebAt uleb s at) (q : r ≡ blockField s n) where
+  part-is : partOf s r ≡ exprlocAt s at
+  unfolding exprlocAt
+  part-is = ap (partOf s) (q ∙ ap (blockField s) p)
+
+  pub exprloc-none : r ≡ NoField → [] ≡ exprlocAt s at
+  unfolding partOf
+  exprloc-none h = sym (ap (partOf s) h) ∙ part-is
+
+  pub exprloc-part : (f : Field) → r ≡ Field′ f → take (f .end - f .start) (drop (f .start) s) ≡ exprlocAt s at
+  unfolding partOf
+  exprloc-part f h = sym (ap (partOf s) h) ∙ part-is
+
+  -- a block that ends beyond the slice has no bytes
+  pub exprloc-beyond : (f : Field) → r ≡ Field′ f → length s < f .end → [] ≡ exprlocAt s at
+  exprloc-beyond f h b =
+      let k : (f .start ≤ f .end) × (f .end - f .start ≤ length s - f .start) = block-shape s f n (sym q ∙ h) in
+      let z : f .end - f .start ≡ 0 = omega (arith, k .0, k .1) in
+      sym (ap (λ m. take m (drop (f .start) s)) z) ∙ exprloc-part f h
+
+  -- and none ends before its start
+  pub exprloc-back : (f : Field) → r ≡ Field′ f → f .end < f .start → [] ≡ exprlocAt s at
+  exprloc-back f h b = absurd (omega (arith, block-shape s f n (sym q ∙ h) .0))
+
+-- ---- a row, field by field, as it is read
+
+module _ (e : Encoding) (s : List ℕ) (at l : ℕ) where
+  pub row-over : 28 ≤ l → NoRow ≡ rowAt e s at l
+  unfolding rowOf rows unreadableRow
+  row-over h =
+      let o : rowOf l .first ≡ 21 = ap (λ (r : Tokens). r .first) (List·getD-eq-default rows unreadableRow {n = l} h) in
+      sym (row-step e s at l ∙ on-none _ _ (field-unknown e s at (rowOf l .first) (omega arith)))
+
+  module _ (t : ℕ) (r : FieldRead) (p : r ≡ fieldAt e s at t) (q : t ≡ rowOf l .first) where
+    first-is : fieldAt e s at (rowOf l .first) ≡ r
+    first-is = ap (fieldAt e s at) (sym q) ∙ sym p
+
+    pub row-none : r ≡ NoField → NoRow ≡ rowAt e s at l
+    row-none h = sym (row-step e s at l ∙ on-none _ _ (first-is ∙ h))
+
+    module _ (f : Field) (h : r ≡ Field′ f) (t′ : ℕ) (r′ : FieldRead) (p′ : r′ ≡ fieldAt e s (f .end) t′) (q′ : t′ ≡ rowOf l .second) where
+      second-is : fieldAt e s (f .end) (rowOf l .second) ≡ r′
+      second-is = ap (fieldAt e s (f .end)) (sym q′) ∙ sym p′
+
+      pub row-none2 : r′ ≡ NoField → NoRow ≡ rowAt e s at l
+      row-none2 h′ = sym (row-step e s at l ∙ on-field _ f _ (first-is ∙ h) ∙ on-none _ _ (second-is ∙ h′))
+
+      module _ (f′ : Field) (h′ : r′ ≡ Field′ f′) (t″ : ℕ) (r″ : FieldRead) (p″ : r″ ≡ fieldAt e s (f′ .end) t″) (q″ : t″ ≡ rowOf l .third) where
+        third-is : fieldAt e s (f′ .end) (rowOf l .third) ≡ r″
+        third-is = ap (fieldAt e s (f′ .end)) (sym q″) ∙ sym p″
+
+        pub row-none3 : r″ ≡ NoField → NoRow ≡ rowAt e s at l
+        row-none3 h″ = sym (row-step e s at l ∙ on-field _ f _ (first-is ∙ h) ∙ on-field _ f′ _ (second-is ∙ h′) ∙ on-none _ _ (third-is ∙ h″))
+
+        pub row-read : (f″ : Field) → r″ ≡ Field′ f″ → Row′ (aRow f f′ f″) ≡ rowAt e s at l
+        row-read f″ h″ = sym (row-step e s at l ∙ on-field _ f _ (first-is ∙ h) ∙ on-field _ f′ _ (second-is ∙ h′) ∙ on-field _ f″ _ (third-is ∙ h″))
