@@ -13,3 +13,5 @@ pub mod References
 pub mod Header
 pub mod Lists
 pub mod Abbreviations
+pub mod Entries
+pub mod Nesting
