@@ -1,12 +1,12 @@
 -- The header of a unit, field by field: the answer is that of the fields from here on, or a refusal. Assumes nothing.
 use Prim.Native.Nat.{ℕ, _+_, _-_, _≤_, _<_}
-use mathlib.Core.Path.{_≡_, refl, ap, sym, _∙_}
+use mathlib.Core.Path.{_≡_, refl, ap, _∙_}
 use mathlib.Core.Logic.{_⊎_, ⊎-elim}
 use mathlib.Core.Bool.{Bool, true, false, not}
 use mathlib.Core.List.{List}
 use native.Mathlib.Omega.{arith}
-use lib.ListN.{length, take, getD, drop}
-use lib.Dec.{T, leb, eqb}
+use lib.ListN.{length, take, getD}
+use lib.Dec.{T, eqb}
 use mir.Facts.{yes-leb, no-leb, yes-eqb, no-eqb}
 use Rattle.readers.specs.Choice.{pick, pick-yes, pick-no, _or_}
 use Rattle.readers.specs.Cursors.{fixedAt}

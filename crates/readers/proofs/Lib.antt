@@ -4,3 +4,4 @@ pub mod Widths
 pub mod Lebs
 pub mod Headers
 pub mod ListStarts
+pub mod Steps

@@ -1,15 +1,15 @@
 -- Where a list starts: from the index to the place in the table, and from there to the list. Assumes nothing.
-use Prim.Native.Nat.{ℕ, suc, _+_, _-_, _*_, _/_, _≤_, _<_}
-use mathlib.Core.Path.{_≡_, refl, ap, sym, _∙_}
+use Prim.Native.Nat.{ℕ, _+_, _*_, _/_, _≤_, _<_}
+use mathlib.Core.Path.{_≡_, refl, ap, _∙_}
 use mathlib.Core.Logic.{⊎-elim}
 use mathlib.Core.Bool.{Bool, true, false}
 use mathlib.Core.List.{List}
 use native.Mathlib.Omega.{arith}
 use native.Mathlib.Nat.{mul-le-mul-right, div-mul-le-self, div-lt-iff-lt-mul}
 use lib.ListN.{length, take, drop}
-use lib.Dec.{leb, eqb}
+use lib.Dec.{eqb}
 use mir.Facts.{yes-leb, no-leb, eqb-yes, eqb-no}
-use Rattle.readers.specs.Choice.{pick, pick-yes, pick-no, either}
+use Rattle.readers.specs.Choice.{pick-yes, pick-no, either}
 use Rattle.readers.specs.Numbers.{fixedValue, littleValue, ordered}
 use Rattle.readers.specs.Cursors.{cursor, fixedAt}
 use Rattle.readers.specs.Lists.{listStart, fromBase, listOffset}
