@@ -337,20 +337,20 @@ module _ (e : Encoding) (s : List ℕ) (at : ℕ) where
   field-unknown t h =
       let other : (n : ℕ) → n ≤ 20 → T (not (eqb t n)) = (λ n k. no-eqb {a = t} {b = n} (λ x. omega arith)) in
       ap (tokenAt e s at) (
-        pick-no _ _ _ (other 0 (omega arith))
-        ∙ pick-no _ _ _ (no-leb {a = t} {b = 8} (omega arith))
-        ∙ pick-no _ _ _ (other 9 (omega arith))
-        ∙ pick-no _ _ _ (other 10 (omega arith))
-        ∙ pick-no _ _ _ (other 11 (omega arith))
-        ∙ pick-no _ _ _ (other 12 (omega arith))
-        ∙ pick-no _ _ _ (other 13 (omega arith))
-        ∙ pick-no _ _ _ (other 14 (omega arith))
-        ∙ pick-no _ _ _ (other 15 (omega arith))
-        ∙ pick-no _ _ _ (other 16 (omega arith))
-        ∙ pick-no _ _ _ (other 17 (omega arith))
-        ∙ pick-no _ _ _ (other 18 (omega arith))
-        ∙ pick-no _ _ _ (other 19 (omega arith))
-        ∙ pick-no _ _ _ (other 20 (omega arith))
+      pick-no _ _ _ (other 0 (omega arith))
+      ∙ pick-no _ _ _ (no-leb {a = t} {b = 8} (omega arith))
+      ∙ pick-no _ _ _ (other 9 (omega arith))
+      ∙ pick-no _ _ _ (other 10 (omega arith))
+      ∙ pick-no _ _ _ (other 11 (omega arith))
+      ∙ pick-no _ _ _ (other 12 (omega arith))
+      ∙ pick-no _ _ _ (other 13 (omega arith))
+      ∙ pick-no _ _ _ (other 14 (omega arith))
+      ∙ pick-no _ _ _ (other 15 (omega arith))
+      ∙ pick-no _ _ _ (other 16 (omega arith))
+      ∙ pick-no _ _ _ (other 17 (omega arith))
+      ∙ pick-no _ _ _ (other 18 (omega arith))
+      ∙ pick-no _ _ _ (other 19 (omega arith))
+      ∙ pick-no _ _ _ (other 20 (omega arith))
       ) ∙ token-unknown
 
   -- ---- a token reads the same number in the same bytes, whatever it is used as
@@ -549,9 +549,10 @@ module _ (e : Encoding) (s : List ℕ) (at l : ℕ) (r : Row) where
   -- a row is read to at least its place, and inside the slice where its place is
   pub row-end : rowAt e s at l ≡ Row′ r → (at ≤ r .third .end) × (r .third .end ≤ at + (length s - at))
   row-end x =
-      let i : Inside s at (r .first) × Inside s (r .first .end) (r .second) × Inside s (r .second .end) (r .third) = row-inside x in
-      (omega (arith, i .0 .after, i .0 .forward, i .1 .after, i .1 .forward, i .2 .after, i .2 .forward),
-      omega (arith, i .0 .after, i .0 .forward, i .0 .within, i .1 .after, i .1 .forward, i .1 .within, i .2 .within))
+      let i : Inside s at (r .first) × Inside s (r .first .end) (r .second) × Inside s (r .second .end) (r .third) = row-inside x in (
+        omega (arith, i .0 .after, i .0 .forward, i .1 .after, i .1 .forward, i .2 .after, i .2 .forward),
+        omega (arith, i .0 .after, i .0 .forward, i .0 .within, i .1 .after, i .1 .forward, i .1 .within, i .2 .within),
+      )
 
 -- ---- the expression of an exprloc
 
