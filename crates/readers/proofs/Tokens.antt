@@ -1,8 +1,8 @@
 -- Tokens and rows from a place of a slice on: what each reads, in the terms of the cursor's methods; that it reads the same whatever it is used as;
 -- a row as three fields, one after the other; and how far each comes.
-use Prim.Native.Nat.{ℕ, zero, suc, _+_, _-_, _≤_, _<_}
+use Prim.Native.Nat.{ℕ, suc, _+_, _-_, _≤_, _<_}
 use mathlib.Core.Path.{_≡_, refl, ap, ap₂, sym, _∙_, subst}
-use mathlib.Core.Logic.{_⊎_, inl, inr, ⊎-elim}
+use mathlib.Core.Logic.{⊎-elim}
 use mathlib.Core.Bool.{Bool, true, false, not}
 use mathlib.Core.Option.{Option, none, some}
 use mathlib.Core.List.{List, [], _∷_, _++_, append-nil}
@@ -10,10 +10,10 @@ use native.Mathlib.Omega.{arith}
 use lib.ListN.{length, take, drop, length-append, length-drop, List·getD-eq-default}
 use lib.Seq.{length-take-le, drop-drop}
 use lib.Dec.{T, leb, eqb}
-use mir.Facts.{yes-leb, no-leb, leb-yes, leb-no, yes-eqb, no-eqb, eqb-yes, eqb-no}
-use Rattle.readers.specs.Choice.{pick, pick-yes, pick-no, either, check, bind, All, all-some, all-none, all-check, all-bind, all-triv, all-of, Took, took-length}
+use mir.Facts.{yes-leb, no-leb, leb-yes, leb-no, no-eqb, eqb-yes, eqb-no}
+use Rattle.readers.specs.Choice.{pick, pick-yes, pick-no, either, check, bind, All, all-some, all-none, all-check, all-bind, all-triv, Took, took-length}
 use Rattle.readers.specs.Numbers.{Groups, uleb, sleb}
-use Rattle.readers.specs.Layout.{Kind, fixed, leb128, Encoded, Found, width, Role, Piece, copied, linked, Read, ReadOf, RunOf, Token, nothing, number, bounded, forms, signed, link, string, run, block, expression, unknown, field, done, asBytes, asLeb, copy, asNumber, asLink, asBounded, asForms, asSigned, asString, asBlock, asExpression, before, numberIn, stringIn, formsIn, tokenIn, readIn, numberBytes, pieceBytes, bytesOf, length-number, NumberLaw, number-law, LebLaw, uleb-law, sleb-law, StringLaw, string-law, FormsLaw, forms-law, TokenLaw, token-law, as-bytes-law}
+use Rattle.readers.specs.Layout.{Kind, fixed, leb128, Found, width, Role, Piece, copied, Read, ReadOf, Token, nothing, number, bounded, forms, signed, link, string, run, block, expression, unknown, field, done, asBytes, asLeb, copy, asNumber, asLink, asBounded, asForms, asSigned, asString, asBlock, asExpression, before, numberIn, stringIn, formsIn, tokenIn, readIn, numberBytes, pieceBytes, bytesOf, length-number, NumberLaw, number-law, LebLaw, uleb-law, sleb-law, StringLaw, string-law, TokenLaw, token-law, as-bytes-law}
 use Rattle.readers.specs.Tokens.{Use, plain, as′, numberAs, tokenOf}
 use Rattle.readers.specs.Operations.{Row as Tokens, rows, unreadableRow, rowOf, rowLayout}
 use Rattle.readers.specs.Cursors.{cursor, asLebNumber, lebAt, asFixed, fixedAt, skipAt, asMoved, stringAt}
