@@ -1,2 +1,4 @@
+pub mod Tables
+pub mod Tokens
 pub mod Widths
 pub mod Lebs
