@@ -1,8 +1,8 @@
 -- Tokens and rows from a place of a slice on: what each reads, in the terms of the cursor's methods; that it reads the same whatever it is used as;
 -- a row as three fields, one after the other; and how far each comes.
-use Prim.Native.Nat.{ℕ, zero, suc, _+_, _-_, _≤_, _<_}
+use Prim.Native.Nat.{ℕ, suc, _+_, _-_, _≤_, _<_}
 use mathlib.Core.Path.{_≡_, refl, ap, ap₂, sym, _∙_, subst}
-use mathlib.Core.Logic.{_⊎_, inl, inr, ⊎-elim}
+use mathlib.Core.Logic.{⊎-elim}
 use mathlib.Core.Bool.{Bool, true, false, not}
 use mathlib.Core.Option.{Option, none, some}
 use mathlib.Core.List.{List, [], _∷_, _++_, append-nil}
@@ -10,10 +10,10 @@ use native.Mathlib.Omega.{arith}
 use lib.ListN.{length, take, drop, length-append, length-drop, List·getD-eq-default}
 use lib.Seq.{length-take-le, drop-drop}
 use lib.Dec.{T, leb, eqb}
-use mir.Facts.{yes-leb, no-leb, leb-yes, leb-no, yes-eqb, no-eqb, eqb-yes, eqb-no}
-use Rattle.readers.specs.Choice.{pick, pick-yes, pick-no, either, check, bind, All, all-some, all-none, all-check, all-bind, all-triv, all-of, Took, took-length}
+use mir.Facts.{yes-leb, no-leb, leb-yes, leb-no, no-eqb, eqb-yes, eqb-no}
+use Rattle.readers.specs.Choice.{pick, pick-yes, pick-no, either, check, bind, All, all-some, all-none, all-check, all-bind, all-triv, Took, took-length}
 use Rattle.readers.specs.Numbers.{Groups, uleb, sleb}
-use Rattle.readers.specs.Layout.{Kind, fixed, leb128, Encoded, Found, width, Role, Piece, copied, linked, Read, ReadOf, RunOf, Token, nothing, number, bounded, forms, signed, link, string, run, block, expression, unknown, field, done, asBytes, asLeb, copy, asNumber, asLink, asBounded, asForms, asSigned, asString, asBlock, asExpression, before, numberIn, stringIn, formsIn, tokenIn, readIn, numberBytes, pieceBytes, bytesOf, length-number, NumberLaw, number-law, LebLaw, uleb-law, sleb-law, StringLaw, string-law, FormsLaw, forms-law, TokenLaw, token-law, as-bytes-law}
+use Rattle.readers.specs.Layout.{Kind, fixed, leb128, Found, width, Role, Piece, copied, Read, ReadOf, Token, nothing, number, bounded, forms, signed, link, string, run, block, expression, unknown, field, done, asBytes, asLeb, copy, asNumber, asLink, asBounded, asForms, asSigned, asString, asBlock, asExpression, before, numberIn, stringIn, formsIn, tokenIn, readIn, numberBytes, pieceBytes, bytesOf, length-number, NumberLaw, number-law, LebLaw, uleb-law, sleb-law, StringLaw, string-law, TokenLaw, token-law, as-bytes-law}
 use Rattle.readers.specs.Tokens.{Use, plain, as′, numberAs, tokenOf}
 use Rattle.readers.specs.Operations.{Row as Tokens, rows, unreadableRow, rowOf, rowLayout}
 use Rattle.readers.specs.Cursors.{cursor, asLebNumber, lebAt, asFixed, fixedAt, skipAt, asMoved, stringAt}
@@ -337,20 +337,20 @@ module _ (e : Encoding) (s : List ℕ) (at : ℕ) where
   field-unknown t h =
       let other : (n : ℕ) → n ≤ 20 → T (not (eqb t n)) = (λ n k. no-eqb {a = t} {b = n} (λ x. omega arith)) in
       ap (tokenAt e s at) (
-        pick-no _ _ _ (other 0 (omega arith))
-        ∙ pick-no _ _ _ (no-leb {a = t} {b = 8} (omega arith))
-        ∙ pick-no _ _ _ (other 9 (omega arith))
-        ∙ pick-no _ _ _ (other 10 (omega arith))
-        ∙ pick-no _ _ _ (other 11 (omega arith))
-        ∙ pick-no _ _ _ (other 12 (omega arith))
-        ∙ pick-no _ _ _ (other 13 (omega arith))
-        ∙ pick-no _ _ _ (other 14 (omega arith))
-        ∙ pick-no _ _ _ (other 15 (omega arith))
-        ∙ pick-no _ _ _ (other 16 (omega arith))
-        ∙ pick-no _ _ _ (other 17 (omega arith))
-        ∙ pick-no _ _ _ (other 18 (omega arith))
-        ∙ pick-no _ _ _ (other 19 (omega arith))
-        ∙ pick-no _ _ _ (other 20 (omega arith))
+      pick-no _ _ _ (other 0 (omega arith))
+      ∙ pick-no _ _ _ (no-leb {a = t} {b = 8} (omega arith))
+      ∙ pick-no _ _ _ (other 9 (omega arith))
+      ∙ pick-no _ _ _ (other 10 (omega arith))
+      ∙ pick-no _ _ _ (other 11 (omega arith))
+      ∙ pick-no _ _ _ (other 12 (omega arith))
+      ∙ pick-no _ _ _ (other 13 (omega arith))
+      ∙ pick-no _ _ _ (other 14 (omega arith))
+      ∙ pick-no _ _ _ (other 15 (omega arith))
+      ∙ pick-no _ _ _ (other 16 (omega arith))
+      ∙ pick-no _ _ _ (other 17 (omega arith))
+      ∙ pick-no _ _ _ (other 18 (omega arith))
+      ∙ pick-no _ _ _ (other 19 (omega arith))
+      ∙ pick-no _ _ _ (other 20 (omega arith))
       ) ∙ token-unknown
 
   -- ---- a token reads the same number in the same bytes, whatever it is used as
@@ -549,9 +549,10 @@ module _ (e : Encoding) (s : List ℕ) (at l : ℕ) (r : Row) where
   -- a row is read to at least its place, and inside the slice where its place is
   pub row-end : rowAt e s at l ≡ Row′ r → (at ≤ r .third .end) × (r .third .end ≤ at + (length s - at))
   row-end x =
-      let i : Inside s at (r .first) × Inside s (r .first .end) (r .second) × Inside s (r .second .end) (r .third) = row-inside x in
-      (omega (arith, i .0 .after, i .0 .forward, i .1 .after, i .1 .forward, i .2 .after, i .2 .forward),
-      omega (arith, i .0 .after, i .0 .forward, i .0 .within, i .1 .after, i .1 .forward, i .1 .within, i .2 .within))
+      let i : Inside s at (r .first) × Inside s (r .first .end) (r .second) × Inside s (r .second .end) (r .third) = row-inside x in (
+        omega (arith, i .0 .after, i .0 .forward, i .1 .after, i .1 .forward, i .2 .after, i .2 .forward),
+        omega (arith, i .0 .after, i .0 .forward, i .0 .within, i .1 .after, i .1 .forward, i .1 .within, i .2 .within),
+      )
 
 -- ---- the expression of an exprloc
 

@@ -48,7 +48,7 @@ part-result-end-3 : tie.Need-part-result-end-3
 part-result-end-3 c = search needs
 
 returns-3 : tie.Need-returns-3
-returns-3 c = 
+returns-3 c =
     ⊎-elim
     (λ w. exprloc-beyond _ _ _ _ (c .before .before .before .before .before .before .uleb .ensures) (c .before .before .before .before .before .block-field .ensures) _ (c .before .before .before .f .given .1) (w .1 .left))
     (λ w. exprloc-back _ _ _ _ (c .before .before .before .before .before .before .uleb .ensures) (c .before .before .before .before .before .block-field .ensures) _ (c .before .before .before .f .given .1) (w .left))

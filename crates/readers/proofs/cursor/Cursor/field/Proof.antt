@@ -92,7 +92,19 @@ block-field-requires-4 : tie.Need-block-field-requires-4
 block-field-requires-4 c κs = search needs
 
 returns-11 : tie.Need-returns-11
-returns-11 c = c .block-field4 .ensures ∙ ap (blockField _) (c .before .uleb .ensures) ∙ sym (field-lengthy _ _ _ _ (past _ 16 (past _ 15 (past _ 14 (past _ 13 (past _ 12 (past _ 11 (c .before .before .before .before .before .before .before .before .before .if2 .left) (c .before .before .before .before .before .before .before .before .if3 .left)) (c .before .before .before .before .before .before .before .if4 .left)) (c .before .before .before .before .before .before .if5 .left)) (c .before .before .before .before .before .if6 .left)) (c .before .before .before .before .if7 .left)) (c .before .before .before .if8 .left)) (c .before .before .if9 .taken))
+returns-11 c =
+    c .block-field4 .ensures
+    ∙ ap (blockField _) (c .before .uleb .ensures)
+    ∙ sym (field-lengthy _ _ _ _
+    (past _ 16 (past _ 15 (past _ 14 (past _ 13 (past _ 12 (past _ 11
+    (c .before .before .before .before .before .before .before .before .before .if2 .left)
+    (c .before .before .before .before .before .before .before .before .if3 .left))
+    (c .before .before .before .before .before .before .before .if4 .left))
+    (c .before .before .before .before .before .before .if5 .left))
+    (c .before .before .before .before .before .if6 .left))
+    (c .before .before .before .before .if7 .left))
+    (c .before .before .before .if8 .left))
+    (c .before .before .if9 .taken))
 
 uleb-requires-2 : tie.Need-uleb-requires-2
 uleb-requires-2 c κs = search needs

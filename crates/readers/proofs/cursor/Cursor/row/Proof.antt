@@ -39,7 +39,10 @@ enum-told-2 c = search needs
 
 returns-3 : tie.Need-returns-3
 unfolding listed listedFrom rowOf rows unreadableRow
-returns-3 c = row-none2 _ _ _ _ _ _ (c .before .before .before .before .before .before .field .ensures) (entry (λ l. rowOf l .first) 28 _ (c .before .before .before .before .before .before .before .if1 .left)) _ (c .before .before .before .before .first .given .1) _ _ (c .before .before .field2 .ensures) (entry (λ l. rowOf l .second) 28 _ (c .before .before .before .before .before .before .before .if1 .left)) (c .enum-told2 .given .1)
+returns-3 c =
+    row-none2 _ _ _ _ _ _
+    (c .before .before .before .before .before .before .field .ensures) (entry (λ l. rowOf l .first) 28 _ (c .before .before .before .before .before .before .before .if1 .left)) _ (c .before .before .before .before .first .given .1) _ _
+    (c .before .before .field2 .ensures) (entry (λ l. rowOf l .second) 28 _ (c .before .before .before .before .before .before .before .if1 .left)) (c .enum-told2 .given .1)
 
 array-read-field-3 : tie.Need-array-read-field-3
 array-read-field-3 c = search needs
@@ -55,11 +58,19 @@ enum-told-3 c = search needs
 
 returns-4 : tie.Need-returns-4
 unfolding listed listedFrom rowOf rows unreadableRow
-returns-4 c = row-none3 _ _ _ _ _ _ (c .before .before .before .before .before .before .before .before .before .before .field .ensures) (entry (λ l. rowOf l .first) 28 _ (c .before .before .before .before .before .before .before .before .before .before .before .if1 .left)) _ (c .before .before .before .before .before .before .before .before .first .given .1) _ _ (c .before .before .before .before .before .before .field2 .ensures) (entry (λ l. rowOf l .second) 28 _ (c .before .before .before .before .before .before .before .before .before .before .before .if1 .left)) _ (c .before .before .before .before .second .given .1) _ _ (c .before .before .field3 .ensures) (entry (λ l. rowOf l .third) 28 _ (c .before .before .before .before .before .before .before .before .before .before .before .if1 .left)) (c .enum-told3 .given .1)
+returns-4 c =
+    row-none3 _ _ _ _ _ _
+    (c .before .before .before .before .before .before .before .before .before .before .field .ensures) (entry (λ l. rowOf l .first) 28 _ (c .before .before .before .before .before .before .before .before .before .before .before .if1 .left)) _ (c .before .before .before .before .before .before .before .before .first .given .1) _ _
+    (c .before .before .before .before .before .before .field2 .ensures) (entry (λ l. rowOf l .second) 28 _ (c .before .before .before .before .before .before .before .before .before .before .before .if1 .left)) _ (c .before .before .before .before .second .given .1) _ _
+    (c .before .before .field3 .ensures) (entry (λ l. rowOf l .third) 28 _ (c .before .before .before .before .before .before .before .before .before .before .before .if1 .left)) (c .enum-told3 .given .1)
 
 returns-5 : tie.Need-returns-5
 unfolding listed listedFrom rowOf rows unreadableRow
-returns-5 c = row-read _ _ _ _ _ _ (c .before .before .before .before .before .before .before .before .before .before .before .field .ensures) (entry (λ l. rowOf l .first) 28 _ (c .before .before .before .before .before .before .before .before .before .before .before .before .if1 .left)) _ (c .before .before .before .before .before .before .before .before .before .first .given .1) _ _ (c .before .before .before .before .before .before .before .field2 .ensures) (entry (λ l. rowOf l .second) 28 _ (c .before .before .before .before .before .before .before .before .before .before .before .before .if1 .left)) _ (c .before .before .before .before .before .second .given .1) _ _ (c .before .before .before .field3 .ensures) (entry (λ l. rowOf l .third) 28 _ (c .before .before .before .before .before .before .before .before .before .before .before .before .if1 .left)) _ (c .before .third .given .1)
+returns-5 c =
+    row-read _ _ _ _ _ _
+    (c .before .before .before .before .before .before .before .before .before .before .before .field .ensures) (entry (λ l. rowOf l .first) 28 _ (c .before .before .before .before .before .before .before .before .before .before .before .before .if1 .left)) _ (c .before .before .before .before .before .before .before .before .before .first .given .1) _ _
+    (c .before .before .before .before .before .before .before .field2 .ensures) (entry (λ l. rowOf l .second) 28 _ (c .before .before .before .before .before .before .before .before .before .before .before .before .if1 .left)) _ (c .before .before .before .before .before .second .given .1) _ _
+    (c .before .before .before .field3 .ensures) (entry (λ l. rowOf l .third) 28 _ (c .before .before .before .before .before .before .before .before .before .before .before .before .if1 .left)) _ (c .before .third .given .1)
 
 pub row-spec : {M : Type 1} → statement M
 row-spec =
