@@ -1,2 +1,4 @@
 pub mod Widths
 pub mod Lebs
+pub mod Values
+pub mod Nesting
