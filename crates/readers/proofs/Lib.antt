@@ -1,3 +1,5 @@
+pub mod Tables
+pub mod Tokens
 pub mod Widths
 pub mod Lebs
 pub mod Values

@@ -15,3 +15,4 @@ pub mod Lists
 pub mod Abbreviations
 pub mod Entries
 pub mod Nesting
+pub mod Examples
