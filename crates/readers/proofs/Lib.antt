@@ -1,3 +1,4 @@
 pub mod Widths
 pub mod Lebs
 pub mod Specs
+pub mod Declarations
