@@ -1,7 +1,11 @@
 pub mod Tables
-pub mod Tokens
 pub mod Widths
 pub mod Lebs
+pub mod Tokens
+pub mod Steps
 pub mod Headers
 pub mod ListStarts
-pub mod Steps
+pub mod Specs
+pub mod Declarations
+pub mod Values
+pub mod Nesting

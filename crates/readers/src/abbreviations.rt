@@ -2,6 +2,7 @@
 ghost use mathlib.Core.Path.{_≡_};
 ghost use lib.ListN.{length};
 ghost use Rattle.readers.specs.Abbreviations.{specAt, implicitSpec, pastAttributes, declarationAt, searchAt, checkedOf, indexOf, findAt, zeros};
+ghost use Rattle.readers.specs.declared.abbreviations.Checked.the-variants.{Accepted};
 use crate::cursor::Cursor;
 use crate::cursor::Moved;
 use crate::cursor::Number;
@@ -156,13 +157,20 @@ impl Cursor {
     {
         let mut at = self.at;
         while at < to {
-            let DeclarationStep::Declaration(d, next) = (Cursor { at }).declaration(s) else {
-                return Found::Nothing;
-            };
-            if d.code == code {
-                return Found::Declaration(d);
+            match (Cursor { at }).declaration(s) {
+                DeclarationStep::Declaration(d, next) => {
+                    if d.code == code {
+                        return Found::Declaration(d);
+                    }
+                    at = next.at;
+                }
+                DeclarationStep::Last(_) => {
+                    return Found::Nothing;
+                }
+                DeclarationStep::Unreadable => {
+                    return Found::Nothing;
+                }
             }
-            at = next.at;
         }
         Found::Nothing
     }
@@ -178,14 +186,12 @@ fn clear_index(index: &mut [u64])
     }
 }
 
-// Checks the whole list of declarations that starts at an offset, and fills an index of them: at each code below the index's length one more than the
-// place of its declaration, or 0. A list that is refused leaves zeros.
-pub fn check_abbreviations(s: &[u8], from: u64, index: &mut [u64]) -> Checked
-    ensures answer { λ r. ⌜ r ≡ checkedOf (now (s .entry)) from ⌝ }
-    ensures filled { λ r. ⌜ now (index .exit) ≡ indexOf (now (s .entry)) from (length (now (index .entry))) ⌝ }
+// Fills an index that holds zeros, up to a declaration that is unreadable or has a code that was declared before.
+fn fill_index(s: &[u8], start: usize, index: &mut [u64]) -> Checked
+    requires { ⌜ now index ≡ zeros (length (now index)) ⌝ }
+    ensures answer { λ r. ⌜ r ≡ checkedOf (now (s .entry)) start ⌝ }
+    ensures filled { λ r. ⌜ (r ≡ Accepted → now (index .exit) ≡ indexOf (now (s .entry)) start (length (now (index .entry)))) ⌝ }
 {
-    clear_index(index);
-    let start = from as usize;
     let mut at = start;
     loop {
         match (Cursor { at }).declaration(s) {
@@ -194,25 +200,39 @@ pub fn check_abbreviations(s: &[u8], from: u64, index: &mut [u64]) -> Checked
                 if code < (index.len() as u64) {
                     let i = code as usize;
                     if index[i] != 0 {
-                        clear_index(index);
                         return Checked::Refused;
                     }
                     index[i] = (at as u64) + 1;
+                    at = next.at;
                 } else {
                     if let Found::Declaration(_) = (Cursor { at: start }).search(s, at, code) {
-                        clear_index(index);
                         return Checked::Refused;
                     }
+                    at = next.at;
                 }
-                at = next.at;
             }
             DeclarationStep::Last(_) => {
                 return Checked::Accepted;
             }
             DeclarationStep::Unreadable => {
-                clear_index(index);
                 return Checked::Refused;
             }
+        }
+    }
+}
+
+// Checks the whole list of declarations that starts at an offset, and fills an index of them: at each code below the index's length one more than the
+// place of its declaration, or 0. A list that is refused leaves zeros.
+pub fn check_abbreviations(s: &[u8], from: u64, index: &mut [u64]) -> Checked
+    ensures answer { λ r. ⌜ r ≡ checkedOf (now (s .entry)) from ⌝ }
+    ensures filled { λ r. ⌜ now (index .exit) ≡ indexOf (now (s .entry)) from (length (now (index .entry))) ⌝ }
+{
+    clear_index(index);
+    match fill_index(s, from as usize, index) {
+        Checked::Accepted => Checked::Accepted,
+        Checked::Refused => {
+            clear_index(index);
+            Checked::Refused
         }
     }
 }
@@ -227,12 +247,13 @@ pub fn find_declaration(s: &[u8], from: u64, index: &[u64], code: u64) -> Found
         if place == 0 {
             return Found::Nothing;
         }
-        let DeclarationStep::Declaration(d, _) = (Cursor {
+        return match (Cursor {
             at: (place - 1) as usize,
-        }).declaration(s) else {
-            return Found::Nothing;
+        }).declaration(s) {
+            DeclarationStep::Declaration(d, _) => Found::Declaration(d),
+            DeclarationStep::Last(_) => Found::Nothing,
+            DeclarationStep::Unreadable => Found::Nothing,
         };
-        return Found::Declaration(d);
     }
     (Cursor { at: from as usize }).search(s, s.len(), code)
 }
