@@ -237,8 +237,13 @@ module _ (e : Encoding) (s : List ℕ) (at : ℕ) (o : Operation) where
       row-inside e s (at + 1) (o .row) (q .fields) (q .read) in
       let h : at < length s = q .here in
       let n : o .next .at ≡ q .fields .third .end = ap (λ (d : Cursor). d .at) (q .next) in
-      let b : (at < q .fields .third .end) × (q .fields .third .end ≤ length s) × (q .fields .second .end ≤ q .fields .third .end) = between e s at (q .fields) h i in
-      (omega (arith, b .0), omega (arith, b .1), inside-same s _ _ _ _ refl (q .first) (i .0), inside-same s _ _ _ _ (ap (λ (f : Field). f .end) (q .first)) (q .second) (i .1), omega (arith, b .2, ap (λ (f : Field). f .end) (q .second)))
+      let b : (at < q .fields .third .end) × (q .fields .third .end ≤ length s) × (q .fields .second .end ≤ q .fields .third .end) = between e s at (q .fields) h i in (
+        omega (arith, b .0),
+        omega (arith, b .1),
+        inside-same s _ _ _ _ refl (q .first) (i .0),
+        inside-same s _ _ _ _ (ap (λ (f : Field). f .end) (q .first)) (q .second) (i .1),
+        omega (arith, b .2, ap (λ (f : Field). f .end) (q .second)),
+      )
 
 -- ---- what a list entry that was read says
 
@@ -281,5 +286,11 @@ module _ (e : Encoding) (location : Bool) (s : List ℕ) (at : ℕ) (o : ListEnt
       let i : Inside s (at + 1) (q .fields .first) × Inside s (q .fields .first .end) (q .fields .second) × Inside s (q .fields .second .end) (q .fields .third) =
       row-inside e s (at + 1) (listRow location (o .kind)) (q .fields) (q .read) in
       let n : o .next .at ≡ q .fields .third .end = ap (λ (d : Cursor). d .at) (q .next) in
-      let b : (at < q .fields .third .end) × (q .fields .third .end ≤ length s) × (q .fields .second .end ≤ q .fields .third .end) = between e s at (q .fields) (q .here) i in
-      (omega (arith, b .0), omega (arith, b .1), inside-same s _ _ _ _ refl (q .first) (i .0), inside-same s _ _ _ _ (ap (λ (f : Field). f .end) (q .first)) (q .second) (i .1), inside-same s _ _ _ _ (ap (λ (f : Field). f .end) (q .second)) (q .third) (i .2), ap (λ (f : Field). f .end) (q .third) ∙ sym n)
+      let b : (at < q .fields .third .end) × (q .fields .third .end ≤ length s) × (q .fields .second .end ≤ q .fields .third .end) = between e s at (q .fields) (q .here) i in (
+        omega (arith, b .0),
+        omega (arith, b .1),
+        inside-same s _ _ _ _ refl (q .first) (i .0),
+        inside-same s _ _ _ _ (ap (λ (f : Field). f .end) (q .first)) (q .second) (i .1),
+        inside-same s _ _ _ _ (ap (λ (f : Field). f .end) (q .second)) (q .third) (i .2),
+        ap (λ (f : Field). f .end) (q .third) ∙ sym n,
+      )

@@ -77,14 +77,23 @@ returns-7 c = sym (from-abbreviations (c .before .before .before) ∙ abbreviati
 
 returns-8 : tie.Need-returns-8
 unfolding headerMade encodingOf
-returns-8 c = sym (from-abbreviations (c .before .before .before .before .before) ∙ whole _ _ _ _ _ (sym (c .before .before .before .before .fixed2 .ensures) ∙ c .before .before .abbreviations .given .1) (c .if8 .taken))
+returns-8 c =
+    sym (from-abbreviations (c .before .before .before .before .before)
+    ∙ whole _ _ _ _ _ (sym (c .before .before .before .before .fixed2 .ensures) ∙ c .before .before .abbreviations .given .1)
+    (c .if8 .taken))
 
 returns-9 : tie.Need-returns-9
-returns-9 c = sym (from-abbreviations (c .before .before .before .before .before .before) ∙ id-none _ _ _ _ _ (sym (c .before .before .before .before .before .fixed2 .ensures) ∙ c .before .before .before .abbreviations .given .1) (c .before .if8 .left) (c .if9 .taken))
+returns-9 c =
+    sym (from-abbreviations (c .before .before .before .before .before .before)
+    ∙ id-none _ _ _ _ _ (sym (c .before .before .before .before .before .fixed2 .ensures) ∙ c .before .before .before .abbreviations .given .1)
+    (c .before .if8 .left) (c .if9 .taken))
 
 returns-10 : tie.Need-returns-10
 unfolding headerMade encodingOf
-returns-10 c = sym (from-abbreviations (c .before .before .before .before .before .before) ∙ id-there _ _ _ _ _ (sym (c .before .before .before .before .before .fixed2 .ensures) ∙ c .before .before .before .abbreviations .given .1) (c .before .if8 .left) (c .if9 .left))
+returns-10 c =
+    sym (from-abbreviations (c .before .before .before .before .before .before)
+    ∙ id-there _ _ _ _ _ (sym (c .before .before .before .before .before .fixed2 .ensures) ∙ c .before .before .before .abbreviations .given .1)
+    (c .before .if8 .left) (c .if9 .left))
 
 pub header-fields-spec : {M : Type 1} → statement M
 header-fields-spec =

@@ -24,26 +24,40 @@ returns-2 : tie.Need-returns-2
 returns-2 c = sym (length-none _ (c .before .before .before .if1 .left) (sym (c .before .before .fixed .ensures) ∙ c .enum-told .given .1))
 
 returns-3 : tie.Need-returns-3
-returns-3 c = sym (length-other _ (c .before .before .before .before .before .if1 .left) _ _ (sym (c .before .before .before .before .fixed .ensures) ∙ c .before .before .length .given .1) (c .if2 .taken))
+returns-3 c =
+    sym (length-other _ (c .before .before .before .before .before .if1 .left) _ _
+    (sym (c .before .before .before .before .fixed .ensures) ∙ c .before .before .length .given .1)
+    (c .if2 .taken))
 
 left-requires : tie.Need-left-requires
 left-requires c κs = search needs
 
 returns-4 : tie.Need-returns-4
-returns-4 c = sym (length-over _ (c .before .before .before .before .before .before .before .if1 .left) _ _ (sym (c .before .before .before .before .before .before .fixed .ensures) ∙ c .before .before .before .before .length .given .1) (c .before .before .if2 .left) (omega arith))
+returns-4 c =
+    sym (length-over _ (c .before .before .before .before .before .before .before .if1 .left) _ _
+    (sym (c .before .before .before .before .before .before .fixed .ensures) ∙ c .before .before .before .before .length .given .1)
+    (c .before .before .if2 .left) (omega arith))
 
 add-end : tie.Need-add-end
 add-end c = search needs
 
 slice-aggregate-header-fields : tie.Need-slice-aggregate-header-fields
 slice-aggregate-header-fields c =
-    sym (length-take-le _ _ (omega (arith, fixed-inside _ _ _ _ _ _ (sym (c .before .before .before .before .before .before .before .fixed .ensures) ∙ c .before .before .before .before .before .length .given .1) .1)))
+    sym (length-take-le _ _ (omega (
+      arith,
+      fixed-inside _ _ _ _ _ _
+          (sym (c .before .before .before .before .before .before .before .fixed .ensures) ∙ c .before .before .before .before .before .length .given .1) .1,
+    )))
 
 header-fields-requires : tie.Need-header-fields-requires
 header-fields-requires c κs = search needs
 
 returns-5 : tie.Need-returns-5
-returns-5 c = c .header-fields .ensures ∙ sym (length-there _ (c .before .before .before .before .before .before .before .before .before .if1 .left) _ _ (sym (c .before .before .before .before .before .before .before .before .fixed .ensures) ∙ c .before .before .before .before .before .before .length .given .1) (c .before .before .before .before .if2 .left) (omega arith))
+returns-5 c =
+    c .header-fields .ensures
+    ∙ sym (length-there _ (c .before .before .before .before .before .before .before .before .before .if1 .left) _ _
+    (sym (c .before .before .before .before .before .before .before .before .fixed .ensures) ∙ c .before .before .before .before .before .before .length .given .1)
+    (c .before .before .before .before .if2 .left) (omega arith))
 
 pub unit-header-spec : {M : Type 1} → statement M
 unit-header-spec =

@@ -30,10 +30,14 @@ enum-told : tie.Need-enum-told
 enum-told c = search needs
 
 returns-3 : tie.Need-returns-3
-returns-3 c = sym (entry-none _ _ _ _ _ _ (c .before .before .before .before .before .before .if1 .left) (c .before .before .before .before .if2 .left) (c .before .before .before .list-row .ensures) (c .before .before .row .ensures) (c .enum-told .given .1))
+returns-3 c =
+    sym (entry-none _ _ _ _ _ _ (c .before .before .before .before .before .before .if1 .left) (c .before .before .before .before .if2 .left) (c .before .before .before .list-row .ensures)
+    (c .before .before .row .ensures) (c .enum-told .given .1))
 
 returns-4 : tie.Need-returns-4
-returns-4 c = sym (entry-some _ _ _ _ _ _ (c .before .before .before .before .before .before .before .before .before .before .if1 .left) (c .before .before .before .before .before .before .before .before .if2 .left) (c .before .before .before .before .before .before .before .list-row .ensures) (c .before .before .before .before .before .before .row .ensures) _ (c .before .before .before .before .r .given .1))
+returns-4 c =
+    sym (entry-some _ _ _ _ _ _ (c .before .before .before .before .before .before .before .before .before .before .if1 .left) (c .before .before .before .before .before .before .before .before .if2 .left) (c .before .before .before .before .before .before .before .list-row .ensures)
+    (c .before .before .before .before .before .before .row .ensures) _ (c .before .before .before .before .r .given .1))
 
 pub list-entry-spec : {M : Type 1} → statement M
 list-entry-spec =

@@ -27,10 +27,14 @@ enum-told : tie.Need-enum-told
 enum-told c = search needs
 
 returns-2 : tie.Need-returns-2
-returns-2 c = sym (operation-none _ _ _ _ _ (c .before .before .before .before .before .if1 .left) (c .before .before .before .operation-row .ensures) (c .before .before .row .ensures) (c .enum-told .given .1))
+returns-2 c =
+    sym (operation-none _ _ _ _ _ (c .before .before .before .before .before .if1 .left) (c .before .before .before .operation-row .ensures)
+    (c .before .before .row .ensures) (c .enum-told .given .1))
 
 returns-3 : tie.Need-returns-3
-returns-3 c = sym (operation-some _ _ _ _ _ (c .before .before .before .before .before .before .before .before .before .if1 .left) (c .before .before .before .before .before .before .before .operation-row .ensures) (c .before .before .before .before .before .before .row .ensures) _ (c .before .before .before .before .r .given .1))
+returns-3 c =
+    sym (operation-some _ _ _ _ _ (c .before .before .before .before .before .before .before .before .before .if1 .left) (c .before .before .before .before .before .before .before .operation-row .ensures)
+    (c .before .before .before .before .before .before .row .ensures) _ (c .before .before .before .before .r .given .1))
 
 pub operation-spec : {M : Type 1} → statement M
 operation-spec =
