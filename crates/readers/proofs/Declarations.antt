@@ -1,13 +1,12 @@
 -- Abbreviation declarations: each takes bytes that are there; the steps of the search and of the check; the index.
 use Prim.Native.Nat.{ℕ, zero, suc, _+_, _-_, _≤_, _<_}
 use mathlib.Core.Path.{_≡_, refl, ap, sym, _∙_, subst}
-use mathlib.Core.Logic.{_⊎_, inl, inr, ⊎-elim}
+use mathlib.Core.Logic.{⊎-elim}
 use mathlib.Core.Bool.{Bool, true, false, not}
 use mathlib.Core.Option.{Option, none, some}
-use mathlib.Core.List.{List, [], _∷_, _++_, append-nil, append-assoc}
-use native.Mathlib.Numerals.{add-one}
+use mathlib.Core.List.{List, [], _∷_, _++_, append-nil}
 use native.Mathlib.Omega.{arith}
-use lib.ListN.{length, take, set, replicate, length-set, length-replicate, getD, getD-replicate}
+use lib.ListN.{length, set, length-set, length-replicate, getD, getD-replicate}
 use lib.Seq.{ext-getD, getD-set-same, getD-set-other, set-out}
 use lib.Dec.{T, eqb, leb, ltb}
 use mir.Facts.{yes-eqb, no-eqb, eqb-yes, eqb-no, yes-leb, no-leb, yes-ltb, no-ltb, ltb-yes, ltb-no}
@@ -15,8 +14,8 @@ use Rattle.readers.specs.Choice.{pick, pick-yes, pick-no, pick-either, e
 use Rattle.readers.specs.Numbers.{uleb}
 use Rattle.readers.specs.Layout.{short}
 use Rattle.readers.specs.Scan.{Turn, more, stop, bad, Scanned, push, onTurn, scanWithin, scan, Goes, scan-stop, scan-bad, scan-more}
-use Rattle.readers.specs.Cursors.{cursor, lebAt, fixedAt}
-use Rattle.readers.specs.Abbreviations.{attributesFrom, pastAttributes, numberDeclaration, movedDeclaration, declarationAt, Placed, declarationTurn, declarationsFrom, declaredIn, isFound, distinct, checkDistinct, abbreviationsOf, asChecked, checkedOf, zeros, indexed, indexFor, indexOf, searchTurn, foundBy, searchAt, declarationFound, throughIndex, findAt}
+use Rattle.readers.specs.Cursors.{lebAt, fixedAt}
+use Rattle.readers.specs.Abbreviations.{pastAttributes, numberDeclaration, movedDeclaration, declarationAt, Placed, declarationTurn, declarationsFrom, declaredIn, isFound, distinct, checkDistinct, abbreviationsOf, asChecked, checkedOf, zeros, indexed, indexFor, indexOf, searchTurn, foundBy, searchAt, declarationFound, throughIndex, findAt}
 use Rattle.readers.specs.declared.cursor.Cursor.{Cursor}
 use Rattle.readers.specs.declared.cursor.Number.{Number}
 use Rattle.readers.specs.declared.cursor.Number.the-variants.{Value, Unreadable}
@@ -25,7 +24,6 @@ use Rattle.readers.specs.declared.cursor.Moved.the-variants.{To, Unreada
 use Rattle.readers.specs.declared.abbreviations.Declaration.{Declaration}
 use Rattle.readers.specs.declared.abbreviations.DeclarationStep.{DeclarationStep}
 use Rattle.readers.specs.declared.abbreviations.DeclarationStep.the-variants.{Declaration as Declared, Last, Unreadable as NoDeclaration}
-use Rattle.readers.specs.declared.abbreviations.Checked.{Checked}
 use Rattle.readers.specs.declared.abbreviations.Checked.the-variants.{Accepted, Refused}
 use Rattle.readers.specs.declared.abbreviations.Found.{Found}
 use Rattle.readers.specs.declared.abbreviations.Found.the-variants.{Declaration as Found′, Nothing}
@@ -110,7 +108,7 @@ step-inside s at =
     pick-either (InsideStep s at) (leb children 1) _ _ (λ _.
     moved-inside (InsideStep s at) (pastAttributes s (c₃ .at)) _ tt (λ c₄ e₄.
     record { ahead = omega (arith, q₁ .0, q₂ .0, q₃ .0); past = past-read s (c₃ .at) c₄ e₄; coded = eqb-no coded }))
-    (λ _. tt)))))) 
+    (λ _. tt))))))
 
 pub declaration-inside : (s : List ℕ) (at : ℕ) (d : Declaration) (c : Cursor) → declarationAt s at ≡ Declared d c → Inside s at d c
 unfolding InsideStep
@@ -193,9 +191,9 @@ cleared-more index₀ index i q h = record {
   same = length-set index i 0 ∙ q .same;
   few = omega (arith, length-set index i 0);
   are = λ k l. ⊎-elim
-  (λ e. let p : k ≡ i = eqb-yes e in rw p (getD-set-same index i 0 0 h))
-  (λ e. let p : k ≡ i → ⊥ = eqb-no e in getD-set-other index i k 0 0 p ∙ q .are k (omega arith))
-  (either (eqb k i));
+      (λ e. let p : k ≡ i = eqb-yes e in rw p (getD-set-same index i 0 0 h))
+      (λ e. let p : k ≡ i → ⊥ = eqb-no e in getD-set-other index i k 0 0 p ∙ q .are k (omega arith))
+      (either (eqb k i));
 }
 
 pub cleared-all : (index₀ index : List ℕ) (i : ℕ) → Cleared index₀ index i → length index ≤ i → index ≡ zeros (length index₀)

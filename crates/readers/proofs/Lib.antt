@@ -1,4 +1,9 @@
+pub mod Tables
+pub mod Tokens
 pub mod Widths
 pub mod Lebs
 pub mod Specs
 pub mod Declarations
+pub mod Headers
+pub mod ListStarts
+pub mod Steps

@@ -13,3 +13,6 @@ pub mod References
 pub mod Header
 pub mod Lists
 pub mod Abbreviations
+pub mod Entries
+pub mod Nesting
+pub mod Examples

@@ -6,10 +6,6 @@ use Rattle.readers.proofs.Declarations.{zeros-length, zeros-self, refus
 use borrow.Author.Needs.{needs}
 use Rattle.readers.proofs.abbreviations.check_abbreviations.Statement.{statement}
 use Rattle.readers.proofs.abbreviations.check_abbreviations.Tie as tie
-use Rattle.readers.proofs.abbreviations.check_abbreviations.Reads as reads
-use Rattle.readers.proofs.abbreviations.check_abbreviations.Lts as lts
-use Rattle.readers.proofs.abbreviations.clear_index.Reads as clear-index-reads
-use Rattle.readers.proofs.abbreviations.fill_index.Reads as fill-index-reads
 
 clear-index-requires : tie.Need-clear-index-requires
 clear-index-requires c κs = search needs

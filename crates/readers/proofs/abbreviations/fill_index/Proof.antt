@@ -1,17 +1,12 @@
 -- `fill_index` meets its contract. The invariant: the index has the declarations before this place, and they have no code twice. Assumes nothing.
 use Prim.Native.Nat.{_-_}
-use mathlib.Core.Path.{_≡_, sym, _∙_}
+use mathlib.Core.Path.{sym, _∙_}
 use native.Mathlib.Omega.{arith}
 use lib.ListN.{length}
 use borrow.Author.Needs.{needs}
-use Rattle.readers.specs.declared.abbreviations.Checked.the-variants.{Accepted, Refused}
 use Rattle.readers.proofs.Declarations.{declaration-ahead, Filling, filling-none, filling-twice, filling-found, filling-more, filling-over, filling-last, filling-bad, refused-not}
 use Rattle.readers.proofs.abbreviations.fill_index.Statement.{statement}
 use Rattle.readers.proofs.abbreviations.fill_index.Tie as tie
-use Rattle.readers.proofs.abbreviations.fill_index.Reads as reads
-use Rattle.readers.proofs.abbreviations.fill_index.Lts as lts
-use Rattle.readers.proofs.cursor.Cursor.declaration.Reads as declaration-reads
-use Rattle.readers.proofs.cursor.Cursor.search.Reads as search-reads
 
 abbrev Inv-loop : tie.InvT-loop
 Inv-loop s start index₀ at₀ index at = Filling s start (length index₀) index at

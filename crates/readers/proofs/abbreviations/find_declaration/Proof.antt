@@ -5,10 +5,6 @@ use Rattle.readers.proofs.Declarations.{find-zero, find-there, find-sea
 use borrow.Author.Needs.{needs}
 use Rattle.readers.proofs.abbreviations.find_declaration.Statement.{statement}
 use Rattle.readers.proofs.abbreviations.find_declaration.Tie as tie
-use Rattle.readers.proofs.abbreviations.find_declaration.Reads as reads
-use Rattle.readers.proofs.abbreviations.find_declaration.Lts as lts
-use Rattle.readers.proofs.cursor.Cursor.declaration.Reads as declaration-reads
-use Rattle.readers.proofs.cursor.Cursor.search.Reads as search-reads
 
 mul-place : tie.Need-mul-place
 mul-place c = search needs
