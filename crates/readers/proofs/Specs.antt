@@ -1,23 +1,21 @@
 -- Attribute specifications: each takes bytes that are there, and the steps that the loop past them takes.
-use Prim.Native.Nat.{ℕ, zero, suc, _+_, _-_, _≤_, _<_}
+use Prim.Native.Nat.{ℕ, zero, suc, _≤_, _<_}
 use mathlib.Core.Path.{_≡_, refl, ap, sym, _∙_, subst}
-use mathlib.Core.Bool.{Bool, true, false}
 use mathlib.Core.Option.{Option, none, some}
 use mathlib.Core.List.{List, []}
 use native.Mathlib.Omega.{arith}
 use lib.ListN.{length}
 use lib.Dec.{eqb}
 use mir.Facts.{yes-eqb, no-eqb}
-use Rattle.readers.specs.Choice.{pick, pick-yes, pick-no, pick-either, bind, All, all-some, all-none, all-bind, all-of}
+use Rattle.readers.specs.Choice.{pick-yes, pick-no, pick-either, bind, All, all-some, all-none, all-bind, all-of}
 use Rattle.readers.specs.Numbers.{sleb}
 use Rattle.readers.specs.Layout.{short}
-use Rattle.readers.specs.Scan.{Turn, more, stop, bad, Scanned, push, onTurn, scanWithin, scan, Goes, scan-stop, scan-bad, scan-more}
+use Rattle.readers.specs.Scan.{Scanned, push, onTurn, scanWithin, scan, Goes, scan-stop, scan-bad, scan-more}
 use Rattle.readers.specs.Cursors.{cursor, lebAt}
 use Rattle.readers.specs.Abbreviations.{numberSpec, implicitSpec, specAt, specTurn, attributesFrom, scannedTo, pastAttributes}
 use Rattle.readers.specs.declared.cursor.Cursor.{Cursor}
 use Rattle.readers.specs.declared.cursor.Number.{Number}
 use Rattle.readers.specs.declared.cursor.Number.the-variants.{Value, Unreadable}
-use Rattle.readers.specs.declared.cursor.Moved.{Moved}
 use Rattle.readers.specs.declared.cursor.Moved.the-variants.{To, Unreadable as Nowhere}
 use Rattle.readers.specs.declared.abbreviations.AttributeSpec.{AttributeSpec}
 use Rattle.readers.specs.declared.abbreviations.SpecStep.{SpecStep}

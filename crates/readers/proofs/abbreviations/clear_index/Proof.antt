@@ -6,8 +6,6 @@ use borrow.Author.Needs.{needs}
 use Rattle.readers.proofs.Declarations.{Cleared, cleared-none, cleared-more, cleared-all}
 use Rattle.readers.proofs.abbreviations.clear_index.Statement.{statement}
 use Rattle.readers.proofs.abbreviations.clear_index.Tie as tie
-use Rattle.readers.proofs.abbreviations.clear_index.Reads as reads
-use Rattle.readers.proofs.abbreviations.clear_index.Lts as lts
 
 abbrev Inv-loop : tie.InvT-loop
 Inv-loop index₀ i₀ index i = Cleared index₀ index i

@@ -4,9 +4,6 @@ use Rattle.readers.proofs.Specs.{implicit-plain, implicit-none, implici
 use borrow.Author.Needs.{needs}
 use Rattle.readers.proofs.abbreviations.implicit_spec.Statement.{statement}
 use Rattle.readers.proofs.abbreviations.implicit_spec.Tie as tie
-use Rattle.readers.proofs.abbreviations.implicit_spec.Reads as reads
-use Rattle.readers.proofs.abbreviations.implicit_spec.Lts as lts
-use Rattle.readers.proofs.cursor.Cursor.sleb.Reads as sleb-reads
 
 returns : tie.Need-returns
 returns c = implicit-plain _ _ _ _ (c .if1 .taken)

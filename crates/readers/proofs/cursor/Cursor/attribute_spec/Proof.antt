@@ -4,10 +4,6 @@ use Rattle.readers.proofs.Specs.{spec-no-name, spec-no-form, spec-last,
 use borrow.Author.Needs.{needs}
 use Rattle.readers.proofs.cursor.Cursor.attribute_spec.Statement.{statement}
 use Rattle.readers.proofs.cursor.Cursor.attribute_spec.Tie as tie
-use Rattle.readers.proofs.cursor.Cursor.attribute_spec.Reads as reads
-use Rattle.readers.proofs.cursor.Cursor.attribute_spec.Lts as lts
-use Rattle.readers.proofs.abbreviations.implicit_spec.Reads as implicit-spec-reads
-use Rattle.readers.proofs.cursor.Cursor.short.Reads as short-reads
 
 short-requires : tie.Need-short-requires
 short-requires c κs = search needs

@@ -4,12 +4,6 @@ use Rattle.readers.proofs.Declarations.{declaration-no-code, declaratio
 use borrow.Author.Needs.{needs}
 use Rattle.readers.proofs.cursor.Cursor.declaration.Statement.{statement}
 use Rattle.readers.proofs.cursor.Cursor.declaration.Tie as tie
-use Rattle.readers.proofs.cursor.Cursor.declaration.Reads as reads
-use Rattle.readers.proofs.cursor.Cursor.declaration.Lts as lts
-use Rattle.readers.proofs.cursor.Cursor.fixed.Reads as fixed-reads
-use Rattle.readers.proofs.cursor.Cursor.past_attributes.Reads as past-attributes-reads
-use Rattle.readers.proofs.cursor.Cursor.short.Reads as short-reads
-use Rattle.readers.proofs.cursor.Cursor.uleb.Reads as uleb-reads
 
 uleb-requires : tie.Need-uleb-requires
 uleb-requires c κs = search needs

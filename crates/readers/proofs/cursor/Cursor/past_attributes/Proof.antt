@@ -8,9 +8,6 @@ use Rattle.readers.specs.Abbreviations.{pastAttributes}
 use Rattle.readers.proofs.Specs.{attribute-inside, past-more, past-last, past-bad}
 use Rattle.readers.proofs.cursor.Cursor.past_attributes.Statement.{statement}
 use Rattle.readers.proofs.cursor.Cursor.past_attributes.Tie as tie
-use Rattle.readers.proofs.cursor.Cursor.past_attributes.Reads as reads
-use Rattle.readers.proofs.cursor.Cursor.past_attributes.Lts as lts
-use Rattle.readers.proofs.cursor.Cursor.attribute_spec.Reads as attribute-spec-reads
 
 abbrev Inv-loop : tie.InvT-loop
 Inv-loop s at₀ at = pastAttributes s at₀ ≡ pastAttributes s at

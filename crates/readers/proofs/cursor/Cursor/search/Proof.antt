@@ -8,9 +8,6 @@ use Rattle.readers.specs.Abbreviations.{searchAt}
 use Rattle.readers.proofs.Declarations.{declaration-ahead, search-hit, search-more, search-last, search-bad, search-end}
 use Rattle.readers.proofs.cursor.Cursor.search.Statement.{statement}
 use Rattle.readers.proofs.cursor.Cursor.search.Tie as tie
-use Rattle.readers.proofs.cursor.Cursor.search.Reads as reads
-use Rattle.readers.proofs.cursor.Cursor.search.Lts as lts
-use Rattle.readers.proofs.cursor.Cursor.declaration.Reads as declaration-reads
 
 abbrev Inv-loop : tie.InvT-loop
 Inv-loop s to code at₀ at = searchAt s to code at₀ ≡ searchAt s to code at
