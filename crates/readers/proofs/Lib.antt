@@ -1,7 +1,10 @@
+pub mod Tables
 pub mod Widths
 pub mod Lebs
-pub mod Tables
 pub mod Tokens
+pub mod Steps
+pub mod Headers
+pub mod ListStarts
 pub mod Specs
 pub mod Declarations
 pub mod Values

@@ -22,7 +22,7 @@ pub fn list_offset(s: &[u8], base: u64, index: u64, e: Encoding) -> ListOffset
     if size == 0 {
         return list_start(s, base);
     }
-    if index > len / size {
+    if index > (len - base) / size {
         return ListOffset::Unresolved;
     }
     let place = base + index * size;
