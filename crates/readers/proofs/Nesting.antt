@@ -2,13 +2,12 @@
 use mathlib.Core.Path.{_≡_, refl, ap, ap₂, sym, _∙_, subst}
 use Prim.Native.Nat.{ℕ, zero, suc, _+_, _-_, _^_, _≤_, _<_}
 use mathlib.Core.Bool.{Bool, true, false, not}
-use mathlib.Core.Logic.{_⊎_, inl, inr, ⊎-elim}
 use mathlib.Core.List.{List, [], _∷_}
 use native.Mathlib.Omega.{arith}
 use lib.ListN.{length, getD, List·getD-eq-default}
-use lib.Dec.{T, ltb, eqb}
+use lib.Dec.{T}
 use mir.Facts.{yes-ltb, no-ltb, yes-eqb, no-eqb}
-use Rattle.readers.specs.Choice.{pick, pick-yes, pick-no}
+use Rattle.readers.specs.Choice.{pick-yes, pick-no}
 use Rattle.readers.specs.Nesting.{open′, close, top, nestingOf, opened, closed}
 use Rattle.readers.specs.declared.entries.Nesting.{Nesting}
 
@@ -41,10 +40,12 @@ getD-any [] i a b h = absurd (omega arith)
 getD-any (x ∷ l) zero a b h = refl
 getD-any (x ∷ l) (suc i) a b h = getD-any l i a b (omega arith)
 
-pub closes-known : (parents : List ℕ) (n : Nesting) → (n .depth ≡ 0 → ⊥) → n .parent .0 < length parents → nesting (n .depth - 1) (getD parents (n .parent .0) 0) ≡ closed parents n
+pub closes-known : (parents : List ℕ) (n : Nesting) → (n .depth ≡ 0 → ⊥) → n .parent .0 < length parents
+    → nesting (n .depth - 1) (getD parents (n .parent .0) 0) ≡ closed parents n
 closes-known parents n h l = ap (nesting (n .depth - 1)) (getD-any parents (n .parent .0) 0 4294967295 l) ∙ closes parents n h
 
-pub closes-unknown : (parents : List ℕ) (n : Nesting) → (n .depth ≡ 0 → ⊥) → length parents ≤ n .parent .0 → nesting (n .depth - 1) 4294967295 ≡ closed parents n
+pub closes-unknown : (parents : List ℕ) (n : Nesting) → (n .depth ≡ 0 → ⊥) → length parents ≤ n .parent .0
+    → nesting (n .depth - 1) 4294967295 ≡ closed parents n
 closes-unknown parents n h l = ap (nesting (n .depth - 1)) (sym (List·getD-eq-default parents 4294967295 l)) ∙ closes parents n h
 
 -- ---- by the definition
@@ -54,7 +55,8 @@ unfoldable pub Chain : List ℕ → List ℕ → Type 0
 Chain parents [] = Unit {0}
 Chain parents (k ∷ stack) = (getD parents k 4294967295 ≡ top stack) × Chain parents stack
 
-pub opened-is : (children : Bool) (k : ℕ) (stack : List ℕ) → length stack < 2 ^ 64 - 1 → opened children k (nestingOf stack) ≡ nestingOf (open′ children k stack)
+pub opened-is : (children : Bool) (k : ℕ) (stack : List ℕ) → length stack < 2 ^ 64 - 1
+    → opened children k (nestingOf stack) ≡ nestingOf (open′ children k stack)
 unfolding nestingOf open′ top
 opened-is true k stack h =
     sym (opens true k (nestingOf stack) refl (omega arith)) ∙ ap (λ (d : ℕ). nesting d k) (let e : length stack + 1 ≡ suc (length stack) = omega arith in e)

@@ -1,19 +1,18 @@
 -- Values of attributes from a place of a slice on: each by its form, those of an entry one after the other, and entries by the steps of their reader.
-use Prim.Native.Nat.{ℕ, zero, suc, _+_, _-_, _≤_, _<_}
+use Prim.Native.Nat.{ℕ, suc, _+_, _≤_, _<_}
 use mathlib.Core.Path.{_≡_, refl, ap, ap₂, sym, _∙_, subst}
 use mathlib.Core.Logic.{_⊎_, inl, inr, ⊎-elim}
 use mathlib.Core.Bool.{Bool, true, false, not}
 use mathlib.Core.Option.{Option, none, some}
-use mathlib.Core.List.{List, [], _∷_, _++_, append-nil, append-assoc}
+use mathlib.Core.List.{List, [], _∷_, _++_, append-nil}
 use native.Mathlib.Omega.{arith}
-use lib.ListN.{length, getD, take, drop, length-append, length-drop}
+use lib.ListN.{length, getD, take, drop, length-append}
 use lib.Seq.{length-take-le, drop-drop}
-use lib.Dec.{T, ltb, leb, eqb}
+use lib.Dec.{T, ltb, eqb}
 use mir.Facts.{yes-ltb, no-ltb, ltb-yes, yes-eqb, no-eqb, eqb-yes}
-use Rattle.readers.specs.Choice.{pick, pick-yes, pick-no, pick-either, _and_, _or_, either, bind, bind-at, bind-none, bind-bind, bind-ext, All, all-some, all-bind, all-triv, all-map, all-of, Took}
+use Rattle.readers.specs.Choice.{pick, pick-yes, pick-no, pick-either, _and_, _or_, either, bind, bind-bind, bind-ext, All, all-some, all-bind, all-triv, all-map}
 use Rattle.readers.specs.Numbers.{Groups, uleb}
-use Rattle.readers.specs.Layout.{leb128, Read, ReadOf, RunOf, ExpressionReader, Token, number, forms, unknown, Layout, done, fail, field, asBytes, asLeb, copy, asNumber, asForms, before, numberIn, formsIn, tokenIn, readIn, pieceBytes, bytesOf, writeAll, width, LebLaw, uleb-law, FormsLaw, forms-law, ReadLaw, read-law, as-bytes-law}
-use Rattle.readers.specs.Tokens.{tokenOf}
+use Rattle.readers.specs.Layout.{Read, ReadOf, RunOf, ExpressionReader, Token, forms, Layout, done, fail, field, asBytes, asLeb, copy, asNumber, asForms, before, numberIn, formsIn, tokenIn, readIn, pieceBytes, bytesOf, writeAll, width, LebLaw, uleb-law, FormsLaw, forms-law, ReadLaw, read-law, as-bytes-law}
 use Rattle.readers.specs.Operations.{Codes}
 use Rattle.readers.specs.Forms.{formToken, formTokens, tokenAmong, useOf, valueToken, attributeLayout}
 use Rattle.readers.specs.Cursors.{cursor, asLebNumber, lebAt, asFormNumber, formsAt}
@@ -38,7 +37,6 @@ use Rattle.readers.specs.declared.abbreviations.Found.the-variants.{Decl
 use Rattle.readers.specs.declared.attributes.Attribute.{Attribute as Valued}
 use Rattle.readers.specs.declared.attributes.AttributeRead.{AttributeRead}
 use Rattle.readers.specs.declared.attributes.AttributeRead.the-variants.{Read as Attribute′, Unreadable as NoAttribute}
-use Rattle.readers.specs.declared.entries.Entry.{Entry}
 use Rattle.readers.specs.declared.entries.Step.{Step}
 use Rattle.readers.specs.declared.entries.Step.the-variants.{Entry as Entry′, Terminator, End, Unreadable}
 use Rattle.readers.proofs.Specs.{attributes-more, attributes-last, attributes-bad}
@@ -126,7 +124,8 @@ module _ (e : Encoding) (s : List ℕ) (at : ℕ) (indirect : Bool) (name form :
   value-implicit h k = refused (inr (subst T (sym h) tt, yes-eqb {a = form} {b = 0x21} k))
 
   -- any other, whatever it is used as
-  pub value-other : (name ≡ 0x01 → form ≡ 0x18 → ⊥) → (indirect ≡ true → form ≡ 0x21 → ⊥) → tokenAt e s at (valueToken e indirect name form) ≡ fieldAt e s at (formToken form)
+  pub value-other : (name ≡ 0x01 → form ≡ 0x18 → ⊥) → (indirect ≡ true → form ≡ 0x21 → ⊥)
+      → tokenAt e s at (valueToken e indirect name form) ≡ fieldAt e s at (formToken form)
   unfolding valueToken
   value-other h k =
       ap (tokenAt e s at)
@@ -155,7 +154,8 @@ module _ (e : Encoding) (s : List ℕ) (at name form : ℕ) where
 
   -- after the form numbers
   behind : (f : Read) (o : Option ReadOf)
-      → asAttribute (order e) form at (bind (bind o (λ r. bind (some ([], r .1)) (before (r .0)))) (before f)) ≡ valued (f .seen) (asField (order e) (at + size (order e) f) o)
+      → asAttribute (order e) form at (bind (bind o (λ r. bind (some ([], r .1)) (before (r .0)))) (before f))
+      ≡ valued (f .seen) (asField (order e) (at + size (order e) f) o)
   unfolding asAttribute attributeOfReads bind before valued asField
   behind f none = refl
   behind f (some r) = refl
@@ -299,13 +299,16 @@ unfolding writeAll
 length-written big [] b = omega arith
 length-written big (r ∷ a) b =
     length-append (bytesOf big (r .pieces)) (writeAll big (a ++ b))
-    ∙ (let n : length (bytesOf big (r .pieces)) + length (writeAll big (a ++ b)) ≡ length (bytesOf big (r .pieces) ++ writeAll big a) + length (writeAll big b) =
-    omega (arith, length-written big a b, length-append (bytesOf big (r .pieces)) (writeAll big a)) in n)
+    ∙ (let f : List ℕ = bytesOf big (r .pieces) in
+    let n : length f + length (writeAll big (a ++ b)) ≡ length (f ++ writeAll big a) + length (writeAll big b) =
+    omega (arith, length-written big a b, length-append f (writeAll big a)) in n)
 
 past-joined : (big : Bool) (at : ℕ) (a : List Read) (o : Option RunOf) → asPast big at (bind o (joined a)) ≡ asPast big (at + length (writeAll big a)) o
 unfolding asPast bind joined
 past-joined big at a none = refl
-past-joined big at a (some r) = ap (λ n. To (cursor n)) (let e : at + length (writeAll big (a ++ r .0)) ≡ at + length (writeAll big a) + length (writeAll big (r .0)) = omega (arith, length-written big a (r .0)) in e)
+past-joined big at a (some r) =
+    let e : at + length (writeAll big (a ++ r .0)) ≡ at + length (writeAll big a) + length (writeAll big (r .0)) = omega (arith, length-written big a (r .0)) in
+    ap (λ n. To (cursor n)) e
 
 -- what follows a value
 unfoldable pub afterValue : AttributeRead → (ℕ → Moved) → Moved
@@ -328,7 +331,8 @@ module _ (e : Encoding) (unit : List ℕ) (at : ℕ) (a : AttributeSpec) where
   specs-read none s = sym (bind-nowhere (readIn (order e) asBytes valueLayout s))
   specs-read (some r) s = read-then (order e) asBytes valueLayout (attributesLayout e (r .0)) s
 
-  after-read : (o : Option (Scanned AttributeSpec ℕ)) (q : Option RunOf) → All (Ended (order e) (a .form) at) q → All (ReadLaw (order e) asBytes valueLayout (drop at unit)) q
+  after-read : (o : Option (Scanned AttributeSpec ℕ)) (q : Option RunOf) → All (Ended (order e) (a .form) at) q
+      → All (ReadLaw (order e) asBytes valueLayout (drop at unit)) q
       → asPast (order e) at (bind q (λ r. bind (readIn (order e) asBytes (specsLayout e o) (r .1)) (joined (r .0))))
       ≡ afterValue (asAttribute (order e) (a .form) at q) (λ end. asPast (order e) end (readIn (order e) asBytes (specsLayout e o) (drop end unit)))
   unfolding All bind asPast afterValue asAttribute
@@ -391,9 +395,16 @@ module _ (e : Encoding) (abbreviations : List ℕ) (look : ℕ → Found) (unit 
   codeStep (Value code values) = pick (eqb code 0) (Terminator values) (foundStep values (look code))
   codeStep NoNumber = Unreadable
 
+  -- what follows the code
+  abbrev codeLayout : ℕ → Layout
+  codeLayout code = pick (eqb code 0) done (foundLayout e abbreviations look (look code))
+
+  abbrev stepOf : Read → Option RunOf → Step
+  stepOf c q = asStep e abbreviations look at (bind q (before c))
+
   module _ (c : Read) (n : ℕ) (w : size (order e) c ≡ n) (u : T (not (eqb (c .seen) 0))) where
     entry-read : (d : Declaration) → look (c .seen) ≡ Found′ d → (q : Option RunOf)
-        → asStep e abbreviations look at (bind q (before c)) ≡ entryStep (cursor (at + n)) d (asPast (order e) (at + n) q)
+        → stepOf c q ≡ entryStep (cursor (at + n)) d (asPast (order e) (at + n) q)
     unfolding asStep bind before stepOfReads asPast entryStep entryFound
     entry-read d k none = refl
     entry-read d k (some r) =
@@ -402,35 +413,35 @@ module _ (e : Encoding) (abbreviations : List ℕ) (look : ℕ → Found) (unit 
         ∙ ap (λ m. entryFound e abbreviations look at (at + m) (at + m + length (writeAll (order e) (r .0))) (Found′ d)) w
 
     found-read : (f : Found) → look (c .seen) ≡ f
-        → asStep e abbreviations look at (bind (readIn (order e) asBytes (foundLayout e abbreviations look f) (drop (at + n) unit)) (before c)) ≡ foundStep (cursor (at + n)) f
+        → stepOf c (readIn (order e) asBytes (foundLayout e abbreviations look f) (drop (at + n) unit)) ≡ foundStep (cursor (at + n)) f
     unfolding foundLayout foundStep readIn bind asStep valuesAt
     found-read (Found′ d) k = entry-read d k (readIn (order e) asBytes (specsLayout e (attributesFrom abbreviations (d .attributes .at))) (drop (at + n) unit))
     found-read Nothing k = refl
 
   code-read : (c : Read) (n : ℕ) → size (order e) c ≡ n
-      → asStep e abbreviations look at (bind (readIn (order e) asBytes (pick (eqb (c .seen) 0) done (foundLayout e abbreviations look (look (c .seen)))) (drop (at + n) unit)) (before c))
+      → stepOf c (readIn (order e) asBytes (codeLayout (c .seen)) (drop (at + n) unit))
       ≡ pick (eqb (c .seen) 0) (Terminator (cursor (at + n))) (foundStep (cursor (at + n)) (look (c .seen)))
   unfolding readIn bind before asStep stepOfReads
   code-read c n w =
       ⊎-elim
-      (λ u. ap (λ g. asStep e abbreviations look at (bind (readIn (order e) asBytes g (drop (at + n) unit)) (before c))) (pick-yes _ _ _ u)
+      (λ u. ap (λ g. stepOf c (readIn (order e) asBytes g (drop (at + n) unit))) (pick-yes _ _ _ u)
       ∙ pick-yes _ _ _ u
       ∙ ap (λ m. Terminator (cursor (at + m))) w
       ∙ sym (pick-yes _ _ _ u))
-      (λ u. ap (λ g. asStep e abbreviations look at (bind (readIn (order e) asBytes g (drop (at + n) unit)) (before c))) (pick-no _ _ _ u)
+      (λ u. ap (λ g. stepOf c (readIn (order e) asBytes g (drop (at + n) unit))) (pick-no _ _ _ u)
       ∙ found-read c n w u (look (c .seen)) refl
       ∙ sym (pick-no _ _ _ u))
       (either (eqb (c .seen) 0))
 
   entry-by : (o : Option Groups) → All (LebLaw uleb (drop at unit)) o
       → asStep e abbreviations look at (bind (bind (bind o asLeb) (asNumber (drop at unit)))
-      (λ r. bind (readIn (order e) asBytes (pick (eqb (r .0 .seen) 0) done (foundLayout e abbreviations look (look (r .0 .seen)))) (r .1)) (before (r .0))))
+      (λ r. bind (readIn (order e) asBytes (codeLayout (r .0 .seen)) (r .1)) (before (r .0))))
       ≡ codeStep (asLebNumber at o)
   unfolding bind asLeb asNumber width copy asStep asLebNumber codeStep All
   entry-by none q = refl
   entry-by (some t) q =
       let c : Read = copy (t .1) 0 (suc (t .0)) (drop at unit) .0 in
-      ap (λ l. asStep e abbreviations look at (bind (readIn (order e) asBytes (pick (eqb (t .1) 0) done (foundLayout e abbreviations look (look (t .1)))) l) (before c))) (drop-drop (suc (t .0)) at unit)
+      ap (λ l. stepOf c (readIn (order e) asBytes (codeLayout (t .1)) l)) (drop-drop (suc (t .0)) at unit)
       ∙ code-read c (suc (t .0)) (copied-size (order e) (t .1) 0 (suc (t .0)) (drop at unit) (q .0 .0))
 
   pub step-by : at < length unit → stepAt e abbreviations look unit at ≡ codeStep (lebAt uleb unit at)

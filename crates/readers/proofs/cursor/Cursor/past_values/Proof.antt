@@ -37,16 +37,24 @@ enum-told c = search needs
 
 returns : tie.Need-returns Inv-loop μ-loop
 returns c =
-    values-none _ _ _ _ _ _ (sym (c .before .before .before .before .before .before .before .attribute-spec .ensures) ∙ c .before .before .before .before .before .a .given .1) _ (c .before .before .attribute .ensures) (c .enum-told .given .1)
+    values-none _ _ _ _ _ _
+    (sym (c .before .before .before .before .before .before .before .attribute-spec .ensures) ∙ c .before .before .before .before .before .a .given .1)
+    _ (c .before .before .attribute .ensures) (c .enum-told .given .1)
     ∙ sym (c .before .before .before .before .before .before .before .before .loop .inv)
 
 loop-less : tie.Need-loop-less Inv-loop μ-loop
-loop-less c = omega (arith, attribute-inside _ _ _ (sym (c .before .before .before .before .before .before .before .before .before .attribute-spec .ensures) ∙ c .before .before .before .before .before .before .before .a .given .1))
+loop-less c = omega (
+  arith,
+  attribute-inside _ _ _
+      (sym (c .before .before .before .before .before .before .before .before .before .attribute-spec .ensures) ∙ c .before .before .before .before .before .before .before .a .given .1),
+)
 
 loop-again : tie.Need-loop-again Inv-loop μ-loop
 loop-again c =
     c .before .before .before .before .before .before .before .before .before .before .loop .inv
-    ∙ values-step _ _ _ _ _ _ (sym (c .before .before .before .before .before .before .before .before .before .attribute-spec .ensures) ∙ c .before .before .before .before .before .before .before .a .given .1) _ (c .before .before .before .before .attribute .ensures) _ (c .before .before .v .given .1)
+    ∙ values-step _ _ _ _ _ _
+    (sym (c .before .before .before .before .before .before .before .before .before .attribute-spec .ensures) ∙ c .before .before .before .before .before .before .before .a .given .1)
+    _ (c .before .before .before .before .attribute .ensures) _ (c .before .before .v .given .1)
 
 enum-told-2 : tie.Need-enum-told-2 Inv-loop μ-loop
 enum-told-2 c = search needs
