@@ -57,7 +57,7 @@ fn frame(s: &[u8]) -> bool
 }
 
 // Reads a bundle: the length of the rest, version 1, and the sections, with nothing after them.
-pub fn bundle(s: &[u8]) -> BundleRead
+pub fn read_bundle(s: &[u8]) -> BundleRead
     ensures { λ r. ⌜ r ≡ bundleOf (now (s .entry)) ⌝ }
 {
     if !frame(s) {

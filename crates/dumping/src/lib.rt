@@ -525,7 +525,7 @@ fn unit_lines(
 
 // Prints what a bundle holds; `bundle` where it is none, `refused` and a number where its unit can't be read.
 pub fn dump(s: &[u8]) {
-    let BundleRead::Read(b) = bundle::bundle(s) else {
+    let BundleRead::Read(b) = bundle::read_bundle(s) else {
         text(b"bundle\n");
         return;
     };
