@@ -37,15 +37,16 @@ onPart (Read f) k = k f
 onPart NoField k = Wrong
 
 -- unit section, abbreviations, location lists, range lists and address table, and nothing after them
-unfoldable pub bundleOf : List ℕ → BundleRead
-bundleOf s =
-    pick (frameOf s)
-    (onPart (part s 5) (λ unit.
+unfoldable pub sectionsOf : List ℕ → BundleRead
+sectionsOf s =
+    onPart (part s 5) (λ unit.
     onPart (part s (unit .end)) (λ abbreviations.
     onPart (part s (abbreviations .end)) (λ locations.
     onPart (part s (locations .end)) (λ ranges.
     onPart (part s (ranges .end)) (λ addresses.
     pick (eqb (addresses .end) (length s))
     (Bundle′ (record { unit = unit; abbreviations = abbreviations; locations = locations; ranges = ranges; addresses = addresses }))
-    Wrong))))))
-    Wrong
+    Wrong)))))
+
+unfoldable pub bundleOf : List ℕ → BundleRead
+bundleOf s = pick (frameOf s) (sectionsOf s) Wrong

@@ -1,6 +1,6 @@
 // A bundle: the sections of one unit in one run of bytes, as the programs read it from standard input.
 ghost use mathlib.Core.Path.{_≡_};
-ghost use Rattle.bundle.specs.Bundle.{bundleOf, frameOf, part};
+ghost use Rattle.bundle.specs.Bundle.{bundleOf, frameOf, part, sectionsOf};
 use readers::cursor::Cursor;
 use readers::cursor::Encoding;
 use readers::cursor::Number;
@@ -56,13 +56,10 @@ fn frame(s: &[u8]) -> bool
     s[4] == 1
 }
 
-// Reads a bundle: the length of the rest, version 1, and the sections, with nothing after them.
-pub fn read_bundle(s: &[u8]) -> BundleRead
-    ensures { λ r. ⌜ r ≡ bundleOf (now (s .entry)) ⌝ }
+// The sections, one after the other, with nothing after them.
+fn sections(s: &[u8]) -> BundleRead
+    ensures { λ r. ⌜ r ≡ sectionsOf (now (s .entry)) ⌝ }
 {
-    if !frame(s) {
-        return BundleRead::Wrong;
-    }
     let FieldRead::Read(unit) = section(s, 5) else {
         return BundleRead::Wrong;
     };
@@ -88,4 +85,14 @@ pub fn read_bundle(s: &[u8]) -> BundleRead
         ranges,
         addresses,
     })
+}
+
+// Reads a bundle: the length of the rest, version 1, and the sections.
+pub fn read_bundle(s: &[u8]) -> BundleRead
+    ensures { λ r. ⌜ r ≡ bundleOf (now (s .entry)) ⌝ }
+{
+    if frame(s) {
+        return sections(s);
+    }
+    BundleRead::Wrong
 }
