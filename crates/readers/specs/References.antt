@@ -109,6 +109,30 @@ yielded (some r) = r .1
 unfoldable pub nextReference : Encoding → List ℕ → ℕ → Yield
 nextReference e s at = yielded (scan (length s) (walkTurn e s) at)
 
+-- ---- all of them: at each operation its own references, going on inside an entry value
+
+unfoldable pub namesOf : Yield → List Named
+namesOf (Yielded r) = (r .place, r .target .0, r .width) ∷ []
+namesOf End = []
+
+unfoldable pub flatOperation : OperationRead → Turn (List Named) (Unit {0})
+flatOperation (Operation′ op) = pick (eqb (op .row) 19) (more [] (op .first .start)) (more (namesOf (referenceOf op)) (op .next .at))
+flatOperation NoOperation = stop tt
+
+unfoldable pub flatTurn : Encoding → List ℕ → ℕ → Turn (List Named) (Unit {0})
+flatTurn e s at = pick (ltb at (length s)) (flatOperation (operationAt e s at)) (stop tt)
+
+unfoldable pub flat : List (List Named) → List Named
+flat [] = []
+flat (l ∷ ls) = l ++ flat ls
+
+unfoldable pub flattened : Option (Scanned (List Named) (Unit {0})) → List Named
+flattened none = []
+flattened (some r) = flat (r .0)
+
+unfoldable pub flatFrom : Encoding → List ℕ → ℕ → List Named
+flatFrom e s at = flattened (scan (length s) (flatTurn e s) at)
+
 -- ---- the public call
 
 unfoldable pub expressionEncoding : ℕ → Encoding
