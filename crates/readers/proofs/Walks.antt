@@ -41,6 +41,11 @@ join-assoc (Walked m a) Unreadable w = refl
 join-assoc (Walked m a) (Walked n b) Unreadable = refl
 join-assoc (Walked m a) (Walked n b) (Walked k c) = ap₂ Walked (let h : m + n + k ≡ m + (n + k) = omega arith in h) (sym (or-assoc a b c))
 
+join-none : (w : Walk) → join (Walked 0 false) w ≡ w
+unfolding join _or_
+join-none Unreadable = refl
+join-none (Walked n b) = ap (λ m. Walked m b) (let h : 0 + n ≡ n = omega arith in h)
+
 or-false : (b : Bool) → (b or false) ≡ b
 unfolding _or_
 or-false true = refl
@@ -79,6 +84,15 @@ own-case : (b : Bool) (n : ℕ) → (T b → n ≡ 0) → Walked n b ≡ pick b 
 unfolding pick
 own-case true n h = ap (λ m. Walked m true) (h tt)
 own-case false n h = refl
+
+own-few : (b : Bool) (y : Yield) (m : ℕ) (a : Bool) → pick b (Walked 0 true) (Walked (counted y) false) ≡ Walked m a → m ≤ 1
+unfolding pick
+own-few true y m a q = let h : 0 ≡ m = cc in omega arith
+own-few false y m a q = let h : counted y ≡ m = cc in omega (arith, count-most y)
+
+pub own-most : (op : Operation) (m : ℕ) (a : Bool) → ownWalk op ≡ Walked m a → m ≤ 1
+unfolding ownWalk
+own-most op m a q = own-few _ (referenceOf op) m a q
 
 module _ (e : Encoding) where
   abbrev big : Bool
@@ -196,3 +210,76 @@ module _ (e : Encoding) where
       few-walked : (o : Option (List Piece)) → All (Few x) o → asWalk big o ≡ Walked n b → n ≤ length x
       few-walked none a q = let z : _≡_ {A = ℕ} 0 1 = cc in absurd (omega arith)
       few-walked (some ps) a q = let z : length (namesIn big 0 ps) ≡ n = cc in omega arith
+
+-- ---- the walk's loop: what it found so far, joined with the walk of what is left
+
+pub record Walking (e : Encoding) (s : List ℕ) (at n : ℕ) (b : Bool) : Type 0 where
+  pub inside : at ≤ length s
+  pub few : n ≤ at
+  pub whole : walkOf e s ≡ join (Walked n b) (walkFrom e s at)
+
+module _ (e : Encoding) (s : List ℕ) where
+  pub walking-start : Walking e s 0 0 false
+  unfolding walkOf
+  walking-start = record { inside = omega arith; few = omega arith; whole = sym (join-none (walkFrom e s 0)) }
+
+  module _ (at n : ℕ) (b : Bool) (w : Walking e s at n b) where
+    pub walking-end : length s ≤ at → Walked n b ≡ walkOf e s
+    unfolding join
+    walking-end l =
+        ap₂ Walked (let h : n ≡ n + 0 = omega arith in h) (sym (or-false b)) ∙ ap (join (Walked n b)) (sym (walk-end e s at l)) ∙ sym (w .whole)
+
+    pub walking-none : at < length s → NoOperation ≡ operationAt e s at → Unreadable ≡ walkOf e s
+    unfolding join
+    walking-none l q = ap (join (Walked n b)) (sym (walk-none e s at l (sym q))) ∙ sym (w .whole)
+
+    module _ (op : Operation) (q : Operation′ op ≡ operationAt e s at) where
+      abbrev within : (at < op .next .at) × (op .next .at ≤ length s) × (at < op .first .start) × (op .first .start ≤ op .first .end) × (op .first .end ≤ op .next .at)
+      within = operation-inside e s at op (sym q)
+
+      step : (u : Walk) → walkFrom e s at ≡ join u (walkFrom e s (op .next .at)) → (m : ℕ) (a : Bool) → Walked m a ≡ u → m ≤ op .next .at - at → Walking e s (op .next .at) (n + m) (b or a)
+      unfolding join
+      step u p m a r l =
+          let i : op .next .at ≤ length s = within .1 in
+          let i0 : at < op .next .at = within .0 in
+          let f : n ≤ at = w .few in
+          record {
+            inside = i;
+            few = omega arith;
+            whole =
+                w .whole ∙ ap (join (Walked n b)) p ∙ sym (join-assoc (Walked n b) u (walkFrom e s (op .next .at)))
+                ∙ ap (λ v. join (join (Walked n b) v) (walkFrom e s (op .next .at))) (sym r);
+          }
+
+      fall : (u : Walk) → walkFrom e s at ≡ join u (walkFrom e s (op .next .at)) → Unreadable ≡ u → Unreadable ≡ walkOf e s
+      unfolding join
+      fall u p r = ap (λ v. join (Walked n b) (join v (walkFrom e s (op .next .at)))) r ∙ ap (join (Walked n b)) (sym p) ∙ sym (w .whole)
+
+      pub walking-own : T (not (eqb (op .row) 19)) → (m : ℕ) (a : Bool) → Walked m a ≡ ownWalk op → Walking e s (op .next .at) (n + m) (b or a)
+      walking-own t m a r =
+          let i : at < op .next .at = within .0 in
+          let l : m ≤ 1 = own-most op m a (sym r) in
+          step (ownWalk op) (walk-plain e s at op (sym q) t) m a r (omega arith)
+
+      pub own-fall : T (not (eqb (op .row) 19)) → Unreadable ≡ ownWalk op → Unreadable ≡ walkOf e s
+      own-fall t r = fall (ownWalk op) (walk-plain e s at op (sym q) t) r
+
+      module _ (t : T (eqb (op .row) 19)) where
+        abbrev part : List ℕ
+        part = take (op .first .end - op .first .start) (drop (op .first .start) s)
+
+        pub part-size : length part ≡ op .first .end - op .first .start
+        part-size =
+            let i : op .next .at ≤ length s = within .1 in
+            let j : op .first .end ≤ op .next .at = within .4 in
+            length-take-le (op .first .end - op .first .start) (drop (op .first .start) s) (omega (arith, length-drop (op .first .start) s))
+
+        pub walking-entry : (m : ℕ) (a : Bool) → Walked m a ≡ walkOf e part → Walking e s (op .next .at) (n + m) (b or a)
+        walking-entry m a r =
+            let j : op .first .end ≤ op .next .at = within .4 in
+            let k : at < op .first .start = within .2 in
+            let l : m ≤ length part = walk-few e part m a (sym r) in
+            step (walkOf e part) (walk-entry e s at op (sym q) t) m a r (omega (arith, part-size))
+
+        pub entry-fall : Unreadable ≡ walkOf e part → Unreadable ≡ walkOf e s
+        entry-fall r = fall (walkOf e part) (walk-entry e s at op (sym q) t) r

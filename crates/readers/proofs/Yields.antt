@@ -1,0 +1,233 @@
+-- One reference after the other (specs/References.antt): together they are the references of the whole expression, nested ones included.
+use mathlib.Core.Path.{_≡_, refl, ap, ap₂, sym, _∙_, subst}
+use Prim.Native.Nat.{ℕ, zero, suc, _+_, _-_, _≤_, _<_}
+use mathlib.Core.Bool.{Bool, true, false, not}
+use mathlib.Core.Logic.{⊎-elim}
+use mathlib.Core.Option.{Option, none, some}
+use mathlib.Core.List.{List, [], _∷_, _++_, append-assoc, append-nil}
+use native.Mathlib.Omega.{arith}
+use lib.ListN.{length, take, drop, length-append, length-drop, drop-of-length-le, take-append-drop}
+use lib.Seq.{drop-drop, length-take-le, take-take, take-all}
+use lib.Dec.{T, leb, ltb, eqb}
+use mir.Facts.{leb-yes, eqb-yes, no-ltb, yes-ltb, ltb-yes, ltb-no}
+use Rattle.readers.specs.Choice.{pick, pick-yes, pick-no, pick-either, either, bind, bind-at, bind-none, All, all-some, all-none, all-of, all-bind, Took, took-length}
+use Rattle.readers.specs.Scan.{Turn, more, stop, bad, Scanned, push, scan, Goes, scan-stop, scan-more}
+use Rattle.readers.specs.Layout.{Piece, asBytes, bytesOf, bytes-append, writeAll, readIn, ReadLaw, read-law, as-bytes-law, WholeLaw}
+use Rattle.readers.specs.Operations.{operation}
+use Rattle.readers.specs.Expression.{expressionIn, expression-none, expression-more, expression-law, write-pieces}
+use Rattle.readers.specs.Steps.{asOperation, operationOfReads, operationAt}
+use Rattle.readers.specs.References.{Named, namesIn, referenceOf, named, namedType, namesOf, yieldTurn, operationTurn, walkTurn, yielded, nextReference, flatOperation, flatTurn, flat, flattened, flatFrom}
+use Rattle.readers.specs.declared.cursor.Encoding.{Encoding}
+use Rattle.readers.specs.declared.cursor.Cursor.{Cursor}
+use Rattle.readers.specs.declared.fields.Field.{Field}
+use Rattle.readers.specs.declared.operations.Operation.{Operation}
+use Rattle.readers.specs.declared.operations.OperationRead.{OperationRead}
+use Rattle.readers.specs.declared.operations.OperationRead.the-variants.{Read as Operation′, Unreadable as NoOperation}
+use Rattle.readers.specs.declared.expressions.Reference.{Reference}
+use Rattle.readers.specs.declared.expressions.Yield.{Yield}
+use Rattle.readers.specs.declared.expressions.Yield.the-variants.{Reference as Yielded, End}
+use Rattle.readers.proofs.OperationReads.{Held, Cases, cases, read-four, span, rest-is, past, held-inside, code-is, operation-held, operation-none, operation-inside}
+use Rattle.readers.proofs.OperationPieces.{names-append}
+use Rattle.readers.proofs.Deep.{own, own-names, own-size, deep-plain, lead, inner, deep-entry, lead-names, lead-size, inner-size, inner-is, inner-ends, unreadable}
+
+-- ---- the cursor that a reference hands on
+
+-- a reference of an operation goes on past it
+unfoldable pub GoesOn : Cursor → Yield → Type 0
+GoesOn c (Yielded r) = r .next ≡ c
+GoesOn c End = Unit {0}
+
+type-goes : (f : Field) (c : Cursor) → GoesOn c (namedType f c)
+unfolding namedType named GoesOn
+type-goes f c = pick-either (GoesOn c) _ _ _ (λ _. tt) (λ _. refl)
+
+reference-goes : (op : Operation) → GoesOn (op .next) (referenceOf op)
+unfolding referenceOf named GoesOn
+reference-goes op =
+    pick-either (GoesOn (op .next)) _ _ _ (λ _. tt) (λ _.
+    pick-either (GoesOn (op .next)) _ _ _ (λ _. refl) (λ _.
+    pick-either (GoesOn (op .next)) _ _ _ (λ _. type-goes (op .first) (op .next)) (λ _.
+    pick-either (GoesOn (op .next)) _ _ _ (λ _. type-goes (op .second) (op .next)) (λ _.
+    pick-either (GoesOn (op .next)) _ _ _ (λ _. type-goes (op .first) (op .next)) (λ _. tt)))))
+
+module _ (e : Encoding) (s : List ℕ) where
+  -- ---- the walk goes on, inside the slice
+
+  turn-goes : (at : ℕ) (op : Operation) (y : Yield) → at < op .next .at → op .next .at ≤ length s → Goes (length s) at (yieldTurn y (op .next))
+  unfolding yieldTurn Goes
+  turn-goes at op (Yielded r) lo hi = tt
+  turn-goes at op End lo hi = (lo, hi)
+
+  operation-goes : (at : ℕ) (o : OperationRead) → operationAt e s at ≡ o → Goes (length s) at (operationTurn o)
+  unfolding operationTurn Goes
+  operation-goes at NoOperation q = tt
+  operation-goes at (Operation′ op) q =
+      let i : (at < op .next .at) × (op .next .at ≤ length s) × (at < op .first .start) × (op .first .start ≤ op .first .end) × (op .first .end ≤ op .next .at) = operation-inside e s at op q in
+      pick-either (Goes (length s) at) _ _ _ (λ _. (i .2, omega arith)) (λ _. turn-goes at op (referenceOf op) (i .0) (i .1))
+
+  pub walk-goes : (at : ℕ) → Goes (length s) at (walkTurn e s at)
+  unfolding walkTurn Goes
+  walk-goes at = pick-either (Goes (length s) at) _ _ _ (λ _. operation-goes at _ refl) (λ _. tt)
+
+  flat-operation-goes : (at : ℕ) (o : OperationRead) → operationAt e s at ≡ o → Goes (length s) at (flatOperation o)
+  unfolding flatOperation Goes
+  flat-operation-goes at NoOperation q = tt
+  flat-operation-goes at (Operation′ op) q =
+      let i : (at < op .next .at) × (op .next .at ≤ length s) × (at < op .first .start) × (op .first .start ≤ op .first .end) × (op .first .end ≤ op .next .at) = operation-inside e s at op q in
+      pick-either (Goes (length s) at) _ _ _ (λ _. (i .2, omega arith)) (λ _. (i .0, i .1))
+
+  pub flat-goes : (at : ℕ) → Goes (length s) at (flatTurn e s at)
+  unfolding flatTurn Goes
+  flat-goes at = pick-either (Goes (length s) at) _ _ _ (λ _. flat-operation-goes at _ refl) (λ _. tt)
+
+  -- ---- the steps of the next reference
+
+  yielded-push : (o : Option (Scanned (Unit {0}) Yield)) → yielded (bind o (push tt)) ≡ yielded o
+  unfolding yielded bind push
+  yielded-push none = refl
+  yielded-push (some r) = refl
+
+  next-stop : (at : ℕ) (y : Yield) → walkTurn e s at ≡ stop y → nextReference e s at ≡ y
+  unfolding nextReference yielded
+  next-stop at y q = ap yielded (scan-stop (length s) (walkTurn e s) walk-goes at y q)
+
+  next-more : (at n : ℕ) → walkTurn e s at ≡ more tt n → nextReference e s at ≡ nextReference e s n
+  unfolding nextReference
+  next-more at n q = ap yielded (scan-more (length s) (walkTurn e s) walk-goes at tt n q) ∙ yielded-push (scan (length s) (walkTurn e s) n)
+
+  pub next-end : (at : ℕ) → length s ≤ at → nextReference e s at ≡ End
+  unfolding walkTurn
+  next-end at l = next-stop at End (pick-no _ _ _ (no-ltb {a = at} {b = length s} l))
+
+  module _ (at : ℕ) (l : at < length s) where
+    turn-at : (o : OperationRead) → operationAt e s at ≡ o → walkTurn e s at ≡ operationTurn o
+    unfolding walkTurn
+    turn-at o q = pick-yes _ _ _ (yes-ltb {a = at} {b = length s} l) ∙ ap operationTurn q
+
+    pub next-none : operationAt e s at ≡ NoOperation → nextReference e s at ≡ End
+    unfolding operationTurn
+    next-none q = next-stop at End (turn-at NoOperation q)
+
+    module _ (op : Operation) (q : operationAt e s at ≡ Operation′ op) where
+      pub next-entry : T (eqb (op .row) 19) → nextReference e s at ≡ nextReference e s (op .first .start)
+      unfolding operationTurn
+      next-entry t = next-more at (op .first .start) (turn-at (Operation′ op) q ∙ pick-yes _ _ _ t)
+
+      pub next-own : T (not (eqb (op .row) 19)) → (r : Reference) → referenceOf op ≡ Yielded r → nextReference e s at ≡ Yielded r
+      unfolding operationTurn yieldTurn
+      next-own t r p = next-stop at (Yielded r) (turn-at (Operation′ op) q ∙ pick-no _ _ _ t ∙ ap (λ y. yieldTurn y (op .next)) p)
+
+      pub next-pass : T (not (eqb (op .row) 19)) → referenceOf op ≡ End → nextReference e s at ≡ nextReference e s (op .next .at)
+      unfolding operationTurn yieldTurn
+      next-pass t p = next-more at (op .next .at) (turn-at (Operation′ op) q ∙ pick-no _ _ _ t ∙ ap (λ y. yieldTurn y (op .next)) p)
+
+  -- ---- the steps of all references
+
+  unfoldable Some : Option (Scanned (List Named) (Unit {0})) → Type 0
+  Some none = ⊥
+  Some (some r) = Unit {0}
+
+  unfoldable NotBad : Turn (List Named) (Unit {0}) → Type 0
+  NotBad (more a n) = Unit {0}
+  NotBad (stop b) = Unit {0}
+  NotBad bad = ⊥
+
+  of-operation : (o : OperationRead) → NotBad (flatOperation o)
+  unfolding flatOperation NotBad
+  of-operation NoOperation = tt
+  of-operation (Operation′ op) = pick-either NotBad _ _ _ (λ _. tt) (λ _. tt)
+
+  flat-not-bad : (at : ℕ) → NotBad (flatTurn e s at)
+  unfolding flatTurn NotBad
+  flat-not-bad at = pick-either NotBad _ _ _ (λ _. of-operation (operationAt e s at)) (λ _. tt)
+
+  some-push : (a : List Named) (o : Option (Scanned (List Named) (Unit {0}))) → Some o → Some (bind o (push a))
+  unfolding Some bind push
+  some-push a none h = absurd h
+  some-push a (some r) h = tt
+
+  flat-push : (a : List Named) (o : Option (Scanned (List Named) (Unit {0}))) → Some o → flattened (bind o (push a)) ≡ a ++ flattened o
+  unfolding Some bind push flattened flat
+  flat-push a none h = absurd h
+  flat-push a (some r) h = refl
+
+  abbrev all : ℕ → Option (Scanned (List Named) (Unit {0}))
+  all at = scan (length s) (flatTurn e s) at
+
+  some-turn : (at : ℕ) (t : Turn (List Named) (Unit {0})) → flatTurn e s at ≡ t → NotBad t → Goes (length s) at t → ((n : ℕ) → at < n → n ≤ length s → Some (all n)) → Some (all at)
+  unfolding NotBad Goes Some
+  some-turn at (more a n) q b g ih = subst Some (sym (scan-more (length s) (flatTurn e s) flat-goes at a n q)) (some-push a (all n) (ih n (g .0) (g .1)))
+  some-turn at (stop u) q b g ih = subst Some (sym (scan-stop (length s) (flatTurn e s) flat-goes at u q)) tt
+  some-turn at bad q b g ih = absurd b
+
+  some-within : (k at : ℕ) → length s - at ≤ k → Some (all at)
+  some-within zero at h = some-turn at _ refl (flat-not-bad at) (flat-goes at) (λ n lo hi. absurd (omega arith))
+  some-within (suc k) at h = some-turn at _ refl (flat-not-bad at) (flat-goes at) (λ n lo hi. some-within k n (omega arith))
+
+  flat-more : (at : ℕ) (a : List Named) (n : ℕ) → flatTurn e s at ≡ more a n → flatFrom e s at ≡ a ++ flatFrom e s n
+  unfolding flatFrom
+  flat-more at a n q = ap flattened (scan-more (length s) (flatTurn e s) flat-goes at a n q) ∙ flat-push a (all n) (some-within (length s - n) n (omega arith))
+
+  flat-stop : (at : ℕ) → flatTurn e s at ≡ stop tt → flatFrom e s at ≡ []
+  unfolding flatFrom flattened flat
+  flat-stop at q = ap flattened (scan-stop (length s) (flatTurn e s) flat-goes at tt q)
+
+  pub flat-end : (at : ℕ) → length s ≤ at → flatFrom e s at ≡ []
+  unfolding flatTurn
+  flat-end at l = flat-stop at (pick-no _ _ _ (no-ltb {a = at} {b = length s} l))
+
+  module _ (at : ℕ) (l : at < length s) where
+    flat-at : (o : OperationRead) → operationAt e s at ≡ o → flatTurn e s at ≡ flatOperation o
+    unfolding flatTurn
+    flat-at o q = pick-yes _ _ _ (yes-ltb {a = at} {b = length s} l) ∙ ap flatOperation q
+
+    pub flat-none : operationAt e s at ≡ NoOperation → flatFrom e s at ≡ []
+    unfolding flatOperation
+    flat-none q = flat-stop at (flat-at NoOperation q)
+
+    module _ (op : Operation) (q : operationAt e s at ≡ Operation′ op) where
+      pub flat-entry : T (eqb (op .row) 19) → flatFrom e s at ≡ flatFrom e s (op .first .start)
+      unfolding flatOperation
+      flat-entry t = flat-more at [] (op .first .start) (flat-at (Operation′ op) q ∙ pick-yes _ _ _ t)
+
+      pub flat-plain : T (not (eqb (op .row) 19)) → flatFrom e s at ≡ namesOf (referenceOf op) ++ flatFrom e s (op .next .at)
+      unfolding flatOperation
+      flat-plain t = flat-more at _ (op .next .at) (flat-at (Operation′ op) q ∙ pick-no _ _ _ t)
+
+  -- ---- one after the other they are all of them
+
+  unfoldable pub flatBy : Yield → List Named
+  flatBy (Yielded r) = (r .place, r .target .0, r .width) ∷ flatFrom e s (r .next .at)
+  flatBy End = []
+
+  flat-own : (c : Cursor) (y : Yield) → GoesOn c y → (z : Yield) → (y ≡ End → flatFrom e s (c .at) ≡ flatBy z) → ((r : Reference) → y ≡ Yielded r → z ≡ Yielded r)
+      → namesOf y ++ flatFrom e s (c .at) ≡ flatBy z
+  unfolding GoesOn namesOf flatBy
+  flat-own c End g z f h = f refl
+  flat-own c (Yielded r) g z f h = ap (λ (d : Cursor). (r .place, r .target .0, r .width) ∷ flatFrom e s (d .at)) (sym g) ∙ ap flatBy (sym (h r refl))
+
+  by-operation : (at : ℕ) → at < length s → ((n : ℕ) → at < n → n ≤ length s → flatFrom e s n ≡ flatBy (nextReference e s n)) → (o : OperationRead) → operationAt e s at ≡ o
+      → flatFrom e s at ≡ flatBy (nextReference e s at)
+  unfolding flatBy
+  by-operation at l ih NoOperation q = flat-none at l q ∙ ap flatBy (sym (next-none at l q))
+  by-operation at l ih (Operation′ op) q =
+      let i : (at < op .next .at) × (op .next .at ≤ length s) × (at < op .first .start) × (op .first .start ≤ op .first .end) × (op .first .end ≤ op .next .at) = operation-inside e s at op q in
+      ⊎-elim
+      (λ t. flat-entry at l op q t ∙ ih (op .first .start) (i .2) (omega arith) ∙ ap flatBy (sym (next-entry at l op q t)))
+      (λ t. flat-plain at l op q t
+      ∙ flat-own (op .next) (referenceOf op) (reference-goes op) (nextReference e s at)
+      (λ p. ih (op .next .at) (i .0) (i .1) ∙ ap flatBy (sym (next-pass at l op q t p)))
+      (λ r p. next-own at l op q t r p))
+      (either (eqb (op .row) 19))
+
+  by-within : (k at : ℕ) → length s - at ≤ k → flatFrom e s at ≡ flatBy (nextReference e s at)
+  unfolding flatBy
+  by-within zero at h = flat-end at (omega arith) ∙ ap flatBy (sym (next-end at (omega arith)))
+  by-within (suc k) at h =
+      ⊎-elim (λ t. let l : at < length s = ltb-yes t in by-operation at l (λ n lo hi. by-within k n (omega arith)) _ refl)
+      (λ t. let l : length s ≤ at = ltb-no t in flat-end at l ∙ ap flatBy (sym (next-end at l)))
+      (either (ltb at (length s)))
+
+  -- the next reference is the first of those from here on
+  pub flat-next : (at : ℕ) → flatFrom e s at ≡ flatBy (nextReference e s at)
+  flat-next at = by-within (length s - at) at (omega arith)
