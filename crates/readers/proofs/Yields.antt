@@ -2,20 +2,21 @@
 use mathlib.Core.Path.{_≡_, refl, ap, ap₂, sym, _∙_, subst}
 use Prim.Native.Nat.{ℕ, zero, suc, _+_, _-_, _≤_, _<_}
 use mathlib.Core.Bool.{Bool, true, false, not}
-use mathlib.Core.Logic.{⊎-elim}
+use mathlib.Core.Logic.{⊎-elim, _≢_}
 use mathlib.Core.Option.{Option, none, some}
 use mathlib.Core.List.{List, [], _∷_, _++_, append-assoc, append-nil}
 use native.Mathlib.Omega.{arith}
 use lib.ListN.{length, take, drop, length-append, length-drop, drop-of-length-le, take-append-drop}
-use lib.Seq.{drop-drop, length-take-le, take-take, take-all}
+use lib.Seq.{drop-drop, length-take-le, take-take, take-nil, take-length}
 use lib.Dec.{T, leb, ltb, eqb}
-use mir.Facts.{leb-yes, eqb-yes, no-ltb, yes-ltb, ltb-yes, ltb-no}
-use Rattle.readers.specs.Choice.{pick, pick-yes, pick-no, pick-either, either, bind, bind-at, bind-none, All, all-some, all-none, all-of, all-bind, Took, took-length}
+use mir.Facts.{leb-yes, eqb-yes, eqb-no, no-ltb, yes-ltb, ltb-yes, ltb-no}
+use Rattle.readers.specs.Choice.{pick, pick-yes, pick-no, pick-either, either, bind, bind-at, bind-none, All, all-some, all-none, all-of, all-bind, all-both, all-map, Took, took-length}
 use Rattle.readers.specs.Scan.{Turn, more, stop, bad, Scanned, push, scan, Goes, scan-stop, scan-more}
-use Rattle.readers.specs.Layout.{Piece, asBytes, bytesOf, bytes-append, writeAll, readIn, ReadLaw, read-law, as-bytes-law, WholeLaw}
+use Rattle.readers.specs.Layout.{Piece, Read, asBytes, bytesOf, bytes-append, writeAll, readIn, ReadLaw, read-law, as-bytes-law, WholeLaw}
 use Rattle.readers.specs.Operations.{operation}
 use Rattle.readers.specs.Expression.{expressionIn, expression-none, expression-more, expression-law, write-pieces}
-use Rattle.readers.specs.Steps.{asOperation, operationOfReads, operationAt}
+use Rattle.readers.specs.Fields.{size, fieldOf, rowOfReads}
+use Rattle.readers.specs.Steps.{asOperation, rowOperation, operationOfReads, operationAt}
 use Rattle.readers.specs.References.{Named, namesIn, referenceOf, named, namedType, namesOf, yieldTurn, operationTurn, walkTurn, yielded, nextReference, flatOperation, flatTurn, flat, flattened, flatFrom}
 use Rattle.readers.specs.declared.cursor.Encoding.{Encoding}
 use Rattle.readers.specs.declared.cursor.Cursor.{Cursor}
@@ -50,7 +51,16 @@ reference-goes op =
     pick-either (GoesOn (op .next)) _ _ _ (λ _. type-goes (op .second) (op .next)) (λ _.
     pick-either (GoesOn (op .next)) _ _ _ (λ _. type-goes (op .first) (op .next)) (λ _. tt)))))
 
+drop-take : (m n : ℕ) (l : List ℕ) → drop m (take n l) ≡ take (n - m) (drop m l)
+drop-take zero n l = ap (λ j. take j l) (let h : n ≡ n - 0 = omega arith in h)
+drop-take (suc m) zero l = sym (ap (λ j. take j (drop (suc m) l)) (let h : 0 - suc m ≡ 0 = omega arith in h))
+drop-take (suc m) (suc n) [] = sym (take-nil (suc n - suc m))
+drop-take (suc m) (suc n) (b ∷ l) = drop-take m n l ∙ ap (λ j. take j (drop m l)) (let h : n - m ≡ suc n - suc m = omega arith in h)
+
 module _ (e : Encoding) (s : List ℕ) where
+  abbrev big : Bool
+  big = e .«big_endian»
+
   -- ---- the walk goes on, inside the slice
 
   turn-goes : (at : ℕ) (op : Operation) (y : Yield) → at < op .next .at → op .next .at ≤ length s → Goes (length s) at (yieldTurn y (op .next))
@@ -231,3 +241,132 @@ module _ (e : Encoding) (s : List ℕ) where
   -- the next reference is the first of those from here on
   pub flat-next : (at : ℕ) → flatFrom e s at ≡ flatBy (nextReference e s at)
   flat-next at = by-within (length s - at) at (omega arith)
+
+  -- ---- all of them are those of the pieces
+
+  abbrev PartLaw : ℕ → ℕ → List Piece → Type 0
+  PartLaw o n ps = flatFrom e s o ≡ namesIn big o ps ++ flatFrom e s (o + n)
+
+  module _ (o n : ℕ) (l : 0 < n) (fits : o + n ≤ length s) where
+    abbrev part : List ℕ
+    part = take n (drop o s)
+
+    part-length : length part ≡ n
+    part-length = length-take-le n (drop o s) (omega (arith, length-drop o s))
+
+    module _ (op : Operation) (h : Held e part o op) where
+      abbrev m : ℕ
+      m = span e part o op h
+
+      m-fits : m ≤ n
+      m-fits = let q : m ≤ length part = rest-is e part o op h .0 in omega (arith, part-length)
+
+      -- an operation of a part is the slice's operation there
+      part-operation : operationAt e s o ≡ Operation′ op
+      unfolding operationAt asOperation operationOfReads rowOfReads rowOperation fieldOf
+      part-operation =
+          let reads : List Read = h .c ∷ h .a ∷ h .b ∷ h .d ∷ [] in
+          let law : ReadLaw big asBytes (operation e) part (reads, h .rest) =
+          all-of (ReadLaw big asBytes (operation e) part) (read-law big asBytes (as-bytes-law big) (operation e) part)
+          (read-four e asBytes part (h .c) (h .a) (h .b) (h .d) (h .x1) (h .x2) (h .x3) (h .rest) (h .code) (h .first) (h .second) (h .third)) in
+          let k : length (writeAll big reads) ≡ m = ap length (sym (write-pieces big reads)) ∙ own-size e part o op h in
+          let t : take (length (writeAll big reads)) part ++ drop m (drop o s) ≡ drop o s =
+          ap (λ j. take j part ++ drop m (drop o s)) k ∙ ap (λ y. y ++ drop m (drop o s)) (take-take m n (drop o s) m-fits) ∙ take-append-drop m (drop o s) in
+          ap (asOperation big o) (ap (readIn big asBytes (operation e)) (sym t) ∙ law .2 (drop m (drop o s)))
+          ∙ ap (λ p. Operation′ p) (sym (h .made))
+
+      rest-part : h .rest ≡ take (n - m) (drop (o + m) s)
+      rest-part = rest-is e part o op h .1 ∙ drop-take m n (drop o s) ∙ ap (take (n - m)) (drop-drop m o s)
+
+      past-m : op .next .at ≡ o + m
+      past-m = past e part o op h
+
+      abbrev IH : Type 0
+      IH = (o′ n′ : ℕ) → n′ < n → o′ + n′ ≤ length s → All (PartLaw o′ n′) (expressionIn e (take n′ (drop o′ s)))
+
+      m-more : 0 < m
+      m-more = let c : size big (h .c) ≡ 1 = code-is e part o op h .2 in omega arith
+
+      rest-law : IH → All (λ qs. flatFrom e s (o + m) ≡ namesIn big (o + m) qs ++ flatFrom e s (o + n)) (expressionIn e (h .rest))
+      rest-law ih =
+          let k : o + m + (n - m) ≡ o + n = omega (arith, m-fits) in
+          subst (λ y. All (λ qs. flatFrom e s (o + m) ≡ namesIn big (o + m) qs ++ flatFrom e s (o + n)) (expressionIn e y)) (sym rest-part)
+          (subst (λ j. All (λ qs. flatFrom e s (o + m) ≡ namesIn big (o + m) qs ++ flatFrom e s j) (expressionIn e (take (n - m) (drop (o + m) s)))) k
+          (ih (o + m) (n - m) (omega (arith, m-more)) (omega (arith, m-fits))))
+
+      part-plain : IH → T (not (eqb (op .row) 19)) → All (PartLaw o n) (expressionIn e part)
+      part-plain ih t =
+          subst (All (PartLaw o n)) (sym (deep-plain e part o op h t))
+          (all-bind (λ qs. flatFrom e s (o + m) ≡ namesIn big (o + m) qs ++ flatFrom e s (o + n)) _ _ _ (rest-law ih)
+          (λ qs p v. all-some (PartLaw o n)
+          (let ps : List Piece = own e part o op h in
+          flat-plain o (omega arith) op part-operation t
+          ∙ ap₂ (λ x y. x ++ y) (sym (own-names e part o op h)) (ap (flatFrom e s) past-m ∙ v)
+          ∙ sym (append-assoc (namesIn big o ps) _ _)
+          ∙ ap (λ x. x ++ flatFrom e s (o + n)) (ap (λ j. namesIn big o ps ++ namesIn big (o + j) qs) (sym (own-size e part o op h)) ∙ sym (names-append big o ps qs)))))
+
+      part-entry : IH → T (eqb (op .row) 19) → All (PartLaw o n) (expressionIn e part)
+      part-entry ih t =
+          let i : (o < op .next .at) × (op .next .at ≤ o + length part) × (o < op .first .start) × (op .first .start ≤ op .first .end) × (op .first .end ≤ op .next .at) = held-inside e part o op h in
+          let ls : List Piece = lead e part o op h t in
+          let x : List ℕ = inner e part o op h t in
+          let lx : length x ≡ op .first .end - op .first .start = inner-size e part o op h t in
+          let fin : op .first .end ≡ op .next .at = inner-ends e part o op h t in
+          let a : ℕ = op .first .start in
+          let w : ℕ = op .first .end - op .first .start in
+          let pm : op .next .at ≡ o + m = past-m in
+          let k1 : o + (a - o) ≡ a = omega arith in
+          let k2 : a + w ≡ o + m = omega arith in
+          let xs : x ≡ take w (drop a s) =
+          inner-is e part o op h t
+          ∙ ap (take w) (drop-take (a - o) n (drop o s))
+          ∙ take-take w (n - (a - o)) (drop (a - o) (drop o s)) (omega (arith, part-length))
+          ∙ ap (take w) (drop-drop (a - o) o s ∙ ap (λ j. drop j s) k1) in
+          subst (All (PartLaw o n)) (sym (deep-entry e part o op h t))
+          (all-bind (λ ps. (flatFrom e s a ≡ namesIn big a ps ++ flatFrom e s (a + w)) × (length (bytesOf big ps) ≡ length x)) _ (expressionIn e x) _
+          (all-both _ _ _
+          (subst (λ y. All (PartLaw a w) (expressionIn e y)) (sym xs) (ih a w (omega (arith, part-length)) (omega (arith, m-fits))))
+          (all-map (WholeLaw big (expressionIn e) x) (λ ps. length (bytesOf big ps) ≡ length x) _ (λ ps u. u .0) (expression-law e x)))
+          (λ ps p u. all-bind (λ qs. flatFrom e s (o + m) ≡ namesIn big (o + m) qs ++ flatFrom e s (o + n)) _ _ _ (rest-law ih)
+          (λ qs p′ v. all-some (PartLaw o n)
+          (let ll : o + length (bytesOf big ls) ≡ a = lead-size e part o op h t in
+          let both : length (bytesOf big (ls ++ ps)) ≡ length (bytesOf big ls) + length (bytesOf big ps) = ap length (bytes-append big ls ps) ∙ length-append (bytesOf big ls) (bytesOf big ps) in
+          let lb : length (bytesOf big ps) ≡ length x = u .1 in
+          let k3 : o + length (bytesOf big (ls ++ ps)) ≡ o + m = omega arith in
+          let one : namesIn big o (ls ++ ps) ≡ namesIn big a ps =
+          names-append big o ls ps ∙ ap₂ (λ y j. y ++ namesIn big j ps) (lead-names e part o op h t o) ll in
+          let two : namesIn big o ((ls ++ ps) ++ qs) ≡ namesIn big a ps ++ namesIn big (o + m) qs =
+          names-append big o (ls ++ ps) qs ∙ ap₂ (λ y j. y ++ namesIn big j qs) one k3 in
+          flat-entry o (omega arith) op part-operation t
+          ∙ u .0
+          ∙ ap (λ y. namesIn big a ps ++ y) (ap (flatFrom e s) k2 ∙ v)
+          ∙ sym (append-assoc (namesIn big a ps) _ _)
+          ∙ ap (λ y. y ++ flatFrom e s (o + n)) (sym two)))))
+
+    part-case : ((o′ n′ : ℕ) → n′ < n → o′ + n′ ≤ length s → All (PartLaw o′ n′) (expressionIn e (take n′ (drop o′ s)))) → (r : OperationRead) → Cases e part o r
+        → All (PartLaw o n) (expressionIn e part)
+    unfolding Cases
+    part-case ih NoOperation q =
+        subst (All (PartLaw o n)) (sym (expression-more e part (omega (arith, part-length)) ∙ bind-none _ (unreadable big (expressionIn e) (operation e) part q))) (all-none _)
+    part-case ih (Operation′ op) h = ⊎-elim (part-entry op h ih) (part-plain op h ih) (either (eqb (op .row) 19))
+
+  part-none : (o n : ℕ) → n ≡ 0 → All (PartLaw o n) (expressionIn e (take n (drop o s)))
+  unfolding namesIn
+  part-none o n z =
+      subst (λ j. All (PartLaw o j) (expressionIn e (take j (drop o s)))) (sym z)
+      (subst (All (PartLaw o 0)) (sym (expression-none e)) (all-some (PartLaw o 0) (ap (flatFrom e s) (let k : o ≡ o + 0 = omega arith in k))))
+
+  part-within : (k o n : ℕ) → n ≤ k → o + n ≤ length s → All (PartLaw o n) (expressionIn e (take n (drop o s)))
+  part-within zero o n h fits = part-none o n (omega arith)
+  part-within (suc k) o n h fits =
+      ⊎-elim (λ t. part-none o n (eqb-yes t))
+      (λ t. part-case o n (let w : n ≢ 0 = eqb-no t in omega arith) fits (λ o′ n′ l f. part-within k o′ n′ (omega arith) f) _ (cases e (take n (drop o s)) o))
+      (either (eqb n 0))
+
+  -- THE LAW: one after the other, the references are those of the expression
+  pub yields-all : (ps : List Piece) → expressionIn e s ≡ some ps → flatFrom e s 0 ≡ namesIn big 0 ps
+  yields-all ps q =
+      let w : take (length s) (drop 0 s) ≡ s = take-length s in
+      let p : flatFrom e s 0 ≡ namesIn big 0 ps ++ flatFrom e s (0 + length s) =
+      all-of (PartLaw 0 (length s)) (part-within (length s) 0 (length s) (omega arith) (omega arith)) (ap (expressionIn e) w ∙ q) in
+      p ∙ ap (λ y. namesIn big 0 ps ++ y) (flat-end (0 + length s) (omega arith)) ∙ append-nil _
