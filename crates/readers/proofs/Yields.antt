@@ -9,7 +9,7 @@ use native.Mathlib.Omega.{arith}
 use lib.ListN.{length, take, drop, length-append, length-drop, drop-of-length-le, take-append-drop}
 use lib.Seq.{drop-drop, length-take-le, take-take, take-nil, take-length}
 use lib.Dec.{T, leb, ltb, eqb}
-use mir.Facts.{leb-yes, eqb-yes, eqb-no, no-ltb, yes-ltb, ltb-yes, ltb-no}
+use mir.Facts.{leb-yes, eqb-yes, eqb-no, yes-eqb, no-eqb, no-ltb, yes-ltb, ltb-yes, ltb-no}
 use Rattle.readers.specs.Choice.{pick, pick-yes, pick-no, pick-either, either, bind, bind-at, bind-none, All, all-some, all-none, all-of, all-bind, all-both, all-map, Took, took-length}
 use Rattle.readers.specs.Scan.{Turn, more, stop, bad, Scanned, push, scan, Goes, scan-stop, scan-more}
 use Rattle.readers.specs.Layout.{Piece, Read, asBytes, bytesOf, bytes-append, writeAll, readIn, ReadLaw, read-law, as-bytes-law, WholeLaw}
@@ -370,3 +370,35 @@ module _ (e : Encoding) (s : List ℕ) where
       let p : flatFrom e s 0 ≡ namesIn big 0 ps ++ flatFrom e s (0 + length s) =
       all-of (PartLaw 0 (length s)) (part-within (length s) 0 (length s) (omega arith) (omega arith)) (ap (expressionIn e) w ∙ q) in
       p ∙ ap (λ y. namesIn big 0 ps ++ y) (flat-end (0 + length s) (omega arith)) ∙ append-nil _
+
+  -- ---- the loop that looks for the next reference
+
+  module _ (at₀ at : ℕ) (w : nextReference e s at₀ ≡ nextReference e s at) where
+    pub onward-end : length s ≤ at → End ≡ nextReference e s at₀
+    onward-end l = sym (w ∙ next-end at l)
+
+    module _ (l : at < length s) (o : OperationRead) (is : o ≡ operationAt e s at) where
+      pub onward-none : o ≡ NoOperation → End ≡ nextReference e s at₀
+      onward-none q = sym (w ∙ next-none at l (sym is ∙ q))
+
+      module _ (op : Operation) (q : o ≡ Operation′ op) where
+        abbrev there : operationAt e s at ≡ Operation′ op
+        there = sym is ∙ q
+
+        pub onward-entry : op .row ≡ 19 → nextReference e s at₀ ≡ nextReference e s (op .first .start)
+        onward-entry t = w ∙ next-entry at l op there (yes-eqb {a = op .row} {b = 19} t)
+
+        pub less-entry : length s - op .first .start < length s - at
+        less-entry =
+            let i : (at < op .next .at) × (op .next .at ≤ length s) × (at < op .first .start) × (op .first .start ≤ op .first .end) × (op .first .end ≤ op .next .at) = operation-inside e s at op there in
+            omega arith
+
+        pub less-next : length s - op .next .at < length s - at
+        less-next = let i : at < op .next .at = operation-inside e s at op there .0 in omega arith
+
+        module _ (t : op .row ≡ 19 → ⊥) (y : Yield) (own-is : y ≡ referenceOf op) where
+          pub onward-own : (r : Reference) → y ≡ Yielded r → Yielded r ≡ nextReference e s at₀
+          onward-own r p = sym (w ∙ next-own at l op there (no-eqb {a = op .row} {b = 19} t) r (sym own-is ∙ p))
+
+          pub onward-pass : y ≡ End → nextReference e s at₀ ≡ nextReference e s (op .next .at)
+          onward-pass p = w ∙ next-pass at l op there (no-eqb {a = op .row} {b = 19} t) (sym own-is ∙ p)

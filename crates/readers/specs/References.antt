@@ -1,5 +1,6 @@
 -- The references of an expression (document 01, "References" and "references of an expression").
-use Prim.Native.Nat.{ℕ, _+_, _*_, _-_, _/_}
+use mathlib.Core.Path.{_≡_}
+use Prim.Native.Nat.{ℕ, _+_, _*_, _-_, _/_, _≤_}
 use mathlib.Core.Bool.{Bool, true, false}
 use mathlib.Core.List.{List, [], _∷_, _++_}
 use mathlib.Core.Option.{Option, none, some}
@@ -153,6 +154,12 @@ zeros n = replicate n 0
 unfoldable pub numbersOf : List Named → List ℕ
 numbersOf [] = []
 numbersOf (r ∷ rs) = r .0 ∷ r .1 ∷ r .2 ∷ numbersOf rs
+
+-- a cleared table with room for the references, of which there are n
+pub record Room (rs : List Named) (table : List ℕ) (n : ℕ) : Type 0 where
+  pub count : length rs ≡ n
+  pub fits : 3 * n ≤ length table
+  pub cleared : table ≡ zeros (length table)
 
 -- the references of a readable expression
 unfoldable pub namesOr : Bool → Option (List Piece) → List Named
