@@ -9,7 +9,7 @@ use native.Mathlib.Omega.{arith}
 use lib.ListN.{length, take, drop, length-append, length-drop, drop-of-length-le}
 use lib.Seq.{drop-drop, length-take-le}
 use lib.Dec.{T, leb, ltb, eqb}
-use mir.Facts.{leb-yes, eqb-yes, no-ltb, no-leb, no-eqb}
+use mir.Facts.{eqb-yes, yes-eqb, no-ltb, no-leb, no-eqb}
 use Rattle.readers.specs.Choice.{pick, pick-yes, pick-no, pick-either, either, bind, bind-at, bind-none, _or_, All, all-some, all-none, all-of, all-bind, Took, took-length}
 use Rattle.readers.specs.Layout.{Piece, asBytes, bytesOf, readIn}
 use Rattle.readers.specs.Operations.{operation}
@@ -229,57 +229,77 @@ module _ (e : Encoding) (s : List ℕ) where
     walking-end l =
         ap₂ Walked (let h : n ≡ n + 0 = omega arith in h) (sym (or-false b)) ∙ ap (join (Walked n b)) (sym (walk-end e s at l)) ∙ sym (w .whole)
 
-    pub walking-none : at < length s → NoOperation ≡ operationAt e s at → Unreadable ≡ walkOf e s
-    unfolding join
-    walking-none l q = ap (join (Walked n b)) (sym (walk-none e s at l (sym q))) ∙ sym (w .whole)
-
-    module _ (op : Operation) (q : Operation′ op ≡ operationAt e s at) where
-      abbrev within : (at < op .next .at) × (op .next .at ≤ length s) × (at < op .first .start) × (op .first .start ≤ op .first .end) × (op .first .end ≤ op .next .at)
-      within = operation-inside e s at op (sym q)
-
-      step : (u : Walk) → walkFrom e s at ≡ join u (walkFrom e s (op .next .at)) → (m : ℕ) (a : Bool) → Walked m a ≡ u → m ≤ op .next .at - at → Walking e s (op .next .at) (n + m) (b or a)
+    module _ (l : at < length s) (o : OperationRead) (is : o ≡ operationAt e s at) where
+      pub walking-none : o ≡ NoOperation → Unreadable ≡ walkOf e s
       unfolding join
-      step u p m a r l =
-          let i : op .next .at ≤ length s = within .1 in
-          let i0 : at < op .next .at = within .0 in
-          let f : n ≤ at = w .few in
-          record {
-            inside = i;
-            few = omega arith;
-            whole =
-                w .whole ∙ ap (join (Walked n b)) p ∙ sym (join-assoc (Walked n b) u (walkFrom e s (op .next .at)))
-                ∙ ap (λ v. join (join (Walked n b) v) (walkFrom e s (op .next .at))) (sym r);
-          }
+      walking-none q = ap (join (Walked n b)) (sym (walk-none e s at l (sym is ∙ q))) ∙ sym (w .whole)
 
-      fall : (u : Walk) → walkFrom e s at ≡ join u (walkFrom e s (op .next .at)) → Unreadable ≡ u → Unreadable ≡ walkOf e s
-      unfolding join
-      fall u p r = ap (λ v. join (Walked n b) (join v (walkFrom e s (op .next .at)))) r ∙ ap (join (Walked n b)) (sym p) ∙ sym (w .whole)
+      module _ (op : Operation) (q : o ≡ Operation′ op) where
+        abbrev there : operationAt e s at ≡ Operation′ op
+        there = sym is ∙ q
 
-      pub walking-own : T (not (eqb (op .row) 19)) → (m : ℕ) (a : Bool) → Walked m a ≡ ownWalk op → Walking e s (op .next .at) (n + m) (b or a)
-      walking-own t m a r =
-          let i : at < op .next .at = within .0 in
-          let l : m ≤ 1 = own-most op m a (sym r) in
-          step (ownWalk op) (walk-plain e s at op (sym q) t) m a r (omega arith)
+        pub within : (at < op .next .at) × (op .next .at ≤ length s) × (at < op .first .start) × (op .first .start ≤ op .first .end) × (op .first .end ≤ op .next .at)
+        within = operation-inside e s at op there
 
-      pub own-fall : T (not (eqb (op .row) 19)) → Unreadable ≡ ownWalk op → Unreadable ≡ walkOf e s
-      own-fall t r = fall (ownWalk op) (walk-plain e s at op (sym q) t) r
+        -- one more walk u, and the rest
+        module _ (u v : Walk) (p : walkFrom e s at ≡ join v (walkFrom e s (op .next .at))) (same : u ≡ v) where
+          step : (m : ℕ) (a c : Bool) → u ≡ Walked m a → c ≡ (b or a) → m ≤ op .next .at - at → Walking e s (op .next .at) (n + m) c
+          unfolding join
+          step m a c r k few =
+              let i : op .next .at ≤ length s = within .1 in
+              let i0 : at < op .next .at = within .0 in
+              let f : n ≤ at = w .few in
+              record {
+                inside = i;
+                few = omega arith;
+                whole =
+                    w .whole ∙ ap (join (Walked n b)) p ∙ sym (join-assoc (Walked n b) v (walkFrom e s (op .next .at)))
+                    ∙ ap (λ x. join (join (Walked n b) x) (walkFrom e s (op .next .at))) (sym same ∙ r)
+                    ∙ ap (λ d. join (Walked (n + m) d) (walkFrom e s (op .next .at))) (sym k);
+              }
 
-      module _ (t : T (eqb (op .row) 19)) where
+          fall : u ≡ Unreadable → Unreadable ≡ walkOf e s
+          unfolding join
+          fall r = ap (λ x. join (Walked n b) (join x (walkFrom e s (op .next .at)))) (sym r ∙ same) ∙ ap (join (Walked n b)) (sym p) ∙ sym (w .whole)
+
+        module _ (t : op .row ≡ 19 → ⊥) (u : Walk) (same : u ≡ ownWalk op) where
+          abbrev by-own : walkFrom e s at ≡ join (ownWalk op) (walkFrom e s (op .next .at))
+          by-own = walk-plain e s at op there (no-eqb {a = op .row} {b = 19} t)
+
+          pub walking-own : (m : ℕ) (a c : Bool) → u ≡ Walked m a → c ≡ (b or a) → Walking e s (op .next .at) (n + m) c
+          walking-own m a c r k =
+              let i : at < op .next .at = within .0 in
+              let few : m ≤ 1 = own-most op m a (sym same ∙ r) in
+              step u (ownWalk op) by-own same m a c r k (omega arith)
+
+          pub own-fall : u ≡ Unreadable → Unreadable ≡ walkOf e s
+          own-fall r = fall u (ownWalk op) by-own same r
+
         abbrev part : List ℕ
         part = take (op .first .end - op .first .start) (drop (op .first .start) s)
 
-        pub part-size : length part ≡ op .first .end - op .first .start
+        part-size : length part ≡ op .first .end - op .first .start
         part-size =
             let i : op .next .at ≤ length s = within .1 in
             let j : op .first .end ≤ op .next .at = within .4 in
             length-take-le (op .first .end - op .first .start) (drop (op .first .start) s) (omega (arith, length-drop (op .first .start) s))
 
-        pub walking-entry : (m : ℕ) (a : Bool) → Walked m a ≡ walkOf e part → Walking e s (op .next .at) (n + m) (b or a)
-        walking-entry m a r =
-            let j : op .first .end ≤ op .next .at = within .4 in
-            let k : at < op .first .start = within .2 in
-            let l : m ≤ length part = walk-few e part m a (sym r) in
-            step (walkOf e part) (walk-entry e s at op (sym q) t) m a r (omega (arith, part-size))
+        -- the expression of an entry value is shorter
+        pub part-less : length part < length s
+        part-less =
+            let i : (at < op .next .at) × (op .next .at ≤ length s) × (at < op .first .start) × (op .first .start ≤ op .first .end) × (op .first .end ≤ op .next .at) = within in
+            omega (arith, part-size)
 
-        pub entry-fall : Unreadable ≡ walkOf e part → Unreadable ≡ walkOf e s
-        entry-fall r = fall (walkOf e part) (walk-entry e s at op (sym q) t) r
+        module _ (t : op .row ≡ 19) (u : Walk) (same : u ≡ walkOf e part) where
+          abbrev by-entry : walkFrom e s at ≡ join (walkOf e part) (walkFrom e s (op .next .at))
+          by-entry = walk-entry e s at op there (yes-eqb {a = op .row} {b = 19} t)
+
+          pub walking-entry : (m : ℕ) (a c : Bool) → u ≡ Walked m a → c ≡ (b or a) → Walking e s (op .next .at) (n + m) c
+          walking-entry m a c r k =
+              let j : op .first .end ≤ op .next .at = within .4 in
+              let i : at < op .first .start = within .2 in
+              let few : m ≤ length part = walk-few e part m a (sym same ∙ r) in
+              step u (walkOf e part) by-entry same m a c r k (omega (arith, part-size))
+
+          pub entry-fall : u ≡ Unreadable → Unreadable ≡ walkOf e s
+          entry-fall r = fall u (walkOf e part) by-entry same r
