@@ -6,3 +6,4 @@ pub mod Walks
 pub mod Yields
 pub mod OwnReferences
 pub mod Tables
+pub mod Answers

@@ -23,17 +23,17 @@ pub or-no : (a b : Bool) → a ≡ false → b ≡ (a or b)
 unfolding _or_
 or-no a b q = ap (λ x. x or b) (sym q)
 
-left : (a b : Bool) → T a → T (a or b)
+pub left : (a b : Bool) → T a → T (a or b)
 unfolding _or_
 left true b t = tt
 left false b t = absurd t
 
-right : (a b : Bool) → T b → T (a or b)
+pub right : (a b : Bool) → T b → T (a or b)
 unfolding _or_
 right true b t = tt
 right false b t = t
 
-neither : (a b : Bool) → T (not a) → T (not b) → T (not (a or b))
+pub neither : (a b : Bool) → T (not a) → T (not b) → T (not (a or b))
 unfolding _or_
 neither true b s t = absurd s
 neither false b s t = t

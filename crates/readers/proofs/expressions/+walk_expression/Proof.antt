@@ -41,7 +41,6 @@ walk-expression-Inv-loop s e at₀ references₀ absolute₀ at references absol
 abbrev walk-expression-μ-loop : walk-expression-lts.MeasureT-loop
 walk-expression-μ-loop s e at₀ references₀ absolute₀ at references absolute = length s - at
 
--- src/expressions.rt:142:5
 walk-expression-loop-holds : (t : ℕ) → walk-expression-lts.Need-loop-holds (
   operation-reads.Asked,
   operation-reads.Learnt,
@@ -54,7 +53,6 @@ walk-expression-loop-holds : (t : ℕ) → walk-expression-lts.Need-loop-holds (
 ) (walk-expression-at t) walk-expression.Post walk-expression-Inv-loop walk-expression-μ-loop
 walk-expression-loop-holds t c = walking-start _ _
 
--- src/expressions.rt:143:39
 walk-expression-operation-requires : (t : ℕ) → walk-expression-lts.Need-operation-requires (
   operation-reads.Asked,
   operation-reads.Learnt,
@@ -67,7 +65,6 @@ walk-expression-operation-requires : (t : ℕ) → walk-expression-lts.Need-oper
 ) (walk-expression-at t) walk-expression.Post walk-expression-Inv-loop walk-expression-μ-loop
 walk-expression-operation-requires t c κs = tt
 
--- src/expressions.rt:143:33
 walk-expression-enum-known-op : (t : ℕ) → walk-expression-lts.Need-enum-known-op (
   operation-reads.Asked,
   operation-reads.Learnt,
@@ -80,7 +77,6 @@ walk-expression-enum-known-op : (t : ℕ) → walk-expression-lts.Need-enum-know
 ) (walk-expression-at t) walk-expression.Post walk-expression-Inv-loop walk-expression-μ-loop
 walk-expression-enum-known-op t c = search needs
 
--- src/expressions.rt:144:13
 walk-expression-enum-told : (t : ℕ) → walk-expression-lts.Need-enum-told (
   operation-reads.Asked,
   operation-reads.Learnt,
@@ -93,7 +89,6 @@ walk-expression-enum-told : (t : ℕ) → walk-expression-lts.Need-enum-told (
 ) (walk-expression-at t) walk-expression.Post walk-expression-Inv-loop walk-expression-μ-loop
 walk-expression-enum-told t c = search needs
 
--- src/expressions.rt:144:13
 walk-expression-returns : (t : ℕ) → walk-expression-lts.Need-returns (
   operation-reads.Asked,
   operation-reads.Learnt,
@@ -106,7 +101,6 @@ walk-expression-returns : (t : ℕ) → walk-expression-lts.Need-returns (
 ) (walk-expression-at t) walk-expression.Post walk-expression-Inv-loop walk-expression-μ-loop
 walk-expression-returns t c = walking-none _ _ _ _ _ (c .before .before .before .before .loop .inv) (c .before .before .before .loop-test .taken) _ (c .before .before .operation .ensures) (c .enum-told .given .1)
 
--- src/expressions.rt:155:33
 walk-expression-sub-walk-expression : (t : ℕ) → walk-expression-lts.Need-sub-walk-expression (
   operation-reads.Asked,
   operation-reads.Learnt,
@@ -119,7 +113,6 @@ walk-expression-sub-walk-expression : (t : ℕ) → walk-expression-lts.Need-sub
 ) (walk-expression-at t) walk-expression.Post walk-expression-Inv-loop walk-expression-μ-loop
 walk-expression-sub-walk-expression t c = within _ _ _ _ _ (c .before .before .before .before .before .before .before .before .loop .inv) (c .before .before .before .before .before .before .before .loop-test .taken) _ (c .before .before .before .before .before .before .operation .ensures) _ (c .before .before .before .before .op .given .1) .3
 
--- src/expressions.rt:155:33
 walk-expression-part-walk-expression-start :
     (t : ℕ) → walk-expression-lts.Need-part-walk-expression-start (
       operation-reads.Asked,
@@ -133,7 +126,6 @@ walk-expression-part-walk-expression-start :
     ) (walk-expression-at t) walk-expression.Post walk-expression-Inv-loop walk-expression-μ-loop
 walk-expression-part-walk-expression-start t c = let i = within _ _ _ _ _ (c .before .before .before .before .before .before .before .before .loop .inv) (c .before .before .before .before .before .before .before .loop-test .taken) _ (c .before .before .before .before .before .before .operation .ensures) _ (c .before .before .before .before .op .given .1) in omega (arith, i .1, i .3, i .4)
 
--- src/expressions.rt:155:33
 walk-expression-part-walk-expression-end :
     (t : ℕ) → walk-expression-lts.Need-part-walk-expression-end (
       operation-reads.Asked,
@@ -147,7 +139,6 @@ walk-expression-part-walk-expression-end :
     ) (walk-expression-at t) walk-expression.Post walk-expression-Inv-loop walk-expression-μ-loop
 walk-expression-part-walk-expression-end t c = let i = within _ _ _ _ _ (c .before .before .before .before .before .before .before .before .loop .inv) (c .before .before .before .before .before .before .before .loop-test .taken) _ (c .before .before .before .before .before .before .operation .ensures) _ (c .before .before .before .before .op .given .1) in omega (arith, i .1, i .3, i .4)
 
--- src/expressions.rt:155:17
 walk-expression-walk-expression-requires :
     (t : ℕ) → walk-expression-lts.Need-walk-expression-requires (
       operation-reads.Asked,
@@ -161,7 +152,6 @@ walk-expression-walk-expression-requires :
     ) (walk-expression-at t) walk-expression.Post walk-expression-Inv-loop walk-expression-μ-loop
 walk-expression-walk-expression-requires t c κs = (omega (arith, part-less _ _ _ _ _ (c .before .before .before .before .before .before .before .before .before .loop .inv) (c .before .before .before .before .before .before .before .before .loop-test .taken) _ (c .before .before .before .before .before .before .before .operation .ensures) _ (c .before .before .before .before .before .op .given .1)), tt)
 
--- src/expressions.rt:153:29
 walk-expression-enum-known-more : (t : ℕ) → walk-expression-lts.Need-enum-known-more (
   operation-reads.Asked,
   operation-reads.Learnt,
@@ -174,7 +164,6 @@ walk-expression-enum-known-more : (t : ℕ) → walk-expression-lts.Need-enum-kn
 ) (walk-expression-at t) walk-expression.Post walk-expression-Inv-loop walk-expression-μ-loop
 walk-expression-enum-known-more t c = search needs
 
--- src/expressions.rt:157:17
 walk-expression-enum-told-2 : (t : ℕ) → walk-expression-lts.Need-enum-told-2 (
   operation-reads.Asked,
   operation-reads.Learnt,
@@ -187,7 +176,6 @@ walk-expression-enum-told-2 : (t : ℕ) → walk-expression-lts.Need-enum-told-2
 ) (walk-expression-at t) walk-expression.Post walk-expression-Inv-loop walk-expression-μ-loop
 walk-expression-enum-told-2 t c = search needs
 
--- src/expressions.rt:157:17
 walk-expression-returns-2 : (t : ℕ) → walk-expression-lts.Need-returns-2 (
   operation-reads.Asked,
   operation-reads.Learnt,
@@ -200,7 +188,6 @@ walk-expression-returns-2 : (t : ℕ) → walk-expression-lts.Need-returns-2 (
 ) (walk-expression-at t) walk-expression.Post walk-expression-Inv-loop walk-expression-μ-loop
 walk-expression-returns-2 t c = entry-fall _ _ _ _ _ (c .before .before .before .before .before .before .before .before .before .before .before .before .loop .inv) (c .before .before .before .before .before .before .before .before .before .before .before .loop-test .taken) _ (c .before .before .before .before .before .before .before .before .before .before .operation .ensures) _ (c .before .before .before .before .before .before .before .before .op .given .1) (c .before .before .before .before .if1 .taken) _ (c .before .before .walk-expression .ensures) (c .enum-told2 .given .1)
 
--- src/expressions.rt:159:13
 walk-expression-add-references : (t : ℕ) → walk-expression-lts.Need-add-references (
   operation-reads.Asked,
   operation-reads.Learnt,
@@ -213,7 +200,6 @@ walk-expression-add-references : (t : ℕ) → walk-expression-lts.Need-add-refe
 ) (walk-expression-at t) walk-expression.Post walk-expression-Inv-loop walk-expression-μ-loop
 walk-expression-add-references t c = let w = walking-entry _ _ _ _ _ (c .before .before .before .before .before .before .before .before .before .before .before .before .before .loop .inv) (c .before .before .before .before .before .before .before .before .before .before .before .before .loop-test .taken) _ (c .before .before .before .before .before .before .before .before .before .before .before .operation .ensures) _ (c .before .before .before .before .before .before .before .before .before .op .given .1) (c .before .before .before .before .before .if1 .taken) _ (c .before .before .before .walk-expression .ensures) _ _ _ (c .before .more .given .1) refl in omega (arith, w .few, w .inside)
 
--- src/expressions.rt:160:13
 walk-expression-either-requires : (t : ℕ) → walk-expression-lts.Need-either-requires (
   operation-reads.Asked,
   operation-reads.Learnt,
@@ -226,7 +212,6 @@ walk-expression-either-requires : (t : ℕ) → walk-expression-lts.Need-either-
 ) (walk-expression-at t) walk-expression.Post walk-expression-Inv-loop walk-expression-μ-loop
 walk-expression-either-requires t c κs = tt
 
--- src/expressions.rt:142:5
 walk-expression-loop-less : (t : ℕ) → walk-expression-lts.Need-loop-less (
   operation-reads.Asked,
   operation-reads.Learnt,
@@ -239,7 +224,6 @@ walk-expression-loop-less : (t : ℕ) → walk-expression-lts.Need-loop-less (
 ) (walk-expression-at t) walk-expression.Post walk-expression-Inv-loop walk-expression-μ-loop
 walk-expression-loop-less t c = let i = within _ _ _ _ _ (c .before .before .before .before .before .before .before .before .before .before .before .before .before .before .loop .inv) (c .before .before .before .before .before .before .before .before .before .before .before .before .before .loop-test .taken) _ (c .before .before .before .before .before .before .before .before .before .before .before .before .operation .ensures) _ (c .before .before .before .before .before .before .before .before .before .before .op .given .1) in omega (arith, i .0)
 
--- src/expressions.rt:142:5
 walk-expression-loop-again : (t : ℕ) → walk-expression-lts.Need-loop-again (
   operation-reads.Asked,
   operation-reads.Learnt,
@@ -252,7 +236,6 @@ walk-expression-loop-again : (t : ℕ) → walk-expression-lts.Need-loop-again (
 ) (walk-expression-at t) walk-expression.Post walk-expression-Inv-loop walk-expression-μ-loop
 walk-expression-loop-again t c = walking-entry _ _ _ _ _ (c .before .before .before .before .before .before .before .before .before .before .before .before .before .before .loop .inv) (c .before .before .before .before .before .before .before .before .before .before .before .before .before .loop-test .taken) _ (c .before .before .before .before .before .before .before .before .before .before .before .before .operation .ensures) _ (c .before .before .before .before .before .before .before .before .before .before .op .given .1) (c .before .before .before .before .before .before .if1 .taken) _ (c .before .before .before .before .walk-expression .ensures) _ _ _ (c .before .before .more .given .1) (c .either .ensures)
 
--- src/expressions.rt:166:17
 walk-expression-own-walk-requires : (t : ℕ) → walk-expression-lts.Need-own-walk-requires (
   operation-reads.Asked,
   operation-reads.Learnt,
@@ -265,7 +248,6 @@ walk-expression-own-walk-requires : (t : ℕ) → walk-expression-lts.Need-own-w
 ) (walk-expression-at t) walk-expression.Post walk-expression-Inv-loop walk-expression-μ-loop
 walk-expression-own-walk-requires t c κs = tt
 
--- src/expressions.rt:164:29
 walk-expression-enum-known-more-2 : (t : ℕ) → walk-expression-lts.Need-enum-known-more-2 (
   operation-reads.Asked,
   operation-reads.Learnt,
@@ -278,7 +260,6 @@ walk-expression-enum-known-more-2 : (t : ℕ) → walk-expression-lts.Need-enum-
 ) (walk-expression-at t) walk-expression.Post walk-expression-Inv-loop walk-expression-μ-loop
 walk-expression-enum-known-more-2 t c = search needs
 
--- src/expressions.rt:168:17
 walk-expression-enum-told-3 : (t : ℕ) → walk-expression-lts.Need-enum-told-3 (
   operation-reads.Asked,
   operation-reads.Learnt,
@@ -291,7 +272,6 @@ walk-expression-enum-told-3 : (t : ℕ) → walk-expression-lts.Need-enum-told-3
 ) (walk-expression-at t) walk-expression.Post walk-expression-Inv-loop walk-expression-μ-loop
 walk-expression-enum-told-3 t c = search needs
 
--- src/expressions.rt:168:17
 walk-expression-returns-3 : (t : ℕ) → walk-expression-lts.Need-returns-3 (
   operation-reads.Asked,
   operation-reads.Learnt,
@@ -304,7 +284,6 @@ walk-expression-returns-3 : (t : ℕ) → walk-expression-lts.Need-returns-3 (
 ) (walk-expression-at t) walk-expression.Post walk-expression-Inv-loop walk-expression-μ-loop
 walk-expression-returns-3 t c = own-fall _ _ _ _ _ (c .before .before .before .before .before .before .before .before .before .before .before .loop .inv) (c .before .before .before .before .before .before .before .before .before .before .loop-test .taken) _ (c .before .before .before .before .before .before .before .before .before .operation .ensures) _ (c .before .before .before .before .before .before .before .op .given .1) (c .before .before .before .if1 .left) _ (c .before .before .own-walk .ensures) (c .enum-told3 .given .1)
 
--- src/expressions.rt:170:13
 walk-expression-add-references-2 : (t : ℕ) → walk-expression-lts.Need-add-references-2 (
   operation-reads.Asked,
   operation-reads.Learnt,
@@ -317,7 +296,6 @@ walk-expression-add-references-2 : (t : ℕ) → walk-expression-lts.Need-add-re
 ) (walk-expression-at t) walk-expression.Post walk-expression-Inv-loop walk-expression-μ-loop
 walk-expression-add-references-2 t c = let w = walking-own _ _ _ _ _ (c .before .before .before .before .before .before .before .before .before .before .before .before .loop .inv) (c .before .before .before .before .before .before .before .before .before .before .before .loop-test .taken) _ (c .before .before .before .before .before .before .before .before .before .before .operation .ensures) _ (c .before .before .before .before .before .before .before .before .op .given .1) (c .before .before .before .before .if1 .left) _ (c .before .before .before .own-walk .ensures) _ _ _ (c .before .more2 .given .1) refl in omega (arith, w .few, w .inside)
 
--- src/expressions.rt:171:13
 walk-expression-either-requires-2 : (t : ℕ) → walk-expression-lts.Need-either-requires-2 (
   operation-reads.Asked,
   operation-reads.Learnt,
@@ -330,7 +308,6 @@ walk-expression-either-requires-2 : (t : ℕ) → walk-expression-lts.Need-eithe
 ) (walk-expression-at t) walk-expression.Post walk-expression-Inv-loop walk-expression-μ-loop
 walk-expression-either-requires-2 t c κs = tt
 
--- src/expressions.rt:142:5
 walk-expression-loop-less-2 : (t : ℕ) → walk-expression-lts.Need-loop-less-2 (
   operation-reads.Asked,
   operation-reads.Learnt,
@@ -343,7 +320,6 @@ walk-expression-loop-less-2 : (t : ℕ) → walk-expression-lts.Need-loop-less-2
 ) (walk-expression-at t) walk-expression.Post walk-expression-Inv-loop walk-expression-μ-loop
 walk-expression-loop-less-2 t c = let i = within _ _ _ _ _ (c .before .before .before .before .before .before .before .before .before .before .before .before .before .loop .inv) (c .before .before .before .before .before .before .before .before .before .before .before .before .loop-test .taken) _ (c .before .before .before .before .before .before .before .before .before .before .before .operation .ensures) _ (c .before .before .before .before .before .before .before .before .before .op .given .1) in omega (arith, i .0)
 
--- src/expressions.rt:142:5
 walk-expression-loop-again-2 : (t : ℕ) → walk-expression-lts.Need-loop-again-2 (
   operation-reads.Asked,
   operation-reads.Learnt,
@@ -356,7 +332,6 @@ walk-expression-loop-again-2 : (t : ℕ) → walk-expression-lts.Need-loop-again
 ) (walk-expression-at t) walk-expression.Post walk-expression-Inv-loop walk-expression-μ-loop
 walk-expression-loop-again-2 t c = walking-own _ _ _ _ _ (c .before .before .before .before .before .before .before .before .before .before .before .before .before .loop .inv) (c .before .before .before .before .before .before .before .before .before .before .before .before .loop-test .taken) _ (c .before .before .before .before .before .before .before .before .before .before .before .operation .ensures) _ (c .before .before .before .before .before .before .before .before .before .op .given .1) (c .before .before .before .before .before .if1 .left) _ (c .before .before .before .before .own-walk .ensures) _ _ _ (c .before .before .more2 .given .1) (c .either2 .ensures)
 
--- src/expressions.rt:136:1
 walk-expression-returns-4 : (t : ℕ) → walk-expression-lts.Need-returns-4 (
   operation-reads.Asked,
   operation-reads.Learnt,

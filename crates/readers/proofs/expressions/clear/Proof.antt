@@ -4,8 +4,6 @@ use lib.ListN.{length, length-set}
 use Rattle.readers.proofs.Tables.{Clearing, clear-start, clear-more, clear-done}
 use Rattle.readers.proofs.expressions.clear.Statement.{statement}
 use Rattle.readers.proofs.expressions.clear.Tie as tie
-use Rattle.readers.proofs.expressions.clear.Reads as reads
-use Rattle.readers.proofs.expressions.clear.Lts as lts
 
 abbrev Inv-loop : tie.InvT-loop
 Inv-loop table₀ i₀ table i = Clearing table₀ table i
@@ -13,35 +11,27 @@ Inv-loop table₀ i₀ table i = Clearing table₀ table i
 abbrev μ-loop : tie.MeasureT-loop
 μ-loop table₀ i₀ table i = length table - i
 
--- src/expressions.rt:215:5
 loop-holds : tie.Need-loop-holds Inv-loop μ-loop
 loop-holds c = clear-start _
 
--- src/expressions.rt:216:9
 mul-table : tie.Need-mul-table Inv-loop μ-loop
 mul-table c = omega arith
 
--- src/expressions.rt:216:9
 slice-write-table : tie.Need-slice-write-table Inv-loop μ-loop
 slice-write-table c = omega arith
 
--- src/expressions.rt:217:9
 add-i : tie.Need-add-i Inv-loop μ-loop
 add-i c = omega arith
 
--- src/expressions.rt:215:5
 loop-less : tie.Need-loop-less Inv-loop μ-loop
 loop-less c = omega (arith, length-set (c .before .loop .table) (c .before .loop .i) 0)
 
--- src/expressions.rt:215:5
 loop-again : tie.Need-loop-again Inv-loop μ-loop
 loop-again c = clear-more _ _ _ (omega arith) (c .before .loop .inv)
 
--- src/expressions.rt:211:1
 same-length : tie.Need-same-length Inv-loop μ-loop
 same-length c = c .before .loop .inv .size
 
--- src/expressions.rt:211:1
 returns : tie.Need-returns Inv-loop μ-loop
 returns c = clear-done _ _ _ (omega arith) (c .before .loop .inv)
 

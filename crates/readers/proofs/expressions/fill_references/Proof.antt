@@ -5,9 +5,6 @@ use lib.ListN.{length-set}
 use Rattle.readers.proofs.Tables.{Filling, fill-start, fill-never, fill-more, fill-done}
 use Rattle.readers.proofs.expressions.fill_references.Statement.{statement}
 use Rattle.readers.proofs.expressions.fill_references.Tie as tie
-use Rattle.readers.proofs.expressions.fill_references.Reads as reads
-use Rattle.readers.proofs.expressions.fill_references.Lts as lts
-use Rattle.readers.proofs.cursor.Cursor.next_reference.Reads as next-reference-reads
 
 abbrev Inv-loop : tie.InvT-loop
 Inv-loop s e table₀ count at₀ i₀ table at i = Filling e s table₀ count table at i
@@ -15,91 +12,69 @@ Inv-loop s e table₀ count at₀ i₀ table at i = Filling e s table₀ count t
 abbrev μ-loop : tie.MeasureT-loop
 μ-loop s e table₀ count at₀ i₀ table at i = count - i
 
--- src/expressions.rt:263:5
 loop-holds : tie.Need-loop-holds Inv-loop μ-loop
 loop-holds c = fill-start _ _ _ _ (c .before .before .pre)
 
--- src/expressions.rt:264:35
 next-reference-requires : tie.Need-next-reference-requires Inv-loop μ-loop
 next-reference-requires c κs = tt
 
--- src/expressions.rt:264:30
 enum-known-r : tie.Need-enum-known-r Inv-loop μ-loop
 enum-known-r c = search needs
 
--- src/expressions.rt:265:13
 enum-told : tie.Need-enum-told Inv-loop μ-loop
 enum-told c = search needs
 
--- src/expressions.rt:265:13
 same-length : tie.Need-same-length Inv-loop μ-loop
 same-length c = c .before .before .before .before .loop .inv .size
 
--- src/expressions.rt:265:13
 returns : tie.Need-returns Inv-loop μ-loop
 returns c = absurd (fill-never _ _ _ _ _ _ _ (c .before .before .before .before .loop .inv) (c .before .before .before .loop-test .taken) _ (c .before .before .next-reference .ensures) (c .enum-told .given .1))
 
--- src/expressions.rt:269:15
 mul-table : tie.Need-mul-table Inv-loop μ-loop
 mul-table c = omega (arith, c .before .before .before .before .before .before .before .loop .inv .fits)
 
--- src/expressions.rt:269:9
 mul-table-2 : tie.Need-mul-table-2 Inv-loop μ-loop
 mul-table-2 c = omega (arith, c .before .before .before .before .before .before .before .loop .inv .fits)
 
--- src/expressions.rt:269:9
 slice-write-table : tie.Need-slice-write-table Inv-loop μ-loop
 slice-write-table c = omega (arith, c .before .before .before .before .before .before .before .loop .inv .fits)
 
--- src/expressions.rt:270:15
 mul-table-3 : tie.Need-mul-table-3 Inv-loop μ-loop
 mul-table-3 c = omega (arith, c .before .before .before .before .before .before .before .loop .inv .fits)
 
--- src/expressions.rt:270:15
 add-table : tie.Need-add-table Inv-loop μ-loop
 add-table c = omega (arith, c .before .before .before .before .before .before .before .loop .inv .fits)
 
--- src/expressions.rt:270:9
 mul-table-4 : tie.Need-mul-table-4 Inv-loop μ-loop
 mul-table-4 c = omega (arith, c .before .before .before .before .before .before .before .loop .inv .fits)
 
--- src/expressions.rt:270:9
 slice-write-table-2 : tie.Need-slice-write-table-2 Inv-loop μ-loop
 slice-write-table-2 c = simp length-set (omega (arith, c .before .before .before .before .before .before .before .loop .inv .fits))
 
--- src/expressions.rt:271:15
 mul-table-5 : tie.Need-mul-table-5 Inv-loop μ-loop
 mul-table-5 c = omega (arith, c .before .before .before .before .before .before .before .loop .inv .fits)
 
--- src/expressions.rt:271:15
 add-table-2 : tie.Need-add-table-2 Inv-loop μ-loop
 add-table-2 c = omega (arith, c .before .before .before .before .before .before .before .loop .inv .fits)
 
--- src/expressions.rt:271:9
 mul-table-6 : tie.Need-mul-table-6 Inv-loop μ-loop
 mul-table-6 c = omega (arith, c .before .before .before .before .before .before .before .loop .inv .fits)
 
--- src/expressions.rt:271:9
 slice-write-table-3 : tie.Need-slice-write-table-3 Inv-loop μ-loop
 slice-write-table-3 c = simp length-set (omega (arith, c .before .before .before .before .before .before .before .loop .inv .fits))
 
--- src/expressions.rt:273:9
 add-i : tie.Need-add-i Inv-loop μ-loop
 add-i c = omega arith
 
--- src/expressions.rt:263:5
 loop-less : tie.Need-loop-less Inv-loop μ-loop
 loop-less c = omega arith
 
--- src/expressions.rt:263:5
 loop-again : tie.Need-loop-again Inv-loop μ-loop
 loop-again c = fill-more _ _ _ _ _ _ _ (c .before .before .before .before .before .before .before .loop .inv) (c .before .before .before .before .before .before .loop-test .taken) _ _ (c .before .before .before .before .before .next-reference .ensures) (c .before .before .before .r .given .1)
 
--- src/expressions.rt:257:1
 same-length-2 : tie.Need-same-length-2 Inv-loop μ-loop
 same-length-2 c = c .before .loop .inv .size
 
--- src/expressions.rt:257:1
 returns-2 : tie.Need-returns-2 Inv-loop μ-loop
 returns-2 c = fill-done _ _ _ _ _ _ _ (c .before .loop .inv) (c .loop-test .left)
 

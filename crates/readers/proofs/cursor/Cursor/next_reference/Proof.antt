@@ -6,10 +6,6 @@ use Rattle.readers.specs.References.{nextReference}
 use Rattle.readers.proofs.Yields.{onward-end, onward-none, onward-entry, less-entry, less-next, onward-own, onward-pass}
 use Rattle.readers.proofs.cursor.Cursor.next_reference.Statement.{statement}
 use Rattle.readers.proofs.cursor.Cursor.next_reference.Tie as tie
-use Rattle.readers.proofs.cursor.Cursor.next_reference.Reads as reads
-use Rattle.readers.proofs.cursor.Cursor.next_reference.Lts as lts
-use Rattle.readers.proofs.cursor.Cursor.operation.Reads as operation-reads
-use Rattle.readers.proofs.expressions.reference_of.Reads as reference-of-reads
 
 abbrev Inv-loop : tie.InvT-loop
 Inv-loop s e at₀ at = nextReference e s at₀ ≡ nextReference e s at
@@ -17,59 +13,45 @@ Inv-loop s e at₀ at = nextReference e s at₀ ≡ nextReference e s at
 abbrev μ-loop : tie.MeasureT-loop
 μ-loop s e at₀ at = length s - at
 
--- src/expressions.rt:187:9
 loop-holds : tie.Need-loop-holds Inv-loop μ-loop
 loop-holds c = refl
 
--- src/expressions.rt:188:43
 operation-requires : tie.Need-operation-requires Inv-loop μ-loop
 operation-requires c κs = tt
 
--- src/expressions.rt:188:37
 enum-known-op : tie.Need-enum-known-op Inv-loop μ-loop
 enum-known-op c = search needs
 
--- src/expressions.rt:189:17
 enum-told : tie.Need-enum-told Inv-loop μ-loop
 enum-told c = search needs
 
--- src/expressions.rt:189:17
 returns : tie.Need-returns Inv-loop μ-loop
 returns c = onward-none _ _ _ _ (c .before .before .before .before .loop .inv) (c .before .before .before .loop-test .taken) _ (c .before .before .operation .ensures) (c .enum-told .given .1)
 
--- src/expressions.rt:187:9
 loop-less : tie.Need-loop-less Inv-loop μ-loop
 loop-less c = less-entry _ _ _ _ (c .before .before .before .before .before .before .before .before .loop .inv) (c .before .before .before .before .before .before .before .loop-test .taken) _ (c .before .before .before .before .before .before .operation .ensures) _ (c .before .before .before .before .op .given .1)
 
--- src/expressions.rt:187:9
 loop-again : tie.Need-loop-again Inv-loop μ-loop
 loop-again c = onward-entry _ _ _ _ (c .before .before .before .before .before .before .before .before .loop .inv) (c .before .before .before .before .before .before .before .loop-test .taken) _ (c .before .before .before .before .before .before .operation .ensures) _ (c .before .before .before .before .op .given .1) (c .if1 .taken)
 
--- src/expressions.rt:197:23
 reference-of-requires : tie.Need-reference-of-requires Inv-loop μ-loop
 reference-of-requires c κs = tt
 
--- src/expressions.rt:198:38
 enum-known-r : tie.Need-enum-known-r Inv-loop μ-loop
 enum-known-r c = search needs
 
--- src/expressions.rt:199:25
 returns-2 : tie.Need-returns-2 Inv-loop μ-loop
 returns-2 c = onward-own _ _ _ _ (c .before .before .before .before .before .before .before .before .before .before .before .before .loop .inv) (c .before .before .before .before .before .before .before .before .before .before .before .loop-test .taken) _ (c .before .before .before .before .before .before .before .before .before .before .operation .ensures) _ (c .before .before .before .before .before .before .before .before .op .given .1) (c .before .before .before .before .if1 .left) _ (c .before .before .before .reference-of .ensures) _ (c .before .r .given .1)
 
--- src/expressions.rt:202:25
 enum-told-2 : tie.Need-enum-told-2 Inv-loop μ-loop
 enum-told-2 c = search needs
 
--- src/expressions.rt:187:9
 loop-less-2 : tie.Need-loop-less-2 Inv-loop μ-loop
 loop-less-2 c = less-next _ _ _ _ (c .before .before .before .before .before .before .before .before .before .before .before .loop .inv) (c .before .before .before .before .before .before .before .before .before .before .loop-test .taken) _ (c .before .before .before .before .before .before .before .before .before .operation .ensures) _ (c .before .before .before .before .before .before .before .op .given .1)
 
--- src/expressions.rt:187:9
 loop-again-2 : tie.Need-loop-again-2 Inv-loop μ-loop
 loop-again-2 c = onward-pass _ _ _ _ (c .before .before .before .before .before .before .before .before .before .before .before .loop .inv) (c .before .before .before .before .before .before .before .before .before .before .loop-test .taken) _ (c .before .before .before .before .before .before .before .before .before .operation .ensures) _ (c .before .before .before .before .before .before .before .op .given .1) (c .before .before .before .if1 .left) _ (c .before .before .reference-of .ensures) (c .enum-told2 .given .1)
 
--- src/expressions.rt:183:5
 returns-3 : tie.Need-returns-3 Inv-loop μ-loop
 returns-3 c = onward-end _ _ _ _ (c .before .loop .inv) (c .loop-test .left)
 
