@@ -151,7 +151,7 @@ fixed-inside big w s at v c e =
     (λ y. let q : c ≡ cursor (at + w) = cc (y .1) in (ap (λ (d : Cursor). d .at) q, y .0))
     (fixed-answer big w s at)
 
-value-one : (big : Bool) (b : ℕ) (s : List ℕ) → fixedValue big (take 1 (b ∷ s)) ≡ b
+pub value-one : (big : Bool) (b : ℕ) (s : List ℕ) → fixedValue big (take 1 (b ∷ s)) ≡ b
 unfolding fixedValue littleValue ordered
 value-one true b s = omega arith
 value-one false b s = omega arith

@@ -10,3 +10,9 @@ pub mod Cursors
 pub mod Fields
 pub mod Steps
 pub mod References
+pub mod Header
+pub mod Lists
+pub mod Abbreviations
+pub mod Entries
+pub mod Nesting
+pub mod Examples

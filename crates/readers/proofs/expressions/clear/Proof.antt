@@ -1,7 +1,7 @@
 use Prim.Native.Nat.{_-_}
 use native.Mathlib.Omega.{arith}
 use lib.ListN.{length, length-set}
-use Rattle.readers.proofs.Tables.{Clearing, clear-start, clear-more, clear-done}
+use Rattle.readers.proofs.ReferenceTables.{Clearing, clear-start, clear-more, clear-done}
 use Rattle.readers.proofs.expressions.clear.Statement.{statement}
 use Rattle.readers.proofs.expressions.clear.Tie as tie
 

@@ -2,7 +2,7 @@ use Prim.Native.Nat.{_-_}
 use native.Mathlib.Omega.{arith}
 use borrow.Author.Needs.{needs}
 use lib.ListN.{length-set}
-use Rattle.readers.proofs.Tables.{Filling, fill-start, fill-never, fill-more, fill-done}
+use Rattle.readers.proofs.ReferenceTables.{Filling, fill-start, fill-never, fill-more, fill-done}
 use Rattle.readers.proofs.expressions.fill_references.Statement.{statement}
 use Rattle.readers.proofs.expressions.fill_references.Tie as tie
 

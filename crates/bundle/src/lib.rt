@@ -1,0 +1,91 @@
+// A bundle: the sections of one unit in one run of bytes, as the programs read it from standard input.
+ghost use mathlib.Core.Path.{_≡_};
+ghost use Rattle.bundle.specs.Bundle.{bundleOf, frameOf, part};
+use readers::cursor::Cursor;
+use readers::cursor::Encoding;
+use readers::cursor::Number;
+use readers::fields::Field;
+use readers::fields::FieldRead;
+
+// The most bytes that a bundle may have, its first length included.
+pub const MOST: usize = 65536;
+
+// Where each section stands in the bundle.
+pub struct Bundle {
+    pub unit: Field,
+    pub abbreviations: Field,
+    pub locations: Field,
+    pub ranges: Field,
+    pub addresses: Field,
+}
+
+pub enum BundleRead {
+    Read(Bundle),
+    Wrong,
+}
+
+// A section of the bundle: a big-endian length of four bytes, and so many bytes.
+fn section(s: &[u8], at: usize) -> FieldRead
+    ensures { λ r. ⌜ r ≡ part (now (s .entry)) at ⌝ }
+{
+    let e = Encoding {
+        version: 5,
+        offset_size: 4,
+        address_size: 8,
+        big_endian: true,
+    };
+    (Cursor { at }).field(s, 17, e)
+}
+
+// Whether the length of the rest and the version byte are right.
+fn frame(s: &[u8]) -> bool
+    ensures { λ r. ⌜ r ≡ frameOf (now (s .entry)) ⌝ }
+{
+    if s.len() > MOST {
+        return false;
+    }
+    let Number::Value(length, _) = (Cursor { at: 0 }).fixed(s, 4, true) else {
+        return false;
+    };
+    if s.len() < 5 {
+        return false;
+    }
+    if length != ((s.len() - 4) as u64) {
+        return false;
+    }
+    s[4] == 1
+}
+
+// Reads a bundle: the length of the rest, version 1, and the sections, with nothing after them.
+pub fn read_bundle(s: &[u8]) -> BundleRead
+    ensures { λ r. ⌜ r ≡ bundleOf (now (s .entry)) ⌝ }
+{
+    if !frame(s) {
+        return BundleRead::Wrong;
+    }
+    let FieldRead::Read(unit) = section(s, 5) else {
+        return BundleRead::Wrong;
+    };
+    let FieldRead::Read(abbreviations) = section(s, unit.end) else {
+        return BundleRead::Wrong;
+    };
+    let FieldRead::Read(locations) = section(s, abbreviations.end) else {
+        return BundleRead::Wrong;
+    };
+    let FieldRead::Read(ranges) = section(s, locations.end) else {
+        return BundleRead::Wrong;
+    };
+    let FieldRead::Read(addresses) = section(s, ranges.end) else {
+        return BundleRead::Wrong;
+    };
+    if addresses.end != s.len() {
+        return BundleRead::Wrong;
+    }
+    BundleRead::Read(Bundle {
+        unit,
+        abbreviations,
+        locations,
+        ranges,
+        addresses,
+    })
+}

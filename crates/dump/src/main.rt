@@ -1,0 +1,6 @@
+// Prints what a bundle on standard input holds.
+fn main() {
+    let mut input = [0u8; 65537];
+    let n = io::read_full(0, &mut input);
+    dumping::dump(&input[..n]);
+}

@@ -1,0 +1,487 @@
+-- Values of attributes from a place of a slice on: each by its form, those of an entry one after the other, and entries by the steps of their reader.
+use Prim.Native.Nat.{ℕ, suc, _+_, _≤_, _<_}
+use mathlib.Core.Path.{_≡_, refl, ap, ap₂, sym, _∙_, subst}
+use mathlib.Core.Logic.{_⊎_, inl, inr, ⊎-elim}
+use mathlib.Core.Bool.{Bool, true, false, not}
+use mathlib.Core.Option.{Option, none, some}
+use mathlib.Core.List.{List, [], _∷_, _++_, append-nil}
+use native.Mathlib.Omega.{arith}
+use lib.ListN.{length, getD, take, drop, length-append}
+use lib.Seq.{length-take-le, drop-drop}
+use lib.Dec.{T, ltb, eqb}
+use mir.Facts.{yes-ltb, no-ltb, ltb-yes, yes-eqb, no-eqb, eqb-yes}
+use Rattle.readers.specs.Choice.{pick, pick-yes, pick-no, pick-either, _and_, _or_, either, bind, bind-bind, bind-ext, All, all-some, all-bind, all-triv, all-map}
+use Rattle.readers.specs.Numbers.{Groups, uleb}
+use Rattle.readers.specs.Layout.{Read, ReadOf, RunOf, ExpressionReader, Token, forms, Layout, done, fail, field, asBytes, asLeb, copy, asNumber, asForms, before, numberIn, formsIn, tokenIn, readIn, pieceBytes, bytesOf, writeAll, width, LebLaw, uleb-law, FormsLaw, forms-law, ReadLaw, read-law, as-bytes-law}
+use Rattle.readers.specs.Operations.{Codes}
+use Rattle.readers.specs.Forms.{formToken, formTokens, tokenAmong, useOf, valueToken, attributeLayout}
+use Rattle.readers.specs.Cursors.{cursor, asLebNumber, lebAt, asFormNumber, formsAt}
+use Rattle.readers.specs.Fields.{size, fieldOf, asField, tokenAt, fieldAt}
+use Rattle.readers.specs.Scan.{Scanned, push}
+use Rattle.readers.specs.Abbreviations.{specAt, attributesFrom}
+use Rattle.readers.specs.Entries.{attributeOfReads, asAttribute, attributeAt, then, attributesLayout, specsLayout, asPast, valuesAt, foundLayout, entryLayout, entryFound, stepOfReads, asStep, stepAt}
+use Rattle.readers.specs.declared.cursor.Encoding.{Encoding}
+use Rattle.readers.specs.declared.cursor.Cursor.{Cursor}
+use Rattle.readers.specs.declared.cursor.Number.{Number}
+use Rattle.readers.specs.declared.cursor.Number.the-variants.{Value, Unreadable as NoNumber}
+use Rattle.readers.specs.declared.cursor.Moved.{Moved}
+use Rattle.readers.specs.declared.cursor.Moved.the-variants.{To, Unreadable as Nowhere}
+use Rattle.readers.specs.declared.fields.Field.{Field}
+use Rattle.readers.specs.declared.fields.FieldRead.{FieldRead}
+use Rattle.readers.specs.declared.fields.FieldRead.the-variants.{Read as Field′, Unreadable as NoField}
+use Rattle.readers.specs.declared.abbreviations.AttributeSpec.{AttributeSpec}
+use Rattle.readers.specs.declared.abbreviations.SpecStep.the-variants.{Attribute, Last as LastSpec, Unreadable as NoSpec}
+use Rattle.readers.specs.declared.abbreviations.Declaration.{Declaration}
+use Rattle.readers.specs.declared.abbreviations.Found.{Found}
+use Rattle.readers.specs.declared.abbreviations.Found.the-variants.{Declaration as Found′, Nothing}
+use Rattle.readers.specs.declared.attributes.Attribute.{Attribute as Valued}
+use Rattle.readers.specs.declared.attributes.AttributeRead.{AttributeRead}
+use Rattle.readers.specs.declared.attributes.AttributeRead.the-variants.{Read as Attribute′, Unreadable as NoAttribute}
+use Rattle.readers.specs.declared.entries.Step.{Step}
+use Rattle.readers.specs.declared.entries.Step.the-variants.{Entry as Entry′, Terminator, End, Unreadable}
+use Rattle.readers.proofs.Specs.{attributes-more, attributes-last, attributes-bad}
+use Rattle.readers.proofs.Tables.{listed, entry}
+use Rattle.readers.proofs.Tokens.{token-use, token-unknown}
+
+abbrev order : Encoding → Bool
+order e = e .«big_endian»
+
+-- copied bytes are as many as were taken
+copied-size : (big : Bool) (v k n : ℕ) (s : List ℕ) → n ≤ length s → size big (copy v k n s .0) ≡ n
+unfolding size copy bytesOf pieceBytes
+copied-size big v k n s h = ap length (append-nil (take n s)) ∙ length-take-le n s h
+
+-- ---- the tokens of forms
+
+-- every form is below 45 or is 0x1f02
+unfoldable known : List Codes → Bool
+known [] = true
+known (x ∷ xs) = pick (ltb (x .from) 45) (known xs) (pick (eqb (x .from) 0x1f02) (known xs) false)
+
+module _ (f : ℕ) (high : 45 ≤ f) (other : f ≡ 0x1f02 → ⊥) where
+  not-among : (xs : List Codes) → T (known xs) → tokenAmong xs f ≡ 21
+  unfolding tokenAmong known
+  not-among [] h = refl
+  not-among (x ∷ xs) h =
+      ⊎-elim
+      (λ u. pick-no _ _ _ (no-eqb {a = x .from} {b = f} (λ q. absurd (omega (arith, ltb-yes {a = x .from} {b = 45} u))))
+      ∙ not-among xs (subst T (pick-yes _ _ _ u) h))
+      (λ u. ⊎-elim
+      (λ v. pick-no _ _ _ (no-eqb {a = x .from} {b = f} (λ q. other (sym q ∙ eqb-yes {a = x .from} {b = 0x1f02} v)))
+      ∙ not-among xs (subst T (pick-no _ _ _ u ∙ pick-yes _ _ _ v) h))
+      (λ v. absurd (subst T (pick-no _ _ _ u ∙ pick-no _ _ _ v) h))
+      (either (eqb (x .from) 0x1f02)))
+      (either (ltb (x .from) 45))
+
+  pub token-none : 21 ≡ formToken f
+  unfolding formToken formTokens known pick
+  token-none = sym (not-among formTokens tt)
+
+pub token-low : (f : ℕ) → f < 45 → getD (listed formToken 45) f 0 ≡ formToken f
+token-low f h = entry formToken 45 f h
+
+pub token-gnu : (f : ℕ) → f ≡ 0x1f02 → 11 ≡ formToken f
+unfolding formToken formTokens tokenAmong pick
+token-gnu f h = sym (ap formToken h)
+
+-- ---- the value in a form
+
+is-true : (b : Bool) → T b → b ≡ true
+is-true true h = refl
+is-true false h = absurd h
+
+neither : (a b c d : Bool) → (T a → T b → ⊥) → (T c → T d → ⊥) → T (not ((a and b) or (c and d)))
+unfolding _and_ _or_
+neither true true c d h k = absurd (h tt tt)
+neither true false true true h k = absurd (k tt tt)
+neither true false true false h k = tt
+neither true false false d h k = tt
+neither false b true true h k = absurd (k tt tt)
+neither false b true false h k = tt
+neither false b false d h k = tt
+
+one-of : (a b c d : Bool) → (T a × T b) ⊎ (T c × T d) → T ((a and b) or (c and d))
+unfolding _and_ _or_
+one-of true true c d h = tt
+one-of true false true true h = tt
+one-of true false true false h = ⊎-elim (λ u. u .1) (λ u. u .1) h
+one-of true false false d h = ⊎-elim (λ u. u .1) (λ u. u .0) h
+one-of false b true true h = tt
+one-of false b true false h = ⊎-elim (λ u. u .0) (λ u. u .1) h
+one-of false b false d h = ⊎-elim (λ u. u .0) (λ u. u .0) h
+
+module _ (e : Encoding) (s : List ℕ) (at : ℕ) (indirect : Bool) (name form : ℕ) where
+  refused : (T (eqb name 0x01) × T (eqb form 0x18)) ⊎ (T indirect × T (eqb form 0x21)) → NoField ≡ tokenAt e s at (valueToken e indirect name form)
+  unfolding valueToken
+  refused h = sym (ap (tokenAt e s at) (pick-yes _ _ _ (one-of (eqb name 0x01) (eqb form 0x18) indirect (eqb form 0x21) h)) ∙ token-unknown e s at)
+
+  -- a sibling in exprloc
+  pub value-sibling : name ≡ 0x01 → form ≡ 0x18 → NoField ≡ tokenAt e s at (valueToken e indirect name form)
+  value-sibling h k = refused (inl (yes-eqb {a = name} {b = 0x01} h, yes-eqb {a = form} {b = 0x18} k))
+
+  -- implicit_const under indirect
+  pub value-implicit : indirect ≡ true → form ≡ 0x21 → NoField ≡ tokenAt e s at (valueToken e indirect name form)
+  value-implicit h k = refused (inr (subst T (sym h) tt, yes-eqb {a = form} {b = 0x21} k))
+
+  -- any other, whatever it is used as
+  pub value-other : (name ≡ 0x01 → form ≡ 0x18 → ⊥) → (indirect ≡ true → form ≡ 0x21 → ⊥)
+      → tokenAt e s at (valueToken e indirect name form) ≡ fieldAt e s at (formToken form)
+  unfolding valueToken
+  value-other h k =
+      ap (tokenAt e s at)
+      (pick-no _ _ _ (neither (eqb name 0x01) (eqb form 0x18) indirect (eqb form 0x21)
+      (λ u v. h (eqb-yes {a = name} {b = 0x01} u) (eqb-yes {a = form} {b = 0x18} v))
+      (λ u v. k (is-true indirect u) (eqb-yes {a = form} {b = 0x21} v))))
+      ∙ token-use e s at (useOf name form) (formToken form)
+
+-- ---- one attribute
+
+unfoldable pub valued : ℕ → FieldRead → AttributeRead
+valued form (Field′ f) = Attribute′ (record { form = form; field = f })
+valued form NoField = NoAttribute
+
+module _ (e : Encoding) (s : List ℕ) (at name form : ℕ) where
+  only : (o : Option ReadOf) → asAttribute (order e) form at (bind o (λ r. bind (some ([], r .1)) (before (r .0)))) ≡ valued form (asField (order e) at o)
+  unfolding asAttribute attributeOfReads bind before valued asField
+  only none = refl
+  only (some r) = refl
+
+  pub attribute-direct : (form ≡ 0x16 → ⊥) → attributeAt e s at name form ≡ valued form (tokenAt e s at (valueToken e false name form))
+  unfolding attributeAt attributeLayout readIn tokenAt
+  attribute-direct h =
+      ap (λ g. asAttribute (order e) form at (readIn (order e) asBytes g (drop at s))) (pick-no _ _ _ (no-eqb {a = form} {b = 0x16} h))
+      ∙ only (tokenIn (order e) asBytes (valueToken e false name form) (drop at s))
+
+  -- after the form numbers
+  behind : (f : Read) (o : Option ReadOf)
+      → asAttribute (order e) form at (bind (bind o (λ r. bind (some ([], r .1)) (before (r .0)))) (before f))
+      ≡ valued (f .seen) (asField (order e) (at + size (order e) f) o)
+  unfolding asAttribute attributeOfReads bind before valued asField
+  behind f none = refl
+  behind f (some r) = refl
+
+  -- the form that they end in, and its value
+  unfoldable pub behindForms : Number → AttributeRead
+  behindForms (Value found next) = valued found (tokenAt e s (next .at) (valueToken e true name found))
+  behindForms NoNumber = NoAttribute
+
+  chained : (o : Option (ℕ × ℕ)) → All (FormsLaw (drop at s)) o
+      → asAttribute (order e) form at (bind (bind o (asForms (drop at s)))
+      (λ r. bind (readIn (order e) asBytes (field (valueToken e true name (r .0 .seen)) (λ _. done)) (r .1)) (before (r .0))))
+      ≡ behindForms (asFormNumber at o)
+  unfolding bind asAttribute asForms copy asFormNumber behindForms All readIn tokenAt
+  chained none q = refl
+  chained (some r) q =
+      let f : Read = copy (r .1) 0 (r .0) (drop at s) .0 in
+      behind f (tokenIn (order e) asBytes (valueToken e true name (r .1)) (drop (r .0) (drop at s)))
+      ∙ ap₂ (λ (n : ℕ) (l : List ℕ). valued (r .1) (asField (order e) (at + n) (tokenIn (order e) asBytes (valueToken e true name (r .1)) l)))
+      (copied-size (order e) (r .1) 0 (r .0) (drop at s) (q .0)) (drop-drop (r .0) at s)
+
+  pub attribute-indirect : form ≡ 0x16 → attributeAt e s at name form ≡ behindForms (formsAt s at)
+  unfolding attributeAt attributeLayout readIn tokenIn formsAt
+  attribute-indirect h =
+      ap (λ g. asAttribute (order e) form at (readIn (order e) asBytes g (drop at s))) (pick-yes _ _ _ (yes-eqb {a = form} {b = 0x16} h))
+      ∙ chained (formsIn (drop at s)) (forms-law (drop at s))
+
+  -- what the steps of its reader answer
+  module _ (r : FieldRead) where
+    pub direct-none : (form ≡ 0x16 → ⊥) → r ≡ tokenAt e s at (valueToken e false name form) → r ≡ NoField → NoAttribute ≡ attributeAt e s at name form
+    unfolding valued
+    direct-none h p q = ap (valued form) (sym q ∙ p) ∙ sym (attribute-direct h)
+
+    pub direct-read : (f : Field) → (form ≡ 0x16 → ⊥) → r ≡ tokenAt e s at (valueToken e false name form) → r ≡ Field′ f
+        → Attribute′ (record { form = form; field = f }) ≡ attributeAt e s at name form
+    unfolding valued
+    direct-read f h p q = ap (valued form) (sym q ∙ p) ∙ sym (attribute-direct h)
+
+  module _ (n : Number) (h : form ≡ 0x16) (p : n ≡ formsAt s at) where
+    pub forms-none : n ≡ NoNumber → NoAttribute ≡ attributeAt e s at name form
+    unfolding behindForms
+    forms-none q = ap behindForms (sym q ∙ p) ∙ sym (attribute-indirect h)
+
+    module _ (found : ℕ) (next : Cursor) (q : n ≡ Value found next) (r : FieldRead) (p′ : r ≡ tokenAt e s (next .at) (valueToken e true name found)) where
+      pub indirect-none : r ≡ NoField → NoAttribute ≡ attributeAt e s at name form
+      unfolding behindForms valued
+      indirect-none q′ = ap (valued found) (sym q′ ∙ p′) ∙ ap behindForms (sym q ∙ p) ∙ sym (attribute-indirect h)
+
+      pub indirect-read : (f : Field) → r ≡ Field′ f → Attribute′ (record { form = found; field = f }) ≡ attributeAt e s at name form
+      unfolding behindForms valued
+      indirect-read f q′ = ap (valued found) (sym q′ ∙ p′) ∙ ap behindForms (sym q ∙ p) ∙ sym (attribute-indirect h)
+
+-- ---- one layout after another
+
+unfoldable pub joined : List Read → RunOf → Option RunOf
+joined a r = some (a ++ r .0, r .1)
+
+join-none : (o : Option RunOf) → bind o (joined []) ≡ o
+unfolding bind joined
+join-none none = refl
+join-none (some r) = refl
+
+join-before : (o : Option RunOf) (a : List Read) (p : Read) → bind (bind o (joined a)) (before p) ≡ bind o (joined (p ∷ a))
+unfolding bind joined before
+join-before none a p = refl
+join-before (some r) a p = refl
+
+module _ (big : Bool) (ex : ExpressionReader) where
+  pub read-then : (g h : Layout) (s : List ℕ) → readIn big ex (then g h) s ≡ bind (readIn big ex g s) (λ r. bind (readIn big ex h (r .1)) (joined (r .0)))
+  unfolding readIn then bind before
+  read-then done h s = sym (join-none (readIn big ex h s))
+  read-then fail h s = refl
+  read-then (field t k) h s =
+      bind-ext (tokenIn big ex t s) _ _ (λ p.
+      ap (λ o. bind o (before (p .0))) (read-then (k (p .0 .seen)) h (p .1))
+      ∙ bind-bind (readIn big ex (k (p .0 .seen)) (p .1)) _ _
+      ∙ bind-ext (readIn big ex (k (p .0 .seen)) (p .1)) _ _ (λ r. join-before (readIn big ex h (r .1)) (r .0) (p .0))
+      ∙ sym (bind-bind (readIn big ex (k (p .0 .seen)) (p .1)) (before (p .0)) (λ r. bind (readIn big ex h (r .1)) (joined (r .0)))))
+      ∙ sym (bind-bind (tokenIn big ex t s) _ _)
+
+-- ---- the values of an entry, one after the other
+
+-- an attribute that was read, as an attribute: its field ends where it ends
+record Ended (big : Bool) (form at : ℕ) (r : RunOf) : Type 0 where
+  pub value : Valued
+  pub is : attributeOfReads big form at (r .0) ≡ Attribute′ value
+  pub past : value .field .end ≡ at + length (writeAll big (r .0))
+
+record One (r : RunOf) : Type 0 where
+  pub it : Read
+  pub is : r .0 ≡ it ∷ []
+
+module _ (big : Bool) (ex : ExpressionReader) where
+  one-read : (t : Token) (s : List ℕ) → All One (readIn big ex (field t (λ _. done)) s)
+  unfolding readIn bind before
+  one-read t s =
+      all-bind _ One (tokenIn big ex t s) _ (all-triv (tokenIn big ex t s))
+      (λ r e q. all-some One (record { it = r .0; is = refl }))
+
+  end-one : (form at : ℕ) (r : RunOf) → One r → Ended big form at r
+  unfolding attributeOfReads fieldOf size writeAll
+  end-one form at r o = record {
+    value = record { form = form; field = fieldOf big at (o .it) };
+    is = ap (attributeOfReads big form at) (o .is);
+    past =
+        ap (λ (l : List ℕ). at + length l) (sym (append-nil (bytesOf big (o .it .pieces))))
+        ∙ ap (λ (l : List Read). at + length (writeAll big l)) (sym (o .is));
+  }
+
+  end-two : (form at : ℕ) (f : Read) (r : RunOf) → One r → Ended big form at (f ∷ r .0, r .1)
+  unfolding attributeOfReads fieldOf size writeAll
+  end-two form at f r o =
+      let a : List ℕ = bytesOf big (f .pieces) in
+      let b : List ℕ = bytesOf big (o .it .pieces) in
+      record {
+        value = record { form = f .seen; field = fieldOf big (at + size big f) (o .it) };
+        is = ap (λ l. attributeOfReads big form at (f ∷ l)) (o .is);
+        past =
+            (let n : at + length a + length b ≡ at + length (a ++ (b ++ [])) = omega (arith, length-append a (b ++ []), length-append b []) in n)
+            ∙ ap (λ (l : List Read). at + length (a ++ writeAll big l)) (sym (o .is));
+      }
+
+module _ (e : Encoding) (name form at : ℕ) (s : List ℕ) where
+  indirect-ends : All (Ended (order e) form at) (readIn (order e) asBytes (field forms (λ g. field (valueToken e true name g) (λ _. done))) s)
+  unfolding readIn before
+  indirect-ends =
+      all-bind _ _ (tokenIn (order e) asBytes forms s) _ (all-triv (tokenIn (order e) asBytes forms s))
+      (λ r x q. all-bind One _ (readIn (order e) asBytes (field (valueToken e true name (r .0 .seen)) (λ _. done)) (r .1)) _
+      (one-read (order e) asBytes (valueToken e true name (r .0 .seen)) (r .1))
+      (λ v x′ o. all-some (Ended (order e) form at) (end-two (order e) asBytes form at (r .0) v o)))
+
+  attribute-ends : All (Ended (order e) form at) (readIn (order e) asBytes (attributeLayout e name form) s)
+  unfolding attributeLayout
+  attribute-ends =
+      pick-either (λ g. All (Ended (order e) form at) (readIn (order e) asBytes g s)) (eqb form 0x16) _ _
+      (λ _. indirect-ends)
+      (λ _. all-map One _ _ (λ r o. end-one (order e) asBytes form at r o) (one-read (order e) asBytes (valueToken e false name form) s))
+
+length-written : (big : Bool) (a b : List Read) → length (writeAll big (a ++ b)) ≡ length (writeAll big a) + length (writeAll big b)
+unfolding writeAll
+length-written big [] b = omega arith
+length-written big (r ∷ a) b =
+    length-append (bytesOf big (r .pieces)) (writeAll big (a ++ b))
+    ∙ (let f : List ℕ = bytesOf big (r .pieces) in
+    let n : length f + length (writeAll big (a ++ b)) ≡ length (f ++ writeAll big a) + length (writeAll big b) =
+    omega (arith, length-written big a b, length-append f (writeAll big a)) in n)
+
+past-joined : (big : Bool) (at : ℕ) (a : List Read) (o : Option RunOf) → asPast big at (bind o (joined a)) ≡ asPast big (at + length (writeAll big a)) o
+unfolding asPast bind joined
+past-joined big at a none = refl
+past-joined big at a (some r) =
+    let e : at + length (writeAll big (a ++ r .0)) ≡ at + length (writeAll big a) + length (writeAll big (r .0)) = omega (arith, length-written big a (r .0)) in
+    ap (λ n. To (cursor n)) e
+
+-- what follows a value
+unfoldable pub afterValue : AttributeRead → (ℕ → Moved) → Moved
+afterValue (Attribute′ v) k = k (v .field .end)
+afterValue NoAttribute k = Nowhere
+
+bind-nowhere : (o : Option RunOf) → bind o (λ r. bind none (joined (r .0))) ≡ none
+unfolding bind
+bind-nowhere none = refl
+bind-nowhere (some a) = refl
+
+module _ (e : Encoding) (unit : List ℕ) (at : ℕ) (a : AttributeSpec) where
+  abbrev valueLayout : Layout
+  valueLayout = attributeLayout e (a .name) (a .form)
+
+  specs-read : (o : Option (Scanned AttributeSpec ℕ)) (s : List ℕ)
+      → readIn (order e) asBytes (specsLayout e (bind o (push a))) s
+      ≡ bind (readIn (order e) asBytes valueLayout s) (λ r. bind (readIn (order e) asBytes (specsLayout e o) (r .1)) (joined (r .0)))
+  unfolding specsLayout bind push attributesLayout readIn
+  specs-read none s = sym (bind-nowhere (readIn (order e) asBytes valueLayout s))
+  specs-read (some r) s = read-then (order e) asBytes valueLayout (attributesLayout e (r .0)) s
+
+  after-read : (o : Option (Scanned AttributeSpec ℕ)) (q : Option RunOf) → All (Ended (order e) (a .form) at) q
+      → All (ReadLaw (order e) asBytes valueLayout (drop at unit)) q
+      → asPast (order e) at (bind q (λ r. bind (readIn (order e) asBytes (specsLayout e o) (r .1)) (joined (r .0))))
+      ≡ afterValue (asAttribute (order e) (a .form) at q) (λ end. asPast (order e) end (readIn (order e) asBytes (specsLayout e o) (drop end unit)))
+  unfolding All bind asPast afterValue asAttribute
+  after-read o none h l = refl
+  after-read o (some r) h l =
+      let n : ℕ = length (writeAll (order e) (r .0)) in
+      past-joined (order e) at (r .0) (readIn (order e) asBytes (specsLayout e o) (r .1))
+      ∙ ap (λ x. asPast (order e) (at + n) (readIn (order e) asBytes (specsLayout e o) x)) (l .0 .1 ∙ drop-drop n at unit)
+      ∙ ap (λ x. asPast (order e) x (readIn (order e) asBytes (specsLayout e o) (drop x unit))) (sym (h .past))
+      ∙ sym (ap (λ v. afterValue v (λ end. asPast (order e) end (readIn (order e) asBytes (specsLayout e o) (drop end unit)))) (h .is))
+
+  -- one value, and then the others
+  pub values-after : (abbreviations : List ℕ) (p n : ℕ) → attributesFrom abbreviations p ≡ bind (attributesFrom abbreviations n) (push a)
+      → valuesAt e abbreviations p unit at ≡ afterValue (attributeAt e unit at (a .name) (a .form)) (valuesAt e abbreviations n unit)
+  unfolding valuesAt attributeAt
+  values-after abbreviations p n h =
+      ap (λ o. asPast (order e) at (readIn (order e) asBytes (specsLayout e o) (drop at unit))) h
+      ∙ ap (asPast (order e) at) (specs-read (attributesFrom abbreviations n) (drop at unit))
+      ∙ after-read (attributesFrom abbreviations n) (readIn (order e) asBytes valueLayout (drop at unit))
+      (attribute-ends e (a .name) (a .form) at (drop at unit))
+      (read-law (order e) asBytes (as-bytes-law (order e)) valueLayout (drop at unit))
+
+module _ (e : Encoding) (abbreviations : List ℕ) (p : ℕ) (unit : List ℕ) (at : ℕ) where
+  module _ (a : AttributeSpec) (h : specAt abbreviations p ≡ Attribute a) (r : AttributeRead) (q : r ≡ attributeAt e unit at (a .name) (a .form)) where
+    one-value : valuesAt e abbreviations p unit at ≡ afterValue r (valuesAt e abbreviations (a .next .at) unit)
+    one-value =
+        values-after e unit at a abbreviations p (a .next .at) (attributes-more abbreviations p a h)
+        ∙ ap (λ v. afterValue v (valuesAt e abbreviations (a .next .at) unit)) (sym q)
+
+    pub values-step : (v : Valued) → r ≡ Attribute′ v → valuesAt e abbreviations p unit at ≡ valuesAt e abbreviations (a .next .at) unit (v .field .end)
+    unfolding afterValue
+    values-step v k = one-value ∙ ap (λ v. afterValue v (valuesAt e abbreviations (a .next .at) unit)) k
+
+    pub values-none : r ≡ NoAttribute → Nowhere ≡ valuesAt e abbreviations p unit at
+    unfolding afterValue
+    values-none k = sym (one-value ∙ ap (λ v. afterValue v (valuesAt e abbreviations (a .next .at) unit)) k)
+
+  pub values-last : (c : Cursor) → specAt abbreviations p ≡ LastSpec c → To (cursor at) ≡ valuesAt e abbreviations p unit at
+  unfolding valuesAt specsLayout attributesLayout readIn asPast writeAll
+  values-last c h =
+      ap (λ (n : ℕ). To (cursor n)) (let z : at ≡ at + 0 = omega arith in z)
+      ∙ sym (ap (λ o. asPast (order e) at (readIn (order e) asBytes (specsLayout e o) (drop at unit))) (attributes-last abbreviations p c h))
+
+  pub values-bad : specAt abbreviations p ≡ NoSpec → Nowhere ≡ valuesAt e abbreviations p unit at
+  unfolding valuesAt specsLayout readIn asPast
+  values-bad h = sym (ap (λ o. asPast (order e) at (readIn (order e) asBytes (specsLayout e o) (drop at unit))) (attributes-bad abbreviations p h))
+
+-- ---- entries and terminators
+
+module _ (e : Encoding) (abbreviations : List ℕ) (look : ℕ → Found) (unit : List ℕ) (at : ℕ) where
+  unfoldable pub entryStep : Cursor → Declaration → Moved → Step
+  entryStep values d (To next) = Entry′ (record { offset = record { 0 = at }; declaration = d; values = values; next = next })
+  entryStep values d Nowhere = Unreadable
+
+  unfoldable pub foundStep : Cursor → Found → Step
+  foundStep values (Found′ d) = entryStep values d (valuesAt e abbreviations (d .attributes .at) unit (values .at))
+  foundStep values Nothing = Unreadable
+
+  unfoldable pub codeStep : Number → Step
+  codeStep (Value code values) = pick (eqb code 0) (Terminator values) (foundStep values (look code))
+  codeStep NoNumber = Unreadable
+
+  -- what follows the code
+  abbrev codeLayout : ℕ → Layout
+  codeLayout code = pick (eqb code 0) done (foundLayout e abbreviations look (look code))
+
+  abbrev stepOf : Read → Option RunOf → Step
+  stepOf c q = asStep e abbreviations look at (bind q (before c))
+
+  module _ (c : Read) (n : ℕ) (w : size (order e) c ≡ n) (u : T (not (eqb (c .seen) 0))) where
+    entry-read : (d : Declaration) → look (c .seen) ≡ Found′ d → (q : Option RunOf)
+        → stepOf c q ≡ entryStep (cursor (at + n)) d (asPast (order e) (at + n) q)
+    unfolding asStep bind before stepOfReads asPast entryStep entryFound
+    entry-read d k none = refl
+    entry-read d k (some r) =
+        pick-no _ _ _ u
+        ∙ ap (entryFound e abbreviations look at (at + size (order e) c) (at + size (order e) c + length (writeAll (order e) (r .0)))) k
+        ∙ ap (λ m. entryFound e abbreviations look at (at + m) (at + m + length (writeAll (order e) (r .0))) (Found′ d)) w
+
+    found-read : (f : Found) → look (c .seen) ≡ f
+        → stepOf c (readIn (order e) asBytes (foundLayout e abbreviations look f) (drop (at + n) unit)) ≡ foundStep (cursor (at + n)) f
+    unfolding foundLayout foundStep readIn bind asStep valuesAt
+    found-read (Found′ d) k = entry-read d k (readIn (order e) asBytes (specsLayout e (attributesFrom abbreviations (d .attributes .at))) (drop (at + n) unit))
+    found-read Nothing k = refl
+
+  code-read : (c : Read) (n : ℕ) → size (order e) c ≡ n
+      → stepOf c (readIn (order e) asBytes (codeLayout (c .seen)) (drop (at + n) unit))
+      ≡ pick (eqb (c .seen) 0) (Terminator (cursor (at + n))) (foundStep (cursor (at + n)) (look (c .seen)))
+  unfolding readIn bind before asStep stepOfReads
+  code-read c n w =
+      ⊎-elim
+      (λ u. ap (λ g. stepOf c (readIn (order e) asBytes g (drop (at + n) unit))) (pick-yes _ _ _ u)
+      ∙ pick-yes _ _ _ u
+      ∙ ap (λ m. Terminator (cursor (at + m))) w
+      ∙ sym (pick-yes _ _ _ u))
+      (λ u. ap (λ g. stepOf c (readIn (order e) asBytes g (drop (at + n) unit))) (pick-no _ _ _ u)
+      ∙ found-read c n w u (look (c .seen)) refl
+      ∙ sym (pick-no _ _ _ u))
+      (either (eqb (c .seen) 0))
+
+  entry-by : (o : Option Groups) → All (LebLaw uleb (drop at unit)) o
+      → asStep e abbreviations look at (bind (bind (bind o asLeb) (asNumber (drop at unit)))
+      (λ r. bind (readIn (order e) asBytes (codeLayout (r .0 .seen)) (r .1)) (before (r .0))))
+      ≡ codeStep (asLebNumber at o)
+  unfolding bind asLeb asNumber width copy asStep asLebNumber codeStep All
+  entry-by none q = refl
+  entry-by (some t) q =
+      let c : Read = copy (t .1) 0 (suc (t .0)) (drop at unit) .0 in
+      ap (λ l. stepOf c (readIn (order e) asBytes (codeLayout (t .1)) l)) (drop-drop (suc (t .0)) at unit)
+      ∙ code-read c (suc (t .0)) (copied-size (order e) (t .1) 0 (suc (t .0)) (drop at unit) (q .0 .0))
+
+  pub step-by : at < length unit → stepAt e abbreviations look unit at ≡ codeStep (lebAt uleb unit at)
+  unfolding stepAt entryLayout readIn tokenIn numberIn lebAt
+  step-by h = pick-yes _ _ _ (yes-ltb {a = at} {b = length unit} h) ∙ entry-by (uleb (drop at unit)) (uleb-law (drop at unit))
+
+  -- what the steps of its reader answer
+  pub step-end : length unit ≤ at → End ≡ stepAt e abbreviations look unit at
+  unfolding stepAt
+  step-end h = sym (pick-no _ _ _ (no-ltb {a = at} {b = length unit} h))
+
+  module _ (h : at < length unit) (n : Number) (p : n ≡ lebAt uleb unit at) where
+    pub step-none : n ≡ NoNumber → Unreadable ≡ stepAt e abbreviations look unit at
+    unfolding codeStep
+    step-none q = sym (step-by h ∙ ap codeStep (sym p ∙ q))
+
+    module _ (code : ℕ) (values : Cursor) (q : n ≡ Value code values) where
+      pub step-terminator : code ≡ 0 → Terminator values ≡ stepAt e abbreviations look unit at
+      unfolding codeStep
+      step-terminator z = sym (step-by h ∙ ap codeStep (sym p ∙ q) ∙ pick-yes _ _ _ (yes-eqb {a = code} {b = 0} z))
+
+      module _ (z : code ≡ 0 → ⊥) (f : Found) (p′ : f ≡ look code) where
+        step-code : foundStep values f ≡ stepAt e abbreviations look unit at
+        unfolding codeStep
+        step-code = ap (foundStep values) p′ ∙ sym (step-by h ∙ ap codeStep (sym p ∙ q) ∙ pick-no _ _ _ (no-eqb {a = code} {b = 0} z))
+
+        pub step-unknown : f ≡ Nothing → Unreadable ≡ stepAt e abbreviations look unit at
+        unfolding foundStep
+        step-unknown q′ = sym (ap (foundStep values) q′) ∙ step-code
+
+        module _ (d : Declaration) (q′ : f ≡ Found′ d) (m : Moved) (p″ : m ≡ valuesAt e abbreviations (d .attributes .at) unit (values .at)) where
+          step-found : entryStep values d m ≡ stepAt e abbreviations look unit at
+          unfolding foundStep
+          step-found = ap (entryStep values d) p″ ∙ sym (ap (foundStep values) q′) ∙ step-code
+
+          pub step-unread : m ≡ Nowhere → Unreadable ≡ stepAt e abbreviations look unit at
+          unfolding entryStep
+          step-unread k = sym (ap (entryStep values d) k) ∙ step-found
+
+          pub step-entry : (next : Cursor) → m ≡ To next
+              → Entry′ (record { offset = record { 0 = at }; declaration = d; values = values; next = next }) ≡ stepAt e abbreviations look unit at
+          unfolding entryStep
+          step-entry next k = sym (ap (entryStep values d) k) ∙ step-found

@@ -1,0 +1,153 @@
+// The entries and terminators of a unit, one after the other (DWARF 5, 7.5.2 and 2.3), and how they nest.
+ghost use mathlib.Core.Path.{_≡_};
+ghost use Rattle.readers.specs.Entries.{valuesAt, stepAt};
+ghost use Rattle.readers.specs.Abbreviations.{findAt};
+ghost use Rattle.readers.specs.Nesting.{opened, closed};
+use crate::abbreviations::Declaration;
+use crate::abbreviations::Found;
+use crate::abbreviations::SpecStep;
+use crate::abbreviations::find_declaration;
+use crate::attributes::AttributeRead;
+use crate::cursor::Cursor;
+use crate::cursor::Encoding;
+use crate::cursor::Moved;
+use crate::cursor::Number;
+use crate::offsets::EntryIndex;
+use crate::offsets::UnitOffset;
+
+// An entry: where it starts, its declaration, where the values of its attributes start, and the cursor past it.
+pub struct Entry {
+    pub offset: UnitOffset,
+    pub declaration: Declaration,
+    pub values: Cursor,
+    pub next: Cursor,
+}
+
+// One step through a unit. A terminator closes a list of children, or none.
+pub enum Step {
+    Entry(Entry),
+    Terminator(Cursor),
+    End,
+    Unreadable,
+}
+
+// How deep the next entry or terminator stands, and the entry whose children are open; 0xffffffff where there is none.
+pub struct Nesting {
+    pub depth: u64,
+    pub parent: EntryIndex,
+}
+
+impl Cursor {
+    // Past the values of the attributes whose specifications start at `specs`.
+    pub fn past_values(self, unit: &[u8], abbreviations: &[u8], specs: Cursor, e: Encoding) -> Moved
+        ensures { λ r. ⌜ r ≡ valuesAt e (now (abbreviations .entry)) (specs .at) (now (unit .entry)) (self .at) ⌝ }
+    {
+        let mut at = self.at;
+        let mut p = specs.at;
+        loop {
+            match (Cursor { at: p }).attribute_spec(abbreviations) {
+                SpecStep::Attribute(a) => {
+                    let next = a.next;
+                    let AttributeRead::Read(v) = (Cursor { at }).attribute(unit, a.name, a.form, e)
+                    else {
+                        return Moved::Unreadable;
+                    };
+                    let field = v.field;
+                    at = field.end;
+                    p = next.at;
+                }
+                SpecStep::Last(_) => {
+                    return Moved::To(Cursor { at });
+                }
+                SpecStep::Unreadable => {
+                    return Moved::Unreadable;
+                }
+            }
+        }
+    }
+
+    // The entry or terminator at a place of a unit, by the abbreviations from an offset on and their index.
+    pub fn step(
+        self,
+        unit: &[u8],
+        abbreviations: &[u8],
+        from: u64,
+        index: &[u64],
+        e: Encoding,
+    ) -> Step
+        ensures { λ r. ⌜ r ≡ stepAt e (now (abbreviations .entry)) (findAt (now (abbreviations .entry)) from (now (index .entry))) (now (unit .entry)) (self .at) ⌝ }
+    {
+        let at = self.at;
+        if at >= unit.len() {
+            return Step::End;
+        }
+        let Number::Value(code, values) = self.uleb(unit) else {
+            return Step::Unreadable;
+        };
+        if code == 0 {
+            return Step::Terminator(values);
+        }
+        let Found::Declaration(declaration) = find_declaration(abbreviations, from, index, code)
+        else {
+            return Step::Unreadable;
+        };
+        let specs = declaration.attributes;
+        let Moved::To(next) = values.past_values(unit, abbreviations, specs, e) else {
+            return Step::Unreadable;
+        };
+        Step::Entry(Entry {
+            offset: UnitOffset(at as u64),
+            declaration,
+            values,
+            next,
+        })
+    }
+}
+
+impl Nesting {
+    // Outside every entry.
+    pub fn outside() -> Nesting
+        ensures { λ r. ⌜ (r .depth ≡ 0) × (r .parent .0 ≡ 4294967295) ⌝ }
+    {
+        Nesting {
+            depth: 0,
+            parent: EntryIndex(0xffff_ffff),
+        }
+    }
+
+    // After an entry: its children are open, if it has any.
+    pub fn after_entry(self, entry: EntryIndex, children: bool) -> Nesting
+        ensures { λ r. ⌜ r ≡ opened children (entry .0) self ⌝ }
+    {
+        if children {
+            if self.depth < 0xffff_ffff_ffff_ffff {
+                return Nesting {
+                    depth: self.depth + 1,
+                    parent: entry,
+                };
+            }
+        }
+        self
+    }
+
+    // After a terminator: the open entry's own parent is open again. One that closes nothing changes nothing.
+    pub fn after_terminator(self, parents: &[u32]) -> Nesting
+        ensures { λ r. ⌜ r ≡ closed (now (parents .entry)) self ⌝ }
+    {
+        if self.depth == 0 {
+            return self;
+        }
+        let parent = self.parent;
+        let i = parent.0 as usize;
+        if i < parents.len() {
+            return Nesting {
+                depth: self.depth - 1,
+                parent: EntryIndex(parents[i]),
+            };
+        }
+        Nesting {
+            depth: self.depth - 1,
+            parent: EntryIndex(0xffff_ffff),
+        }
+    }
+}

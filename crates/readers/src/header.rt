@@ -1,0 +1,115 @@
+// The header of a unit (DWARF 5, 7.5.1), within the domain: version 5, 32-bit format, little-endian.
+ghost use mathlib.Core.Path.{_≡_};
+ghost use lib.ListN.{take};
+ghost use Rattle.readers.specs.Header.{headerOf, headerFields};
+use crate::cursor::Cursor;
+use crate::cursor::Encoding;
+use crate::cursor::Number;
+use crate::cursor::left;
+use crate::offsets::UnitOffset;
+
+// A unit's header: what its fields are read by, its type, where its abbreviations start in their section, where its first entry starts, and where the
+// unit ends in the section.
+pub struct UnitHeader {
+    pub encoding: Encoding,
+    pub unit_type: u8,
+    pub abbreviations: u64,
+    pub first: UnitOffset,
+    pub end: usize,
+}
+
+// The header of the first unit of a section, or why it is refused: 1 where it is cut short, 2 for a value outside the domain.
+pub enum HeaderRead {
+    Unit(UnitHeader),
+    Empty,
+    Refused(u8),
+}
+
+// The fields after the length, of a unit that ends where its length says.
+fn header_fields(unit: &[u8]) -> HeaderRead
+    ensures { λ r. ⌜ r ≡ headerFields (now (unit .entry)) ⌝ }
+{
+    let Number::Value(version, _) = (Cursor { at: 4 }).fixed(unit, 2, false) else {
+        return HeaderRead::Refused(1);
+    };
+    if version != 5 {
+        return HeaderRead::Refused(2);
+    }
+    if unit.len() <= 6 {
+        return HeaderRead::Refused(1);
+    }
+    let unit_type = unit[6];
+    if unit_type != 1 {
+        if unit_type != 5 {
+            return HeaderRead::Refused(2);
+        }
+    }
+    if unit.len() <= 7 {
+        return HeaderRead::Refused(1);
+    }
+    let address_size = unit[7];
+    if address_size != 4 {
+        if address_size != 8 {
+            return HeaderRead::Refused(2);
+        }
+    }
+    let Number::Value(abbreviations, _) = (Cursor { at: 8 }).fixed(unit, 4, false) else {
+        return HeaderRead::Refused(1);
+    };
+    let encoding = Encoding {
+        version: 5,
+        offset_size: 4,
+        address_size,
+        big_endian: false,
+    };
+    if unit_type == 1 {
+        return HeaderRead::Unit(UnitHeader {
+            encoding,
+            unit_type,
+            abbreviations,
+            first: UnitOffset(12),
+            end: unit.len(),
+        });
+    }
+    if unit.len() < 20 {
+        return HeaderRead::Refused(1);
+    }
+    HeaderRead::Unit(UnitHeader {
+        encoding,
+        unit_type,
+        abbreviations,
+        first: UnitOffset(20),
+        end: unit.len(),
+    })
+}
+
+// The header of the first unit of a section.
+pub fn unit_header(section: &[u8]) -> HeaderRead
+    ensures { λ r. ⌜ r ≡ headerOf (now (section .entry)) ⌝ }
+{
+    if section.len() == 0 {
+        return HeaderRead::Empty;
+    }
+    let Number::Value(length, _) = (Cursor { at: 0 }).fixed(section, 4, false) else {
+        return HeaderRead::Refused(1);
+    };
+    if length >= 0xffff_fff0 {
+        return HeaderRead::Refused(2);
+    }
+    if length > (left(section, 4) as u64) {
+        return HeaderRead::Refused(1);
+    }
+    let end = 4 + (length as usize);
+    header_fields(&section[..end])
+}
+
+// The part of a section that a unit is: nothing of the unit is read past it.
+pub fn unit_part<'a>(section: &'a [u8], h: UnitHeader) -> &'a [u8]
+    ensures { λ r. ⌜ now r ≡ take (h .end) (now (section .entry)) ⌝ }
+{
+    let end = h.end;
+    if end <= section.len() {
+        return &section[..end];
+    }
+    section
+}
