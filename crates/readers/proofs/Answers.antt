@@ -97,7 +97,8 @@ module _ (a : ℕ) where
 
             pub accept : (l : List ℕ) → l ≡ numbersOf (flatFrom (expressionEncoding a) s 0) ++ zeros (length t - 3 * n) → Answers (Count n) l
             unfolding referencesTable answerTable
-            accept l f =
-                (counts,
-                f ∙ ap₂ (λ rs m. numbersOf rs ++ zeros (m - 3 * n)) (flat-is .0) same
-                ∙ ap (λ r. answerTable numbers r (referencesIn (expressionEncoding a) s)) counts)
+            accept l f = (
+              counts,
+              f ∙ ap₂ (λ rs m. numbersOf rs ++ zeros (m - 3 * n)) (flat-is .0) same
+                  ∙ ap (λ r. answerTable numbers r (referencesIn (expressionEncoding a) s)) counts,
+            )

@@ -170,9 +170,11 @@ module _ (e : Encoding) where
   code-law s =
       all-bind (λ t. (t .0 ≡ infixed 1) × (1 ≤ length s)) _ (check (leb 1 8) (check (leb 1 (length s)) (some (infixed 1, fixedValue (big e) (take 1 s), drop 1 s)))) _
       (all-check _ _ _ (λ u. all-check _ _ _ (λ v. all-some (λ t. (t .0 ≡ infixed 1) × (1 ≤ length s)) (refl, leb-yes v))))
-      (λ t q u. all-some (λ r. (1 ≤ length s) × (r .0 .pieces ≡ copied (take 1 s) ∷ []) × (size (big e) (r .0) ≡ 1))
-      (u .1, ap (λ w. copied (take (width w) s) ∷ []) (u .0),
-      ap (λ w. length (take (width w) s ++ [])) (u .0) ∙ (let h : 1 ≤ length s = u .1 in omega (arith, length-append (take 1 s) [], length-take-le 1 s h))))
+      (λ t q u. all-some (λ r. (1 ≤ length s) × (r .0 .pieces ≡ copied (take 1 s) ∷ []) × (size (big e) (r .0) ≡ 1)) (
+        u .1,
+        ap (λ w. copied (take (width w) s) ∷ []) (u .0),
+        ap (λ w. length (take (width w) s ++ [])) (u .0) ∙ (let h : 1 ≤ length s = u .1 in omega (arith, length-append (take 1 s) [], length-take-le 1 s h)),
+      ))
 
   module _ (x : List ℕ) (at : ℕ) (op : Operation) (h : Held e x at op) where
     abbrev pub span : ℕ

@@ -182,7 +182,7 @@ module _ (e : Encoding) where
       (let ls : List Piece = lead e x 0 op h t in
       let one : length (namesIn big 0 ((ls ++ ps) ++ qs)) ≡ length (namesIn big 0 (ls ++ ps)) + length (namesIn big 0 qs) = ap length (names-append big 0 (ls ++ ps) qs) ∙ length-append (namesIn big 0 (ls ++ ps)) _ ∙ ap (λ n. length (namesIn big 0 (ls ++ ps)) + n) (same-count big _ 0 qs) in
       let two : length (namesIn big 0 (ls ++ ps)) ≡ length (namesIn big 0 ps) = ap length (names-append big 0 ls ps ∙ ap (λ l. l ++ namesIn big (0 + length (bytesOf big ls)) ps) (lead-names e x 0 op h t 0)) ∙ same-count big _ 0 ps in
-      omega (arith, one, two, inner-size e x 0 op h t, u, v)))))) 
+      omega (arith, one, two, inner-size e x 0 op h t, u, v))))))
       (λ t. subst (All (Few x)) (sym (deep-plain e x 0 op h t))
       (all-bind (Few (h .rest)) _ _ _ (ih (h .rest) (omega arith))
       (λ qs b v. all-some (Few x)
