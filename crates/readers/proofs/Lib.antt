@@ -9,3 +9,11 @@ pub mod Specs
 pub mod Declarations
 pub mod Values
 pub mod Nesting
+pub mod OperationReads
+pub mod OperationPieces
+pub mod Deep
+pub mod Walks
+pub mod Yields
+pub mod OwnReferences
+pub mod ReferenceTables
+pub mod Answers

@@ -1,5 +1,6 @@
 -- The references of an expression (document 01, "References" and "references of an expression").
-use Prim.Native.Nat.{ℕ, _+_, _*_, _-_, _/_}
+use mathlib.Core.Path.{_≡_}
+use Prim.Native.Nat.{ℕ, _+_, _*_, _-_, _/_, _≤_}
 use mathlib.Core.Bool.{Bool, true, false}
 use mathlib.Core.List.{List, [], _∷_, _++_}
 use mathlib.Core.Option.{Option, none, some}
@@ -109,6 +110,30 @@ yielded (some r) = r .1
 unfoldable pub nextReference : Encoding → List ℕ → ℕ → Yield
 nextReference e s at = yielded (scan (length s) (walkTurn e s) at)
 
+-- ---- all of them: at each operation its own references, going on inside an entry value
+
+unfoldable pub namesOf : Yield → List Named
+namesOf (Yielded r) = (r .place, r .target .0, r .width) ∷ []
+namesOf End = []
+
+unfoldable pub flatOperation : OperationRead → Turn (List Named) (Unit {0})
+flatOperation (Operation′ op) = pick (eqb (op .row) 19) (more [] (op .first .start)) (more (namesOf (referenceOf op)) (op .next .at))
+flatOperation NoOperation = stop tt
+
+unfoldable pub flatTurn : Encoding → List ℕ → ℕ → Turn (List Named) (Unit {0})
+flatTurn e s at = pick (ltb at (length s)) (flatOperation (operationAt e s at)) (stop tt)
+
+unfoldable pub flat : List (List Named) → List Named
+flat [] = []
+flat (l ∷ ls) = l ++ flat ls
+
+unfoldable pub flattened : Option (Scanned (List Named) (Unit {0})) → List Named
+flattened none = []
+flattened (some r) = flat (r .0)
+
+unfoldable pub flatFrom : Encoding → List ℕ → ℕ → List Named
+flatFrom e s at = flattened (scan (length s) (flatTurn e s) at)
+
 -- ---- the public call
 
 unfoldable pub expressionEncoding : ℕ → Encoding
@@ -129,6 +154,12 @@ zeros n = replicate n 0
 unfoldable pub numbersOf : List Named → List ℕ
 numbersOf [] = []
 numbersOf (r ∷ rs) = r .0 ∷ r .1 ∷ r .2 ∷ numbersOf rs
+
+-- a cleared table with room for the references, of which there are n
+pub record Room (rs : List Named) (table : List ℕ) (n : ℕ) : Type 0 where
+  pub count : length rs ≡ n
+  pub fits : 3 * n ≤ length table
+  pub cleared : table ≡ zeros (length table)
 
 -- the references of a readable expression
 unfoldable pub namesOr : Bool → Option (List Piece) → List Named

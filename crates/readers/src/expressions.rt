@@ -1,8 +1,10 @@
 // Expressions: whether they can be read, and the entries that they name.
 ghost use mathlib.Core.Path.{_≡_};
-ghost use Prim.Native.Nat.{_-_};
+ghost use mathlib.Core.List.{_++_};
+ghost use Prim.Native.Nat.{_*_, _-_};
 ghost use lib.ListN.{length};
-ghost use Rattle.readers.specs.References.{walkOf, ownWalk, named, namedType, referenceOf, nextReference, referencesAnswer, referencesTable, zeros};
+ghost use Rattle.readers.specs.Choice.{_or_};
+ghost use Rattle.readers.specs.References.{walkOf, ownWalk, named, namedType, referenceOf, nextReference, flatFrom, referencesAnswer, referencesTable, zeros, numbersOf, Room};
 use crate::cursor::Cursor;
 use crate::cursor::Encoding;
 use crate::fields::Field;
@@ -124,6 +126,12 @@ fn own_walk(op: Operation) -> Walk
     }
 }
 
+fn either(a: bool, b: bool) -> bool
+    ensures { λ r. ⌜ r ≡ (a or b) ⌝ }
+{
+    if a { true } else { b }
+}
+
 // Walks an expression to its end. An entry value is walked by the same routine, on the part that it holds.
 pub fn walk_expression(s: &[u8], e: Encoding) -> Walk
     ensures { λ r. ⌜ r ≡ walkOf e (now (s .entry)) ⌝ }
@@ -149,7 +157,8 @@ pub fn walk_expression(s: &[u8], e: Encoding) -> Walk
                 return Walk::Unreadable;
             };
             references += more;
-            absolute = absolute || named;
+            absolute = either(absolute, named);
+            at = next.at;
         } else {
             let Walk::Walked {
                 references: more,
@@ -159,9 +168,9 @@ pub fn walk_expression(s: &[u8], e: Encoding) -> Walk
                 return Walk::Unreadable;
             };
             references += more;
-            absolute = absolute || named;
+            absolute = either(absolute, named);
+            at = next.at;
         }
-        at = next.at;
     }
     Walk::Walked {
         references,
@@ -244,22 +253,23 @@ pub fn references_of_expression(s: &[u8], address_size: u8, table: &mut [u64]) -
     References::Count(references)
 }
 
-// Writes the first `count` references into a table that has room for them.
-fn fill_references(s: &[u8], e: Encoding, table: &mut [u64], count: usize) {
-    let mut c = Cursor { at: 0 };
+// Writes the references into a cleared table that has room for them.
+fn fill_references(s: &[u8], e: Encoding, table: &mut [u64], count: usize)
+    requires { ⌜ Room (flatFrom e (now s) 0) (now table) count ⌝ }
+    ensures { λ _. ⌜ now (table .exit) ≡ numbersOf (flatFrom e (now (s .entry)) 0) ++ zeros (length (now (table .entry)) - 3 * count) ⌝ }
+{
+    let mut at: usize = 0;
     let mut i: usize = 0;
     while i < count {
-        let Yield::Reference(r) = c.next_reference(s, e) else {
+        let Yield::Reference(r) = (Cursor { at }).next_reference(s, e) else {
             return;
         };
         let target = r.target;
-        if table.len() < 3 * i + 3 {
-            return;
-        }
+        let next = r.next;
         table[3 * i] = r.place as u64;
         table[3 * i + 1] = target.0;
         table[3 * i + 2] = r.width as u64;
-        c = r.next;
+        at = next.at;
         i += 1;
     }
 }

@@ -1,0 +1,239 @@
+-- The pieces of an operation that was read: the references and section offsets that they hold are those that the operation names by its row.
+use mathlib.Core.Path.{_≡_, refl, ap, ap₂, sym, _∙_, subst}
+use Prim.Native.Nat.{ℕ, zero, suc, _+_, _-_, _≤_, _<_}
+use mathlib.Core.Bool.{Bool, true, false, not}
+use mathlib.Core.Logic.{⊎-elim, _≢_}
+use mathlib.Core.Option.{Option, none, some}
+use mathlib.Core.List.{List, [], _∷_, _++_, append-assoc, append-nil}
+use native.Mathlib.Omega.{arith}
+use lib.ListN.{length, take, drop, getD, length-append}
+use lib.Dec.{T, leb, ltb, eqb}
+use mir.Facts.{ltb-yes, eqb-yes, eqb-no}
+use Rattle.readers.specs.Choice.{pick, pick-either, either, check, bind, _and_, _or_, All, all-some, all-none, all-of, all-check, all-bind, all-triv}
+use Rattle.readers.specs.Numbers.{uleb, sleb}
+use Rattle.readers.specs.Layout.{fixed, Kind, Encoded, Role, reference, typeReference, sibling, index, absolute, Token, nothing, number, bounded, forms, signed, link, string, run, block, expression, unknown, Piece, copied, linked, Read, ReadOf, asBytes, width, numberIn, formsIn, stringIn, asNumber, asBounded, asForms, asSigned, asLink, asString, asBlock, asExpression, copy, tokenIn, bytesOf, pieceBytes, numberBytes, length-number}
+use Rattle.readers.specs.Tokens.{Use, plain, as′, numberAs, tokenOf}
+use Rattle.readers.specs.Operations.{Row, rows, unreadableRow, rowOf, Codes, operations, rowAmong, operationRow}
+use Rattle.readers.specs.Fields.{size, fieldOf, linkedValue}
+use Rattle.readers.specs.References.{Named, nameIn, namesIn, isAbsolute, anyAbsolute, named, namedType, referenceOf, namesOf}
+use Rattle.readers.specs.declared.cursor.Encoding.{Encoding}
+use Rattle.readers.specs.declared.cursor.Cursor.{Cursor}
+use Rattle.readers.specs.declared.fields.Field.{Field}
+use Rattle.readers.specs.declared.operations.Operation.{Operation}
+use Rattle.readers.specs.declared.expressions.Yield.{Yield}
+use Rattle.readers.specs.declared.expressions.Yield.the-variants.{Reference as Yielded, End}
+use Rattle.readers.proofs.OperationReads.{token1, token2, token3, Held}
+
+-- ---- names and section offsets of pieces in a row
+
+same-pick : (b : Bool) (x y : Named) → length (pick b [] (x ∷ [])) ≡ length (pick b [] (y ∷ []))
+unfolding pick
+same-pick true x y = refl
+same-pick false x y = refl
+
+pub or-assoc : (a b c : Bool) → (a or (b or c)) ≡ ((a or b) or c)
+unfolding _or_
+or-assoc true b c = refl
+or-assoc false b c = refl
+
+module _ (big : Bool) where
+  pub names-append : (at : ℕ) (ps qs : List Piece) → namesIn big at (ps ++ qs) ≡ namesIn big at ps ++ namesIn big (at + length (bytesOf big ps)) qs
+  unfolding namesIn bytesOf
+  names-append at [] qs = ap (λ n. namesIn big n qs) (let h : at ≡ at + 0 = omega arith in h)
+  names-append at (p ∷ ps) qs =
+      let n : at + length (pieceBytes big p) + length (bytesOf big ps) ≡ at + length (pieceBytes big p ++ bytesOf big ps) = omega (arith, length-append (pieceBytes big p) (bytesOf big ps)) in
+      ap (λ x. nameIn at p ++ x) (names-append (at + length (pieceBytes big p)) ps qs ∙ ap (λ m. namesIn big (at + length (pieceBytes big p)) ps ++ namesIn big m qs) n)
+      ∙ sym (append-assoc (nameIn at p) _ _)
+
+  same-name : (m n : ℕ) (p : Piece) → length (nameIn m p) ≡ length (nameIn n p)
+  unfolding nameIn
+  same-name m n (copied l) = refl
+  same-name m n (linked e reference v) = refl
+  same-name m n (linked e typeReference v) = same-pick (eqb v 0) (m, v, width e) (n, v, width e)
+  same-name m n (linked e sibling v) = refl
+  same-name m n (linked e (index k) v) = refl
+  same-name m n (linked e absolute v) = refl
+
+  -- how many names there are does not depend on the place
+  pub same-count : (m n : ℕ) (ps : List Piece) → length (namesIn big m ps) ≡ length (namesIn big n ps)
+  unfolding namesIn
+  same-count m n [] = refl
+  same-count m n (p ∷ ps) =
+      length-append (nameIn m p) _ ∙ ap₂ _+_ (same-name m n p) (same-count (m + length (pieceBytes big p)) (n + length (pieceBytes big p)) ps) ∙ sym (length-append (nameIn n p) _)
+
+pub absolute-append : (ps qs : List Piece) → anyAbsolute (ps ++ qs) ≡ (anyAbsolute ps or anyAbsolute qs)
+unfolding anyAbsolute _or_
+absolute-append [] qs = refl
+absolute-append (p ∷ ps) qs = ap (λ x. isAbsolute p or x) (absolute-append ps qs) ∙ or-assoc (isAbsolute p) (anyAbsolute ps) (anyAbsolute qs)
+
+-- ---- what one token names
+
+unfoldable pub tokenNames : Token → Field → List Named
+tokenNames (link k reference) f = (f .start, f .value, f .end - f .start) ∷ []
+tokenNames (link k typeReference) f = pick (eqb (f .value) 0) [] ((f .start, f .value, f .end - f .start) ∷ [])
+tokenNames (link k sibling) f = []
+tokenNames (link k (index n)) f = []
+tokenNames (link k absolute) f = []
+tokenNames nothing f = []
+tokenNames (number k) f = []
+tokenNames (bounded n) f = []
+tokenNames forms f = []
+tokenNames signed f = []
+tokenNames string f = []
+tokenNames (run n) f = []
+tokenNames (block k) f = []
+tokenNames expression f = []
+tokenNames unknown f = []
+
+unfoldable pub tokenAbsolute : Token → Bool
+tokenAbsolute (link k reference) = false
+tokenAbsolute (link k typeReference) = false
+tokenAbsolute (link k sibling) = false
+tokenAbsolute (link k (index n)) = false
+tokenAbsolute (link k absolute) = true
+tokenAbsolute nothing = false
+tokenAbsolute (number k) = false
+tokenAbsolute (bounded n) = false
+tokenAbsolute forms = false
+tokenAbsolute signed = false
+tokenAbsolute string = false
+tokenAbsolute (run n) = false
+tokenAbsolute (block k) = false
+tokenAbsolute expression = false
+tokenAbsolute unknown = false
+
+module _ (big : Bool) where
+  -- what the pieces of a token name at a place is what its field there names
+  abbrev pub Names : ℕ → Token → ReadOf → Type 0
+  Names at t r = (namesIn big at (r .0 .pieces) ≡ tokenNames t (fieldOf big at (r .0))) × (anyAbsolute (r .0 .pieces) ≡ tokenAbsolute t)
+
+  link-names : (at : ℕ) (k : Kind) (role : Role) (c : Encoded) (v : ℕ) (s : List ℕ)
+      → Names at (link k role) (record { seen = 0; start = 0; pieces = linked c role v ∷ [] }, s)
+  unfolding namesIn nameIn anyAbsolute isAbsolute tokenNames tokenAbsolute fieldOf size linkedValue bytesOf pieceBytes _or_
+  link-names at k role c v s =
+      let h : at + 0 ≡ at = omega arith in
+      let l : length (numberBytes big c v ++ []) ≡ width c = ap length (append-nil (numberBytes big c v)) ∙ length-number big c v in
+      let w : at + length (numberBytes big c v ++ []) - (at + 0) ≡ width c = omega arith in
+      roles role h w
+    where
+      roles : (role : Role) → at + 0 ≡ at → at + length (numberBytes big c v ++ []) - (at + 0) ≡ width c → Names at (link k role) (record { seen = 0; start = 0; pieces = linked c role v ∷ [] }, s)
+      roles reference h w = (ap₂ (λ x y. (x, v, y) ∷ []) (sym h) (sym w), refl)
+      roles typeReference h w = (append-nil _ ∙ ap₂ (λ x y. pick (eqb v 0) [] ((x, v, y) ∷ [])) (sym h) (sym w), refl)
+      roles sibling h w = (refl, refl)
+      roles (index n) h w = (refl, refl)
+      roles absolute h w = (refl, refl)
+
+  copy-names : (at : ℕ) (t : Token) (v k n : ℕ) (s : List ℕ) → tokenNames t (fieldOf big at (copy v k n s .0)) ≡ [] → tokenAbsolute t ≡ false → Names at t (copy v k n s)
+  unfolding namesIn nameIn anyAbsolute isAbsolute copy _or_
+  copy-names at t v k n s p q = (sym p, sym q)
+
+  pub token-names : (at : ℕ) (t : Token) (s : List ℕ) → All (Names at t) (tokenIn big asBytes t s)
+  unfolding tokenIn asNumber asBounded asForms asSigned asLink asString asBlock asExpression asBytes bind namesIn nameIn anyAbsolute isAbsolute tokenNames tokenAbsolute _or_
+  token-names at nothing s = all-some (Names at nothing) (refl, refl)
+  token-names at (number k) s = all-bind (λ _. Unit {0}) _ (numberIn big k s) _ (all-triv _) (λ r q u. all-some (Names at (number k)) (copy-names at (number k) _ _ _ s refl refl))
+  token-names at (bounded n) s = all-bind (λ _. Unit {0}) _ (uleb s) _ (all-triv _) (λ r q u. all-check _ _ _ (λ w. all-some (Names at (bounded n)) (copy-names at (bounded n) _ _ _ s refl refl)))
+  token-names at forms s = all-bind (λ _. Unit {0}) _ (formsIn s) _ (all-triv _) (λ r q u. all-some (Names at forms) (copy-names at forms _ _ _ s refl refl))
+  token-names at signed s = all-bind (λ _. Unit {0}) _ (sleb s) _ (all-triv _) (λ r q u. all-some (Names at signed) (copy-names at signed _ _ _ s refl refl))
+  token-names at (link k role) s = all-bind (λ _. Unit {0}) _ (numberIn big k s) _ (all-triv _) (λ r q u. all-some (Names at (link k role)) (link-names at k role (r .0) (r .1) (r .2)))
+  token-names at string s = all-bind (λ _. Unit {0}) _ (stringIn s) _ (all-triv _) (λ r q u. all-some (Names at string) (copy-names at string _ _ _ s refl refl))
+  token-names at (run n) s = all-check _ _ _ (λ w. all-some (Names at (run n)) (copy-names at (run n) _ _ _ s refl refl))
+  token-names at (block k) s = all-bind (λ _. Unit {0}) _ (numberIn big k s) _ (all-triv _) (λ r q u. all-check _ _ _ (λ w. all-some (Names at (block k)) (copy-names at (block k) _ _ _ s refl refl)))
+  token-names at expression s = all-bind (λ _. Unit {0}) _ (uleb s) _ (all-triv _) (λ r q u. all-check _ _ _ (λ w. all-some (Names at expression) (refl, refl)))
+  token-names at unknown s = all-none _
+
+-- ---- what the tokens of each row name
+
+infixr 20 _&_
+-- P of n numbers in a row
+pub data Each (P : ℕ → Type 0) : ℕ → ℕ → Type 0 where
+  end : {from : ℕ} → Each P from zero
+  _&_ : {from n : ℕ} → P from → Each P (suc from) n → Each P from (suc n)
+
+each-at : (P : ℕ → Type 0) (from n i : ℕ) → Each P from n → from ≤ i → i < from + n → P i
+each-at P from zero i end lo hi = absurd (omega arith)
+each-at P from (suc n) i (p & h) lo hi =
+    ⊎-elim (λ q. subst P (eqb-yes {a = from} {b = i} q) p)
+    (λ q. each-at P (suc from) n i h (let w : from ≢ i = eqb-no q in omega arith) (omega arith))
+    (either (eqb from i))
+
+unfoldable pub rowsBelow : ℕ → List Codes → Bool
+rowsBelow n [] = true
+rowsBelow n (x ∷ xs) = ltb (x .row) n and rowsBelow n xs
+
+and-both : (a b : Bool) → T (a and b) → T a × T b
+unfolding _and_
+and-both true b h = (tt, h)
+and-both false b h = absurd h
+
+below-among : (n : ℕ) (xs : List Codes) (c : ℕ) → 0 < n → T (rowsBelow n xs) → rowAmong xs c < n
+unfolding rowsBelow rowAmong
+below-among n [] c z h = z
+below-among n (x ∷ xs) c z h =
+    let q : T (ltb (x .row) n) × T (rowsBelow n xs) = and-both _ _ h in
+    pick-either (λ r. r < n) _ _ _ (λ _. ltb-yes (q .0)) (λ _. below-among n xs c z (q .1))
+
+-- no operation has one of the rows that list entries alone have
+pub row-below : (c : ℕ) → operationRow c < 23
+unfolding operationRow operations rowsBelow _and_
+row-below c = below-among 23 operations c (omega arith) tt
+
+pick-names : (b : Bool) (y : Yield) → pick b [] (namesOf y) ≡ namesOf (pick b End y)
+unfolding pick namesOf
+pick-names true y = refl
+pick-names false y = refl
+
+unfoldable pub isExpression : Token → Bool
+isExpression nothing = false
+isExpression (number k) = false
+isExpression (bounded n) = false
+isExpression forms = false
+isExpression signed = false
+isExpression (link k r) = false
+isExpression string = false
+isExpression (run n) = false
+isExpression (block k) = false
+isExpression expression = true
+isExpression unknown = false
+
+module _ (e : Encoding) where
+  abbrev pub RowNames : ℕ → Type 0
+  RowNames l = (f g h : Field) (n : Cursor)
+      → tokenNames (token1 e l) f ++ (tokenNames (token2 e l) g ++ tokenNames (token3 e l) h) ≡ namesOf (referenceOf (record { row = l; first = f; second = g; next = n }))
+
+  row-names-each : Each RowNames 0 23
+  unfolding rows rowOf unreadableRow tokenOf numberAs pick tokenNames referenceOf named namedType namesOf
+  row-names-each =
+      (λ f g h n. refl) & (λ f g h n. refl) & (λ f g h n. refl) & (λ f g h n. refl) & (λ f g h n. refl) & (λ f g h n. refl)
+      & (λ f g h n. refl) & (λ f g h n. refl) & (λ f g h n. refl) & (λ f g h n. refl) & (λ f g h n. refl) & (λ f g h n. refl)
+      & (λ f g h n. refl) & (λ f g h n. refl) & (λ f g h n. append-nil _ ∙ pick-names (eqb (f .value) 0) (named f n)) & (λ f g h n. append-nil _ ∙ pick-names (eqb (g .value) 0) (named g n)) & (λ f g h n. append-nil _ ∙ pick-names (eqb (g .value) 0) (named g n)) & (λ f g h n. append-nil _ ∙ pick-names (eqb (f .value) 0) (named f n))
+      & (λ f g h n. refl) & (λ f g h n. refl) & (λ f g h n. refl) & (λ f g h n. refl) & (λ f g h n. refl) & end
+
+  pub row-names : (l : ℕ) → l < 23 → RowNames l
+  row-names l h = each-at RowNames 0 23 l row-names-each (omega arith) (omega arith)
+
+  abbrev pub RowAbsolute : ℕ → Type 0
+  RowAbsolute l = (tokenAbsolute (token1 e l) or (tokenAbsolute (token2 e l) or tokenAbsolute (token3 e l))) ≡ (eqb l 20 or eqb l 21)
+
+  row-absolute-each : Each RowAbsolute 0 23
+  unfolding rows rowOf unreadableRow tokenOf numberAs pick tokenAbsolute _or_
+  row-absolute-each =
+      refl & refl & refl & refl & refl & refl & refl & refl & refl & refl & refl & refl
+      & refl & refl & refl & refl & refl & refl & refl & refl & refl & refl & refl & end
+
+  pub row-absolute : (l : ℕ) → l < 23 → RowAbsolute l
+  row-absolute l h = each-at RowAbsolute 0 23 l row-absolute-each (omega arith) (omega arith)
+
+  -- only row 19 holds an expression
+  abbrev pub RowPlain : ℕ → Type 0
+  RowPlain l = T (not (eqb l 19)) → (isExpression (token1 e l) ≡ false) × (isExpression (token2 e l) ≡ false) × (isExpression (token3 e l) ≡ false)
+
+  row-plain-each : Each RowPlain 0 23
+  unfolding rows rowOf unreadableRow tokenOf numberAs pick isExpression
+  row-plain-each =
+      (λ _. (refl, refl, refl)) & (λ _. (refl, refl, refl)) & (λ _. (refl, refl, refl)) & (λ _. (refl, refl, refl)) & (λ _. (refl, refl, refl)) & (λ _. (refl, refl, refl))
+      & (λ _. (refl, refl, refl)) & (λ _. (refl, refl, refl)) & (λ _. (refl, refl, refl)) & (λ _. (refl, refl, refl)) & (λ _. (refl, refl, refl)) & (λ _. (refl, refl, refl))
+      & (λ _. (refl, refl, refl)) & (λ _. (refl, refl, refl)) & (λ _. (refl, refl, refl)) & (λ _. (refl, refl, refl)) & (λ _. (refl, refl, refl)) & (λ _. (refl, refl, refl))
+      & (λ _. (refl, refl, refl)) & (λ u. absurd u) & (λ _. (refl, refl, refl)) & (λ _. (refl, refl, refl)) & (λ _. (refl, refl, refl)) & end
+
+  pub row-plain : (l : ℕ) → l < 23 → RowPlain l
+  row-plain l h = each-at RowPlain 0 23 l row-plain-each (omega arith) (omega arith)
