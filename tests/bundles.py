@@ -6,8 +6,14 @@ The address table has one byte, 1, for each address of .debug_addr. A bundle of 
 import os
 import sys
 from elftools.elf.elffile import ELFFile
+from elftools.elf.relocation import RelocationHandler
 
 MOST = 65536
+
+# pyelftools knows no relocations of thread-local offsets; any value serves here: that of the symbol and what is there.
+R64, R32 = RelocationHandler._RELOCATION_RECIPES_X64, RelocationHandler._RELOCATION_RECIPES_X86
+R64.update({17: R64[1], 21: R64[10]})
+R32.update({32: R32[1]})
 
 
 def bundle(parts):

@@ -137,6 +137,7 @@ class Reader:
             end = ops[i + 1].offset if i + 1 < len(ops) else len(data)
             name, args = short(op.op_name, 'DW_OP_'), op.args
             counts['operations'] += 1
+            counts['code ' + name] += 1
             if name.startswith('GNU_'):
                 name = name[4:]
             if name in ('regx', 'bregx', 'regval_type') and args[0] > 65535:
@@ -288,10 +289,10 @@ def main():
         counts['units'] += 1
         print('== ' + path)
         print('\n'.join(lines))
-    forms = sorted(k[5:] for k in counts if k.startswith('form '))
-    for name in sorted(k for k in counts if not k.startswith('form ')):
+    for name in sorted(k for k in counts if not k.startswith(('form ', 'code '))):
         print('%s: %d' % (name, counts[name]), file=sys.stderr)
-    print('forms: ' + ' '.join(forms), file=sys.stderr)
+    print('forms: ' + ' '.join(sorted(k[5:] for k in counts if k.startswith('form '))), file=sys.stderr)
+    print('operation codes: ' + ' '.join(sorted(k[5:] for k in counts if k.startswith('code '))), file=sys.stderr)
     print('units left out: %d' % left_out, file=sys.stderr)
 
 
