@@ -138,37 +138,51 @@ fn expression(s: &[u8], address_size: u8) {
 
 // ---- lists
 
-fn list_line(entry: ListEntry, location: bool) {
+// Whether an entry of a location list has an expression: base addresses have none.
+fn has_expression(kind: u8) -> bool {
+    match kind {
+        1 | 6 => false,
+        _ => true,
+    }
+}
+
+// The expression of a location list entry: its first field in a default location, else its third.
+fn location_field(entry: ListEntry) -> Field {
+    if entry.kind == 5 {
+        return entry.first;
+    }
+    entry.third
+}
+
+fn list_line(entry: ListEntry) {
     let first = entry.first;
     let second = entry.second;
     number(b"  kind ", entry.kind as u64);
     number(b" ", first.value);
     number(b" ", second.value);
-    if location {
-        text(b" location");
-    }
-    text(b"\n");
 }
 
-// The expression of a location list entry: its last field that holds bytes.
-fn location_part<'a>(s: &'a [u8], entry: ListEntry) -> &'a [u8] {
-    let kind = entry.kind;
-    let first = entry.first;
-    let third = entry.third;
-    if kind == 5 {
-        return part(s, first);
+// The rest of an entry's line, and of a location list's entry the expression.
+fn list_lines(s: &[u8], entry: ListEntry, location: bool, e: Encoding) {
+    list_line(entry);
+    if location {
+        if has_expression(entry.kind) {
+            let f = location_field(entry);
+            number(b" bytes ", f.start as u64);
+            number(b" to ", f.end as u64);
+            text(b"\n");
+            expression(part(s, f), e.address_size);
+            return;
+        }
     }
-    part(s, third)
+    text(b"\n");
 }
 
 // One entry of a list; answers where the next one is, or the end.
 fn list_step(s: &[u8], at: usize, location: bool, e: Encoding) -> Values {
     match (Cursor { at }).list_entry(s, location, e) {
         ListStep::Entry(entry) => {
-            list_line(entry, location);
-            if location {
-                expression(location_part(s, entry), e.address_size);
-            }
+            list_lines(s, entry, location, e);
             let next = entry.next;
             Values {
                 done: false,
@@ -546,5 +560,48 @@ pub fn dump(s: &[u8]) {
                 h,
             );
         }
+    }
+}
+
+// ---- files
+
+// Prints what the bundle in a file holds, after a line with the file's name.
+pub fn dump_file(path: &[u8]) {
+    text(b"== ");
+    text(path);
+    text(b"\n");
+    let fd = os::open_read(path);
+    if fd < 0 {
+        text(b"no such file\n");
+        return;
+    }
+    let mut input = [0u8; 65537];
+    let n = io::read_full(fd, &mut input);
+    libc::close(fd);
+    dump(&input[..n]);
+}
+
+// The file that argument i names; whether there is one.
+fn dump_argument(i: usize) -> bool {
+    let mut path = io::buffer();
+    let length = os::arg(i, &mut path);
+    if os::errno() != 0 {
+        return false;
+    }
+    if length == 0 {
+        return false;
+    }
+    dump_file(&path[..length]);
+    true
+}
+
+// The files that the program's arguments name.
+pub fn dump_arguments() {
+    let mut i: usize = 1;
+    while i < 10000 {
+        if !dump_argument(i) {
+            return;
+        }
+        i += 1;
     }
 }

@@ -1,0 +1,65 @@
+#!/usr/bin/python3
+"""bundles.py OBJECT OUT: makes a bundle of the first unit of an object.
+
+With split DWARF the unit is that of OBJECT's .dwo file, or of its own .dwo sections; else that of .debug_info, relocated.
+The address table has one byte, 1, for each address of .debug_addr. A bundle of more than 65,536 bytes is not made."""
+import os
+import sys
+from elftools.elf.elffile import ELFFile
+from elftools.elf.relocation import RelocationHandler
+
+MOST = 65536
+
+# pyelftools knows no relocations of thread-local offsets; any value serves here: that of the symbol and what is there.
+R64, R32 = RelocationHandler._RELOCATION_RECIPES_X64, RelocationHandler._RELOCATION_RECIPES_X86
+R64.update({17: R64[1], 21: R64[10]})
+R32.update({32: R32[1]})
+
+
+def bundle(parts):
+    body = b'\x01' + b''.join(len(p).to_bytes(4, 'big') + p for p in parts)
+    return len(body).to_bytes(4, 'big') + body
+
+
+def sections(elf, suffix):
+    return [elf.get_section_by_name('.debug_' + n + suffix) for n in ('info', 'abbrev', 'loclists', 'rnglists')]
+
+
+def first_unit(info):
+    return info[:4 + int.from_bytes(info[:4], 'little')]
+
+
+def parts(path):
+    dwo = os.path.splitext(path)[0] + '.dwo'
+    with open(path, 'rb') as f:
+        elf = ELFFile(f)
+        width = elf.elfclass // 8
+        table = elf.get_section_by_name('.debug_addr')
+        count = max(0, table.data_size - 8) // width if table else 0
+        if os.path.exists(dwo):
+            with open(dwo, 'rb') as g:
+                data = [s.data() if s else b'' for s in sections(ELFFile(g), '.dwo')]
+        elif elf.get_section_by_name('.debug_info.dwo'):
+            data = [s.data() if s else b'' for s in sections(elf, '.dwo')]
+        else:
+            d = elf.get_dwarf_info(relocate_dwarf_sections=True)
+            found = (d.debug_info_sec, d.debug_abbrev_sec, d.debug_loclists_sec, d.debug_rnglists_sec)
+            data = [s.stream.getvalue() if s else b'' for s in found]
+    return [first_unit(data[0])] + data[1:] + [b'\x01' * count]
+
+
+def main():
+    if len(sys.argv) != 3:
+        sys.exit(__doc__)
+    held = parts(sys.argv[1])
+    if held[0][6:7] not in (b'\x01', b'\x05'):
+        sys.exit('%s: no unit of type 1 or 5 comes first' % sys.argv[1])
+    made = bundle(held)
+    if len(made) > MOST:
+        sys.exit('%s: a bundle of %d bytes, and %d are the most' % (sys.argv[1], len(made), MOST))
+    with open(sys.argv[2], 'wb') as f:
+        f.write(made)
+
+
+if __name__ == '__main__':
+    main()

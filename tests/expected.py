@@ -1,0 +1,300 @@
+#!/usr/bin/python3
+"""expected.py BUNDLE...: what `dump` should print of each bundle, after a line `== BUNDLE`, as Debian's pyelftools reads it.
+
+pyelftools has the parsers of abbreviations, entries, forms, expressions and list entries. It knows no DW_FORM_strx and no data16,
+reads strx4 in eight bytes, skips no dwo_id, and has no parser for some operations: these are added below. A unit that it can't
+read is left out and named on standard error, where the counts of what was read follow."""
+import sys
+from collections import Counter
+from io import BytesIO
+from elftools.common.exceptions import DWARFError, ELFParseError
+from elftools.common.utils import struct_parse
+from elftools.construct import ConstructError, Field
+from elftools.dwarf.compileunit import CompileUnit
+from elftools.dwarf.die import DIE
+from elftools.dwarf.dwarf_expr import DWARFExprParser, DW_OP_name2opcode, DW_OP_opcode2name
+from elftools.dwarf.dwarfinfo import DWARFInfo, DebugSectionDescriptor, DwarfConfig
+from elftools.dwarf.enums import ENUM_DW_AT, ENUM_DW_FORM, ENUM_DW_TAG
+
+SECTION_NAMES = ('info', 'aranges', 'abbrev', 'frame', 'str', 'loc', 'ranges', 'line', 'pubtypes', 'pubnames', 'addr', 'str_offsets',
+                 'line_str', 'loclists', 'rnglists', 'sup')
+LOCATIONS = ('location', 'string_length', 'return_addr', 'data_member_location', 'frame_base', 'segment', 'static_link', 'use_location',
+             'vtable_elem_location')
+RANGES = ('ranges', 'start_scope')
+BYTES = ('block', 'block1', 'block2', 'block4', 'exprloc', 'string', 'data16')
+LIST_FIELDS = ('index', 'start_index', 'start_offset', 'start_address', 'address', 'end_index', 'end_offset', 'end_address', 'length')
+
+for number, name in ((0xf9, 'GNU_reinterpret'), (0xfb, 'GNU_addr_index'), (0xfc, 'GNU_const_index'), (0xfd, 'GNU_variable_value')):
+    DW_OP_name2opcode['DW_OP_' + name] = number
+    DW_OP_opcode2name[number] = 'DW_OP_' + name
+
+counts = Counter()
+
+
+class LeftOut(Exception):
+    pass
+
+
+class Refused(Exception):
+    pass
+
+
+class Entry(DIE):
+    """An entry whose values stay as they are in the unit."""
+    def _translate_attr_value(self, form, raw_value):
+        if form == 'DW_FORM_indirect':
+            raise LeftOut('DW_FORM_indirect')
+        return raw_value
+
+
+def number_of(name, table):
+    return table[name] if isinstance(name, str) else name
+
+
+def short(name, prefix):
+    return name[len(prefix):] if isinstance(name, str) else ''
+
+
+def leb_end(data, at):
+    while data[at] & 0x80:
+        at += 1
+    return at + 1
+
+
+def split(data):
+    """The five parts of a bundle."""
+    if int.from_bytes(data[:4], 'big') != len(data) - 4 or data[4] != 1:
+        raise LeftOut('no bundle')
+    at, parts = 5, []
+    for _ in range(5):
+        size = int.from_bytes(data[at:at + 4], 'big')
+        parts.append(data[at + 4:at + 4 + size])
+        at += 4 + size
+    return parts
+
+
+def dwarf_info(parts, address_size):
+    held = dict(zip(('info', 'abbrev', 'loclists', 'rnglists'), parts))
+    words = {}
+    for name in SECTION_NAMES:
+        data = held.get(name)
+        words['debug_%s_sec' % name] = None if data is None else DebugSectionDescriptor(
+            stream=BytesIO(data), name='.debug_' + name, global_offset=0, size=len(data), address=0)
+    return DWARFInfo(config=DwarfConfig(little_endian=True, machine_arch='x64', default_address_size=address_size),
+                     eh_frame_sec=None, gnu_debugaltlink_sec=None, **words)
+
+
+def unit_of(info):
+    """The first unit, past the dwo_id of a split unit too."""
+    unit = info._parse_CU_at_offset(0)
+    first = unit.cu_die_offset + (8 if unit['unit_type'] == 5 else 0)
+    structs = unit.structs
+    structs.Dwarf_dw_form.update(DW_FORM_strx=structs.Dwarf_uleb128(''), DW_FORM_strx4=structs.Dwarf_uint32(''), DW_FORM_data16=Field('', 16))
+    return CompileUnit(unit.header, info, structs, 0, first)
+
+
+def expression_parser(structs):
+    parser = DWARFExprParser(structs)
+    table = parser._dispatch_table
+
+    def add(name, *fields):
+        table[DW_OP_name2opcode['DW_OP_' + name]] = lambda stream: [struct_parse(f, stream) for f in fields]
+    uleb = structs.Dwarf_uleb128('')
+    add('constx', uleb)
+    add('GNU_addr_index', uleb)
+    add('GNU_const_index', uleb)
+    add('reinterpret', uleb)
+    add('GNU_reinterpret', uleb)
+    add('xderef_type', structs.Dwarf_uint8(''), uleb)
+    add('GNU_variable_value', structs.Dwarf_offset(''))
+    return parser
+
+
+class Reader:
+    def __init__(self, parts):
+        self.data = parts
+        self.info = dwarf_info(parts[:4], parts[0][7])
+        self.unit = unit_of(self.info)
+        self.structs = self.unit.structs
+        self.parser = expression_parser(self.structs)
+        self.bases = {'loclists': 12, 'rnglists': 12}
+        self.lines = []
+
+    def say(self, text, *values):
+        self.lines.append(text % values)
+
+    # ---- expressions
+
+    def references(self, data, base, found):
+        """Adds the references of an expression to `found`; answers whether it names something by an offset in the section."""
+        try:
+            ops = self.parser.parse_expr(list(data))
+        except (KeyError, ELFParseError):
+            raise Refused(5)
+        absolute = False
+        for i, op in enumerate(ops):
+            at = op.offset + 1
+            end = ops[i + 1].offset if i + 1 < len(ops) else len(data)
+            name, args = short(op.op_name, 'DW_OP_'), op.args
+            counts['operations'] += 1
+            counts['code ' + name] += 1
+            if name.startswith('GNU_'):
+                name = name[4:]
+            if name in ('regx', 'bregx', 'regval_type') and args[0] > 65535:
+                raise Refused(5)
+            if name in ('call2', 'call4', 'parameter_ref'):
+                found.append((base + at, args[0], end - at))
+            elif name in ('convert', 'reinterpret') and args[0]:
+                found.append((base + at, args[0], end - at))
+            elif name in ('deref_type', 'xderef_type') and args[1]:
+                found.append((base + at + 1, args[1], end - at - 1))
+            elif name == 'regval_type' and args[1]:
+                at = leb_end(data, at)
+                found.append((base + at, args[1], end - at))
+            elif name == 'const_type' and args[0]:
+                found.append((base + at, args[0], leb_end(data, at) - at))
+            elif name == 'entry_value':
+                at = leb_end(data, at)
+                absolute |= self.references(data[at:end], base + at, found)
+            elif name in ('call_ref', 'implicit_pointer', 'variable_value'):
+                absolute = True
+        return absolute
+
+    def expression(self, data):
+        counts['expressions'] += 1
+        found = []
+        try:
+            if self.references(bytes(data), 0, found):
+                raise Refused(7)
+        except Refused as r:
+            counts['expressions refused %d' % r.args[0]] += 1
+            self.say('  expression refused %d', r.args[0])
+            return
+        counts['references of expressions'] += len(found)
+        for reference in found:
+            self.say('  reference at %d to %d width %d', *reference)
+
+    # ---- lists
+
+    def list_at(self, kind, offset):
+        counts['lists'] += 1
+        data = self.data[2 if kind == 'loclists' else 3]
+        if offset is None or offset > len(data):
+            self.say('  list unresolved')
+            return
+        self.say('  list at %d', offset)
+        parser = (self.structs.Dwarf_loclists_entries if kind == 'loclists' else self.structs.Dwarf_rnglists_entries).subcon
+        stream = BytesIO(data)
+        while offset < len(data):
+            stream.seek(offset)
+            try:
+                entry = parser.parse_stream(stream)
+            except ConstructError:
+                counts['lists refused 5'] += 1
+                self.say('  list refused 5')
+                return
+            if entry.entry_type.endswith('end_of_list'):
+                break
+            counts['list entries'] += 1
+            values = ([entry[f] for f in LIST_FIELDS if f in entry] + [0, 0])[:2]
+            end = entry.entry_end_offset
+            line = '  kind %d %d %d' % (data[offset], *values)
+            if 'loc_expr' in entry:
+                self.say('%s bytes %d to %d', line, end - len(entry.loc_expr), end)
+                self.expression(entry.loc_expr)
+            else:
+                self.say('%s', line)
+            offset = end
+        self.say('  end')
+
+    def list_of(self, kind, index):
+        data, base = self.data[2 if kind == 'loclists' else 3], self.bases[kind]
+        place = base + 4 * index
+        if place + 4 > len(data):
+            return None
+        return base + int.from_bytes(data[place:place + 4], 'little')
+
+    # ---- entries
+
+    def attribute(self, a, end):
+        counts['attributes'] += 1
+        form, name = short(a.form, 'DW_FORM_'), short(a.name, 'DW_AT_')
+        head = ' attribute %d form %d' % (number_of(a.name, ENUM_DW_AT), number_of(a.form, ENUM_DW_FORM))
+        counts['form ' + form] += 1
+        if form in BYTES:
+            start = a.offset if form in ('string', 'data16') else end - len(a.raw_value)
+            self.say('%s bytes %d to %d', head, start, end)
+        else:
+            self.say('%s value %d', head, 1 if form == 'flag_present' else a.raw_value)
+        if form == 'exprloc':
+            self.expression(a.raw_value)
+        elif form == 'loclistx':
+            self.list_at('loclists', self.list_of('loclists', a.raw_value))
+        elif form == 'rnglistx':
+            self.list_at('rnglists', self.list_of('rnglists', a.raw_value))
+        elif form == 'sec_offset' and name in LOCATIONS:
+            self.list_at('loclists', a.raw_value)
+        elif form == 'sec_offset' and name in RANGES:
+            self.list_at('rnglists', a.raw_value)
+
+    def entry(self, die, depth):
+        counts['entries'] += 1
+        self.say('entry %d depth %d code %d tag %d%s', die.offset, depth, die.abbrev_code, number_of(die.tag, ENUM_DW_TAG),
+                 ' children' if die.has_children else '')
+        values = list(die.attributes.values())
+        declared = self.unit.get_abbrev_table().get_abbrev(die.abbrev_code)['attr_spec']
+        if len(values) != len(declared):
+            raise LeftOut('an attribute twice in one entry')
+        if die.tag == 'DW_TAG_compile_unit':
+            for kind in self.bases:
+                a = die.attributes.get('DW_AT_%s_base' % kind)
+                if a and a.form == 'DW_FORM_sec_offset':
+                    self.bases[kind] = a.raw_value
+        ends = [v.offset for v in values[1:]] + [die.offset + die.size]
+        for a, end in zip(values, ends):
+            self.attribute(a, end)
+
+    def read(self):
+        unit, end = self.unit, self.unit.size
+        self.say('unit type %d address_size %d abbreviations %d first %d end %d', unit['unit_type'], unit['address_size'],
+                 unit['debug_abbrev_offset'], unit.cu_die_offset, end)
+        at, depth = unit.cu_die_offset, 0
+        while at < end:
+            die = Entry(unit, self.info.debug_info_sec.stream, at)
+            if die.is_null():
+                counts['terminators'] += 1
+                self.say('terminator %d depth %d', at, depth)
+                depth = max(0, depth - 1)
+            else:
+                self.entry(die, depth)
+                depth += bool(die.has_children)
+            at += die.size
+        return self.lines
+
+
+def main():
+    left_out = 0
+    for path in sys.argv[1:]:
+        with open(path, 'rb') as f:
+            data = f.read()
+        before = counts.copy()
+        try:
+            lines = Reader(split(data)).read()
+        except (LeftOut, KeyError, DWARFError, ELFParseError) as why:
+            counts.clear()
+            counts.update(before)
+            left_out += 1
+            print('left out %s: %s %s' % (path, type(why).__name__, why), file=sys.stderr)
+            continue
+        counts['units'] += 1
+        print('== ' + path)
+        print('\n'.join(lines))
+    for name in sorted(k for k in counts if not k.startswith(('form ', 'code '))):
+        print('%s: %d' % (name, counts[name]), file=sys.stderr)
+    print('forms: ' + ' '.join(sorted(k[5:] for k in counts if k.startswith('form '))), file=sys.stderr)
+    print('operation codes: ' + ' '.join(sorted(k[5:] for k in counts if k.startswith('code '))), file=sys.stderr)
+    print('units left out: %d' % left_out, file=sys.stderr)
+
+
+if __name__ == '__main__':
+    main()

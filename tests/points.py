@@ -1,0 +1,552 @@
+#!/usr/bin/python3
+"""points.py [check]: writes the bundles of crates/dump_points, its arguments and the lines that it must print.
+
+Each case below has a name, the point that it is about, its bytes, and the expected lines, written from the specification and from
+DWARF 5, never from a run. With `check` nothing is written, and the files are compared with what would be.
+
+Bytes are hexadecimal. `H` before a unit's bytes stands for the 12-byte header (type 1, address size 8) with the right length. In
+abbreviations `1 24 children 03/0b` is code, tag, children, and name/form pairs, closed by 0 0; A5 are those of the five-entry unit.
+Expected lines stand with `|` between them; `unit N` stands for the header line of such a unit that ends at N."""
+import os
+import sys
+
+HOME = os.path.join(os.path.dirname(os.path.abspath(__file__)), '..', 'crates', 'dump_points')
+A5 = '01 11 01 00 00 02 2e 00 11 1b 49 11 00 00 03 24 00 00 00 00'
+T = '00 ' * 12 + '04 00 00 00 '  # a list section: 12 bytes of header, a table of one offset; its list follows
+cases = []
+
+
+def octets(text):
+    return bytes.fromhex(text)
+
+
+def uleb(n):
+    out = b''
+    while n >= 128:
+        out += bytes([n % 128 + 128])
+        n //= 128
+    return out + bytes([n])
+
+
+def abbreviations(text):
+    """`1 24 children 03/0b; 2 24`, closed by code 0."""
+    out = b''
+    for line in text.split(';'):
+        words = line.split()
+        children = 'children' in words
+        words = [w for w in words if w != 'children']
+        out += uleb(int(words[0], 16)) + uleb(int(words[1], 16)) + bytes([children])
+        for pair in words[2:]:
+            name, form = pair.split('/')
+            out += uleb(int(name, 16)) + uleb(int(form, 16))
+        out += b'\0\0'
+    return out + b'\0'
+
+
+def unit(body):
+    return (8 + len(body)).to_bytes(4, 'little') + octets('0500 01 08 00000000') + body
+
+
+def of(text):
+    """A unit's bytes: as they stand, or with the header before them."""
+    if isinstance(text, bytes):
+        return text
+    return unit(octets(text[1:])) if text.startswith('H') else octets(text)
+
+
+def join(parts):
+    body = b'\x01' + b''.join(len(p).to_bytes(4, 'big') + p for p in parts)
+    return len(body).to_bytes(4, 'big') + body
+
+
+def lines(text):
+    out = []
+    for line in text.split('|'):
+        if line.startswith('unit ') and len(line.split()) == 2:
+            line = 'unit type 1 address_size 8 abbreviations 0 first 12 end ' + line.split()[1]
+        out.append(line)
+    return out
+
+
+def raw(name, point, data, expected):
+    cases.append((name, point, data, lines(expected)))
+
+
+def case(name, point, of_unit, declared, expected, locations='', ranges='', addresses=''):
+    """A bundle by its parts; abbreviations in the notation above where they have a `/` or a bare code, else in bytes."""
+    table = declared if isinstance(declared, bytes) else octets(declared)
+    raw(name, point, join([of(of_unit), table, octets(locations), octets(ranges), octets(addresses)]), expected)
+
+
+def single(name, point, pair, value, expected):
+    """One entry with one attribute, and what follows `form N` in its line, with the lines after it; or a refusal."""
+    data = octets(value)
+    at, form = (int(w, 16) for w in pair.split('/'))
+    head = 'unit %d|' % (13 + len(data))
+    if not expected.startswith('refused'):
+        head += 'entry 12 depth 0 code 1 tag 36| attribute %d form %s' % (at, '' if form == 0x16 else '%d ' % form)
+    case(name, point, unit(b'\x01' + data), abbreviations('1 24 ' + pair), head + expected)
+
+
+def expression(name, point, text, expected=''):
+    """One exprloc under DW_AT_location: it starts at 14, after a length of one byte."""
+    data = octets(text)
+    assert len(data) < 128
+    single(name, point, '02/18', '%02x' % len(data) + text, 'bytes 14 to %d' % (14 + len(data)) + ('|  ' + expected if expected else ''))
+
+
+def range_list(name, point, section, expected):
+    case(name, point, 'H 01 00', abbreviations('1 24 55/23'),
+         'unit 14|entry 12 depth 0 code 1 tag 36| attribute 85 form 35 value 0|  ' + expected.replace('|', '|  '), ranges=section)
+
+
+def location_list(name, point, section, expected):
+    case(name, point, 'H 01 00', abbreviations('1 24 02/22'),
+         'unit 14|entry 12 depth 0 code 1 tag 36| attribute 2 form 34 value 0|  ' + expected.replace('|', '|  '), locations=section)
+
+
+def header(name, point, text, expected, declared=A5):
+    case(name, point, text, declared, expected)
+
+
+def declared(name, point, text, expected, body='H 01'):
+    """Abbreviations in bytes, and what comes of the entry 01."""
+    case(name, point, body, text, expected)
+
+
+FIVE = '12000000 0500 01 08 00000000 01 02 00 11 03 03 02 01 10 00'
+FIVE_LINES = ('unit 22|entry 12 depth 0 code 1 tag 17 children|entry 13 depth 1 code 2 tag 46| attribute 17 form 27 value 0|'
+              ' attribute 73 form 17 value 17|entry 16 depth 1 code 3 tag 36|entry 17 depth 1 code 3 tag 36|entry 18 depth 1 code 2 tag 46|'
+              ' attribute 17 form 27 value 1| attribute 73 form 17 value 16|terminator 21 depth 1')
+ENTRY = 'entry 12 depth 0 code 1 tag 36'
+
+# ---- bundles: the length of the rest, version 1, five parts, nothing more (65,536 bytes at most)
+whole = join([octets(FIVE), octets(A5), b'', b'', octets('01 00')])
+raw('five-entries', 'the five-entry unit', whole, FIVE_LINES)
+raw('bundle-empty', 'no bytes at all', b'', 'bundle')
+raw('bundle-three', 'a cut length', whole[:3], 'bundle')
+raw('bundle-no-version', 'no version byte', octets('00000000'), 'bundle')
+raw('bundle-version-0', 'another version', whole[:4] + b'\0' + whole[5:], 'bundle')
+raw('bundle-version-2', 'another version', whole[:4] + b'\x02' + whole[5:], 'bundle')
+raw('bundle-one-more', 'a byte behind the declared length', whole + b'\0', 'bundle')
+raw('bundle-one-less', 'a byte short of the declared length', whole[:-1], 'bundle')
+raw('bundle-left-over', 'a byte behind the last part, within the length', octets('00000043') + whole[4:] + b'\0' * 2, 'bundle')
+raw('bundle-too-far', 'a part that reaches past the end', octets('00000041 01 000000ff') + whole[9:], 'bundle')
+raw('bundle-last-too-far', 'the last part reaches one byte too far', whole[:-6] + octets('00000003 01 00'), 'bundle')
+raw('bundle-four-parts', 'the last part is missing', octets('0000003b') + whole[4:-6], 'bundle')
+raw('bundle-65536', 'the largest', join([octets(FIVE), octets(A5), b'', b'', b'\x01' * (65536 - 25 - 22 - 20)]), FIVE_LINES)
+raw('bundle-65537', 'one more than the largest', join([octets(FIVE), octets(A5), b'', b'', b'\x01' * (65537 - 25 - 22 - 20)]), 'bundle')
+
+# ---- the header: 1 cut short, 2 a value outside the domain, in byte order (point 5)
+header('header-empty', 'an empty section', '', 'empty')
+header('header-3-bytes', 'a cut length', '120000', 'refused 1')
+header('header-fffffff0', '5: a length of 0xfffffff0, and nothing behind it', 'f0ffffff', 'refused 2')
+header('header-ffffffff', '5: the 64-bit format', 'ffffffff 0000000000000000', 'refused 2')
+header('header-ffffffef', '5: the largest length reaches past the section', 'efffffff 0500', 'refused 1')
+header('header-past-wrong-version', '5: past the section, before the version is looked at', '03000000 0400', 'refused 1')
+header('header-one-too-far', 'a length that is one too large', '09000000 0500 01 08 00000000', 'refused 1')
+header('header-0', 'no version', '00000000', 'refused 1')
+header('header-1', 'half a version', '01000000 05', 'refused 1')
+header('header-2-version-4', '5: another version, and nothing behind it', '02000000 0400', 'refused 2')
+header('header-version-0501', 'another version', '08000000 0501 01 08 00000000', 'refused 2')
+header('header-2', '5: cut at the unit\'s end, though bytes follow', '02000000 0500 01 08 00000000', 'refused 1')
+header('header-3-type-2', 'another unit type, and nothing behind it', '03000000 0500 02', 'refused 2')
+header('header-type-0', 'another unit type', '08000000 0500 00 08 00000000', 'refused 2')
+header('header-type-4', 'a skeleton unit', '10000000 0500 04 08 00000000 0000000000000000', 'refused 2')
+header('header-type-6', 'a split type unit', '10000000 0500 06 08 00000000 0000000000000000', 'refused 2')
+header('header-3', 'no address size', '03000000 0500 01', 'refused 1')
+header('header-4-size-2', 'another address size, and nothing behind it', '04000000 0500 01 02', 'refused 2')
+header('header-size-0', 'another address size', '08000000 0500 01 00 00000000', 'refused 2')
+header('header-type-before-size', 'the type goes before the size', '03000000 0500 03 03', 'refused 2')
+header('header-4', 'no abbreviation offset', '04000000 0500 01 08', 'refused 1')
+header('header-7', 'half an abbreviation offset', '07000000 0500 01 08 000000', 'refused 1')
+header('header-split-12', 'a split unit with no dwo_id', '08000000 0500 05 08 00000000', 'refused 1')
+header('header-split-19', 'a split unit with a cut dwo_id', '0f000000 0500 05 08 00000000 00000000000000', 'refused 1')
+header('header-split-20', 'a split unit with no entries', '10000000 0500 05 04 00000000 8877665544332211',
+       'unit type 5 address_size 4 abbreviations 0 first 20 end 20')
+header('header-split-entry', 'a split unit with an entry', '11000000 0500 05 08 00000000 0100000000000000 03',
+       'unit type 5 address_size 8 abbreviations 0 first 20 end 21|entry 20 depth 0 code 3 tag 36')
+header('header-no-entries', 'a unit with no entries', 'H', 'unit 12')
+header('header-two-units', 'a second unit is not read', '09000000 0500 01 08 00000000 03 ffffffff', 'unit 13|entry 12 depth 0 code 3 tag 36')
+
+# ---- abbreviations: 3 (points 3, 4, 6, 7)
+header('p03-no-code-0', '3: the list is not closed', 'H 03', 'refused 3', A5[:-3])
+header('p03-none', '3: no abbreviations at all', 'H', 'refused 3', '')
+header('p04-past', '4: the offset is past the section', '08000000 0500 01 08 15000000', 'refused 3')
+header('p04-at-end', '4: the offset is the section\'s end', '08000000 0500 01 08 14000000', 'refused 3')
+header('p04-largest', '4: the largest offset', '08000000 0500 01 08 ffffffff', 'refused 3')
+header('p04-closing', '4: the offset of the closing code: no abbreviations', '08000000 0500 01 08 13000000',
+       'unit type 1 address_size 8 abbreviations 19 first 12 end 12')
+header('p04-inside', '4: the list starts at the offset: code 1 is none of it', '0a000000 0500 01 08 05000000 03 01',
+       'unit type 1 address_size 8 abbreviations 5 first 12 end 14|entry 12 depth 0 code 3 tag 36|refused 4')
+declared('p06-pair-padded', '6: a closing pair padded to two bytes each', '01 24 00 8000 8000 00', 'unit 13|' + ENTRY)
+declared('p06-pair-three', '6: and to three', '01 24 00 808000 808000 00', 'unit 13|' + ENTRY)
+declared('p06-pair-four', '6: but not to four', '01 24 00 80808000 00 00', 'refused 3')
+declared('p06-pair-four-second', '6: nor the second', '01 24 00 00 80808000 00', 'refused 3')
+declared('p06-name-0', '6: no name, with a form', '01 24 00 00 0b 00 00 00', 'refused 3')
+declared('p06-form-0', '6: a name with no form', '01 24 00 03 00 00 00 00', 'refused 3')
+declared('p06-unused', '6: an abbreviation that no entry uses must be readable', '01 24 00 0000 02 00 00 0000 00', 'refused 3')
+declared('p06-closing-ten', '6: the closing code in ten bytes', '01 24 00 0000 80808080808080808000', 'unit 13|' + ENTRY)
+declared('p06-closing-eleven', '6: and not in eleven', '01 24 00 0000 8080808080808080808000', 'refused 3')
+declared('p06-around', '6: bytes before the offset and behind the closing code', 'ff ff 01 24 00 0000 00 ff ff',
+         'unit type 1 address_size 8 abbreviations 2 first 12 end 13|' + ENTRY, '09000000 0500 01 08 02000000 01')
+declared('abbreviation-code-ten', 'a code in ten bytes', '81808080808080808000 24 00 0000 00', 'unit 13|' + ENTRY)
+declared('abbreviation-code-largest', 'the largest code', 'ffffffffffffffffff01 24 00 0000 00',
+         'unit 22|entry 12 depth 0 code 18446744073709551615 tag 36', 'H ffffffffffffffffff01')
+declared('abbreviation-code-too-large', 'a code above 64 bits', 'ffffffffffffffffff02 24 00 0000 00', 'refused 3')
+declared('abbreviation-code-eleven', 'a code in eleven bytes', '8180808080808080808000 24 00 0000 00', 'refused 3')
+declared('abbreviation-code-1023', 'codes around 1,024', 'ff07 24 00 0000 8008 2e 00 0000 8108 34 00 0000 00',
+         'unit 18|entry 12 depth 0 code 1023 tag 36|entry 14 depth 0 code 1024 tag 46|entry 16 depth 0 code 1025 tag 52', 'H ff07 8008 8108')
+declared('abbreviation-code-1026', 'a large code that is none', 'ff07 24 00 0000 8008 2e 00 0000 00', 'unit 14|refused 4', 'H 8208')
+declared('abbreviation-any-order', 'codes in no order', '03 24 00 0000 01 2e 00 0000 00',
+         'unit 14|entry 12 depth 0 code 3 tag 36|entry 13 depth 0 code 1 tag 46', 'H 03 01')
+declared('abbreviation-twice', 'a code twice', '01 24 00 0000 02 24 00 0000 01 24 00 0000 00', 'refused 3')
+declared('abbreviation-twice-padded', 'a code twice, once padded', '01 24 00 0000 8100 24 00 0000 00', 'refused 3')
+declared('abbreviation-twice-large', 'a large code twice', 'd00f 24 00 0000 01 24 00 0000 d00f 24 00 0000 00', 'refused 3')
+declared('abbreviation-tag-0', 'tag 0', '01 00 00 0000 00', 'refused 3')
+declared('abbreviation-tag-padded', 'a tag in three bytes', '01 a48000 00 0000 00', 'unit 13|' + ENTRY)
+declared('abbreviation-tag-four', 'a tag in four bytes', '01 a4808000 00 0000 00', 'refused 3')
+declared('abbreviation-tag-ffff', 'the largest tag', '01 ffff03 00 0000 00', 'unit 13|entry 12 depth 0 code 1 tag 65535')
+declared('abbreviation-tag-10000', 'a tag above 16 bits', '01 808004 00 0000 00', 'refused 3')
+declared('abbreviation-tag-cut', 'no tag', '01', 'refused 3')
+declared('abbreviation-children-1', 'children', '01 24 01 0000 00', 'unit 13|' + ENTRY + ' children')
+declared('abbreviation-children-2', 'a children byte of 2', '01 24 02 0000 00', 'refused 3')
+declared('abbreviation-children-ff', 'a children byte of 255', '01 24 ff 0000 00', 'refused 3')
+declared('abbreviation-children-cut', 'no children byte', '01 24', 'refused 3')
+declared('abbreviation-name-ffff', 'the largest name, in form flag_present', '01 24 00 ffff03 19 0000 00',
+         'unit 13|' + ENTRY + '| attribute 65535 form 25 value 1')
+declared('abbreviation-name-10000', 'a name above 16 bits', '01 24 00 808004 19 0000 00', 'refused 3')
+declared('abbreviation-name-four', 'a name in four bytes', '01 24 00 83808000 19 0000 00', 'refused 3')
+declared('abbreviation-name-padded', 'a name and a form in three bytes', '01 24 00 838000 998000 0000 00',
+         'unit 13|' + ENTRY + '| attribute 3 form 25 value 1')
+declared('abbreviation-form-10000', 'a form above 16 bits', '01 24 00 03 808004 0000 00', 'refused 3')
+declared('abbreviation-form-four', 'a form in four bytes', '01 24 00 03 99808000 0000 00', 'refused 3')
+declared('abbreviation-form-cut', 'no form', '01 24 00 03', 'refused 3')
+declared('abbreviation-pair-cut', 'half a closing pair', '01 24 00 00', 'refused 3')
+declared('abbreviation-unknown-unused', 'an unknown form where no entry uses it', '01 24 00 0000 02 24 00 03 ffff03 0000 00', 'unit 13|' + ENTRY)
+declared('abbreviation-same-name', '56: a name twice', '01 24 00 03 19 03 0b 0000 00',
+         'unit 14|' + ENTRY + '| attribute 3 form 25 value 1| attribute 3 form 11 value 9', 'H 01 09')
+declared('implicit-cut', 'implicit_const with no value', '01 24 00 03 21', 'refused 3')
+declared('implicit-signed', 'implicit_const takes no bytes; its value is signed', '01 24 00 03 21 7f 3a 21 c000 49 21 0c 0000 00',
+         'unit 13|' + ENTRY + '| attribute 3 form 33 value -1| attribute 58 form 33 value 64| attribute 73 form 33 value 12')
+declared('implicit-least', '7: the least value', '01 24 00 03 21 8080808080808080807f 0000 00',
+         'unit 13|' + ENTRY + '| attribute 3 form 33 value -9223372036854775808')
+declared('p07-implicit', '7: a value above 64 bits', '01 24 00 03 21 80808080808080808001 0000 00', 'refused 3')
+declared('implicit-indirect-value', 'a form behind implicit_const', '01 24 00 03 21 05 3a 0b 0000 00',
+         'unit 14|' + ENTRY + '| attribute 3 form 33 value 5| attribute 58 form 11 value 7', 'H 01 07')
+
+# ---- every form: its bytes, and what is read; one byte less is unreadable
+FORMS = (
+    ('01', '8877665544332211', 'value 1234605616436508552'), ('03', '0300 aabbcc', 'bytes 15 to 18'), ('04', '02000000 aabb', 'bytes 17 to 19'),
+    ('05', '3412', 'value 4660'), ('06', '78563412', 'value 305419896'), ('07', 'ffffffffffffffff', 'value 18446744073709551615'),
+    ('08', '616200', 'bytes 13 to 16'), ('09', '8300 010203', 'bytes 15 to 18'), ('0a', '02 aabb', 'bytes 14 to 16'), ('0b', 'ff', 'value 255'),
+    ('0c', '02', 'value 2'), ('0d', '807f', 'value -128'), ('0e', '04030201', 'value 16909060'), ('0f', '8001', 'value 128'),
+    ('10', '0c000000', 'value 12'), ('11', '0c', 'value 12'), ('12', '0c00', 'value 12'), ('13', '0c000000', 'value 12'),
+    ('14', '0c00000000000000', 'value 12'), ('15', '8c00', 'value 12'), ('17', '01000080', 'value 2147483649'), ('18', '01 96', 'bytes 14 to 15'),
+    ('1a', '808001', 'value 16384'), ('1b', 'ff01', 'value 255'), ('1c', '01020304', 'value 67305985'), ('1d', '01000000', 'value 1'),
+    ('1e', '000102030405060708090a0b0c0d0e0f', 'bytes 13 to 29'), ('1f', '02000000', 'value 2'), ('20', '0000000000000080', 'value 9223372036854775808'),
+    ('22', '8100', 'value 1|  list unresolved'), ('23', '02', 'value 2|  list unresolved'), ('24', '0100000000000000', 'value 1'),
+    ('25', 'fe', 'value 254'), ('26', 'feff', 'value 65534'), ('27', '563412', 'value 1193046'), ('28', '00000001', 'value 16777216'),
+    ('29', '01', 'value 1'), ('2a', '0100', 'value 1'), ('2b', 'ffffff', 'value 16777215'), ('2c', '01000000', 'value 1'), ('1f02', '9001', 'value 144'))
+for form, value, expected in FORMS:
+    single('form-%s' % form, 'form 0x%s' % form, '03/' + form, value, expected)
+    single('form-%s-cut' % form, 'form 0x%s, one byte less' % form, '03/' + form, octets(value)[:-1].hex(), 'refused 4')
+    # under indirect the line has the form that is found, and places stand behind the form number
+    number = uleb(int(form, 16))
+    words = expected.split()
+    if words[0] == 'bytes':
+        words[1], words[3] = (str(int(w) + len(number)) for w in (words[1], words[3]))
+        expected = ' '.join(words)
+    single('indirect-%s' % form, 'form 0x%s under indirect' % form, '03/16', number.hex() + value, '%d %s' % (int(form, 16), expected))
+single('form-19', 'flag_present takes no bytes', '03/19', '', 'value 1')
+single('indirect-19', 'flag_present under indirect', '03/16', '19', '25 value 1')
+case('form-01-32', 'form addr in a unit of address size 4', '0d000000 0500 01 04 00000000 01 44332211', abbreviations('1 24 11/01'),
+     'unit type 1 address_size 4 abbreviations 0 first 12 end 17|' + ENTRY + '| attribute 17 form 1 value 287454020')
+for form in ('02', '2d', '2e', '1f00', '1f01', '1f03', '1f20', '1f21', 'ffff'):
+    single('form-%s-unknown' % form, 'form 0x%s is unknown' % form, '03/' + form, '00000000', 'refused 4')
+    single('indirect-%s-unknown' % form, 'and under indirect', '03/16', uleb(int(form, 16)).hex() + '00000000', 'refused 4')
+single('form-0d-positive', 'sdata', '03/0d', 'ff00', 'value 127')
+single('form-0d-minus-1', 'sdata, padded', '03/0d', 'ff7f', 'value -1')
+single('form-0d-largest', '7: the largest signed number', '03/0d', 'ffffffffffffffffff00', 'value 9223372036854775807')
+single('form-0d-least', '7: the least', '03/0d', '8080808080808080807f', 'value -9223372036854775808')
+single('p07-sdata', '7: one above the largest', '03/0d', '80808080808080808001', 'refused 4')
+single('p07-sdata-7e', '7: a tenth byte of 7e', '03/0d', 'ffffffffffffffffff7e', 'refused 4')
+single('form-0d-eleven', 'sdata in eleven bytes', '03/0d', '8080808080808080808000', 'refused 4')
+single('form-0f-largest', 'the largest unsigned number', '03/0f', 'ffffffffffffffffff01', 'value 18446744073709551615')
+single('form-0f-too-large', 'one above it', '03/0f', '80808080808080808002', 'refused 4')
+single('form-0f-ten', 'zero in ten bytes', '03/0f', '80808080808080808000', 'value 0')
+single('form-0f-eleven', 'zero in eleven bytes', '03/0f', '8080808080808080808000', 'refused 4')
+single('form-09-huge', 'a block of 2^64-1 bytes', '03/09', 'ffffffffffffffffff01 00', 'refused 4')
+single('form-04-huge', 'a block of 2^32-1 bytes', '03/04', 'ffffffff 00', 'refused 4')
+single('form-08-empty', 'an empty string', '03/08', '00', 'bytes 13 to 14')
+single('form-0a-empty', 'an empty block', '03/0a', '00', 'bytes 14 to 14')
+single('form-18-empty', 'an empty expression', '03/18', '00', 'bytes 14 to 14')
+single('form-18-padded', 'a padded length', '02/18', '848000 98 0c00 96', 'bytes 16 to 20|  reference at 1 to 12 width 2')
+case('unit-end', 'attribute bytes end at the unit\'s end', '0a000000 0500 01 08 00000000 01 00 00 00 00', abbreviations('1 24 03/05'), 'unit 14|refused 4')
+case('string-end', 'a string whose zero lies behind the unit', '0a000000 0500 01 08 00000000 01 61 00', abbreviations('1 24 03/08'), 'unit 14|refused 4')
+
+# ---- indirect, siblings, codes (points 8 to 11)
+single('p08-chain', '8: indirect under indirect', '03/16', '16 16 0b 00', '11 value 0')
+single('p08-large', '8: form number 65,547', '03/16', '8b8004 00', 'refused 4')
+single('p08-0', '8: form number 0', '03/16', '00 00', 'refused 4')
+single('p08-three', '8: a form number in three bytes', '03/16', '8b8000 07', '11 value 7')
+single('p08-four', '8: and in four', '03/16', '8b808000 07', 'refused 4')
+single('p08-cut', '8: no form number', '03/16', '', 'refused 4')
+single('p08-chain-cut', '8: a chain that ends with the unit', '03/16', '16 16', 'refused 4')
+single('indirect-21', 'implicit_const under indirect', '03/16', '21 00', 'refused 4')
+single('p09-declared', 'a sibling in exprloc', '01/18', '00', 'refused 4')
+single('p09-indirect', '9: a sibling in exprloc under indirect', '01/16', '18 00', 'refused 4')
+single('p09-chain', '9: and in a chain', '01/16', '16 18 00', 'refused 4')
+single('p09-block', 'a sibling in a block is readable', '01/0a', '00', 'bytes 14 to 14')
+case('p10-padded', '10: a terminator in two bytes, an entry\'s code in three', 'H 03 8000 838000', A5,
+     'unit 18|entry 12 depth 0 code 3 tag 36|terminator 13 depth 0|entry 15 depth 0 code 3 tag 36')
+case('p10-ten', '10: a terminator in ten bytes', 'H 01 80808080808080808000 03', A5,
+     'unit 24|entry 12 depth 0 code 1 tag 17 children|terminator 13 depth 1|entry 23 depth 0 code 3 tag 36')
+case('p10-eleven', '10: and in eleven', 'H 01 8080808080808080808000 03', A5, 'unit 25|entry 12 depth 0 code 1 tag 17 children|refused 4')
+case('p10-unfinished', '10: a code that is unfinished at the unit\'s end', 'H 03 80', A5, 'unit 14|entry 12 depth 0 code 3 tag 36|refused 4')
+case('p10-unfinished-more', '10: though bytes follow the unit', '0a000000 0500 01 08 00000000 03 80 00', A5,
+     'unit 14|entry 12 depth 0 code 3 tag 36|refused 4')
+case('code-unknown', 'a code that is none', 'H 03 04 03', A5, 'unit 15|entry 12 depth 0 code 3 tag 36|refused 4')
+case('code-too-large', 'a code above 64 bits', 'H ffffffffffffffffff02', A5, 'unit 22|refused 4')
+case('p11-surplus', '11: a terminator before the first entry', 'H 00 03 03', A5,
+     'unit 15|terminator 12 depth 0|entry 13 depth 0 code 3 tag 36|entry 14 depth 0 code 3 tag 36')
+case('p11-open', '11: children that are open at the unit\'s end', 'H 01 03', A5,
+     'unit 14|entry 12 depth 0 code 1 tag 17 children|entry 13 depth 1 code 3 tag 36')
+case('p11-two-trees', '11: two trees', 'H 01 01 00 00 00 01 00 03', A5,
+     'unit 20|entry 12 depth 0 code 1 tag 17 children|entry 13 depth 1 code 1 tag 17 children|terminator 14 depth 2|terminator 15 depth 1|'
+     'terminator 16 depth 0|entry 17 depth 0 code 1 tag 17 children|terminator 18 depth 1|entry 19 depth 0 code 3 tag 36')
+case('p02-last', '2: the last entry ends where the unit ends', 'H 01 0f 02 02', abbreviations('1 24 49/11; 2 24'),
+     'unit 16|' + ENTRY + '| attribute 73 form 17 value 15|entry 14 depth 0 code 2 tag 36|entry 15 depth 0 code 2 tag 36')
+
+# ---- lists (points 1, 15 to 17, 21, 24, 30, 38)
+single('p01-ranges', '1: ranges in data4 name no list', '55/06', '00000000', 'value 0')
+single('p01-location', '1: nor does a location', '02/06', '01000000', 'value 1')
+range_list('p15', '15: startx_endx whose end is cut', T + '02 00', 'list at 16|list refused 5')
+range_list('p16-at-end', '16: an offset of the section\'s length is an empty list', T, 'list at 16|end')
+range_list('p16-past', '16: one more is not resolved', '00 ' * 12 + '05 00 00 00', 'list unresolved')
+range_list('p16-cut', '16: a table place of three bytes', T[:-3], 'list unresolved')
+location_list('p16-locations-at-end', '16: the same for locations', T, 'list at 16|end')
+location_list('p16-locations-past', '16', '00 ' * 12 + '05 00 00 00', 'list unresolved')
+location_list('p16-locations-cut', '16', T[:-3], 'list unresolved')
+range_list('p16-before', '16: an offset of 0 is the table itself', '00 ' * 12 + '00 00 00 00', 'list at 12|end')
+range_list('p16-largest', '16: the largest offset', '00 ' * 12 + 'ff ff ff ff', 'list unresolved')
+for form, what in (('23', 'ranges'), ('22', 'locations')):
+    at, index, decimal = ('55' if form == '23' else '02'), '808080808080808040', 2 ** 62
+    case('p17-' + what, '17: index 2^62, times four above 64 bits', 'H 01' + index, abbreviations('1 24 %s/%s' % (at, form)),
+         'unit 22|' + ENTRY + '| attribute %d form %d value %d|  list unresolved' % (int(at, 16), int(form, 16), decimal), locations=T, ranges=T)
+    case('p17-largest-' + what, '17: the largest index and base', 'H 01 ffffffff ffffffffffffffffff01',
+         abbreviations('1 11 %s/17 %s/%s' % ('74' if form == '23' else '8c', at, form)),
+         'unit 27|entry 12 depth 0 code 1 tag 17| attribute %d form 23 value 4294967295| attribute %d form %d value 18446744073709551615|'
+         '  list unresolved' % (116 if form == '23' else 140, int(at, 16), int(form, 16)), locations=T, ranges=T)
+location_list('p24', '24: entry by entry', T + '05 05 9a00000000 ff', 'list at 16|kind 5 0 0 bytes 18 to 23|expression refused 7|list refused 5')
+case('p38', '38: sec_offset under indirect', 'H 01 17 00000000', abbreviations('1 2e 55/16'),
+     'unit 18|entry 12 depth 0 code 1 tag 46| attribute 85 form 23 value 0|  list at 0|  end', ranges='00')
+case('location-sec-offset', 'a location\'s sec_offset is from the section\'s start', 'H 01 02000000', abbreviations('1 34 02/17'),
+     'unit 17|entry 12 depth 0 code 1 tag 52| attribute 2 form 23 value 2|  list at 2|  kind 5 0 0 bytes 4 to 7|  reference at 1 to 12 width 2|  end',
+     locations='ffff 05 03 980c00 00')
+case('location-sec-offset-past', 'and past its end is not resolved', 'H 01 04000000', abbreviations('1 34 02/17'),
+     'unit 17|entry 12 depth 0 code 1 tag 52| attribute 2 form 23 value 4|  list unresolved', locations='050196')
+case('sec-offset-other', 'a sec_offset of another attribute names no list', 'H 01 00000000', abbreviations('1 11 10/17'),
+     'unit 17|entry 12 depth 0 code 1 tag 17| attribute 16 form 23 value 0', locations='ff', ranges='ff')
+case('p21-bases', '21: the last base in an entry counts, for the whole entry and those behind it',
+     'H 02 00 01 00 00 00000000 04000000 02 00 00', abbreviations('1 11 children 55/23 02/22 74/17 74/17; 2 24 55/23'),
+     'unit 28|entry 12 depth 0 code 2 tag 36| attribute 85 form 35 value 0|  list unresolved|'
+     'entry 14 depth 0 code 1 tag 17 children| attribute 85 form 35 value 0|  list at 8|  kind 4 1 2|  end| attribute 2 form 34 value 0|  list at 16|  end|'
+     ' attribute 116 form 23 value 0| attribute 116 form 23 value 4|entry 25 depth 1 code 2 tag 36| attribute 85 form 35 value 0|  list at 8|  kind 4 1 2|  end|'
+     'terminator 27 depth 1', locations=T, ranges='ffffffff 04000000 04 01 02 00')
+case('p21-indirect', '21: a base in sec_offset under indirect counts; a base of another tag does not',
+     'H 02 00000000 01 17 04000000 00 03', abbreviations('1 11 8c/16 02/22; 2 24 8c/17; 3 24'),
+     'unit 25|entry 12 depth 0 code 2 tag 36| attribute 140 form 23 value 0|entry 17 depth 0 code 1 tag 17| attribute 140 form 23 value 4|'
+     ' attribute 2 form 34 value 0|  list at 8|  end|entry 24 depth 0 code 3 tag 36', locations='ffffffff 04000000 00')
+case('p30', '30: a base in data4 does not count', 'H 01 00000000 00', abbreviations('1 11 74/06 55/23'),
+     'unit 18|entry 12 depth 0 code 1 tag 17| attribute 116 form 6 value 0| attribute 85 form 35 value 0|  list at 16|  end', ranges=T)
+range_list('range-kinds', 'every kind of range list entry',
+           T + '01 05 02 8001 07 03 01 8000 04 10 20 05 0100000000000080 06 0200000000000000 0300000000000000 07 0400000000000000 ff01 00 ff',
+           'list at 16|kind 1 5 0|kind 2 128 7|kind 3 1 0|kind 4 16 32|kind 5 9223372036854775809 0|kind 6 2 3|kind 7 4 255|end')
+case('range-kinds-32', 'the same with addresses of four bytes', '0a000000 0500 01 04 00000000 01 00', abbreviations('1 24 55/23'),
+     'unit type 1 address_size 4 abbreviations 0 first 12 end 14|' + ENTRY + '| attribute 85 form 35 value 0|  list at 16|  kind 5 2147483649 0|'
+     '  kind 6 2 3|  kind 7 4 255|  end', ranges=T + '05 01000080 06 02000000 03000000 07 04000000 ff01 00')
+range_list('range-section-end', 'a list that ends with its section, between two entries', T + '04 00 00', 'list at 16|kind 4 0 0|end')
+range_list('range-kind-8', 'an unknown kind', T + '04 00 00 08 00 00', 'list at 16|kind 4 0 0|list refused 5')
+for text in ('01', '02 80', '03 00', '04 00 80', '05 00000000000000', '06 0000000000000000 00000000000000', '07 0000000000000000'):
+    range_list('range-cut-' + text[:2], 'a list that breaks off inside an entry', T + text, 'list at 16|list refused 5')
+location_list('location-kinds', 'every kind of location list entry',
+              T + '01 05 02 8001 07 01 96 03 01 8000 03 980c00 04 10 20 00 05 02 a80c 06 0100000000000080'
+              ' 07 0200000000000000 0300000000000000 05 990d000000 08 0400000000000000 ff01 8100 96 00 ff',
+              'list at 16|kind 1 5 0|kind 2 128 7 bytes 23 to 24|kind 3 1 0 bytes 29 to 32|reference at 1 to 12 width 2|kind 4 16 32 bytes 36 to 36|'
+              'kind 5 0 0 bytes 38 to 40|reference at 1 to 12 width 1|kind 6 9223372036854775809 0|kind 7 2 3 bytes 67 to 72|'
+              'reference at 1 to 13 width 4|kind 8 4 255 bytes 85 to 86|end')
+case('location-kinds-32', 'the same with addresses of four bytes', '0a000000 0500 01 04 00000000 01 00', abbreviations('1 24 02/22'),
+     'unit type 1 address_size 4 abbreviations 0 first 12 end 14|' + ENTRY + '| attribute 2 form 34 value 0|  list at 16|  kind 6 2147483649 0|'
+     '  kind 7 2 3 bytes 31 to 32|  kind 8 4 255 bytes 40 to 45|  end',
+     locations=T + '06 01000080 07 02000000 03000000 01 96 08 04000000 ff01 05 03 04000000 00')
+location_list('location-kind-9', '29: GNU_view_pair', T + '09 00 00', 'list at 16|list refused 5')
+location_list('location-section-end', 'a list that ends with its section', T + '05 00', 'list at 16|kind 5 0 0 bytes 18 to 18|end')
+location_list('location-too-long', 'an expression that reaches past the section', T + '05 02 96', 'list at 16|list refused 5')
+location_list('location-refused', 'an unreadable expression does not end the list', T + '05 01 ff 05 01 96 00',
+              'list at 16|kind 5 0 0 bytes 18 to 19|expression refused 5|kind 5 0 0 bytes 21 to 22|end')
+for text in ('01', '02 00 00', '03 00 00 01', '04 00 00 80', '05', '06 00000000000000', '07 0000000000000000 0000000000000000', '08 0000000000000000 00'):
+    location_list('location-cut-' + text[:2], 'a list that breaks off inside an entry', T + text, 'list at 16|list refused 5')
+
+# ---- expressions (points 12, 14, 26, 28, 29, 40, 44, 49, 52, 54)
+expression('p12', '12: indexes of addresses are no references', 'a101 a102')
+expression('p14', '14: an unreadable entry value', 'a301ff a102', 'expression refused 5')
+for code, what in (('98', 'call2'), ('99', 'call4'), ('fa', 'GNU_parameter_ref')):
+    width = 2 if code == '98' else 4
+    expression('p26-' + what, '26: 0 counts', code + '00' * width, 'reference at 1 to 0 width %d' % width)
+for code in ('a8', 'a9', 'f7', 'f9'):
+    expression('p26-%s-zero' % code, '26: a type of 0 names nothing', code + '00')
+    expression('p26-%s-padded' % code, '26: nor a padded one', code + '8000')
+for code in ('a5', 'f5', 'a6', 'f6', 'a7'):
+    expression('p26-%s-zero' % code, '26: the second operand', code + '0500')
+for code in ('a4', 'f4'):
+    expression('p26-%s-zero' % code, '26: a constant with type 0', code + '00 01 07')
+case('p28', '28: a block under location is no expression', 'H 01 03 980e00 02', abbreviations('1 24 02/0a; 2 24'),
+     'unit 18|' + ENTRY + '| attribute 2 form 10 bytes 14 to 17|entry 17 depth 0 code 2 tag 36')
+expression('p29-breg31', '29: breg31', '8f00')
+for code in ('90', '92', 'a5', 'f5'):
+    tail = {'90': '', '92': '00', 'a5': '0c', 'f5': '0c'}[code]
+    named = 'reference at 4 to 12 width 1' if code in ('a5', 'f5') else ''
+    expression('p29-%s-ffff' % code, '29: register 65,535', code + 'ffff03' + tail, named)
+    expression('p29-%s-10000' % code, '29: register 65,536', code + '808004' + tail, 'expression refused 5')
+    expression('p29-%s-padded' % code, '29: a register in ten bytes', code + '85808080808080808000' + tail, named.replace('at 4', 'at 11'))
+UNKNOWN = [0, 1, 2, 4, 5, 7] + list(range(0xaa, 0xe0)) + list(range(0xe1, 0xf2)) + [0xf8, 0xfe, 0xff]
+for code in UNKNOWN:
+    if code in (0x00, 0x07, 0xaa, 0xdf, 0xe1, 0xed, 0xf0, 0xf1, 0xf8, 0xff):
+        expression('unknown-%02x' % code, '29: no operation', '%02x 00 00' % code, 'expression refused 5')
+expression('p40', '40: GNU_variable_value', 'fd00000000', 'expression refused 7')
+for code, tail in (('9a', ''), ('a0', '00'), ('f2', '7f')):
+    expression('absolute-' + code, 'a section-absolute operand', code + '0c000000' + tail, 'expression refused 7')
+    expression('absolute-%s-cut' % code, 'a cut one', code + '0c0000', 'expression refused 5')
+expression('p44', '44: 5 in an entry value goes before 7', '9a00000000 a301ff', 'expression refused 5')
+expression('p44-inside', '44: 7 in an entry value', '98 0c00 a305 9a00000000 96', 'expression refused 7')
+expression('p44-both-inside', '44: and 5 behind it', 'a306 9a00000000 ff', 'expression refused 5')
+expression('p49-places', '49: places are in the outermost expression',
+           '96 a30d 96 98 0c00 f305 99 0d000000 30 31 a8 8e00',
+           'reference at 5 to 12 width 2|  reference at 10 to 13 width 4|  reference at 17 to 14 width 2')
+expression('p54', '54: a piece of 2^61 bytes', '93 808080808080808020 98 0c00', 'reference at 11 to 12 width 2')
+expression('p54-largest', '54: and of 2^64-1', '93 ffffffffffffffffff01', '')
+expression('piece-too-large', 'one above 64 bits', '93 ffffffffffffffffff02', 'expression refused 5')
+expression('p07-consts', '7: a signed number above 64 bits', '11 80808080808080808001', 'expression refused 5')
+expression('consts-least', '7: the least signed number', '11 8080808080808080807f 98 0c00', 'reference at 12 to 12 width 2')
+expression('part-end', 'expression bytes end at their part\'s end', 'a3 02 98 0c 00', 'expression refused 5')
+expression('entry-value-too-long', 'an entry value that reaches past the expression', 'a3 02 96', 'expression refused 5')
+expression('entry-value-empty', 'an empty entry value', 'a3 00 98 0c00', 'reference at 3 to 12 width 2')
+expression('implicit-value-bytes', 'the bytes of an implicit value are not walked', '9e 03 980c00 96', '')
+expression('const-type-bytes', 'nor those of a typed constant', 'a4 0c 03 980d00', 'reference at 1 to 12 width 1')
+expression('const-type-too-long', 'bytes that reach past the expression', 'a4 0c 04 980d00', 'expression refused 5')
+expression('repeats', 'repeats and dangling references count', '98 0c00 98 0c00 98 ffff', 'reference at 1 to 12 width 2|  reference at 4 to 12 width 2|'
+           '  reference at 7 to 65535 width 2')
+expression('type-large', 'a type\'s offset may have 64 bits', 'a8 ffffffffffffffffff01', 'reference at 1 to 18446744073709551615 width 10')
+case('unit-end-expression', 'an expression whose operand lies behind the exprloc', 'H 01 01 98 0c 00', abbreviations('1 24 02/18 03/05'),
+     'unit 17|' + ENTRY + '| attribute 2 form 24 bytes 14 to 15|  expression refused 5| attribute 3 form 5 value 12')
+case('expression-any-name', 'an exprloc under any name is an expression', 'H 01 03 980c00', abbreviations('1 24 03/18'),
+     'unit 17|' + ENTRY + '| attribute 3 form 24 bytes 14 to 17|  reference at 1 to 12 width 2')
+
+# Every operation once, alone in its entry and with a call2 behind it, whose place shows how many bytes it takes: code, operands, and
+# the reference that it holds itself (place, offset, width).
+NONE = [0x06, 0x12, 0x13, 0x14, 0x16, 0x17, 0x18] + list(range(0x19, 0x23)) + list(range(0x24, 0x28)) + list(range(0x29, 0x2f)) + \
+    list(range(0x30, 0x70)) + [0x96, 0x97, 0x9b, 0x9c, 0x9f, 0xe0]
+OPERATIONS = [(c, '', None) for c in NONE] + [(c, '8180 00', None) for c in range(0x70, 0x90)] + [
+    (0x03, '0102030405060708', None), (0x08, '98', None), (0x09, '98', None), (0x15, '98', None), (0x94, '98', None), (0x95, '98', None),
+    (0x0a, '9898', None), (0x0b, '9898', None), (0x28, '9898', None), (0x2f, '9898', None),
+    (0x0c, '98989898', None), (0x0d, '98989898', None), (0x0e, '9898989898989898', None), (0x0f, '9898989898989898', None),
+    (0x10, '988000', None), (0x23, '988000', None), (0x90, '988000', None), (0x93, '988000', None), (0xa1, '988000', None),
+    (0xfb, '988000', None), (0xa2, '988000', None), (0xfc, '988000', None), (0x11, '98807f', None), (0x91, '98807f', None),
+    (0x92, '9800 98807f', None), (0x9d, '9800 988000', None), (0x9e, '02 9898', None), (0xa3, '02 0898', None), (0xf3, '8200 0998', None),
+    (0x98, '0d00', (1, 13, 2)), (0x99, '0d000000', (1, 13, 4)), (0xfa, '0d000000', (1, 13, 4)),
+    (0xa8, '8d00', (1, 13, 2)), (0xf7, '8d00', (1, 13, 2)), (0xa9, '8d00', (1, 13, 2)), (0xf9, '8d00', (1, 13, 2)),
+    (0xa5, '9800 0d', (3, 13, 1)), (0xf5, '9800 0d', (3, 13, 1)), (0xa6, '98 0d', (2, 13, 1)), (0xf6, '98 0d', (2, 13, 1)),
+    (0xa7, '98 0d', (2, 13, 1)), (0xa4, '8d00 02 9898', (1, 13, 2)), (0xf4, '8d00 02 9898', (1, 13, 2))]
+
+
+def operations(name, size):
+    """All of them in one unit; with addresses of four bytes where size is 4. Without its last byte each is refused."""
+    body, out, at = b'', [], 12
+    for code, text, own in sorted(OPERATIONS):
+        operands = octets(text)[:size if code == 0x03 else 99]
+        whole = bytes([code]) + operands
+        for data, cut in ((whole + octets('98 0c00'), False), (whole[:-1], True)):
+            if cut and not operands:
+                continue
+            body += b'\x01' + bytes([len(data)]) + data
+            out.append('entry %d depth 0 code 1 tag 36' % at)
+            out.append(' attribute 2 form 24 bytes %d to %d' % (at + 2, at + 2 + len(data)))
+            if cut:
+                out.append('  expression refused 5')
+            else:
+                if own:
+                    out.append('  reference at %d to %d width %d' % own)
+                out.append('  reference at %d to 12 width 2' % (len(whole) + 1))
+            at += 2 + len(data)
+    data = (8 + len(body)).to_bytes(4, 'little') + octets('0500 01 %02x 00000000' % size) + body
+    case(name, 'every operation', data, abbreviations('1 24 02/18'),
+         '|'.join(['unit type 1 address_size %d abbreviations 0 first 12 end %d' % (size, at)] + out))
+
+
+def every_unknown():
+    """Every code that is no operation."""
+    body, out = b'', ['unit %d' % (12 + 4 * len(UNKNOWN))]
+    for i, code in enumerate(UNKNOWN):
+        body += b'\x01\x02' + bytes([code, 0x96])
+        out += ['entry %d depth 0 code 1 tag 36' % (12 + 4 * i), ' attribute 2 form 24 bytes %d to %d' % (14 + 4 * i, 16 + 4 * i), '  expression refused 5']
+    case('operations-unknown', 'every code that is no operation', unit(body), abbreviations('1 24 02/18'), '|'.join(out))
+
+
+operations('operations', 8)
+operations('operations-32', 4)
+every_unknown()
+assert len(OPERATIONS) + len(UNKNOWN) + 4 == 256  # the four section-absolute ones have cases of their own
+
+# 2,049 references are one more than dump's table holds; a section-absolute operand goes before that.
+many = octets('98 0c00') * 2049
+for name, data, number in (('references-2049', many, 11), ('references-2049-absolute', many + octets('9a00000000'), 7)):
+    case(name, '49: the order of 7 and 11', unit(b'\x01' + uleb(len(data)) + data), abbreviations('1 24 02/18'),
+         'unit %d|' % (15 + len(data)) + ENTRY + '| attribute 2 form 24 bytes 15 to %d|  expression refused %d' % (15 + len(data), number))
+
+# 52: entry values in each other, as many as go into a bundle, with a call2 in the innermost. The last two bytes are its operand.
+deep = octets('98 0c00')
+levels = 0
+while len(deep) + 4 <= 65536 - 25 - 12 - 1 - 3 - 8:
+    deep = b'\xa3' + uleb(len(deep)) + deep
+    levels += 1
+assert levels > 17000
+case('p52', '52: %d levels of entry values' % levels, unit(b'\x01' + uleb(len(deep)) + deep), abbreviations('1 24 02/18'),
+     'unit %d|' % (16 + len(deep)) + ENTRY + '| attribute 2 form 24 bytes 16 to %d|  reference at %d to 12 width 2' % (16 + len(deep), len(deep) - 2))
+
+# ---- references that are copied or read as numbers
+single('p42-sibling', '42: a sibling in ref_addr', '01/10', '00000000', 'value 0')
+single('p42-indirect', '42: ref_addr under indirect', '49/16', '10 00000000', '16 value 0')
+single('ranges-sec-offset', 'a range list at an offset past its section', '55/17', '01000000', 'value 1|  list unresolved')
+
+
+def files():
+    out = {'args': ''.join(name + '.bundle\n' for name, _, _, _ in cases).encode(),
+           'stdout': ''.join('== %s.bundle\n' % name + ''.join(line + '\n' for line in text) for name, _, _, text in cases).encode()}
+    for name, _, data, _ in cases:
+        out['data/%s.bundle' % name] = data
+    return out
+
+
+def main():
+    names = [name for name, _, _, _ in cases]
+    assert len(set(names)) == len(names), [n for n in names if names.count(n) > 1]
+    wanted = files()
+    there = {'data/' + f for f in os.listdir(os.path.join(HOME, 'data'))} if os.path.isdir(os.path.join(HOME, 'data')) else set()
+    if sys.argv[1:] == ['check']:
+        wrong = [f for f in wanted if not os.path.exists(os.path.join(HOME, f)) or open(os.path.join(HOME, f), 'rb').read() != wanted[f]]
+        wrong += sorted(there - set(wanted))
+        if wrong:
+            sys.exit('points.py: not as written here: ' + ' '.join(wrong))
+    else:
+        os.makedirs(os.path.join(HOME, 'data'), exist_ok=True)
+        for f in there - set(wanted):
+            os.remove(os.path.join(HOME, f))
+        for f, data in wanted.items():
+            with open(os.path.join(HOME, f), 'wb') as out:
+                out.write(data)
+    print('points.py: %d cases' % len(cases))
+
+
+if __name__ == '__main__':
+    main()

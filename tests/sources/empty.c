@@ -1,0 +1,2 @@
+/* Nothing but a declaration that is used nowhere. */
+typedef int nothing;

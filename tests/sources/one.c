@@ -1,0 +1,2 @@
+/* One variable. */
+int one = 1;
