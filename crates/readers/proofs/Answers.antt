@@ -8,10 +8,11 @@ use native.Mathlib.Omega.{arith}
 use lib.ListN.{length, length-replicate}
 use lib.Dec.{T, leb, eqb}
 use mir.Facts.{yes-eqb, no-eqb, yes-leb, no-leb}
-use Rattle.readers.specs.Choice.{pick, pick-yes, pick-no, _or_}
+use Rattle.readers.specs.Choice.{pick, pick-yes, pick-no, _or_, zeros}
 use Rattle.readers.specs.Layout.{Piece}
 use Rattle.readers.specs.Expression.{expressionIn}
-use Rattle.readers.specs.References.{Named, namesIn, asWalk, walkOf, expressionEncoding, walkAnswer, referencesAnswer, zeros, numbersOf, Room, namesOr, referencesIn, answerTable, referencesTable, flatFrom}
+use Rattle.readers.specs.Header.{encodingOf}
+use Rattle.readers.specs.References.{Named, namesIn, asWalk, walkOf, walkAnswer, referencesAnswer, numbersOf, Room, namesOr, referencesIn, answerTable, referencesTable, flatFrom}
 use Rattle.readers.specs.declared.cursor.Encoding.{Encoding}
 use Rattle.readers.specs.declared.expressions.Walk.{Walk}
 use Rattle.readers.specs.declared.expressions.Walk.the-variants.{Walked, Unreadable}
@@ -49,13 +50,13 @@ module _ (a : ℕ) where
 
     refused : (k : ℕ) → Refused k ≡ referencesAnswer a numbers s → Answers (Refused k) t
     unfolding referencesTable answerTable
-    refused k q = (q, cleared ∙ ap (λ r. answerTable numbers r (referencesIn (expressionEncoding a) s)) q)
+    refused k q = (q, cleared ∙ ap (λ r. answerTable numbers r (referencesIn (encodingOf a) s)) q)
 
     pub refuse-size : (a ≡ 4 → ⊥) → (a ≡ 8 → ⊥) → Answers (Refused 2) t
     unfolding referencesAnswer
     refuse-size p q = refused 2 (sym (pick-no _ _ _ (neither (eqb a 4) (eqb a 8) (no-eqb {a = a} {b = 4} p) (no-eqb {a = a} {b = 8} q))))
 
-    module _ (good : T (eqb a 4 or eqb a 8)) (u : Walk) (is : u ≡ walkOf (expressionEncoding a) s) where
+    module _ (good : T (eqb a 4 or eqb a 8)) (u : Walk) (is : u ≡ walkOf (encodingOf a) s) where
       answer : (w : Walk) → u ≡ w → walkAnswer (numbers / 3) w ≡ referencesAnswer a numbers s
       unfolding referencesAnswer
       answer w q = ap (walkAnswer (numbers / 3)) (sym q ∙ is) ∙ sym (pick-yes _ _ _ good)
@@ -89,16 +90,16 @@ module _ (a : ℕ) where
             counts : Count n ≡ referencesAnswer a numbers s
             counts = sym (pick-yes _ _ _ (yes-leb {a = n} {b = numbers / 3} enough)) ∙ relative
 
-            flat-is : (flatFrom (expressionEncoding a) s 0 ≡ referencesIn (expressionEncoding a) s) × (length (flatFrom (expressionEncoding a) s 0) ≡ n)
-            flat-is = walked-flat (expressionEncoding a) s n b (sym is ∙ q)
+            flat-is : (flatFrom (encodingOf a) s 0 ≡ referencesIn (encodingOf a) s) × (length (flatFrom (encodingOf a) s 0) ≡ n)
+            flat-is = walked-flat (encodingOf a) s n b (sym is ∙ q)
 
-            pub has-room : Room (flatFrom (expressionEncoding a) s 0) t n
+            pub has-room : Room (flatFrom (encodingOf a) s 0) t n
             has-room = record { count = flat-is .1; fits = omega arith; cleared = cleared ∙ ap zeros (sym same) }
 
-            pub accept : (l : List ℕ) → l ≡ numbersOf (flatFrom (expressionEncoding a) s 0) ++ zeros (length t - 3 * n) → Answers (Count n) l
+            pub accept : (l : List ℕ) → l ≡ numbersOf (flatFrom (encodingOf a) s 0) ++ zeros (length t - 3 * n) → Answers (Count n) l
             unfolding referencesTable answerTable
             accept l f = (
               counts,
               f ∙ ap₂ (λ rs m. numbersOf rs ++ zeros (m - 3 * n)) (flat-is .0) same
-                  ∙ ap (λ r. answerTable numbers r (referencesIn (expressionEncoding a) s)) counts,
+                  ∙ ap (λ r. answerTable numbers r (referencesIn (encodingOf a) s)) counts,
             )

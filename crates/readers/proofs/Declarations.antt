@@ -10,12 +10,12 @@ use lib.ListN.{length, set, length-set, length-replicate, getD, getD-replicate}
 use lib.Seq.{ext-getD, getD-set-same, getD-set-other, set-out}
 use lib.Dec.{T, eqb, leb, ltb}
 use mir.Facts.{yes-eqb, no-eqb, eqb-yes, eqb-no, yes-leb, no-leb, yes-ltb, no-ltb, ltb-yes, ltb-no}
-use Rattle.readers.specs.Choice.{pick, pick-yes, pick-no, pick-either, either, check, check-yes, check-no, bind, bind-at, bind-none, _and_}
+use Rattle.readers.specs.Choice.{pick, pick-yes, pick-no, pick-either, either, check, check-yes, check-no, bind, bind-at, bind-none, _and_, zeros}
 use Rattle.readers.specs.Numbers.{uleb}
 use Rattle.readers.specs.Layout.{short}
 use Rattle.readers.specs.Scan.{Turn, more, stop, bad, Scanned, push, onTurn, scanWithin, scan, Goes, scan-stop, scan-bad, scan-more}
 use Rattle.readers.specs.Cursors.{lebAt, fixedAt}
-use Rattle.readers.specs.Abbreviations.{pastAttributes, numberDeclaration, movedDeclaration, declarationAt, Placed, declarationTurn, declarationsFrom, declaredIn, isFound, distinct, checkDistinct, abbreviationsOf, asChecked, checkedOf, zeros, indexed, indexFor, indexOf, searchTurn, foundBy, searchAt, declarationFound, throughIndex, findAt}
+use Rattle.readers.specs.Abbreviations.{pastAttributes, numberDeclaration, movedDeclaration, declarationAt, Placed, declarationTurn, declarationsFrom, declaredIn, isFound, distinct, checkDistinct, abbreviationsOf, asChecked, checkedOf, indexed, indexFor, indexOf, searchTurn, foundBy, searchAt, declarationFound, throughIndex, findAt}
 use Rattle.readers.specs.declared.cursor.Cursor.{Cursor}
 use Rattle.readers.specs.declared.cursor.Number.{Number}
 use Rattle.readers.specs.declared.cursor.Number.the-variants.{Value, Unreadable}
@@ -177,29 +177,6 @@ module _ (s : List ℕ) (to code at : ℕ) where
         ∙ found-same (scan (length s) (searching s to code) (c .at))
 
 -- ---- an index that is zero up to i
-
-pub record Cleared (index₀ index : List ℕ) (i : ℕ) : Type 0 where
-  pub same : length index ≡ length index₀
-  pub few : i ≤ length index
-  pub are : (k : ℕ) → k < i → getD index k 0 ≡ 0
-
-pub cleared-none : (index : List ℕ) → Cleared index index 0
-cleared-none index = record { same = refl; few = omega arith; are = λ k h. absurd (omega arith) }
-
-pub cleared-more : (index₀ index : List ℕ) (i : ℕ) → Cleared index₀ index i → i < length index → Cleared index₀ (set index i 0) (i + 1)
-cleared-more index₀ index i q h = record {
-  same = length-set index i 0 ∙ q .same;
-  few = omega (arith, length-set index i 0);
-  are = λ k l. ⊎-elim
-      (λ e. let p : k ≡ i = eqb-yes e in rw p (getD-set-same index i 0 0 h))
-      (λ e. let p : k ≡ i → ⊥ = eqb-no e in getD-set-other index i k 0 0 p ∙ q .are k (omega arith))
-      (either (eqb k i));
-}
-
-pub cleared-all : (index₀ index : List ℕ) (i : ℕ) → Cleared index₀ index i → length index ≤ i → index ≡ zeros (length index₀)
-cleared-all index₀ index i q h =
-    ext-getD 0 index (zeros (length index₀)) (q .same ∙ sym (length-replicate (length index₀) 0))
-    (λ k l. q .are k (omega arith) ∙ sym (getD-replicate (length index₀) k 0 0 (omega (arith, q .same))))
 
 pub zeros-length : (index : List ℕ) (n : ℕ) → index ≡ zeros n → length index ≡ n
 zeros-length index n e = ap length e ∙ length-replicate n 0

@@ -1,4 +1,4 @@
-pub mod Tables
+pub mod Constants
 pub mod Widths
 pub mod Lebs
 pub mod Tokens

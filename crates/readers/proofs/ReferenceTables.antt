@@ -6,7 +6,8 @@ use native.Mathlib.Omega.{arith}
 use native.Mathlib.Numerals.{add-one}
 use lib.ListN.{length, take, drop, set, replicate, length-append, length-replicate, length-set}
 use lib.Seq.{take-suc-set, take-length, set-at, append-snoc}
-use Rattle.readers.specs.References.{Named, zeros, numbersOf, Room, flatFrom, nextReference}
+use Rattle.readers.specs.Choice.{zeros}
+use Rattle.readers.specs.References.{Named, numbersOf, Room, flatFrom, nextReference}
 use Rattle.readers.specs.declared.cursor.Encoding.{Encoding}
 use Rattle.readers.specs.declared.expressions.Reference.{Reference}
 use Rattle.readers.specs.declared.expressions.Yield.{Yield}

@@ -40,7 +40,7 @@ use Rattle.readers.specs.declared.attributes.AttributeRead.the-variants.
 use Rattle.readers.specs.declared.entries.Step.{Step}
 use Rattle.readers.specs.declared.entries.Step.the-variants.{Entry as Entry′, Terminator, End, Unreadable}
 use Rattle.readers.proofs.Specs.{attributes-more, attributes-last, attributes-bad}
-use Rattle.readers.proofs.Tables.{listed, entry}
+use Rattle.readers.proofs.Constants.{listed, entry}
 use Rattle.readers.proofs.Tokens.{token-use, token-unknown}
 
 abbrev order : Encoding → Bool

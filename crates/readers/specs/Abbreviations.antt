@@ -4,9 +4,9 @@ use Prim.Native.Nat.{ℕ, suc, _+_, _-_}
 use mathlib.Core.Bool.{Bool, true, false, not}
 use mathlib.Core.List.{List, [], _∷_}
 use mathlib.Core.Option.{Option, none, some}
-use lib.ListN.{length, set, getD, replicate}
+use lib.ListN.{length, set, getD}
 use lib.Dec.{ltb, leb, eqb}
-use Rattle.readers.specs.Choice.{pick, check, bind, _and_, _or_}
+use Rattle.readers.specs.Choice.{pick, check, bind, _and_, zeros}
 use Rattle.readers.specs.Numbers.{uleb, sleb}
 use Rattle.readers.specs.Layout.{short}
 use Rattle.readers.specs.Scan.{Turn, more, stop, bad, Scanned, scan}
@@ -129,9 +129,6 @@ unfoldable pub checkedOf : List ℕ → ℕ → Checked
 checkedOf s from = asChecked (abbreviationsOf s from)
 
 -- ---- the index: one more than the place of each code's declaration
-
-abbrev pub zeros : ℕ → List ℕ
-zeros n = replicate n 0
 
 unfoldable pub indexed : List ℕ → List Placed → List ℕ
 indexed index [] = index

@@ -7,7 +7,7 @@ use mathlib.Core.Option.{Option, none, some}
 use mathlib.Core.List.{List}
 use Prim.Native.Nat.{ℕ, _+_, _-_, _≤_}
 use native.Mathlib.Omega.{arith}
-use lib.ListN.{length, drop, length-drop}
+use lib.ListN.{length, drop, replicate, length-drop}
 use lib.Seq.{drop-drop}
 use lib.Dec.{T}
 
@@ -38,6 +38,10 @@ bind (some a) f = f a
 unfoldable pub All {ℓ} : {A : Type ℓ} → (A → Type 0) → Option A → Type 0
 All P none = Unit {0}
 All P (some a) = P a
+
+-- what a lent table holds where no answer stands
+abbrev pub zeros : ℕ → List ℕ
+zeros n = replicate n 0
 
 -- ---- choices
 

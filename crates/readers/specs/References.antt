@@ -4,9 +4,10 @@ use Prim.Native.Nat.{ℕ, _+_, _*_, _-_, _/_, _≤_}
 use mathlib.Core.Bool.{Bool, true, false}
 use mathlib.Core.List.{List, [], _∷_, _++_}
 use mathlib.Core.Option.{Option, none, some}
-use lib.ListN.{length, drop, replicate}
+use lib.ListN.{length, drop}
 use lib.Dec.{ltb, leb, eqb}
-use Rattle.readers.specs.Choice.{pick, _or_}
+use Rattle.readers.specs.Choice.{pick, _or_, zeros}
+use Rattle.readers.specs.Header.{encodingOf}
 use Rattle.readers.specs.Layout.{Encoded, width, Role, reference, typeReference, sibling, index, absolute, Piece, copied, linked, pieceBytes}
 use Rattle.readers.specs.Expression.{expressionIn}
 use Rattle.readers.specs.Scan.{Turn, more, stop, Scanned, scan}
@@ -136,9 +137,6 @@ flatFrom e s at = flattened (scan (length s) (flatTurn e s) at)
 
 -- ---- the public call
 
-unfoldable pub expressionEncoding : ℕ → Encoding
-expressionEncoding n = record { version = 5; «offset_size» = 4; «address_size» = n; «big_endian» = false }
-
 -- in this order 2, 5, 7, 11; a table holds a third as many references as numbers
 unfoldable pub walkAnswer : ℕ → Walk → References
 walkAnswer room Unreadable = Refused 5
@@ -146,10 +144,7 @@ walkAnswer room (Walked n true) = Refused 7
 walkAnswer room (Walked n false) = pick (leb n room) (Count n) (Refused 11)
 
 unfoldable pub referencesAnswer : ℕ → ℕ → List ℕ → References
-referencesAnswer n numbers s = pick (eqb n 4 or eqb n 8) (walkAnswer (numbers / 3) (walkOf (expressionEncoding n) s)) (Refused 2)
-
-abbrev pub zeros : ℕ → List ℕ
-zeros n = replicate n 0
+referencesAnswer n numbers s = pick (eqb n 4 or eqb n 8) (walkAnswer (numbers / 3) (walkOf (encodingOf n) s)) (Refused 2)
 
 unfoldable pub numbersOf : List Named → List ℕ
 numbersOf [] = []
@@ -175,4 +170,4 @@ answerTable numbers (Count n) rs = numbersOf rs ++ zeros (numbers - 3 * n)
 answerTable numbers (Refused k) rs = zeros numbers
 
 unfoldable pub referencesTable : ℕ → ℕ → List ℕ → List ℕ
-referencesTable n numbers s = answerTable numbers (referencesAnswer n numbers s) (referencesIn (expressionEncoding n) s)
+referencesTable n numbers s = answerTable numbers (referencesAnswer n numbers s) (referencesIn (encodingOf n) s)

@@ -1,11 +1,13 @@
 // Abbreviation declarations (DWARF 5, 7.5.3).
 ghost use mathlib.Core.Path.{_≡_};
 ghost use lib.ListN.{length};
-ghost use Rattle.readers.specs.Abbreviations.{specAt, implicitSpec, pastAttributes, declarationAt, searchAt, checkedOf, indexOf, findAt, zeros};
+ghost use Rattle.readers.specs.Choice.{zeros};
+ghost use Rattle.readers.specs.Abbreviations.{specAt, implicitSpec, pastAttributes, declarationAt, searchAt, checkedOf, indexOf, findAt};
 ghost use Rattle.readers.specs.declared.abbreviations.Checked.the-variants.{Accepted};
 use crate::cursor::Cursor;
 use crate::cursor::Moved;
 use crate::cursor::Number;
+use crate::tables::clear;
 
 // An attribute specification: its name, its form, the value of an implicit_const (else 0), and the cursor past it.
 pub struct AttributeSpec {
@@ -176,16 +178,6 @@ impl Cursor {
     }
 }
 
-fn clear_index(index: &mut [u64])
-    ensures { λ _. ⌜ now (index .exit) ≡ zeros (length (now (index .entry))) ⌝ }
-{
-    let mut i: usize = 0;
-    while i < index.len() {
-        index[i] = 0;
-        i += 1;
-    }
-}
-
 // Fills an index that holds zeros, up to a declaration that is unreadable or has a code that was declared before.
 fn fill_index(s: &[u8], start: usize, index: &mut [u64]) -> Checked
     requires { ⌜ now index ≡ zeros (length (now index)) ⌝ }
@@ -227,11 +219,11 @@ pub fn check_abbreviations(s: &[u8], from: u64, index: &mut [u64]) -> Checked
     ensures answer { λ r. ⌜ r ≡ checkedOf (now (s .entry)) from ⌝ }
     ensures filled { λ r. ⌜ now (index .exit) ≡ indexOf (now (s .entry)) from (length (now (index .entry))) ⌝ }
 {
-    clear_index(index);
+    clear(index);
     match fill_index(s, from as usize, index) {
         Checked::Accepted => Checked::Accepted,
         Checked::Refused => {
-            clear_index(index);
+            clear(index);
             Checked::Refused
         }
     }

@@ -4,13 +4,15 @@ ghost use mathlib.Core.List.{_++_};
 ghost use Prim.Native.Nat.{_*_, _-_};
 ghost use lib.ListN.{length};
 ghost use Rattle.readers.specs.Choice.{_or_};
-ghost use Rattle.readers.specs.References.{walkOf, ownWalk, named, namedType, referenceOf, nextReference, flatFrom, referencesAnswer, referencesTable, zeros, numbersOf, Room};
+ghost use Rattle.readers.specs.Choice.{zeros};
+ghost use Rattle.readers.specs.References.{walkOf, ownWalk, named, namedType, referenceOf, nextReference, flatFrom, referencesAnswer, referencesTable, numbersOf, Room};
 use crate::cursor::Cursor;
 use crate::cursor::Encoding;
 use crate::fields::Field;
 use crate::offsets::UnitOffset;
 use crate::operations::Operation;
 use crate::operations::OperationRead;
+use crate::tables::clear;
 
 // What a walk of a whole expression finds, nested ones included: how many references it holds, and whether it names anything by an offset in the
 // section.
@@ -205,16 +207,6 @@ impl Cursor {
             }
         }
         Yield::End
-    }
-}
-
-fn clear(table: &mut [u64])
-    ensures { λ _. ⌜ now (table .exit) ≡ zeros (length (now (table .entry))) ⌝ }
-{
-    let mut i: usize = 0;
-    while i < table.len() {
-        table[i] = 0;
-        i += 1;
     }
 }
 

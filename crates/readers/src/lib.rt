@@ -9,3 +9,4 @@ pub mod header;
 pub mod lists;
 pub mod offsets;
 pub mod operations;
+pub mod tables;

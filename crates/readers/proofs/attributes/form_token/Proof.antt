@@ -2,7 +2,7 @@
 use borrow.Author.Needs.{needs}
 use Rattle.readers.specs.Choice.{pick}
 use Rattle.readers.specs.Forms.{formToken, formTokens, tokenAmong}
-use Rattle.readers.proofs.Tables.{listed, listedFrom}
+use Rattle.readers.proofs.Constants.{listed, listedFrom}
 use Rattle.readers.proofs.Values.{token-low, token-gnu, token-none}
 use Rattle.readers.proofs.attributes.form_token.Statement.{statement}
 use Rattle.readers.proofs.attributes.form_token.Tie as tie

@@ -2,7 +2,7 @@
 use mathlib.Core.Path.{sym, _∙_}
 use Rattle.readers.specs.Choice.{pick, _and_}
 use Rattle.readers.specs.Operations.{rowAmong, locationEntries, rangeEntries}
-use Rattle.readers.proofs.Tables.{listed, listedFrom, entry}
+use Rattle.readers.proofs.Constants.{listed, listedFrom, entry}
 use Rattle.readers.proofs.Steps.{location-row, range-row, location-past, range-past}
 use borrow.Author.Needs.{needs}
 use Rattle.readers.proofs.operations.list_row.Statement.{statement}

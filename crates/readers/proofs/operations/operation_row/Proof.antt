@@ -2,7 +2,7 @@
 use native.Mathlib.Omega.{arith}
 use Rattle.readers.specs.Choice.{pick, _and_}
 use Rattle.readers.specs.Operations.{operations, rowAmong, operationRow}
-use Rattle.readers.proofs.Tables.{listed, listedFrom, entry}
+use Rattle.readers.proofs.Constants.{listed, listedFrom, entry}
 use borrow.Author.Needs.{needs}
 use Rattle.readers.proofs.operations.operation_row.Statement.{statement}
 use Rattle.readers.proofs.operations.operation_row.Tie as tie

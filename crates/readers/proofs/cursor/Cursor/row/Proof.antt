@@ -1,6 +1,6 @@
 -- `Cursor::row` meets its contract: the tables list the tokens of the rows, and each field is read where the one before ends.
 use Rattle.readers.specs.Operations.{rows, unreadableRow, rowOf}
-use Rattle.readers.proofs.Tables.{listed, listedFrom, entry}
+use Rattle.readers.proofs.Constants.{listed, listedFrom, entry}
 use Rattle.readers.proofs.Tokens.{row-over, row-none, row-none2, row-none3, row-read}
 use borrow.Author.Needs.{needs}
 use Rattle.readers.proofs.cursor.Cursor.row.Statement.{statement}

@@ -2,8 +2,8 @@ use Prim.Native.Nat.{_-_}
 use native.Mathlib.Omega.{arith}
 use lib.ListN.{length, length-set}
 use Rattle.readers.proofs.ReferenceTables.{Clearing, clear-start, clear-more, clear-done}
-use Rattle.readers.proofs.expressions.clear.Statement.{statement}
-use Rattle.readers.proofs.expressions.clear.Tie as tie
+use Rattle.readers.proofs.tables.clear.Statement.{statement}
+use Rattle.readers.proofs.tables.clear.Tie as tie
 
 abbrev Inv-loop : tie.InvT-loop
 Inv-loop table₀ i₀ table i = Clearing table₀ table i
