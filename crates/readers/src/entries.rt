@@ -1,8 +1,9 @@
 // The entries and terminators of a unit, one after the other (DWARF 5, 7.5.2 and 2.3), and how they nest.
 ghost use mathlib.Core.Path.{_≡_};
+ghost use mathlib.Core.List.{[]};
 ghost use Rattle.readers.specs.Entries.{valuesAt, stepAt};
 ghost use Rattle.readers.specs.Abbreviations.{findAt};
-ghost use Rattle.readers.specs.Nesting.{opened, closed};
+ghost use Rattle.readers.specs.Nesting.{nestingOf, opened, closed};
 use crate::abbreviations::Declaration;
 use crate::abbreviations::Found;
 use crate::abbreviations::SpecStep;
@@ -107,7 +108,7 @@ impl Cursor {
 impl Nesting {
     // Outside every entry.
     pub fn outside() -> Nesting
-        ensures { λ r. ⌜ (r .depth ≡ 0) × (r .parent .0 ≡ 4294967295) ⌝ }
+        ensures { λ r. ⌜ r ≡ nestingOf [] ⌝ }
     {
         Nesting {
             depth: 0,
