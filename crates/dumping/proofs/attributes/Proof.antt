@@ -1,4 +1,4 @@
--- The loop's measure is the number of turns left. Assumes nothing.
+-- `dumping::attributes` ends: the measure is the number of turns left. Assumes nothing.
 use borrow.Author.Needs.{needs}
 use Rattle.dumping.proofs.attributes.Statement.{statement}
 use Rattle.dumping.proofs.attributes.Tie as tie

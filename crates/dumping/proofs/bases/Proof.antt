@@ -1,4 +1,4 @@
--- The loop's measure is the number of turns left. Assumes nothing.
+-- `dumping::bases` ends: the measure is the number of turns left. Assumes nothing.
 use borrow.Author.Needs.{needs}
 use Rattle.dumping.proofs.bases.Statement.{statement}
 use Rattle.dumping.proofs.bases.Tie as tie

