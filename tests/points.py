@@ -73,9 +73,9 @@ def raw(name, point, data, expected):
     cases.append((name, point, data, lines(expected)))
 
 
-def case(name, point, of_unit, declared, expected, locations='', ranges='', addresses=''):
-    """A bundle by its parts; abbreviations in the notation above where they have a `/` or a bare code, else in bytes."""
-    table = declared if isinstance(declared, bytes) else octets(declared)
+def case(name, point, of_unit, table, expected, locations='', ranges='', addresses=''):
+    """A bundle by its parts; a part is bytes, or hexadecimal text."""
+    table = table if isinstance(table, bytes) else octets(table)
     raw(name, point, join([of(of_unit), table, octets(locations), octets(ranges), octets(addresses)]), expected)
 
 
@@ -106,8 +106,8 @@ def location_list(name, point, section, expected):
          'unit 14|entry 12 depth 0 code 1 tag 36| attribute 2 form 34 value 0|  ' + expected.replace('|', '|  '), locations=section)
 
 
-def header(name, point, text, expected, declared=A5):
-    case(name, point, text, declared, expected)
+def header(name, point, text, expected, table=A5):
+    case(name, point, text, table, expected)
 
 
 def declared(name, point, text, expected, body='H 01'):
