@@ -1,5 +1,5 @@
 #!/usr/bin/python3
-"""points.py [check]: writes the bundles of crates/dump_points, its arguments and the lines that it must print.
+"""points.py [check]: writes the bundles of crates/dump_points, its arguments and the lines that it must print; of crates/dump too.
 
 Each case below has a name, the point that it is about, its bytes, and the expected lines, written from the specification and from
 DWARF 5, never from a run. With `check` nothing is written, and the files are compared with what would be.
@@ -11,6 +11,7 @@ import os
 import sys
 
 HOME = os.path.join(os.path.dirname(os.path.abspath(__file__)), '..', 'crates', 'dump_points')
+ONE = os.path.join('..', 'dump')  # the program that reads one bundle: it has the five-entry unit
 A5 = '01 11 01 00 00 02 2e 00 11 1b 49 11 00 00 03 24 00 00 00 00'
 T = '00 ' * 12 + '04 00 00 00 '  # a list section: 12 bytes of header, a table of one offset; its list follows
 cases = []
@@ -72,9 +73,9 @@ def raw(name, point, data, expected):
     cases.append((name, point, data, lines(expected)))
 
 
-def case(name, point, of_unit, declared, expected, locations='', ranges='', addresses=''):
-    """A bundle by its parts; abbreviations in the notation above where they have a `/` or a bare code, else in bytes."""
-    table = declared if isinstance(declared, bytes) else octets(declared)
+def case(name, point, of_unit, table, expected, locations='', ranges='', addresses=''):
+    """A bundle by its parts; a part is bytes, or hexadecimal text."""
+    table = table if isinstance(table, bytes) else octets(table)
     raw(name, point, join([of(of_unit), table, octets(locations), octets(ranges), octets(addresses)]), expected)
 
 
@@ -105,8 +106,8 @@ def location_list(name, point, section, expected):
          'unit 14|entry 12 depth 0 code 1 tag 36| attribute 2 form 34 value 0|  ' + expected.replace('|', '|  '), locations=section)
 
 
-def header(name, point, text, expected, declared=A5):
-    case(name, point, text, declared, expected)
+def header(name, point, text, expected, table=A5):
+    case(name, point, text, table, expected)
 
 
 def declared(name, point, text, expected, body='H 01'):
@@ -266,6 +267,8 @@ for form in ('02', '2d', '2e', '1f00', '1f01', '1f03', '1f20', '1f21', 'ffff'):
     single('form-%s-unknown' % form, 'form 0x%s is unknown' % form, '03/' + form, '00000000', 'refused 4')
     single('indirect-%s-unknown' % form, 'and under indirect', '03/16', uleb(int(form, 16)).hex() + '00000000', 'refused 4')
 single('form-0d-positive', 'sdata', '03/0d', 'ff00', 'value 127')
+for text, number in (('3f', 63), ('40', -64), ('41', -63), ('c000', 64), ('bf7f', -65), ('ff3f', 8191), ('8040', -8192), ('c040', -8128)):
+    single('form-0d-' + text, 'sdata: bit 6 of the last byte is the sign', '03/0d', text, 'value %d' % number)
 single('form-0d-minus-1', 'sdata, padded', '03/0d', 'ff7f', 'value -1')
 single('form-0d-largest', '7: the largest signed number', '03/0d', 'ffffffffffffffffff00', 'value 9223372036854775807')
 single('form-0d-least', '7: the least', '03/0d', '8080808080808080807f', 'value -9223372036854775808')
@@ -514,6 +517,34 @@ assert levels > 17000
 case('p52', '52: %d levels of entry values' % levels, unit(b'\x01' + uleb(len(deep)) + deep), abbreviations('1 24 02/18'),
      'unit %d|' % (16 + len(deep)) + ENTRY + '| attribute 2 form 24 bytes 16 to %d|  reference at %d to 12 width 2' % (16 + len(deep), len(deep) - 2))
 
+# ---- inputs of points about root tests, rewriting and marks: what is read of them
+CHILD = 'unit %d|entry 12 depth 0 code 1 tag 17 children|entry 13 depth 1 code 2 tag %d|'
+case('p13', '13: two locations', 'H 01 02 02a101 02a107 00', abbreviations('1 11 children; 2 34 02/18 02/18'),
+     CHILD % (21, 52) + ' attribute 2 form 24 bytes 15 to 17| attribute 2 form 24 bytes 18 to 20|terminator 20 depth 1', addresses='00 01')
+range_list('p18', '18: what stands behind a live range', T + '04 00 00 ff', 'list at 16|kind 4 0 0|list refused 5')
+range_list('p19', '19: a base with no pair behind it', T + '01 00', 'list at 16|kind 1 0 0|end')
+case('p20', '20: a base in a list of the older kind', 'H 01 02 00000000 00', abbreviations('1 11 children; 2 2e 55/17'),
+     CHILD % (19, 46) + ' attribute 85 form 23 value 0|  list at 0|  kind 1 0 0|  end|terminator 18 depth 1', ranges='01 00')
+case('p22', '22: low_pc in a reference form', 'H 01 02 0c 00', abbreviations('1 11 children; 2 2e 11/11'),
+     CHILD % (16, 46) + ' attribute 17 form 17 value 12|terminator 15 depth 1')
+case('p23', '23: ref_addr before a broken range list', 'H 01 02 00000000 00 00', abbreviations('1 11 children; 2 2e 49/10 55/23'),
+     CHILD % (20, 46) + ' attribute 73 form 16 value 0| attribute 85 form 35 value 0|  list at 16|  list refused 5|terminator 19 depth 1', ranges=T + 'ff')
+case('p25', '25: a dangling reference in a location list', 'H 01 00 02', abbreviations('1 24 02/22; 2 24'),
+     'unit 15|' + ENTRY + '| attribute 2 form 34 value 0|  list at 16|  kind 5 0 0 bytes 18 to 21|  reference at 1 to 99 width 2|  end|'
+     'entry 14 depth 0 code 2 tag 36', locations=T + '05 03 986300 00')
+case('p32', '32: siblings', 'H 01 0e 02 10 03 00 03 00', abbreviations('1 24 children 01/11; 2 24 children 01/11; 3 24'),
+     'unit 20|entry 12 depth 0 code 1 tag 36 children| attribute 1 form 17 value 14|entry 14 depth 1 code 2 tag 36 children| attribute 1 form 17 value 16|'
+     'entry 16 depth 2 code 3 tag 36|terminator 17 depth 2|entry 18 depth 1 code 3 tag 36|terminator 19 depth 1')
+case('p33', '33: a sibling in strx', 'H 01 05 02', abbreviations('1 11 01/1a; 2 24'),
+     'unit 15|entry 12 depth 0 code 1 tag 17| attribute 1 form 26 value 5|entry 14 depth 0 code 2 tag 36')
+case('p34', '34: ranges by index and by offset', 'H 01 07 02 00000000', abbreviations('1 11 55/23; 2 24 55/17'),
+     'unit 19|entry 12 depth 0 code 1 tag 17| attribute 85 form 35 value 7|  list unresolved|entry 14 depth 0 code 2 tag 36| attribute 85 form 23 value 0|'
+     '  list at 0|  end')
+case('p39', '39: low_pc of another tag', 'H 01 02 07 00', abbreviations('1 11 children; 2 0b 11/1b'),
+     CHILD % (16, 11) + ' attribute 17 form 27 value 7|terminator 15 depth 1')
+case('p41', '41: two ranges attributes', 'H 01 02 00 00 00', abbreviations('1 11 children; 2 2e 55/23 55/0b'),
+     CHILD % (17, 46) + ' attribute 85 form 35 value 0|  list at 16|  end| attribute 85 form 11 value 0|terminator 16 depth 1', ranges=T)
+
 # ---- references that are copied or read as numbers
 single('p42-sibling', '42: a sibling in ref_addr', '01/10', '00000000', 'value 0')
 single('p42-indirect', '42: ref_addr under indirect', '49/16', '10 00000000', '16 value 0')
@@ -523,8 +554,11 @@ single('ranges-sec-offset', 'a range list at an offset past its section', '55/17
 def files():
     out = {'args': ''.join(name + '.bundle\n' for name, _, _, _ in cases).encode(),
            'stdout': ''.join('== %s.bundle\n' % name + ''.join(line + '\n' for line in text) for name, _, _, text in cases).encode()}
-    for name, _, data, _ in cases:
+    for name, _, data, text in cases:
         out['data/%s.bundle' % name] = data
+        if name == 'five-entries':
+            out[os.path.join(ONE, 'stdin')] = data
+            out[os.path.join(ONE, 'stdout')] = ''.join(line + '\n' for line in text).encode()
     return out
 
 
