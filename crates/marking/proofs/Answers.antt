@@ -1,18 +1,16 @@
 -- What `mark` takes, and what it then answers.
 use Prim.Native.Nat.{ℕ, suc, _+_, _*_, _/_, _≤_, _<_}
-use mathlib.Core.Path.{_≡_, refl, sym, ap, _∙_}
+use mathlib.Core.Path.{_≡_, ap, _∙_}
 use mathlib.Core.List.{List, [], _∷_}
 use mathlib.Core.Bool.{Bool, true, false, not}
 use native.Mathlib.Omega.{arith}
 use lib.ListN.{length, getD, replicate}
-use lib.Dec.{ltb, leb, eqb}
 use borrow.Author.Tests.{lt-ltb, le-ltb, eq-eqb, ne-eqb, eqb-true, lt-leb, le-leb, not-true, not-false}
 use Rattle.readers.specs.Choice.{pick, _and_, _or_}
 use Rattle.marking.specs.Below.{every}
 use Rattle.marking.specs.Graph.{Graph, graph, size, noParent, references, parentFits, pairFits, rootFits, wellFormed, takes}
 use Rattle.marking.specs.Marks.{isKept, keptCount, marksOf, endMarks, answerOf}
 use Rattle.marking.specs.Passes.{sum, Sound, Settled, ParentsFit, PairsFit, endFirst}
-use Rattle.marking.specs.declared.marks.Marked.{Marked}
 use Rattle.marking.specs.declared.marks.Marked.the-variants.{Kept, Refused}
 use Rattle.marking.proofs.Tests.{and-out, and-in, or-inl, or-inr}
 use Rattle.marking.proofs.Graphs.{WellFormed, well-formed}

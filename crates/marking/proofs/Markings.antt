@@ -2,14 +2,13 @@
 use Prim.Native.Nat.{ℕ, zero, suc, _<_}
 use mathlib.Core.Path.{_≡_, refl}
 use mathlib.Core.List.{List, [], _∷_}
-use mathlib.Core.Bool.{Bool, true, false, not, false≢true}
+use mathlib.Core.Bool.{Bool, true, false, false≢true}
 use mathlib.Core.Logic.{⊎-elim}
 use native.Mathlib.Omega.{arith}
 use lib.ListN.{getD}
-use lib.Dec.{ltb, eqb}
+use lib.Dec.{eqb}
 use borrow.Author.Tests.{ltb-true, eqb-true, not-true, lt-ltb, eq-eqb}
 use Rattle.readers.specs.Choice.{pick, _and_, _or_}
-use Rattle.marking.specs.Below.{any}
 use Rattle.marking.specs.Graph.{Graph, size, isParent, isRoot, names}
 use Rattle.marking.specs.Survivors.{Descendant, child, deeper, Kept, first, root, parent, named, under-root, under-named, Closed}
 use Rattle.marking.specs.Markings.{climbs, isDescendant, namedBy, isTop, isLive, justified, accepts, step, run, nothing, MarksSurvivors}
@@ -34,6 +33,14 @@ climbs-in g v (suc k) {r} {d} h (deeper {p = p} u e) =
     let q = parent-out g p d e in
     or-inr (isParent g r d) (rw (q .is) (and-in e (climbs-in g v k (omega (arith, parent-below g v p d e)) u)))
 
+pub descendant-out : (g : Graph) (r d : ℕ) → isDescendant g r d ≡ true → Descendant g r d
+unfolding isDescendant
+descendant-out g r d e = climbs-out g (size g) r d e
+
+pub descendant-in : (g : Graph) → WellFormed g → (r d : ℕ) → Descendant g r d → isDescendant g r d ≡ true
+unfolding isDescendant
+descendant-in g v r d u = climbs-in g v (size g) (under-inside u) u
+
 -- ---- names of marked entries
 
 pub named-by-in : (g : Graph) → WellFormed g → (m : ℕ → Bool) (s t : ℕ) → names g s t ≡ true → m s ≡ true → namedBy g m t ≡ true
@@ -57,10 +64,10 @@ named-by-out g m t e =
 module _ (g : Graph) (m : ℕ → Bool) (i : ℕ) (P : Type 0) (on-root : isRoot g i ≡ true → P) (on-named : (s : ℕ) → names g s i ≡ true → m s ≡ true → P)
     (on-under-root : (r : ℕ) → isRoot g r ≡ true → Descendant g r i → P) (on-under-named : (s t : ℕ) → names g s t ≡ true → m s ≡ true → Descendant g t i → P) where
   far : (r : ℕ) → (isTop g m r and isDescendant g r i) ≡ true → P
-  unfolding isTop isDescendant
+  unfolding isTop
   far r e =
-      let b = and-out (isRoot g r or namedBy g m r) (climbs g (size g) r i) e in
-      let u = climbs-out g (size g) r i (b .1) in
+      let b = and-out (isRoot g r or namedBy g m r) (isDescendant g r i) e in
+      let u = descendant-out g r i (b .1) in
       ⊎-elim (λ q. on-under-root r q u) (λ q. let w = named-by-out g m r q in on-under-named (w .by) r (w .does) (w .marked) u) (or-out (isRoot g r) (namedBy g m r) (b .0))
 
   pub live-out : isLive g m i ≡ true → P
@@ -79,8 +86,8 @@ module _ (g : Graph) (v : WellFormed g) (m : ℕ → Bool) where
   live-named-in s i e h = or-inl _ (or-inr _ (named-by-in g v m s i e h))
 
   under-in : (r i : ℕ) → r < size g → Descendant g r i → isTop g m r ≡ true → isLive g m i ≡ true
-  unfolding isLive isDescendant
-  under-in r i h u e = or-inr _ (any-in _ _ r h (and-in e (climbs-in g v (size g) (under-inside u) u)))
+  unfolding isLive
+  under-in r i h u e = or-inr _ (any-in _ _ r h (and-in e (descendant-in g v r i u)))
 
   pub live-under-root-in : (r i : ℕ) → isRoot g r ≡ true → Descendant g r i → isLive g m i ≡ true
   unfolding isTop

@@ -10,7 +10,7 @@ use lib.Seq.{ext-getD}
 use lib.Dec.{eqb}
 use borrow.Author.Tests.{eqb-true, eqb-false, not-true}
 use Rattle.readers.specs.Choice.{pick, _and_, _or_}
-use Rattle.marking.specs.Below.{any, tab}
+use Rattle.marking.specs.Below.{any}
 use Rattle.marking.specs.Graph.{Graph, size}
 use Rattle.marking.specs.Survivors.{Kept}
 use Rattle.marking.specs.Markings.{justified}

@@ -12,7 +12,7 @@ use Rattle.marking.specs.Graph.{Graph, size, names, takes}
 use Rattle.marking.specs.Survivors.{Kept, Live}
 use Rattle.marking.specs.Markings.{justified, isLive, namedBy}
 use Rattle.marking.specs.declared.marks.Marked.{Marked}
-use Rattle.marking.specs.declared.marks.Marked.the-variants.{Kept as Marked′, Refused}
+use Rattle.marking.specs.declared.marks.Marked.the-variants.{Kept as KeptCount, Refused}
 
 -- what a list of 0 and 1 marks
 unfoldable pub has : List ℕ → ℕ → Bool
@@ -46,7 +46,7 @@ keptCount m = count (length m) (isKept m)
 
 -- what `mark` answers, and the marks that it leaves, where n are lent
 unfoldable pub answerOf : Graph → ℕ → Marked
-answerOf g n = pick (takes g n) (Marked′ (keptCount (marksOf g))) (Refused 16)
+answerOf g n = pick (takes g n) (KeptCount (keptCount (marksOf g))) (Refused 16)
 
 unfoldable pub endMarks : Graph → ℕ → List ℕ
 endMarks g n = pick (takes g n) (marksOf g) (replicate n 0)

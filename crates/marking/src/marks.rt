@@ -1,6 +1,6 @@
 // Marks the survivors of a unit that is given as a graph: the parent of each entry, the references as pairs of entries, the roots.
 ghost use mathlib.Core.Path.{_≡_};
-ghost use Prim.Native.Nat.{ℕ, _/_, _<_};
+ghost use Prim.Native.Nat.{_/_, _<_};
 ghost use lib.ListN.{length, replicate};
 ghost use Rattle.marking.specs.Below.{every, tab};
 ghost use Rattle.marking.specs.Graph.{graph, parentFits, pairFits, rootFits, takes as takesOf};
