@@ -53,11 +53,12 @@ endMarks g n = pick (takes g n) (marksOf g) (replicate n 0)
 
 -- ---- what a mark says of its entry
 
--- the entry is marked live
+-- "L for a root, a named entry or a descendant of either", the first entry only where a survivor's reference names it
 pub data MarkedLive (g : Graph) : ℕ → Type 0 where
   first-named : {s : ℕ} → names g s 0 ≡ true → Kept g s → MarkedLive g 0
   later : {i : ℕ} → 0 < i → Live g i → MarkedLive g i
 
+-- 3 live, 2 retained (any other kept entry), 1 dead
 pub record Says (g : Graph) (i x : ℕ) : Type 0 where
   pub live : (x ≡ 3) ↔ MarkedLive g i
   pub retained : (x ≡ 2) ↔ (Kept g i × (MarkedLive g i → ⊥))

@@ -306,8 +306,8 @@ pub enum Marked {
 // Marks each entry 1 dead, 2 retained, 3 live. Pairs are two numbers each, the entry that holds the reference and the one that it names; an odd last number
 // counts for nothing. 16, and zeros, where parents, roots and marks differ in length, a parent is not below its child (0xffffffff is none), a pair leaves the
 // tree or a root is above 1.
-// A round looks at each entry twice and at each pair once, and rounds end with the first that raises no mark. Marks rise at most twice each, so n entries take at
-// most 2n + 1 rounds; so many only where references run against their own order. Units of compilers take a few.
+// A round looks at each entry twice and at each pair once; the first round that raises no mark is the last. A chain of references is followed in one round where
+// its pairs stand in its order, one link a round where they stand against it. A mark rises at most twice, so n entries take at most 2n + 1 rounds.
 pub fn mark(parents: &[u32], pairs: &[u32], roots: &[u8], marks: &mut [u8]) -> Marked
     ensures answer { λ r. ⌜ r ≡ answerOf (graph (now (parents .entry)) (now (pairs .entry)) (now (roots .entry))) (length (now (marks .entry))) ⌝ }
     ensures marks { λ _. ⌜ now (marks .exit) ≡ endMarks (graph (now (parents .entry)) (now (pairs .entry)) (now (roots .entry))) (length (now (marks .entry))) ⌝ }
