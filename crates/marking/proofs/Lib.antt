@@ -1,0 +1,12 @@
+pub mod Tests
+pub mod Tables
+pub mod Graphs
+pub mod Survivors
+pub mod Markings
+pub mod Rounds
+pub mod Letters
+pub mod Laws
+pub mod Passes
+pub mod Settled
+pub mod Starts
+pub mod Answers

@@ -1,0 +1,41 @@
+-- Survivors, as demand 3 has them: "the least set holding the first entry and all roots, the parent of each survivor, every entry a survivor's non-sibling
+-- reference names, and all descendants of roots and of entries so named".
+use Prim.Native.Nat.{ℕ, _<_}
+use mathlib.Core.Path.{_≡_}
+use mathlib.Core.Bool.{true}
+use Rattle.marking.specs.Graph.{Graph, size, isParent, isRoot, names}
+
+-- d is a descendant of r
+pub data Descendant (g : Graph) : ℕ → ℕ → Type 0 where
+  child : {r d : ℕ} → isParent g r d ≡ true → Descendant g r d
+  deeper : {r p d : ℕ} → Descendant g r p → isParent g p d ≡ true → Descendant g r d
+
+-- a survivor
+pub data Kept (g : Graph) : ℕ → Type 0 where
+  first : 0 < size g → Kept g 0
+  root : {i : ℕ} → isRoot g i ≡ true → Kept g i
+  parent : {p i : ℕ} → isParent g p i ≡ true → Kept g i → Kept g p
+  named : {s t : ℕ} → names g s t ≡ true → Kept g s → Kept g t
+  under-root : {r d : ℕ} → isRoot g r ≡ true → Descendant g r d → Kept g d
+  under-named : {s t d : ℕ} → names g s t ≡ true → Kept g s → Descendant g t d → Kept g d
+
+-- a root, an entry that a survivor's reference names, or a descendant of either
+pub data Live (g : Graph) : ℕ → Type 0 where
+  live-root : {i : ℕ} → isRoot g i ≡ true → Live g i
+  live-named : {s t : ℕ} → names g s t ≡ true → Kept g s → Live g t
+  live-under-root : {r d : ℕ} → isRoot g r ≡ true → Descendant g r d → Live g d
+  live-under-named : {s t d : ℕ} → names g s t ≡ true → Kept g s → Descendant g t d → Live g d
+
+-- S holds what demand 3 says of survivors
+pub record Closed (g : Graph) (S : ℕ → Type 0) : Type 0 where
+  pub has-first : 0 < size g → S 0
+  pub has-roots : (i : ℕ) → isRoot g i ≡ true → S i
+  pub has-parents : (p i : ℕ) → isParent g p i ≡ true → S i → S p
+  pub has-named : (s t : ℕ) → names g s t ≡ true → S s → S t
+  pub has-under-roots : (r d : ℕ) → isRoot g r ≡ true → Descendant g r d → S d
+  pub has-under-named : (s t d : ℕ) → names g s t ≡ true → S s → Descendant g t d → S d
+
+-- "every other set like that contains it"
+pub record Least (g : Graph) (S : ℕ → Type 0) : Type 1 where
+  pub closed : Closed g S
+  pub least : (R : ℕ → Type 0) → Closed g R → (i : ℕ) → S i → R i

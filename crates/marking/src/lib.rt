@@ -1,0 +1,2 @@
+// Which entries of a unit survive.
+pub mod marks;

@@ -1,0 +1,323 @@
+// Marks the survivors of a unit that is given as a graph: the parent of each entry, the references as pairs of entries, the roots.
+ghost use mathlib.Core.Path.{_≡_};
+ghost use Prim.Native.Nat.{_/_, _<_};
+ghost use lib.ListN.{length, replicate};
+ghost use Rattle.marking.specs.Below.{every, tab};
+ghost use Rattle.marking.specs.Graph.{graph, parentFits, pairFits, rootFits, takes as takesOf};
+ghost use Rattle.marking.specs.Marks.{answerOf, endMarks, keptCount};
+ghost use Rattle.marking.specs.Passes.{Pass, WithParents, WithPairs, WithBoth, DownAt, AlongAt, UpAt, Down, Along, Up, Settled, ParentsFit, PairsFit, startMark, namesFirst, endFirst};
+
+// What stands for the parent of an entry that has none.
+const NO_PARENT: u32 = 0xffff_ffff;
+
+// ---- what is taken
+
+// Whether each parent is below its child.
+fn parents_fit(parents: &[u32]) -> bool
+    ensures { λ r. ⌜ r ≡ every (length (now (parents .entry))) (parentFits (now (parents .entry))) ⌝ }
+{
+    let mut i = 0;
+    while i < parents.len() {
+        let p = parents[i];
+        if p != NO_PARENT {
+            let q = p as usize;
+            if q >= i {
+                return false;
+            }
+        }
+        i += 1;
+    }
+    true
+}
+
+// Whether each pair stays in the tree of n entries. An odd last number is no pair.
+fn pairs_fit(pairs: &[u32], n: usize) -> bool
+    ensures { λ r. ⌜ r ≡ every (length (now (pairs .entry)) / 2) (pairFits (now (pairs .entry)) n) ⌝ }
+{
+    let count = pairs.len() / 2;
+    let mut j = 0;
+    while j < count {
+        let s = pairs[2 * j] as usize;
+        if s >= n {
+            return false;
+        }
+        let t = pairs[2 * j + 1] as usize;
+        if t >= n {
+            return false;
+        }
+        j += 1;
+    }
+    true
+}
+
+// Whether each root is 0 or 1.
+fn roots_fit(roots: &[u8]) -> bool
+    ensures { λ r. ⌜ r ≡ every (length (now (roots .entry))) (rootFits (now (roots .entry))) ⌝ }
+{
+    let mut i = 0;
+    while i < roots.len() {
+        let q = roots[i];
+        if q > 1 {
+            return false;
+        }
+        i += 1;
+    }
+    true
+}
+
+// Whether the graph can be marked with n marks.
+fn takes(parents: &[u32], pairs: &[u32], roots: &[u8], n: usize) -> bool
+    ensures { λ r. ⌜ r ≡ takesOf (graph (now (parents .entry)) (now (pairs .entry)) (now (roots .entry))) n ⌝ }
+{
+    if n != parents.len() {
+        return false;
+    }
+    if roots.len() != parents.len() {
+        return false;
+    }
+    if !parents_fit(parents) {
+        return false;
+    }
+    if !pairs_fit(pairs, parents.len()) {
+        return false;
+    }
+    roots_fit(roots)
+}
+
+// ---- one mark
+
+// Entry i becomes live where its parent is.
+fn down_at(parents: &[u32], marks: &mut [u8], i: usize) -> bool
+    requires { ⌜ ParentsFit (now parents) (now marks) ⌝ }
+    requires { ⌜ i < length (now marks) ⌝ }
+    ensures { λ r. ⌜ Pass (WithParents (now (parents .entry))) (DownAt (now (parents .entry)) (now (marks .entry)) i) (now (marks .entry)) (now (marks .exit)) r ⌝ }
+{
+    let p = parents[i];
+    if p == NO_PARENT {
+        return false;
+    }
+    let q = p as usize;
+    if marks[q] < 3 {
+        return false;
+    }
+    if marks[i] >= 3 {
+        return false;
+    }
+    marks[i] = 3;
+    true
+}
+
+// What reference j names becomes live where its holder is kept, retained or live.
+fn along_at(pairs: &[u32], marks: &mut [u8], j: usize) -> bool
+    requires { ⌜ PairsFit (now pairs) (now marks) ⌝ }
+    requires { ⌜ j < length (now pairs) / 2 ⌝ }
+    ensures { λ r. ⌜ Pass (WithPairs (now (pairs .entry))) (AlongAt (now (pairs .entry)) (now (marks .entry)) j) (now (marks .entry)) (now (marks .exit)) r ⌝ }
+{
+    let s = pairs[2 * j] as usize;
+    if marks[s] < 2 {
+        return false;
+    }
+    let t = pairs[2 * j + 1] as usize;
+    if marks[t] >= 3 {
+        return false;
+    }
+    marks[t] = 3;
+    true
+}
+
+// The parent of entry i is retained where i is kept.
+fn up_at(parents: &[u32], marks: &mut [u8], i: usize) -> bool
+    requires { ⌜ ParentsFit (now parents) (now marks) ⌝ }
+    requires { ⌜ i < length (now marks) ⌝ }
+    ensures { λ r. ⌜ Pass (WithParents (now (parents .entry))) (UpAt (now (parents .entry)) (now (marks .entry)) i) (now (marks .entry)) (now (marks .exit)) r ⌝ }
+{
+    if marks[i] < 2 {
+        return false;
+    }
+    let p = parents[i];
+    if p == NO_PARENT {
+        return false;
+    }
+    let q = p as usize;
+    if marks[q] >= 2 {
+        return false;
+    }
+    marks[q] = 2;
+    true
+}
+
+// ---- one pass; each answers whether a mark rose
+
+// From parent to child, the first entry first, so that one pass reaches every depth.
+fn down(parents: &[u32], marks: &mut [u8]) -> bool
+    requires { ⌜ ParentsFit (now parents) (now marks) ⌝ }
+    ensures { λ r. ⌜ Pass (WithParents (now (parents .entry))) (Down (now (parents .entry)) (now (marks .entry))) (now (marks .entry)) (now (marks .exit)) r ⌝ }
+{
+    let mut changed = false;
+    let mut i = 0;
+    while i < marks.len() {
+        if down_at(parents, marks, i) {
+            changed = true;
+        }
+        i += 1;
+    }
+    changed
+}
+
+// Along the references, in their order.
+fn along(pairs: &[u32], marks: &mut [u8]) -> bool
+    requires { ⌜ PairsFit (now pairs) (now marks) ⌝ }
+    ensures { λ r. ⌜ Pass (WithPairs (now (pairs .entry))) (Along (now (pairs .entry)) (now (marks .entry))) (now (marks .entry)) (now (marks .exit)) r ⌝ }
+{
+    let n = pairs.len() / 2;
+    let mut changed = false;
+    let mut j = 0;
+    while j < n {
+        if along_at(pairs, marks, j) {
+            changed = true;
+        }
+        j += 1;
+    }
+    changed
+}
+
+// From child to parent, the last entry first.
+fn up(parents: &[u32], marks: &mut [u8]) -> bool
+    requires { ⌜ ParentsFit (now parents) (now marks) ⌝ }
+    ensures { λ r. ⌜ Pass (WithParents (now (parents .entry))) (Up (now (parents .entry)) (now (marks .entry))) (now (marks .entry)) (now (marks .exit)) r ⌝ }
+{
+    let mut changed = false;
+    let mut i = marks.len();
+    while 0 < i {
+        i -= 1;
+        if up_at(parents, marks, i) {
+            changed = true;
+        }
+    }
+    changed
+}
+
+// One pass of each kind.
+fn round(parents: &[u32], pairs: &[u32], marks: &mut [u8]) -> bool
+    requires { ⌜ ParentsFit (now parents) (now marks) ⌝ }
+    requires { ⌜ PairsFit (now pairs) (now marks) ⌝ }
+    ensures { λ r. ⌜ Pass (WithBoth (now (parents .entry)) (now (pairs .entry))) (Settled (now (parents .entry)) (now (pairs .entry)) (now (marks .entry))) (now (marks .entry)) (now (marks .exit)) r ⌝ }
+{
+    let a = down(parents, marks);
+    let b = along(pairs, marks);
+    let c = up(parents, marks);
+    if a {
+        return true;
+    }
+    if b {
+        return true;
+    }
+    c
+}
+
+// ---- start and end
+
+// A root is live, the first entry at least retained.
+fn start(roots: &[u8], marks: &mut [u8])
+    requires { ⌜ length (now marks) ≡ length (now roots) ⌝ }
+    ensures { λ _. ⌜ now (marks .exit) ≡ tab (length (now (roots .entry))) (startMark (now (roots .entry))) ⌝ }
+{
+    let mut i = 0;
+    while i < marks.len() {
+        let mut v = 1u8;
+        if i == 0 {
+            v = 2;
+        }
+        if roots[i] == 1 {
+            v = 3;
+        }
+        marks[i] = v;
+        i += 1;
+    }
+}
+
+// Whether a kept entry's reference names the first entry.
+fn names_first(pairs: &[u32], marks: &[u8]) -> bool
+    requires { ⌜ PairsFit (now pairs) (now marks) ⌝ }
+    ensures { λ r. ⌜ r ≡ namesFirst (now (pairs .entry)) (now (marks .entry)) ⌝ }
+{
+    let n = pairs.len() / 2;
+    let mut j = 0;
+    while j < n {
+        let t = pairs[2 * j + 1];
+        if t == 0 {
+            let s = pairs[2 * j] as usize;
+            if marks[s] >= 2 {
+                return true;
+            }
+        }
+        j += 1;
+    }
+    false
+}
+
+// The first entry is retained unless a kept one's reference names it.
+fn end_first(pairs: &[u32], marks: &mut [u8])
+    requires { ⌜ PairsFit (now pairs) (now marks) ⌝ }
+    ensures { λ _. ⌜ now (marks .exit) ≡ endFirst (now (pairs .entry)) (now (marks .entry)) ⌝ }
+{
+    if marks.len() == 0 {
+        return;
+    }
+    if names_first(pairs, marks) {
+        marks[0] = 3;
+        return;
+    }
+    marks[0] = 2;
+}
+
+// How many marks are retained or live.
+fn count_kept(marks: &[u8]) -> usize
+    ensures { λ r. ⌜ r ≡ keptCount (now (marks .entry)) ⌝ }
+{
+    let mut n = 0;
+    let mut i = 0;
+    while i < marks.len() {
+        if marks[i] >= 2 {
+            n += 1;
+        }
+        i += 1;
+    }
+    n
+}
+
+// Every mark becomes 0.
+fn clear(marks: &mut [u8])
+    ensures { λ _. ⌜ now (marks .exit) ≡ replicate (length (now (marks .entry))) 0 ⌝ }
+{
+    let mut i = 0;
+    while i < marks.len() {
+        marks[i] = 0;
+        i += 1;
+    }
+}
+
+// How many entries are kept, or the number of the refusal.
+pub enum Marked {
+    Kept(usize),
+    Refused(u8),
+}
+
+// Marks each entry 1 dead, 2 retained, 3 live. Pairs are two numbers each, the entry that holds the reference and the one that it names; an odd last number
+// counts for nothing. 16, and zeros, where parents, roots and marks differ in length, a parent is not below its child (0xffffffff is none), a pair leaves the
+// tree or a root is above 1.
+// A round looks at each entry twice and at each pair once; the first round that raises no mark is the last. A chain of references is followed in one round where
+// its pairs stand in its order, one link a round where they stand against it. A mark rises at most twice, so n entries take at most 2n + 1 rounds.
+pub fn mark(parents: &[u32], pairs: &[u32], roots: &[u8], marks: &mut [u8]) -> Marked
+    ensures answer { λ r. ⌜ r ≡ answerOf (graph (now (parents .entry)) (now (pairs .entry)) (now (roots .entry))) (length (now (marks .entry))) ⌝ }
+    ensures marks { λ _. ⌜ now (marks .exit) ≡ endMarks (graph (now (parents .entry)) (now (pairs .entry)) (now (roots .entry))) (length (now (marks .entry))) ⌝ }
+{
+    if !takes(parents, pairs, roots, marks.len()) {
+        clear(marks);
+        return Marked::Refused(16);
+    }
+    start(roots, marks);
+    while round(parents, pairs, marks) {}
+    end_first(pairs, marks);
+    Marked::Kept(count_kept(marks))
+}
