@@ -1,0 +1,4 @@
+pub mod Addresses
+pub mod Walking
+pub mod Roots
+pub mod RootExamples

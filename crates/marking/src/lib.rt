@@ -1,0 +1,3 @@
+// Which entries of a unit live.
+pub mod addresses;
+pub mod roots;
