@@ -27,6 +27,8 @@ use Rattle.marking.specs.Walking.{Next, go, stop, walk}
 use Rattle.marking.specs.Addresses.{isTombstone, lookupAt}
 use Rattle.marking.specs.declared.addresses.Liveness.{Liveness}
 use Rattle.marking.specs.declared.addresses.Liveness.the-variants.{Live, Dead, Fails}
+use Rattle.marking.specs.declared.roots.RangeTurn.{RangeTurn}
+use Rattle.marking.specs.declared.roots.RangeTurn.the-variants.{On, Decided}
 use Rattle.marking.specs.declared.roots.Verdict.{Verdict}
 use Rattle.marking.specs.declared.roots.Verdict.the-variants.{Live as isLive, Dead as isDead, Refused as refused}
 
@@ -56,6 +58,11 @@ Turn = Next Flagged Verdict
 
 abbrev pub toward : ListEntry → Bool → Turn
 toward x b = go (record { at = x .next .at; flag = b })
+
+-- as the code answers it
+unfoldable pub turnOf : Turn → RangeTurn
+turnOf (go p) = On (p .flag)
+turnOf (stop v) = Decided v
 
 module _ (e : Encoding) (table : List ℕ) where
   -- 7.25: base_addressx 1, startx_endx 2, startx_length 3, offset_pair 4, base_address 5, start_end 6, start_length 7
@@ -103,6 +110,13 @@ unfoldable pub olderLive : Encoding → List ℕ → ListOffset → Verdict
 olderLive e s (At c) = walk place (length s) (λ (p : Flagged). olderStep (listEntryAt e false s (p .at))) isDead (record { at = c .at; flag = false })
 olderLive e s Unresolved = isLive
 
+-- DW_AT_low_pc: addrx (0x1b, 0x29 to 0x2c) asks the table, addr (0x01) the tombstone test, any other form is live
+unfoldable pub lowPc : Encoding → List ℕ → Attribute → Verdict
+lowPc e table v =
+    pick (eqb (v .form) 0x1b or (leb 0x29 (v .form) and leb (v .form) 0x2c))
+    (onLookup (lookupAt table (v .field .value)) (λ r. r) isLive isDead)
+    (pick (eqb (v .form) 0x01) (pick (isTombstone (v .field .value) (e .«address_size»)) isDead isLive) isLive)
+
 -- ---- the attributes of an entry
 
 -- an attribute: its name, and its value
@@ -127,16 +141,9 @@ pub record Sections : Type 0 where
   pub rnglistsBase : ℕ
 
 module _ (e : Encoding) (x : Sections) where
-  -- DW_AT_low_pc: addrx (0x1b, 0x29 to 0x2c) asks the table, addr (0x01) the tombstone test, any other form is live
-  unfoldable pub lowPc : Attribute → Verdict
-  lowPc v =
-      pick (eqb (v .form) 0x1b or (leb 0x29 (v .form) and leb (v .form) 0x2c))
-      (onLookup (lookupAt (x .table) (v .field .value)) (λ r. r) isLive isDead)
-      (pick (eqb (v .form) 0x01) (pick (isTombstone (v .field .value) (e .«address_size»)) isDead isLive) isLive)
-
   unfoldable pub lowPcs : List Valued → Verdict
   lowPcs [] = isDead
-  lowPcs (a ∷ rest) = pick (eqb (a .name) 0x11) (orElse (lowPc (a .value)) (lowPcs rest)) (lowPcs rest)
+  lowPcs (a ∷ rest) = pick (eqb (a .name) 0x11) (orElse (lowPc e (x .table) (a .value)) (lowPcs rest)) (lowPcs rest)
 
   -- DW_AT_ranges: rnglistx (0x23) by its list, sec_offset (0x17) by the older test, another form live
   unfoldable pub rangesOf : Attribute → Verdict
