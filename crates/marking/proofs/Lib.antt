@@ -1,1 +1,3 @@
 pub mod Lookups
+pub mod Verdicts
+pub mod Lists

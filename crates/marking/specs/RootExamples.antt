@@ -27,12 +27,12 @@ ranged table list =
     section list = 0 ∷ 0 ∷ 0 ∷ 0 ∷ 0 ∷ 0 ∷ 0 ∷ 0 ∷ 0 ∷ 0 ∷ 0 ∷ 0 ∷ 4 ∷ 0 ∷ 0 ∷ 0 ∷ list
 
 range-lists :
-    (ranged [] [] ≡ Dead)                                        -- the section's end is an empty list
-    × (ranged [] (4 ∷ 0 ∷ 0 ∷ 0xff ∷ []) ≡ Live)                 -- what stands behind a live range is not read
-    × (ranged [] (0xff ∷ []) ≡ Refused 5)                        -- an unknown kind
-    × (ranged [] (2 ∷ 0 ∷ []) ≡ Refused 5)                       -- an entry is read whole before it is judged
-    × (ranged [] (1 ∷ 0 ∷ []) ≡ Refused 6)                       -- a base asks the table though no pair follows
-    × (ranged (0 ∷ []) (1 ∷ 0 ∷ 4 ∷ 0 ∷ 1 ∷ 0 ∷ []) ≡ Dead)      -- a pair after a dead base
+    (ranged [] [] ≡ Dead)  -- the section's end is an empty list
+    × (ranged [] (4 ∷ 0 ∷ 0 ∷ 0xff ∷ []) ≡ Live)  -- what stands behind a live range is not read
+    × (ranged [] (0xff ∷ []) ≡ Refused 5)  -- an unknown kind
+    × (ranged [] (2 ∷ 0 ∷ []) ≡ Refused 5)  -- an entry is read whole before it is judged
+    × (ranged [] (1 ∷ 0 ∷ []) ≡ Refused 6)  -- a base asks the table though no pair follows
+    × (ranged (0 ∷ []) (1 ∷ 0 ∷ 4 ∷ 0 ∷ 1 ∷ 0 ∷ []) ≡ Dead)  -- a pair after a dead base
     × (ranged (1 ∷ []) (1 ∷ 0 ∷ 4 ∷ 0 ∷ 1 ∷ 0 ∷ []) ≡ Live)
     × (ranged (0 ∷ []) (3 ∷ 0 ∷ 1 ∷ 0 ∷ []) ≡ Dead)
 unfolding ranged rangesLive rangeStep rangeEntry onLookup lookupAt byteLiveness isTombstone walk walkWithin onNext listOffset fromBase listStart fixedAt asFixed encodingOf listEntryAt asListStep entryOfReads rowEntry listEntry listRow rangeEntries rowAmong rowOf rows unreadableRow rowLayout tokenOf numberAs readIn tokenIn numberIn before asNumber asBounded asLink asBlock asExpression asLeb asBytes copy uleb groups below unsigned64 fixedValue ordered littleValue width size bytesOf pieceBytes numberBytes fieldOf linkedValue rowOfReads pick check bind _and_ _or_

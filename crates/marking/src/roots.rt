@@ -1,12 +1,10 @@
 // The root test: what is live by itself.
 ghost use mathlib.Core.Path.{_≡_};
-ghost use Rattle.readers.specs.Cursors.{cursor};
 ghost use Rattle.marking.specs.Roots.{turnOf, rangeEntry, olderLive, locationLive, lowPc};
 ghost use Rattle.readers.specs.declared.lists.ListOffset.the-variants.{At};
-
+use crate::addresses::Liveness;
 use crate::addresses::is_tombstone;
 use crate::addresses::lookup;
-use crate::addresses::Liveness;
 use readers::attributes::Attribute;
 use readers::cursor::Cursor;
 use readers::cursor::Encoding;
