@@ -2,12 +2,15 @@
 use Prim.Native.Nat.{ℕ, _+_, _-_}
 use mathlib.Core.Bool.{Bool, true, false}
 use mathlib.Core.List.{List, [], _∷_}
+use mathlib.Core.Option.{Option, none, some}
 use lib.ListN.{length, take, drop}
 use lib.Dec.{ltb, leb, eqb}
 use Rattle.readers.specs.Choice.{pick, _and_, _or_}
 use Rattle.readers.specs.Steps.{operationAt, listEntryAt}
 use Rattle.readers.specs.Lists.{listOffset, listStart}
 use Rattle.readers.specs.Entries.{attributeAt}
+use Rattle.readers.specs.Abbreviations.{attributesFrom}
+use Rattle.readers.specs.Scan.{Scanned}
 use Rattle.readers.specs.declared.cursor.Encoding.{Encoding}
 use Rattle.readers.specs.declared.cursor.Cursor.{Cursor}
 use Rattle.readers.specs.declared.fields.Field.{Field}
@@ -132,19 +135,35 @@ unfoldable pub valuesOf : Encoding → List ℕ → List AttributeSpec → ℕ �
 valuesOf e unit [] at = []
 valuesOf e unit (a ∷ rest) at = onAttribute (a .name) (attributeAt e unit at (a .name) (a .form)) (λ next. valuesOf e unit rest next)
 
--- what a root test reads by: the unit, the range lists, the address table, the caller's ranges base, and the range lists' own base
-pub record Sections : Type 0 where
-  pub unit : List ℕ
+-- the attributes of an entry, from the place of its specifications and that of its values on
+unfoldable pub specsOf : Option (Scanned AttributeSpec ℕ) → List AttributeSpec
+specsOf none = []
+specsOf (some r) = r .0
+
+unfoldable pub entryValues : Encoding → List ℕ → ℕ → List ℕ → ℕ → List Valued
+entryValues e abbreviations specs unit at = valuesOf e unit (specsOf (attributesFrom abbreviations specs)) at
+
+-- each low_pc in turn
+unfoldable pub lowPcs : Encoding → List ℕ → List Valued → Verdict
+lowPcs e table [] = isDead
+lowPcs e table (a ∷ rest) = pick (eqb (a .name) 0x11) (orElse (lowPc e table (a .value)) (lowPcs e table rest)) (lowPcs e table rest)
+
+-- DW_AT_location in exprloc (0x18), each in turn
+unfoldable pub locations : Encoding → List ℕ → List ℕ → List Valued → Verdict
+locations e table unit [] = isDead
+locations e table unit (a ∷ rest) =
+    pick (eqb (a .name) 0x02 and eqb (a .value .form) 0x18)
+    (orElse (locationLive e table (take (a .value .field .end - a .value .field .start) (drop (a .value .field .start) unit))) (locations e table unit rest))
+    (locations e table unit rest)
+
+-- what ranges are read by: the range lists, the address table, the caller's ranges base, and the range lists' own base
+pub record Ranges : Type 0 where
   pub ranges : List ℕ
   pub table : List ℕ
   pub rangesBase : ℕ
   pub rnglistsBase : ℕ
 
-module _ (e : Encoding) (x : Sections) where
-  unfoldable pub lowPcs : List Valued → Verdict
-  lowPcs [] = isDead
-  lowPcs (a ∷ rest) = pick (eqb (a .name) 0x11) (orElse (lowPc e (x .table) (a .value)) (lowPcs rest)) (lowPcs rest)
-
+module _ (e : Encoding) (x : Ranges) where
   -- DW_AT_ranges: rnglistx (0x23) by its list, sec_offset (0x17) by the older test, another form live
   unfoldable pub rangesOf : Attribute → Verdict
   rangesOf v =
@@ -156,19 +175,11 @@ module _ (e : Encoding) (x : Sections) where
   firstRanges [] = isDead
   firstRanges (a ∷ rest) = pick (eqb (a .name) 0x55) (rangesOf (a .value)) (firstRanges rest)
 
-  -- DW_AT_location in exprloc (0x18), each in turn
-  unfoldable pub locations : List Valued → Verdict
-  locations [] = isDead
-  locations (a ∷ rest) =
-      pick (eqb (a .name) 0x02 and eqb (a .value .form) 0x18)
-      (orElse (locationLive e (x .table) (take (a .value .field .end - a .value .field .start) (drop (a .value .field .start) (x .unit)))) (locations rest))
-      (locations rest)
-
   -- THE root test of an entry: a subprogram (0x2e), a variable (0x34); other tags never
-  unfoldable pub rootTest : ℕ → List Valued → Verdict
-  rootTest tag attributes =
-      pick (eqb tag 0x2e) (orElse (lowPcs attributes) (firstRanges attributes))
-      (pick (eqb tag 0x34) (locations attributes) isDead)
+  unfoldable pub rootTest : List ℕ → ℕ → List Valued → Verdict
+  rootTest unit tag attributes =
+      pick (eqb tag 0x2e) (orElse (lowPcs e (x .table) attributes) (firstRanges attributes))
+      (pick (eqb tag 0x34) (locations e (x .table) unit attributes) isDead)
 
 -- ---- list bases: 12, or what a compile unit entry's own attribute in sec_offset says, from that entry on; of several the last counts
 
