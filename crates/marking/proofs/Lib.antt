@@ -1,3 +1,6 @@
+pub mod Lookups
+pub mod Verdicts
+pub mod Lists
 pub mod Tests
 pub mod Tables
 pub mod Graphs

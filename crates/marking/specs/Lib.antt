@@ -1,3 +1,7 @@
+pub mod Addresses
+pub mod Walking
+pub mod Roots
+pub mod RootExamples
 pub mod Below
 pub mod Graph
 pub mod Survivors

@@ -1,2 +1,4 @@
-// Which entries of a unit survive.
+// Which entries of a unit survive: addresses, the root test, and marking.
+pub mod addresses;
 pub mod marks;
+pub mod roots;

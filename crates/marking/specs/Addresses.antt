@@ -1,0 +1,23 @@
+-- Addresses (document 01, "Roots" and "What changes shape").
+use Prim.Native.Nat.{ℕ, _-_, _^_}
+use mathlib.Core.Bool.{Bool, false}
+use mathlib.Core.List.{List}
+use lib.ListN.{length, getD}
+use lib.Dec.{ltb, eqb}
+use Rattle.readers.specs.Choice.{pick, _or_}
+use Rattle.marking.specs.declared.addresses.Liveness.{Liveness}
+use Rattle.marking.specs.declared.addresses.Liveness.the-variants.{Live, Dead, Fails}
+
+-- address 0 or all ones for size 4 or 8; any other size gives no
+unfoldable pub isTombstone : ℕ → ℕ → Bool
+isTombstone address size =
+    pick (eqb size 4) (eqb address 0 or eqb address (2 ^ 32 - 1))
+    (pick (eqb size 8) (eqb address 0 or eqb address (2 ^ 64 - 1))
+    false)
+
+unfoldable pub byteLiveness : ℕ → Liveness
+byteLiveness b = pick (eqb b 0) Dead (pick (eqb b 1) Live Fails)
+
+-- a table of bytes, one an index: 0 dead, 1 live, any other byte or an index past its end fails
+unfoldable pub lookupAt : List ℕ → ℕ → Liveness
+lookupAt table index = pick (ltb index (length table)) (byteLiveness (getD table index 0)) Fails

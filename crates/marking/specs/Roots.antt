@@ -1,0 +1,192 @@
+-- Which entries are roots (document 01, "Roots"; gc.rs: `is_root`, `rnglist_has_live_entry`, `ranges_has_live_entry`, `location_expr_live`).
+use Prim.Native.Nat.{ℕ, _+_, _-_}
+use mathlib.Core.Bool.{Bool, true, false}
+use mathlib.Core.List.{List, [], _∷_}
+use mathlib.Core.Option.{Option, none, some}
+use lib.ListN.{length, take, drop}
+use lib.Dec.{ltb, leb, eqb}
+use Rattle.readers.specs.Choice.{pick, _and_, _or_}
+use Rattle.readers.specs.Steps.{operationAt, listEntryAt}
+use Rattle.readers.specs.Lists.{listOffset, listStart}
+use Rattle.readers.specs.Entries.{attributeAt}
+use Rattle.readers.specs.Abbreviations.{attributesFrom}
+use Rattle.readers.specs.Scan.{Scanned}
+use Rattle.readers.specs.declared.cursor.Encoding.{Encoding}
+use Rattle.readers.specs.declared.cursor.Cursor.{Cursor}
+use Rattle.readers.specs.declared.fields.Field.{Field}
+use Rattle.readers.specs.declared.abbreviations.AttributeSpec.{AttributeSpec}
+use Rattle.readers.specs.declared.attributes.Attribute.{Attribute}
+use Rattle.readers.specs.declared.attributes.AttributeRead.{AttributeRead}
+use Rattle.readers.specs.declared.attributes.AttributeRead.the-variants.{Read as Attribute′, Unreadable as NoAttribute}
+use Rattle.readers.specs.declared.lists.ListOffset.{ListOffset}
+use Rattle.readers.specs.declared.lists.ListOffset.the-variants.{At, Unresolved}
+use Rattle.readers.specs.declared.operations.Operation.{Operation}
+use Rattle.readers.specs.declared.operations.OperationRead.{OperationRead}
+use Rattle.readers.specs.declared.operations.OperationRead.the-variants.{Read as Operation′, Unreadable as NoOperation}
+use Rattle.readers.specs.declared.operations.ListEntry.{ListEntry}
+use Rattle.readers.specs.declared.operations.ListStep.{ListStep}
+use Rattle.readers.specs.declared.operations.ListStep.the-variants.{Entry, End, Unreadable as NoEntry}
+use Rattle.marking.specs.Walking.{Next, go, stop, walk}
+use Rattle.marking.specs.Addresses.{isTombstone, lookupAt}
+use Rattle.marking.specs.declared.addresses.Liveness.{Liveness}
+use Rattle.marking.specs.declared.addresses.Liveness.the-variants.{Live, Dead, Fails}
+use Rattle.marking.specs.declared.roots.RangeTurn.{RangeTurn}
+use Rattle.marking.specs.declared.roots.RangeTurn.the-variants.{On, Decided}
+use Rattle.marking.specs.declared.roots.Verdict.{Verdict}
+use Rattle.marking.specs.declared.roots.Verdict.the-variants.{Live as isLive, Dead as isDead, Refused as refused}
+
+-- the first that does not say dead
+unfoldable pub orElse : Verdict → Verdict → Verdict
+orElse isDead w = w
+orElse isLive w = isLive
+orElse (refused n) w = refused n
+
+-- an index of the address table, and what follows if it is live, if it is dead; a table that fails is 6
+unfoldable pub onLookup : {X : Type 0} → Liveness → (Verdict → X) → X → X → X
+onLookup Live refuse live dead = live
+onLookup Dead refuse live dead = dead
+onLookup Fails refuse live dead = refuse (refused 6)
+
+-- ---- lists and expressions, from a place on, with a flag: in a range list, that the latest base was dead; in an expression, that a live index was met
+
+pub record Flagged : Type 0 where
+  pub at : ℕ
+  pub flag : Bool
+
+abbrev pub place : Flagged → ℕ
+place p = p .at
+
+abbrev pub Turn : Type 0
+Turn = Next Flagged Verdict
+
+abbrev pub toward : ListEntry → Bool → Turn
+toward x b = go (record { at = x .next .at; flag = b })
+
+-- as the code answers it
+unfoldable pub turnOf : Turn → RangeTurn
+turnOf (go p) = On (p .flag)
+turnOf (stop v) = Decided v
+
+module _ (e : Encoding) (table : List ℕ) where
+  -- 7.25: base_addressx 1, startx_endx 2, startx_length 3, offset_pair 4, base_address 5, start_end 6, start_length 7
+  unfoldable pub rangeEntry : Bool → ListEntry → Turn
+  rangeEntry dead x =
+      pick (eqb (x .kind) 1) (onLookup (lookupAt table (x .first .value)) stop (toward x false) (toward x true))
+      (pick (leb (x .kind) 3) (onLookup (lookupAt table (x .first .value)) stop (stop isLive) (toward x dead))
+      (pick (eqb (x .kind) 4) (pick dead (toward x dead) (stop isLive))
+      (pick (eqb (x .kind) 5) (toward x (isTombstone (x .first .value) (e .«address_size»)))
+      (pick (isTombstone (x .first .value) (e .«address_size»)) (toward x dead) (stop isLive)))))
+
+  unfoldable pub rangeStep : Bool → ListStep → Turn
+  rangeStep dead (Entry x) = rangeEntry dead x
+  rangeStep dead End = stop isDead
+  rangeStep dead NoEntry = stop (refused 5)
+
+  -- the list of a rnglistx: what can't be resolved is live
+  unfoldable pub rangesLive : List ℕ → ListOffset → Verdict
+  rangesLive s (At c) =
+      walk place (length s) (λ (p : Flagged). rangeStep (p .flag) (listEntryAt e false s (p .at))) isDead (record { at = c .at; flag = false })
+  rangesLive s Unresolved = isLive
+
+  -- addrx and GNU_addr_index are row 22
+  unfoldable pub operationStep : Bool → OperationRead → Turn
+  operationStep live (Operation′ op) =
+      pick (eqb (op .row) 22)
+      (onLookup (lookupAt table (op .first .value)) stop (go (record { at = op .next .at; flag = true })) (go (record { at = op .next .at; flag = live })))
+      (go (record { at = op .next .at; flag = live }))
+  operationStep live NoOperation = stop (refused 5)
+
+  -- a location with a live index; read to its end, nested entry values stepped over
+  unfoldable pub locationLive : List ℕ → Verdict
+  locationLive s =
+      walk place (length s)
+      (λ (p : Flagged). pick (ltb (p .at) (length s)) (operationStep (p .flag) (operationAt e s (p .at))) (stop (pick (p .flag) isLive isDead)))
+      isDead (record { at = 0; flag = false })
+
+-- the older test, version 5: base_address only is skipped; every other entry is live
+unfoldable pub olderStep : ListStep → Turn
+olderStep (Entry x) = pick (eqb (x .kind) 5) (toward x false) (stop isLive)
+olderStep End = stop isDead
+olderStep NoEntry = stop (refused 5)
+
+unfoldable pub olderLive : Encoding → List ℕ → ListOffset → Verdict
+olderLive e s (At c) = walk place (length s) (λ (p : Flagged). olderStep (listEntryAt e false s (p .at))) isDead (record { at = c .at; flag = false })
+olderLive e s Unresolved = isLive
+
+-- DW_AT_low_pc: addrx (0x1b, 0x29 to 0x2c) asks the table, addr (0x01) the tombstone test, any other form is live
+unfoldable pub lowPc : Encoding → List ℕ → Attribute → Verdict
+lowPc e table v =
+    pick (eqb (v .form) 0x1b or (leb 0x29 (v .form) and leb (v .form) 0x2c))
+    (onLookup (lookupAt table (v .field .value)) (λ r. r) isLive isDead)
+    (pick (eqb (v .form) 0x01) (pick (isTombstone (v .field .value) (e .«address_size»)) isDead isLive) isLive)
+
+-- ---- the attributes of an entry
+
+-- an attribute: its name, and its value
+pub record Valued : Type 0 where
+  pub name : ℕ
+  pub value : Attribute
+
+unfoldable pub onAttribute : ℕ → AttributeRead → (ℕ → List Valued) → List Valued
+onAttribute name (Attribute′ v) k = record { name = name; value = v } ∷ k (v .field .end)
+onAttribute name NoAttribute k = []
+
+unfoldable pub valuesOf : Encoding → List ℕ → List AttributeSpec → ℕ → List Valued
+valuesOf e unit [] at = []
+valuesOf e unit (a ∷ rest) at = onAttribute (a .name) (attributeAt e unit at (a .name) (a .form)) (λ next. valuesOf e unit rest next)
+
+-- the attributes of an entry, from the place of its specifications and that of its values on
+unfoldable pub specsOf : Option (Scanned AttributeSpec ℕ) → List AttributeSpec
+specsOf none = []
+specsOf (some r) = r .0
+
+unfoldable pub entryValues : Encoding → List ℕ → ℕ → List ℕ → ℕ → List Valued
+entryValues e abbreviations specs unit at = valuesOf e unit (specsOf (attributesFrom abbreviations specs)) at
+
+-- each low_pc in turn
+unfoldable pub lowPcs : Encoding → List ℕ → List Valued → Verdict
+lowPcs e table [] = isDead
+lowPcs e table (a ∷ rest) = pick (eqb (a .name) 0x11) (orElse (lowPc e table (a .value)) (lowPcs e table rest)) (lowPcs e table rest)
+
+-- DW_AT_location in exprloc (0x18), each in turn
+unfoldable pub locations : Encoding → List ℕ → List ℕ → List Valued → Verdict
+locations e table unit [] = isDead
+locations e table unit (a ∷ rest) =
+    pick (eqb (a .name) 0x02 and eqb (a .value .form) 0x18)
+    (orElse (locationLive e table (take (a .value .field .end - a .value .field .start) (drop (a .value .field .start) unit))) (locations e table unit rest))
+    (locations e table unit rest)
+
+-- what ranges are read by: the range lists, the address table, the caller's ranges base, and the range lists' own base
+pub record Ranges : Type 0 where
+  pub ranges : List ℕ
+  pub table : List ℕ
+  pub rangesBase : ℕ
+  pub rnglistsBase : ℕ
+
+module _ (e : Encoding) (x : Ranges) where
+  -- DW_AT_ranges: rnglistx (0x23) by its list, sec_offset (0x17) by the older test, another form live
+  unfoldable pub rangesOf : Attribute → Verdict
+  rangesOf v =
+      pick (eqb (v .form) 0x23) (rangesLive e (x .table) (x .ranges) (listOffset e (x .ranges) (x .rnglistsBase) (v .field .value)))
+      (pick (eqb (v .form) 0x17) (olderLive e (x .ranges) (listStart (x .ranges) (x .rangesBase + v .field .value))) isLive)
+
+  -- the first ranges attribute decides
+  unfoldable pub firstRanges : List Valued → Verdict
+  firstRanges [] = isDead
+  firstRanges (a ∷ rest) = pick (eqb (a .name) 0x55) (rangesOf (a .value)) (firstRanges rest)
+
+  -- THE root test of an entry: a subprogram (0x2e), a variable (0x34); other tags never
+  unfoldable pub rootTest : List ℕ → ℕ → List Valued → Verdict
+  rootTest unit tag attributes =
+      pick (eqb tag 0x2e) (orElse (lowPcs e (x .table) attributes) (firstRanges attributes))
+      (pick (eqb tag 0x34) (locations e (x .table) unit attributes) isDead)
+
+-- ---- list bases: 12, or what a compile unit entry's own attribute in sec_offset says, from that entry on; of several the last counts
+
+unfoldable pub baseFrom : ℕ → ℕ → List Valued → ℕ
+baseFrom name base [] = base
+baseFrom name base (a ∷ rest) = baseFrom name (pick (eqb (a .name) name and eqb (a .value .form) 0x17) (a .value .field .value) base) rest
+
+-- DW_AT_rnglists_base 0x74, DW_AT_loclists_base 0x8c; DW_TAG_compile_unit 0x11
+unfoldable pub baseAfter : ℕ → ℕ → ℕ → List Valued → ℕ
+baseAfter name base tag attributes = pick (eqb tag 0x11) (baseFrom name base attributes) base

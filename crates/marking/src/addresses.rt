@@ -1,0 +1,47 @@
+// Whether an address is live: by itself, or by the lent address table.
+ghost use mathlib.Core.Path.{_≡_};
+ghost use Rattle.marking.specs.Addresses.{isTombstone, lookupAt};
+
+// What is found of an address. A table that fails is refused with 6.
+pub enum Liveness {
+    Live,
+    Dead,
+    Fails,
+}
+
+// Whether a linker put this address for code that it left out: 0, or all ones in the address's size.
+pub fn is_tombstone(address: u64, size: u8) -> bool
+    ensures { λ r. ⌜ r ≡ isTombstone address size ⌝ }
+{
+    if size == 4 {
+        if address == 0 {
+            return true;
+        }
+        return address == 0xffff_ffff;
+    }
+    if size == 8 {
+        if address == 0 {
+            return true;
+        }
+        return address == 0xffff_ffff_ffff_ffff;
+    }
+    false
+}
+
+// An index of the address table, one byte an index: 0 dead, 1 live; any other byte, or an index past its end, fails.
+pub fn lookup(table: &[u8], index: u64) -> Liveness
+    ensures { λ r. ⌜ r ≡ lookupAt (now (table .entry)) index ⌝ }
+{
+    if index >= (table.len() as u64) {
+        return Liveness::Fails;
+    }
+    let i = index as usize;
+    let b = table[i];
+    if b == 0 {
+        return Liveness::Dead;
+    }
+    if b == 1 {
+        return Liveness::Live;
+    }
+    Liveness::Fails
+}
