@@ -18,7 +18,7 @@ use gimli::{
 use std::any::Any;
 use std::collections::BTreeSet;
 use std::fmt::Write as _;
-use std::io::{self, BufRead, BufWriter, Read, Write};
+use std::io::{self, BufRead, BufReader, BufWriter, Read, Write};
 use std::panic::{self, AssertUnwindSafe};
 
 const USAGE: &str = "usage: oracle [--type-units] [--ranges-base N] [BUNDLE ..]
@@ -147,9 +147,17 @@ fn whole(bytes: &[u8], setting: Setting) -> String {
     }
 }
 
-fn stream(input: &mut impl BufRead, output: &mut impl Write, setting: Setting) -> io::Result<()> {
+/// Cases from standard input. Lines are handed out before the next case is waited for.
+fn stream(output: &mut impl Write, setting: Setting) -> io::Result<()> {
+    let mut input = BufReader::with_capacity(1 << 16, io::stdin().lock());
     let mut rest = Vec::new();
-    while !input.fill_buf()?.is_empty() {
+    loop {
+        if input.buffer().is_empty() {
+            output.flush()?;
+        }
+        if input.fill_buf()?.is_empty() {
+            return Ok(());
+        }
         let mut length = [0; 4];
         if input.read_exact(&mut length).is_err() {
             return writeln!(output, "bundle");
@@ -162,7 +170,6 @@ fn stream(input: &mut impl BufRead, output: &mut impl Write, setting: Setting) -
         }
         writeln!(output, "{}", line(&rest, setting))?;
     }
-    Ok(())
 }
 
 fn unhex(text: &str) -> Option<Vec<u8>> {
@@ -240,7 +247,7 @@ fn run() -> io::Result<i32> {
         }
     }
     if files.is_empty() {
-        stream(&mut io::stdin().lock(), &mut output, setting)?;
+        stream(&mut output, setting)?;
     }
     for file in files {
         let shown = match std::fs::read(&file) {

@@ -115,6 +115,9 @@ enum Target {
     Item(usize),
     /// This number.
     Number(u64),
+    /// The range list, or the location list, of this index: its offset in its section.
+    Ranges(usize),
+    Locations(usize),
 }
 
 /// A part of a unit or a list whose bytes may depend on where items end up.
@@ -126,13 +129,21 @@ enum Piece {
     Counted(Vec<Piece>, usize),
 }
 
-/// Offsets of the items, as far as they are known.
-type Places = Vec<usize>;
+/// Offsets of items and lists, as far as they are known.
+#[derive(Default)]
+struct Places {
+    items: Vec<usize>,
+    ranges: Vec<usize>,
+    locations: Vec<usize>,
+}
 
 fn resolve(target: Target, places: &Places) -> u64 {
+    let of = |offsets: &[usize], i: usize| offsets.get(i).copied().unwrap_or(0) as u64;
     match target {
-        Target::Item(i) => places.get(i).copied().unwrap_or(0) as u64,
+        Target::Item(i) => of(&places.items, i),
         Target::Number(n) => n,
+        Target::Ranges(i) => of(&places.ranges, i),
+        Target::Locations(i) => of(&places.locations, i),
     }
 }
 
@@ -233,11 +244,12 @@ impl Maker<'_> {
         }
     }
 
-    fn index(&mut self, count: usize) -> u64 {
-        if self.dice.rare(12) {
+    /// An index into a table of lists: in it, seldom not. Four times an index stays below 2^64, but where differences are wanted.
+    fn index(&mut self, count: usize, seldom: usize) -> u64 {
+        if self.dice.rare(seldom) {
             return self.dice.number() >> if self.style.listed { 0 } else { 3 };
         }
-        self.dice.below(count.max(1)) as u64
+        self.dice.below(count) as u64
     }
 
     fn address(&mut self) -> Vec<u8> {
@@ -458,8 +470,13 @@ impl Maker<'_> {
                 self.value(Spec { form, ..spec }, next, out);
             }
             0x17 => {
-                let offset = if spec.name == 0x74 || spec.name == 0x8c { 12 } else { self.index(40) };
-                out.push(Piece::Bytes((offset as u32).to_le_bytes().to_vec()));
+                let target = match spec.name {
+                    0x74 | 0x8c => Target::Number(12),
+                    0x55 if !self.dice.rare(20) => Target::Ranges(self.dice.below(self.ranges)),
+                    0x02 if !self.dice.rare(40) => Target::Locations(self.dice.below(self.locations)),
+                    _ => Target::Number(self.dice.number()),
+                };
+                out.push(Piece::Fixed(target, 4));
             }
             0x18 => {
                 let mut inner = self.expression(0);
@@ -471,8 +488,8 @@ impl Maker<'_> {
             0x19 | 0x21 => {}
             0x1a | 0x1f02 => out.push(Piece::Bytes(uleb(n, more))),
             0x1b => out.push(Piece::Bytes(uleb(self.address_index(), more))),
-            0x22 => out.push(Piece::Bytes(uleb(self.index(self.locations), more))),
-            0x23 => out.push(Piece::Bytes(uleb(self.index(self.ranges), more))),
+            0x22 => out.push(Piece::Bytes(uleb(self.index(self.locations, 50), more))),
+            0x23 => out.push(Piece::Bytes(uleb(self.index(self.ranges, 12), more))),
             0x25 => out.push(Piece::Bytes(self.dice.bytes(1))),
             0x26 => out.push(Piece::Bytes(vec![self.dice.below(9) as u8, self.dice.below(2) as u8])),
             0x27 => out.push(Piece::Bytes(vec![self.dice.below(9) as u8, self.dice.below(2) as u8, 0])),
@@ -504,7 +521,7 @@ impl Maker<'_> {
                 _ => {}
             }
         }
-        if !self.dice.rare(10) {
+        if !self.dice.rare(20) {
             out.push(0);
         }
         out
@@ -538,7 +555,7 @@ impl Maker<'_> {
                 out.push(Piece::Counted(inner, more));
             }
         }
-        if !self.dice.rare(10) {
+        if !self.dice.rare(20) {
             out.push(Piece::Bytes(vec![0]));
         }
         out
@@ -546,12 +563,13 @@ impl Maker<'_> {
 }
 
 /// A list section: header, table of offsets from behind the header, lists.
-fn list_section(dice: &mut Dice, address_size: usize, lists: &[Vec<u8>]) -> Vec<u8> {
+fn list_section(dice: &mut Dice, address_size: usize, lists: &[Vec<u8>], places: &mut Vec<usize>) -> Vec<u8> {
     let mut body: Vec<u8> = Vec::new();
     let mut table: Vec<u8> = Vec::new();
     for list in lists {
-        let past = if dice.rare(40) { dice.below(3) } else { 0 };
+        let past = if dice.rare(100) { dice.below(3) } else { 0 };
         table.extend(((4 * lists.len() + body.len() + past) as u32).to_le_bytes());
+        places.push(12 + 4 * lists.len() + body.len());
         body.extend(list);
     }
     let mut out = ((8 + table.len() + body.len()) as u32).to_le_bytes().to_vec();
@@ -640,8 +658,8 @@ fn structured(dice: &mut Dice, style: Style) -> Parts {
         wild,
         done: false,
     };
-    maker.ranges = maker.dice.below(5);
-    maker.locations = maker.dice.below(5);
+    maker.ranges = 1 + maker.dice.below(4);
+    maker.locations = 1 + maker.dice.below(4);
 
     // Abbreviations: the first is the unit's own.
     let count = 2 + maker.dice.below(8);
@@ -697,7 +715,7 @@ fn structured(dice: &mut Dice, style: Style) -> Parts {
 
     let split = dice.rare(3);
     let first = if split { 20 } else { 12 };
-    let mut places: Places = vec![first; items.len()];
+    let mut places = Places { items: vec![first; items.len()], ..Places::default() };
     let mut body = Vec::new();
     for _ in 0..12 {
         body.clear();
@@ -706,10 +724,26 @@ fn structured(dice: &mut Dice, style: Style) -> Parts {
             now.push(first + body.len());
             render(pieces, &places, &mut body);
         }
-        if now == places {
+        if now == places.items {
             break;
         }
-        places = now;
+        places.items = now;
+    }
+
+    // Where the lists are is known once the items are in place; that moves nothing.
+    let located: Vec<Vec<u8>> = located
+        .iter()
+        .map(|pieces| {
+            let mut out = Vec::new();
+            render(pieces, &places, &mut out);
+            out
+        })
+        .collect();
+    let location_lists = list_section(dice, address_size, &located, &mut places.locations);
+    let range_lists = list_section(dice, address_size, &lists, &mut places.ranges);
+    body.clear();
+    for pieces in &items {
+        render(pieces, &places, &mut body);
     }
 
     let before = if dice.rare(10) { dice.below(5) } else { 0 };
@@ -739,16 +773,6 @@ fn structured(dice: &mut Dice, style: Style) -> Parts {
     }
     table.extend(uleb(0, dice.padding()));
 
-    let located: Vec<Vec<u8>> = located
-        .iter()
-        .map(|pieces| {
-            let mut out = Vec::new();
-            render(pieces, &places, &mut out);
-            out
-        })
-        .collect();
-    let location_lists = list_section(dice, address_size, &located);
-    let range_lists = list_section(dice, address_size, &lists);
     let addresses = address_table(dice, addresses);
     [unit, table, location_lists, range_lists, addresses]
 }
