@@ -21,10 +21,15 @@ const PATCHES: &[(&str, &str, usize)] = &[
     ("header.root_offset().0", "header.size_of_header()", 1),
     // 4. gimli 0.27 indexes its slices by open ranges only.
     ("&expr[copied..r.pos]", "&expr.slice()[copied..r.pos]", 1),
-    // 5. The hook: marks and references.
+    // 5. The hook: entries met, references, marks.
     (
-        "    dies[0].liveness = Liveness::Retained;\n",
-        "    probe::edges(&dies); dies[0].liveness = Liveness::Retained;\n",
+        "        offset_to_index.insert(offset, index);\n",
+        "        offset_to_index.insert(offset, index); probe::entry(index);\n",
+        1,
+    ),
+    (
+        "        let parent = parent_stack.last().copied();\n",
+        "        let parent = parent_stack.last().copied(); probe::edges(&edges);\n",
         1,
     ),
     (

@@ -1,6 +1,7 @@
 //! The original collector as the judge: reads bundles and prints one line for each. README.md has the line's form.
 
 mod error;
+mod listed;
 mod shims;
 mod package {
     pub(crate) use crate::shims::DwoId;
@@ -21,7 +22,7 @@ use std::fmt::Write as _;
 use std::io::{self, BufRead, BufReader, BufWriter, Read, Write};
 use std::panic::{self, AssertUnwindSafe};
 
-const USAGE: &str = "usage: oracle [--type-units] [--ranges-base N] [BUNDLE ..]
+const USAGE: &str = "usage: oracle [--type-units] [--ranges-base N] [--more] [BUNDLE ..]
        oracle --expression ADDRESS_SIZE HEX | --padded VALUE WIDTH | --tombstone ADDRESS ADDRESS_SIZE
 Without a file: bundles one after another from standard input.";
 
@@ -30,6 +31,8 @@ Without a file: bundles one after another from standard input.";
 struct Setting {
     type_units: bool,
     ranges_base: usize,
+    /// Lines say how far it came, and which listed differences the case can show.
+    more: bool,
 }
 
 /// The five sections of a bundle whose first length has been taken off, or none for a wrong layout.
@@ -80,7 +83,6 @@ fn judge(parts: [&[u8]; 5], setting: Setting) -> String {
         Some(1) => Ok(true),
         _ => Err(error::Error::Address),
     };
-    probe::take();
     let answer = gc::gc_debug_info(
         DebugInfo::from(reader(0)),
         DebugAbbrev::from(reader(1)),
@@ -91,11 +93,11 @@ fn judge(parts: [&[u8]; 5], setting: Setting) -> String {
         shims::DwoId(0),
         setting.type_units,
     );
-    let seen = probe::take();
     let answer = match answer {
         Err(e) => return format!("error {e}"),
         Ok(answer) => answer,
     };
+    let seen = probe::seen();
     let kept = seen.marks.iter().filter(|m| m.1 != 'D').count();
     let marks: Vec<String> = seen.marks.iter().map(|(o, m)| format!("{o}{m}")).collect();
     let map: Vec<String> = answer
@@ -135,8 +137,29 @@ fn caught(job: impl FnOnce() -> String) -> String {
 fn line(rest: &[u8], setting: Setting) -> String {
     match sections(rest) {
         None => "bundle".to_string(),
-        Some(parts) => caught(|| judge(parts, setting)),
+        Some(parts) => {
+            probe::clear();
+            let mut line = caught(|| judge(parts, setting));
+            if setting.more {
+                line.push_str(&caught(|| more(parts, setting)));
+            }
+            line
+        }
     }
+}
+
+/// What `--more` adds to the line of the case that was judged last.
+fn more(parts: [&[u8]; 5], setting: Setting) -> String {
+    let seen = probe::seen();
+    let case = listed::Case {
+        parts,
+        type_units: setting.type_units,
+        ranges_base: setting.ranges_base,
+        met: seen.met,
+        marks: &seen.marks,
+    };
+    let rules: Vec<&str> = listed::rules(&case).into_iter().collect();
+    format!(" | met {} references {} listed {}", seen.met, seen.references, or_dash(rules.join(",")))
 }
 
 /// The line of a whole file.
@@ -232,6 +255,7 @@ fn run() -> io::Result<i32> {
     while let Some(arg) = args.next() {
         match arg.as_str() {
             "--type-units" => setting.type_units = true,
+            "--more" => setting.more = true,
             "--ranges-base" => match args.next().as_deref().and_then(number) {
                 Some(base) => setting.ranges_base = base as usize,
                 None => {

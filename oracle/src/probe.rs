@@ -4,8 +4,10 @@ use super::*;
 use std::cell::RefCell;
 
 /// What one run of `gc_debug_info` let be seen.
-#[derive(Default)]
+#[derive(Clone, Default)]
 pub(crate) struct Seen {
+    /// Entries whose attributes were read.
+    pub(crate) met: usize,
     /// References found, over all entries, before any mark.
     pub(crate) references: usize,
     /// Old offset and letter of each entry in stream order.
@@ -16,15 +18,23 @@ thread_local! {
     static SEEN: RefCell<Seen> = RefCell::default();
 }
 
-/// Hands out what was taken down and forgets it.
-pub(crate) fn take() -> Seen {
-    SEEN.take()
+/// What was taken down since it was last cleared.
+pub(crate) fn seen() -> Seen {
+    SEEN.with_borrow(Seen::clone)
 }
 
-/// Called when all entries are read and none is marked but roots.
-pub(super) fn edges(dies: &[DieRecord]) {
-    let references = dies.iter().map(|d| d.edges.len()).sum();
-    SEEN.with_borrow_mut(|s| s.references = references);
+pub(crate) fn clear() {
+    SEEN.take();
+}
+
+/// Called when an entry's attributes are read, before its root test.
+pub(super) fn entry(index: usize) {
+    SEEN.with_borrow_mut(|s| s.met = index + 1);
+}
+
+/// Called when an entry's references are read.
+pub(super) fn edges(edges: &[gimli::UnitOffset]) {
+    SEEN.with_borrow_mut(|s| s.references += edges.len());
 }
 
 /// Called when the marks are final.
