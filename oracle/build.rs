@@ -1,0 +1,64 @@
+//! Takes gc.rs from the papers beside the repository, applies the patches below and writes the result into OUT_DIR.
+//! Each patch names how often its text must be found; any other count stops the build. README.md gives the reasons.
+
+use std::{env, fs, path::Path};
+
+/// Where gc.rs is, from the repository's top.
+const SOURCE: &str = "../shared/docs/src/src--thorin--src--gc.rs.txt";
+
+/// Text in gc.rs, what stands there instead, how often. No patch changes the number of lines, so places that a panic
+/// names are those of gc.rs.
+const PATCHES: &[(&str, &str, usize)] = &[
+    // 1. ListsHeader is private in gimli 0.27.
+    ("gimli::ListsHeader", "crate::shims::ListsHeader", 3),
+    // 2. gimli 0.27 does not know the operation.
+    (
+        "            gimli::Operation::VariableValue { offset } => {\n",
+        "            #[cfg(any())] gimli::Operation::VariableValue { offset } => {\n",
+        1,
+    ),
+    // 3. gimli 0.27 has no root_offset.
+    ("header.root_offset().0", "header.size_of_header()", 1),
+    // 4. gimli 0.27 indexes its slices by open ranges only.
+    ("&expr[copied..r.pos]", "&expr.slice()[copied..r.pos]", 1),
+    // 5. The hook: entries met, references, marks.
+    (
+        "        offset_to_index.insert(offset, index);\n",
+        "        offset_to_index.insert(offset, index); probe::entry(index);\n",
+        1,
+    ),
+    (
+        "        let parent = parent_stack.last().copied();\n",
+        "        let parent = parent_stack.last().copied(); probe::edges(&edges);\n",
+        1,
+    ),
+    (
+        "    let total_dies = dies.len();\n",
+        "    let total_dies = dies.len(); probe::marks(&dies, &offset_to_index);\n",
+        1,
+    ),
+];
+
+fn main() {
+    let here = env::var("CARGO_MANIFEST_DIR").unwrap();
+    let source = Path::new(&here).join("..").join(SOURCE);
+    println!("cargo:rerun-if-changed={}", source.display());
+    println!("cargo:rerun-if-changed=build.rs");
+    println!("cargo:rerun-if-changed=src/probe.rs");
+
+    let mut text = fs::read_to_string(&source)
+        .unwrap_or_else(|e| panic!("{}: {e}", source.display()));
+    for (old, new, times) in PATCHES {
+        let found = text.matches(old).count();
+        assert_eq!(found, *times, "gc.rs: found {found} times, not {times}: {old}");
+        text = text.replace(old, new);
+    }
+    // 6. The module that sees gc.rs's private names.
+    text.push_str(&format!("\n#[path = {:?}]\npub(crate) mod probe;\n", format!("{here}/src/probe.rs")));
+
+    let out = env::var("OUT_DIR").unwrap();
+    let file = format!("{out}/gc.rs");
+    fs::write(&file, text).unwrap();
+    let declaration = format!("#[allow(dead_code, clippy::all)]\n#[path = {file:?}]\nmod gc;\n");
+    fs::write(format!("{out}/declare.rs"), declaration).unwrap();
+}

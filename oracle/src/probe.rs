@@ -1,0 +1,87 @@
+//! Sits inside gc.rs's module, so that its private names are seen: takes down what the answer does not carry.
+
+use super::*;
+use std::cell::RefCell;
+
+/// What one run of `gc_debug_info` let be seen.
+#[derive(Clone, Default)]
+pub(crate) struct Seen {
+    /// Entries whose attributes were read.
+    pub(crate) met: usize,
+    /// References found, over all entries, before any mark.
+    pub(crate) references: usize,
+    /// Old offset and letter of each entry in stream order.
+    pub(crate) marks: Vec<(usize, char)>,
+}
+
+thread_local! {
+    static SEEN: RefCell<Seen> = RefCell::default();
+}
+
+/// What was taken down since it was last cleared.
+pub(crate) fn seen() -> Seen {
+    SEEN.with_borrow(Seen::clone)
+}
+
+pub(crate) fn clear() {
+    SEEN.take();
+}
+
+/// Called when an entry's attributes are read, before its root test.
+pub(super) fn entry(index: usize) {
+    SEEN.with_borrow_mut(|s| s.met = index + 1);
+}
+
+/// Called when an entry's references are read.
+pub(super) fn edges(edges: &[gimli::UnitOffset]) {
+    SEEN.with_borrow_mut(|s| s.references += edges.len());
+}
+
+/// Called when the marks are final.
+pub(super) fn marks(dies: &[DieRecord], places: &HashMap<gimli::UnitOffset, usize>) {
+    let mut marks: Vec<(usize, char)> = places
+        .iter()
+        .map(|(offset, &i)| {
+            let letter = match dies[i].liveness {
+                Liveness::Dead => 'D',
+                Liveness::Live => 'L',
+                Liveness::Retained => 'R',
+            };
+            (offset.0, letter)
+        })
+        .collect();
+    marks.sort_unstable();
+    SEEN.with_borrow_mut(|s| s.marks = marks);
+}
+
+/// `walk_expression` alone: place, old offset and width of each reference, in the order of the walk.
+pub(crate) fn references(bytes: &[u8], address_size: u8) -> Result<Vec<(usize, u64, usize)>> {
+    let encoding = gimli::Encoding { format: gimli::Format::Dwarf32, version: 5, address_size };
+    let expression = gimli::EndianSlice::new(bytes, RunTimeEndian::Little);
+    let mut found: Vec<ExprRef> = Vec::new();
+    let mut absolute = false;
+    walk_expression(gimli::Expression(expression), 0, encoding, &mut |r| found.push(r), &mut |_| {
+        absolute = true
+    })?;
+    if absolute {
+        return Err(Error::UnexpectedSectionAbsoluteReference);
+    }
+    found
+        .iter()
+        .map(|r| {
+            let width = match r.enc {
+                ExprRefEnc::U2 => 2,
+                ExprRefEnc::U4 => 4,
+                ExprRefEnc::Uleb => uleb128_len(expression.range_from(r.pos..))?,
+            };
+            Ok((r.pos, r.old.0 as u64, width))
+        })
+        .collect()
+}
+
+/// `write_uleb128_padded` alone.
+pub(crate) fn padded(value: u64, width: usize) -> Result<Vec<u8>> {
+    let mut out = EndianVec::new(RunTimeEndian::Little);
+    write_uleb128_padded(&mut out, gimli::UnitOffset(value as usize), width)?;
+    Ok(out.into_vec())
+}
