@@ -1,3 +1,4 @@
 pub mod Lookups
 pub mod Verdicts
 pub mod Lists
+pub mod Attributes
