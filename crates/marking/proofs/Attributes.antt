@@ -3,7 +3,21 @@ use mathlib.Core.Path.{_≡_, refl, ap, sym, _∙_, subst}
 use Prim.Native.Nat.{ℕ, zero, suc, _+_, _-_, _≤_, _<_}
 use native.Mathlib.Omega.{arith}
 use mathlib.Core.List.{List, [], _∷_}
+use mathlib.Core.Logic.{⊎-elim}
 use lib.ListN.{length}
+use lib.Dec.{eqb}
+use mir.Facts.{eqb-yes, eqb-no}
+use Rattle.readers.specs.Choice.{either}
+use Rattle.readers.specs.Cursors.{formsAt}
+use Rattle.readers.proofs.Lebs.{forms-inside}
+use Rattle.readers.proofs.Tokens.{Inside, token-inside}
+use Rattle.readers.proofs.Values as Values
+use Rattle.readers.proofs.Values.{behindForms, attribute-direct, attribute-indirect}
+use Rattle.readers.specs.declared.cursor.Number.{Number}
+use Rattle.readers.specs.declared.cursor.Number.the-variants.{Value, Unreadable as NoNumber}
+use Rattle.readers.specs.declared.fields.Field.{Field}
+use Rattle.readers.specs.declared.fields.FieldRead.{FieldRead}
+use Rattle.readers.specs.declared.fields.FieldRead.the-variants.{Read as Field′, Unreadable as NoField}
 use Rattle.readers.specs.Entries.{attributeAt}
 use Rattle.readers.specs.Abbreviations.{specAt}
 use Rattle.readers.proofs.Specs.{attribute-inside}
@@ -70,6 +84,32 @@ module _ (e : Encoding) (s : List ℕ) (p : ℕ) (unit : List ℕ) (at : ℕ) wh
     unfolding onAttribute
     values-more v r = values-spec ∙ ap (λ (o : AttributeRead). onAttribute (a .name) o (λ next. entryValues e s (a .next .at) unit next)) r
 
+-- ---- how far a value comes
+
+field-of : (form : ℕ) (r : FieldRead) (v : Attribute) → Values.valued form r ≡ Attribute′ v → r ≡ Field′ (v .field)
+unfolding Values.valued
+field-of form (Field′ f) v g = let z : record { form = form; field = f } ≡ v = cc in ap (λ (a : Attribute). Field′ (a .field)) z
+field-of form NoField v g = let z : _≡_ {A = ℕ} 0 1 = cc in absurd (omega arith)
+
+module _ (e : Encoding) (s : List ℕ) (at name form : ℕ) (v : Attribute) where
+  behind-inside : (n : Number) → formsAt s at ≡ n → behindForms e s at name form n ≡ Attribute′ v → Inside s at (v .field)
+  unfolding behindForms
+  behind-inside (Value found next) q g =
+      let i : Inside s (next .at) (v .field) = token-inside e s (next .at) (v .field) _ (field-of found _ v g) in
+      record {
+        after = omega (arith, i .after, forms-inside s at found next q .0);
+        forward = i .forward;
+        within = omega (arith, i .within, forms-inside s at found next q .0, forms-inside s at found next q .1);
+      }
+  behind-inside NoNumber q g = let z : _≡_ {A = ℕ} 0 1 = cc in absurd (omega arith)
+
+  pub value-inside : attributeAt e s at name form ≡ Attribute′ v → Inside s at (v .field)
+  value-inside g =
+      ⊎-elim
+      (λ t. behind-inside (formsAt s at) refl (sym (attribute-indirect e s at name form (eqb-yes {a = form} {b = 0x16} t)) ∙ g))
+      (λ t. token-inside e s at (v .field) _ (field-of form _ v (sym (attribute-direct e s at name form (eqb-no {a = form} {b = 0x16} t)) ∙ g)))
+      (either (eqb form 0x16))
+
 -- ---- the attribute there, by what was read of it
 
 module _ (e : Encoding) (s : List ℕ) (p : ℕ) (unit : List ℕ) (at : ℕ) (r : SpecStep) (q : r ≡ specAt s p) where
@@ -96,13 +136,12 @@ abbrev pub valued : EntryAttribute → Valued
 valued x = record { name = x .name; value = x .value }
 
 module _ (e : Encoding) (s : List ℕ) (p : ℕ) (unit : List ℕ) (at : ℕ) where
-  -- one more, and how far its specification comes
+  -- one more, and how far its specification and its value come
   pub record Stepped (x : EntryAttribute) : Type 0 where
     pub all : entryValues e s p unit at ≡ valued x ∷ entryValues e s (x .next .at) unit (x .value .field .end)
     pub ahead : p < x .next .at
     pub inside : x .next .at ≤ length s
-    pub form : ℕ
-    pub read : attributeAt e unit at (x .name) form ≡ Attribute′ (x .value)
+    pub within : Inside unit at (x .value .field)
 
   by-value : (x : EntryAttribute) (a : AttributeSpec) → specAt s p ≡ Spec a → (o : AttributeRead) → attributeAt e unit at (a .name) (a .form) ≡ o
       → taken a o ≡ More x → Stepped x
@@ -114,8 +153,7 @@ module _ (e : Encoding) (s : List ℕ) (p : ℕ) (unit : List ℕ) (at : ℕ) wh
         all = values-more e s p unit at a q v k;
         ahead = attribute-inside s p a q .0;
         inside = attribute-inside s p a q .1;
-        form = a .form;
-        read = k
+        within = value-inside e unit at (a .name) (a .form) v k;
       })
   by-value x a q NoAttribute k g = let z : _≡_ {A = ℕ} 0 1 = cc in absurd (omega arith)
 

@@ -4,24 +4,33 @@ use Prim.Native.Nat.{ℕ, _-_, _≤_, _<_}
 use native.Mathlib.Omega.{arith}
 use mathlib.Core.Bool.{Bool, true, false}
 use mathlib.Core.List.{List, [], _∷_}
-use lib.ListN.{length, take, drop}
+use lib.ListN.{length, take, drop, length-take}
 use lib.Dec.{eqb}
 use borrow.Author.Tests.{eq-eqb, ne-eqb}
 use Rattle.readers.specs.Choice.{pick, _and_}
 use Rattle.readers.specs.declared.cursor.Encoding.{Encoding}
-use Rattle.marking.specs.Roots.{Valued, orElse, lowPc, lowPcs, entryValues, nextAttribute}
+use Rattle.marking.specs.Roots.{Valued, orElse, lowPc, lowPcs, locationLive, locations, entryValues, nextAttribute}
 use Rattle.marking.specs.declared.root_test.EntryAttribute.{EntryAttribute}
 use Rattle.marking.specs.declared.root_test.NextAttribute.{NextAttribute}
 use Rattle.marking.specs.declared.root_test.NextAttribute.the-variants.{More, NoMore}
 use Rattle.marking.specs.declared.roots.Verdict.{Verdict}
 use Rattle.marking.specs.declared.roots.Verdict.the-variants.{Live as isLive, Dead as isDead, Refused as refused}
+use Rattle.readers.proofs.Tokens.{Inside}
 use Rattle.marking.proofs.Attributes.{valued, stepped, no-more}
+use Rattle.marking.proofs.Lists.{location-start, location-dead}
 
 -- ---- any test over the attributes, from a specification and a value on
 
 module _ (e : Encoding) (s unit : List ℕ) (p at : ℕ) (n : NextAttribute) (q : n ≡ nextAttribute e s p unit at) where
   pub attributes-less : (x : EntryAttribute) → n ≡ More x → length s - x .next .at < length s - p
   attributes-less x r = omega (arith, stepped e s p unit at x (sym q ∙ r) .ahead, stepped e s p unit at x (sym q ∙ r) .inside)
+
+  pub attributes-within : (x : EntryAttribute) → n ≡ More x → Inside unit at (x .value .field)
+  attributes-within x r = stepped e s p unit at x (sym q ∙ r) .within
+
+  -- bytes of a value are bytes of the unit
+  pub value-ends : (x : EntryAttribute) → n ≡ More x → x .value .field .start < x .value .field .end → x .value .field .end ≤ length unit
+  value-ends x r l = omega (arith, attributes-within x r .after, attributes-within x r .within)
 
   module _ (test : List Valued → Verdict) where
     attributes-end : n ≡ NoMore → test (entryValues e s p unit at) ≡ test []
@@ -63,3 +72,57 @@ module _ (e : Encoding) (table s unit : List ℕ) (p₀ at₀ p at : ℕ) (h : l
       pub low-dead : w ≡ isDead → lowPcs e table (entryValues e s p₀ unit at₀) ≡ lowPcs e table (entryValues e s (x .next .at) unit (x .value .field .end))
       unfolding orElse
       low-dead v = low-met ∙ rw v
+
+-- ---- location
+
+pub location-none : (e : Encoding) (table s : List ℕ) → length s ≡ 0 → isDead ≡ locationLive e table s
+location-none e table s z = location-dead e table s 0 false (location-start e table s) (omega arith) refl
+
+abbrev locationOf : List ℕ → EntryAttribute → List ℕ
+locationOf unit x = take (x .value .field .end - x .value .field .start) (drop (x .value .field .start) unit)
+
+module _ (e : Encoding) (table s unit : List ℕ) (p₀ at₀ p at : ℕ)
+    (h : locations e table unit (entryValues e s p₀ unit at₀) ≡ locations e table unit (entryValues e s p unit at))
+    (n : NextAttribute) (q : n ≡ nextAttribute e s p unit at) where
+  pub locations-end : n ≡ NoMore → isDead ≡ locations e table unit (entryValues e s p₀ unit at₀)
+  unfolding locations
+  locations-end r = sym (h ∙ attributes-end e s unit p at n q (locations e table unit) r)
+
+  module _ (x : EntryAttribute) (r : n ≡ More x) where
+    locations-turn : locations e table unit (entryValues e s p₀ unit at₀)
+        ≡ locations e table unit (valued x ∷ entryValues e s (x .next .at) unit (x .value .field .end))
+    locations-turn = h ∙ attributes-turn e s unit p at n q (locations e table unit) x r
+
+    pub locations-other : (x .name ≡ 0x02 → ⊥)
+        → locations e table unit (entryValues e s p₀ unit at₀) ≡ locations e table unit (entryValues e s (x .next .at) unit (x .value .field .end))
+    unfolding locations pick _and_
+    locations-other k = locations-turn ∙ rw (ne-eqb (x .name) 0x02 k)
+
+    module _ (k : x .name ≡ 0x02) where
+      pub locations-list : (x .value .form ≡ 0x18 → ⊥)
+          → locations e table unit (entryValues e s p₀ unit at₀) ≡ locations e table unit (entryValues e s (x .next .at) unit (x .value .field .end))
+      unfolding locations pick _and_
+      locations-list f = locations-turn ∙ rw (eq-eqb (x .name) 0x02 k, ne-eqb (x .value .form) 0x18 f)
+
+      module _ (f : x .value .form ≡ 0x18) (w : Verdict) (l : w ≡ locationLive e table (locationOf unit x)) where
+        locations-met : locations e table unit (entryValues e s p₀ unit at₀)
+            ≡ orElse w (locations e table unit (entryValues e s (x .next .at) unit (x .value .field .end)))
+        unfolding locations pick _and_
+        locations-met = locations-turn ∙ rw (eq-eqb (x .name) 0x02 k, eq-eqb (x .value .form) 0x18 f, l)
+
+        pub locations-live : w ≡ isLive → isLive ≡ locations e table unit (entryValues e s p₀ unit at₀)
+        unfolding orElse
+        locations-live v = sym (locations-met ∙ rw v)
+
+        pub locations-refused : (m : ℕ) → w ≡ refused m → refused m ≡ locations e table unit (entryValues e s p₀ unit at₀)
+        unfolding orElse
+        locations-refused m v = sym (locations-met ∙ rw v)
+
+        pub locations-dead : w ≡ isDead
+            → locations e table unit (entryValues e s p₀ unit at₀) ≡ locations e table unit (entryValues e s (x .next .at) unit (x .value .field .end))
+        unfolding orElse
+        locations-dead v = locations-met ∙ rw v
+
+      pub locations-empty : x .value .form ≡ 0x18 → x .value .field .end ≤ x .value .field .start
+          → locations e table unit (entryValues e s p₀ unit at₀) ≡ locations e table unit (entryValues e s (x .next .at) unit (x .value .field .end))
+      locations-empty f b = locations-dead f isDead (location-none e table (locationOf unit x) (simp length-take (omega arith))) refl

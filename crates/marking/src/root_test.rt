@@ -1,7 +1,8 @@
 // The root test of an entry, over its attributes.
 ghost use mathlib.Core.Path.{_≡_};
-ghost use Rattle.marking.specs.Roots.{nextAttribute, lowPcs, entryValues};
+ghost use Rattle.marking.specs.Roots.{nextAttribute, lowPcs, locations, entryValues};
 use crate::roots::Verdict;
+use crate::roots::location_live;
 use crate::roots::low_pc;
 use readers::abbreviations::SpecStep;
 use readers::attributes::Attribute;
@@ -64,6 +65,41 @@ pub fn low_pcs(unit: &[u8], abbreviations: &[u8], specs: Cursor, values: Cursor,
             }
         }
         at = field.end;
+        p = next.at;
+    }
+}
+
+// Each location of an entry in turn. One of no bytes is dead.
+pub fn locations_live(unit: &[u8], abbreviations: &[u8], specs: Cursor, values: Cursor, table: &[u8], e: Encoding) -> Verdict
+    ensures { λ r. ⌜ r ≡ locations e (now (table .entry)) (now (unit .entry)) (entryValues e (now (abbreviations .entry)) (specs .at) (now (unit .entry)) (values .at)) ⌝ }
+{
+    let mut p = specs.at;
+    let mut at = values.at;
+    loop {
+        let NextAttribute::More(a) = next_attribute(unit, abbreviations, Cursor { at: p }, Cursor { at }, e) else {
+            return Verdict::Dead;
+        };
+        let v = a.value;
+        let field = v.field;
+        let next = a.next;
+        let from = field.start;
+        let to = field.end;
+        if a.name == 0x02 {
+            if v.form == 0x18 {
+                if from < to {
+                    match location_live(&unit[from..to], table, e) {
+                        Verdict::Live => {
+                            return Verdict::Live;
+                        }
+                        Verdict::Dead => {}
+                        Verdict::Refused(n) => {
+                            return Verdict::Refused(n);
+                        }
+                    }
+                }
+            }
+        }
+        at = to;
         p = next.at;
     }
 }
