@@ -1,6 +1,6 @@
 -- The root test's loops over an entry's attributes, one turn at a time. Assumes nothing.
 use mathlib.Core.Path.{_≡_, refl, ap, sym, _∙_}
-use Prim.Native.Nat.{ℕ, _-_, _≤_, _<_}
+use Prim.Native.Nat.{ℕ, _+_, _-_, _≤_, _<_}
 use native.Mathlib.Omega.{arith}
 use mathlib.Core.Bool.{Bool, true, false}
 use mathlib.Core.List.{List, [], _∷_}
@@ -8,8 +8,15 @@ use lib.ListN.{length, take, drop, length-take}
 use lib.Dec.{eqb}
 use borrow.Author.Tests.{eq-eqb, ne-eqb}
 use Rattle.readers.specs.Choice.{pick, _and_}
+use Rattle.readers.specs.Cursors.{cursor}
+use Rattle.readers.specs.Lists.{listStart, listOffset}
+use Rattle.readers.proofs.ListStarts.{start-past, start-inside}
 use Rattle.readers.specs.declared.cursor.Encoding.{Encoding}
-use Rattle.marking.specs.Roots.{Valued, orElse, lowPc, lowPcs, locationLive, locations, entryValues, nextAttribute}
+use Rattle.readers.specs.declared.cursor.Cursor.{Cursor}
+use Rattle.readers.specs.declared.attributes.Attribute.{Attribute}
+use Rattle.readers.specs.declared.lists.ListOffset.{ListOffset}
+use Rattle.readers.specs.declared.lists.ListOffset.the-variants.{At, Unresolved}
+use Rattle.marking.specs.Roots.{Valued, orElse, lowPc, lowPcs, locationLive, locations, olderLive, otherRanges, Ranges, rangesBy, rangesLive, rangesOf, firstRanges, entryValues, nextAttribute}
 use Rattle.marking.specs.declared.root_test.EntryAttribute.{EntryAttribute}
 use Rattle.marking.specs.declared.root_test.NextAttribute.{NextAttribute}
 use Rattle.marking.specs.declared.root_test.NextAttribute.the-variants.{More, NoMore}
@@ -17,7 +24,7 @@ use Rattle.marking.specs.declared.roots.Verdict.{Verdict}
 use Rattle.marking.specs.declared.roots.Verdict.the-variants.{Live as isLive, Dead as isDead, Refused as refused}
 use Rattle.readers.proofs.Tokens.{Inside}
 use Rattle.marking.proofs.Attributes.{valued, stepped, no-more}
-use Rattle.marking.proofs.Lists.{location-start, location-dead}
+use Rattle.marking.proofs.Lists.{location-start, location-dead, rangesFrom, ranges-start}
 
 -- ---- any test over the attributes, from a specification and a value on
 
@@ -126,3 +133,67 @@ module _ (e : Encoding) (table s unit : List ℕ) (p₀ at₀ p at : ℕ)
       pub locations-empty : x .value .form ≡ 0x18 → x .value .field .end ≤ x .value .field .start
           → locations e table unit (entryValues e s p₀ unit at₀) ≡ locations e table unit (entryValues e s (x .next .at) unit (x .value .field .end))
       locations-empty f b = locations-dead f isDead (location-none e table (locationOf unit x) (simp length-take (omega arith))) refl
+
+-- ---- ranges that are not in rnglistx
+
+module _ (e : Encoding) (s : List ℕ) (base : ℕ) (v : Attribute) where
+  pub other-form : (v .form ≡ 0x17 → ⊥) → isLive ≡ otherRanges e s base v
+  unfolding otherRanges pick
+  other-form k = rw (ne-eqb (v .form) 0x17 k)
+
+  module _ (k : v .form ≡ 0x17) where
+    other-from : olderLive e s (listStart s (base + v .field .value)) ≡ otherRanges e s base v
+    unfolding otherRanges pick
+    other-from = rw (eq-eqb (v .form) 0x17 k)
+
+    pub other-past : length s < base + v .field .value → isLive ≡ otherRanges e s base v
+    unfolding olderLive
+    other-past h = sym (ap (olderLive e s) (start-past s (base + v .field .value) h)) ∙ other-from
+
+    pub other-older : base + v .field .value ≤ length s → (w : Verdict) → w ≡ olderLive e s (At (cursor (base + v .field .value))) → w ≡ otherRanges e s base v
+    other-older h w q = q ∙ sym (ap (olderLive e s) (start-inside s (base + v .field .value) h)) ∙ other-from
+
+-- ---- the first ranges
+
+module _ (e : Encoding) (ranges table : List ℕ) (rb nb : ℕ) (s unit : List ℕ) (p₀ at₀ p at : ℕ)
+    (h : firstRanges e (rangesBy ranges table rb nb) (entryValues e s p₀ unit at₀) ≡ firstRanges e (rangesBy ranges table rb nb) (entryValues e s p unit at))
+    (n : NextAttribute) (q : n ≡ nextAttribute e s p unit at) where
+  pub first-end : n ≡ NoMore → (w : Verdict) → w ≡ isDead → w ≡ firstRanges e (rangesBy ranges table rb nb) (entryValues e s p₀ unit at₀)
+  unfolding firstRanges
+  first-end r w d = d ∙ sym (h ∙ attributes-end e s unit p at n q (firstRanges e (rangesBy ranges table rb nb)) r)
+
+  module _ (x : EntryAttribute) (r : n ≡ More x) where
+    first-turn : firstRanges e (rangesBy ranges table rb nb) (entryValues e s p₀ unit at₀)
+        ≡ firstRanges e (rangesBy ranges table rb nb) (valued x ∷ entryValues e s (x .next .at) unit (x .value .field .end))
+    first-turn = h ∙ attributes-turn e s unit p at n q (firstRanges e (rangesBy ranges table rb nb)) x r
+
+    pub first-other : (x .name ≡ 0x55 → ⊥)
+        → firstRanges e (rangesBy ranges table rb nb) (entryValues e s p₀ unit at₀)
+        ≡ firstRanges e (rangesBy ranges table rb nb) (entryValues e s (x .next .at) unit (x .value .field .end))
+    unfolding firstRanges pick
+    first-other k = first-turn ∙ rw (ne-eqb (x .name) 0x55 k)
+
+    module _ (k : x .name ≡ 0x55) where
+      pub first-form : (x .value .form ≡ 0x23 → ⊥) → (w : Verdict) → w ≡ otherRanges e ranges rb (x .value)
+          → w ≡ firstRanges e (rangesBy ranges table rb nb) (entryValues e s p₀ unit at₀)
+      unfolding firstRanges rangesOf pick
+      first-form f w l = l ∙ sym (first-turn ∙ rw (eq-eqb (x .name) 0x55 k, ne-eqb (x .value .form) 0x23 f))
+
+      module _ (f : x .value .form ≡ 0x23) (o : ListOffset) (l : o ≡ listOffset e ranges nb (x .value .field .value)) where
+        first-met : firstRanges e (rangesBy ranges table rb nb) (entryValues e s p₀ unit at₀) ≡ rangesLive e table ranges o
+        unfolding firstRanges rangesOf pick
+        first-met = first-turn ∙ rw (eq-eqb (x .name) 0x55 k, eq-eqb (x .value .form) 0x23 f, l)
+
+        pub first-unresolved : o ≡ Unresolved → isLive ≡ firstRanges e (rangesBy ranges table rb nb) (entryValues e s p₀ unit at₀)
+        unfolding rangesLive
+        first-unresolved u = sym (first-met ∙ rw u)
+
+        pub first-list : (c : Cursor) → o ≡ At c → firstRanges e (rangesBy ranges table rb nb) (entryValues e s p₀ unit at₀) ≡ rangesFrom e table ranges (c .at) false
+        first-list c u = first-met ∙ ap (rangesLive e table ranges) u ∙ ranges-start e table ranges c
+
+-- its list decided
+pub first-decided : (e : Encoding) (g : Ranges) (table ranges s unit : List ℕ) (p₀ at₀ p at place : ℕ) (dead : Bool)
+    → firstRanges e g (entryValues e s p₀ unit at₀) ≡ firstRanges e g (entryValues e s p unit at)
+    → firstRanges e g (entryValues e s p unit at) ≡ rangesFrom e table ranges place dead
+    → (v : Verdict) → rangesFrom e table ranges place dead ≡ v → v ≡ firstRanges e g (entryValues e s p₀ unit at₀)
+first-decided e g table ranges s unit p₀ at₀ p at place dead h i v k = sym (h ∙ i ∙ k)

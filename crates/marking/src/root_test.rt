@@ -1,14 +1,20 @@
 // The root test of an entry, over its attributes.
 ghost use mathlib.Core.Path.{_≡_};
-ghost use Rattle.marking.specs.Roots.{nextAttribute, lowPcs, locations, entryValues};
+ghost use Rattle.marking.specs.Roots.{nextAttribute, lowPcs, locations, otherRanges, rangesBy, firstRanges, entryValues};
+use crate::roots::RangeTurn;
 use crate::roots::Verdict;
 use crate::roots::location_live;
 use crate::roots::low_pc;
+use crate::roots::older_live;
+use crate::roots::range_entry;
 use readers::abbreviations::SpecStep;
 use readers::attributes::Attribute;
 use readers::attributes::AttributeRead;
 use readers::cursor::Cursor;
 use readers::cursor::Encoding;
+use readers::lists::ListOffset;
+use readers::lists::list_offset;
+use readers::operations::ListStep;
 
 // An attribute of an entry: its name, its value, and the cursor past its specification. Its field ends where the next value starts.
 pub struct EntryAttribute {
@@ -102,4 +108,76 @@ pub fn locations_live(unit: &[u8], abbreviations: &[u8], specs: Cursor, values: 
         at = to;
         p = next.at;
     }
+}
+
+// Ranges that are not in rnglistx: a section offset from the base by the older test; what can't be resolved, and any other form, is live.
+pub fn other_ranges(v: Attribute, ranges: &[u8], ranges_base: u64, e: Encoding) -> Verdict
+    ensures { λ r. ⌜ r ≡ otherRanges e (now (ranges .entry)) «ranges_base» v ⌝ }
+{
+    let field = v.field;
+    if v.form != 0x17 {
+        return Verdict::Live;
+    }
+    let len = ranges.len() as u64;
+    if ranges_base > len {
+        return Verdict::Live;
+    }
+    if field.value > len - ranges_base {
+        return Verdict::Live;
+    }
+    let at = (ranges_base + field.value) as usize;
+    older_live(ranges, Cursor { at }, e)
+}
+
+// The first ranges attribute of an entry. What decides its list leaves the list and the attributes with the verdict.
+pub fn first_ranges(unit: &[u8], abbreviations: &[u8], specs: Cursor, values: Cursor, ranges: &[u8], table: &[u8], ranges_base: u64, rnglists_base: u64, e: Encoding) -> Verdict
+    ensures { λ r. ⌜ r ≡ firstRanges e (rangesBy (now (ranges .entry)) (now (table .entry)) «ranges_base» «rnglists_base») (entryValues e (now (abbreviations .entry)) (specs .at) (now (unit .entry)) (values .at)) ⌝ }
+{
+    let mut p = specs.at;
+    let mut at = values.at;
+    let mut verdict = Verdict::Dead;
+    'attributes: loop {
+        let NextAttribute::More(a) = next_attribute(unit, abbreviations, Cursor { at: p }, Cursor { at }, e) else {
+            break 'attributes;
+        };
+        let v = a.value;
+        let field = v.field;
+        let next = a.next;
+        if a.name == 0x55 {
+            if v.form != 0x23 {
+                return other_ranges(v, ranges, ranges_base, e);
+            }
+            let ListOffset::At(start) = list_offset(ranges, rnglists_base, field.value, e) else {
+                return Verdict::Live;
+            };
+            let mut place = start.at;
+            let mut dead = false;
+            loop {
+                match (Cursor { at: place }).list_entry(ranges, false, e) {
+                    ListStep::Entry(x) => {
+                        let after = x.next;
+                        match range_entry(table, dead, x, e) {
+                            RangeTurn::On(flag) => {
+                                dead = flag;
+                                place = after.at;
+                            }
+                            RangeTurn::Decided(found) => {
+                                verdict = found;
+                                break 'attributes;
+                            }
+                        }
+                    }
+                    ListStep::End => {
+                        return Verdict::Dead;
+                    }
+                    ListStep::Unreadable => {
+                        return Verdict::Refused(5);
+                    }
+                }
+            }
+        }
+        at = field.end;
+        p = next.at;
+    }
+    verdict
 }
