@@ -16,7 +16,7 @@ use Rattle.readers.specs.declared.cursor.Cursor.{Cursor}
 use Rattle.readers.specs.declared.attributes.Attribute.{Attribute}
 use Rattle.readers.specs.declared.lists.ListOffset.{ListOffset}
 use Rattle.readers.specs.declared.lists.ListOffset.the-variants.{At, Unresolved}
-use Rattle.marking.specs.Roots.{Valued, orElse, lowPc, lowPcs, locationLive, locations, olderLive, otherRanges, Ranges, rangesBy, rangesLive, rangesOf, firstRanges, entryValues, nextAttribute}
+use Rattle.marking.specs.Roots.{Valued, orElse, lowPc, lowPcs, locationLive, locations, olderLive, otherRanges, Ranges, rangesBy, rangesLive, rangesOf, firstRanges, rootTest, entryValues, nextAttribute}
 use Rattle.marking.specs.declared.root_test.EntryAttribute.{EntryAttribute}
 use Rattle.marking.specs.declared.root_test.NextAttribute.{NextAttribute}
 use Rattle.marking.specs.declared.root_test.NextAttribute.the-variants.{More, NoMore}
@@ -197,3 +197,28 @@ pub first-decided : (e : Encoding) (g : Ranges) (table ranges s unit : List ℕ)
     → firstRanges e g (entryValues e s p unit at) ≡ rangesFrom e table ranges place dead
     → (v : Verdict) → rangesFrom e table ranges place dead ≡ v → v ≡ firstRanges e g (entryValues e s p₀ unit at₀)
 first-decided e g table ranges s unit p₀ at₀ p at place dead h i v k = sym (h ∙ i ∙ k)
+
+-- ---- the root test
+
+module _ (e : Encoding) (g : Ranges) (unit : List ℕ) (tag : ℕ) (l : List Valued) where
+  module _ (k : tag ≡ 0x2e) (w : Verdict) (q : w ≡ lowPcs e (g .table) l) where
+    pub subprogram-live : w ≡ isLive → isLive ≡ rootTest e g unit tag l
+    unfolding rootTest pick orElse
+    subprogram-live v = rw (eq-eqb tag 0x2e k, sym q ∙ v)
+
+    pub subprogram-refused : (m : ℕ) → w ≡ refused m → refused m ≡ rootTest e g unit tag l
+    unfolding rootTest pick orElse
+    subprogram-refused m v = rw (eq-eqb tag 0x2e k, sym q ∙ v)
+
+    pub subprogram-ranges : w ≡ isDead → (r : Verdict) → r ≡ firstRanges e g l → r ≡ rootTest e g unit tag l
+    unfolding rootTest pick orElse
+    subprogram-ranges v r z = z ∙ rw (eq-eqb tag 0x2e k, sym q ∙ v)
+
+  module _ (n : tag ≡ 0x2e → ⊥) where
+    pub variable-is : tag ≡ 0x34 → (w : Verdict) → w ≡ locations e (g .table) unit l → w ≡ rootTest e g unit tag l
+    unfolding rootTest pick
+    variable-is k w q = q ∙ rw (ne-eqb tag 0x2e n, eq-eqb tag 0x34 k)
+
+    pub other-tag : (tag ≡ 0x34 → ⊥) → isDead ≡ rootTest e g unit tag l
+    unfolding rootTest pick
+    other-tag k = rw (ne-eqb tag 0x2e n, ne-eqb tag 0x34 k)

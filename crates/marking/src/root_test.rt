@@ -1,6 +1,6 @@
 // The root test of an entry, over its attributes.
 ghost use mathlib.Core.Path.{_≡_};
-ghost use Rattle.marking.specs.Roots.{nextAttribute, lowPcs, locations, otherRanges, rangesBy, firstRanges, entryValues};
+ghost use Rattle.marking.specs.Roots.{nextAttribute, lowPcs, locations, otherRanges, rangesBy, firstRanges, rootTest, entryValues};
 use crate::roots::RangeTurn;
 use crate::roots::Verdict;
 use crate::roots::location_live;
@@ -180,4 +180,21 @@ pub fn first_ranges(unit: &[u8], abbreviations: &[u8], specs: Cursor, values: Cu
         p = next.at;
     }
     verdict
+}
+
+// The root test of an entry with a tag: a subprogram by its low_pc and its ranges, a variable by its location; other tags never.
+pub fn is_root(unit: &[u8], abbreviations: &[u8], specs: Cursor, values: Cursor, tag: u64, ranges: &[u8], table: &[u8], ranges_base: u64, rnglists_base: u64, e: Encoding) -> Verdict
+    ensures { λ r. ⌜ r ≡ rootTest e (rangesBy (now (ranges .entry)) (now (table .entry)) «ranges_base» «rnglists_base») (now (unit .entry)) tag (entryValues e (now (abbreviations .entry)) (specs .at) (now (unit .entry)) (values .at)) ⌝ }
+{
+    if tag == 0x2e {
+        return match low_pcs(unit, abbreviations, specs, values, table, e) {
+            Verdict::Live => Verdict::Live,
+            Verdict::Dead => first_ranges(unit, abbreviations, specs, values, ranges, table, ranges_base, rnglists_base, e),
+            Verdict::Refused(n) => Verdict::Refused(n),
+        };
+    }
+    if tag == 0x34 {
+        return locations_live(unit, abbreviations, specs, values, table, e);
+    }
+    Verdict::Dead
 }
