@@ -3,11 +3,12 @@ use mathlib.Core.Path.{_≡_, refl, ap, sym, _∙_, subst}
 use Prim.Native.Nat.{ℕ, zero, suc, _+_, _-_, _≤_, _<_}
 use native.Mathlib.Omega.{arith}
 use mathlib.Core.List.{List, [], _∷_}
+use mathlib.Core.Option.{Option, none, some}
 use mathlib.Core.Logic.{⊎-elim}
 use lib.ListN.{length}
 use lib.Dec.{eqb}
 use mir.Facts.{eqb-yes, eqb-no}
-use Rattle.readers.specs.Choice.{either}
+use Rattle.readers.specs.Choice.{either, bind}
 use Rattle.readers.specs.Cursors.{formsAt}
 use Rattle.readers.proofs.Lebs.{forms-inside}
 use Rattle.readers.proofs.Tokens.{Inside, token-inside}
@@ -19,8 +20,9 @@ use Rattle.readers.specs.declared.fields.Field.{Field}
 use Rattle.readers.specs.declared.fields.FieldRead.{FieldRead}
 use Rattle.readers.specs.declared.fields.FieldRead.the-variants.{Read as Field′, Unreadable as NoField}
 use Rattle.readers.specs.Entries.{attributeAt}
-use Rattle.readers.specs.Abbreviations.{specAt}
-use Rattle.readers.proofs.Specs.{attribute-inside}
+use Rattle.readers.specs.Abbreviations.{specAt, attributesFrom}
+use Rattle.readers.specs.Scan.{Scanned, push}
+use Rattle.readers.proofs.Specs.{attribute-inside, attributes-more, attributes-last, attributes-bad}
 use Rattle.readers.specs.declared.cursor.Encoding.{Encoding}
 use Rattle.readers.specs.declared.cursor.Cursor.{Cursor}
 use Rattle.readers.specs.declared.abbreviations.AttributeSpec.{AttributeSpec}
@@ -57,6 +59,40 @@ module _ (s : List ℕ) where
       turn-same at (specAt s at) refl _ _
       (λ a lo hi. ap (λ (l : List AttributeSpec). a ∷ l)
       (within-same (length s - at) (suc (length s - a .next .at)) (a .next .at) (omega arith) (omega arith) (omega arith) (omega arith)))
+
+  -- where all can be read, as in a checked list, these are all
+  onto : (a : AttributeSpec) (l : List AttributeSpec) (o : Option (Scanned AttributeSpec ℕ)) (r : Scanned AttributeSpec ℕ)
+      → ((t : Scanned AttributeSpec ℕ) → o ≡ some t → l ≡ t .0) → bind o (push a) ≡ some r → a ∷ l ≡ r .0
+  unfolding bind push
+  onto a l none r k g = let z : _≡_ {A = ℕ} 0 1 = cc in absurd (omega arith)
+  onto a l (some t) r k g =
+      let z : (a ∷ t .0, t .1) ≡ r = cc in
+      ap (λ (m : List AttributeSpec). a ∷ m) (k t refl) ∙ ap (λ (y : Scanned AttributeSpec ℕ). y .0) z
+
+  all-turn : (at : ℕ) (r : Scanned AttributeSpec ℕ) → attributesFrom s at ≡ some r → (o : SpecStep) → specAt s at ≡ o
+      → ((a : AttributeSpec) → specAt s at ≡ Spec a → (t : Scanned AttributeSpec ℕ) → attributesFrom s (a .next .at) ≡ some t → specsFrom s (a .next .at) ≡ t .0)
+      → onSpec o (λ a. a ∷ specsFrom s (a .next .at)) ≡ r .0
+  unfolding onSpec
+  all-turn at r g (Spec a) q k = onto a (specsFrom s (a .next .at)) (attributesFrom s (a .next .at)) r (k a q) (sym (attributes-more s at a q) ∙ g)
+  all-turn at r g (LastSpec c) q k =
+      let y : some ([], c .at) ≡ some r = sym (attributes-last s at c q) ∙ g in
+      let z : ([], c .at) ≡ r = cc in
+      ap (λ (y : Scanned AttributeSpec ℕ). y .0) z
+  all-turn at r g NoSpec q k =
+      let y : none ≡ some r = sym (attributes-bad s at q) ∙ g in
+      let z : _≡_ {A = ℕ} 0 1 = cc in
+      absurd (omega arith)
+
+  all-within : (k at : ℕ) → length s ≤ at + k → (r : Scanned AttributeSpec ℕ) → attributesFrom s at ≡ some r → specsFrom s at ≡ r .0
+  all-within zero at h r g =
+      specs-step at
+      ∙ all-turn at r g (specAt s at) refl (λ a q t y. absurd (omega (arith, attribute-inside s at a q .0, attribute-inside s at a q .1)))
+  all-within (suc k) at h r g =
+      specs-step at
+      ∙ all-turn at r g (specAt s at) refl (λ a q t y. all-within k (a .next .at) (omega (arith, attribute-inside s at a q .0)) t y)
+
+  pub specs-all : (at : ℕ) (r : Scanned AttributeSpec ℕ) → attributesFrom s at ≡ some r → specsFrom s at ≡ r .0
+  specs-all at r g = all-within (length s) at (omega arith) r g
 
 -- ---- values
 

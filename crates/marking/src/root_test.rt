@@ -29,7 +29,13 @@ pub enum NextAttribute {
 }
 
 // The attribute at a specification and a value of an entry; none where one of them can't be read.
-pub fn next_attribute(unit: &[u8], abbreviations: &[u8], specs: Cursor, values: Cursor, e: Encoding) -> NextAttribute
+pub fn next_attribute(
+    unit: &[u8],
+    abbreviations: &[u8],
+    specs: Cursor,
+    values: Cursor,
+    e: Encoding,
+) -> NextAttribute
     ensures { λ r. ⌜ r ≡ nextAttribute e (now (abbreviations .entry)) (specs .at) (now (unit .entry)) (values .at) ⌝ }
 {
     match specs.attribute_spec(abbreviations) {
@@ -47,13 +53,26 @@ pub fn next_attribute(unit: &[u8], abbreviations: &[u8], specs: Cursor, values: 
 }
 
 // Each low_pc of an entry in turn.
-pub fn low_pcs(unit: &[u8], abbreviations: &[u8], specs: Cursor, values: Cursor, table: &[u8], e: Encoding) -> Verdict
+pub fn low_pcs(
+    unit: &[u8],
+    abbreviations: &[u8],
+    specs: Cursor,
+    values: Cursor,
+    table: &[u8],
+    e: Encoding,
+) -> Verdict
     ensures { λ r. ⌜ r ≡ lowPcs e (now (table .entry)) (entryValues e (now (abbreviations .entry)) (specs .at) (now (unit .entry)) (values .at)) ⌝ }
 {
     let mut p = specs.at;
     let mut at = values.at;
     loop {
-        let NextAttribute::More(a) = next_attribute(unit, abbreviations, Cursor { at: p }, Cursor { at }, e) else {
+        let NextAttribute::More(a) = next_attribute(
+            unit,
+            abbreviations,
+            Cursor { at: p },
+            Cursor { at },
+            e,
+        ) else {
             return Verdict::Dead;
         };
         let v = a.value;
@@ -76,13 +95,26 @@ pub fn low_pcs(unit: &[u8], abbreviations: &[u8], specs: Cursor, values: Cursor,
 }
 
 // Each location of an entry in turn. One of no bytes is dead.
-pub fn locations_live(unit: &[u8], abbreviations: &[u8], specs: Cursor, values: Cursor, table: &[u8], e: Encoding) -> Verdict
+pub fn locations_live(
+    unit: &[u8],
+    abbreviations: &[u8],
+    specs: Cursor,
+    values: Cursor,
+    table: &[u8],
+    e: Encoding,
+) -> Verdict
     ensures { λ r. ⌜ r ≡ locations e (now (table .entry)) (now (unit .entry)) (entryValues e (now (abbreviations .entry)) (specs .at) (now (unit .entry)) (values .at)) ⌝ }
 {
     let mut p = specs.at;
     let mut at = values.at;
     loop {
-        let NextAttribute::More(a) = next_attribute(unit, abbreviations, Cursor { at: p }, Cursor { at }, e) else {
+        let NextAttribute::More(a) = next_attribute(
+            unit,
+            abbreviations,
+            Cursor { at: p },
+            Cursor { at },
+            e,
+        ) else {
             return Verdict::Dead;
         };
         let v = a.value;
@@ -130,14 +162,30 @@ pub fn other_ranges(v: Attribute, ranges: &[u8], ranges_base: u64, e: Encoding) 
 }
 
 // The first ranges attribute of an entry. What decides its list leaves the list and the attributes with the verdict.
-pub fn first_ranges(unit: &[u8], abbreviations: &[u8], specs: Cursor, values: Cursor, ranges: &[u8], table: &[u8], ranges_base: u64, rnglists_base: u64, e: Encoding) -> Verdict
+pub fn first_ranges(
+    unit: &[u8],
+    abbreviations: &[u8],
+    specs: Cursor,
+    values: Cursor,
+    ranges: &[u8],
+    table: &[u8],
+    ranges_base: u64,
+    rnglists_base: u64,
+    e: Encoding,
+) -> Verdict
     ensures { λ r. ⌜ r ≡ firstRanges e (rangesBy (now (ranges .entry)) (now (table .entry)) «ranges_base» «rnglists_base») (entryValues e (now (abbreviations .entry)) (specs .at) (now (unit .entry)) (values .at)) ⌝ }
 {
     let mut p = specs.at;
     let mut at = values.at;
     let mut verdict = Verdict::Dead;
     'attributes: loop {
-        let NextAttribute::More(a) = next_attribute(unit, abbreviations, Cursor { at: p }, Cursor { at }, e) else {
+        let NextAttribute::More(a) = next_attribute(
+            unit,
+            abbreviations,
+            Cursor { at: p },
+            Cursor { at },
+            e,
+        ) else {
             break 'attributes;
         };
         let v = a.value;
@@ -183,13 +231,34 @@ pub fn first_ranges(unit: &[u8], abbreviations: &[u8], specs: Cursor, values: Cu
 }
 
 // The root test of an entry with a tag: a subprogram by its low_pc and its ranges, a variable by its location; other tags never.
-pub fn is_root(unit: &[u8], abbreviations: &[u8], specs: Cursor, values: Cursor, tag: u64, ranges: &[u8], table: &[u8], ranges_base: u64, rnglists_base: u64, e: Encoding) -> Verdict
+pub fn is_root(
+    unit: &[u8],
+    abbreviations: &[u8],
+    specs: Cursor,
+    values: Cursor,
+    tag: u64,
+    ranges: &[u8],
+    table: &[u8],
+    ranges_base: u64,
+    rnglists_base: u64,
+    e: Encoding,
+) -> Verdict
     ensures { λ r. ⌜ r ≡ rootTest e (rangesBy (now (ranges .entry)) (now (table .entry)) «ranges_base» «rnglists_base») (now (unit .entry)) tag (entryValues e (now (abbreviations .entry)) (specs .at) (now (unit .entry)) (values .at)) ⌝ }
 {
     if tag == 0x2e {
         return match low_pcs(unit, abbreviations, specs, values, table, e) {
             Verdict::Live => Verdict::Live,
-            Verdict::Dead => first_ranges(unit, abbreviations, specs, values, ranges, table, ranges_base, rnglists_base, e),
+            Verdict::Dead => first_ranges(
+                unit,
+                abbreviations,
+                specs,
+                values,
+                ranges,
+                table,
+                ranges_base,
+                rnglists_base,
+                e,
+            ),
             Verdict::Refused(n) => Verdict::Refused(n),
         };
     }
