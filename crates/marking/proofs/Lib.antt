@@ -1,6 +1,8 @@
 pub mod Lookups
 pub mod Verdicts
 pub mod Lists
+pub mod Attributes
+pub mod RootTests
 pub mod Tests
 pub mod Tables
 pub mod Graphs

@@ -1,11 +1,11 @@
 -- A range list and a location, one step at a time: the answer from a place on, by what is read there. Assumes nothing.
-use mathlib.Core.Path.{_≡_, refl, ap, sym, _∙_}
+use mathlib.Core.Path.{_≡_, refl, ap, ap₂, sym, _∙_}
 use Prim.Native.Nat.{ℕ, _-_, _≤_, _<_}
 use native.Mathlib.Omega.{arith}
 use mathlib.Core.Bool.{Bool, true, false}
 use mathlib.Core.List.{List}
 use lib.ListN.{length}
-use lib.Dec.{ltb, eqb}
+use lib.Dec.{ltb, leb, eqb}
 use borrow.Author.Tests.{lt-ltb, le-ltb, eq-eqb, ne-eqb}
 use Rattle.readers.specs.Choice.{pick, pick-either}
 use Rattle.readers.specs.Steps.{operationAt, listEntryAt}
@@ -19,11 +19,13 @@ use Rattle.readers.specs.declared.operations.OperationRead.the-variants.{Read a
 use Rattle.readers.specs.declared.operations.ListEntry.{ListEntry}
 use Rattle.readers.specs.declared.operations.ListStep.{ListStep}
 use Rattle.readers.specs.declared.operations.ListStep.the-variants.{Entry, End, Unreadable as NoEntry}
-use Rattle.marking.specs.Addresses.{lookupAt}
+use Rattle.marking.specs.Addresses.{isTombstone, lookupAt}
 use Rattle.marking.specs.Walking.{go, stop, onNext, walk, Forward, walk-step}
-use Rattle.marking.specs.Roots.{Flagged, place, Turn, toward, onLookup, olderStep, olderLive, operationStep, locationLive}
+use Rattle.marking.specs.Roots.{Flagged, place, Turn, toward, turnOf, onLookup, rangeEntry, rangeStep, rangesLive, olderStep, olderLive, operationStep, locationLive}
 use Rattle.marking.specs.declared.addresses.Liveness.{Liveness}
 use Rattle.marking.specs.declared.addresses.Liveness.the-variants.{Live, Dead, Fails}
+use Rattle.marking.specs.declared.roots.RangeTurn.{RangeTurn}
+use Rattle.marking.specs.declared.roots.RangeTurn.the-variants.{On, Decided}
 use Rattle.marking.specs.declared.roots.Verdict.{Verdict}
 use Rattle.marking.specs.declared.roots.Verdict.the-variants.{Live as isLive, Dead as isDead, Refused as refused}
 
@@ -72,6 +74,96 @@ module _ (e : Encoding) (s : List ℕ) where
     pub older-none : o ≡ NoEntry → refused 5 ≡ olderLive e s (At c)
     unfolding olderFrom olderLive onNext olderStep
     older-none r = sym (older-turn (c .at) at h o q ∙ rw r)
+
+-- ---- a range list
+
+-- wherever an entry goes on, it is at its end
+unfoldable Heads : ListEntry → Turn → Type 0
+Heads x (go p) = p .at ≡ x .next .at
+Heads x (stop v) = Unit {0}
+
+module _ (x : ListEntry) where
+  looked-heads : (l : Liveness) (t u : Turn) → Heads x t → Heads x u → Heads x (onLookup l stop t u)
+  unfolding onLookup Heads
+  looked-heads Live t u f g = f
+  looked-heads Dead t u f g = g
+  looked-heads Fails t u f g = tt
+
+  entry-heads : (e : Encoding) (table : List ℕ) (dead : Bool) → Heads x (rangeEntry e table dead x)
+  unfolding rangeEntry Heads
+  entry-heads e table dead =
+      let l : Liveness = lookupAt table (x .first .value) in
+      pick-either (Heads x) (eqb (x .kind) 1) _ _ (λ t. looked-heads l (toward x false) (toward x true) refl refl)
+      (λ t. pick-either (Heads x) (leb (x .kind) 3) _ _ (λ t. looked-heads l (stop isLive) (toward x dead) tt refl)
+      (λ t. pick-either (Heads x) (eqb (x .kind) 4) _ _ (λ t. pick-either (Heads x) dead (toward x dead) (stop isLive) (λ t. refl) (λ t. tt))
+      (λ t. pick-either (Heads x) (eqb (x .kind) 5) (toward x (isTombstone (x .first .value) (e .«address_size»))) _ (λ t. refl)
+      (λ t. pick-either (Heads x) (isTombstone (x .first .value) (e .«address_size»)) (toward x dead) (stop isLive) (λ t. refl) (λ t. tt)))))
+
+  on-turn : (t : Turn) → Heads x t → (b : Bool) → On b ≡ turnOf t → t ≡ toward x b
+  unfolding Heads turnOf
+  on-turn (go p) h b q = let f : p .flag ≡ b = cc in ap₂ (λ (n : ℕ) (c : Bool). go (record { at = n; flag = c })) h f
+  on-turn (stop v) h b q = let z : _≡_ {A = ℕ} 0 1 = cc in absurd (omega arith)
+
+decided-turn : (t : Turn) (v : Verdict) → Decided v ≡ turnOf t → t ≡ stop v
+unfolding turnOf
+decided-turn (go p) v q = let z : _≡_ {A = ℕ} 0 1 = cc in absurd (omega arith)
+decided-turn (stop w) v q = cc
+
+module _ (e : Encoding) (table s : List ℕ) where
+  abbrev rangeTurn : Flagged → Turn
+  rangeTurn p = rangeStep e table (p .flag) (listEntryAt e false s (p .at))
+
+  -- the answer from a place on, where the latest base was dead or not
+  unfoldable pub rangesFrom : ℕ → Bool → Verdict
+  rangesFrom at dead = walk place (length s) rangeTurn isDead (record { at = at; flag = dead })
+
+  pub ranges-start : (c : Cursor) → rangesLive e table s (At c) ≡ rangesFrom (c .at) false
+  unfolding rangesLive rangesFrom
+  ranges-start c = refl
+
+  heads-forward : (p : Flagged) (x : ListEntry) (t : Turn) → Heads x t → p .at < x .next .at → x .next .at ≤ length s → Forward place (length s) p t
+  unfolding Heads Forward
+  heads-forward p x (go u) h lo hi = (omega arith, omega arith)
+  heads-forward p x (stop v) h lo hi = tt
+
+  range-forward : (p : Flagged) (o : ListStep) → listEntryAt e false s (p .at) ≡ o → Forward place (length s) p (rangeStep e table (p .flag) o)
+  unfolding rangeStep Forward
+  range-forward p (Entry x) q =
+      heads-forward p x (rangeEntry e table (p .flag) x) (entry-heads x e table (p .flag)) (entry-inside e false s (p .at) x q .0) (entry-inside e false s (p .at) x q .1)
+  range-forward p End q = tt
+  range-forward p NoEntry q = tt
+
+  module _ (at : ℕ) (dead : Bool) (o : ListStep) (q : o ≡ listEntryAt e false s at) where
+    range-turn : rangesFrom at dead ≡ onNext (rangeStep e table dead o) (walk place (length s) rangeTurn isDead)
+    unfolding rangesFrom
+    range-turn =
+        walk-step place (length s) rangeTurn isDead (λ p. range-forward p (listEntryAt e false s (p .at)) refl) (record { at = at; flag = dead })
+        ∙ ap (λ (w : ListStep). onNext (rangeStep e table dead w) (walk place (length s) rangeTurn isDead)) (sym q)
+
+    pub range-end : o ≡ End → rangesFrom at dead ≡ isDead
+    unfolding onNext rangeStep
+    range-end r = range-turn ∙ rw r
+
+    pub range-none : o ≡ NoEntry → rangesFrom at dead ≡ refused 5
+    unfolding onNext rangeStep
+    range-none r = range-turn ∙ rw r
+
+    module _ (x : ListEntry) (r : o ≡ Entry x) where
+      pub range-less : length s - x .next .at < length s - at
+      range-less = omega (arith, entry-inside e false s at x (sym q ∙ r) .0, entry-inside e false s at x (sym q ∙ r) .1)
+
+      module _ (w : RangeTurn) (l : w ≡ turnOf (rangeEntry e table dead x)) where
+        entry-turn : (t : Turn) → rangeEntry e table dead x ≡ t → rangesFrom at dead ≡ onNext t (walk place (length s) rangeTurn isDead)
+        unfolding rangeStep
+        entry-turn t k = range-turn ∙ rw (r, k)
+
+        pub range-on : (b : Bool) → w ≡ On b → rangesFrom at dead ≡ rangesFrom (x .next .at) b
+        unfolding onNext rangesFrom
+        range-on b k = entry-turn (toward x b) (on-turn x (rangeEntry e table dead x) (entry-heads x e table dead) b (sym k ∙ l))
+
+        pub range-decided : (v : Verdict) → w ≡ Decided v → rangesFrom at dead ≡ v
+        unfolding onNext
+        range-decided v k = entry-turn (stop v) (decided-turn (rangeEntry e table dead x) v (sym k ∙ l))
 
 -- ---- a location
 

@@ -1,20 +1,20 @@
 -- Which entries are roots (document 01, "Roots"; gc.rs: `is_root`, `rnglist_has_live_entry`, `ranges_has_live_entry`, `location_expr_live`).
-use Prim.Native.Nat.{ℕ, _+_, _-_}
+use Prim.Native.Nat.{ℕ, zero, suc, _+_, _-_}
 use mathlib.Core.Bool.{Bool, true, false}
 use mathlib.Core.List.{List, [], _∷_}
-use mathlib.Core.Option.{Option, none, some}
 use lib.ListN.{length, take, drop}
 use lib.Dec.{ltb, leb, eqb}
 use Rattle.readers.specs.Choice.{pick, _and_, _or_}
 use Rattle.readers.specs.Steps.{operationAt, listEntryAt}
 use Rattle.readers.specs.Lists.{listOffset, listStart}
 use Rattle.readers.specs.Entries.{attributeAt}
-use Rattle.readers.specs.Abbreviations.{attributesFrom}
-use Rattle.readers.specs.Scan.{Scanned}
+use Rattle.readers.specs.Abbreviations.{specAt}
 use Rattle.readers.specs.declared.cursor.Encoding.{Encoding}
 use Rattle.readers.specs.declared.cursor.Cursor.{Cursor}
 use Rattle.readers.specs.declared.fields.Field.{Field}
 use Rattle.readers.specs.declared.abbreviations.AttributeSpec.{AttributeSpec}
+use Rattle.readers.specs.declared.abbreviations.SpecStep.{SpecStep}
+use Rattle.readers.specs.declared.abbreviations.SpecStep.the-variants.{Attribute as Spec, Last as LastSpec, Unreadable as NoSpec}
 use Rattle.readers.specs.declared.attributes.Attribute.{Attribute}
 use Rattle.readers.specs.declared.attributes.AttributeRead.{AttributeRead}
 use Rattle.readers.specs.declared.attributes.AttributeRead.the-variants.{Read as Attribute′, Unreadable as NoAttribute}
@@ -32,6 +32,8 @@ use Rattle.marking.specs.declared.addresses.Liveness.{Liveness}
 use Rattle.marking.specs.declared.addresses.Liveness.the-variants.{Live, Dead, Fails}
 use Rattle.marking.specs.declared.roots.RangeTurn.{RangeTurn}
 use Rattle.marking.specs.declared.roots.RangeTurn.the-variants.{On, Decided}
+use Rattle.marking.specs.declared.root_test.NextAttribute.{NextAttribute}
+use Rattle.marking.specs.declared.root_test.NextAttribute.the-variants.{More, NoMore}
 use Rattle.marking.specs.declared.roots.Verdict.{Verdict}
 use Rattle.marking.specs.declared.roots.Verdict.the-variants.{Live as isLive, Dead as isDead, Refused as refused}
 
@@ -135,13 +137,37 @@ unfoldable pub valuesOf : Encoding → List ℕ → List AttributeSpec → ℕ �
 valuesOf e unit [] at = []
 valuesOf e unit (a ∷ rest) at = onAttribute (a .name) (attributeAt e unit at (a .name) (a .form)) (λ next. valuesOf e unit rest next)
 
--- the attributes of an entry, from the place of its specifications and that of its values on
-unfoldable pub specsOf : Option (Scanned AttributeSpec ℕ) → List AttributeSpec
-specsOf none = []
-specsOf (some r) = r .0
+-- the specifications from a place on, up to the pair of zeros or to one that can't be read: what stands before that one counts, since a test may be decided
+-- there. A checked abbreviation list has none such, and there these are all.
+unfoldable pub onSpec : SpecStep → (AttributeSpec → List AttributeSpec) → List AttributeSpec
+onSpec (Spec a) k = k a
+onSpec (LastSpec c) k = []
+onSpec NoSpec k = []
 
+-- a count bounds how often
+unfoldable pub specsWithin : ℕ → List ℕ → ℕ → List AttributeSpec
+specsWithin zero s at = []
+specsWithin (suc k) s at = onSpec (specAt s at) (λ a. a ∷ specsWithin k s (a .next .at))
+
+unfoldable pub specsFrom : List ℕ → ℕ → List AttributeSpec
+specsFrom s at = specsWithin (suc (length s - at)) s at
+
+-- the attributes of an entry, from the place of its specifications and that of its values on
 unfoldable pub entryValues : Encoding → List ℕ → ℕ → List ℕ → ℕ → List Valued
-entryValues e abbreviations specs unit at = valuesOf e unit (specsOf (attributesFrom abbreviations specs)) at
+entryValues e abbreviations specs unit at = valuesOf e unit (specsFrom abbreviations specs) at
+
+-- the attribute there, as the code reads it
+unfoldable pub taken : AttributeSpec → AttributeRead → NextAttribute
+taken a (Attribute′ v) = More (record { name = a .name; value = v; next = a .next })
+taken a NoAttribute = NoMore
+
+unfoldable pub takenBy : Encoding → List ℕ → ℕ → SpecStep → NextAttribute
+takenBy e unit at (Spec a) = taken a (attributeAt e unit at (a .name) (a .form))
+takenBy e unit at (LastSpec c) = NoMore
+takenBy e unit at NoSpec = NoMore
+
+unfoldable pub nextAttribute : Encoding → List ℕ → ℕ → List ℕ → ℕ → NextAttribute
+nextAttribute e abbreviations specs unit at = takenBy e unit at (specAt abbreviations specs)
 
 -- each low_pc in turn
 unfoldable pub lowPcs : Encoding → List ℕ → List Valued → Verdict
@@ -163,12 +189,19 @@ pub record Ranges : Type 0 where
   pub rangesBase : ℕ
   pub rnglistsBase : ℕ
 
+abbrev pub rangesBy : List ℕ → List ℕ → ℕ → ℕ → Ranges
+rangesBy ranges table rangesBase rnglistsBase = record { ranges = ranges; table = table; rangesBase = rangesBase; rnglistsBase = rnglistsBase }
+
+-- DW_AT_ranges not in rnglistx: sec_offset (0x17) by the older test, another form live. The sum has no bound here: above 64 bits it lies past the section's end.
+unfoldable pub otherRanges : Encoding → List ℕ → ℕ → Attribute → Verdict
+otherRanges e ranges base v = pick (eqb (v .form) 0x17) (olderLive e ranges (listStart ranges (base + v .field .value))) isLive
+
 module _ (e : Encoding) (x : Ranges) where
-  -- DW_AT_ranges: rnglistx (0x23) by its list, sec_offset (0x17) by the older test, another form live
+  -- DW_AT_ranges: rnglistx (0x23) by its list
   unfoldable pub rangesOf : Attribute → Verdict
   rangesOf v =
       pick (eqb (v .form) 0x23) (rangesLive e (x .table) (x .ranges) (listOffset e (x .ranges) (x .rnglistsBase) (v .field .value)))
-      (pick (eqb (v .form) 0x17) (olderLive e (x .ranges) (listStart (x .ranges) (x .rangesBase + v .field .value))) isLive)
+      (otherRanges e (x .ranges) (x .rangesBase) v)
 
   -- the first ranges attribute decides
   unfoldable pub firstRanges : List Valued → Verdict

@@ -1,0 +1,224 @@
+-- The root test's loops over an entry's attributes, one turn at a time. Assumes nothing.
+use mathlib.Core.Path.{_≡_, refl, ap, sym, _∙_}
+use Prim.Native.Nat.{ℕ, _+_, _-_, _≤_, _<_}
+use native.Mathlib.Omega.{arith}
+use mathlib.Core.Bool.{Bool, true, false}
+use mathlib.Core.List.{List, [], _∷_}
+use lib.ListN.{length, take, drop, length-take}
+use lib.Dec.{eqb}
+use borrow.Author.Tests.{eq-eqb, ne-eqb}
+use Rattle.readers.specs.Choice.{pick, _and_}
+use Rattle.readers.specs.Cursors.{cursor}
+use Rattle.readers.specs.Lists.{listStart, listOffset}
+use Rattle.readers.proofs.ListStarts.{start-past, start-inside}
+use Rattle.readers.specs.declared.cursor.Encoding.{Encoding}
+use Rattle.readers.specs.declared.cursor.Cursor.{Cursor}
+use Rattle.readers.specs.declared.attributes.Attribute.{Attribute}
+use Rattle.readers.specs.declared.lists.ListOffset.{ListOffset}
+use Rattle.readers.specs.declared.lists.ListOffset.the-variants.{At, Unresolved}
+use Rattle.marking.specs.Roots.{Valued, orElse, lowPc, lowPcs, locationLive, locations, olderLive, otherRanges, Ranges, rangesBy, rangesLive, rangesOf, firstRanges, rootTest, entryValues, nextAttribute}
+use Rattle.marking.specs.declared.root_test.EntryAttribute.{EntryAttribute}
+use Rattle.marking.specs.declared.root_test.NextAttribute.{NextAttribute}
+use Rattle.marking.specs.declared.root_test.NextAttribute.the-variants.{More, NoMore}
+use Rattle.marking.specs.declared.roots.Verdict.{Verdict}
+use Rattle.marking.specs.declared.roots.Verdict.the-variants.{Live as isLive, Dead as isDead, Refused as refused}
+use Rattle.readers.proofs.Tokens.{Inside}
+use Rattle.marking.proofs.Attributes.{valued, stepped, no-more}
+use Rattle.marking.proofs.Lists.{location-start, location-dead, rangesFrom, ranges-start}
+
+-- ---- any test over the attributes, from a specification and a value on
+
+module _ (e : Encoding) (s unit : List ℕ) (p at : ℕ) (n : NextAttribute) (q : n ≡ nextAttribute e s p unit at) where
+  pub attributes-less : (x : EntryAttribute) → n ≡ More x → length s - x .next .at < length s - p
+  attributes-less x r = omega (arith, stepped e s p unit at x (sym q ∙ r) .ahead, stepped e s p unit at x (sym q ∙ r) .inside)
+
+  pub attributes-within : (x : EntryAttribute) → n ≡ More x → Inside unit at (x .value .field)
+  attributes-within x r = stepped e s p unit at x (sym q ∙ r) .within
+
+  -- bytes of a value are bytes of the unit
+  pub value-ends : (x : EntryAttribute) → n ≡ More x → x .value .field .start < x .value .field .end → x .value .field .end ≤ length unit
+  value-ends x r l = omega (arith, attributes-within x r .after, attributes-within x r .within)
+
+  module _ (test : List Valued → Verdict) where
+    attributes-end : n ≡ NoMore → test (entryValues e s p unit at) ≡ test []
+    attributes-end r = ap test (no-more e s p unit at (sym q ∙ r))
+
+    attributes-turn : (x : EntryAttribute) → n ≡ More x
+        → test (entryValues e s p unit at) ≡ test (valued x ∷ entryValues e s (x .next .at) unit (x .value .field .end))
+    attributes-turn x r = ap test (stepped e s p unit at x (sym q ∙ r) .all)
+
+-- ---- low_pc
+
+module _ (e : Encoding) (table s unit : List ℕ) (p₀ at₀ p at : ℕ) (h : lowPcs e table (entryValues e s p₀ unit at₀) ≡ lowPcs e table (entryValues e s p unit at))
+    (n : NextAttribute) (q : n ≡ nextAttribute e s p unit at) where
+  pub low-end : n ≡ NoMore → isDead ≡ lowPcs e table (entryValues e s p₀ unit at₀)
+  unfolding lowPcs
+  low-end r = sym (h ∙ attributes-end e s unit p at n q (lowPcs e table) r)
+
+  module _ (x : EntryAttribute) (r : n ≡ More x) where
+    low-turn : lowPcs e table (entryValues e s p₀ unit at₀) ≡ lowPcs e table (valued x ∷ entryValues e s (x .next .at) unit (x .value .field .end))
+    low-turn = h ∙ attributes-turn e s unit p at n q (lowPcs e table) x r
+
+    pub low-other : (x .name ≡ 0x11 → ⊥) → lowPcs e table (entryValues e s p₀ unit at₀) ≡ lowPcs e table (entryValues e s (x .next .at) unit (x .value .field .end))
+    unfolding lowPcs pick
+    low-other k = low-turn ∙ rw (ne-eqb (x .name) 0x11 k)
+
+    module _ (k : x .name ≡ 0x11) (w : Verdict) (l : w ≡ lowPc e table (x .value)) where
+      low-met : lowPcs e table (entryValues e s p₀ unit at₀) ≡ orElse w (lowPcs e table (entryValues e s (x .next .at) unit (x .value .field .end)))
+      unfolding lowPcs pick
+      low-met = low-turn ∙ rw (eq-eqb (x .name) 0x11 k, l)
+
+      pub low-live : w ≡ isLive → isLive ≡ lowPcs e table (entryValues e s p₀ unit at₀)
+      unfolding orElse
+      low-live v = sym (low-met ∙ rw v)
+
+      pub low-refused : (m : ℕ) → w ≡ refused m → refused m ≡ lowPcs e table (entryValues e s p₀ unit at₀)
+      unfolding orElse
+      low-refused m v = sym (low-met ∙ rw v)
+
+      pub low-dead : w ≡ isDead → lowPcs e table (entryValues e s p₀ unit at₀) ≡ lowPcs e table (entryValues e s (x .next .at) unit (x .value .field .end))
+      unfolding orElse
+      low-dead v = low-met ∙ rw v
+
+-- ---- location
+
+pub location-none : (e : Encoding) (table s : List ℕ) → length s ≡ 0 → isDead ≡ locationLive e table s
+location-none e table s z = location-dead e table s 0 false (location-start e table s) (omega arith) refl
+
+abbrev locationOf : List ℕ → EntryAttribute → List ℕ
+locationOf unit x = take (x .value .field .end - x .value .field .start) (drop (x .value .field .start) unit)
+
+module _ (e : Encoding) (table s unit : List ℕ) (p₀ at₀ p at : ℕ)
+    (h : locations e table unit (entryValues e s p₀ unit at₀) ≡ locations e table unit (entryValues e s p unit at))
+    (n : NextAttribute) (q : n ≡ nextAttribute e s p unit at) where
+  pub locations-end : n ≡ NoMore → isDead ≡ locations e table unit (entryValues e s p₀ unit at₀)
+  unfolding locations
+  locations-end r = sym (h ∙ attributes-end e s unit p at n q (locations e table unit) r)
+
+  module _ (x : EntryAttribute) (r : n ≡ More x) where
+    locations-turn : locations e table unit (entryValues e s p₀ unit at₀)
+        ≡ locations e table unit (valued x ∷ entryValues e s (x .next .at) unit (x .value .field .end))
+    locations-turn = h ∙ attributes-turn e s unit p at n q (locations e table unit) x r
+
+    pub locations-other : (x .name ≡ 0x02 → ⊥)
+        → locations e table unit (entryValues e s p₀ unit at₀) ≡ locations e table unit (entryValues e s (x .next .at) unit (x .value .field .end))
+    unfolding locations pick _and_
+    locations-other k = locations-turn ∙ rw (ne-eqb (x .name) 0x02 k)
+
+    module _ (k : x .name ≡ 0x02) where
+      pub locations-list : (x .value .form ≡ 0x18 → ⊥)
+          → locations e table unit (entryValues e s p₀ unit at₀) ≡ locations e table unit (entryValues e s (x .next .at) unit (x .value .field .end))
+      unfolding locations pick _and_
+      locations-list f = locations-turn ∙ rw (eq-eqb (x .name) 0x02 k, ne-eqb (x .value .form) 0x18 f)
+
+      module _ (f : x .value .form ≡ 0x18) (w : Verdict) (l : w ≡ locationLive e table (locationOf unit x)) where
+        locations-met : locations e table unit (entryValues e s p₀ unit at₀)
+            ≡ orElse w (locations e table unit (entryValues e s (x .next .at) unit (x .value .field .end)))
+        unfolding locations pick _and_
+        locations-met = locations-turn ∙ rw (eq-eqb (x .name) 0x02 k, eq-eqb (x .value .form) 0x18 f, l)
+
+        pub locations-live : w ≡ isLive → isLive ≡ locations e table unit (entryValues e s p₀ unit at₀)
+        unfolding orElse
+        locations-live v = sym (locations-met ∙ rw v)
+
+        pub locations-refused : (m : ℕ) → w ≡ refused m → refused m ≡ locations e table unit (entryValues e s p₀ unit at₀)
+        unfolding orElse
+        locations-refused m v = sym (locations-met ∙ rw v)
+
+        pub locations-dead : w ≡ isDead
+            → locations e table unit (entryValues e s p₀ unit at₀) ≡ locations e table unit (entryValues e s (x .next .at) unit (x .value .field .end))
+        unfolding orElse
+        locations-dead v = locations-met ∙ rw v
+
+      pub locations-empty : x .value .form ≡ 0x18 → x .value .field .end ≤ x .value .field .start
+          → locations e table unit (entryValues e s p₀ unit at₀) ≡ locations e table unit (entryValues e s (x .next .at) unit (x .value .field .end))
+      locations-empty f b = locations-dead f isDead (location-none e table (locationOf unit x) (simp length-take (omega arith))) refl
+
+-- ---- ranges that are not in rnglistx
+
+module _ (e : Encoding) (s : List ℕ) (base : ℕ) (v : Attribute) where
+  pub other-form : (v .form ≡ 0x17 → ⊥) → isLive ≡ otherRanges e s base v
+  unfolding otherRanges pick
+  other-form k = rw (ne-eqb (v .form) 0x17 k)
+
+  module _ (k : v .form ≡ 0x17) where
+    other-from : olderLive e s (listStart s (base + v .field .value)) ≡ otherRanges e s base v
+    unfolding otherRanges pick
+    other-from = rw (eq-eqb (v .form) 0x17 k)
+
+    pub other-past : length s < base + v .field .value → isLive ≡ otherRanges e s base v
+    unfolding olderLive
+    other-past h = sym (ap (olderLive e s) (start-past s (base + v .field .value) h)) ∙ other-from
+
+    pub other-older : base + v .field .value ≤ length s → (w : Verdict) → w ≡ olderLive e s (At (cursor (base + v .field .value))) → w ≡ otherRanges e s base v
+    other-older h w q = q ∙ sym (ap (olderLive e s) (start-inside s (base + v .field .value) h)) ∙ other-from
+
+-- ---- the first ranges
+
+module _ (e : Encoding) (ranges table : List ℕ) (rb nb : ℕ) (s unit : List ℕ) (p₀ at₀ p at : ℕ)
+    (h : firstRanges e (rangesBy ranges table rb nb) (entryValues e s p₀ unit at₀) ≡ firstRanges e (rangesBy ranges table rb nb) (entryValues e s p unit at))
+    (n : NextAttribute) (q : n ≡ nextAttribute e s p unit at) where
+  pub first-end : n ≡ NoMore → (w : Verdict) → w ≡ isDead → w ≡ firstRanges e (rangesBy ranges table rb nb) (entryValues e s p₀ unit at₀)
+  unfolding firstRanges
+  first-end r w d = d ∙ sym (h ∙ attributes-end e s unit p at n q (firstRanges e (rangesBy ranges table rb nb)) r)
+
+  module _ (x : EntryAttribute) (r : n ≡ More x) where
+    first-turn : firstRanges e (rangesBy ranges table rb nb) (entryValues e s p₀ unit at₀)
+        ≡ firstRanges e (rangesBy ranges table rb nb) (valued x ∷ entryValues e s (x .next .at) unit (x .value .field .end))
+    first-turn = h ∙ attributes-turn e s unit p at n q (firstRanges e (rangesBy ranges table rb nb)) x r
+
+    pub first-other : (x .name ≡ 0x55 → ⊥)
+        → firstRanges e (rangesBy ranges table rb nb) (entryValues e s p₀ unit at₀)
+        ≡ firstRanges e (rangesBy ranges table rb nb) (entryValues e s (x .next .at) unit (x .value .field .end))
+    unfolding firstRanges pick
+    first-other k = first-turn ∙ rw (ne-eqb (x .name) 0x55 k)
+
+    module _ (k : x .name ≡ 0x55) where
+      pub first-form : (x .value .form ≡ 0x23 → ⊥) → (w : Verdict) → w ≡ otherRanges e ranges rb (x .value)
+          → w ≡ firstRanges e (rangesBy ranges table rb nb) (entryValues e s p₀ unit at₀)
+      unfolding firstRanges rangesOf pick
+      first-form f w l = l ∙ sym (first-turn ∙ rw (eq-eqb (x .name) 0x55 k, ne-eqb (x .value .form) 0x23 f))
+
+      module _ (f : x .value .form ≡ 0x23) (o : ListOffset) (l : o ≡ listOffset e ranges nb (x .value .field .value)) where
+        first-met : firstRanges e (rangesBy ranges table rb nb) (entryValues e s p₀ unit at₀) ≡ rangesLive e table ranges o
+        unfolding firstRanges rangesOf pick
+        first-met = first-turn ∙ rw (eq-eqb (x .name) 0x55 k, eq-eqb (x .value .form) 0x23 f, l)
+
+        pub first-unresolved : o ≡ Unresolved → isLive ≡ firstRanges e (rangesBy ranges table rb nb) (entryValues e s p₀ unit at₀)
+        unfolding rangesLive
+        first-unresolved u = sym (first-met ∙ rw u)
+
+        pub first-list : (c : Cursor) → o ≡ At c → firstRanges e (rangesBy ranges table rb nb) (entryValues e s p₀ unit at₀) ≡ rangesFrom e table ranges (c .at) false
+        first-list c u = first-met ∙ ap (rangesLive e table ranges) u ∙ ranges-start e table ranges c
+
+-- its list decided
+pub first-decided : (e : Encoding) (g : Ranges) (table ranges s unit : List ℕ) (p₀ at₀ p at place : ℕ) (dead : Bool)
+    → firstRanges e g (entryValues e s p₀ unit at₀) ≡ firstRanges e g (entryValues e s p unit at)
+    → firstRanges e g (entryValues e s p unit at) ≡ rangesFrom e table ranges place dead
+    → (v : Verdict) → rangesFrom e table ranges place dead ≡ v → v ≡ firstRanges e g (entryValues e s p₀ unit at₀)
+first-decided e g table ranges s unit p₀ at₀ p at place dead h i v k = sym (h ∙ i ∙ k)
+
+-- ---- the root test
+
+module _ (e : Encoding) (g : Ranges) (unit : List ℕ) (tag : ℕ) (l : List Valued) where
+  module _ (k : tag ≡ 0x2e) (w : Verdict) (q : w ≡ lowPcs e (g .table) l) where
+    pub subprogram-live : w ≡ isLive → isLive ≡ rootTest e g unit tag l
+    unfolding rootTest pick orElse
+    subprogram-live v = rw (eq-eqb tag 0x2e k, sym q ∙ v)
+
+    pub subprogram-refused : (m : ℕ) → w ≡ refused m → refused m ≡ rootTest e g unit tag l
+    unfolding rootTest pick orElse
+    subprogram-refused m v = rw (eq-eqb tag 0x2e k, sym q ∙ v)
+
+    pub subprogram-ranges : w ≡ isDead → (r : Verdict) → r ≡ firstRanges e g l → r ≡ rootTest e g unit tag l
+    unfolding rootTest pick orElse
+    subprogram-ranges v r z = z ∙ rw (eq-eqb tag 0x2e k, sym q ∙ v)
+
+  module _ (n : tag ≡ 0x2e → ⊥) where
+    pub variable-is : tag ≡ 0x34 → (w : Verdict) → w ≡ locations e (g .table) unit l → w ≡ rootTest e g unit tag l
+    unfolding rootTest pick
+    variable-is k w q = q ∙ rw (ne-eqb tag 0x2e n, eq-eqb tag 0x34 k)
+
+    pub other-tag : (tag ≡ 0x34 → ⊥) → isDead ≡ rootTest e g unit tag l
+    unfolding rootTest pick
+    other-tag k = rw (ne-eqb tag 0x2e n, ne-eqb tag 0x34 k)

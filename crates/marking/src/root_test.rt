@@ -1,0 +1,269 @@
+// The root test of an entry, over its attributes.
+ghost use mathlib.Core.Path.{_≡_};
+ghost use Rattle.marking.specs.Roots.{nextAttribute, lowPcs, locations, otherRanges, rangesBy, firstRanges, rootTest, entryValues};
+use crate::roots::RangeTurn;
+use crate::roots::Verdict;
+use crate::roots::location_live;
+use crate::roots::low_pc;
+use crate::roots::older_live;
+use crate::roots::range_entry;
+use readers::abbreviations::SpecStep;
+use readers::attributes::Attribute;
+use readers::attributes::AttributeRead;
+use readers::cursor::Cursor;
+use readers::cursor::Encoding;
+use readers::lists::ListOffset;
+use readers::lists::list_offset;
+use readers::operations::ListStep;
+
+// An attribute of an entry: its name, its value, and the cursor past its specification. Its field ends where the next value starts.
+pub struct EntryAttribute {
+    pub name: u64,
+    pub value: Attribute,
+    pub next: Cursor,
+}
+
+pub enum NextAttribute {
+    More(EntryAttribute),
+    NoMore,
+}
+
+// The attribute at a specification and a value of an entry; none where one of them can't be read.
+pub fn next_attribute(
+    unit: &[u8],
+    abbreviations: &[u8],
+    specs: Cursor,
+    values: Cursor,
+    e: Encoding,
+) -> NextAttribute
+    ensures { λ r. ⌜ r ≡ nextAttribute e (now (abbreviations .entry)) (specs .at) (now (unit .entry)) (values .at) ⌝ }
+{
+    match specs.attribute_spec(abbreviations) {
+        SpecStep::Attribute(a) => {
+            let AttributeRead::Read(value) = values.attribute(unit, a.name, a.form, e) else {
+                return NextAttribute::NoMore;
+            };
+            let name = a.name;
+            let next = a.next;
+            NextAttribute::More(EntryAttribute { name, value, next })
+        }
+        SpecStep::Last(_) => NextAttribute::NoMore,
+        SpecStep::Unreadable => NextAttribute::NoMore,
+    }
+}
+
+// Each low_pc of an entry in turn.
+pub fn low_pcs(
+    unit: &[u8],
+    abbreviations: &[u8],
+    specs: Cursor,
+    values: Cursor,
+    table: &[u8],
+    e: Encoding,
+) -> Verdict
+    ensures { λ r. ⌜ r ≡ lowPcs e (now (table .entry)) (entryValues e (now (abbreviations .entry)) (specs .at) (now (unit .entry)) (values .at)) ⌝ }
+{
+    let mut p = specs.at;
+    let mut at = values.at;
+    loop {
+        let NextAttribute::More(a) = next_attribute(
+            unit,
+            abbreviations,
+            Cursor { at: p },
+            Cursor { at },
+            e,
+        ) else {
+            return Verdict::Dead;
+        };
+        let v = a.value;
+        let field = v.field;
+        let next = a.next;
+        if a.name == 0x11 {
+            match low_pc(v, table, e) {
+                Verdict::Live => {
+                    return Verdict::Live;
+                }
+                Verdict::Dead => {}
+                Verdict::Refused(n) => {
+                    return Verdict::Refused(n);
+                }
+            }
+        }
+        at = field.end;
+        p = next.at;
+    }
+}
+
+// Each location of an entry in turn. One of no bytes is dead.
+pub fn locations_live(
+    unit: &[u8],
+    abbreviations: &[u8],
+    specs: Cursor,
+    values: Cursor,
+    table: &[u8],
+    e: Encoding,
+) -> Verdict
+    ensures { λ r. ⌜ r ≡ locations e (now (table .entry)) (now (unit .entry)) (entryValues e (now (abbreviations .entry)) (specs .at) (now (unit .entry)) (values .at)) ⌝ }
+{
+    let mut p = specs.at;
+    let mut at = values.at;
+    loop {
+        let NextAttribute::More(a) = next_attribute(
+            unit,
+            abbreviations,
+            Cursor { at: p },
+            Cursor { at },
+            e,
+        ) else {
+            return Verdict::Dead;
+        };
+        let v = a.value;
+        let field = v.field;
+        let next = a.next;
+        let from = field.start;
+        let to = field.end;
+        if a.name == 0x02 {
+            if v.form == 0x18 {
+                if from < to {
+                    match location_live(&unit[from..to], table, e) {
+                        Verdict::Live => {
+                            return Verdict::Live;
+                        }
+                        Verdict::Dead => {}
+                        Verdict::Refused(n) => {
+                            return Verdict::Refused(n);
+                        }
+                    }
+                }
+            }
+        }
+        at = to;
+        p = next.at;
+    }
+}
+
+// Ranges that are not in rnglistx: a section offset from the base by the older test; what can't be resolved, and any other form, is live.
+pub fn other_ranges(v: Attribute, ranges: &[u8], ranges_base: u64, e: Encoding) -> Verdict
+    ensures { λ r. ⌜ r ≡ otherRanges e (now (ranges .entry)) «ranges_base» v ⌝ }
+{
+    let field = v.field;
+    if v.form != 0x17 {
+        return Verdict::Live;
+    }
+    let len = ranges.len() as u64;
+    if ranges_base > len {
+        return Verdict::Live;
+    }
+    if field.value > len - ranges_base {
+        return Verdict::Live;
+    }
+    let at = (ranges_base + field.value) as usize;
+    older_live(ranges, Cursor { at }, e)
+}
+
+// The first ranges attribute of an entry. What decides its list leaves the list and the attributes with the verdict.
+pub fn first_ranges(
+    unit: &[u8],
+    abbreviations: &[u8],
+    specs: Cursor,
+    values: Cursor,
+    ranges: &[u8],
+    table: &[u8],
+    ranges_base: u64,
+    rnglists_base: u64,
+    e: Encoding,
+) -> Verdict
+    ensures { λ r. ⌜ r ≡ firstRanges e (rangesBy (now (ranges .entry)) (now (table .entry)) «ranges_base» «rnglists_base») (entryValues e (now (abbreviations .entry)) (specs .at) (now (unit .entry)) (values .at)) ⌝ }
+{
+    let mut p = specs.at;
+    let mut at = values.at;
+    let mut verdict = Verdict::Dead;
+    'attributes: loop {
+        let NextAttribute::More(a) = next_attribute(
+            unit,
+            abbreviations,
+            Cursor { at: p },
+            Cursor { at },
+            e,
+        ) else {
+            break 'attributes;
+        };
+        let v = a.value;
+        let field = v.field;
+        let next = a.next;
+        if a.name == 0x55 {
+            if v.form != 0x23 {
+                return other_ranges(v, ranges, ranges_base, e);
+            }
+            let ListOffset::At(start) = list_offset(ranges, rnglists_base, field.value, e) else {
+                return Verdict::Live;
+            };
+            let mut place = start.at;
+            let mut dead = false;
+            loop {
+                match (Cursor { at: place }).list_entry(ranges, false, e) {
+                    ListStep::Entry(x) => {
+                        let after = x.next;
+                        match range_entry(table, dead, x, e) {
+                            RangeTurn::On(flag) => {
+                                dead = flag;
+                                place = after.at;
+                            }
+                            RangeTurn::Decided(found) => {
+                                verdict = found;
+                                break 'attributes;
+                            }
+                        }
+                    }
+                    ListStep::End => {
+                        return Verdict::Dead;
+                    }
+                    ListStep::Unreadable => {
+                        return Verdict::Refused(5);
+                    }
+                }
+            }
+        }
+        at = field.end;
+        p = next.at;
+    }
+    verdict
+}
+
+// The root test of an entry with a tag: a subprogram by its low_pc and its ranges, a variable by its location; other tags never.
+pub fn is_root(
+    unit: &[u8],
+    abbreviations: &[u8],
+    specs: Cursor,
+    values: Cursor,
+    tag: u64,
+    ranges: &[u8],
+    table: &[u8],
+    ranges_base: u64,
+    rnglists_base: u64,
+    e: Encoding,
+) -> Verdict
+    ensures { λ r. ⌜ r ≡ rootTest e (rangesBy (now (ranges .entry)) (now (table .entry)) «ranges_base» «rnglists_base») (now (unit .entry)) tag (entryValues e (now (abbreviations .entry)) (specs .at) (now (unit .entry)) (values .at)) ⌝ }
+{
+    if tag == 0x2e {
+        return match low_pcs(unit, abbreviations, specs, values, table, e) {
+            Verdict::Live => Verdict::Live,
+            Verdict::Dead => first_ranges(
+                unit,
+                abbreviations,
+                specs,
+                values,
+                ranges,
+                table,
+                ranges_base,
+                rnglists_base,
+                e,
+            ),
+            Verdict::Refused(n) => Verdict::Refused(n),
+        };
+    }
+    if tag == 0x34 {
+        return locations_live(unit, abbreviations, specs, values, table, e);
+    }
+    Verdict::Dead
+}
