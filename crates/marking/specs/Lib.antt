@@ -2,6 +2,8 @@ pub mod Addresses
 pub mod Walking
 pub mod Roots
 pub mod RootExamples
+pub mod EntryReferences
+pub mod ReferenceExamples
 pub mod Below
 pub mod Graph
 pub mod Survivors

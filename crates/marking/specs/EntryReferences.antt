@@ -1,0 +1,118 @@
+-- The references of an entry (document 01, "References"; gc.rs: `scan_live_die_attrs`, `scan_loclist_for_refs`): every one that its attributes hold, in attribute
+-- order, repeats and dangling ones included; 5 and 7 as they are met.
+use mathlib.Core.Path.{_≡_, refl}
+use Prim.Native.Nat.{ℕ, _-_}
+use mathlib.Core.Bool.{Bool, true, false}
+use mathlib.Core.List.{List, [], _∷_, _++_}
+use lib.ListN.{length, take, drop}
+use lib.Dec.{leb, eqb}
+use Rattle.readers.specs.Choice.{pick, _and_, _or_}
+use Rattle.readers.specs.Steps.{listEntryAt}
+use Rattle.readers.specs.Lists.{listOffset, listStart}
+use Rattle.readers.specs.Entries.{attributeAt}
+use Rattle.readers.specs.References.{Named, walkOf, referencesIn}
+use Rattle.readers.specs.declared.cursor.Encoding.{Encoding}
+use Rattle.readers.specs.declared.fields.Field.{Field}
+use Rattle.readers.specs.declared.abbreviations.AttributeSpec.{AttributeSpec}
+use Rattle.readers.specs.declared.attributes.Attribute.{Attribute}
+use Rattle.readers.specs.declared.attributes.AttributeRead.{AttributeRead}
+use Rattle.readers.specs.declared.attributes.AttributeRead.the-variants.{Read as Attribute′, Unreadable as NoAttribute}
+use Rattle.readers.specs.declared.expressions.Walk.{Walk}
+use Rattle.readers.specs.declared.expressions.Walk.the-variants.{Walked, Unreadable}
+use Rattle.readers.specs.declared.lists.ListOffset.{ListOffset}
+use Rattle.readers.specs.declared.lists.ListOffset.the-variants.{At, Unresolved}
+use Rattle.readers.specs.declared.operations.ListEntry.{ListEntry}
+use Rattle.readers.specs.declared.operations.ListStep.{ListStep}
+use Rattle.readers.specs.declared.operations.ListStep.the-variants.{Entry, End, Unreadable as NoEntry}
+use Rattle.marking.specs.Walking.{Next, go, stop, walk}
+
+-- the offsets that are named, or the number of a refusal
+pub data Found : Type 0 where
+  found : List ℕ → Found
+  refused : ℕ → Found
+
+-- what one finds, and then another: the first refusal counts
+unfoldable pub and′ : List ℕ → Found → Found
+and′ xs (found ys) = found (xs ++ ys)
+and′ xs (refused n) = refused n
+
+unfoldable pub andThen : Found → Found → Found
+andThen (found xs) f = and′ xs f
+andThen (refused n) f = refused n
+
+-- ---- expressions: in one expression 5 goes before 7
+
+unfoldable pub targets : List Named → List ℕ
+targets [] = []
+targets (r ∷ rs) = r .1 ∷ targets rs
+
+unfoldable pub walkFound : List ℕ → Walk → Found
+walkFound xs Unreadable = refused 5
+walkFound xs (Walked n true) = refused 7
+walkFound xs (Walked n false) = found xs
+
+unfoldable pub expressionFound : Encoding → List ℕ → Found
+expressionFound e s = walkFound (targets (referencesIn e s)) (walkOf e s)
+
+unfoldable pub partOf : List ℕ → Field → List ℕ
+partOf s f = take (f .end - f .start) (drop (f .start) s)
+
+-- ---- location lists, entry by entry: each expression is judged before the next entry is read
+
+pub record Reached : Type 0 where
+  pub at : ℕ
+  pub sofar : List ℕ
+
+abbrev pub reachedAt : Reached → ℕ
+reachedAt p = p .at
+
+-- 7.7.3: base_addressx 1 and base_address 6 have no expression, default_location 5 has it first, the others third
+unfoldable pub locationFound : Encoding → List ℕ → ListEntry → Found
+locationFound e s x =
+    pick (eqb (x .kind) 1 or eqb (x .kind) 6) (found [])
+    (expressionFound e (partOf s (pick (eqb (x .kind) 5) (x .first) (x .third))))
+
+unfoldable pub onFound : List ℕ → ListEntry → Found → Next Reached Found
+onFound sofar x (found ys) = go (record { at = x .next .at; sofar = sofar ++ ys })
+onFound sofar x (refused n) = stop (refused n)
+
+unfoldable pub locationStep : Encoding → List ℕ → List ℕ → ListStep → Next Reached Found
+locationStep e s sofar (Entry x) = onFound sofar x (locationFound e s x)
+locationStep e s sofar End = stop (found sofar)
+locationStep e s sofar NoEntry = stop (refused 5)
+
+-- an offset that can't be resolved is 5
+unfoldable pub listFound : Encoding → List ℕ → ListOffset → Found
+listFound e s (At c) =
+    walk reachedAt (length s) (λ (p : Reached). locationStep e s (p .sofar) (listEntryAt e true s (p .at))) (found []) (record { at = c .at; sofar = [] })
+listFound e s Unresolved = refused 5
+
+-- ---- attributes
+
+-- what a scan reads by: the unit, the location lists and their base
+pub record Locations : Type 0 where
+  pub unit : List ℕ
+  pub locations : List ℕ
+  pub loclistsBase : ℕ
+
+module _ (e : Encoding) (x : Locations) where
+  -- Sibling attributes (0x01) name nothing. ref_addr (0x10) is 7 where it is declared; behind indirect it is copied. ref1 to ref8 and ref_udata (0x11 to 0x15) name
+  -- their value, behind indirect too. exprloc (0x18) by its expression. Location lists count only under DW_AT_location (0x02): loclistx (0x22), sec_offset (0x17).
+  unfoldable pub attributeFound : AttributeSpec → Attribute → Found
+  attributeFound a v =
+      pick (eqb (a .name) 0x01) (found [])
+      (pick (eqb (a .form) 0x10) (refused 7)
+      (pick (leb 0x11 (v .form) and leb (v .form) 0x15) (found (v .field .value ∷ []))
+      (pick (eqb (v .form) 0x18) (expressionFound e (partOf (x .unit) (v .field)))
+      (pick (eqb (a .name) 0x02 and eqb (v .form) 0x22) (listFound e (x .locations) (listOffset e (x .locations) (x .loclistsBase) (v .field .value)))
+      (pick (eqb (a .name) 0x02 and eqb (v .form) 0x17) (listFound e (x .locations) (listStart (x .locations) (v .field .value)))
+      (found []))))))
+
+  unfoldable pub onValue : AttributeSpec → AttributeRead → (ℕ → Found) → Found
+  onValue a (Attribute′ v) k = andThen (attributeFound a v) (k (v .field .end))
+  onValue a NoAttribute k = found []
+
+  -- THE references of an entry, by the specifications of its attributes and the place of its values
+  unfoldable pub entryFound : List AttributeSpec → ℕ → Found
+  entryFound [] at = found []
+  entryFound (a ∷ rest) at = onValue a (attributeAt e (x .unit) at (a .name) (a .form)) (λ next. entryFound rest next)
