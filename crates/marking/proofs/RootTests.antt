@@ -16,7 +16,7 @@ use Rattle.readers.specs.declared.cursor.Cursor.{Cursor}
 use Rattle.readers.specs.declared.attributes.Attribute.{Attribute}
 use Rattle.readers.specs.declared.lists.ListOffset.{ListOffset}
 use Rattle.readers.specs.declared.lists.ListOffset.the-variants.{At, Unresolved}
-use Rattle.marking.specs.Roots.{Valued, orElse, lowPc, lowPcs, locationLive, locations, olderLive, otherRanges, Ranges, rangesBy, rangesLive, rangesOf, firstRanges, rootTest, entryValues, nextAttribute}
+use Rattle.marking.specs.Roots.{Valued, orElse, lowPc, lowPcs, locationLive, locations, olderLive, otherRanges, Ranges, rangesBy, rangesLive, rangesOf, firstRanges, rootTest, baseFrom, baseAfter, entryValues, nextAttribute}
 use Rattle.marking.specs.declared.root_test.EntryAttribute.{EntryAttribute}
 use Rattle.marking.specs.declared.root_test.NextAttribute.{NextAttribute}
 use Rattle.marking.specs.declared.root_test.NextAttribute.the-variants.{More, NoMore}
@@ -39,7 +39,7 @@ module _ (e : Encoding) (s unit : List ℕ) (p at : ℕ) (n : NextAttribute) (q 
   pub value-ends : (x : EntryAttribute) → n ≡ More x → x .value .field .start < x .value .field .end → x .value .field .end ≤ length unit
   value-ends x r l = omega (arith, attributes-within x r .after, attributes-within x r .within)
 
-  module _ (test : List Valued → Verdict) where
+  module _ {X : Type 0} (test : List Valued → X) where
     attributes-end : n ≡ NoMore → test (entryValues e s p unit at) ≡ test []
     attributes-end r = ap test (no-more e s p unit at (sym q ∙ r))
 
@@ -222,3 +222,40 @@ module _ (e : Encoding) (g : Ranges) (unit : List ℕ) (tag : ℕ) (l : List Val
     pub other-tag : (tag ≡ 0x34 → ⊥) → isDead ≡ rootTest e g unit tag l
     unfolding rootTest pick
     other-tag k = rw (ne-eqb tag 0x2e n, ne-eqb tag 0x34 k)
+
+-- ---- list bases
+
+module _ (e : Encoding) (s unit : List ℕ) (name base₀ p₀ at₀ base p at : ℕ)
+    (h : baseFrom name base₀ (entryValues e s p₀ unit at₀) ≡ baseFrom name base (entryValues e s p unit at))
+    (n : NextAttribute) (q : n ≡ nextAttribute e s p unit at) where
+  pub base-end : n ≡ NoMore → (tag : ℕ) → tag ≡ 0x11 → base ≡ baseAfter name base₀ tag (entryValues e s p₀ unit at₀)
+  unfolding baseFrom baseAfter pick
+  base-end r tag k = sym (h ∙ attributes-end e s unit p at n q (baseFrom name base) r) ∙ rw (eq-eqb tag 0x11 k)
+
+  module _ (x : EntryAttribute) (r : n ≡ More x) where
+    base-turn : (b : ℕ) → pick (eqb (x .name) name and eqb (x .value .form) 0x17) (x .value .field .value) base ≡ b
+        → baseFrom name base₀ (entryValues e s p₀ unit at₀) ≡ baseFrom name b (entryValues e s (x .next .at) unit (x .value .field .end))
+    unfolding baseFrom
+    base-turn b k =
+        h ∙ attributes-turn e s unit p at n q (baseFrom name base) x r ∙ ap (λ b. baseFrom name b (entryValues e s (x .next .at) unit (x .value .field .end))) k
+
+    pub base-other : (x .name ≡ name → ⊥)
+        → baseFrom name base₀ (entryValues e s p₀ unit at₀) ≡ baseFrom name base (entryValues e s (x .next .at) unit (x .value .field .end))
+    unfolding pick _and_
+    base-other k = base-turn base (rw (ne-eqb (x .name) name k))
+
+    module _ (k : x .name ≡ name) where
+      pub base-form : (x .value .form ≡ 0x17 → ⊥)
+          → baseFrom name base₀ (entryValues e s p₀ unit at₀) ≡ baseFrom name base (entryValues e s (x .next .at) unit (x .value .field .end))
+      unfolding pick _and_
+      base-form f = base-turn base (rw (eq-eqb (x .name) name k, ne-eqb (x .value .form) 0x17 f))
+
+      pub base-met : x .value .form ≡ 0x17
+          → baseFrom name base₀ (entryValues e s p₀ unit at₀)
+          ≡ baseFrom name (x .value .field .value) (entryValues e s (x .next .at) unit (x .value .field .end))
+      unfolding pick _and_
+      base-met f = base-turn (x .value .field .value) (rw (eq-eqb (x .name) name k, eq-eqb (x .value .form) 0x17 f))
+
+pub base-kept : (name base tag : ℕ) (l : List Valued) → (tag ≡ 0x11 → ⊥) → base ≡ baseAfter name base tag l
+unfolding baseAfter pick
+base-kept name base tag l k = rw (ne-eqb tag 0x11 k)

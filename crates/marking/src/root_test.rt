@@ -1,6 +1,6 @@
 // The root test of an entry, over its attributes.
 ghost use mathlib.Core.Path.{_≡_};
-ghost use Rattle.marking.specs.Roots.{nextAttribute, lowPcs, locations, otherRanges, rangesBy, firstRanges, rootTest, entryValues};
+ghost use Rattle.marking.specs.Roots.{nextAttribute, lowPcs, locations, otherRanges, rangesBy, firstRanges, rootTest, baseAfter, entryValues};
 use crate::roots::RangeTurn;
 use crate::roots::Verdict;
 use crate::roots::location_live;
@@ -266,4 +266,46 @@ pub fn is_root(
         return locations_live(unit, abbreviations, specs, values, table, e);
     }
     Verdict::Dead
+}
+
+// A list base after an entry with a tag: a compile unit's own attribute of that name in sec_offset replaces it; of several the last counts.
+pub fn base_after(
+    unit: &[u8],
+    abbreviations: &[u8],
+    specs: Cursor,
+    values: Cursor,
+    tag: u64,
+    name: u64,
+    base: u64,
+    e: Encoding,
+) -> u64
+    ensures { λ r. ⌜ r ≡ baseAfter name base tag (entryValues e (now (abbreviations .entry)) (specs .at) (now (unit .entry)) (values .at)) ⌝ }
+{
+    if tag != 0x11 {
+        return base;
+    }
+    let mut p = specs.at;
+    let mut at = values.at;
+    let mut latest = base;
+    loop {
+        let NextAttribute::More(a) = next_attribute(
+            unit,
+            abbreviations,
+            Cursor { at: p },
+            Cursor { at },
+            e,
+        ) else {
+            return latest;
+        };
+        let v = a.value;
+        let field = v.field;
+        let next = a.next;
+        if a.name == name {
+            if v.form == 0x17 {
+                latest = field.value;
+            }
+        }
+        at = field.end;
+        p = next.at;
+    }
 }
