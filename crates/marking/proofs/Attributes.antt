@@ -107,18 +107,18 @@ module _ (e : Encoding) (s : List ℕ) (p : ℕ) (unit : List ℕ) (at : ℕ) wh
 
   module _ (a : AttributeSpec) (q : specAt s p ≡ Spec a) where
     values-spec : entryValues e s p unit at
-        ≡ onAttribute (a .name) (attributeAt e unit at (a .name) (a .form)) (λ next. entryValues e s (a .next .at) unit next)
+        ≡ onAttribute a (attributeAt e unit at (a .name) (a .form)) (λ next. entryValues e s (a .next .at) unit next)
     unfolding entryValues valuesOf onSpec
     values-spec = ap (λ (l : List AttributeSpec). valuesOf e unit l at) (specs-step s p ∙ ap (λ (r : SpecStep). onSpec r (λ a. a ∷ specsFrom s (a .next .at))) q)
 
     pub values-none : attributeAt e unit at (a .name) (a .form) ≡ NoAttribute → entryValues e s p unit at ≡ []
     unfolding onAttribute
-    values-none r = values-spec ∙ ap (λ (o : AttributeRead). onAttribute (a .name) o (λ next. entryValues e s (a .next .at) unit next)) r
+    values-none r = values-spec ∙ ap (λ (o : AttributeRead). onAttribute a o (λ next. entryValues e s (a .next .at) unit next)) r
 
     pub values-more : (v : Attribute) → attributeAt e unit at (a .name) (a .form) ≡ Attribute′ v
-        → entryValues e s p unit at ≡ record { name = a .name; value = v } ∷ entryValues e s (a .next .at) unit (v .field .end)
+        → entryValues e s p unit at ≡ record { name = a .name; declared = a .form; value = v } ∷ entryValues e s (a .next .at) unit (v .field .end)
     unfolding onAttribute
-    values-more v r = values-spec ∙ ap (λ (o : AttributeRead). onAttribute (a .name) o (λ next. entryValues e s (a .next .at) unit next)) r
+    values-more v r = values-spec ∙ ap (λ (o : AttributeRead). onAttribute a o (λ next. entryValues e s (a .next .at) unit next)) r
 
 -- ---- how far a value comes
 
@@ -162,14 +162,14 @@ module _ (e : Encoding) (s : List ℕ) (p : ℕ) (unit : List ℕ) (at : ℕ) (r
     unfolding nextAttribute takenBy taken
     taken-none h = rw (sym q ∙ k, sym l ∙ h)
 
-    pub taken-more : (v : Attribute) → o ≡ Attribute′ v → More (record { name = a .name; value = v; next = a .next }) ≡ nextAttribute e s p unit at
+    pub taken-more : (v : Attribute) → o ≡ Attribute′ v → More (record { name = a .name; declared = a .form; value = v; next = a .next }) ≡ nextAttribute e s p unit at
     unfolding nextAttribute takenBy taken
     taken-more v h = rw (sym q ∙ k, sym l ∙ h)
 
 -- ---- what it says of the attributes from there on
 
 abbrev pub valued : EntryAttribute → Valued
-valued x = record { name = x .name; value = x .value }
+valued x = record { name = x .name; declared = x .declared; value = x .value }
 
 module _ (e : Encoding) (s : List ℕ) (p : ℕ) (unit : List ℕ) (at : ℕ) where
   -- one more, and how far its specification and its value come
@@ -183,7 +183,7 @@ module _ (e : Encoding) (s : List ℕ) (p : ℕ) (unit : List ℕ) (at : ℕ) wh
       → taken a o ≡ More x → Stepped x
   unfolding taken
   by-value x a q (Attribute′ v) k g =
-      let z : record { name = a .name; value = v; next = a .next } ≡ x = cc in
+      let z : record { name = a .name; declared = a .form; value = v; next = a .next } ≡ x = cc in
       subst Stepped z
       (record {
         all = values-more e s p unit at a q v k;

@@ -2,21 +2,16 @@
 -- order, repeats and dangling ones included; 5 and 7 as they are met.
 use mathlib.Core.Path.{_≡_, refl}
 use Prim.Native.Nat.{ℕ, _-_}
-use mathlib.Core.Bool.{Bool, true, false}
+use mathlib.Core.Bool.{Bool, true, false, not}
 use mathlib.Core.List.{List, [], _∷_, _++_}
 use lib.ListN.{length, take, drop}
 use lib.Dec.{leb, eqb}
 use Rattle.readers.specs.Choice.{pick, _and_, _or_}
 use Rattle.readers.specs.Steps.{listEntryAt}
 use Rattle.readers.specs.Lists.{listOffset, listStart}
-use Rattle.readers.specs.Entries.{attributeAt}
 use Rattle.readers.specs.References.{Named, walkOf, referencesIn}
 use Rattle.readers.specs.declared.cursor.Encoding.{Encoding}
 use Rattle.readers.specs.declared.fields.Field.{Field}
-use Rattle.readers.specs.declared.abbreviations.AttributeSpec.{AttributeSpec}
-use Rattle.readers.specs.declared.attributes.Attribute.{Attribute}
-use Rattle.readers.specs.declared.attributes.AttributeRead.{AttributeRead}
-use Rattle.readers.specs.declared.attributes.AttributeRead.the-variants.{Read as Attribute′, Unreadable as NoAttribute}
 use Rattle.readers.specs.declared.expressions.Walk.{Walk}
 use Rattle.readers.specs.declared.expressions.Walk.the-variants.{Walked, Unreadable}
 use Rattle.readers.specs.declared.lists.ListOffset.{ListOffset}
@@ -25,20 +20,21 @@ use Rattle.readers.specs.declared.operations.ListEntry.{ListEntry}
 use Rattle.readers.specs.declared.operations.ListStep.{ListStep}
 use Rattle.readers.specs.declared.operations.ListStep.the-variants.{Entry, End, Unreadable as NoEntry}
 use Rattle.marking.specs.Walking.{Next, go, stop, walk}
+use Rattle.marking.specs.Roots.{Valued}
 
--- the offsets that are named, or the number of a refusal
+-- the offsets that are named; on a refusal those named before it, and its number
 pub data Found : Type 0 where
   found : List ℕ → Found
-  refused : ℕ → Found
+  refused : List ℕ → ℕ → Found
 
 -- what one finds, and then another: the first refusal counts
-unfoldable pub and′ : List ℕ → Found → Found
-and′ xs (found ys) = found (xs ++ ys)
-and′ xs (refused n) = refused n
+unfoldable pub after : List ℕ → Found → Found
+after xs (found ys) = found (xs ++ ys)
+after xs (refused ys n) = refused (xs ++ ys) n
 
 unfoldable pub andThen : Found → Found → Found
-andThen (found xs) f = and′ xs f
-andThen (refused n) f = refused n
+andThen (found xs) f = after xs f
+andThen (refused xs n) f = refused xs n
 
 -- ---- expressions: in one expression 5 goes before 7
 
@@ -47,8 +43,8 @@ targets [] = []
 targets (r ∷ rs) = r .1 ∷ targets rs
 
 unfoldable pub walkFound : List ℕ → Walk → Found
-walkFound xs Unreadable = refused 5
-walkFound xs (Walked n true) = refused 7
+walkFound xs Unreadable = refused [] 5
+walkFound xs (Walked n true) = refused [] 7
 walkFound xs (Walked n false) = found xs
 
 unfoldable pub expressionFound : Encoding → List ℕ → Found
@@ -74,18 +70,18 @@ locationFound e s x =
 
 unfoldable pub onFound : List ℕ → ListEntry → Found → Next Reached Found
 onFound sofar x (found ys) = go (record { at = x .next .at; sofar = sofar ++ ys })
-onFound sofar x (refused n) = stop (refused n)
+onFound sofar x (refused ys n) = stop (refused (sofar ++ ys) n)
 
 unfoldable pub locationStep : Encoding → List ℕ → List ℕ → ListStep → Next Reached Found
 locationStep e s sofar (Entry x) = onFound sofar x (locationFound e s x)
 locationStep e s sofar End = stop (found sofar)
-locationStep e s sofar NoEntry = stop (refused 5)
+locationStep e s sofar NoEntry = stop (refused sofar 5)
 
 -- an offset that can't be resolved is 5
 unfoldable pub listFound : Encoding → List ℕ → ListOffset → Found
 listFound e s (At c) =
     walk reachedAt (length s) (λ (p : Reached). locationStep e s (p .sofar) (listEntryAt e true s (p .at))) (found []) (record { at = c .at; sofar = [] })
-listFound e s Unresolved = refused 5
+listFound e s Unresolved = refused [] 5
 
 -- ---- attributes
 
@@ -95,24 +91,24 @@ pub record Locations : Type 0 where
   pub locations : List ℕ
   pub loclistsBase : ℕ
 
+abbrev pub locationsBy : List ℕ → List ℕ → ℕ → Locations
+locationsBy unit locations base = record { unit = unit; locations = locations; loclistsBase = base }
+
 module _ (e : Encoding) (x : Locations) where
   -- Sibling attributes (0x01) name nothing. ref_addr (0x10) is 7 where it is declared; behind indirect it is copied. ref1 to ref8 and ref_udata (0x11 to 0x15) name
   -- their value, behind indirect too. exprloc (0x18) by its expression. Location lists count only under DW_AT_location (0x02): loclistx (0x22), sec_offset (0x17).
-  unfoldable pub attributeFound : AttributeSpec → Attribute → Found
-  attributeFound a v =
+  unfoldable pub attributeFound : Valued → Found
+  attributeFound a =
       pick (eqb (a .name) 0x01) (found [])
-      (pick (eqb (a .form) 0x10) (refused 7)
-      (pick (leb 0x11 (v .form) and leb (v .form) 0x15) (found (v .field .value ∷ []))
-      (pick (eqb (v .form) 0x18) (expressionFound e (partOf (x .unit) (v .field)))
-      (pick (eqb (a .name) 0x02 and eqb (v .form) 0x22) (listFound e (x .locations) (listOffset e (x .locations) (x .loclistsBase) (v .field .value)))
-      (pick (eqb (a .name) 0x02 and eqb (v .form) 0x17) (listFound e (x .locations) (listStart (x .locations) (v .field .value)))
-      (found []))))))
+      (pick (eqb (a .declared) 0x10) (refused [] 7)
+      (pick (leb 0x11 (a .value .form) and leb (a .value .form) 0x15) (found (a .value .field .value ∷ []))
+      (pick (eqb (a .value .form) 0x18) (expressionFound e (partOf (x .unit) (a .value .field)))
+      (pick (not (eqb (a .name) 0x02)) (found [])
+      (pick (eqb (a .value .form) 0x22) (listFound e (x .locations) (listOffset e (x .locations) (x .loclistsBase) (a .value .field .value)))
+      (pick (eqb (a .value .form) 0x17) (listFound e (x .locations) (listStart (x .locations) (a .value .field .value)))
+      (found [])))))))
 
-  unfoldable pub onValue : AttributeSpec → AttributeRead → (ℕ → Found) → Found
-  onValue a (Attribute′ v) k = andThen (attributeFound a v) (k (v .field .end))
-  onValue a NoAttribute k = found []
-
-  -- THE references of an entry, by the specifications of its attributes and the place of its values
-  unfoldable pub entryFound : List AttributeSpec → ℕ → Found
-  entryFound [] at = found []
-  entryFound (a ∷ rest) at = onValue a (attributeAt e (x .unit) at (a .name) (a .form)) (λ next. entryFound rest next)
+  -- THE references of an entry, by its attributes
+  unfoldable pub attributesFound : List Valued → Found
+  attributesFound [] = found []
+  attributesFound (a ∷ rest) = andThen (attributeFound a) (attributesFound rest)

@@ -124,18 +124,19 @@ lowPc e table v =
 
 -- ---- the attributes of an entry
 
--- an attribute: its name, and its value
+-- an attribute: its name, the form that it is declared with, and its value
 pub record Valued : Type 0 where
   pub name : ℕ
+  pub declared : ℕ
   pub value : Attribute
 
-unfoldable pub onAttribute : ℕ → AttributeRead → (ℕ → List Valued) → List Valued
-onAttribute name (Attribute′ v) k = record { name = name; value = v } ∷ k (v .field .end)
-onAttribute name NoAttribute k = []
+unfoldable pub onAttribute : AttributeSpec → AttributeRead → (ℕ → List Valued) → List Valued
+onAttribute a (Attribute′ v) k = record { name = a .name; declared = a .form; value = v } ∷ k (v .field .end)
+onAttribute a NoAttribute k = []
 
 unfoldable pub valuesOf : Encoding → List ℕ → List AttributeSpec → ℕ → List Valued
 valuesOf e unit [] at = []
-valuesOf e unit (a ∷ rest) at = onAttribute (a .name) (attributeAt e unit at (a .name) (a .form)) (λ next. valuesOf e unit rest next)
+valuesOf e unit (a ∷ rest) at = onAttribute a (attributeAt e unit at (a .name) (a .form)) (λ next. valuesOf e unit rest next)
 
 -- the specifications from a place on, up to the pair of zeros or to one that can't be read: what stands before that one counts, since a test may be decided
 -- there. A checked abbreviation list has none such, and there these are all.
@@ -158,7 +159,7 @@ entryValues e abbreviations specs unit at = valuesOf e unit (specsFrom abbreviat
 
 -- the attribute there, as the code reads it
 unfoldable pub taken : AttributeSpec → AttributeRead → NextAttribute
-taken a (Attribute′ v) = More (record { name = a .name; value = v; next = a .next })
+taken a (Attribute′ v) = More (record { name = a .name; declared = a .form; value = v; next = a .next })
 taken a NoAttribute = NoMore
 
 unfoldable pub takenBy : Encoding → List ℕ → ℕ → SpecStep → NextAttribute

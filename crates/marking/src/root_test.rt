@@ -16,9 +16,11 @@ use readers::lists::ListOffset;
 use readers::lists::list_offset;
 use readers::operations::ListStep;
 
-// An attribute of an entry: its name, its value, and the cursor past its specification. Its field ends where the next value starts.
+// An attribute of an entry: its name, the form that it is declared with, its value, and the cursor past its specification. Its field ends where the next
+// value starts.
 pub struct EntryAttribute {
     pub name: u64,
+    pub declared: u64,
     pub value: Attribute,
     pub next: Cursor,
 }
@@ -44,8 +46,14 @@ pub fn next_attribute(
                 return NextAttribute::NoMore;
             };
             let name = a.name;
+            let declared = a.form;
             let next = a.next;
-            NextAttribute::More(EntryAttribute { name, value, next })
+            NextAttribute::More(EntryAttribute {
+                name,
+                declared,
+                value,
+                next,
+            })
         }
         SpecStep::Last(_) => NextAttribute::NoMore,
         SpecStep::Unreadable => NextAttribute::NoMore,
