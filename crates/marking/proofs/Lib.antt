@@ -3,6 +3,11 @@ pub mod Verdicts
 pub mod Lists
 pub mod Attributes
 pub mod RootTests
+pub mod Placing
+pub mod NextOffsets
+pub mod Founds
+pub mod LocationLists
+pub mod AttributeScans
 pub mod Tests
 pub mod Tables
 pub mod Graphs

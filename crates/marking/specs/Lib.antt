@@ -4,6 +4,7 @@ pub mod Roots
 pub mod RootExamples
 pub mod EntryReferences
 pub mod ReferenceExamples
+pub mod ReferenceTable
 pub mod Below
 pub mod Graph
 pub mod Survivors
