@@ -20,7 +20,7 @@ use Rattle.readers.specs.References.{Named, namesIn, nameIn, anyAbsolute
 use Rattle.readers.specs.declared.cursor.Encoding.{Encoding}
 use Rattle.readers.specs.declared.operations.Operation.{Operation}
 use Rattle.readers.proofs.OperationReads.{token1, token2, token3, madeOf, Held, read-four, span, code-is, first-from, rest-is, past, starts, ends}
-use Rattle.readers.proofs.OperationPieces.{names-append, absolute-append, tokenNames, tokenAbsolute, Names, token-names, row-below, row-names, row-absolute, isExpression, row-plain}
+use Rattle.readers.proofs.OperationPieces.{names-append, absolute-append, tokenNames, tokenAbsolute, Names, token-names, row-below, row-names, row-absolute, Wide, row-wide, isExpression, row-plain}
 
 -- ---- tokens that are no expression are read alike by all
 
@@ -176,6 +176,15 @@ module _ (e : Encoding) (x : List ℕ) (at : ℕ) (op : Operation) (h : Held e x
       ∙ ap₂ _++_ (n1 .0) (names-append big k2 (h .b .pieces) _ ∙ ap₂ _++_ (n2 .0) (ap (namesIn big k3) (append-nil (h .d .pieces)) ∙ n3 .0))
       ∙ row-names e (operationRow (h .c .seen)) (row-below (h .c .seen)) (fieldOf big k1 (h .a)) (fieldOf big k2 (h .b)) (fieldOf big k3 (h .d)) (madeOf e at (h .c) (h .a) (h .b) (h .d) .next)
       ∙ ap (λ (o : Operation). namesOf (referenceOf o)) (sym (h .made))
+
+  pub own-wide : Wide (referenceOf op)
+  own-wide =
+      let k1 : ℕ = at + size big (h .c) in
+      let k2 : ℕ = k1 + size big (h .a) in
+      subst (λ (o : Operation). Wide (referenceOf o)) (sym (h .made))
+      (row-wide e (operationRow (h .c .seen)) (row-below (h .c .seen)) (fieldOf big k1 (h .a)) (fieldOf big k2 (h .b)) (madeOf e at (h .c) (h .a) (h .b) (h .d) .next)
+      (names-of k1 _ (h .x1) (h .a) (h .x2) (h .first) .2)
+      (names-of k2 _ (h .x2) (h .b) (h .x3) (h .second) .2))
 
   pub own-absolute : anyAbsolute own ≡ (eqb (op .row) 20 or eqb (op .row) 21)
   unfolding allPieces tokenAbsolute _or_

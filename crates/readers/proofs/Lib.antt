@@ -8,6 +8,7 @@ pub mod ListStarts
 pub mod Specs
 pub mod Declarations
 pub mod Values
+pub mod Streams
 pub mod Nesting
 pub mod OperationReads
 pub mod OperationPieces

@@ -11,11 +11,11 @@ use lib.Dec.{T, leb, ltb, eqb}
 use mir.Facts.{ltb-yes, eqb-yes, eqb-no}
 use Rattle.readers.specs.Choice.{pick, pick-either, either, check, bind, _and_, _or_, All, all-some, all-none, all-of, all-check, all-bind, all-triv}
 use Rattle.readers.specs.Numbers.{uleb, sleb}
-use Rattle.readers.specs.Layout.{fixed, Kind, Encoded, Role, reference, typeReference, sibling, index, absolute, Token, nothing, number, bounded, forms, signed, link, string, run, block, expression, unknown, Piece, copied, linked, Read, ReadOf, asBytes, width, numberIn, formsIn, stringIn, asNumber, asBounded, asForms, asSigned, asLink, asString, asBlock, asExpression, copy, tokenIn, bytesOf, pieceBytes, numberBytes, length-number}
+use Rattle.readers.specs.Layout.{fixed, leb128, Kind, Encoded, infixed, inleb, Role, reference, typeReference, sibling, index, absolute, Token, nothing, number, bounded, forms, signed, link, string, run, block, expression, unknown, Piece, copied, linked, Read, ReadOf, asBytes, width, kindOf, NumberLaw, number-law, numberIn, formsIn, stringIn, asNumber, asBounded, asForms, asSigned, asLink, asString, asBlock, asExpression, copy, tokenIn, bytesOf, pieceBytes, numberBytes, length-number}
 use Rattle.readers.specs.Tokens.{Use, plain, as′, numberAs, tokenOf}
 use Rattle.readers.specs.Operations.{Row, rows, unreadableRow, rowOf, Codes, operations, rowAmong, operationRow}
 use Rattle.readers.specs.Fields.{size, fieldOf, linkedValue}
-use Rattle.readers.specs.References.{Named, nameIn, namesIn, isAbsolute, anyAbsolute, named, namedType, referenceOf, namesOf}
+use Rattle.readers.specs.References.{Named, nameIn, namesIn, isAbsolute, anyAbsolute, named, namedType, referenceOf, encodedBy, namesOf}
 use Rattle.readers.specs.declared.cursor.Encoding.{Encoding}
 use Rattle.readers.specs.declared.cursor.Cursor.{Cursor}
 use Rattle.readers.specs.declared.fields.Field.{Field}
@@ -49,7 +49,7 @@ module _ (big : Bool) where
   unfolding nameIn
   same-name m n (copied l) = refl
   same-name m n (linked e reference v) = refl
-  same-name m n (linked e typeReference v) = same-pick (eqb v 0) (m, v, width e) (n, v, width e)
+  same-name m n (linked e typeReference v) = same-pick (eqb v 0) (m, v, e) (n, v, e)
   same-name m n (linked e sibling v) = refl
   same-name m n (linked e (index k) v) = refl
   same-name m n (linked e absolute v) = refl
@@ -68,9 +68,18 @@ absolute-append (p ∷ ps) qs = ap (λ x. isAbsolute p or x) (absolute-append ps
 
 -- ---- what one token names
 
+unfoldable pub isLeb : Kind → Bool
+isLeb (fixed w) = false
+isLeb leb128 = true
+
+encoded-is : (c : Encoded) → encodedBy (isLeb (kindOf c)) (width c) ≡ c
+unfolding encodedBy isLeb kindOf width
+encoded-is (infixed w) = refl
+encoded-is (inleb n) = ap inleb (let h : suc n - 1 ≡ n = omega arith in h)
+
 unfoldable pub tokenNames : Token → Field → List Named
-tokenNames (link k reference) f = (f .start, f .value, f .end - f .start) ∷ []
-tokenNames (link k typeReference) f = pick (eqb (f .value) 0) [] ((f .start, f .value, f .end - f .start) ∷ [])
+tokenNames (link k reference) f = (f .start, f .value, encodedBy (isLeb k) (f .end - f .start)) ∷ []
+tokenNames (link k typeReference) f = pick (eqb (f .value) 0) [] ((f .start, f .value, encodedBy (isLeb k) (f .end - f .start)) ∷ [])
 tokenNames (link k sibling) f = []
 tokenNames (link k (index n)) f = []
 tokenNames (link k absolute) f = []
@@ -102,43 +111,61 @@ tokenAbsolute (block k) = false
 tokenAbsolute expression = false
 tokenAbsolute unknown = false
 
-module _ (big : Bool) where
-  -- what the pieces of a token name at a place is what its field there names
-  abbrev pub Names : ℕ → Token → ReadOf → Type 0
-  Names at t r = (namesIn big at (r .0 .pieces) ≡ tokenNames t (fieldOf big at (r .0))) × (anyAbsolute (r .0 .pieces) ≡ tokenAbsolute t)
+-- a link's field is as wide as its number is written
+unfoldable pub Sized : Token → Field → Type 0
+Sized (link k role) f = width (encodedBy (isLeb k) (f .end - f .start)) ≡ f .end - f .start
+Sized nothing f = Unit {0}
+Sized (number k) f = Unit {0}
+Sized (bounded n) f = Unit {0}
+Sized forms f = Unit {0}
+Sized signed f = Unit {0}
+Sized string f = Unit {0}
+Sized (run n) f = Unit {0}
+Sized (block k) f = Unit {0}
+Sized expression f = Unit {0}
+Sized unknown f = Unit {0}
 
-  link-names : (at : ℕ) (k : Kind) (role : Role) (c : Encoded) (v : ℕ) (s : List ℕ)
+module _ (big : Bool) where
+  -- what the pieces of a token name at a place is what its field there names, and the field is as wide as they are written
+  abbrev pub Names : ℕ → Token → ReadOf → Type 0
+  Names at t r = (namesIn big at (r .0 .pieces) ≡ tokenNames t (fieldOf big at (r .0))) × (anyAbsolute (r .0 .pieces) ≡ tokenAbsolute t) × Sized t (fieldOf big at (r .0))
+
+  link-names : (at : ℕ) (k : Kind) (role : Role) (c : Encoded) (v : ℕ) (s : List ℕ) → kindOf c ≡ k
       → Names at (link k role) (record { seen = 0; start = 0; pieces = linked c role v ∷ [] }, s)
-  unfolding namesIn nameIn anyAbsolute isAbsolute tokenNames tokenAbsolute fieldOf size linkedValue bytesOf pieceBytes _or_
-  link-names at k role c v s =
+  unfolding namesIn nameIn anyAbsolute isAbsolute tokenNames tokenAbsolute Sized fieldOf size linkedValue bytesOf pieceBytes _or_
+  link-names at k role c v s kind =
       let h : at + 0 ≡ at = omega arith in
       let l : length (numberBytes big c v ++ []) ≡ width c = ap length (append-nil (numberBytes big c v)) ∙ length-number big c v in
       let w : at + length (numberBytes big c v ++ []) - (at + 0) ≡ width c = omega arith in
-      roles role h w
+      let n : encodedBy (isLeb k) (width c) ≡ c = ap (λ j. encodedBy (isLeb j) (width c)) (sym kind) ∙ encoded-is c in
+      roles role h (ap (encodedBy (isLeb k)) w ∙ n) (ap (λ m. width (encodedBy (isLeb k) m)) w ∙ ap width n ∙ sym w)
     where
-      roles : (role : Role) → at + 0 ≡ at → at + length (numberBytes big c v ++ []) - (at + 0) ≡ width c → Names at (link k role) (record { seen = 0; start = 0; pieces = linked c role v ∷ [] }, s)
-      roles reference h w = (ap₂ (λ x y. (x, v, y) ∷ []) (sym h) (sym w), refl)
-      roles typeReference h w = (append-nil _ ∙ ap₂ (λ x y. pick (eqb v 0) [] ((x, v, y) ∷ [])) (sym h) (sym w), refl)
-      roles sibling h w = (refl, refl)
-      roles (index n) h w = (refl, refl)
-      roles absolute h w = (refl, refl)
+      roles : (role : Role) → at + 0 ≡ at
+          → encodedBy (isLeb k) (at + length (numberBytes big c v ++ []) - (at + 0)) ≡ c
+          → width (encodedBy (isLeb k) (at + length (numberBytes big c v ++ []) - (at + 0))) ≡ at + length (numberBytes big c v ++ []) - (at + 0)
+          → Names at (link k role) (record { seen = 0; start = 0; pieces = linked c role v ∷ [] }, s)
+      roles reference h w z = (ap₂ (λ x y. (x, v, y) ∷ []) (sym h) (sym w), refl, z)
+      roles typeReference h w z = (append-nil _ ∙ ap₂ (λ x y. pick (eqb v 0) [] ((x, v, y) ∷ [])) (sym h) (sym w), refl, z)
+      roles sibling h w z = (refl, refl, z)
+      roles (index n) h w z = (refl, refl, z)
+      roles absolute h w z = (refl, refl, z)
 
-  copy-names : (at : ℕ) (t : Token) (v k n : ℕ) (s : List ℕ) → tokenNames t (fieldOf big at (copy v k n s .0)) ≡ [] → tokenAbsolute t ≡ false → Names at t (copy v k n s)
+  copy-names : (at : ℕ) (t : Token) (v k n : ℕ) (s : List ℕ) → tokenNames t (fieldOf big at (copy v k n s .0)) ≡ [] → tokenAbsolute t ≡ false → Sized t (fieldOf big at (copy v k n s .0)) → Names at t (copy v k n s)
   unfolding namesIn nameIn anyAbsolute isAbsolute copy _or_
-  copy-names at t v k n s p q = (sym p, sym q)
+  copy-names at t v k n s p q z = (sym p, sym q, z)
 
   pub token-names : (at : ℕ) (t : Token) (s : List ℕ) → All (Names at t) (tokenIn big asBytes t s)
-  unfolding tokenIn asNumber asBounded asForms asSigned asLink asString asBlock asExpression asBytes bind namesIn nameIn anyAbsolute isAbsolute tokenNames tokenAbsolute _or_
-  token-names at nothing s = all-some (Names at nothing) (refl, refl)
-  token-names at (number k) s = all-bind (λ _. Unit {0}) _ (numberIn big k s) _ (all-triv _) (λ r q u. all-some (Names at (number k)) (copy-names at (number k) _ _ _ s refl refl))
-  token-names at (bounded n) s = all-bind (λ _. Unit {0}) _ (uleb s) _ (all-triv _) (λ r q u. all-check _ _ _ (λ w. all-some (Names at (bounded n)) (copy-names at (bounded n) _ _ _ s refl refl)))
-  token-names at forms s = all-bind (λ _. Unit {0}) _ (formsIn s) _ (all-triv _) (λ r q u. all-some (Names at forms) (copy-names at forms _ _ _ s refl refl))
-  token-names at signed s = all-bind (λ _. Unit {0}) _ (sleb s) _ (all-triv _) (λ r q u. all-some (Names at signed) (copy-names at signed _ _ _ s refl refl))
-  token-names at (link k role) s = all-bind (λ _. Unit {0}) _ (numberIn big k s) _ (all-triv _) (λ r q u. all-some (Names at (link k role)) (link-names at k role (r .0) (r .1) (r .2)))
-  token-names at string s = all-bind (λ _. Unit {0}) _ (stringIn s) _ (all-triv _) (λ r q u. all-some (Names at string) (copy-names at string _ _ _ s refl refl))
-  token-names at (run n) s = all-check _ _ _ (λ w. all-some (Names at (run n)) (copy-names at (run n) _ _ _ s refl refl))
-  token-names at (block k) s = all-bind (λ _. Unit {0}) _ (numberIn big k s) _ (all-triv _) (λ r q u. all-check _ _ _ (λ w. all-some (Names at (block k)) (copy-names at (block k) _ _ _ s refl refl)))
-  token-names at expression s = all-bind (λ _. Unit {0}) _ (uleb s) _ (all-triv _) (λ r q u. all-check _ _ _ (λ w. all-some (Names at expression) (refl, refl)))
+  unfolding tokenIn asNumber asBounded asForms asSigned asLink asString asBlock asExpression asBytes bind namesIn nameIn anyAbsolute isAbsolute tokenNames tokenAbsolute Sized _or_
+  token-names at nothing s = all-some (Names at nothing) (refl, refl, tt)
+  token-names at (number k) s = all-bind (λ _. Unit {0}) _ (numberIn big k s) _ (all-triv _) (λ r q u. all-some (Names at (number k)) (copy-names at (number k) _ _ _ s refl refl tt))
+  token-names at (bounded n) s = all-bind (λ _. Unit {0}) _ (uleb s) _ (all-triv _) (λ r q u. all-check _ _ _ (λ w. all-some (Names at (bounded n)) (copy-names at (bounded n) _ _ _ s refl refl tt)))
+  token-names at forms s = all-bind (λ _. Unit {0}) _ (formsIn s) _ (all-triv _) (λ r q u. all-some (Names at forms) (copy-names at forms _ _ _ s refl refl tt))
+  token-names at signed s = all-bind (λ _. Unit {0}) _ (sleb s) _ (all-triv _) (λ r q u. all-some (Names at signed) (copy-names at signed _ _ _ s refl refl tt))
+  token-names at (link k role) s = all-bind (NumberLaw big k s) _ (numberIn big k s) _ (number-law big k s) (λ r q u. all-some (Names at (link k role)) (link-names at k role (r .0) (r .1) (r .2) (u .0)))
+  token-names at string s = all-bind (λ _. Unit {0}) _ (stringIn s) _ (all-triv _) (λ r q u. all-some (Names at string) (copy-names at string _ _ _ s refl refl tt))
+  token-names at (run n) s = all-check _ _ _ (λ w. all-some (Names at (run n)) (copy-names at (run n) _ _ _ s refl refl tt))
+  token-names at (block k) s = all-bind (λ _. Unit {0}) _ (numberIn big k s) _ (all-triv _) (λ r q u. all-check _ _ _ (λ w. all-some (Names at (block k)) (copy-names at (block k) _ _ _ s refl refl tt)))
+  token-names at expression s = all-bind (λ _. Unit {0}) _ (uleb s) _ (all-triv _) (λ r q u. all-check _ _ _ (λ w. all-some (Names at expression) (refl, refl, tt)))
   token-names at unknown s = all-none _
 
 -- ---- what the tokens of each row name
@@ -182,6 +209,15 @@ unfolding pick namesOf
 pick-names true y = refl
 pick-names false y = refl
 
+-- a reference's width is that of how its operand is written
+unfoldable pub Wide : Yield → Type 0
+Wide (Yielded r) = width (encodedBy (r .leb) (r .width)) ≡ r .width
+Wide End = Unit {0}
+
+wide-type : (f : Field) (c : Cursor) → width (encodedBy true (f .end - f .start)) ≡ f .end - f .start → Wide (namedType f c)
+unfolding namedType named Wide
+wide-type f c w = pick-either Wide _ _ _ (λ _. tt) (λ _. w)
+
 unfoldable pub isExpression : Token → Bool
 isExpression nothing = false
 isExpression (number k) = false
@@ -201,15 +237,29 @@ module _ (e : Encoding) where
       → tokenNames (token1 e l) f ++ (tokenNames (token2 e l) g ++ tokenNames (token3 e l) h) ≡ namesOf (referenceOf (record { row = l; first = f; second = g; next = n }))
 
   row-names-each : Each RowNames 0 23
-  unfolding rows rowOf unreadableRow tokenOf numberAs pick tokenNames referenceOf named namedType namesOf
+  unfolding rows rowOf unreadableRow tokenOf numberAs pick tokenNames isLeb referenceOf named namedType namesOf
   row-names-each =
       (λ f g h n. refl) & (λ f g h n. refl) & (λ f g h n. refl) & (λ f g h n. refl) & (λ f g h n. refl) & (λ f g h n. refl)
       & (λ f g h n. refl) & (λ f g h n. refl) & (λ f g h n. refl) & (λ f g h n. refl) & (λ f g h n. refl) & (λ f g h n. refl)
-      & (λ f g h n. refl) & (λ f g h n. refl) & (λ f g h n. append-nil _ ∙ pick-names (eqb (f .value) 0) (named f n)) & (λ f g h n. append-nil _ ∙ pick-names (eqb (g .value) 0) (named g n)) & (λ f g h n. append-nil _ ∙ pick-names (eqb (g .value) 0) (named g n)) & (λ f g h n. append-nil _ ∙ pick-names (eqb (f .value) 0) (named f n))
+      & (λ f g h n. refl) & (λ f g h n. refl) & (λ f g h n. append-nil _ ∙ pick-names (eqb (f .value) 0) (named f true n)) & (λ f g h n. append-nil _ ∙ pick-names (eqb (g .value) 0) (named g true n)) & (λ f g h n. append-nil _ ∙ pick-names (eqb (g .value) 0) (named g true n)) & (λ f g h n. append-nil _ ∙ pick-names (eqb (f .value) 0) (named f true n))
       & (λ f g h n. refl) & (λ f g h n. refl) & (λ f g h n. refl) & (λ f g h n. refl) & (λ f g h n. refl) & end
 
   pub row-names : (l : ℕ) → l < 23 → RowNames l
   row-names l h = each-at RowNames 0 23 l row-names-each (omega arith) (omega arith)
+
+  abbrev pub RowWide : ℕ → Type 0
+  RowWide l = (f g : Field) (n : Cursor) → Sized (token1 e l) f → Sized (token2 e l) g → Wide (referenceOf (record { row = l; first = f; second = g; next = n }))
+
+  row-wide-each : Each RowWide 0 23
+  unfolding rows rowOf unreadableRow tokenOf numberAs pick Sized isLeb referenceOf named Wide
+  row-wide-each =
+      (λ f g n a b. tt) & (λ f g n a b. tt) & (λ f g n a b. tt) & (λ f g n a b. tt) & (λ f g n a b. tt) & (λ f g n a b. tt)
+      & (λ f g n a b. tt) & (λ f g n a b. tt) & (λ f g n a b. tt) & (λ f g n a b. tt) & (λ f g n a b. tt) & (λ f g n a b. tt)
+      & (λ f g n a b. a) & (λ f g n a b. a) & (λ f g n a b. wide-type f n a) & (λ f g n a b. wide-type g n b) & (λ f g n a b. wide-type g n b) & (λ f g n a b. wide-type f n a)
+      & (λ f g n a b. tt) & (λ f g n a b. tt) & (λ f g n a b. tt) & (λ f g n a b. tt) & (λ f g n a b. tt) & end
+
+  pub row-wide : (l : ℕ) → l < 23 → RowWide l
+  row-wide l h = each-at RowWide 0 23 l row-wide-each (omega arith) (omega arith)
 
   abbrev pub RowAbsolute : ℕ → Type 0
   RowAbsolute l = (tokenAbsolute (token1 e l) or (tokenAbsolute (token2 e l) or tokenAbsolute (token3 e l))) ≡ (eqb l 20 or eqb l 21)

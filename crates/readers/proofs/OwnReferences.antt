@@ -38,16 +38,16 @@ unfolding _or_
 neither true b s t = absurd s
 neither false b s t = t
 
-pub named-is : (f : Field) (c : Cursor) (w : ℕ) → w ≡ f .end - f .start
-    → Yielded (record { place = f .start; target = record { 0 = f .value }; width = w; next = c }) ≡ named f c
+pub named-is : (f : Field) (b : Bool) (c : Cursor) (w : ℕ) → w ≡ f .end - f .start
+    → Yielded (record { place = f .start; target = record { 0 = f .value }; leb = b; width = w; next = c }) ≡ named f b c
 unfolding named
-named-is f c w q = ap (λ n. Yielded (record { place = f .start; target = record { 0 = f .value }; width = n; next = c })) q
+named-is f b c w q = ap (λ n. Yielded (record { place = f .start; target = record { 0 = f .value }; leb = b; width = n; next = c })) q
 
 pub type-none : (f : Field) (c : Cursor) → f .value ≡ 0 → End ≡ namedType f c
 unfolding namedType
 type-none f c t = sym (pick-yes _ _ _ (yes-eqb {a = f .value} {b = 0} t))
 
-pub type-some : (f : Field) (c : Cursor) (y : Yield) → (f .value ≡ 0 → ⊥) → y ≡ named f c → y ≡ namedType f c
+pub type-some : (f : Field) (c : Cursor) (y : Yield) → (f .value ≡ 0 → ⊥) → y ≡ named f true c → y ≡ namedType f c
 unfolding namedType
 type-some f c y t q = q ∙ sym (pick-no _ _ _ (no-eqb {a = f .value} {b = 0} t))
 
@@ -60,7 +60,7 @@ module _ (op : Operation) where
     abbrev a : T (not (ltb (op .row) 12))
     a = no-ltb {a = op .row} {b = 12} lo
 
-    pub entry : (y : Yield) → op .row ≤ 13 → y ≡ named (op .first) (op .next) → y ≡ referenceOf op
+    pub entry : (y : Yield) → op .row ≤ 13 → y ≡ named (op .first) false (op .next) → y ≡ referenceOf op
     unfolding referenceOf
     entry y t q = q ∙ sym (pick-no _ _ _ a ∙ pick-yes _ _ _ (yes-leb {a = op .row} {b = 13} t))
 

@@ -7,12 +7,13 @@ use native.Mathlib.Numerals.{add-one}
 use lib.ListN.{length, take, drop, set, replicate, length-append, length-replicate, length-set}
 use lib.Seq.{take-suc-set, take-length, set-at, append-snoc}
 use Rattle.readers.specs.Choice.{zeros}
-use Rattle.readers.specs.References.{Named, numbersOf, Room, flatFrom, nextReference}
+use Rattle.readers.specs.Layout.{width}
+use Rattle.readers.specs.References.{Named, encodedBy, numbersOf, Room, flatFrom, nextReference}
 use Rattle.readers.specs.declared.cursor.Encoding.{Encoding}
 use Rattle.readers.specs.declared.expressions.Reference.{Reference}
 use Rattle.readers.specs.declared.expressions.Yield.{Yield}
 use Rattle.readers.specs.declared.expressions.Yield.the-variants.{Reference as Yielded, End}
-use Rattle.readers.proofs.Yields.{flatBy, flat-next}
+use Rattle.readers.proofs.Yields.{flatBy, flat-next, next-wide}
 
 -- ---- clearing
 
@@ -51,7 +52,7 @@ length-numbers (r ∷ rs) = let h : length (numbersOf rs) ≡ 3 * length rs = le
 numbers-append : (rs qs : List Named) → numbersOf (rs ++ qs) ≡ numbersOf rs ++ numbersOf qs
 unfolding numbersOf
 numbers-append [] qs = refl
-numbers-append (r ∷ rs) qs = ap (λ (l : List ℕ). r .0 ∷ r .1 ∷ r .2 ∷ l) (numbers-append rs qs)
+numbers-append (r ∷ rs) qs = ap (λ (l : List ℕ). r .0 ∷ r .1 ∷ width (r .2) ∷ l) (numbers-append rs qs)
 
 -- three numbers in a row, over three others
 three : (p zs : List ℕ) (x y z a b c n : ℕ) → length p ≡ n → set (set (set (p ++ x ∷ y ∷ z ∷ zs) n a) (n + 1) b) (n + 2) c ≡ p ++ a ∷ b ∷ c ∷ zs
@@ -126,7 +127,8 @@ module _ (e : Encoding) (s table₀ : List ℕ) (count : ℕ) where
         let a : length (f .written) ≡ i = f .amount in
         let t : length table ≡ length table₀ = f .size in
         let fit : 3 * count ≤ length table = f .fits in
-        let one : Named = (r .place, r .target .0, r .width) in
+        let one : Named = (r .place, r .target .0, encodedBy (r .leb) (r .width)) in
+        let wide : width (encodedBy (r .leb) (r .width)) ≡ r .width = next-wide e s at r (sym q ∙ p) in
         let k : ℕ = length table₀ - 3 * (i + 1) in
         let z : length table₀ - 3 * i ≡ suc (suc (suc k)) = omega arith in
         let parts : table ≡ numbersOf (f .written) ++ (0 ∷ 0 ∷ 0 ∷ zeros k) = f .table-is ∙ ap (λ m. numbersOf (f .written) ++ zeros m) z in
@@ -143,5 +145,6 @@ module _ (e : Encoding) (s table₀ : List ℕ) (count : ℕ) where
           table-is =
               ap (λ x. set (set (set x (3 * i) (r .place)) (3 * i + 1) (r .target .0)) (3 * i + 2) (r .width)) parts
               ∙ three (numbersOf (f .written)) (zeros k) 0 0 0 (r .place) (r .target .0) (r .width) (3 * i) ln
-              ∙ sym (ap (λ x. x ++ zeros k) (numbers-append (f .written) (one ∷ [])) ∙ append-assoc (numbersOf (f .written)) (r .place ∷ r .target .0 ∷ r .width ∷ []) (zeros k));
+              ∙ ap (λ n. numbersOf (f .written) ++ (r .place ∷ r .target .0 ∷ n ∷ zeros k)) (sym wide)
+              ∙ sym (ap (λ x. x ++ zeros k) (numbers-append (f .written) (one ∷ [])) ∙ append-assoc (numbersOf (f .written)) (r .place ∷ r .target .0 ∷ width (encodedBy (r .leb) (r .width)) ∷ []) (zeros k));
         }

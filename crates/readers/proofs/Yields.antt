@@ -12,12 +12,12 @@ use lib.Dec.{T, leb, ltb, eqb}
 use mir.Facts.{leb-yes, eqb-yes, eqb-no, yes-eqb, no-eqb, no-ltb, yes-ltb, ltb-yes, ltb-no}
 use Rattle.readers.specs.Choice.{pick, pick-yes, pick-no, pick-either, either, bind, bind-at, bind-none, All, all-some, all-none, all-of, all-bind, all-both, all-map, Took, took-length}
 use Rattle.readers.specs.Scan.{Turn, more, stop, bad, Scanned, push, scan, Goes, scan-stop, scan-more}
-use Rattle.readers.specs.Layout.{Piece, Read, asBytes, bytesOf, bytes-append, writeAll, readIn, ReadLaw, read-law, as-bytes-law, WholeLaw}
+use Rattle.readers.specs.Layout.{Piece, width, Read, asBytes, bytesOf, bytes-append, writeAll, readIn, ReadLaw, read-law, as-bytes-law, WholeLaw}
 use Rattle.readers.specs.Operations.{operation}
 use Rattle.readers.specs.Expression.{expressionIn, expression-none, expression-more, expression-law, write-pieces}
 use Rattle.readers.specs.Fields.{size, fieldOf, rowOfReads}
 use Rattle.readers.specs.Steps.{asOperation, rowOperation, operationOfReads, operationAt}
-use Rattle.readers.specs.References.{Named, namesIn, referenceOf, named, namedType, namesOf, yieldTurn, operationTurn, walkTurn, yielded, nextReference, flatOperation, flatTurn, flat, flattened, flatFrom}
+use Rattle.readers.specs.References.{Named, namesIn, referenceOf, named, namedType, encodedBy, namesOf, yieldTurn, operationTurn, walkTurn, yielded, nextReference, flatOperation, flatTurn, flat, flattened, flatFrom}
 use Rattle.readers.specs.declared.cursor.Encoding.{Encoding}
 use Rattle.readers.specs.declared.cursor.Cursor.{Cursor}
 use Rattle.readers.specs.declared.fields.Field.{Field}
@@ -28,8 +28,8 @@ use Rattle.readers.specs.declared.expressions.Reference.{Reference}
 use Rattle.readers.specs.declared.expressions.Yield.{Yield}
 use Rattle.readers.specs.declared.expressions.Yield.the-variants.{Reference as Yielded, End}
 use Rattle.readers.proofs.OperationReads.{Held, Cases, cases, read-four, span, rest-is, past, held-inside, code-is, operation-held, operation-none, operation-inside}
-use Rattle.readers.proofs.OperationPieces.{names-append}
-use Rattle.readers.proofs.Deep.{own, own-names, own-size, deep-plain, lead, inner, deep-entry, lead-names, lead-size, inner-size, inner-is, inner-ends, unreadable}
+use Rattle.readers.proofs.OperationPieces.{names-append, Wide}
+use Rattle.readers.proofs.Deep.{own, own-names, own-wide, own-size, deep-plain, lead, inner, deep-entry, lead-names, lead-size, inner-size, inner-is, inner-ends, unreadable}
 
 -- ---- the cursor that a reference hands on
 
@@ -38,11 +38,11 @@ unfoldable pub GoesOn : Cursor → Yield → Type 0
 GoesOn c (Yielded r) = r .next ≡ c
 GoesOn c End = Unit {0}
 
-type-goes : (f : Field) (c : Cursor) → GoesOn c (namedType f c)
+pub type-goes : (f : Field) (c : Cursor) → GoesOn c (namedType f c)
 unfolding namedType named GoesOn
 type-goes f c = pick-either (GoesOn c) _ _ _ (λ _. tt) (λ _. refl)
 
-reference-goes : (op : Operation) → GoesOn (op .next) (referenceOf op)
+pub reference-goes : (op : Operation) → GoesOn (op .next) (referenceOf op)
 unfolding referenceOf named GoesOn
 reference-goes op =
     pick-either (GoesOn (op .next)) _ _ _ (λ _. tt) (λ _.
@@ -207,14 +207,14 @@ module _ (e : Encoding) (s : List ℕ) where
   -- ---- one after the other they are all of them
 
   unfoldable pub flatBy : Yield → List Named
-  flatBy (Yielded r) = (r .place, r .target .0, r .width) ∷ flatFrom e s (r .next .at)
+  flatBy (Yielded r) = (r .place, r .target .0, encodedBy (r .leb) (r .width)) ∷ flatFrom e s (r .next .at)
   flatBy End = []
 
   flat-own : (c : Cursor) (y : Yield) → GoesOn c y → (z : Yield) → (y ≡ End → flatFrom e s (c .at) ≡ flatBy z) → ((r : Reference) → y ≡ Yielded r → z ≡ Yielded r)
       → namesOf y ++ flatFrom e s (c .at) ≡ flatBy z
   unfolding GoesOn namesOf flatBy
   flat-own c End g z f h = f refl
-  flat-own c (Yielded r) g z f h = ap (λ (d : Cursor). (r .place, r .target .0, r .width) ∷ flatFrom e s (d .at)) (sym g) ∙ ap flatBy (sym (h r refl))
+  flat-own c (Yielded r) g z f h = ap (λ (d : Cursor). (r .place, r .target .0, encodedBy (r .leb) (r .width)) ∷ flatFrom e s (d .at)) (sym g) ∙ ap flatBy (sym (h r refl))
 
   by-operation : (at : ℕ) → at < length s → ((n : ℕ) → at < n → n ≤ length s → flatFrom e s n ≡ flatBy (nextReference e s n)) → (o : OperationRead) → operationAt e s at ≡ o
       → flatFrom e s at ≡ flatBy (nextReference e s at)
@@ -241,6 +241,38 @@ module _ (e : Encoding) (s : List ℕ) where
   -- the next reference is the first of those from here on
   pub flat-next : (at : ℕ) → flatFrom e s at ≡ flatBy (nextReference e s at)
   flat-next at = by-within (length s - at) at (omega arith)
+
+  -- ---- their widths
+
+  wide-own : (y : Yield) → Wide y → (z : Yield) → (y ≡ End → Wide z) → ((r : Reference) → y ≡ Yielded r → z ≡ Yielded r) → Wide z
+  wide-own End w z f h = f refl
+  wide-own (Yielded r) w z f h = subst Wide (sym (h r refl)) w
+
+  wide-operation : (at : ℕ) → at < length s → ((n : ℕ) → at < n → n ≤ length s → Wide (nextReference e s n)) → (o : OperationRead) → operationAt e s at ≡ o
+      → Wide (nextReference e s at)
+  unfolding Wide
+  wide-operation at l ih NoOperation q = subst Wide (sym (next-none at l q)) tt
+  wide-operation at l ih (Operation′ op) q =
+      let i : (at < op .next .at) × (op .next .at ≤ length s) × (at < op .first .start) × (op .first .start ≤ op .first .end) × (op .first .end ≤ op .next .at) = operation-inside e s at op q in
+      ⊎-elim
+      (λ t. subst Wide (sym (next-entry at l op q t)) (ih (op .first .start) (i .2) (omega arith)))
+      (λ t. wide-own (referenceOf op) (own-wide e (drop at s) at op (operation-held e s at op q)) (nextReference e s at)
+      (λ p. subst Wide (sym (next-pass at l op q t p)) (ih (op .next .at) (i .0) (i .1)))
+      (λ r p. next-own at l op q t r p))
+      (either (eqb (op .row) 19))
+
+  wide-within : (k at : ℕ) → length s - at ≤ k → Wide (nextReference e s at)
+  unfolding Wide
+  wide-within zero at h = subst Wide (sym (next-end at (omega arith))) tt
+  wide-within (suc k) at h =
+      ⊎-elim (λ t. let l : at < length s = ltb-yes t in wide-operation at l (λ n lo hi. wide-within k n (omega arith)) _ refl)
+      (λ t. let l : length s ≤ at = ltb-no t in subst Wide (sym (next-end at l)) tt)
+      (either (ltb at (length s)))
+
+  -- a reference's width is that of how its operand is written
+  pub next-wide : (at : ℕ) (r : Reference) → nextReference e s at ≡ Yielded r → width (encodedBy (r .leb) (r .width)) ≡ r .width
+  unfolding Wide
+  next-wide at r q = let w : Wide (Yielded r) = subst Wide q (wide-within (length s - at) at (omega arith)) in w
 
   -- ---- all of them are those of the pieces
 

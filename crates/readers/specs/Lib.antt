@@ -14,5 +14,6 @@ pub mod Header
 pub mod Lists
 pub mod Abbreviations
 pub mod Entries
+pub mod Stream
 pub mod Nesting
 pub mod Examples

@@ -8,7 +8,7 @@ use lib.ListN.{length, drop}
 use lib.Dec.{ltb, leb, eqb}
 use Rattle.readers.specs.Choice.{pick, _or_, zeros}
 use Rattle.readers.specs.Header.{encodingOf}
-use Rattle.readers.specs.Layout.{Encoded, width, Role, reference, typeReference, sibling, index, absolute, Piece, copied, linked, pieceBytes}
+use Rattle.readers.specs.Layout.{Encoded, infixed, inleb, width, Role, reference, typeReference, sibling, index, absolute, Piece, copied, linked, pieceBytes}
 use Rattle.readers.specs.Expression.{expressionIn}
 use Rattle.readers.specs.Scan.{Turn, more, stop, Scanned, scan}
 use Rattle.readers.specs.Steps.{operationAt}
@@ -26,15 +26,15 @@ use Rattle.readers.specs.declared.expressions.Yield.the-variants.{Refere
 use Rattle.readers.specs.declared.expressions.References.{References}
 use Rattle.readers.specs.declared.expressions.References.the-variants.{Count, Refused}
 
--- A reference: where its operand stands, the offset that it names, the operand's width.
+-- A reference: where its operand stands, the offset that it names, how the operand is written.
 abbrev pub Named : Type 0
-Named = ℕ × ℕ × ℕ
+Named = ℕ × ℕ × Encoded
 
 -- Operands of call2, call4 and GNU_parameter_ref, and, where not zero, of the type operations.
 unfoldable pub nameIn : ℕ → Piece → List Named
 nameIn at (copied l) = []
-nameIn at (linked e reference v) = (at, v, width e) ∷ []
-nameIn at (linked e typeReference v) = pick (eqb v 0) [] ((at, v, width e) ∷ [])
+nameIn at (linked e reference v) = (at, v, e) ∷ []
+nameIn at (linked e typeReference v) = pick (eqb v 0) [] ((at, v, e) ∷ [])
 nameIn at (linked e sibling v) = []
 nameIn at (linked e (index k) v) = []
 nameIn at (linked e absolute v) = []
@@ -68,17 +68,18 @@ walkOf e s = asWalk (e .«big_endian») (expressionIn e s)
 
 -- ---- one reference after the other: operation by operation, going on inside an entry value
 
-unfoldable pub named : Field → Cursor → Yield
-named f c = Yielded (record { place = f .start; target = record { 0 = f .value }; width = f .end - f .start; next = c })
+-- the entry that an operand names; b: whether the operand is a ULEB128 number
+unfoldable pub named : Field → Bool → Cursor → Yield
+named f b c = Yielded (record { place = f .start; target = record { 0 = f .value }; leb = b; width = f .end - f .start; next = c })
 
 unfoldable pub namedType : Field → Cursor → Yield
-namedType f c = pick (eqb (f .value) 0) End (named f c)
+namedType f c = pick (eqb (f .value) 0) End (named f true c)
 
 -- by the rows of Operations.antt: 12 and 13 name an entry, 14 and 17 a type by their first operand, 15 and 16 by their second
 unfoldable pub referenceOf : Operation → Yield
 referenceOf op =
     pick (ltb (op .row) 12) End
-    (pick (leb (op .row) 13) (named (op .first) (op .next))
+    (pick (leb (op .row) 13) (named (op .first) false (op .next))
     (pick (eqb (op .row) 14) (namedType (op .first) (op .next))
     (pick (leb (op .row) 16) (namedType (op .second) (op .next))
     (pick (eqb (op .row) 17) (namedType (op .first) (op .next))
@@ -113,8 +114,13 @@ nextReference e s at = yielded (scan (length s) (walkTurn e s) at)
 
 -- ---- all of them: at each operation its own references, going on inside an entry value
 
+-- how an operand of n bytes is written: true for a ULEB128 number
+unfoldable pub encodedBy : Bool → ℕ → Encoded
+encodedBy true n = inleb (n - 1)
+encodedBy false n = infixed n
+
 unfoldable pub namesOf : Yield → List Named
-namesOf (Yielded r) = (r .place, r .target .0, r .width) ∷ []
+namesOf (Yielded r) = (r .place, r .target .0, encodedBy (r .leb) (r .width)) ∷ []
 namesOf End = []
 
 unfoldable pub flatOperation : OperationRead → Turn (List Named) (Unit {0})
@@ -146,9 +152,10 @@ walkAnswer room (Walked n false) = pick (leb n room) (Count n) (Refused 11)
 unfoldable pub referencesAnswer : ℕ → ℕ → List ℕ → References
 referencesAnswer n numbers s = pick (eqb n 4 or eqb n 8) (walkAnswer (numbers / 3) (walkOf (encodingOf n) s)) (Refused 2)
 
+-- three numbers each: the place, the offset, the width in bytes
 unfoldable pub numbersOf : List Named → List ℕ
 numbersOf [] = []
-numbersOf (r ∷ rs) = r .0 ∷ r .1 ∷ r .2 ∷ numbersOf rs
+numbersOf (r ∷ rs) = r .0 ∷ r .1 ∷ width (r .2) ∷ numbersOf rs
 
 -- a cleared table with room for the references, of which there are n
 pub record Room (rs : List Named) (table : List ℕ) (n : ℕ) : Type 0 where

@@ -21,10 +21,12 @@ pub enum Walk {
     Unreadable,
 }
 
-// A reference of an expression: where its operand stands, the offset that it names, how many bytes the operand has, and where the walk goes on.
+// A reference of an expression: where its operand stands, the offset that it names, how its operand is written (`leb`: as a ULEB128 number) and in how
+// many bytes, and where the walk goes on.
 pub struct Reference {
     pub place: usize,
     pub target: UnitOffset,
+    pub leb: bool,
     pub width: usize,
     pub next: Cursor,
 }
@@ -47,12 +49,13 @@ fn width(f: Field) -> usize
     if f.start <= f.end { f.end - f.start } else { 0 }
 }
 
-fn named(f: Field, next: Cursor) -> Yield
-    ensures { λ r. ⌜ r ≡ named f next ⌝ }
+fn named(f: Field, leb: bool, next: Cursor) -> Yield
+    ensures { λ r. ⌜ r ≡ named f leb next ⌝ }
 {
     Yield::Reference(Reference {
         place: f.start,
         target: UnitOffset(f.value),
+        leb,
         width: width(f),
         next,
     })
@@ -65,7 +68,7 @@ fn named_type(f: Field, next: Cursor) -> Yield
     if f.value == 0 {
         Yield::End
     } else {
-        named(f, next)
+        named(f, true, next)
     }
 }
 
@@ -81,7 +84,7 @@ fn reference_of(op: Operation) -> Yield
         return Yield::End;
     }
     if row <= 13 {
-        return named(first, next);
+        return named(first, false, next);
     }
     if row == 14 {
         return named_type(first, next);

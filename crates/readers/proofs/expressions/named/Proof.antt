@@ -7,7 +7,7 @@ width-requires : tie.Need-width-requires
 width-requires c κs = search needs
 
 returns : tie.Need-returns
-returns c = named-is _ _ _ (c .width .ensures)
+returns c = named-is _ _ _ _ (c .width .ensures)
 
 pub named-spec : {M : Type 1} → statement M
 named-spec = tie.close (tie.spec width-requires returns)
