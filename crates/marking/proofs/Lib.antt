@@ -20,3 +20,11 @@ pub mod Passes
 pub mod Settled
 pub mod Starts
 pub mod Answers
+pub mod Places
+pub mod EntryAnswers
+pub mod Stages
+pub mod UnitAnalyses
+pub mod Rows
+pub mod Searches
+pub mod Pairs
+pub mod Columned

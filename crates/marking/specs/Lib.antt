@@ -12,3 +12,6 @@ pub mod Markings
 pub mod Marks
 pub mod Passes
 pub mod Examples
+pub mod Analysis
+pub mod Columns
+pub mod Resolution

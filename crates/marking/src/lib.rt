@@ -1,6 +1,9 @@
-// Which entries of a unit survive: addresses, the root test, references, and marking.
+// Which entries of a unit survive: addresses, the root test, references, the analysis of a unit, and marking.
 pub mod addresses;
+pub mod analysis;
+pub mod columns;
 pub mod marks;
 pub mod references;
 pub mod root_test;
 pub mod roots;
+pub mod units;

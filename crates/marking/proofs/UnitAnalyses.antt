@@ -1,0 +1,324 @@
+-- The first unit of a section: its header, its declarations, then its entries; what the columns and the index hold in each case. Assumes nothing.
+use mathlib.Core.Path.{_≡_, refl, ap, ap₂, sym, _∙_, subst}
+use Prim.Native.Nat.{ℕ, zero, suc, _+_, _-_, _≤_, _<_}
+use mathlib.Core.Bool.{Bool, false}
+use mathlib.Core.Option.{Option, none, some}
+use mathlib.Core.List.{List, [], _∷_}
+use native.Mathlib.Omega.{arith}
+use lib.ListN.{length, take, length-replicate}
+use lib.Dec.{leb, eqb}
+use mir.Facts.{leb-yes, leb-no}
+use Rattle.readers.specs.Choice.{pick-either, _or_, zeros}
+use Rattle.readers.specs.Cursors.{fixedAt}
+use Rattle.readers.specs.Header.{present, right, headerMade, headerFields, headerOf}
+use Rattle.readers.specs.Abbreviations.{Placed, abbreviationsOf, asChecked, checkedOf, indexFor, indexOf}
+use Rattle.readers.specs.declared.abbreviations.Checked.the-variants.{Accepted, Refused as Undeclared}
+use Rattle.readers.specs.declared.cursor.Number.{Number}
+use Rattle.readers.specs.declared.cursor.Number.the-variants.{Value, Unreadable}
+use Rattle.readers.specs.declared.header.UnitHeader.{UnitHeader}
+use Rattle.readers.specs.declared.header.HeaderRead.{HeaderRead}
+use Rattle.readers.specs.declared.header.HeaderRead.the-variants.{Unit as Unit′, Empty, Refused as Unheaded}
+use Rattle.readers.proofs.Declarations.{length-indexed}
+use Rattle.marking.specs.Analysis.{Sections, Rooms, rooms, Row, Analysed, analysed, refused, onDeclared, unitAnalysed, headerAnalysed, analysisOf}
+use Rattle.marking.specs.Columns.{offsetsIn, parentsIn, rootsIn, namesIn, endsIn, padTo, column, Left, Outcome, Ready, least, roomsOf, indexAfter, answerOf}
+use Rattle.marking.specs.declared.analysis.Analysis.{Analysis}
+use Rattle.marking.specs.declared.analysis.Analysis.the-variants.{Entries, Refused as Refused′}
+
+-- ---- columns that are left, and columns that are cleared
+
+left-column : (f : List Row → List ℕ) (n k m : ℕ) (w : Analysed) (col : List ℕ) → Entries k m ≡ answerOf w → Left f n w col → col ≡ column f n w
+unfolding answerOf Left column
+left-column f n k m (analysed rows) col q h = h
+left-column f n k m (refused j) col q h = let z : _≡_ {A = ℕ} 0 1 = cc in absurd (omega arith)
+
+left-zeros : (f : List Row → List ℕ) (n k : ℕ) (w : Analysed) (col cleared : List ℕ) → Refused′ k ≡ answerOf w → Left f n w col → cleared ≡ zeros (length col) → cleared ≡ column f n w
+unfolding answerOf Left column
+left-zeros f n k (analysed rows) col cleared q h e = let z : _≡_ {A = ℕ} 0 1 = cc in absurd (omega arith)
+left-zeros f n k (refused j) col cleared q h e = e ∙ ap zeros h
+
+column-refused : (f : List Row → List ℕ) (n k : ℕ) (w : Analysed) (col : List ℕ) → w ≡ refused k → col ≡ zeros n → col ≡ column f n w
+unfolding column
+column-refused f n k w col e h = h ∙ sym (ap (column f n) e)
+
+column-none : (f : List Row → List ℕ) (n : ℕ) (w : Analysed) (col : List ℕ) → f [] ≡ [] → w ≡ analysed [] → col ≡ zeros n → col ≡ column f n w
+unfolding column padTo
+column-none f n w col z e h =
+    h ∙ ap zeros (let k : n ≡ n - 0 = omega arith in k) ∙ sym (ap (λ (l : List ℕ). padTo n l) z) ∙ sym (ap (column f n) e)
+
+-- an answer with the columns that stand beside it
+abbrev Filled′ : Analysed → ℕ → ℕ → ℕ → ℕ → ℕ → List ℕ → List ℕ → List ℕ → List ℕ → List ℕ → Type 0
+Filled′ w nf np nr ne nt offsets parents roots ends targets =
+    (offsets ≡ column offsetsIn nf w) × ((parents ≡ column parentsIn np w) × ((roots ≡ column rootsIn nr w) × ((ends ≡ column (endsIn 0) ne w) × (targets ≡ column namesIn nt w))))
+
+-- ---- a unit
+
+pub ready-in : {abbreviations index : List ℕ} {from : ℕ} {unit unit′ : List ℕ} {n m : ℕ} {offsets parents roots ends targets : List ℕ}
+    → unit′ ≡ unit → Ready abbreviations index from unit n m offsets parents roots ends targets → Ready abbreviations index from unit′ n m offsets parents roots ends targets
+ready-in {abbreviations} {index} {from} {unit} {unit′} {n} {m} {offsets} {parents} {roots} {ends} {targets} e h =
+    subst (λ (u : List ℕ). Ready abbreviations index from u n m offsets parents roots ends targets) (sym e) h
+
+module _ {w w′ : Analysed} {offsets₀ parents₀ roots₀ ends₀ targets₀ offsets parents roots ends targets : List ℕ} (same : w ≡ w′)
+    (h : Outcome w offsets₀ parents₀ roots₀ ends₀ targets₀ offsets parents roots ends targets) where
+  pub unit-found : (k m : ℕ) → Entries k m ≡ answerOf w
+      → (Entries k m ≡ answerOf w′) × Filled′ w′ (length offsets₀) (length parents₀) (length roots₀) (length ends₀) (length targets₀) offsets parents roots ends targets
+  unit-found k m q = (
+    q ∙ ap answerOf same,
+    (
+      left-column offsetsIn _ k m w offsets q (h .offsets-left) ∙ ap (column offsetsIn (length offsets₀)) same,
+      (
+        left-column parentsIn _ k m w parents q (h .parents-left) ∙ ap (column parentsIn (length parents₀)) same,
+        (
+          left-column rootsIn _ k m w roots q (h .roots-left) ∙ ap (column rootsIn (length roots₀)) same,
+          (
+            left-column (endsIn 0) _ k m w ends q (h .ends-left) ∙ ap (column (endsIn 0) (length ends₀)) same,
+            left-column namesIn _ k m w targets q (h .targets-left) ∙ ap (column namesIn (length targets₀)) same,
+          ),
+        ),
+      ),
+    ),
+  )
+
+  pub unit-refused : (k : ℕ) → Refused′ k ≡ answerOf w → (offsets′ parents′ roots′ ends′ targets′ : List ℕ)
+      → (offsets′ ≡ zeros (length offsets)) × ((parents′ ≡ zeros (length parents)) × ((roots′ ≡ zeros (length roots)) × ((ends′ ≡ zeros (length ends)) × (targets′ ≡ zeros (length targets)))))
+      → (Refused′ k ≡ answerOf w′) × Filled′ w′ (length offsets₀) (length parents₀) (length roots₀) (length ends₀) (length targets₀) offsets′ parents′ roots′ ends′ targets′
+  unit-refused k q offsets′ parents′ roots′ ends′ targets′ c = (
+    q ∙ ap answerOf same,
+    (
+      left-zeros offsetsIn _ k w offsets offsets′ q (h .offsets-left) (c .0) ∙ ap (column offsetsIn (length offsets₀)) same,
+      (
+        left-zeros parentsIn _ k w parents parents′ q (h .parents-left) (c .1 .0) ∙ ap (column parentsIn (length parents₀)) same,
+        (
+          left-zeros rootsIn _ k w roots roots′ q (h .roots-left) (c .1 .1 .0) ∙ ap (column rootsIn (length roots₀)) same,
+          (
+            left-zeros (endsIn 0) _ k w ends ends′ q (h .ends-left) (c .1 .1 .1 .0) ∙ ap (column (endsIn 0) (length ends₀)) same,
+            left-zeros namesIn _ k w targets targets′ q (h .targets-left) (c .1 .1 .1 .1) ∙ ap (column namesIn (length targets₀)) same,
+          ),
+        ),
+      ),
+    ),
+  )
+
+-- ---- a unit's end is below 0xffffffff
+
+unfoldable Small : HeaderRead → Type 0
+Small (Unit′ h) = h .end < 0xffffffff
+Small Empty = Unit {0}
+Small (Unheaded n) = Unit {0}
+
+small-present : (n : Number) (k : ℕ → HeaderRead) → ((v : ℕ) → Small (k v)) → Small (present n k)
+unfolding present Small
+small-present (Value v c) k h = h v
+small-present Unreadable k h = tt
+
+small-right : (b : Bool) (r : HeaderRead) → Small r → Small (right b r)
+unfolding right Small
+small-right b r h = pick-either Small b r (Unheaded 2) (λ _. h) (λ _. tt)
+
+small-made : (u : List ℕ) (t a b first : ℕ) → length u < 0xffffffff → Small (headerMade u t a b first)
+unfolding headerMade Small
+small-made u t a b first h = h
+
+small-fields : (u : List ℕ) → length u < 0xffffffff → Small (headerFields u)
+unfolding headerFields
+small-fields u h =
+    small-present (fixedAt false 2 u 4) _ (λ version. small-right (eqb version 5) _
+    (small-present (fixedAt false 1 u 6) _ (λ unitType. small-right (eqb unitType 1 or eqb unitType 5) _
+    (small-present (fixedAt false 1 u 7) _ (λ addressSize. small-right (eqb addressSize 4 or eqb addressSize 8) _
+    (small-present (fixedAt false 4 u 8) _ (λ abbreviations.
+    pick-either Small (eqb unitType 1) _ _
+    (λ _. small-made u unitType addressSize abbreviations 12 h)
+    (λ _. small-present (fixedAt false 8 u 12) _ (λ _. small-made u unitType addressSize abbreviations 20 h)))))))))
+
+take-most : (n : ℕ) (l : List ℕ) → length (take n l) ≤ n
+take-most zero l = omega arith
+take-most (suc n) [] = omega arith
+take-most (suc n) (a ∷ l) = let k : length (take n l) ≤ n = take-most n l in omega arith
+
+small-header : (s : List ℕ) → Small (headerOf s)
+unfolding headerOf Small
+small-header s =
+    pick-either Small (eqb (length s) 0) _ _ (λ _. tt) (λ _.
+    small-present (fixedAt false 4 s 0) _ (λ n.
+    pick-either Small (leb 0xfffffff0 n) _ _ (λ _. tt) (λ t.
+    let l : n < 0xfffffff0 = leb-no {a = 0xfffffff0} {b = n} t in
+    pick-either Small (leb n (length s - 4)) _ _ (λ _. small-fields (take (4 + n) s) (let k : length (take (4 + n) s) ≤ 4 + n = take-most (4 + n) s in omega arith)) (λ _. tt))))
+
+small-unit : (s : List ℕ) (h : UnitHeader) → headerOf s ≡ Unit′ h → length (take (h .end) s) < 0xffffffff
+unfolding Small
+small-unit s h e =
+    let k : h .end < 0xffffffff = subst Small e (small-header s) in
+    let l : length (take (h .end) s) ≤ h .end = take-most (h .end) s in
+    omega arith
+
+-- ---- rooms
+
+least-left : (a b : ℕ) → least a b ≤ a
+unfolding least
+least-left a b = pick-either (λ (n : ℕ). n ≤ a) (leb a b) a b (λ _. omega arith) (λ t. let k : b < a = leb-no {a = a} {b = b} t in omega arith)
+
+least-right : (a b : ℕ) → least a b ≤ b
+unfolding least
+least-right a b = pick-either (λ (n : ℕ). n ≤ b) (leb a b) a b (λ t. leb-yes {a = a} {b = b} t) (λ _. omega arith)
+
+-- the room of the entries by the columns' lengths, and that of the references
+pub record Room (entries references nf np nr ne nt : ℕ) (r₁ r₂ r₃ n m : ℕ) : Type 0 where
+  pub front : r₁ ≡ least nf np
+  pub back : r₂ ≡ least nr ne
+  pub columns : r₃ ≡ least r₁ r₂
+  pub rows : n ≡ least entries r₃
+  pub names : m ≡ least references nt
+
+pub rooms-by : {entries references nf np nr ne nt nf′ np′ nr′ ne′ nt′ r₁ r₂ r₃ n m : ℕ} → Room entries references nf′ np′ nr′ ne′ nt′ r₁ r₂ r₃ n m
+    → nf′ ≡ nf → np′ ≡ np → nr′ ≡ nr → ne′ ≡ ne → nt′ ≡ nt → rooms n m ≡ roomsOf entries references nf np nr ne nt
+unfolding roomsOf
+rooms-by {entries} {references} h a b c d t =
+    ap₂ (λ (i j : ℕ). rooms i j) (h .rows ∙ ap (least entries) (h .columns ∙ ap₂ least (h .front ∙ ap₂ least a b) (h .back ∙ ap₂ least c d))) (h .names ∙ ap (least references) t)
+
+length-for : (n : ℕ) (o : Option (List Placed)) → length (indexFor n o) ≡ n
+unfolding indexFor
+length-for n none = length-replicate n 0
+length-for n (some ds) = length-indexed (zeros n) ds ∙ length-replicate n 0
+
+length-index : (s : List ℕ) (from n : ℕ) → length (indexOf s from n) ≡ n
+unfolding indexOf
+length-index s from n = length-for n (abbreviationsOf s from)
+
+zeros-own : (n : ℕ) (col : List ℕ) → col ≡ zeros n → col ≡ zeros (length col)
+zeros-own n col e = e ∙ ap zeros (sym (length-replicate n 0) ∙ sym (ap length e))
+
+-- what was cleared
+abbrev Clear : ℕ → ℕ → ℕ → ℕ → ℕ → List ℕ → List ℕ → List ℕ → List ℕ → List ℕ → Type 0
+Clear nf np nr ne nt offsets parents roots ends targets = (offsets ≡ zeros nf) × ((parents ≡ zeros np) × ((roots ≡ zeros nr) × ((ends ≡ zeros ne) × (targets ≡ zeros nt))))
+
+pub unit-ready : (abbreviations index section : List ℕ) (h : UnitHeader) (k : ℕ) {entries references r₁ r₂ r₃ n m : ℕ} (nf np nr ne nt : ℕ) (offsets parents roots ends targets : List ℕ)
+    → headerOf section ≡ Unit′ h → checkedOf abbreviations (h .abbreviations) ≡ Accepted → index ≡ indexOf abbreviations (h .abbreviations) k
+    → Room entries references (length offsets) (length parents) (length roots) (length ends) (length targets) r₁ r₂ r₃ n m
+    → Clear nf np nr ne nt offsets parents roots ends targets
+    → Ready abbreviations index (h .abbreviations) (take (h .end) section) n m offsets parents roots ends targets
+unit-ready abbreviations index section h k {entries} {references} {r₁} {r₂} {r₃} {n} {m} nf np nr ne nt offsets parents roots ends targets u a i r c =
+    let e₁ : r₁ ≡ least (length offsets) (length parents) = r .front in
+    let e₂ : r₂ ≡ least (length roots) (length ends) = r .back in
+    let e₃ : r₃ ≡ least r₁ r₂ = r .columns in
+    let e₄ : n ≡ least entries r₃ = r .rows in
+    let e₅ : m ≡ least references (length targets) = r .names in
+    let l₁ : least entries r₃ ≤ r₃ = least-right entries r₃ in
+    let l₂ : least r₁ r₂ ≤ r₁ = least-left r₁ r₂ in
+    let l₃ : least r₁ r₂ ≤ r₂ = least-right r₁ r₂ in
+    record {
+      accepted = a;
+      indexed = i ∙ ap (indexOf abbreviations (h .abbreviations)) (sym (length-index abbreviations (h .abbreviations) k) ∙ sym (ap length i));
+      small = small-unit section h u;
+      offsets-room = omega (arith, least-left (length offsets) (length parents));
+      parents-room = omega (arith, least-right (length offsets) (length parents));
+      roots-room = omega (arith, least-left (length roots) (length ends));
+      ends-room = omega (arith, least-right (length roots) (length ends));
+      targets-room = omega (arith, least-right references (length targets));
+      offsets-clear = zeros-own nf offsets (c .0);
+      parents-clear = zeros-own np parents (c .1 .0);
+      roots-clear = zeros-own nr roots (c .1 .1 .0);
+      ends-clear = zeros-own ne ends (c .1 .1 .1 .0);
+      targets-clear = zeros-own nt targets (c .1 .1 .1 .1);
+    }
+
+-- ---- the section
+
+module _ (x : Sections) (section : List ℕ) (room : Rooms) (k nf np nr ne nt : ℕ) (index offsets parents roots ends targets : List ℕ) where
+  abbrev Answered : Analysis → Type 0
+  Answered r =
+      (r ≡ answerOf (analysisOf x section room)) × ((index ≡ indexAfter (x .abbreviations) (headerOf section) k) × Filled′ (analysisOf x section room) nf np nr ne nt offsets parents roots ends targets)
+
+  analysis-by : (r : HeaderRead) → headerOf section ≡ r → analysisOf x section room ≡ headerAnalysed x section room r
+  unfolding analysisOf
+  analysis-by r e = ap (headerAnalysed x section room) e
+
+  index-by : (r : HeaderRead) → headerOf section ≡ r → indexAfter (x .abbreviations) (headerOf section) k ≡ indexAfter (x .abbreviations) r k
+  index-by r e = ap (λ (q : HeaderRead). indexAfter (x .abbreviations) q k) e
+
+  refused-columns : (n : ℕ) → analysisOf x section room ≡ refused n → Clear nf np nr ne nt offsets parents roots ends targets
+      → Filled′ (analysisOf x section room) nf np nr ne nt offsets parents roots ends targets
+  refused-columns n w c = (
+    column-refused offsetsIn nf n _ offsets w (c .0),
+    (
+      column-refused parentsIn np n _ parents w (c .1 .0),
+      (
+        column-refused rootsIn nr n _ roots w (c .1 .1 .0),
+        (
+          column-refused (endsIn 0) ne n _ ends w (c .1 .1 .1 .0),
+          column-refused namesIn nt n _ targets w (c .1 .1 .1 .1),
+        ),
+      ),
+    ),
+  )
+
+  module _ (c : Clear nf np nr ne nt offsets parents roots ends targets) where
+    pub section-empty : headerOf section ≡ Empty → index ≡ zeros k → Answered (Entries 0 0)
+    unfolding headerAnalysed indexAfter answerOf offsetsIn parentsIn rootsIn endsIn namesIn
+    section-empty e i =
+        let w : analysisOf x section room ≡ analysed [] = analysis-by Empty e in (
+          sym (ap answerOf w),
+          (
+            i ∙ sym (index-by Empty e),
+            (
+              column-none offsetsIn nf _ offsets refl w (c .0),
+              (
+                column-none parentsIn np _ parents refl w (c .1 .0),
+                (
+                  column-none rootsIn nr _ roots refl w (c .1 .1 .0),
+                  (
+                    column-none (endsIn 0) ne _ ends refl w (c .1 .1 .1 .0),
+                    column-none namesIn nt _ targets refl w (c .1 .1 .1 .1),
+                  ),
+                ),
+              ),
+            ),
+          ),
+        )
+
+    pub section-refused : (n : ℕ) → headerOf section ≡ Unheaded n → index ≡ zeros k → Answered (Refused′ n)
+    unfolding headerAnalysed indexAfter answerOf
+    section-refused n e i =
+        let w : analysisOf x section room ≡ refused n = analysis-by (Unheaded n) e in
+        (sym (ap answerOf w), (i ∙ sym (index-by (Unheaded n) e), refused-columns n w c))
+
+  module _ (h : UnitHeader) (e : headerOf section ≡ Unit′ h) (k′ : ℕ) (i : index ≡ indexOf (x .abbreviations) (h .abbreviations) k′) (same : k′ ≡ k) where
+    unit-index : index ≡ indexAfter (x .abbreviations) (headerOf section) k
+    unfolding indexAfter
+    unit-index = i ∙ ap (indexOf (x .abbreviations) (h .abbreviations)) same ∙ sym (index-by (Unit′ h) e)
+
+    undeclared : (o : Option (List Placed)) → asChecked o ≡ Undeclared → (f : List Placed → Analysed) → onDeclared o f ≡ refused 3
+    unfolding asChecked onDeclared
+    undeclared none q f = refl
+    undeclared (some ds) q f = let z : _≡_ {A = ℕ} 0 1 = cc in absurd (omega arith)
+
+    pub section-undeclared : Clear nf np nr ne nt offsets parents roots ends targets → checkedOf (x .abbreviations) (h .abbreviations) ≡ Undeclared → Answered (Refused′ 3)
+    unfolding headerAnalysed unitAnalysed checkedOf answerOf
+    section-undeclared c q =
+        let w : analysisOf x section room ≡ refused 3 = analysis-by (Unit′ h) e ∙ undeclared (abbreviationsOf (x .abbreviations) (h .abbreviations)) q _ in
+        (sym (ap answerOf w), (unit-index, refused-columns 3 w c))
+
+    pub section-unit : (room′ : Rooms) (nf′ np′ nr′ ne′ nt′ : ℕ) (r : Analysis) → room′ ≡ room → nf′ ≡ nf → np′ ≡ np → nr′ ≡ nr → ne′ ≡ ne → nt′ ≡ nt
+        → (r ≡ answerOf (unitAnalysed (h .encoding) x (take (h .end) section) room′ (h .abbreviations) (h .first .0)))
+        × Filled′ (unitAnalysed (h .encoding) x (take (h .end) section) room′ (h .abbreviations) (h .first .0)) nf′ np′ nr′ ne′ nt′ offsets parents roots ends targets
+        → Answered r
+    unfolding headerAnalysed
+    section-unit room′ nf′ np′ nr′ ne′ nt′ r m o p q s t f =
+        let w : unitAnalysed (h .encoding) x (take (h .end) section) room′ (h .abbreviations) (h .first .0) ≡ analysisOf x section room =
+        ap (λ (n : Rooms). unitAnalysed (h .encoding) x (take (h .end) section) n (h .abbreviations) (h .first .0)) m ∙ sym (analysis-by (Unit′ h) e) in (
+          f .0 ∙ ap answerOf w,
+          (
+            unit-index,
+            (
+              f .1 .0 ∙ ap₂ (column offsetsIn) o w,
+              (
+                f .1 .1 .0 ∙ ap₂ (column parentsIn) p w,
+                (
+                  f .1 .1 .1 .0 ∙ ap₂ (column rootsIn) q w,
+                  (
+                    f .1 .1 .1 .1 .0 ∙ ap₂ (column (endsIn 0)) s w,
+                    f .1 .1 .1 .1 .1 ∙ ap₂ (column namesIn) t w,
+                  ),
+                ),
+              ),
+            ),
+          ),
+        )

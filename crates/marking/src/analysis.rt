@@ -1,0 +1,372 @@
+// The analysis of a unit: entry by entry, its roots and references, into lent columns.
+ghost use mathlib.Core.Path.{_≡_};
+ghost use lib.ListN.{length, take};
+ghost use Rattle.readers.specs.Choice.{zeros};
+ghost use Rattle.readers.specs.Header.{headerOf};
+ghost use Rattle.marking.specs.Analysis.{sections, rooms, rootOf, namesOf, unitAnalysed, analysisOf};
+ghost use Rattle.marking.specs.Columns.{offsetsIn, parentsIn, rootsIn, endsIn, namesIn, column, least, roomsOf, indexAfter, Ready, Outcome, answerOf, entryAnswer, entryTable};
+use crate::columns::clear_bytes;
+use crate::columns::clear_indexes;
+use crate::references::Scanned;
+use crate::references::scan;
+use crate::root_test::base_after;
+use crate::root_test::is_root;
+use crate::roots::Verdict;
+use readers::abbreviations::Checked;
+use readers::abbreviations::check_abbreviations;
+use readers::cursor::Cursor;
+use readers::cursor::Encoding;
+use readers::entries::Entry;
+use readers::entries::Nesting;
+use readers::entries::Step;
+use readers::header::HeaderRead;
+use readers::header::UnitHeader;
+use readers::header::unit_header;
+use readers::header::unit_part;
+use readers::offsets::EntryIndex;
+use readers::tables::clear;
+
+// What is found of an entry: 1 for a root, else 0, and the place past its references in the table; or the number of a refusal.
+pub enum EntryAnalysis {
+    Found { root: u8, to: usize },
+    Refused(u8),
+}
+
+// What an analysis answers: how many entries and references there are, or the number of a refusal.
+pub enum Analysis {
+    Entries { entries: usize, references: usize },
+    Refused(u8),
+}
+
+// The root test of an entry, then its references.
+pub fn analyse_entry(
+    unit: &[u8],
+    abbreviations: &[u8],
+    x: Entry,
+    locations: &[u8],
+    ranges: &[u8],
+    addresses: &[u8],
+    ranges_base: u64,
+    rnglists_base: u64,
+    loclists_base: u64,
+    e: Encoding,
+    targets: &mut [u64],
+    at: usize,
+) -> EntryAnalysis
+    ensures answer { λ r. ⌜ r ≡ entryAnswer (length (now (targets .entry))) at (rootOf e (sections (now (abbreviations .entry)) (now (locations .entry)) (now (ranges .entry)) (now (addresses .entry)) «ranges_base») (now (unit .entry)) «rnglists_base» x) (namesOf e (sections (now (abbreviations .entry)) (now (locations .entry)) (now (ranges .entry)) (now (addresses .entry)) «ranges_base») (now (unit .entry)) «loclists_base» x) ⌝ }
+    ensures table { λ _. ⌜ now (targets .exit) ≡ entryTable (now (targets .entry)) at (rootOf e (sections (now (abbreviations .entry)) (now (locations .entry)) (now (ranges .entry)) (now (addresses .entry)) «ranges_base») (now (unit .entry)) «rnglists_base» x) (namesOf e (sections (now (abbreviations .entry)) (now (locations .entry)) (now (ranges .entry)) (now (addresses .entry)) «ranges_base») (now (unit .entry)) «loclists_base» x) ⌝ }
+{
+    let declaration = x.declaration;
+    let specs = declaration.attributes;
+    let values = x.values;
+    let mut root = 0u8;
+    match is_root(
+        unit,
+        abbreviations,
+        specs,
+        values,
+        declaration.tag,
+        ranges,
+        addresses,
+        ranges_base,
+        rnglists_base,
+        e,
+    ) {
+        Verdict::Live => {
+            root = 1;
+        }
+        Verdict::Dead => {}
+        Verdict::Refused(n) => {
+            return EntryAnalysis::Refused(n);
+        }
+    }
+    match scan(
+        unit,
+        abbreviations,
+        specs,
+        values,
+        locations,
+        loclists_base,
+        e,
+        targets,
+        at,
+    ) {
+        Scanned::To(to) => EntryAnalysis::Found { root, to },
+        Scanned::Refused(n) => EntryAnalysis::Refused(n),
+    }
+}
+
+// Entry by entry into cleared columns, with room for so many entries and references.
+fn analyse_entries(
+    unit: &[u8],
+    abbreviations: &[u8],
+    from: u64,
+    index: &[u64],
+    first: Cursor,
+    e: Encoding,
+    locations: &[u8],
+    ranges: &[u8],
+    addresses: &[u8],
+    ranges_base: u64,
+    entry_room: usize,
+    reference_room: usize,
+    offsets: &mut [u64],
+    parents: &mut [u32],
+    roots: &mut [u8],
+    ends: &mut [u64],
+    targets: &mut [u64],
+) -> Analysis
+    requires { ⌜ Ready (now abbreviations) (now index) from (now unit) «entry_room» «reference_room» (now offsets) (now parents) (now roots) (now ends) (now targets) ⌝ }
+    ensures answer { λ r. ⌜ r ≡ answerOf (unitAnalysed e (sections (now (abbreviations .entry)) (now (locations .entry)) (now (ranges .entry)) (now (addresses .entry)) «ranges_base») (now (unit .entry)) (rooms «entry_room» «reference_room») from (first .at)) ⌝ }
+    ensures columns { λ _. ⌜ Outcome (unitAnalysed e (sections (now (abbreviations .entry)) (now (locations .entry)) (now (ranges .entry)) (now (addresses .entry)) «ranges_base») (now (unit .entry)) (rooms «entry_room» «reference_room») from (first .at)) (now (offsets .entry)) (now (parents .entry)) (now (roots .entry)) (now (ends .entry)) (now (targets .entry)) (now (offsets .exit)) (now (parents .exit)) (now (roots .exit)) (now (ends .exit)) (now (targets .exit)) ⌝ }
+{
+    let mut at = first.at;
+    let mut count: usize = 0;
+    let mut to: usize = 0;
+    let mut nesting = Nesting::outside();
+    let mut rnglists_base: u64 = 12;
+    let mut loclists_base: u64 = 12;
+    loop {
+        match (Cursor { at }).step(unit, abbreviations, from, index, e) {
+            Step::Entry(x) => {
+                if count >= entry_room {
+                    return Analysis::Refused(10);
+                }
+                let declaration = x.declaration;
+                let specs = declaration.attributes;
+                let offset = x.offset;
+                let next = x.next;
+                let parent = nesting.parent;
+                rnglists_base = base_after(
+                    unit,
+                    abbreviations,
+                    specs,
+                    x.values,
+                    declaration.tag,
+                    0x74,
+                    rnglists_base,
+                    e,
+                );
+                loclists_base = base_after(
+                    unit,
+                    abbreviations,
+                    specs,
+                    x.values,
+                    declaration.tag,
+                    0x8c,
+                    loclists_base,
+                    e,
+                );
+                match analyse_entry(
+                    unit,
+                    abbreviations,
+                    x,
+                    locations,
+                    ranges,
+                    addresses,
+                    ranges_base,
+                    rnglists_base,
+                    loclists_base,
+                    e,
+                    targets,
+                    to,
+                ) {
+                    EntryAnalysis::Refused(n) => {
+                        return Analysis::Refused(n);
+                    }
+                    EntryAnalysis::Found { root, to: place } => {
+                        if place > reference_room {
+                            return Analysis::Refused(11);
+                        }
+                        offsets[count] = offset.0;
+                        parents[count] = parent.0;
+                        roots[count] = root;
+                        ends[count] = place as u64;
+                        nesting = nesting.after_entry(
+                            EntryIndex(count as u32),
+                            declaration.children,
+                        );
+                        count += 1;
+                        to = place;
+                        at = next.at;
+                    }
+                }
+            }
+            Step::Terminator(next) => {
+                nesting = nesting.after_terminator(parents);
+                at = next.at;
+            }
+            Step::End => {
+                return Analysis::Entries {
+                    entries: count,
+                    references: to,
+                };
+            }
+            Step::Unreadable => {
+                return Analysis::Refused(4);
+            }
+        }
+    }
+}
+
+fn least_of(a: usize, b: usize) -> usize
+    ensures { λ r. ⌜ r ≡ least a b ⌝ }
+{
+    if a <= b { a } else { b }
+}
+
+// Makes every column zeros.
+pub fn clear_columns(
+    offsets: &mut [u64],
+    parents: &mut [u32],
+    roots: &mut [u8],
+    ends: &mut [u64],
+    targets: &mut [u64],
+)
+    ensures offsets { λ _. ⌜ now (offsets .exit) ≡ zeros (length (now (offsets .entry))) ⌝ }
+    ensures parents { λ _. ⌜ now (parents .exit) ≡ zeros (length (now (parents .entry))) ⌝ }
+    ensures roots { λ _. ⌜ now (roots .exit) ≡ zeros (length (now (roots .entry))) ⌝ }
+    ensures ends { λ _. ⌜ now (ends .exit) ≡ zeros (length (now (ends .entry))) ⌝ }
+    ensures targets { λ _. ⌜ now (targets .exit) ≡ zeros (length (now (targets .entry))) ⌝ }
+{
+    clear(offsets);
+    clear_indexes(parents);
+    clear_bytes(roots);
+    clear(ends);
+    clear(targets);
+}
+
+// A unit whose declarations were checked, into cleared columns; zeros after a refusal.
+fn analyse_unit(
+    section: &[u8],
+    h: UnitHeader,
+    abbreviations: &[u8],
+    index: &[u64],
+    locations: &[u8],
+    ranges: &[u8],
+    addresses: &[u8],
+    ranges_base: u64,
+    entry_room: usize,
+    reference_room: usize,
+    offsets: &mut [u64],
+    parents: &mut [u32],
+    roots: &mut [u8],
+    ends: &mut [u64],
+    targets: &mut [u64],
+) -> Analysis
+    requires { ⌜ Ready (now abbreviations) (now index) (h .abbreviations) (take (h .end) (now section)) «entry_room» «reference_room» (now offsets) (now parents) (now roots) (now ends) (now targets) ⌝ }
+    ensures answer { λ r. ⌜ r ≡ answerOf (unitAnalysed (h .encoding) (sections (now (abbreviations .entry)) (now (locations .entry)) (now (ranges .entry)) (now (addresses .entry)) «ranges_base») (take (h .end) (now (section .entry))) (rooms «entry_room» «reference_room») (h .abbreviations) (h .first .0)) ⌝ }
+    ensures offsets { λ _. ⌜ now (offsets .exit) ≡ column offsetsIn (length (now (offsets .entry))) (unitAnalysed (h .encoding) (sections (now (abbreviations .entry)) (now (locations .entry)) (now (ranges .entry)) (now (addresses .entry)) «ranges_base») (take (h .end) (now (section .entry))) (rooms «entry_room» «reference_room») (h .abbreviations) (h .first .0)) ⌝ }
+    ensures parents { λ _. ⌜ now (parents .exit) ≡ column parentsIn (length (now (parents .entry))) (unitAnalysed (h .encoding) (sections (now (abbreviations .entry)) (now (locations .entry)) (now (ranges .entry)) (now (addresses .entry)) «ranges_base») (take (h .end) (now (section .entry))) (rooms «entry_room» «reference_room») (h .abbreviations) (h .first .0)) ⌝ }
+    ensures roots { λ _. ⌜ now (roots .exit) ≡ column rootsIn (length (now (roots .entry))) (unitAnalysed (h .encoding) (sections (now (abbreviations .entry)) (now (locations .entry)) (now (ranges .entry)) (now (addresses .entry)) «ranges_base») (take (h .end) (now (section .entry))) (rooms «entry_room» «reference_room») (h .abbreviations) (h .first .0)) ⌝ }
+    ensures ends { λ _. ⌜ now (ends .exit) ≡ column (endsIn 0) (length (now (ends .entry))) (unitAnalysed (h .encoding) (sections (now (abbreviations .entry)) (now (locations .entry)) (now (ranges .entry)) (now (addresses .entry)) «ranges_base») (take (h .end) (now (section .entry))) (rooms «entry_room» «reference_room») (h .abbreviations) (h .first .0)) ⌝ }
+    ensures targets { λ _. ⌜ now (targets .exit) ≡ column namesIn (length (now (targets .entry))) (unitAnalysed (h .encoding) (sections (now (abbreviations .entry)) (now (locations .entry)) (now (ranges .entry)) (now (addresses .entry)) «ranges_base») (take (h .end) (now (section .entry))) (rooms «entry_room» «reference_room») (h .abbreviations) (h .first .0)) ⌝ }
+{
+    let first = h.first;
+    match analyse_entries(
+        unit_part(section, h),
+        abbreviations,
+        h.abbreviations,
+        index,
+        Cursor {
+            at: first.0 as usize,
+        },
+        h.encoding,
+        locations,
+        ranges,
+        addresses,
+        ranges_base,
+        entry_room,
+        reference_room,
+        offsets,
+        parents,
+        roots,
+        ends,
+        targets,
+    ) {
+        Analysis::Entries {
+            entries,
+            references,
+        } => {
+            Analysis::Entries {
+                entries,
+                references,
+            }
+        }
+        Analysis::Refused(n) => {
+            clear_columns(offsets, parents, roots, ends, targets);
+            Analysis::Refused(n)
+        }
+    }
+}
+
+// The analysis of the first unit of a section, into the columns of an entry table (where each entry starts, its parent, 1 for a root or 0, the number of references up
+// to and with its own) and of a reference table (the offsets that are named). At most so many entries and references, and as many as the shortest column has. The
+// index of the declarations is for finding them, and stays filled; its length changes no answer. A refusal leaves zeros in the columns: 1 and 2 of the header, 3 of
+// the abbreviations, then entry by entry 4, 10, 5 or 6, 5 or 7, 11.
+pub fn analyse(
+    section: &[u8],
+    abbreviations: &[u8],
+    locations: &[u8],
+    ranges: &[u8],
+    addresses: &[u8],
+    ranges_base: u64,
+    entries: usize,
+    references: usize,
+    index: &mut [u64],
+    offsets: &mut [u64],
+    parents: &mut [u32],
+    roots: &mut [u8],
+    ends: &mut [u64],
+    targets: &mut [u64],
+) -> Analysis
+    ensures answer { λ r. ⌜ r ≡ answerOf (analysisOf (sections (now (abbreviations .entry)) (now (locations .entry)) (now (ranges .entry)) (now (addresses .entry)) «ranges_base») (now (section .entry)) (roomsOf entries references (length (now (offsets .entry))) (length (now (parents .entry))) (length (now (roots .entry))) (length (now (ends .entry))) (length (now (targets .entry))))) ⌝ }
+    ensures index { λ _. ⌜ now (index .exit) ≡ indexAfter (now (abbreviations .entry)) (headerOf (now (section .entry))) (length (now (index .entry))) ⌝ }
+    ensures offsets { λ _. ⌜ now (offsets .exit) ≡ column offsetsIn (length (now (offsets .entry))) (analysisOf (sections (now (abbreviations .entry)) (now (locations .entry)) (now (ranges .entry)) (now (addresses .entry)) «ranges_base») (now (section .entry)) (roomsOf entries references (length (now (offsets .entry))) (length (now (parents .entry))) (length (now (roots .entry))) (length (now (ends .entry))) (length (now (targets .entry))))) ⌝ }
+    ensures parents { λ _. ⌜ now (parents .exit) ≡ column parentsIn (length (now (parents .entry))) (analysisOf (sections (now (abbreviations .entry)) (now (locations .entry)) (now (ranges .entry)) (now (addresses .entry)) «ranges_base») (now (section .entry)) (roomsOf entries references (length (now (offsets .entry))) (length (now (parents .entry))) (length (now (roots .entry))) (length (now (ends .entry))) (length (now (targets .entry))))) ⌝ }
+    ensures roots { λ _. ⌜ now (roots .exit) ≡ column rootsIn (length (now (roots .entry))) (analysisOf (sections (now (abbreviations .entry)) (now (locations .entry)) (now (ranges .entry)) (now (addresses .entry)) «ranges_base») (now (section .entry)) (roomsOf entries references (length (now (offsets .entry))) (length (now (parents .entry))) (length (now (roots .entry))) (length (now (ends .entry))) (length (now (targets .entry))))) ⌝ }
+    ensures ends { λ _. ⌜ now (ends .exit) ≡ column (endsIn 0) (length (now (ends .entry))) (analysisOf (sections (now (abbreviations .entry)) (now (locations .entry)) (now (ranges .entry)) (now (addresses .entry)) «ranges_base») (now (section .entry)) (roomsOf entries references (length (now (offsets .entry))) (length (now (parents .entry))) (length (now (roots .entry))) (length (now (ends .entry))) (length (now (targets .entry))))) ⌝ }
+    ensures targets { λ _. ⌜ now (targets .exit) ≡ column namesIn (length (now (targets .entry))) (analysisOf (sections (now (abbreviations .entry)) (now (locations .entry)) (now (ranges .entry)) (now (addresses .entry)) «ranges_base») (now (section .entry)) (roomsOf entries references (length (now (offsets .entry))) (length (now (parents .entry))) (length (now (roots .entry))) (length (now (ends .entry))) (length (now (targets .entry))))) ⌝ }
+{
+    clear(index);
+    clear_columns(offsets, parents, roots, ends, targets);
+    match unit_header(section) {
+        HeaderRead::Empty => {
+            Analysis::Entries {
+                entries: 0,
+                references: 0,
+            }
+        }
+        HeaderRead::Refused(n) => Analysis::Refused(n),
+        HeaderRead::Unit(h) => {
+            let Checked::Accepted = check_abbreviations(abbreviations, h.abbreviations, index)
+            else {
+                return Analysis::Refused(3);
+            };
+            let entry_room = least_of(
+                entries,
+                least_of(
+                    least_of(offsets.len(), parents.len()),
+                    least_of(roots.len(), ends.len()),
+                ),
+            );
+            analyse_unit(
+                section,
+                h,
+                abbreviations,
+                index,
+                locations,
+                ranges,
+                addresses,
+                ranges_base,
+                entry_room,
+                least_of(references, targets.len()),
+                offsets,
+                parents,
+                roots,
+                ends,
+                targets,
+            )
+        }
+    }
+}
