@@ -3,9 +3,16 @@ ghost use mathlib.Core.Path.{_≡_};
 ghost use Prim.Native.Nat.{_+_, _*_, _-_};
 ghost use mathlib.Core.List.{List};
 ghost use lib.ListN.{length, take, drop};
-ghost use Rattle.marking.specs.Analysis.{Row};
-ghost use Rattle.marking.specs.Columns.{padTo};
-ghost use Rattle.marking.specs.Resolution.{asEntry, entryFrom, pairsOfEntry, pairsIn, put, Searched, Ready, Held, Resolvable};
+ghost use Rattle.readers.specs.Header.{headerOf};
+ghost use Rattle.marking.specs.Analysis.{Row, sections, analysisOf};
+ghost use Rattle.marking.specs.Columns.{padTo, column, offsetsIn, parentsIn, rootsIn, endsIn, namesIn, unitRooms, indexAfter};
+ghost use Rattle.marking.specs.Resolution.{asEntry, entryFrom, pairsOfEntry, pairsIn, marksIn, unitMarks, put, Searched, Ready, Held, Resolvable};
+use crate::analysis::Analysis;
+use crate::analysis::analyse;
+use crate::columns::clear_bytes;
+use crate::columns::clear_indexes;
+use crate::marks::Marked;
+use crate::marks::mark;
 use readers::offsets::EntryIndex;
 use readers::offsets::UnitOffset;
 
@@ -105,4 +112,70 @@ fn resolve(
         i += 1;
     }
     place
+}
+
+// Marks the entries of the first unit of a section: 1 dead, 2 retained, 3 live. The columns are those of `analyse`, with the marks among those of the entry table and the
+// pairs among those of the reference table, two numbers each. A refusal is the analysis's, and leaves zeros.
+pub fn mark_unit(
+    section: &[u8],
+    abbreviations: &[u8],
+    locations: &[u8],
+    ranges: &[u8],
+    addresses: &[u8],
+    ranges_base: u64,
+    index: &mut [u64],
+    offsets: &mut [u64],
+    parents: &mut [u32],
+    roots: &mut [u8],
+    ends: &mut [u64],
+    marks: &mut [u8],
+    targets: &mut [u64],
+    pairs: &mut [u32],
+) -> UnitMarks
+    ensures answer { λ r. ⌜ r ≡ unitMarks (analysisOf (sections (now (abbreviations .entry)) (now (locations .entry)) (now (ranges .entry)) (now (addresses .entry)) «ranges_base») (now (section .entry)) (unitRooms (length (now (marks .entry))) (length (now (pairs .entry))) (length (now (offsets .entry))) (length (now (parents .entry))) (length (now (roots .entry))) (length (now (ends .entry))) (length (now (targets .entry))))) ⌝ }
+    ensures index { λ _. ⌜ now (index .exit) ≡ indexAfter (now (abbreviations .entry)) (headerOf (now (section .entry))) (length (now (index .entry))) ⌝ }
+    ensures offsets { λ _. ⌜ now (offsets .exit) ≡ column offsetsIn (length (now (offsets .entry))) (analysisOf (sections (now (abbreviations .entry)) (now (locations .entry)) (now (ranges .entry)) (now (addresses .entry)) «ranges_base») (now (section .entry)) (unitRooms (length (now (marks .entry))) (length (now (pairs .entry))) (length (now (offsets .entry))) (length (now (parents .entry))) (length (now (roots .entry))) (length (now (ends .entry))) (length (now (targets .entry))))) ⌝ }
+    ensures parents { λ _. ⌜ now (parents .exit) ≡ column parentsIn (length (now (parents .entry))) (analysisOf (sections (now (abbreviations .entry)) (now (locations .entry)) (now (ranges .entry)) (now (addresses .entry)) «ranges_base») (now (section .entry)) (unitRooms (length (now (marks .entry))) (length (now (pairs .entry))) (length (now (offsets .entry))) (length (now (parents .entry))) (length (now (roots .entry))) (length (now (ends .entry))) (length (now (targets .entry))))) ⌝ }
+    ensures roots { λ _. ⌜ now (roots .exit) ≡ column rootsIn (length (now (roots .entry))) (analysisOf (sections (now (abbreviations .entry)) (now (locations .entry)) (now (ranges .entry)) (now (addresses .entry)) «ranges_base») (now (section .entry)) (unitRooms (length (now (marks .entry))) (length (now (pairs .entry))) (length (now (offsets .entry))) (length (now (parents .entry))) (length (now (roots .entry))) (length (now (ends .entry))) (length (now (targets .entry))))) ⌝ }
+    ensures ends { λ _. ⌜ now (ends .exit) ≡ column (endsIn 0) (length (now (ends .entry))) (analysisOf (sections (now (abbreviations .entry)) (now (locations .entry)) (now (ranges .entry)) (now (addresses .entry)) «ranges_base») (now (section .entry)) (unitRooms (length (now (marks .entry))) (length (now (pairs .entry))) (length (now (offsets .entry))) (length (now (parents .entry))) (length (now (roots .entry))) (length (now (ends .entry))) (length (now (targets .entry))))) ⌝ }
+    ensures marks { λ _. ⌜ now (marks .exit) ≡ column marksIn (length (now (marks .entry))) (analysisOf (sections (now (abbreviations .entry)) (now (locations .entry)) (now (ranges .entry)) (now (addresses .entry)) «ranges_base») (now (section .entry)) (unitRooms (length (now (marks .entry))) (length (now (pairs .entry))) (length (now (offsets .entry))) (length (now (parents .entry))) (length (now (roots .entry))) (length (now (ends .entry))) (length (now (targets .entry))))) ⌝ }
+    ensures targets { λ _. ⌜ now (targets .exit) ≡ column namesIn (length (now (targets .entry))) (analysisOf (sections (now (abbreviations .entry)) (now (locations .entry)) (now (ranges .entry)) (now (addresses .entry)) «ranges_base») (now (section .entry)) (unitRooms (length (now (marks .entry))) (length (now (pairs .entry))) (length (now (offsets .entry))) (length (now (parents .entry))) (length (now (roots .entry))) (length (now (ends .entry))) (length (now (targets .entry))))) ⌝ }
+    ensures pairs { λ _. ⌜ now (pairs .exit) ≡ column pairsIn (length (now (pairs .entry))) (analysisOf (sections (now (abbreviations .entry)) (now (locations .entry)) (now (ranges .entry)) (now (addresses .entry)) «ranges_base») (now (section .entry)) (unitRooms (length (now (marks .entry))) (length (now (pairs .entry))) (length (now (offsets .entry))) (length (now (parents .entry))) (length (now (roots .entry))) (length (now (ends .entry))) (length (now (targets .entry))))) ⌝ }
+{
+    clear_indexes(pairs);
+    clear_bytes(marks);
+    match analyse(
+        section,
+        abbreviations,
+        locations,
+        ranges,
+        addresses,
+        ranges_base,
+        marks.len(),
+        pairs.len() / 2,
+        index,
+        offsets,
+        parents,
+        roots,
+        ends,
+        targets,
+    ) {
+        Analysis::Refused(n) => UnitMarks::Refused(n),
+        Analysis::Entries {
+            entries,
+            references: _,
+        } => {
+            let n = resolve(offsets, ends, entries, targets, pairs);
+            let m = 2 * n;
+            match mark(
+                &parents[..entries],
+                &pairs[..m],
+                &roots[..entries],
+                &mut marks[..entries],
+            ) {
+                Marked::Kept(kept) => UnitMarks::Marked { entries, kept },
+                Marked::Refused(n) => UnitMarks::Refused(n),
+            }
+        }
+    }
 }
