@@ -55,7 +55,7 @@ names-next : (xs : List Row) (r : Row) → length (namesIn (xs ++ (r ∷ []))) �
 unfolding namesIn
 names-next xs r = ap length (names-append xs (r ∷ [])) ∙ length-append (namesIn xs) (r .names ++ []) ∙ ap (λ (l : List ℕ). length (namesIn xs) + length l) (append-nil (r .names))
 
-pairs-most : (os : List ℕ) (i : ℕ) (rows : List Row) → length (pairsFrom os i rows) ≤ 2 * length (namesIn rows)
+pub pairs-most : (os : List ℕ) (i : ℕ) (rows : List Row) → length (pairsFrom os i rows) ≤ 2 * length (namesIn rows)
 unfolding pairsFrom namesIn
 pairs-most os i [] = omega arith
 pairs-most os i (r ∷ rs) =
@@ -65,7 +65,7 @@ pairs-most os i (r ∷ rs) =
 
 -- ---- numbers put after those of a padded column
 
-drop-zeros : (m n : ℕ) → drop m (zeros n) ≡ zeros (n - m)
+pub drop-zeros : (m n : ℕ) → drop m (zeros n) ≡ zeros (n - m)
 drop-zeros zero n = ap zeros (let z : n ≡ n - 0 = omega arith in z)
 drop-zeros (suc m) zero = ap zeros (let z : 0 ≡ 0 - suc m = omega arith in z)
 drop-zeros (suc m) (suc n) = drop-zeros m n ∙ ap zeros (let z : n - m ≡ suc n - suc m = omega arith in z)
@@ -232,11 +232,11 @@ module _ (offsets ends : List ℕ) (n : ℕ) (targets pairs₀ : List ℕ) (rows
 
 -- ---- columns as an analysis leaves them
 
-padded-few : (xs column : List ℕ) → column ≡ padTo (length column) xs → length xs ≤ length column
+pub padded-few : (xs column : List ℕ) → column ≡ padTo (length column) xs → length xs ≤ length column
 unfolding padTo
 padded-few xs column e = omega (arith, ap length e, length-append xs (zeros (length column - length xs)))
 
-padded-take : (n : ℕ) (xs column : List ℕ) → length xs ≡ n → column ≡ padTo (length column) xs → take n column ≡ xs
+pub padded-take : (n : ℕ) (xs column : List ℕ) → length xs ≡ n → column ≡ padTo (length column) xs → take n column ≡ xs
 unfolding padTo
 padded-take n xs column l e = ap (take n) e ∙ take-at xs (zeros (length column - length xs)) n l
 

@@ -28,3 +28,4 @@ pub mod Rows
 pub mod Searches
 pub mod Pairs
 pub mod Columned
+pub mod UnitMarkings

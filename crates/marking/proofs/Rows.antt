@@ -291,7 +291,7 @@ take-few n xs = omega (arith, length-append (take n xs) (drop n xs), ap length (
 
 -- those of the first unit of a section
 module _ (x : Sections) (section : List ℕ) (room : Rooms) (rows : List Row) where
-  no-rows : UnitRows section room 0 []
+  pub no-rows : UnitRows section room 0 []
   unfolding Rowed namesIn
   no-rows = record { rowed = tt; entries = omega arith; references = omega arith; few = omega arith }
 
@@ -318,12 +318,12 @@ module _ (x : Sections) (section : List ℕ) (room : Rooms) (rows : List Row) wh
 
 -- ---- their graph
 
-length-parents : (rows : List Row) → length (parentsIn rows) ≡ length rows
+pub length-parents : (rows : List Row) → length (parentsIn rows) ≡ length rows
 unfolding parentsIn
 length-parents [] = refl
 length-parents (r ∷ rs) = ap suc (length-parents rs)
 
-length-roots : (rows : List Row) → length (rootsIn rows) ≡ length rows
+pub length-roots : (rows : List Row) → length (rootsIn rows) ≡ length rows
 unfolding rootsIn
 length-roots [] = refl
 length-roots (r ∷ rs) = ap suc (length-roots rs)

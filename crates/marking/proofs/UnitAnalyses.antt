@@ -143,7 +143,7 @@ small-header s =
     let l : n < 0xfffffff0 = leb-no {a = 0xfffffff0} {b = n} t in
     pick-either Small (leb n (length s - 4)) _ _ (λ _. small-fields (take (4 + n) s) (let k : length (take (4 + n) s) ≤ 4 + n = take-most (4 + n) s in omega arith)) (λ _. tt))))
 
-small-unit : (s : List ℕ) (h : UnitHeader) → headerOf s ≡ Unit′ h → length (take (h .end) s) < 0xffffffff
+pub small-unit : (s : List ℕ) (h : UnitHeader) → headerOf s ≡ Unit′ h → length (take (h .end) s) < 0xffffffff
 unfolding Small
 small-unit s h e =
     let k : h .end < 0xffffffff = subst Small e (small-header s) in
@@ -152,7 +152,7 @@ small-unit s h e =
 
 -- ---- rooms
 
-least-left : (a b : ℕ) → least a b ≤ a
+pub least-left : (a b : ℕ) → least a b ≤ a
 unfolding least
 least-left a b = pick-either (λ (n : ℕ). n ≤ a) (leb a b) a b (λ _. omega arith) (λ t. let k : b < a = leb-no {a = a} {b = b} t in omega arith)
 
@@ -183,7 +183,7 @@ length-index : (s : List ℕ) (from n : ℕ) → length (indexOf s from n) ≡ n
 unfolding indexOf
 length-index s from n = length-for n (abbreviationsOf s from)
 
-zeros-own : (n : ℕ) (col : List ℕ) → col ≡ zeros n → col ≡ zeros (length col)
+pub zeros-own : (n : ℕ) (col : List ℕ) → col ≡ zeros n → col ≡ zeros (length col)
 zeros-own n col e = e ∙ ap zeros (sym (length-replicate n 0) ∙ sym (ap length e))
 
 -- what was cleared
@@ -223,7 +223,7 @@ unit-ready abbreviations index section h k {entries} {references} {r₁} {r₂} 
 -- ---- the section
 
 module _ (x : Sections) (section : List ℕ) (room : Rooms) (k nf np nr ne nt : ℕ) (index offsets parents roots ends targets : List ℕ) where
-  abbrev Answered : Analysis → Type 0
+  abbrev pub Answered : Analysis → Type 0
   Answered r =
       (r ≡ answerOf (analysisOf x section room)) × ((index ≡ indexAfter (x .abbreviations) (headerOf section) k) × Filled′ (analysisOf x section room) nf np nr ne nt offsets parents roots ends targets)
 

@@ -1,12 +1,13 @@
 -- The references of a unit resolved from offsets to entries, its graph and its marks.
 use mathlib.Core.Path.{_≡_}
 use Prim.Native.Nat.{ℕ, suc, _+_, _*_, _-_, _^_, _≤_, _<_}
+use mathlib.Core.Bool.{true}
 use mathlib.Core.List.{List, [], _∷_, _++_}
 use mathlib.Core.Option.{Option, none, some}
 use lib.ListN.{length, take, drop}
 use lib.Dec.{eqb}
 use Rattle.readers.specs.Choice.{pick, zeros}
-use Rattle.marking.specs.Graph.{Graph, graph}
+use Rattle.marking.specs.Graph.{Graph, graph, takes}
 use Rattle.marking.specs.Marks.{marksOf, keptCount}
 use Rattle.marking.specs.Analysis.{Row, Analysed, analysed, refused}
 use Rattle.marking.specs.Columns.{offsetsIn, parentsIn, rootsIn, namesIn, endsIn}
@@ -88,3 +89,18 @@ pub record Held (rows : List Row) (offsets ends : List ℕ) (n : ℕ) (targets p
 pub record Resolvable (offsets ends : List ℕ) (n : ℕ) (targets pairs : List ℕ) : Type 0 where
   pub rows : List Row
   pub held : Held rows offsets ends n targets pairs
+
+-- all columns of rows, cleared tables with room for their marks and pairs, and a graph that marking takes
+pub record Laid (rows : List Row) (offsets parents roots ends : List ℕ) (n : ℕ) (marks targets pairs : List ℕ) : Type 0 where
+  pub held : Held rows offsets ends n targets pairs
+  pub parented : take n parents ≡ parentsIn rows
+  pub rooted : take n roots ≡ rootsIn rows
+  pub parents-inside : n ≤ length parents
+  pub roots-inside : n ≤ length roots
+  pub marks-inside : n ≤ length marks
+  pub unmarked : marks ≡ zeros (length marks)
+  pub fits : takes (graphOf rows) n ≡ true
+
+pub record Markable (offsets parents roots ends : List ℕ) (n : ℕ) (marks targets pairs : List ℕ) : Type 0 where
+  pub rows : List Row
+  pub laid : Laid rows offsets parents roots ends n marks targets pairs

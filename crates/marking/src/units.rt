@@ -4,9 +4,9 @@ ghost use Prim.Native.Nat.{_+_, _*_, _-_};
 ghost use mathlib.Core.List.{List};
 ghost use lib.ListN.{length, take, drop};
 ghost use Rattle.readers.specs.Header.{headerOf};
-ghost use Rattle.marking.specs.Analysis.{Row, sections, analysisOf};
+ghost use Rattle.marking.specs.Analysis.{Row, analysed, sections, analysisOf};
 ghost use Rattle.marking.specs.Columns.{padTo, column, offsetsIn, parentsIn, rootsIn, endsIn, namesIn, unitRooms, indexAfter};
-ghost use Rattle.marking.specs.Resolution.{asEntry, entryFrom, pairsOfEntry, pairsIn, marksIn, unitMarks, put, Searched, Ready, Held, Resolvable};
+ghost use Rattle.marking.specs.Resolution.{asEntry, entryFrom, pairsOfEntry, pairsIn, marksIn, unitMarks, put, Searched, Ready, Held, Resolvable, Laid, Markable};
 use crate::analysis::Analysis;
 use crate::analysis::analyse;
 use crate::columns::clear_bytes;
@@ -114,6 +114,35 @@ fn resolve(
     place
 }
 
+// The pairs and the marks of entries whose columns an analysis filled.
+fn mark_rows(
+    offsets: &[u64],
+    parents: &[u32],
+    roots: &[u8],
+    ends: &[u64],
+    entries: usize,
+    marks: &mut [u8],
+    targets: &[u64],
+    pairs: &mut [u32],
+) -> UnitMarks
+    requires { ⌜ Markable (now offsets) (now parents) (now roots) (now ends) entries (now marks) (now targets) (now pairs) ⌝ }
+    ensures answer { λ r. ⌜ ((rows : List Row) → Laid rows (now (offsets .entry)) (now (parents .entry)) (now (roots .entry)) (now (ends .entry)) entries (now (marks .entry)) (now (targets .entry)) (now (pairs .entry)) → r ≡ unitMarks (analysed rows)) ⌝ }
+    ensures marks { λ r. ⌜ ((rows : List Row) → Laid rows (now (offsets .entry)) (now (parents .entry)) (now (roots .entry)) (now (ends .entry)) entries (now (marks .entry)) (now (targets .entry)) (now (pairs .entry)) → now (marks .exit) ≡ padTo (length (now (marks .entry))) (marksIn rows)) ⌝ }
+    ensures pairs { λ r. ⌜ ((rows : List Row) → Laid rows (now (offsets .entry)) (now (parents .entry)) (now (roots .entry)) (now (ends .entry)) entries (now (marks .entry)) (now (targets .entry)) (now (pairs .entry)) → now (pairs .exit) ≡ padTo (length (now (pairs .entry))) (pairsIn rows)) ⌝ }
+{
+    let n = resolve(offsets, ends, entries, targets, pairs);
+    let m = 2 * n;
+    match mark(
+        &parents[..entries],
+        &pairs[..m],
+        &roots[..entries],
+        &mut marks[..entries],
+    ) {
+        Marked::Kept(kept) => UnitMarks::Marked { entries, kept },
+        Marked::Refused(n) => UnitMarks::Refused(n),
+    }
+}
+
 // Marks the entries of the first unit of a section: 1 dead, 2 retained, 3 live. The columns are those of `analyse`, with the marks among those of the entry table and the
 // pairs among those of the reference table, two numbers each. A refusal is the analysis's, and leaves zeros.
 pub fn mark_unit(
@@ -165,17 +194,16 @@ pub fn mark_unit(
             entries,
             references: _,
         } => {
-            let n = resolve(offsets, ends, entries, targets, pairs);
-            let m = 2 * n;
-            match mark(
-                &parents[..entries],
-                &pairs[..m],
-                &roots[..entries],
-                &mut marks[..entries],
-            ) {
-                Marked::Kept(kept) => UnitMarks::Marked { entries, kept },
-                Marked::Refused(n) => UnitMarks::Refused(n),
-            }
+            mark_rows(
+                offsets,
+                parents,
+                roots,
+                ends,
+                entries,
+                marks,
+                targets,
+                pairs,
+            )
         }
     }
 }
