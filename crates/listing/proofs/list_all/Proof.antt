@@ -1,0 +1,110 @@
+-- `list_all` is safe and ends: the measure is what is left. Assumes nothing.
+use Prim.Native.Nat.{_-_}
+use lib.ListN.{length}
+use borrow.Author.Needs.{needs}
+use Rattle.listing.proofs.list_all.Statement.{statement}
+use Rattle.listing.proofs.list_all.Tie as tie
+use Rattle.listing.proofs.list_all.Reads as reads
+use Rattle.listing.proofs.list_all.Lts as lts
+use Rattle.listing.proofs.list.Reads as list-reads
+use Rattle.listing.proofs.number.Reads as number-reads
+use Rattle.listing.proofs.size.Reads as size-reads
+use Rattle.listing.proofs.text.Reads as text-reads
+
+abbrev Inv-loop : tie.InvT-loop
+Inv-loop s at₀ t5 t6 at = Unit {0}
+
+abbrev μ-loop : tie.MeasureT-loop
+μ-loop s at₀ t5 t6 at = length s - at
+
+-- src/lib.rt:79:5
+loop-holds : tie.Need-loop-holds Inv-loop μ-loop
+loop-holds c = search needs
+
+-- src/lib.rt:80:13
+size-requires : tie.Need-size-requires Inv-loop μ-loop
+size-requires c κs = search needs
+
+-- src/lib.rt:82:13
+returns : tie.Need-returns Inv-loop μ-loop
+returns c = search needs
+
+-- src/lib.rt:84:16
+sub-if2 : tie.Need-sub-if2 Inv-loop μ-loop
+sub-if2 c = search needs
+
+-- src/lib.rt:85:13
+returns-2 : tie.Need-returns-2 Inv-loop μ-loop
+returns-2 c = search needs
+
+-- src/lib.rt:87:19
+add-end : tie.Need-add-end Inv-loop μ-loop
+add-end c = search needs
+
+-- src/lib.rt:88:16
+slice-aggregate-number : tie.Need-slice-aggregate-number Inv-loop μ-loop
+slice-aggregate-number c = search needs
+
+-- src/lib.rt:88:9
+number-requires : tie.Need-number-requires Inv-loop μ-loop
+number-requires c κs = search needs
+
+-- src/lib.rt:89:14
+slice-aggregate-text : tie.Need-slice-aggregate-text Inv-loop μ-loop
+slice-aggregate-text c = search needs
+
+-- src/lib.rt:89:9
+text-requires : tie.Need-text-requires Inv-loop μ-loop
+text-requires c κs = search needs
+
+-- src/lib.rt:90:14
+sub-list : tie.Need-sub-list Inv-loop μ-loop
+sub-list c = search needs
+
+-- src/lib.rt:90:14
+part-list-start : tie.Need-part-list-start Inv-loop μ-loop
+part-list-start c = search needs
+
+-- src/lib.rt:90:14
+part-list-end : tie.Need-part-list-end Inv-loop μ-loop
+part-list-end c = search needs
+
+-- src/lib.rt:90:9
+list-requires : tie.Need-list-requires Inv-loop μ-loop
+list-requires c κs = search needs
+
+-- src/lib.rt:79:5
+loop-less : tie.Need-loop-less Inv-loop μ-loop
+loop-less c = search needs
+
+-- src/lib.rt:79:5
+loop-again : tie.Need-loop-again Inv-loop μ-loop
+loop-again c = search needs
+
+-- src/lib.rt:77:1
+returns-3 : tie.Need-returns-3 Inv-loop μ-loop
+returns-3 c = search needs
+
+pub list-all-spec : {M : Type 1} → statement M
+list-all-spec =
+    tie.close
+    (tie.spec
+    Inv-loop
+    μ-loop
+    loop-holds
+    size-requires
+    returns
+    sub-if2
+    returns-2
+    add-end
+    slice-aggregate-number
+    number-requires
+    slice-aggregate-text
+    text-requires
+    sub-list
+    part-list-start
+    part-list-end
+    list-requires
+    loop-less
+    loop-again
+    returns-3)

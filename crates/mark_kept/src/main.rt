@@ -1,0 +1,4 @@
+// Prints the marks of kept cases, whose answers are the original's.
+fn main() {
+    listing::list_arguments();
+}

@@ -1,0 +1,252 @@
+#!/usr/bin/python3
+"""marks.py [check]: writes the bundles and the expected lines of crates/mark_points and crates/mark_kept, and those of crates/marks.
+
+The cases of mark_points are written here, each with the point that it is about, its bytes and the marks that the specification gives, never from a run. Those of mark_kept are
+the kept cases of oracle/kept whose answer by the original says something of marks: accepted ones, and refusals up to the references (4 to 7, and 3). With `check`
+nothing is written, and the files are compared with what would be.
+
+Bytes are hexadecimal. `H` before a unit's bytes stands for the 12-byte header (type 1, address size 8) with the right length. Abbreviations are code tag children
+name/form; A5 are those of the five-entry unit. T is a list section of 12 zeros and a table of one offset, 4; its list follows."""
+import os
+import sys
+
+TESTS = os.path.dirname(os.path.abspath(__file__))
+CRATES = os.path.join(TESTS, '..', 'crates')
+KEPT = os.path.join(TESTS, '..', 'oracle', 'kept')
+FAMILIES = 'small bytes valid lists expressions trees deep refused damaged listed tables'.split()
+A5 = '01 11 01 00 00 02 2e 00 11 1b 49 11 00 00 03 24 00 00 00 00'
+FIVE = 'H 01 020011 03 03 020110 00'
+T = '00' * 12 + '04000000'
+BIG = '808080808080808040'  # 2^62
+points = []
+
+
+def uleb(n):
+    out = b''
+    while n > 127:
+        out += bytes([n & 127 | 128])
+        n >>= 7
+    return out + bytes([n])
+
+
+def abbreviations(text):
+    if '/' not in text and ';' not in text:
+        return bytes.fromhex(text)
+    out = b''
+    for line in text.split(';'):
+        words = line.split()
+        out += uleb(int(words[0])) + uleb(int(words[1], 16)) + bytes(['children' in words])
+        for pair in (w.split('/') for w in words[2:] if w != 'children'):
+            out += b''.join(uleb(int(w, 16)) for w in pair)
+        out += bytes(2)
+    return out + bytes(1)
+
+
+def unit(text):
+    if isinstance(text, bytes):
+        return (8 + len(text)).to_bytes(4, 'little') + bytes.fromhex('0500 01 08 00000000') + text
+    return unit(bytes.fromhex(text[1:])) if text.startswith('H') else bytes.fromhex(text)
+
+
+def bundle(parts):
+    rest = b'\1' + b''.join(len(p).to_bytes(4, 'big') + p for p in parts)
+    return len(rest).to_bytes(4, 'big') + rest
+
+
+def case(why, of_unit, table, expected, locations='', ranges='', addresses=''):
+    """expected: marks as `12R 13L`, or `refused N`."""
+    parts = [unit(of_unit), abbreviations(table)] + [bytes.fromhex(p) for p in (locations, ranges, addresses)]
+    points.append((why, bundle(parts), expected))
+
+
+# ---- the five-entry unit
+for addresses, expected in (('0100', '12R 13L 16D 17L 18D'), ('0000', '12R 13D 16D 17D 18D'), ('0001', '12R 13D 16L 17D 18L'),
+                            ('0101', '12R 13L 16L 17L 18L'), ('0200', 'refused 6'), ('01', 'refused 6')):
+    case('P1 to P6', FIVE, A5, expected, addresses=addresses)
+case('P7', '', A5, '')
+
+# ---- points
+R = '1 11 children; 2 2e 55/23'
+V = '1 11 children; 2 34 02/18'
+L = '1 24 children 02/22; 2 24'
+X = '1 24 02/18; 2 24'
+case('1: data4 is another form, so ranges are live', 'H 01 02 00000000 00', '1 11 children; 2 2e 55/06', '12R 13L')
+case('1: a location in data4 is nothing', 'H 01 01000000', '1 34 02/06', '12R')
+case('1: behind indirect too', 'H 01 02 06 00000000 00', '1 11 children; 2 2e 55/16', '12R 13L')
+case('11: a surplus terminator before the first entry', 'H 00 03 03', A5, '13R 14D')
+case('11: a list of children that is open at the end', 'H 01 03', A5, '12R 13D')
+case('11: a second tree', 'H 03 03', A5, '12R 13D')
+case('11: a surplus terminator at the end', 'H 03 00', A5, '12R')
+case('12: what follows a live index in its expression is asked', 'H 01 02 04 a101a102 00', V, 'refused 6', addresses='0001')
+case('13: what follows a live location is not', 'H 01 02 02a101 02a107 00', '1 11 children; 2 34 02/18 02/18', '12R 13L', addresses='0001')
+case('14: a nested entry value is stepped over', 'H 01 02 05 a301ff a102 00', V, 'refused 6', addresses='0001')
+case('14: its indexes are not asked', 'H 01 02 04 a302 a101 00', V, '12R 13D', addresses='0001')
+case('15: an entry is read whole before it is judged', 'H 01 02 00 00', R, 'refused 5', ranges=T + '0200')
+case('16: the section\'s end is an empty list', 'H 01 02 00 00', R, '12R 13D', ranges=T)
+case('16: past it is live', 'H 01 02 00 00', R, '12R 13L', ranges='00' * 12 + '05000000')
+case('16: so is a table place that is cut', 'H 01 02 00 00', R, '12R 13L', ranges=T[:-2])
+case('16: locations at the end', 'H 01 00 02 00', L, '12R 14D', locations=T)
+case('16: locations past it', 'H 01 00 02 00', L, 'refused 5', locations='00' * 12 + '05000000')
+case('16: a table place of locations that is cut', 'H 01 00 02 00', L, 'refused 5', locations=T[:-2])
+case('17: an index whose place is above 64 bits', 'H 01 02 %s 00' % BIG, R, '12R 13L', ranges=T)
+case('17: of locations', 'H 01 %s 02 00' % BIG, L, 'refused 5', locations=T)
+case('18: what follows a live range is not read', 'H 01 02 00 00', R, '12R 13L', ranges=T + '040000ff')
+case('18: nor what follows a live low_pc', 'H 01 02 00 07 00 00', '1 11 children; 2 2e 11/1b 11/1b 55/23', '12R 13L', ranges=T + 'ff', addresses='01')
+case('19: base_addressx asks though no pair follows', 'H 01 02 00 00', R, 'refused 6', ranges=T + '0100')
+case('a dead base makes its pairs dead', 'H 01 02 00 00', R, '12R 13D', ranges=T + '0100 040001 00', addresses='00')
+case('a live base after it', 'H 01 02 00 00', R, '12R 13L', ranges=T + '0100 040001 0101 040001 00', addresses='0001')
+case('a dead base leaves start forms alone', 'H 01 02 00 00', R, '12R 13L', ranges=T + '0100 030101 00', addresses='0001')
+case('20: the older test asks no table', 'H 01 02 00000000 00', '1 11 children; 2 2e 55/17', '12R 13L', ranges='0100')
+case('20: its end entry is dead', 'H 01 02 00000000 00', '1 11 children; 2 2e 55/17', '12R 13D', ranges='00')
+case('20: base_address only is skipped', 'H 01 02 00000000 00', '1 11 children; 2 2e 55/17', '12R 13D', ranges='05' + '11' * 8 + '00')
+case('21: of two bases the last', 'H 01 00000000 04000000 02 00 00', '1 11 children 74/17 74/17; 2 2e 55/23', '12R 21D', ranges='ffffffff 04000000 00')
+case('21: a nested unit entry counts, from itself on', 'H 01 02 00 03 04000000 02 00 00', '1 11 children; 2 2e 55/23; 3 11 74/17', '12R 13D 15D 20L',
+     ranges='00000000 04000000 040102 00 04000000')
+case('21: only a compile unit\'s own', 'H 01 04000000 02 00 00', '1 24 children 74/17; 2 2e 55/23', '12R 17D', ranges='00000000 04000000 04010200 00000000 0000')
+case('22: low_pc in a reference form', 'H 01 02 0c 00', '1 11 children; 2 2e 11/11', '12L 13L')
+case('23: the root test before the references', 'H 01 02 00000000 00 00', '1 11 children; 2 2e 49/10 55/23', 'refused 5', ranges=T + 'ff')
+case('24: an expression before the next list entry', 'H 01 00 02 00', L, 'refused 7', locations=T + '05059a00000000ff')
+case('25: a dangling reference in a location list', 'H 01 00 02', '1 24 02/22; 2 24', '12R 14D', locations=T + '0503986300 00')
+case('57: one that names an entry', 'H 01 00 02', '1 24 02/22; 2 24', '12R 14L', locations=T + '0503980e00 00')
+case('a list under another name counts for nothing', 'H 01 00 02', '1 24 40/22; 2 24', '12R 14D', locations=T + '0503980e00 00')
+case('26: call2 with 0 dangles', 'H 01 03 980000 02', X, '12R 17D')
+case('26: convert with 0 is no reference', 'H 01 02 a800 02', X, '12R 16D')
+case('26: so with a padded 0', 'H 01 03 a88000 02', X, '12R 17D')
+case('27: a reference to a terminator marks nothing', 'H 01 0f 02 00', '1 24 children 49/11; 2 24', '12R 14D')
+case('28: a block is no expression', 'H 01 03 980e00 02', '1 24 02/0a; 2 24', '12R 17D')
+case('an exprloc is, under any name', 'H 01 03 981100 02', '1 24 40/18; 2 24', '12R 17L')
+case('29: breg31', 'H 01 02 8f00 02', X, '12R 16D')
+case('29: register 65,536', 'H 01 05 a580800400 02', X, 'refused 5')
+case('29: 0xf0', 'H 01 01 f0 02', X, 'refused 5')
+case('30: a base in data4 does not count', 'H 01 04000000 02 00 00', '1 11 children 74/06; 2 2e 55/23', '12R 17L')
+case('31: a first entry that is a root', 'H 01 00 02 00', '1 2e children 11/1b; 2 24', '12R 14L', addresses='01')
+case('31: one that names itself', 'H 01 0c', '1 24 49/11', '12L')
+case('31: one that a dead entry names', 'H 01 02 0c 00', '1 11 children; 2 24 49/11', '12R 13D')
+case('31: one that a survivor names, and all below it', 'H 01 02 00 0c 03 00', '1 11 children; 2 2e 11/1b 49/11; 3 24', '12L 13L 16L', addresses='01')
+case('38: sec_offset behind indirect', 'H 01 02 17 00000000 00', '1 11 children; 2 2e 55/16', '12R 13D', ranges='00')
+case('39: low_pc of another tag is not asked', 'H 01 02 07 00', '1 11 children; 2 0b 11/1b', '12R 13D')
+case('39: nor an index in a location list', 'H 01 02 00 00', '1 11 children; 2 34 02/22', '12R 13D', locations=T + '0502a107 00')
+case('41: the first ranges attribute decides', 'H 01 02 00 00 00', '1 11 children; 2 2e 55/23 55/0b', '12R 13D', ranges=T)
+case('42: a section-absolute sibling', 'H 01 00000000', '1 24 01/10', '12R')
+case('42: ref_addr behind indirect', 'H 01 10 00000000', '1 24 49/16', '12R')
+case('ref_addr', 'H 01 00000000', '1 24 49/10', 'refused 7')
+case('40: GNU_variable_value', 'H 01 05 fd00000000 02', X, 'refused 7')
+case('44: 5 before 7 in one expression', 'H 01 08 9a00000000a301ff 02', X, 'refused 5')
+case('56: each low_pc in turn', 'H 01 02 00 01 00', '1 11 children; 2 2e 11/1b 11/1b', '12R 13L', addresses='0001')
+case('a sibling names nothing', 'H 01 0e 02', '1 24 01/11; 2 24', '12R 14D')
+case('constx is no addrx', 'H 01 02 02 a200 00', V, '12R 13D', addresses='01')
+case('GNU_addr_index is', 'H 01 02 02 fb00 00', V, '12R 13L', addresses='01')
+case('a direct address makes no root', 'H 01 02 09 031122334455667788 00', V, '12R 13D')
+case('of a subprogram it does', 'H 01 02 1122334455667788 00', '1 11 children; 2 2e 11/01', '12R 13L')
+case('but for a tombstone', 'H 01 02 ffffffffffffffff 00', '1 11 children; 2 2e 11/01', '12R 13D')
+case('references of a retained entry', 'H 01 0f 02 02', '1 24 49/11; 2 24', '12R 14D 15L')
+case('a parent of a named entry is retained, and its references count', 'H 01 10 02 12 03 00 03 03 00', '1 11 children 49/11; 2 24 children 49/11; 3 24', '12R 14R 16L 18L 19D')
+case('every form that names', 'H 01 1d 1e00 1f000000 2000000000000000 21 02 02 02 02 02 02', '1 11 49/11 49/12 49/13 49/14 49/15; 2 24', '12R 29L 30L 31L 32L 33L 34D')
+
+# ---- 36: the tables' lengths among an entry's other numbers
+MANY = '1 11 children; 2 24; 3 24 49/10; 4 24 49/11 49/11 49/11 49/11 49/11; 5 24 49/11 49/11; 6 24 49/11 02/18; 7 34 02/18'
+FULL = b'\1' + b'\2' * 2047
+ROWS = '12R ' + ' '.join('%dD' % n for n in range(13, 2060))
+case('36: exactly full', FULL, MANY, ROWS)
+case('36: one more entry', FULL + b'\2', MANY, 'refused 10')
+case('36: one more that is unreadable', FULL + b'\x63', MANY, 'refused 4')
+case('36: one more whose references are refused', FULL + b'\3' + bytes(4), MANY, 'refused 10')
+case('36: one more whose root test is refused', FULL + b'\7\2\xa1\7', MANY, 'refused 10')
+case('36: terminators need no room', FULL + b'\0\0\0', MANY, ROWS)
+SIX = b'\1' + b'\4\1\1\1\1\1' * 1638  # 8,190 references, all dangling
+PLACES = [12] + [13 + 6 * k for k in range(1639)]
+case('36: exactly full of references', SIX + b'\5\1\1', MANY, '12R ' + ' '.join('%dD' % n for n in PLACES[1:]))
+case('36: one entry with too many', SIX + b'\4\1\1\1\1\1', MANY, 'refused 11')
+case('36: its own refusal goes first', SIX + b'\5\1\1' + b'\6\1\1\xff', MANY, 'refused 5')
+case('36: before the next entry', SIX + b'\4\1\1\1\1\1' + b'\x63', MANY, 'refused 11')
+
+
+def letters(expected):
+    if expected.startswith('refused'):
+        return expected + '\n'
+    marks = expected.split()
+    kept = [m for m in marks if m[-1] in 'RL']
+    return ''.join(['entries %d kept %d\n' % (len(marks), len(kept))] + ['%s %s\n' % (m[:-1], m[-1]) for m in marks])
+
+
+ERRORS = {'ParseUnitAbbreviations': 3, 'ParseUnit': 4, 'Read': 5, 'Address': 6, 'UnexpectedSectionAbsoluteReference': 7}
+
+
+def from_original(line):
+    """The lines that an answer of the original gives, or none."""
+    answer, more = line.rstrip('\n').split(' | ')
+    if not more.endswith('listed -'):
+        return None
+    words = answer.split()
+    if words[0] in ('rewritten', 'untouched'):
+        marks = words[words.index('marks') + 1]
+        return letters('' if marks == '-' else marks.replace(',', ' '))
+    if words[0] == 'error' and words[1] in ERRORS and words[-1] != 'OffsetOutOfBounds':
+        return 'refused %d\n' % ERRORS[words[1]]
+    return None
+
+
+def split(stream):
+    out = []
+    while stream:
+        size = 4 + int.from_bytes(stream[:4], 'big')
+        out.append(stream[:size])
+        stream = stream[size:]
+    return out
+
+
+def kept(family):
+    with open(os.path.join(KEPT, family + '.bundles'), 'rb') as f:
+        bundles = split(f.read())
+    with open(os.path.join(KEPT, family + '.lines')) as f:
+        lines = f.readlines()
+    assert len(bundles) == len(lines)
+    return [(b, from_original(l)) for b, l in zip(bundles, lines) if from_original(l) is not None]
+
+
+def placed(name, cases):
+    """The lines of a file of bundles: its name, and before each answer the place of its bundle."""
+    out, at = '== %s\n' % name, 0
+    for data, expected in cases:
+        out += '-- %d\n%s' % (at, expected)
+        at += len(data)
+    return out
+
+
+def files():
+    made = {}
+    first = points[0]
+    made['marks/stdin'] = first[1]
+    made['marks/stdout'] = letters(first[2]).encode()
+    made['mark_points/data/points.bundles'] = b''.join(data for _, data, _ in points)
+    made['mark_points/args'] = b'points.bundles\n'
+    made['mark_points/stdout'] = placed('points.bundles', [(data, letters(e)) for _, data, e in points]).encode()
+    out = ''
+    for family in FAMILIES:
+        cases = kept(family)
+        made['mark_kept/data/%s.bundles' % family] = b''.join(b for b, _ in cases)
+        out += placed(family + '.bundles', cases)
+    made['mark_kept/args'] = ''.join('%s.bundles\n' % f for f in FAMILIES).encode()
+    made['mark_kept/stdout'] = out.encode()
+    return made
+
+
+def main():
+    checking = sys.argv[1:] == ['check']
+    wrong = 0
+    for name, data in files().items():
+        path = os.path.join(CRATES, name)
+        if checking:
+            if not os.path.exists(path) or open(path, 'rb').read() != data:
+                wrong += 1
+                print('%s differs' % name)
+        else:
+            os.makedirs(os.path.dirname(path), exist_ok=True)
+            with open(path, 'wb') as f:
+                f.write(data)
+    print('marks: %d points, %s' % (len(points), ', '.join('%s %d' % (f, len(kept(f))) for f in FAMILIES)))
+    sys.exit(wrong > 0)
+
+
+if __name__ == '__main__':
+    main()
