@@ -176,36 +176,36 @@ ascending-at low (o ∷ os) a (suc i) (suc j) h l = ascending-at (suc o) os (a .
 
 -- ---- what an analysis gives
 
-unfoldable Gives : (List Row → Type 0) → Analysed → Type 0
+unfoldable pub Gives : (List Row → Type 0) → Analysed → Type 0
 Gives P (analysed rows) = P rows
 Gives P (refused n) = Unit {0}
 
-gives-of : (P : List Row → Type 0) (a : Analysed) (rows : List Row) → Gives P a → a ≡ analysed rows → P rows
+pub gives-of : (P : List Row → Type 0) (a : Analysed) (rows : List Row) → Gives P a → a ≡ analysed rows → P rows
 unfolding Gives
 gives-of P a rows g q = subst (Gives P) q g
 
-gives-verdict : (P : List Row → Type 0) (v : Verdict) (k : ℕ → Analysed) → ((root : ℕ) → root ≤ 1 → Gives P (k root)) → Gives P (onVerdict v k)
+pub gives-verdict : (P : List Row → Type 0) (v : Verdict) (k : ℕ → Analysed) → ((root : ℕ) → root ≤ 1 → Gives P (k root)) → Gives P (onVerdict v k)
 unfolding Gives onVerdict
 gives-verdict P Live k h = h 1 (omega arith)
 gives-verdict P Dead k h = h 0 (omega arith)
 gives-verdict P (Failed n) k h = tt
 
-gives-found : (P : List Row → Type 0) (f : Found) (k : List ℕ → Analysed) → ((names : List ℕ) → Gives P (k names)) → Gives P (onFound f k)
+pub gives-found : (P : List Row → Type 0) (f : Found) (k : List ℕ → Analysed) → ((names : List ℕ) → Gives P (k names)) → Gives P (onFound f k)
 unfolding Gives onFound
 gives-found P (found xs) k h = h xs
 gives-found P (refusedAfter xs n) k h = tt
 
-gives-onto : (P Q : List Row → Type 0) (r : Row) (a : Analysed) → ((rows : List Row) → Q rows → P (r ∷ rows)) → Gives Q a → Gives P (onto r a)
+pub gives-onto : (P Q : List Row → Type 0) (r : Row) (a : Analysed) → ((rows : List Row) → Q rows → P (r ∷ rows)) → Gives Q a → Gives P (onto r a)
 unfolding Gives onto
 gives-onto P Q r (analysed rows) f g = f rows g
 gives-onto P Q r (refused n) f g = tt
 
-gives-map : (P Q : List Row → Type 0) (a : Analysed) → ((rows : List Row) → P rows → Q rows) → Gives P a → Gives Q a
+pub gives-map : (P Q : List Row → Type 0) (a : Analysed) → ((rows : List Row) → P rows → Q rows) → Gives P a → Gives Q a
 unfolding Gives
 gives-map P Q (analysed rows) f g = f rows g
 gives-map P Q (refused n) f g = tt
 
-gives-refused : (P : List Row → Type 0) (n : ℕ) → Gives P (refused n)
+pub gives-refused : (P : List Row → Type 0) (n : ℕ) → Gives P (refused n)
 unfolding Gives
 gives-refused P n = tt
 

@@ -1,0 +1,226 @@
+-- The indices of the kept entries, item by item. Assumes nothing.
+use mathlib.Core.Path.{_≡_, refl, ap, ap₂, sym, _∙_, subst}
+use Prim.Native.Nat.{ℕ, _-_, _/_, _≤_, _<_}
+use native.Mathlib.Omega.{arith}
+use mathlib.Core.Bool.{true, false}
+use mathlib.Core.List.{List, [], _∷_, _++_}
+use lib.ListN.{length}
+use Rattle.readers.specs.Abbreviations.{declaredIn, findAt}
+use Rattle.readers.specs.Entries.{stepAt}
+use Rattle.readers.specs.Nesting.{nestingOf}
+use Rattle.readers.specs.Stream.{Item, entry, terminator}
+use Rattle.readers.proofs.Streams.{step-look}
+use Rattle.readers.specs.declared.cursor.Encoding.{Encoding}
+use Rattle.readers.specs.declared.cursor.Cursor.{Cursor}
+use Rattle.readers.specs.declared.abbreviations.Found.{Found as Declared}
+use Rattle.readers.specs.declared.entries.Nesting.{Nesting}
+use Rattle.readers.specs.declared.entries.Step.{Step}
+use Rattle.readers.specs.declared.entries.Step.the-variants.{Entry as Entry′, Terminator}
+use Rattle.marking.specs.Roots.{entryValues}
+use Rattle.marking.specs.Analysis.{Sections}
+use Rattle.rewriting.specs.Places.{Standing, keptFrom, offsetOf}
+use Rattle.rewriting.specs.Parents.{Chained}
+use Rattle.rewriting.specs.Indices.{insertAll, readIndices}
+use Rattle.rewriting.specs.Rewriting.{Unit as Unit′, readsOr, readsAt, indicesFrom}
+use Rattle.rewriting.specs.NextKept.{openKept, itemsBy, ShowsItem, Forward, Stood, keptAt, NextItem, Next, Answers}
+use Rattle.rewriting.specs.Written.{ListHeld}
+use Rattle.rewriting.specs.IndexLists.{valueIndices, Filled, ReadAs, Found, ReadDeep, AllRead, Passable}
+use Rattle.rewriting.specs.declared.kept.Reading.{Reading}
+use Rattle.rewriting.specs.declared.kept.Stand.{Stand}
+use Rattle.rewriting.specs.declared.kept.Kept.{Kept}
+use Rattle.rewriting.specs.declared.kept.KeptStep.{KeptStep}
+use Rattle.rewriting.specs.declared.kept.KeptStep.the-variants.{Item as Item′, End}
+use Rattle.rewriting.proofs.ItemsStand.{Every, Stands, kept-stand}
+use Rattle.rewriting.proofs.EntryIndices.{StepIndices, deep-indices}
+use Rattle.rewriting.proofs.IndexTurns.{all-grow, all-append, Filling, filling-start, filling-end, filling-on, filling-short, filling-more}
+
+module _ (r : Reading) (s table unit : List ℕ) (k : ℕ) where
+  abbrev look : ℕ → Declared
+  look = findAt s (r .from) table
+
+  -- ---- the indices of a kept item
+
+  unfoldable ItemIndices : Item → List ℕ → Type 0
+  ItemIndices (entry y) is = is ≡ valueIndices k (entryValues (r .encoding) s (y .declaration .attributes .at) unit (y .values .at))
+  ItemIndices (terminator a b) is = is ≡ []
+
+  module _ (x : Sections) (u : Unit′) (w : ReadAs x u r s unit) (f : Found u r s table) (small : k < 3) where
+    same-step : (at : ℕ) → stepAt (u .header .encoding) (x .abbreviations) (declaredIn (u .declared)) (u .bytes) at ≡ stepAt (r .encoding) s look unit at
+    same-step at =
+        ap (λ (e : Encoding). stepAt e (x .abbreviations) (declaredIn (u .declared)) (u .bytes) at) (w .encoding-is)
+        ∙ ap (λ (l : List ℕ). stepAt (r .encoding) l (declaredIn (u .declared)) (u .bytes) at) (w .abbreviations-are)
+        ∙ ap (λ (l : List ℕ). stepAt (r .encoding) s (declaredIn (u .declared)) l at) (w .bytes-are)
+        ∙ sym (step-look (r .encoding) s look (declaredIn (u .declared)) f unit at)
+
+    same-values : (p at : ℕ) → valueIndices k (entryValues (u .header .encoding) (x .abbreviations) p (u .bytes) at) ≡ valueIndices k (entryValues (r .encoding) s p unit at)
+    same-values p at =
+        ap (λ (e : Encoding). valueIndices k (entryValues e (x .abbreviations) p (u .bytes) at)) (w .encoding-is)
+        ∙ ap (λ (l : List ℕ). valueIndices k (entryValues (r .encoding) l p (u .bytes) at)) (w .abbreviations-are)
+        ∙ ap (λ (l : List ℕ). valueIndices k (entryValues (r .encoding) s p l at)) (w .bytes-are)
+
+    reads-are : (at : ℕ) (d : ReadDeep x u at) → readsAt x u at ≡ d .run .0
+    unfolding readsAt readsOr
+    reads-are at d = ap (readsOr x u) (d .is)
+
+    item-indices : (i : Item) → Stands (r .encoding) s look unit i → ReadDeep x u (offsetOf i) → ItemIndices i (readIndices k (readsAt x u (offsetOf i)))
+    unfolding ItemIndices Stands offsetOf StepIndices
+    item-indices (entry y) q d =
+        let g : StepIndices k small (u .header .encoding) (u .bytes) (x .abbreviations) (declaredIn (u .declared)) (Entry′ y) (readIndices k (d .run .0)) =
+        subst (λ (o : Step). StepIndices k small (u .header .encoding) (u .bytes) (x .abbreviations) (declaredIn (u .declared)) o (readIndices k (d .run .0)))
+        (same-step (y .offset .0) ∙ q)
+        (deep-indices k small (u .header .encoding) (u .bytes) (x .abbreviations) (declaredIn (u .declared)) (y .offset .0) (d .run) (d .is)) in
+        ap (readIndices k) (reads-are (y .offset .0) d) ∙ g ∙ same-values (y .declaration .attributes .at) (y .values .at)
+    item-indices (terminator a b) q d =
+        let g : StepIndices k small (u .header .encoding) (u .bytes) (x .abbreviations) (declaredIn (u .declared)) (Terminator (record { at = b })) (readIndices k (d .run .0)) =
+        subst (λ (o : Step). StepIndices k small (u .header .encoding) (u .bytes) (x .abbreviations) (declaredIn (u .declared)) o (readIndices k (d .run .0)))
+        (same-step a ∙ q)
+        (deep-indices k small (u .header .encoding) (u .bytes) (x .abbreviations) (declaredIn (u .declared)) a (d .run) (d .is)) in
+        ap (readIndices k) (reads-are a d) ∙ g
+
+  -- as the code is shown it
+  shown-entry : (y : Kept) (i : Item) (is : List ℕ) → ShowsItem y i → y .«is_entry» ≡ true → ItemIndices i is
+      → is ≡ valueIndices k (entryValues (r .encoding) s (y .specs .at) unit (y .values .at))
+  unfolding ShowsItem ItemIndices
+  shown-entry y (entry z) is h t g =
+      g ∙ ap₂ (λ (a b : Cursor). valueIndices k (entryValues (r .encoding) s (a .at) unit (b .at))) (sym (h .3)) (sym (h .4))
+  shown-entry y (terminator a b) is h t g = let z : true ≡ false = sym t ∙ h .0 in let n : _≡_ {A = ℕ} 0 1 = cc in absurd (omega arith)
+
+  shown-terminator : (y : Kept) (i : Item) (is : List ℕ) → ShowsItem y i → y .«is_entry» ≡ false → ItemIndices i is → is ≡ []
+  unfolding ShowsItem ItemIndices
+  shown-terminator y (entry z) is h t g = let z : false ≡ true = sym t ∙ h .0 in let n : _≡_ {A = ℕ} 0 1 = cc in absurd (omega arith)
+  shown-terminator y (terminator a b) is h t g = g
+
+  -- ---- the loop
+
+  module _ (parents marks : List ℕ) (first : ℕ) where
+    abbrev items : ℕ → List Item
+    items at = itemsBy r s table unit at
+
+    abbrev pub Put : (x : Sections) (u : Unit′) → List Standing → List ℕ → List ℕ
+    Put x u kept = insertAll (indicesFrom x u k kept)
+
+    abbrev all-kept : List Standing
+    all-kept = keptFrom marks 0 [] (items first)
+
+    -- a pass that puts the indices of what it has met into a list
+    pub record Passing (x : Sections) (u : Unit′) (list₀ : List ℕ) (t : Stand) (list : List ℕ) (n : ℕ) : Type 0 where
+      pub stack : List ℕ
+      pub stood : Stood items parents t stack
+      pub deep : AllRead x u (keptAt items parents marks t stack)
+      pub filling : Filling (Put x u all-kept) list₀ 0 (Put x u (keptAt items parents marks t stack)) list n
+
+    abbrev pub Collecting : List ℕ → Stand → List ℕ → ℕ → Type 0
+    Collecting list₀ t list n =
+        (length list ≡ length list₀) × ((x : Sections) (u : Unit′) → Passable x u r s table unit parents marks first → k < 3 → Passing x u list₀ t list n)
+
+    pub collecting-start : (list₀ : List ℕ) (n : Nesting) → n ≡ nestingOf [] → Collecting list₀ (record { at = first; count = 0; nesting = n }) list₀ 0
+    unfolding openKept Chained
+    collecting-start list₀ n m = (
+      refl,
+      λ x u p l. record {
+        stack = [];
+        stood = record { nested = m; chained = tt; counted = omega arith; passed = omega arith; holds = p .holds };
+        deep = p .deep;
+        filling = filling-start _ _ _;
+      },
+    )
+
+    module _ (list₀ : List ℕ) (t : Stand) (list : List ℕ) (n : ℕ) (g : Collecting list₀ t list n) (o : KeptStep)
+        (a : Answers items parents marks unit t o) where
+      abbrev Answered : ℕ → List ℕ → Type 0
+      Answered m after =
+          (x : Sections) (u : Unit′) → Passable x u r s table unit parents marks first → k < 3 → ListHeld [] list₀ → Filled (Put x u all-kept []) list₀ m after
+
+      pub collect-end : o ≡ End → Answered n list
+      unfolding Next indicesFrom insertAll
+      collect-end q x u p l h =
+          let v : Passing x u list₀ t list n = g .1 x u p l in
+          let e : keptAt items parents marks t (v .stack) ≡ [] = subst (Next items parents marks t (v .stack)) q (a .next (v .stack) (p .small) (v .stood)) in
+          filling-end _ _ _ _ _ _ (v .filling) (λ xs. ap (λ (ss : List Standing). insertAll (indicesFrom x u k ss) xs) e) [] h refl
+
+      module _ (y : Kept) (q : o ≡ Item′ y) where
+        pub collect-less : length unit - y .next .at < length unit - t .at
+        unfolding Forward
+        collect-less =
+            let i : Forward unit (t .at) (Item′ y) = subst (Forward unit (t .at)) q (a .forward) in
+            omega (arith, i .0, i .1, i .2, i .3)
+
+        module _ (x : Sections) (u : Unit′) (p : Passable x u r s table unit parents marks first) (l : k < 3) where
+          abbrev now : Passing x u list₀ t list n
+          now = g .1 x u p l
+
+          next-item : NextItem items parents marks t (now .stack) y
+          unfolding Next
+          next-item = subst (Next items parents marks t (now .stack)) q (a .next (now .stack) (p .small) (now .stood))
+
+          deep-here : AllRead x u (next-item .standing ∷ keptAt items parents marks (y .next) (next-item .after))
+          deep-here = subst (AllRead x u) (next-item .whole) (now .deep)
+
+          deep-after : AllRead x u (keptAt items parents marks (y .next) (next-item .after))
+          unfolding AllRead
+          deep-after = deep-here .1
+
+          stands-here : Stands (r .encoding) s look unit (next-item .standing .item)
+          unfolding Every
+          stands-here =
+              let h : Every (λ (z : Standing). Stands (r .encoding) s look unit (z .item)) (next-item .standing ∷ keptAt items parents marks (y .next) (next-item .after)) =
+              subst (Every (λ (z : Standing). Stands (r .encoding) s look unit (z .item))) (next-item .whole)
+              (kept-stand (r .encoding) s look unit marks (t .count) (openKept marks (now .stack)) (t .at)) in
+              h .0
+
+          indices-here : ItemIndices (next-item .standing .item) (readIndices k (readsAt x u (offsetOf (next-item .standing .item))))
+          unfolding AllRead
+          indices-here = item-indices x u (p .read) (p .found) l (next-item .standing .item) stands-here (deep-here .0)
+
+          put-turn : (is : List ℕ) → readIndices k (readsAt x u (offsetOf (next-item .standing .item))) ≡ is → (xs : List ℕ)
+              → Put x u (keptAt items parents marks t (now .stack)) xs ≡ Put x u (keptAt items parents marks (y .next) (next-item .after)) (insertAll is xs)
+          unfolding indicesFrom
+          put-turn is e xs =
+              ap (λ (ss : List Standing). Put x u ss xs) (next-item .whole)
+              ∙ ap (λ (js : List ℕ). insertAll (js ++ indicesFrom x u k (keptAt items parents marks (y .next) (next-item .after))) xs) e
+              ∙ all-append is _ xs
+
+        -- a terminator
+        pub collect-terminator : y .«is_entry» ≡ false → Collecting list₀ (y .next) list n
+        unfolding insertAll
+        collect-terminator b = (
+          g .0,
+          λ x u p l.
+              let i = next-item x u p l in
+              record {
+                stack = i .after;
+                stood = i .stood;
+                deep = deep-after x u p l;
+                filling = filling-on _ _ _ _ _ _ (now x u p l .filling) (Put x u (keptAt items parents marks (y .next) (i .after)))
+                    (put-turn x u p l [] (shown-terminator y (i .standing .item) _ (i .shows) b (indices-here x u p l)));
+              },
+        )
+
+        -- an entry, and what its indices made of the list
+        module _ (b : y .«is_entry» ≡ true) (m : ℕ) (after : List ℕ) (e : length after ≡ length list)
+            (d : (xs : List ℕ) → ListHeld xs list → n ≡ length xs
+            → Filled (insertAll (valueIndices k (entryValues (r .encoding) s (y .specs .at) unit (y .values .at))) xs) list m after) where
+          abbrev own : List ℕ
+          own = valueIndices k (entryValues (r .encoding) s (y .specs .at) unit (y .values .at))
+
+          pub collect-short : length after / 8 < m → Answered m after
+          collect-short h x u p l z =
+              let i = next-item x u p l in
+              filling-short _ _ _ _ _ _ (now x u p l .filling) (insertAll own) (Put x u (keptAt items parents marks (y .next) (i .after)))
+              (put-turn x u p l own (shown-entry y (i .standing .item) _ (i .shows) b (indices-here x u p l)))
+              (λ xs. all-grow _ xs) m after e d h [] z refl
+
+          pub collect-more : m ≤ length after / 8 → Collecting list₀ (y .next) after m
+          collect-more h = (
+            e ∙ g .0,
+            λ x u p l.
+                let i = next-item x u p l in
+                record {
+                  stack = i .after;
+                  stood = i .stood;
+                  deep = deep-after x u p l;
+                  filling = filling-more _ _ _ _ _ _ (now x u p l .filling) (insertAll own) (Put x u (keptAt items parents marks (y .next) (i .after)))
+                      (put-turn x u p l own (shown-entry y (i .standing .item) _ (i .shows) b (indices-here x u p l)))
+                      (λ xs. all-grow _ xs) m after e d h;
+                },
+          )

@@ -1,0 +1,58 @@
+-- What stands where a kept item starts: the entry that the answer shows, or a terminator. Assumes nothing.
+use mathlib.Core.Path.{_≡_, refl, ap, ap₂, sym, _∙_, subst}
+use Prim.Native.Nat.{ℕ}
+use native.Mathlib.Omega.{arith}
+use mathlib.Core.Bool.{true, false}
+use mathlib.Core.List.{List}
+use Rattle.readers.specs.Cursors.{cursor}
+use Rattle.readers.specs.Entries.{stepAt}
+use Rattle.readers.specs.Stream.{Item, entry, terminator}
+use Rattle.readers.specs.declared.cursor.Encoding.{Encoding}
+use Rattle.readers.specs.declared.abbreviations.Found.{Found}
+use Rattle.readers.specs.declared.entries.Entry.{Entry}
+use Rattle.readers.specs.declared.entries.Step.the-variants.{Entry as Entry′, Terminator}
+use Rattle.rewriting.specs.NextKept.{openKept, ShowsItem, NextItem}
+use Rattle.rewriting.specs.declared.kept.Stand.{Stand}
+use Rattle.rewriting.specs.declared.kept.Kept.{Kept}
+use Rattle.rewriting.proofs.ItemsStand.{Every, Stands, kept-stand}
+use Rattle.rewriting.proofs.KeptSteps.{items}
+
+module _ (e : Encoding) (abbreviations : List ℕ) (look : ℕ → Found) (unit : List ℕ) where
+  -- the item of an answer is the entry at its start
+  pub record EntryShown (x : Kept) (i : Item) : Type 0 where
+    pub it : Entry
+    pub item : i ≡ entry it
+    pub here : stepAt e abbreviations look unit (x .start) ≡ Entry′ it
+    pub end : x .end ≡ it .next .at
+    pub specs : x .specs ≡ it .declaration .attributes
+    pub values : x .values ≡ it .values
+
+  pub record TerminatorShown (x : Kept) (i : Item) : Type 0 where
+    pub item : i ≡ terminator (x .start) (x .end)
+    pub here : stepAt e abbreviations look unit (x .start) ≡ Terminator (cursor (x .end))
+
+  entry-of : (x : Kept) (i : Item) → ShowsItem x i → Stands e abbreviations look unit i → x .«is_entry» ≡ true → EntryShown x i
+  unfolding ShowsItem Stands
+  entry-of x (entry y) h s q =
+      record { it = y; item = refl; here = ap (stepAt e abbreviations look unit) (h .1) ∙ s; end = h .2; specs = h .3; values = h .4 }
+  entry-of x (terminator a b) h s q = absurd (let z : true ≡ false = sym q ∙ h .0 in let n : _≡_ {A = ℕ} 0 1 = cc in omega arith)
+
+  terminator-of : (x : Kept) (i : Item) → ShowsItem x i → Stands e abbreviations look unit i → x .«is_entry» ≡ false → TerminatorShown x i
+  unfolding ShowsItem Stands
+  terminator-of x (entry y) h s q = absurd (let z : true ≡ false = sym (h .0) ∙ q in let n : _≡_ {A = ℕ} 0 1 = cc in omega arith)
+  terminator-of x (terminator a b) h s q =
+      record {
+        item = ap₂ (λ (m n : ℕ). terminator m n) (sym (h .1)) (sym (h .2));
+        here = ap (stepAt e abbreviations look unit) (h .1) ∙ s ∙ ap (λ (n : ℕ). Terminator (cursor n)) (sym (h .2));
+      }
+
+  module _ (parents marks : List ℕ) (s : Stand) (stack : List ℕ) (x : Kept) (y : NextItem (items e abbreviations look unit) parents marks s stack x) where
+    pub next-stands : Stands e abbreviations look unit (y .standing .item)
+    unfolding Every
+    next-stands = subst (Every (λ t. Stands e abbreviations look unit (t .item))) (y .whole) (kept-stand e abbreviations look unit marks (s .count) (openKept marks stack) (s .at)) .0
+
+    pub next-entry : x .«is_entry» ≡ true → EntryShown x (y .standing .item)
+    next-entry q = entry-of x (y .standing .item) (y .shows) next-stands q
+
+    pub next-terminator : x .«is_entry» ≡ false → TerminatorShown x (y .standing .item)
+    next-terminator q = terminator-of x (y .standing .item) (y .shows) next-stands q

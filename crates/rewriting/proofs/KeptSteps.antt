@@ -1,0 +1,342 @@
+-- A pass through the kept items, item by item: where it stands after an entry and after a terminator, and what it answers. Assumes nothing.
+use mathlib.Core.Path.{_≡_, refl, ap, ap₂, sym, _∙_, subst}
+use Prim.Native.Nat.{ℕ, suc, _+_, _-_, _^_, _≤_, _<_}
+use native.Mathlib.Omega.{arith}
+use native.Mathlib.Numerals.{add-one}
+use mathlib.Core.Bool.{Bool, true, false}
+use mathlib.Core.List.{List, [], _∷_}
+use lib.ListN.{length, getD, List·getD-eq-default}
+use mir.Facts.{yes-eqb, no-eqb}
+use Rattle.readers.specs.Choice.{pick, pick-yes, pick-no}
+use Rattle.readers.specs.Entries.{stepAt}
+use Rattle.readers.specs.Nesting.{open′, close, top, nestingOf}
+use Rattle.readers.specs.Nesting.{opened as openedBy, closed as closedBy}
+use Rattle.readers.proofs.Nesting.{Chain, opened-is, closed-is}
+use Rattle.readers.specs.Stream.{Item, entry, terminator, Items, push, onStep, itemsFrom}
+use Rattle.readers.proofs.Streams.{EntryInside, step-inside, terminator-inside, items-step}
+use Rattle.readers.specs.declared.cursor.Encoding.{Encoding}
+use Rattle.readers.specs.declared.cursor.Cursor.{Cursor}
+use Rattle.readers.specs.declared.abbreviations.Found.{Found}
+use Rattle.readers.specs.declared.entries.Entry.{Entry}
+use Rattle.readers.specs.declared.entries.Nesting.{Nesting}
+use Rattle.readers.specs.declared.entries.Step.{Step}
+use Rattle.readers.specs.declared.entries.Step.the-variants.{Entry as Entry′, Terminator, End as StepEnd, Unreadable}
+use Rattle.marking.specs.Marks.{isKept}
+use Rattle.rewriting.specs.Places.{Standing, opened, closed, innermost, withIf, keptFrom}
+use Rattle.rewriting.specs.Parents.{parentsFrom, HoldsFrom, Chained}
+use Rattle.rewriting.specs.NextKept.{openKept, closesKept, ShowsItem, Forward, Stood, keptAt, Next, Answers}
+use Rattle.rewriting.specs.declared.kept.Stand.{Stand}
+use Rattle.rewriting.specs.declared.kept.KeptStep.the-variants.{Item as Item′, End}
+
+-- ---- tests
+
+pub kept-outside : (marks : List ℕ) (i : ℕ) → length marks ≤ i → false ≡ isKept marks i
+unfolding isKept
+kept-outside marks i h = rw (List·getD-eq-default marks 0 h) refl
+
+pub closes-outside : (marks : List ℕ) (n : Nesting) → n .depth ≡ 0 → false ≡ closesKept marks n
+unfolding closesKept
+closes-outside marks n h = sym (pick-yes _ _ _ (yes-eqb {a = n .depth} {b = 0} h))
+
+pub closes-inside : (marks : List ℕ) (n : Nesting) (b : Bool) → (n .depth ≡ 0 → ⊥) → b ≡ isKept marks (n .parent .0) → b ≡ closesKept marks n
+unfolding closesKept
+closes-inside marks n b h e = e ∙ sym (pick-no _ _ _ (no-eqb {a = n .depth} {b = 0} h))
+
+-- ---- the open entries
+
+open-length : (marks stack : List ℕ) → length (openKept marks stack) ≡ length stack
+unfolding openKept
+open-length marks [] = refl
+open-length marks (k ∷ stack) = ap suc (open-length marks stack)
+
+open-opened : (marks : List ℕ) (children : Bool) (k : ℕ) (stack : List ℕ)
+    → opened children (isKept marks k) (openKept marks stack) ≡ openKept marks (open′ children k stack)
+unfolding openKept opened open′ pick
+open-opened marks true k stack = refl
+open-opened marks false k stack = refl
+
+open-closed : (marks stack : List ℕ) → closed (openKept marks stack) ≡ openKept marks (close stack)
+unfolding openKept closed close
+open-closed marks [] = refl
+open-closed marks (k ∷ stack) = refl
+
+open-innermost : (marks stack : List ℕ) → closesKept marks (nestingOf stack) ≡ innermost (openKept marks stack)
+unfolding openKept innermost nestingOf top
+open-innermost marks [] = sym (closes-outside marks (nestingOf []) refl)
+open-innermost marks (k ∷ stack) =
+    sym (closes-inside marks (nestingOf (k ∷ stack)) _ (λ q. absurd (let z : suc (length stack) ≡ 0 = q in omega arith)) refl)
+
+chain-of : (parents stack : List ℕ) → Chained parents stack → Chain parents stack
+unfolding Chained Chain
+chain-of parents [] h = tt
+chain-of parents (k ∷ stack) h = (h .0, chain-of parents stack (h .1))
+
+chained-open : (parents : List ℕ) (children : Bool) (k : ℕ) (stack : List ℕ) → getD parents k 4294967295 ≡ top stack → Chained parents stack
+    → Chained parents (open′ children k stack)
+unfolding Chained open′
+chained-open parents true k stack e h = (e, h)
+chained-open parents false k stack e h = h
+
+chained-close : (parents stack : List ℕ) → Chained parents stack → Chained parents (close stack)
+unfolding Chained close
+chained-close parents [] h = tt
+chained-close parents (k ∷ stack) h = h .1
+
+length-open : (children : Bool) (k : ℕ) (stack : List ℕ) → length (open′ children k stack) ≤ length stack + 1
+unfolding open′
+length-open true k stack = let h : suc (length stack) ≤ length stack + 1 = omega arith in h
+length-open false k stack = omega arith
+
+length-close : (stack : List ℕ) → length (close stack) ≤ length stack
+unfolding close
+length-close [] = omega arith
+length-close (k ∷ stack) = let h : length stack ≤ suc (length stack) = omega arith in h
+
+with-yes : (b : Bool) (x : Standing) (xs : List Standing) → b ≡ true → withIf b x xs ≡ x ∷ xs
+unfolding withIf
+with-yes b x xs e = ap (λ (b : Bool). withIf b x xs) e
+
+with-no : (b : Bool) (x : Standing) (xs : List Standing) → b ≡ false → withIf b x xs ≡ xs
+unfolding withIf
+with-no b x xs e = ap (λ (b : Bool). withIf b x xs) e
+
+-- ---- one step
+
+abbrev pub stand : ℕ → ℕ → Nesting → Stand
+stand at count n = record { at = at; count = count; nesting = n }
+
+module _ (e : Encoding) (abbreviations : List ℕ) (look : ℕ → Found) (unit : List ℕ) where
+  abbrev pub items : ℕ → List Item
+  items at = itemsFrom e abbreviations look unit at .0
+
+  items-by : (at : ℕ) (o : Step) → stepAt e abbreviations look unit at ≡ o → items at ≡ onStep at o (itemsFrom e abbreviations look unit) .0
+  items-by at o q =
+      ap (λ (r : Items). r .0) (items-step e abbreviations look unit at) ∙ ap (λ (o : Step). onStep at o (itemsFrom e abbreviations look unit) .0) q
+
+  pub items-entry : (at : ℕ) (x : Entry) → stepAt e abbreviations look unit at ≡ Entry′ x → items at ≡ entry x ∷ items (x .next .at)
+  unfolding onStep push
+  items-entry at x q = items-by at (Entry′ x) q
+
+  pub items-terminator : (at : ℕ) (c : Cursor) → stepAt e abbreviations look unit at ≡ Terminator c → items at ≡ terminator at (c .at) ∷ items (c .at)
+  unfolding onStep push
+  items-terminator at c q = items-by at (Terminator c) q
+
+  pub items-end : (at : ℕ) → stepAt e abbreviations look unit at ≡ StepEnd → items at ≡ []
+  unfolding onStep
+  items-end at q = items-by at StepEnd q
+
+  pub items-bad : (at : ℕ) → stepAt e abbreviations look unit at ≡ Unreadable → items at ≡ []
+  unfolding onStep
+  items-bad at q = items-by at Unreadable q
+
+  module _ (parents marks : List ℕ) where
+    -- ---- after an entry
+
+    entry-holds : (t : Stand) (stack : List ℕ) (x : Entry) → stepAt e abbreviations look unit (t .at) ≡ Entry′ x → Stood items parents t stack
+        → (getD parents (t .count) 4294967295 ≡ top stack)
+        × HoldsFrom parents (t .count + 1) (parentsFrom (t .count + 1) (open′ (x .declaration .children) (t .count) stack) (items (x .next .at)))
+    unfolding parentsFrom HoldsFrom
+    entry-holds t stack x q s =
+        let h : HoldsFrom parents (t .count) (parentsFrom (t .count) stack (entry x ∷ items (x .next .at))) =
+        subst (λ (is : List Item). HoldsFrom parents (t .count) (parentsFrom (t .count) stack is)) (items-entry (t .at) x q) (s .holds) in (
+          h .0,
+          subst (λ (k : ℕ). HoldsFrom parents k (parentsFrom k (open′ (x .declaration .children) (t .count) stack) (items (x .next .at))))
+              (sym (add-one (t .count))) (h .1),
+        )
+
+    entry-stood : (t : Stand) (stack : List ℕ) (x : Entry) (n : Nesting) → stepAt e abbreviations look unit (t .at) ≡ Entry′ x
+        → n ≡ openedBy (x .declaration .children) (t .count) (t .nesting) → length unit < 2 ^ 32 → Stood items parents t stack
+        → Stood items parents (stand (x .next .at) (t .count + 1) n) (open′ (x .declaration .children) (t .count) stack)
+    entry-stood t stack x n q m u s =
+        let i : EntryInside unit (t .at) x = step-inside e abbreviations look unit (t .at) x q in
+        let h = entry-holds t stack x q s in
+        let l : length stack < 2 ^ 64 - 1 = omega (arith, s .counted, s .passed, i .coded, i .ahead, i .within) in
+        record {
+          nested = m ∙ ap (openedBy (x .declaration .children) (t .count)) (s .nested) ∙ opened-is (x .declaration .children) (t .count) stack l;
+          chained = chained-open parents (x .declaration .children) (t .count) stack (h .0) (s .chained);
+          counted = omega (arith, length-open (x .declaration .children) (t .count) stack, s .counted);
+          passed = omega (arith, s .passed, i .coded, i .ahead);
+          holds = h .1;
+        }
+
+    entry-kept : (t : Stand) (stack : List ℕ) (x : Entry) → stepAt e abbreviations look unit (t .at) ≡ Entry′ x
+        → keptAt items parents marks t stack
+        ≡ withIf (isKept marks (t .count)) (record { item = entry x; depth = length stack })
+        (keptFrom marks (t .count + 1) (openKept marks (open′ (x .declaration .children) (t .count) stack)) (items (x .next .at)))
+    unfolding keptFrom
+    entry-kept t stack x q =
+        ap (keptFrom marks (t .count) (openKept marks stack)) (items-entry (t .at) x q)
+        ∙ ap₂ (λ (d : ℕ) (bs : List Bool). withIf (isKept marks (t .count)) (record { item = entry x; depth = d }) (keptFrom marks (suc (t .count)) bs (items (x .next .at))))
+        (open-length marks stack) (open-opened marks (x .declaration .children) (t .count) stack)
+        ∙ ap (λ (k : ℕ). withIf (isKept marks (t .count)) (record { item = entry x; depth = length stack })
+        (keptFrom marks k (openKept marks (open′ (x .declaration .children) (t .count) stack)) (items (x .next .at)))) (sym (add-one (t .count)))
+
+    -- ---- after a terminator
+
+    terminator-stood : (t : Stand) (stack : List ℕ) (c : Cursor) (n : Nesting) → stepAt e abbreviations look unit (t .at) ≡ Terminator c
+        → n ≡ closedBy parents (t .nesting) → Stood items parents t stack → Stood items parents (stand (c .at) (t .count) n) (close stack)
+    unfolding parentsFrom
+    terminator-stood t stack c n q m s =
+        let i = terminator-inside e abbreviations look unit (t .at) c q in
+        record {
+          nested = m ∙ ap (closedBy parents) (s .nested) ∙ closed-is parents stack (chain-of parents stack (s .chained));
+          chained = chained-close parents stack (s .chained);
+          counted = omega (arith, length-close stack, s .counted);
+          passed = omega (arith, s .passed, i .0);
+          holds = subst (λ (is : List Item). HoldsFrom parents (t .count) (parentsFrom (t .count) stack is)) (items-terminator (t .at) c q) (s .holds);
+        }
+
+    terminator-kept : (t : Stand) (stack : List ℕ) (c : Cursor) → stepAt e abbreviations look unit (t .at) ≡ Terminator c → t .nesting ≡ nestingOf stack
+        → keptAt items parents marks t stack
+        ≡ withIf (closesKept marks (t .nesting)) (record { item = terminator (t .at) (c .at); depth = length stack })
+        (keptFrom marks (t .count) (openKept marks (close stack)) (items (c .at)))
+    unfolding keptFrom
+    terminator-kept t stack c q m =
+        ap (keptFrom marks (t .count) (openKept marks stack)) (items-terminator (t .at) c q)
+        ∙ ap₂ (λ (d : ℕ) (bs : List Bool). withIf (innermost (openKept marks stack)) (record { item = terminator (t .at) (c .at); depth = d }) (keptFrom marks (t .count) bs (items (c .at))))
+        (open-length marks stack) (open-closed marks stack)
+        ∙ ap (λ (b : Bool). withIf b (record { item = terminator (t .at) (c .at); depth = length stack }) (keptFrom marks (t .count) (openKept marks (close stack)) (items (c .at))))
+        (sym (open-innermost marks stack) ∙ ap (closesKept marks) (sym m))
+
+    -- ---- the loop: what is kept from the start on is what is kept from here on
+
+    pub record Walked (s : Stand) (stack : List ℕ) (t : Stand) : Type 0 where
+      pub now : List ℕ
+      pub stood : Stood items parents t now
+      pub same : keptAt items parents marks s stack ≡ keptAt items parents marks t now
+
+    abbrev pub Walking : Stand → Stand → Type 0
+    Walking s t = (s .at ≤ t .at) × ((stack : List ℕ) → length unit < 2 ^ 32 → Stood items parents s stack → Walked s stack t)
+
+    pub walking-start : (s : Stand) → Walking s s
+    walking-start s = (omega arith, λ stack u h. record { now = stack; stood = h; same = refl })
+
+    depth-of : (t : Stand) (stack : List ℕ) → t .nesting ≡ nestingOf stack → t .nesting .depth ≡ length stack
+    unfolding nestingOf
+    depth-of t stack m = ap (λ (n : Nesting). n .depth) m
+
+    module _ (s t : Stand) (w : Walking s t) where
+      pub end-over : (x : Entry) → stepAt e abbreviations look unit (t .at) ≡ Entry′ x → 4294967295 < t .count → Answers items parents marks unit s End
+      unfolding Forward Next
+      end-over x q h =
+          record {
+            forward = tt;
+            next = λ stack u g.
+                let i : EntryInside unit (t .at) x = step-inside e abbreviations look unit (t .at) x q in
+                let v = w .1 stack u g in
+                absurd (omega (arith, v .stood .passed, i .coded, i .ahead, i .within));
+          }
+
+      pub end-end : stepAt e abbreviations look unit (t .at) ≡ StepEnd → Answers items parents marks unit s End
+      unfolding Forward Next keptFrom
+      end-end q =
+          record {
+            forward = tt;
+            next = λ stack u g.
+                let v = w .1 stack u g in
+                v .same ∙ ap (keptFrom marks (t .count) (openKept marks (v .now))) (items-end (t .at) q);
+          }
+
+      pub end-bad : stepAt e abbreviations look unit (t .at) ≡ Unreadable → Answers items parents marks unit s End
+      unfolding Forward Next keptFrom
+      end-bad q =
+          record {
+            forward = tt;
+            next = λ stack u g.
+                let v = w .1 stack u g in
+                v .same ∙ ap (keptFrom marks (t .count) (openKept marks (v .now))) (items-bad (t .at) q);
+          }
+
+      module _ (x : Entry) (q : stepAt e abbreviations look unit (t .at) ≡ Entry′ x) where
+        pub entry-less : length unit - x .next .at < length unit - t .at
+        entry-less =
+            let i : EntryInside unit (t .at) x = step-inside e abbreviations look unit (t .at) x q in
+            omega (arith, i .coded, i .ahead, i .within)
+
+        module _ (n : Nesting) (m : n ≡ openedBy (x .declaration .children) (t .count) (t .nesting)) where
+          pub entry-item : isKept marks (t .count) ≡ true
+              → Answers items parents marks unit s (Item′ (record {
+                start = t .at;
+                end = x .next .at;
+                depth = t .nesting .depth;
+                «is_entry» = true;
+                specs = x .declaration .attributes;
+                values = x .values;
+                next = stand (x .next .at) (t .count + 1) n;
+              }))
+          unfolding Forward Next ShowsItem
+          entry-item k =
+              let i : EntryInside unit (t .at) x = step-inside e abbreviations look unit (t .at) x q in
+              record {
+                forward = (w .0, omega (arith, i .coded, i .ahead), i .within, refl);
+                next = λ stack u g.
+                    let v = w .1 stack u g in
+                    record {
+                      standing = record { item = entry x; depth = length (v .now) };
+                      after = open′ (x .declaration .children) (t .count) (v .now);
+                      whole = v .same ∙ entry-kept t (v .now) x q ∙ with-yes _ _ _ k;
+                      shows = (refl, sym (i .here), refl, refl, refl);
+                      deep = depth-of t (v .now) (v .stood .nested);
+                      low = omega (arith, depth-of t (v .now) (v .stood .nested), v .stood .counted, v .stood .passed);
+                      stood = entry-stood t (v .now) x n q m u (v .stood);
+                    };
+              }
+
+          pub entry-on : isKept marks (t .count) ≡ false → Walking s (stand (x .next .at) (t .count + 1) n)
+          entry-on k =
+              let i : EntryInside unit (t .at) x = step-inside e abbreviations look unit (t .at) x q in (
+                omega (arith, w .0, i .coded, i .ahead),
+                λ stack u g.
+                    let v = w .1 stack u g in
+                    record {
+                      now = open′ (x .declaration .children) (t .count) (v .now);
+                      stood = entry-stood t (v .now) x n q m u (v .stood);
+                      same = v .same ∙ entry-kept t (v .now) x q ∙ with-no _ _ _ k;
+                    },
+              )
+
+      module _ (c : Cursor) (q : stepAt e abbreviations look unit (t .at) ≡ Terminator c) where
+        pub terminator-less : length unit - c .at < length unit - t .at
+        terminator-less = let i = terminator-inside e abbreviations look unit (t .at) c q in omega (arith, i .0, i .1)
+
+        module _ (n : Nesting) (m : n ≡ closedBy parents (t .nesting)) where
+          pub terminator-item : closesKept marks (t .nesting) ≡ true
+              → Answers items parents marks unit s (Item′ (record {
+                start = t .at;
+                end = c .at;
+                depth = t .nesting .depth;
+                «is_entry» = false;
+                specs = c;
+                values = c;
+                next = stand (c .at) (t .count) n;
+              }))
+          unfolding Forward Next ShowsItem
+          terminator-item k =
+              let i = terminator-inside e abbreviations look unit (t .at) c q in
+              record {
+                forward = (w .0, i .0, i .1, refl);
+                next = λ stack u g.
+                    let v = w .1 stack u g in
+                    record {
+                      standing = record { item = terminator (t .at) (c .at); depth = length (v .now) };
+                      after = close (v .now);
+                      whole = v .same ∙ terminator-kept t (v .now) c q (v .stood .nested) ∙ with-yes _ _ _ k;
+                      shows = (refl, refl, refl);
+                      deep = depth-of t (v .now) (v .stood .nested);
+                      low = omega (arith, depth-of t (v .now) (v .stood .nested), v .stood .counted, v .stood .passed);
+                      stood = terminator-stood t (v .now) c n q m (v .stood);
+                    };
+              }
+
+          pub terminator-on : closesKept marks (t .nesting) ≡ false → Walking s (stand (c .at) (t .count) n)
+          terminator-on k =
+              let i = terminator-inside e abbreviations look unit (t .at) c q in (
+                omega (arith, w .0, i .0),
+                λ stack u g.
+                    let v = w .1 stack u g in
+                    record {
+                      now = close (v .now);
+                      stood = terminator-stood t (v .now) c n q m (v .stood);
+                      same = v .same ∙ terminator-kept t (v .now) c q (v .stood .nested) ∙ with-no _ _ _ k;
+                    },
+              )

@@ -1,0 +1,243 @@
+-- The map as a table: its columns, what is read at a place, the place of an old offset, and one place more.
+use Prim.Native.Nat.{ℕ, zero, suc, _+_, _-_, _*_, _/_, _≤_, _<_}
+use mathlib.Core.Path.{_≡_, refl, ap, sym, _∙_}
+use mathlib.Core.Bool.{true, false}
+use mathlib.Core.List.{List, [], _∷_, _++_}
+use mathlib.Core.Logic.{⊎-elim}
+use mathlib.Core.Option.{none, some}
+use native.Mathlib.Numerals.{add-one}
+use native.Mathlib.Omega.{arith}
+use lib.ListN.{length, getD, drop, length-append, drop-of-length-le}
+use lib.Seq.{drop-cons}
+use lib.Dec.{ltb, leb}
+use mir.Facts.{ltb-yes, ltb-no, yes-eqb, no-eqb}
+use borrow.Author.Tests.{le-leb, lt-leb}
+use Rattle.readers.specs.Choice.{pick, _and_, pick-yes, pick-no, either}
+use Rattle.readers.specs.Numbers.{fixedBytes, length-fixed}
+use Rattle.marking.specs.Resolution.{Ascending as From}
+use Rattle.rewriting.specs.Indices.{rankIn}
+use Rattle.rewriting.specs.Places.{Place, newOf, firstFrom, orElse, siblingOf}
+use Rattle.rewriting.specs.Maps.{oldOffsets}
+use Rattle.rewriting.specs.Written.{put, numberAt, Held, columns, MapHeld, place, withPlace, asMapped}
+use Rattle.rewriting.specs.declared.map.Mapped.the-variants.{To, Nothing}
+use Rattle.rewriting.proofs.Tables.{held-at, held-more, length-put}
+use Rattle.rewriting.proofs.Ranks.{rank-above, rank-is}
+
+-- ---- columns
+
+pub length-olds : (ps : List Place) → length (oldOffsets ps) ≡ length ps
+unfolding oldOffsets
+length-olds [] = refl
+length-olds (p ∷ ps) = ap suc (length-olds ps)
+
+pub length-columns : (ps : List Place) → length (columns ps) ≡ 3 * length ps
+unfolding columns
+length-columns [] = refl
+length-columns (p ∷ ps) = let e : length (columns ps) ≡ 3 * length ps = length-columns ps in let g : suc (suc (suc (length (columns ps)))) ≡ 3 * suc (length ps) = omega arith in g
+
+columns-append : (ps : List Place) (p : Place) → columns (ps ++ (p ∷ [])) ≡ ((columns ps ++ (p .old ∷ [])) ++ (p .new ∷ [])) ++ (p .depth ∷ [])
+unfolding columns
+columns-append [] p = refl
+columns-append (q ∷ ps) p = ap (λ (l : List ℕ). q .old ∷ q .new ∷ q .depth ∷ l) (columns-append ps p)
+
+abbrev nowhere : Place
+nowhere = place 0 0 0
+
+old-of : (ps : List Place) (i : ℕ) → getD (oldOffsets ps) i 0 ≡ (getD ps i nowhere) .old
+unfolding oldOffsets
+old-of [] i = refl
+old-of (p ∷ ps) zero = refl
+old-of (p ∷ ps) (suc i) = old-of ps i
+
+three : (i : ℕ) → 3 * suc i ≡ suc (suc (suc (3 * i)))
+three i = omega arith
+
+column-old : (ps : List Place) (i : ℕ) → getD (columns ps) (3 * i) 0 ≡ (getD ps i nowhere) .old
+unfolding columns
+column-old [] i = refl
+column-old (p ∷ ps) zero = refl
+column-old (p ∷ ps) (suc i) = ap (λ n. getD (p .old ∷ p .new ∷ p .depth ∷ columns ps) n 0) (three i) ∙ column-old ps i
+
+column-new : (ps : List Place) (i : ℕ) → getD (columns ps) (suc (3 * i)) 0 ≡ (getD ps i nowhere) .new
+unfolding columns
+column-new [] i = refl
+column-new (p ∷ ps) zero = refl
+column-new (p ∷ ps) (suc i) = ap (λ n. getD (p .old ∷ p .new ∷ p .depth ∷ columns ps) (suc n) 0) (three i) ∙ column-new ps i
+
+column-depth : (ps : List Place) (i : ℕ) → getD (columns ps) (suc (suc (3 * i))) 0 ≡ (getD ps i nowhere) .depth
+unfolding columns
+column-depth [] i = refl
+column-depth (p ∷ ps) zero = refl
+column-depth (p ∷ ps) (suc i) = ap (λ n. getD (p .old ∷ p .new ∷ p .depth ∷ columns ps) (suc (suc n)) 0) (three i) ∙ column-depth ps i
+
+-- ---- what is read at a place
+
+module _ (ps : List Place) (map : List ℕ) (h : MapHeld ps map) (i : ℕ) (l : i < length ps) where
+  at-column : (k at : ℕ) → k < 3 * length ps → at ≡ 4 * k → numberAt 4 map at ≡ getD (columns ps) k 0
+  at-column k at b e = ap (λ n. numberAt 4 map n) e ∙ held-at 4 (columns ps) map k (h .held) (omega (arith, length-columns ps))
+
+  pub room-at : i < length map / 12
+  room-at = let r : 4 * length (columns ps) ≤ length map = h .held .room in omega (arith, length-columns ps)
+
+  pub old-held : (r : ℕ) → (i < length map / 12 → r ≡ numberAt 4 map (12 * i)) → r ≡ (getD ps i nowhere) .old
+  old-held r f = f room-at ∙ at-column (3 * i) (12 * i) (omega arith) (omega arith) ∙ column-old ps i
+
+  pub new-held : (r : ℕ) → (i < length map / 12 → r ≡ numberAt 4 map (12 * i + 4)) → r ≡ (getD ps i nowhere) .new
+  new-held r f = f room-at ∙ at-column (suc (3 * i)) (12 * i + 4) (omega arith) (omega arith) ∙ column-new ps i
+
+  pub depth-held : (r : ℕ) → (i < length map / 12 → r ≡ numberAt 4 map (12 * i + 8)) → r ≡ (getD ps i nowhere) .depth
+  depth-held r f = f room-at ∙ at-column (suc (suc (3 * i))) (12 * i + 8) (omega arith) (omega arith) ∙ column-depth ps i
+
+-- ---- the place of an old offset
+
+new-from : (low : ℕ) (ps : List Place) (v i : ℕ) → From low (oldOffsets ps) → i < length ps → (getD ps i nowhere) .old ≡ v → newOf ps v ≡ some ((getD ps i nowhere) .new)
+unfolding newOf oldOffsets From
+new-from low [] v i f h e = absurd (omega arith)
+new-from low (p ∷ ps) v zero f h e = pick-yes _ _ _ (yes-eqb {a = p .old} {b = v} e)
+new-from low (p ∷ ps) v (suc i) f h e =
+    let k : suc (p .old) ≤ (getD ps i nowhere) .old = from-old (suc (p .old)) ps i (f .1) (omega arith) in
+    pick-no _ _ _ (no-eqb {a = p .old} {b = v} (λ z. omega arith)) ∙ new-from (suc (p .old)) ps v i (f .1) (omega arith) e
+  where
+    from-old : (low : ℕ) (ps : List Place) (i : ℕ) → From low (oldOffsets ps) → i < length ps → low ≤ (getD ps i nowhere) .old
+    from-old low [] i f h = absurd (omega arith)
+    from-old low (p ∷ ps) zero f h = f .0
+    from-old low (p ∷ ps) (suc i) f h = let k : low ≤ p .old = f .0 in let l : suc (p .old) ≤ (getD ps i nowhere) .old = from-old (suc (p .old)) ps i (f .1) (omega arith) in omega arith
+
+new-absent : (ps : List Place) (v : ℕ) → ((i : ℕ) → i < length ps → (getD ps i nowhere) .old ≡ v → ⊥) → newOf ps v ≡ none
+unfolding newOf
+new-absent [] v f = refl
+new-absent (p ∷ ps) v f = pick-no _ _ _ (no-eqb {a = p .old} {b = v} (λ e. f 0 (omega arith) e)) ∙ new-absent ps v (λ i h e. f (suc i) (omega arith) e)
+
+-- ---- the first place that is no deeper
+
+first-skip : (ps : List Place) (depth v : ℕ) → firstFrom ps depth v ≡ firstFrom (drop (rankIn (oldOffsets ps) v) ps) depth v
+unfolding firstFrom oldOffsets rankIn _and_
+first-skip [] depth v = refl
+first-skip (p ∷ ps) depth v =
+    ⊎-elim
+    (λ t. ap (λ b. pick (b and leb (p .depth) depth) (some (p .new)) (firstFrom ps depth v)) (lt-leb v (p .old) (ltb-yes {a = p .old} {b = v} t))
+    ∙ pick-no false _ _ tt ∙ first-skip ps depth v
+    ∙ ap (λ n. firstFrom (drop n (p ∷ ps)) depth v) (sym (pick-yes (ltb (p .old) v) (suc (rankIn (oldOffsets ps) v)) 0 t)))
+    (λ t. ap (λ n. firstFrom (drop n (p ∷ ps)) depth v) (sym (pick-no (ltb (p .old) v) (suc (rankIn (oldOffsets ps) v)) 0 t)))
+    (either (ltb (p .old) v))
+
+module _ (ps : List Place) (depth v i : ℕ) (l : i < length ps) where
+  first-open : firstFrom (drop i ps) depth v
+      ≡ pick (leb v ((getD ps i nowhere) .old) and leb ((getD ps i nowhere) .depth) depth) (some ((getD ps i nowhere) .new)) (firstFrom (drop (suc i) ps) depth v)
+  unfolding firstFrom
+  first-open = ap (λ x. firstFrom x depth v) (drop-cons ps i nowhere l)
+
+  pub first-here : v ≤ (getD ps i nowhere) .old → (getD ps i nowhere) .depth ≤ depth → firstFrom (drop i ps) depth v ≡ some ((getD ps i nowhere) .new)
+  unfolding pick _and_
+  first-here a b = first-open ∙ rw (le-leb v ((getD ps i nowhere) .old) a, le-leb ((getD ps i nowhere) .depth) depth b)
+
+  pub first-on : v ≤ (getD ps i nowhere) .old → depth < (getD ps i nowhere) .depth → firstFrom (drop i ps) depth v ≡ firstFrom (drop (i + 1) ps) depth v
+  unfolding pick _and_
+  first-on a b = first-open ∙ rw (le-leb v ((getD ps i nowhere) .old) a, lt-leb ((getD ps i nowhere) .depth) depth b, add-one i)
+
+-- ---- what the search for an old offset answers
+
+module _ (ps : List Place) (map : List ℕ) (places old i o : ℕ) (h : MapHeld ps map) (e : places ≡ length ps) where
+  module _ (l : i < places) (is-old : i < length map / 12 → o ≡ numberAt 4 map (12 * i)) where
+    pub found-new : (n : ℕ) → o ≡ old → (i < length map / 12 → n ≡ numberAt 4 map (12 * i + 4)) → newOf ps old ≡ some n
+    found-new n q f =
+        new-from 0 ps old i (h .ascending) (omega arith) (sym (old-held ps map h i (omega arith) o is-old) ∙ q) ∙ ap (λ x. some x) (sym (new-held ps map h i (omega arith) n f))
+
+    pub other-none : i ≡ rankIn (oldOffsets ps) old → (o ≡ old → ⊥) → newOf ps old ≡ none
+    other-none r q =
+        new-absent ps old (λ j b k.
+        let s : rankIn (oldOffsets ps) old ≡ j = rank-is (oldOffsets ps) old j (h .ascending) (omega (arith, length-olds ps)) (old-of ps j ∙ k) in
+        q (old-held ps map h i (omega arith) o is-old ∙ ap (λ m. (getD ps m nowhere) .old) (r ∙ s) ∙ k))
+
+  pub beyond-none : places ≤ i → i ≡ rankIn (oldOffsets ps) old → newOf ps old ≡ none
+  beyond-none l r =
+      new-absent ps old (λ j b k.
+      let s : rankIn (oldOffsets ps) old ≡ j = rank-is (oldOffsets ps) old j (h .ascending) (omega (arith, length-olds ps)) (old-of ps j ∙ k) in omega arith)
+
+pub mapped-to : (ps : List Place) (old n : ℕ) → newOf ps old ≡ some n → To n ≡ asMapped (newOf ps old)
+unfolding asMapped
+mapped-to ps old n e = rw e
+
+pub mapped-nothing : (ps : List Place) (old : ℕ) → newOf ps old ≡ none → Nothing ≡ asMapped (newOf ps old)
+unfolding asMapped
+mapped-nothing ps old e = rw e
+
+pub sibling-to : (ps : List Place) (depth old n : ℕ) → newOf ps old ≡ some n → To n ≡ asMapped (siblingOf ps depth old)
+unfolding asMapped siblingOf orElse
+sibling-to ps depth old n e = rw e
+
+-- ---- the search for a sibling's target: what the answer is, from a place on
+
+pub record Seeking (map : List ℕ) (places old depth i : ℕ) : Type 0 where
+  pub seek : (ps : List Place) → MapHeld ps map → places ≡ length ps → (siblingOf ps depth old ≡ firstFrom (drop i ps) depth old) × (rankIn (oldOffsets ps) old ≤ i)
+
+pub seeking-start : (map : List ℕ) (places old depth i : ℕ) → ((ps : List Place) → MapHeld ps map → places ≡ length ps → (newOf ps old ≡ none) × (i ≡ rankIn (oldOffsets ps) old))
+    → Seeking map places old depth i
+unfolding siblingOf orElse
+seeking-start map places old depth i f =
+    record {
+      seek = λ ps h e.
+          let q : newOf ps old ≡ none = f ps h e .0 in
+          let r : i ≡ rankIn (oldOffsets ps) old = f ps h e .1 in
+          (rw (q, r) (first-skip ps depth old), omega arith);
+    }
+
+module _ (map : List ℕ) (places old depth i d : ℕ) (p : Seeking map places old depth i) (l : i < places) (is-depth : i < length map / 12 → d ≡ numberAt 4 map (12 * i + 8)) where
+  from-here : (ps : List Place) → MapHeld ps map → places ≡ length ps → old ≤ (getD ps i nowhere) .old
+  from-here ps h e =
+      ⊎-elim
+      (λ t. let b : i < rankIn (oldOffsets ps) old = rank-above (oldOffsets ps) old i (h .ascending) (omega (arith, length-olds ps)) (omega (arith, old-of ps i, ltb-yes {a = (getD ps i nowhere) .old} {b = old} t)) in
+      absurd (omega (arith, p .seek ps h e .1)))
+      (λ t. ltb-no {a = (getD ps i nowhere) .old} {b = old} t)
+      (either (ltb ((getD ps i nowhere) .old) old))
+
+  pub seeking-here : (n : ℕ) → d ≤ depth → (i < length map / 12 → n ≡ numberAt 4 map (12 * i + 4)) → (ps : List Place) → MapHeld ps map → places ≡ length ps
+      → To n ≡ asMapped (siblingOf ps depth old)
+  unfolding asMapped
+  seeking-here n b f ps h e =
+      let k : d ≡ (getD ps i nowhere) .depth = depth-held ps map h i (omega arith) d is-depth in
+      let q : siblingOf ps depth old ≡ some n =
+      p .seek ps h e .0 ∙ first-here ps depth old i (omega arith) (from-here ps h e) (omega arith) ∙ ap (λ x. some x) (sym (new-held ps map h i (omega arith) n f)) in
+      rw q
+
+  pub seeking-more : depth < d → Seeking map places old depth (i + 1)
+  seeking-more b =
+      record {
+        seek = λ ps h e.
+            let k : d ≡ (getD ps i nowhere) .depth = depth-held ps map h i (omega arith) d is-depth in
+            (p .seek ps h e .0 ∙ first-on ps depth old i (omega arith) (from-here ps h e) (omega arith), omega (arith, p .seek ps h e .1));
+      }
+
+pub seeking-done : (map : List ℕ) (places old depth i : ℕ) → Seeking map places old depth i → places ≤ i → (ps : List Place) → MapHeld ps map → places ≡ length ps
+    → Nothing ≡ asMapped (siblingOf ps depth old)
+unfolding asMapped firstFrom
+seeking-done map places old depth i p l ps h e =
+    let q : siblingOf ps depth old ≡ none = p .seek ps h e .0 ∙ ap (λ x. firstFrom x depth old) (drop-of-length-le ps {i = i} (omega arith)) in rw q
+
+-- ---- one place more
+
+pub place-put : (ps : List Place) (map map₁ map₂ map₃ : List ℕ) (i old new depth : ℕ) → i < length map / 12
+    → (12 * i + 4 ≤ length map → map₁ ≡ put map (12 * i) (fixedBytes true 4 old))
+    → (12 * i + 4 + 4 ≤ length map₁ → map₂ ≡ put map₁ (12 * i + 4) (fixedBytes true 4 new))
+    → (12 * i + 8 + 4 ≤ length map₂ → map₃ ≡ put map₂ (12 * i + 8) (fixedBytes true 4 depth))
+    → Held 4 (columns ps) map → i ≡ length ps → old < 4294967296 → new < 4294967296 → depth < 4294967296
+    → Held 4 (columns (withPlace ps (place old new depth))) map₃
+place-put ps map map₁ map₂ map₃ i old new depth r f g k h e a b d =
+    let c : length (columns ps) ≡ 3 * length ps = length-columns ps in
+    let xs₁ : List ℕ = columns ps ++ (old ∷ []) in
+    let xs₂ : List ℕ = xs₁ ++ (new ∷ []) in
+    let c₁ : length xs₁ ≡ length (columns ps) + 1 = length-append (columns ps) (old ∷ []) in
+    let c₂ : length xs₂ ≡ length xs₁ + 1 = length-append xs₁ (new ∷ []) in
+    let m₁ : map₁ ≡ put map (4 * length (columns ps)) (fixedBytes true 4 old) = f (omega arith) ∙ ap (λ n. put map n (fixedBytes true 4 old)) (let q : 12 * i ≡ 4 * length (columns ps) = omega arith in q) in
+    let l₁ : length map₁ ≡ length map = ap length m₁ ∙ length-put map (4 * length (columns ps)) (fixedBytes true 4 old) (omega (arith, length-fixed true 4 old)) in
+    let h₁ : Held 4 xs₁ map₁ = rw m₁ (held-more 4 (columns ps) map old h (omega arith) a) in
+    let m₂ : map₂ ≡ put map₁ (4 * length xs₁) (fixedBytes true 4 new) = g (omega arith) ∙ ap (λ n. put map₁ n (fixedBytes true 4 new)) (let q : 12 * i + 4 ≡ 4 * length xs₁ = omega arith in q) in
+    let l₂ : length map₂ ≡ length map = ap length m₂ ∙ length-put map₁ (4 * length xs₁) (fixedBytes true 4 new) (omega (arith, length-fixed true 4 new)) ∙ l₁ in
+    let h₂ : Held 4 xs₂ map₂ = rw m₂ (held-more 4 xs₁ map₁ new h₁ (omega arith) b) in
+    let m₃ : map₃ ≡ put map₂ (4 * length xs₂) (fixedBytes true 4 depth) = k (omega arith) ∙ ap (λ n. put map₂ n (fixedBytes true 4 depth)) (let q : 12 * i + 8 ≡ 4 * length xs₂ = omega arith in q) in
+    rw (columns-append ps (place old new depth), m₃) (held-more 4 xs₂ map₂ depth h₂ (omega arith) d)
+
+-- what is read in the search for a place
+pub old-read : (map : List ℕ) (i r : ℕ) → (i < length map / 12 → r ≡ numberAt 4 map (12 * i)) → {places : ℕ} (ps : List Place) → MapHeld ps map → places ≡ length (oldOffsets ps)
+    → i < length (oldOffsets ps) → r ≡ getD (oldOffsets ps) i 0
+old-read map i r f ps h e l = old-held ps map h i (omega (arith, length-olds ps)) r f ∙ sym (old-of ps i)

@@ -1,0 +1,373 @@
+-- Bytes that a loop writes one after the other, at the start of a part or, from its end, in the middle of it.
+use Prim.Native.Nat.{ℕ, zero, suc, _+_, _-_, _*_, _^_, _/_, _%_, _≤_, _<_}
+use mathlib.Core.Path.{_≡_, refl, ap, ap₂, sym, _∙_, subst}
+use mathlib.Core.Bool.{Bool, true, false}
+use mathlib.Core.Logic.{⊎-elim}
+use mathlib.Core.List.{List, [], _∷_, _++_, append-nil, reverse, reverse-cons}
+use native.Mathlib.Nat.{pow-zero, pow-suc, div-lt-iff-lt-mul}
+use native.Mathlib.Numerals.{add-one}
+use native.Mathlib.Omega.{arith}
+use lib.ListN.{length, getD, take, drop, set, length-append, length-replicate, length-set, drop-of-length-le, take-append-drop}
+use lib.Seq.{drop-cons, take-suc, set-at, append-snoc, length-take-le}
+use lib.Dec.{ltb, leb, eqb}
+use mir.Facts.{ltb-yes, ltb-no}
+use borrow.Author.Tests.{lt-ltb, le-ltb, le-leb, lt-leb, ltb-true, eq-eqb, ne-eqb}
+use Rattle.readers.specs.Choice.{pick, _and_, zeros, either}
+use Rattle.readers.specs.Numbers.{padded, length-padded, littleBytes, ordered, fixedBytes, length-fixed}
+use Rattle.rewriting.specs.Written.{groupsFit, bytesFit, numberFits, Put, paddedAnswer, paddedOut, put, numberAt}
+use Rattle.rewriting.specs.declared.numbers.Padded.the-variants.{Written, Refused}
+use Rattle.readers.specs.Layout.{numberBytes}
+use Rattle.readers.specs.References.{encodedBy}
+use Rattle.readers.specs.Cursors.{cursor, fixedAt}
+use Rattle.readers.proofs.Widths.{fixed-is}
+use Rattle.readers.specs.declared.cursor.Cursor.{Cursor}
+use Rattle.readers.specs.declared.cursor.Number.{Number}
+use Rattle.readers.specs.declared.cursor.Number.the-variants.{Value, Unreadable}
+
+-- ---- from the start of a part
+
+-- After i bytes: what is written, then tail, is the whole; what is written stands at the start of the part.
+pub record Putting (whole out₀ tail out : List ℕ) (i : ℕ) : Type 0 where
+  pub done : List ℕ
+  pub size : length done ≡ i
+  pub all : done ++ tail ≡ whole
+  pub out-is : out ≡ done ++ drop i out₀
+  pub inside : i ≤ length out₀
+  pub same : length out ≡ length out₀
+
+pub putting-start : (whole out : List ℕ) → Putting whole out whole out 0
+putting-start whole out = record { done = []; size = refl; all = refl; out-is = refl; inside = omega arith; same = refl }
+
+pub putting-more : (whole out₀ tail out : List ℕ) (i b : ℕ) → i < length out₀ → Putting whole out₀ (b ∷ tail) out i → Putting whole out₀ tail (set out i b) (i + 1)
+putting-more whole out₀ tail out i b h p =
+    record {
+      done = p .done ++ (b ∷ []);
+      size = length-append (p .done) (b ∷ []) ∙ ap (λ n. n + 1) (p .size);
+      all = append-snoc (p .done) b tail ∙ p .all;
+      out-is =
+          ap (λ l. set l i b) (p .out-is ∙ ap (λ l. p .done ++ l) (drop-cons out₀ i 0 h))
+          ∙ set-at (p .done) (getD out₀ i 0) (drop (suc i) out₀) b i (p .size)
+          ∙ sym (append-snoc (p .done) b (drop (suc i) out₀))
+          ∙ ap (λ n. (p .done ++ (b ∷ [])) ++ drop n out₀) (sym (add-one i));
+      inside = omega arith;
+      same = length-set out i b ∙ p .same;
+    }
+
+pub putting-done : (whole out₀ out : List ℕ) (i n : ℕ) → length whole ≡ n → Putting whole out₀ [] out i → out ≡ whole ++ drop n out₀
+putting-done whole out₀ out i n l p =
+    let e : p .done ≡ whole = sym (append-nil (p .done)) ∙ p .all in
+    let k : i ≡ n = sym (p .size) ∙ ap length e ∙ l in
+    p .out-is ∙ ap₂ (λ x m. x ++ drop m out₀) e k
+
+-- ---- zeros
+
+abbrev pub Clearing : List ℕ → List ℕ → ℕ → Type 0
+Clearing out₀ out i = Putting (zeros (length out₀)) out₀ (zeros (length out₀ - i)) out i
+
+pub clear-start : (out : List ℕ) → Clearing out out 0
+clear-start out = let e : length out ≡ length out - 0 = omega arith in rw (← e) (putting-start (zeros (length out)) out)
+
+pub clear-more : (out₀ out : List ℕ) (i : ℕ) → i < length out₀ → Clearing out₀ out i → Clearing out₀ (set out i 0) (i + 1)
+clear-more out₀ out i h p =
+    putting-more (zeros (length out₀)) out₀ (zeros (length out₀ - (i + 1))) out i 0 h
+    (subst (λ n. Putting (zeros (length out₀)) out₀ (zeros n) out i) (let e : length out₀ - i ≡ suc (length out₀ - (i + 1)) = omega arith in e) p)
+
+pub clear-done : (out₀ out : List ℕ) (i : ℕ) → length out₀ ≤ i → Clearing out₀ out i → out ≡ zeros (length out₀)
+clear-done out₀ out i h p =
+    putting-done (zeros (length out₀)) out₀ out i (length out₀) (length-replicate (length out₀) 0)
+    (subst (λ n. Putting (zeros (length out₀)) out₀ (zeros n) out i) (let e : length out₀ - i ≡ 0 = omega arith in e) p)
+    ∙ ap (λ l. zeros (length out₀) ++ l) (drop-of-length-le out₀ {i = length out₀} (omega arith)) ∙ append-nil (zeros (length out₀))
+
+-- ---- a run of bytes
+
+pub copy-more : (bytes out₀ out : List ℕ) (i : ℕ) → i < length bytes → length bytes ≤ length out₀ → Putting bytes out₀ (drop i bytes) out i
+    → Putting bytes out₀ (drop (i + 1) bytes) (set out i (getD bytes i 0)) (i + 1)
+copy-more bytes out₀ out i h l p =
+    putting-more bytes out₀ (drop (i + 1) bytes) out i (getD bytes i 0) (omega arith)
+    (subst (λ t. Putting bytes out₀ t out i) (drop-cons bytes i 0 h ∙ ap (λ n. getD bytes i 0 ∷ drop n bytes) (sym (add-one i))) p)
+
+pub copy-done : (bytes out₀ out : List ℕ) (i : ℕ) → length bytes ≤ i → Putting bytes out₀ (drop i bytes) out i → out ≡ bytes ++ drop (length bytes) out₀
+copy-done bytes out₀ out i h p =
+    putting-done bytes out₀ out i (length bytes) refl (subst (λ t. Putting bytes out₀ t out i) (drop-of-length-le bytes {i = i} h) p)
+
+-- ---- digits
+
+-- a number of at most suc k digits, and what is left of it without the lowest
+pub digits-less : (base v k : ℕ) → 0 < base → ltb v (base ^ suc k) ≡ ltb (v / base) (base ^ k)
+digits-less base v k h =
+    ⊎-elim
+    (λ t. let l : v < base ^ k * base = rw (← pow-suc base k) (ltb-yes {a = v} {b = base ^ suc k} t) in
+    lt-ltb v (base ^ suc k) (ltb-yes t) ∙ sym (lt-ltb (v / base) (base ^ k) (div-lt-iff-lt-mul h .1 l)))
+    (λ t. let l : base ^ suc k ≤ v = ltb-no {a = v} {b = base ^ suc k} t in
+    le-ltb v (base ^ suc k) l ∙ sym (le-ltb (v / base) (base ^ k)
+    (⊎-elim (λ u. let m : v < base ^ k * base = div-lt-iff-lt-mul h .0 (ltb-yes {a = v / base} {b = base ^ k} u) in absurd (omega (arith, pow-suc base k)))
+    (λ u. ltb-no {a = v / base} {b = base ^ k} u) (either (ltb (v / base) (base ^ k))))))
+    (either (ltb v (base ^ suc k)))
+
+pub digits-none : (v n base : ℕ) → n ≡ 0 → eqb v 0 ≡ ltb v (base ^ n)
+digits-none zero n base e = rw e (eq-eqb 0 0 refl ∙ sym (lt-ltb 0 (base ^ 0) (omega (arith, pow-zero base))))
+digits-none (suc v) n base e = rw e (ne-eqb (suc v) 0 (λ z. omega arith) ∙ sym (le-ltb (suc v) (base ^ 0) (omega (arith, pow-zero base))))
+
+-- after i turns: what is left has at most width - i digits where the number has at most width
+pub record Shortened (base value width rest i : ℕ) : Type 0 where
+  pub few : i ≤ width
+  pub same : ltb value (base ^ width) ≡ ltb rest (base ^ (width - i))
+
+pub shortened-start : (base value width : ℕ) → Shortened base value width value 0
+shortened-start base value width = record { few = omega arith; same = ap (λ n. ltb value (base ^ n)) (let e : width ≡ width - 0 = omega arith in e) }
+
+pub shortened-more : (base value width rest i : ℕ) → 0 < base → i < width → Shortened base value width rest i → Shortened base value width (rest / base) (i + 1)
+shortened-more base value width rest i b h p =
+    record {
+      few = omega arith;
+      same = p .same ∙ ap (λ n. ltb rest (base ^ n)) (let e : width - i ≡ suc (width - (i + 1)) = omega arith in e) ∙ digits-less base rest (width - (i + 1)) b;
+    }
+
+pub shortened-done : (base value width rest i : ℕ) → width ≤ i → Shortened base value width rest i → eqb rest 0 ≡ ltb value (base ^ width)
+shortened-done base value width rest i h p = digits-none rest (width - i) base (omega arith) ∙ sym (p .same)
+
+-- ---- what is answered
+
+and-first : (a b : Bool) → a ≡ false → (a and b) ≡ false
+unfolding _and_
+and-first a b e = rw e
+
+and-second : (a b : Bool) → b ≡ false → (a and b) ≡ false
+unfolding _and_
+and-second true b e = e
+and-second false b e = refl
+
+pub refused : (fit : Bool) (bytes : List ℕ) (width : ℕ) (out : List ℕ) → fit ≡ false → Put fit bytes width out false out
+unfolding pick
+refused fit bytes width out e = record { told = sym e; left = rw e }
+
+pub accepted : (fit : Bool) (bytes : List ℕ) (width : ℕ) (out after : List ℕ) → fit ≡ true → after ≡ bytes ++ drop width out → Put fit bytes width out true after
+unfolding pick
+accepted fit bytes width out after e h = record { told = sym e; left = rw e h }
+
+module _ (value width n : ℕ) where
+  pub groups-none : width ≡ 0 → groupsFit value width n ≡ false
+  unfolding groupsFit
+  groups-none e = and-first _ _ (le-ltb 0 width (omega arith))
+
+  pub groups-over : 10 < width → groupsFit value width n ≡ false
+  unfolding groupsFit
+  groups-over h = and-second (ltb 0 width) _ (and-first _ _ (lt-leb width 10 h))
+
+  pub groups-beyond : n < width → groupsFit value width n ≡ false
+  unfolding groupsFit
+  groups-beyond h = and-second (ltb 0 width) _ (and-second (leb width 10) _ (and-first _ _ (lt-leb width n h)))
+
+  pub groups-large : ltb value (128 ^ width) ≡ false → groupsFit value width n ≡ false
+  unfolding groupsFit
+  groups-large e = and-second (ltb 0 width) _ (and-second (leb width 10) _ (and-second (leb width n) _ e))
+
+  pub groups-fit : (width ≡ 0 → ⊥) → width ≤ 10 → width ≤ n → ltb value (128 ^ width) ≡ true → groupsFit value width n ≡ true
+  unfolding groupsFit _and_
+  groups-fit z t h e = rw (lt-ltb 0 width (omega arith), le-leb width 10 t, le-leb width n h, e)
+
+  pub bytes-over : 8 < width → bytesFit value width n ≡ false
+  unfolding bytesFit
+  bytes-over h = and-first _ _ (lt-leb width 8 h)
+
+  pub bytes-beyond : n < width → bytesFit value width n ≡ false
+  unfolding bytesFit
+  bytes-beyond h = and-second (leb width 8) _ (and-first _ _ (lt-leb width n h))
+
+  pub bytes-large : ltb value (256 ^ width) ≡ false → bytesFit value width n ≡ false
+  unfolding bytesFit
+  bytes-large e = and-second (leb width 8) _ (and-second (leb width n) _ e)
+
+  pub bytes-fit : width ≤ 8 → width ≤ n → ltb value (256 ^ width) ≡ true → bytesFit value width n ≡ true
+  unfolding bytesFit _and_
+  bytes-fit t h e = rw (le-leb width 8 t, le-leb width n h, e)
+
+-- ---- a ULEB128 number
+
+-- After i bytes: what is left of the number, in the bytes that are left.
+pub record Grouping (value last : ℕ) (out₀ : List ℕ) (rest i : ℕ) (out : List ℕ) : Type 0 where
+  pub few : i ≤ last
+  pub room : last < length out₀
+  pub low : rest < 128 ^ suc (last - i)
+  pub putting : Putting (padded last value) out₀ (padded (last - i) rest) out i
+
+pub grouping-start : (value width last : ℕ) (out : List ℕ) → (width ≡ 0 → ⊥) → last ≡ width - 1 → width ≤ length out → ltb value (128 ^ width) ≡ true
+    → Grouping value last out value 0 out
+grouping-start value width last out z l h f =
+    let e : last ≡ last - 0 = omega arith in
+    let w : width ≡ suc (last - 0) = omega arith in
+    record {
+      few = omega arith;
+      room = omega arith;
+      low = ltb-true value (128 ^ suc (last - 0)) (ap (λ n. ltb value (128 ^ n)) (sym w) ∙ f);
+      putting = subst (λ n. Putting (padded last value) out (padded n value) out 0) e (putting-start (padded last value) out);
+    }
+
+pub grouping-more : (value last : ℕ) (out₀ : List ℕ) (rest i : ℕ) (out : List ℕ) → i < last → Grouping value last out₀ rest i out
+    → Grouping value last out₀ (rest / 128) (i + 1) (set out i (rest % 128 + 128))
+unfolding padded
+grouping-more value last out₀ rest i out h p =
+    let k : ℕ = last - (i + 1) in
+    let e : last - i ≡ suc k = omega arith in
+    let l : rest < 128 ^ suc (suc k) = subst (λ n. rest < 128 ^ suc n) e (p .low) in
+    let b : 128 + rest % 128 ≡ rest % 128 + 128 = omega arith in
+    record {
+      few = omega arith;
+      room = p .room;
+      low = omega arith;
+      putting = putting-more (padded last value) out₀ (padded k (rest / 128)) out i (rest % 128 + 128) (omega (arith, p .room))
+          (subst (λ (t : List ℕ). Putting (padded last value) out₀ t out i) (ap (λ n. padded n rest) e ∙ ap (λ (x : ℕ). x ∷ padded k (rest / 128)) b) (p .putting));
+    }
+
+pub grouping-low : (value last : ℕ) (out₀ : List ℕ) (rest i : ℕ) (out : List ℕ) → last ≤ i → Grouping value last out₀ rest i out → rest < 128
+grouping-low value last out₀ rest i out h p =
+    let e : last - i ≡ 0 = (let f : i ≤ last = p .few in omega arith) in
+    let l : rest < 128 ^ suc 0 = subst (λ n. rest < 128 ^ suc n) e (p .low) in omega arith
+
+pub grouping-done : (value width last : ℕ) (out₀ : List ℕ) (rest i : ℕ) (out : List ℕ) → (width ≡ 0 → ⊥) → last ≡ width - 1 → last ≤ i → Grouping value last out₀ rest i out
+    → set out i rest ≡ padded (width - 1) value ++ drop width out₀
+unfolding padded
+grouping-done value width last out₀ rest i out z w h p =
+    let e : last - i ≡ 0 = (let f : i ≤ last = p .few in omega arith) in
+    rw (← w) (putting-done (padded last value) out₀ (set out i rest) (i + 1) width (length-padded last value ∙ (let g : suc last ≡ width = omega arith in g))
+    (putting-more (padded last value) out₀ [] out i rest (let f : i ≤ last = p .few in omega (arith, p .room))
+    (subst (λ n. Putting (padded last value) out₀ (padded n rest) out i) e (p .putting))))
+
+-- ---- a little-endian number
+
+pub record Fixing (value width : ℕ) (out₀ : List ℕ) (rest i : ℕ) (out : List ℕ) : Type 0 where
+  pub few : i ≤ width
+  pub putting : Putting (fixedBytes false width value) out₀ (littleBytes (width - i) rest) out i
+
+pub fixing-start : (value width : ℕ) (out : List ℕ) → Fixing value width out value 0 out
+unfolding fixedBytes ordered
+fixing-start value width out =
+    let e : width ≡ width - 0 = omega arith in
+    record { few = omega arith; putting = subst (λ n. Putting (littleBytes width value) out (littleBytes n value) out 0) e (putting-start (littleBytes width value) out) }
+
+pub fixing-more : (value width : ℕ) (out₀ : List ℕ) (rest i : ℕ) (out : List ℕ) → width ≤ length out₀ → i < width → Fixing value width out₀ rest i out
+    → Fixing value width out₀ (rest / 256) (i + 1) (set out i (rest % 256))
+unfolding littleBytes
+fixing-more value width out₀ rest i out r h p =
+    let k : ℕ = width - (i + 1) in
+    let e : width - i ≡ suc k = omega arith in
+    record {
+      few = omega arith;
+      putting = putting-more (fixedBytes false width value) out₀ (littleBytes k (rest / 256)) out i (rest % 256) (omega arith)
+          (subst (λ n. Putting (fixedBytes false width value) out₀ (littleBytes n rest) out i) e (p .putting));
+    }
+
+pub fixing-done : (value width : ℕ) (out₀ : List ℕ) (rest i : ℕ) (out : List ℕ) → width ≤ i → Fixing value width out₀ rest i out
+    → out ≡ fixedBytes false width value ++ drop width out₀
+unfolding littleBytes
+fixing-done value width out₀ rest i out h p =
+    let e : width - i ≡ 0 = omega arith in
+    putting-done (fixedBytes false width value) out₀ out i width (length-fixed false width value)
+    (subst (λ n. Putting (fixedBytes false width value) out₀ (littleBytes n rest) out i) e (p .putting))
+
+-- ---- a big-endian number in the middle of a table, from its last byte on
+
+pub record Backing (value at width : ℕ) (s₀ s : List ℕ) (rest i : ℕ) : Type 0 where
+  pub room : at + width ≤ length s₀
+  pub done : List ℕ
+  pub size : i + length done ≡ width
+  pub all : reverse (littleBytes i rest) ++ done ≡ fixedBytes true width value
+  pub s-is : s ≡ take (at + i) s₀ ++ (done ++ drop (at + width) s₀)
+  pub same : length s ≡ length s₀
+
+pub backing-start : (value at width : ℕ) (s : List ℕ) → at + width ≤ length s → Backing value at width s s value width
+unfolding fixedBytes ordered
+backing-start value at width s h =
+    record {
+      room = h;
+      done = [];
+      size = let e : width + 0 ≡ width = omega arith in e;
+      all = append-nil (reverse (littleBytes width value));
+      s-is = sym (take-append-drop (at + width) s);
+      same = refl;
+    }
+
+backing-next : (value at width : ℕ) (s₀ s : List ℕ) (rest j : ℕ) → Backing value at width s₀ s rest (suc j)
+    → Backing value at width s₀ (set s (at + j) (rest % 256)) (rest / 256) j
+unfolding littleBytes
+backing-next value at width s₀ s rest j p =
+    let h : at + j < length s₀ = (let r : at + width ≤ length s₀ = p .room in let z : suc j + length (p .done) ≡ width = p .size in omega arith) in
+    let e : at + suc j ≡ suc (at + j) = omega arith in
+    let after : List ℕ = p .done ++ drop (at + width) s₀ in
+    record {
+      room = p .room;
+      done = rest % 256 ∷ p .done;
+      size = (let z : suc j + length (p .done) ≡ width = p .size in let g : j + suc (length (p .done)) ≡ width = omega arith in g);
+      all = sym (append-snoc (reverse (littleBytes j (rest / 256))) (rest % 256) (p .done))
+          ∙ ap (λ l. l ++ p .done) (sym (reverse-cons (rest % 256) (littleBytes j (rest / 256)))) ∙ p .all;
+      s-is =
+          ap (λ l. set l (at + j) (rest % 256)) (p .s-is ∙ ap (λ n. take n s₀ ++ after) e ∙ ap (λ l. l ++ after) (take-suc s₀ (at + j) 0 h) ∙ append-snoc (take (at + j) s₀) (getD s₀ (at + j) 0) after)
+          ∙ set-at (take (at + j) s₀) (getD s₀ (at + j) 0) after (rest % 256) (at + j) (length-take-le (at + j) s₀ (omega arith));
+      same = length-set s (at + j) (rest % 256) ∙ p .same;
+    }
+
+pub backing-more : (value at width : ℕ) (s₀ s : List ℕ) (rest i : ℕ) → 0 < i → Backing value at width s₀ s rest i
+    → Backing value at width s₀ (set s (at + (i - 1)) (rest % 256)) (rest / 256) (i - 1)
+backing-more value at width s₀ s rest i h p =
+    backing-next value at width s₀ s rest (i - 1) (subst (λ n. Backing value at width s₀ s rest n) (let e : i ≡ suc (i - 1) = omega arith in e) p)
+
+pub backing-done : (value at width : ℕ) (s₀ s : List ℕ) (rest i : ℕ) → i ≤ 0 → Backing value at width s₀ s rest i
+    → s ≡ put s₀ at (fixedBytes true width value)
+unfolding put littleBytes
+backing-done value at width s₀ s rest i h p =
+    let q : Backing value at width s₀ s rest 0 = subst (λ n. Backing value at width s₀ s rest n) (let e : i ≡ 0 = omega arith in e) p in
+    let e : q .done ≡ fixedBytes true width value = q .all in
+    q .s-is ∙ ap (λ n. take n s₀ ++ (q .done ++ drop (at + width) s₀)) (let e : at + 0 ≡ at = omega arith in e)
+    ∙ ap₂ (λ l n. take at s₀ ++ (l ++ drop (at + n) s₀)) e (sym (length-fixed true width value))
+
+-- ---- a big-endian number that is read
+
+module _ (w : ℕ) (s : List ℕ) (at : ℕ) (o : Number) (q : o ≡ fixedAt true w s at) (e : w ≤ 8) (h : at + w ≤ length s) where
+  read-is : o ≡ Value (numberAt w s at) (cursor (at + w))
+  unfolding numberAt
+  read-is = q ∙ fixed-is true w s at e (omega arith)
+
+  pub read-value : (v : ℕ) (c : Cursor) → o ≡ Value v c → v ≡ numberAt w s at
+  read-value v c g = let k : Value v c ≡ Value (numberAt w s at) (cursor (at + w)) = sym g ∙ read-is in cc
+
+  pub read-nothing : o ≡ Unreadable → 0 ≡ numberAt w s at
+  read-nothing g = let k : Unreadable ≡ Value (numberAt w s at) (cursor (at + w)) = sym g ∙ read-is in let z : _≡_ {A = ℕ} 0 1 = cc in absurd (omega arith)
+
+-- ---- a padded number in a part of its own, a number in its own encoding
+
+pub drop-zeros : (n width : ℕ) → drop width (zeros n) ≡ zeros (n - width)
+drop-zeros n zero = ap (λ m. zeros m) (let e : n ≡ n - 0 = omega arith in e)
+drop-zeros zero (suc width) = ap (λ m. zeros m) (let e : 0 ≡ 0 - suc width = omega arith in e)
+drop-zeros (suc n) (suc width) = drop-zeros n width ∙ ap (λ m. zeros m) (let e : n - width ≡ suc n - suc width = omega arith in e)
+
+module _ (value width n : ℕ) (out out′ : List ℕ) (r : Bool) (z : out ≡ zeros n) (p : Put (groupsFit value width (length out)) (padded (width - 1) value) width out r out′) where
+  fit-is : groupsFit value width n ≡ r
+  fit-is = ap (λ m. groupsFit value width m) (sym (ap length z ∙ length-replicate n 0)) ∙ sym (p .told)
+
+  out-is : out′ ≡ pick r (padded (width - 1) value ++ drop width out) out
+  out-is = p .left ∙ ap (λ b. pick b (padded (width - 1) value ++ drop width out) out) (sym (p .told))
+
+  pub padded-written : r ≡ true → (Written ≡ paddedAnswer value width n) × (out′ ≡ paddedOut value width n)
+  unfolding pick paddedAnswer paddedOut
+  padded-written t =
+      let e : groupsFit value width n ≡ true = fit-is ∙ t in
+      let o : out′ ≡ padded (width - 1) value ++ drop width out = rw t at out-is in
+      (rw e, rw e (o ∙ ap (λ l. padded (width - 1) value ++ drop width l) z ∙ ap (λ l. padded (width - 1) value ++ l) (drop-zeros n width)))
+
+  pub padded-refused : r ≡ false → (Refused 15 ≡ paddedAnswer value width n) × (out′ ≡ paddedOut value width n)
+  unfolding pick paddedAnswer paddedOut
+  padded-refused t =
+      let e : groupsFit value width n ≡ false = fit-is ∙ t in
+      let o : out′ ≡ out = rw t at out-is in
+      (rw e, rw e (o ∙ z))
+
+module _ (leb′ : Bool) (value width : ℕ) (out : List ℕ) (r : Bool) (after : List ℕ) where
+  pub number-groups : leb′ ≡ true → Put (groupsFit value width (length out)) (padded (width - 1) value) width out r after
+      → Put (numberFits leb′ value width (length out)) (numberBytes false (encodedBy leb′ width) value) width out r after
+  unfolding numberFits numberBytes encodedBy pick
+  number-groups e p = rw e p
+
+  pub number-fixed : leb′ ≡ false → Put (bytesFit value width (length out)) (fixedBytes false width value) width out r after
+      → Put (numberFits leb′ value width (length out)) (numberBytes false (encodedBy leb′ width) value) width out r after
+  unfolding numberFits numberBytes encodedBy pick
+  number-fixed e p = rw e p

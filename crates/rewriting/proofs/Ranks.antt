@@ -1,0 +1,101 @@
+-- A rank by binary search.
+use Prim.Native.Nat.{ℕ, zero, suc, _+_, _-_, _/_, _≤_, _<_}
+use mathlib.Core.Path.{_≡_, ap, _∙_}
+use mathlib.Core.List.{List, [], _∷_}
+use native.Mathlib.Omega.{arith}
+use lib.ListN.{length, getD}
+use lib.Dec.{ltb}
+use mir.Facts.{ltb-yes, ltb-no, yes-ltb, no-ltb}
+use Rattle.readers.specs.Choice.{pick-either, pick-yes, pick-no}
+use Rattle.marking.specs.Resolution.{Ascending as From}
+use Rattle.rewriting.specs.Ascending.{Ascending}
+use Rattle.rewriting.specs.Indices.{rankIn}
+
+pub rank-most : (xs : List ℕ) (v : ℕ) → rankIn xs v ≤ length xs
+unfolding rankIn
+rank-most [] v = omega arith
+rank-most (x ∷ xs) v = let h : rankIn xs v ≤ length xs = rank-most xs v in pick-either (λ n. n ≤ suc (length xs)) (ltb x v) (suc (rankIn xs v)) 0 (λ t. omega arith) (λ t. omega arith)
+
+pub from-at : (low : ℕ) (xs : List ℕ) (i : ℕ) → From low xs → i < length xs → low ≤ getD xs i 0
+unfolding From
+from-at low [] i f h = absurd (omega arith)
+from-at low (x ∷ xs) zero f h = f .0
+from-at low (x ∷ xs) (suc i) f h = let k : low ≤ x = f .0 in let l : suc x ≤ getD xs i 0 = from-at (suc x) xs i (f .1) (omega arith) in omega arith
+
+above-from : (low : ℕ) (xs : List ℕ) (v i : ℕ) → From low xs → i < length xs → getD xs i 0 < v → i < rankIn xs v
+unfolding From rankIn
+above-from low [] v i f h l = absurd (omega arith)
+above-from low (x ∷ xs) v zero f h l = pick-either (λ n. 0 < n) (ltb x v) (suc (rankIn xs v)) 0 (λ t. omega arith) (λ t. absurd (omega (arith, ltb-no {a = x} {b = v} t)))
+above-from low (x ∷ xs) v (suc i) f h l =
+    let k : suc x ≤ getD xs i 0 = from-at (suc x) xs i (f .1) (omega arith) in
+    let r : i < rankIn xs v = above-from (suc x) xs v i (f .1) (omega arith) l in
+    pick-either (λ n. suc i < n) (ltb x v) (suc (rankIn xs v)) 0 (λ t. omega arith) (λ t. absurd (omega (arith, ltb-no {a = x} {b = v} t)))
+
+-- a number at a place below the rank is below, one at a place from it on is not
+pub rank-above : (xs : List ℕ) (v i : ℕ) → Ascending xs → i < length xs → getD xs i 0 < v → i < rankIn xs v
+rank-above xs v i f h l = above-from 0 xs v i f h l
+
+pub rank-below : (xs : List ℕ) (v i : ℕ) → i < length xs → v ≤ getD xs i 0 → rankIn xs v ≤ i
+unfolding rankIn
+rank-below [] v i h l = absurd (omega arith)
+rank-below (x ∷ xs) v zero h l = pick-either (λ n. n ≤ 0) (ltb x v) (suc (rankIn xs v)) 0 (λ t. absurd (omega (arith, ltb-yes {a = x} {b = v} t))) (λ t. omega arith)
+rank-below (x ∷ xs) v (suc i) h l =
+    let r : rankIn xs v ≤ i = rank-below xs v i (omega arith) l in
+    pick-either (λ n. n ≤ suc i) (ltb x v) (suc (rankIn xs v)) 0 (λ t. omega arith) (λ t. omega arith)
+
+is-from : (low : ℕ) (xs : List ℕ) (v i : ℕ) → From low xs → i < length xs → getD xs i 0 ≡ v → rankIn xs v ≡ i
+unfolding From rankIn
+is-from low [] v i f h e = absurd (omega arith)
+is-from low (x ∷ xs) v zero f h e = pick-no _ _ _ (no-ltb {a = x} {b = v} (omega arith))
+is-from low (x ∷ xs) v (suc i) f h e =
+    let k : suc x ≤ getD xs i 0 = from-at (suc x) xs i (f .1) (omega arith) in
+    pick-yes _ _ _ (yes-ltb {a = x} {b = v} (omega arith)) ∙ ap suc (is-from (suc x) xs v i (f .1) (omega arith) e)
+
+-- the rank of a number that is in the list is its place
+pub rank-is : (xs : List ℕ) (v i : ℕ) → Ascending xs → i < length xs → getD xs i 0 ≡ v → rankIn xs v ≡ i
+rank-is xs v i f h e = is-from 0 xs v i f h e
+
+-- ---- the search
+
+module _ {A : Type 0} where
+  -- After some turns: whatever the table holds, the rank lies between low and high.
+  pub record Ranking (Held : A → Type 0) (numbers : A → List ℕ) (count value low high : ℕ) : Type 0 where
+    pub order : low ≤ high
+    pub top : high ≤ count
+    pub found : (a : A) → Held a → count ≡ length (numbers a) → (low ≤ rankIn (numbers a) value) × (rankIn (numbers a) value ≤ high)
+
+  module _ (Held : A → Type 0) (numbers : A → List ℕ) (count value : ℕ) where
+    pub ranking-start : Ranking Held numbers count value 0 count
+    ranking-start =
+        record { order = omega arith; top = omega arith; found = λ a h e. (omega arith, let r : rankIn (numbers a) value ≤ length (numbers a) = rank-most (numbers a) value in omega arith) }
+
+    module _ (low high middle r : ℕ) (p : Ranking Held numbers count value low high) (l : low < high) (m : middle ≡ low + (high - low) / 2)
+        (is : (a : A) → Held a → count ≡ length (numbers a) → middle < length (numbers a) → r ≡ getD (numbers a) middle 0) where
+      inside : middle < count
+      inside = omega (arith, p .top)
+
+      pub ranking-right : ((a : A) → Held a → Ascending (numbers a)) → r < value → Ranking Held numbers count value (middle + 1) high
+      ranking-right f h =
+          record {
+            order = omega arith;
+            top = p .top;
+            found = λ a q e.
+                let b : middle < length (numbers a) = omega (arith, inside) in
+                let g : r ≡ getD (numbers a) middle 0 = is a q e b in
+                let k : middle < rankIn (numbers a) value = rank-above (numbers a) value middle (f a q) b (omega arith) in
+                (omega arith, p .found a q e .1);
+          }
+
+      pub ranking-left : value ≤ r → Ranking Held numbers count value low middle
+      ranking-left h =
+          record {
+            order = omega arith;
+            top = omega (arith, inside);
+            found = λ a q e.
+                let b : middle < length (numbers a) = omega (arith, inside) in
+                let g : r ≡ getD (numbers a) middle 0 = is a q e b in
+                (p .found a q e .0, rank-below (numbers a) value middle b (omega arith));
+          }
+
+    pub ranking-done : (low high : ℕ) → Ranking Held numbers count value low high → high ≤ low → (a : A) → Held a → count ≡ length (numbers a) → low ≡ rankIn (numbers a) value
+    ranking-done low high p l a q e = omega (arith, p .found a q e .0, p .found a q e .1)

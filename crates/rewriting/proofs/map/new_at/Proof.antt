@@ -1,0 +1,34 @@
+-- `new_at` meets its contract.
+use native.Mathlib.Omega.{arith}
+use borrow.Author.Needs.{needs}
+use Rattle.rewriting.proofs.map.new_at.Statement.{statement}
+use Rattle.rewriting.proofs.map.new_at.Tie as tie
+
+room-requires : tie.Need-room-requires
+room-requires c κs = search needs
+
+returns : tie.Need-returns
+returns c = search needs
+
+mul-big-endian-at : tie.Need-mul-big-endian-at
+mul-big-endian-at c = search needs
+
+add-big-endian-at : tie.Need-add-big-endian-at
+add-big-endian-at c = search needs
+
+big-endian-at-requires : tie.Need-big-endian-at-requires
+big-endian-at-requires c κs = search needs
+
+returns-2 : tie.Need-returns-2
+returns-2 c = λ h. c .big-endian-at .ensures (omega arith) (omega arith)
+
+pub new-at-spec : {M : Type 1} → statement M
+new-at-spec =
+    tie.close
+    (tie.spec
+    room-requires
+    returns
+    mul-big-endian-at
+    add-big-endian-at
+    big-endian-at-requires
+    returns-2)

@@ -1,0 +1,72 @@
+-- What emission writes: bytes over the output from its next free byte on, or nothing that counts and the number of a refusal.
+use mathlib.Core.Path.{_≡_}
+use Prim.Native.Nat.{ℕ, _+_, _-_, _≤_, _<_}
+use mathlib.Core.Bool.{Bool, true, false}
+use mathlib.Core.List.{List, [], _∷_, _++_}
+use mathlib.Core.Option.{Option, none, some}
+use lib.ListN.{length, take, drop}
+use lib.Dec.{leb, eqb}
+use Rattle.readers.specs.Choice.{pick, _and_, _or_}
+use Rattle.readers.specs.Layout.{Encoded, infixed, inleb}
+use Rattle.rewriting.specs.Indices.{rankOr}
+use Rattle.rewriting.specs.Places.{Place}
+use Rattle.rewriting.specs.Written.{put, ListHeld}
+use Rattle.rewriting.specs.Rewriting.{Lists, noLists, fits, isSome, orSelf}
+use Rattle.rewriting.specs.declared.emit.Emitted.{Emitted}
+use Rattle.rewriting.specs.declared.emit.Emitted.the-variants.{To, Refused}
+use Rattle.rewriting.specs.declared.lists.ListCount.{ListCount}
+use Rattle.rewriting.specs.declared.lists.ListCount.the-variants.{Present, Absent}
+
+-- the bytes of a slice from one place to another
+unfoldable pub between : List ℕ → ℕ → ℕ → List ℕ
+between s from to = take (to - from) (drop from s)
+
+-- `bytes` are to be written at `at`, or refused by n (0: they are not): what is answered and how the output then is, if it has room for them
+pub record Emits (n : ℕ) (bytes out : List ℕ) (at : ℕ) (r : Emitted) (out′ : List ℕ) : Type 0 where
+  pub size : length out′ ≡ length out
+  pub fine : at + length bytes ≤ length out → n ≡ 0 → (r ≡ To (at + length bytes)) × (out′ ≡ put out at bytes)
+  pub no : at + length bytes ≤ length out → (n ≡ 0 → ⊥) → r ≡ Refused n
+
+-- a width that a number can have, as ULEB128 (true) or in so many bytes
+unfoldable pub Wide : Bool → ℕ → Type 0
+Wide true w = (0 < w) × (w ≤ 10)
+Wide false w = w ≤ 8
+
+-- whether a number can be written so, as every item is asked
+unfoldable pub holds : Encoded → ℕ → Bool
+holds e v = fits noLists [] 0 e v
+
+-- 9 for a number that does not fit, 8 for one that there is none of
+unfoldable pub numberRefusal : Encoded → ℕ → ℕ
+numberRefusal e v = pick (holds e v) 0 9
+
+unfoldable pub offsetRefusal : Encoded → ℕ → Option ℕ → ℕ
+offsetRefusal e v o = pick (isSome o) (numberRefusal e (orSelf v o)) 8
+
+-- ---- forms
+
+-- rnglistx 0; loclistx 1; strx, strx1 to strx4 and GNU_str_index 2; no index 3
+unfoldable pub listForm : ℕ → ℕ
+listForm f =
+    pick (eqb f 0x23) 0
+    (pick (eqb f 0x22) 1
+    (pick (eqb f 0x1a or (leb 0x25 f and leb f 0x28) or eqb f 0x1f02) 2
+    3))
+
+-- ref_udata, strx, loclistx, rnglistx, GNU_str_index
+unfoldable pub lebForm : ℕ → Bool
+lebForm f = eqb f 0x15 or eqb f 0x1a or eqb f 0x22 or eqb f 0x23 or eqb f 0x1f02
+
+-- ---- lists as they are lent
+
+-- an absent list, or the numbers of one that is there
+unfoldable pub Lent : Option (List ℕ) → List ℕ → ListCount → Type 0
+Lent none list Absent = Unit {0}
+Lent none list (Present n) = ⊥
+Lent (some xs) list Absent = ⊥
+Lent (some xs) list (Present n) = ListHeld xs list × (n ≡ length xs)
+
+pub record Lends (lists : Lists) (ranges : List ℕ) (ranges′ : ListCount) (locations : List ℕ) (locations′ : ListCount) (strings : List ℕ) (strings′ : ListCount) : Type 0 where
+  pub those-ranges : Lent (lists .ranges) ranges ranges′
+  pub those-locations : Lent (lists .locations) locations locations′
+  pub those-strings : Lent (lists .strings) strings strings′

@@ -1,0 +1,106 @@
+-- What the functions of the index lists answer.
+use mathlib.Core.Path.{_≡_}
+use Prim.Native.Nat.{ℕ, _/_, _^_, _≤_, _<_}
+use mathlib.Core.Bool.{Bool, false}
+use mathlib.Core.List.{List, [], _∷_, _++_}
+use mathlib.Core.Option.{Option, none, some}
+use lib.ListN.{length, drop}
+use lib.Dec.{ltb, eqb}
+use Rattle.readers.specs.Choice.{pick, _or_}
+use Rattle.readers.specs.Layout.{Role, reference, typeReference, sibling, index, absolute, RunOf, readIn}
+use Rattle.readers.specs.Expression.{expressionIn}
+use Rattle.readers.specs.Entries.{entryLayout}
+use Rattle.readers.specs.Tokens.{Use, plain, as′}
+use Rattle.readers.specs.Forms.{useOf}
+use Rattle.readers.specs.Abbreviations.{declaredIn, findAt}
+use Rattle.readers.specs.Stream.{Item}
+use Rattle.readers.specs.declared.attributes.Attribute.{Attribute}
+use Rattle.marking.specs.Roots.{Valued}
+use Rattle.marking.specs.Analysis.{Sections}
+use Rattle.rewriting.specs.Rewriting.{Unit as Unit′, anyDeclares}
+use Rattle.rewriting.specs.Places.{Standing, keptFrom, offsetOf}
+use Rattle.rewriting.specs.Parents.{parentsFrom, HoldsFrom}
+use Rattle.rewriting.specs.NextKept.{itemsBy}
+use Rattle.rewriting.specs.Written.{ListHeld}
+use Rattle.rewriting.specs.declared.kept.Reading.{Reading}
+use Rattle.rewriting.specs.declared.lists.ListCount.{ListCount}
+use Rattle.rewriting.specs.declared.lists.ListCount.the-variants.{Present, Absent}
+
+-- ---- the list of a number: 0 ranges, 1 locations, 2 strings; 3 for what is no index
+
+unfoldable pub roleList : Role → ℕ
+roleList reference = 3
+roleList typeReference = 3
+roleList sibling = 3
+roleList (index k) = k
+roleList absolute = 3
+
+unfoldable pub useList : Use → ℕ
+useList plain = 3
+useList (as′ r) = roleList r
+
+-- by its form alone
+unfoldable pub formList : ℕ → ℕ
+formList f = useList (useOf 0 f)
+
+-- ---- the indices of an entry, by its attributes
+
+unfoldable pub valueIndex : ℕ → Attribute → List ℕ
+valueIndex k v = pick (eqb (formList (v .form)) k) (v .field .value ∷ []) []
+
+unfoldable pub valueIndices : ℕ → List Valued → List ℕ
+valueIndices k [] = []
+valueIndices k (a ∷ rest) = valueIndex k (a .value) ++ valueIndices k rest
+
+-- ---- a list that is to hold some numbers
+
+-- how many it has, and what it holds, where it has room for them; else more than it has room for
+pub record Filled (ys list : List ℕ) (count : ℕ) (after : List ℕ) : Type 0 where
+  pub counted : length ys ≤ length list / 8 → count ≡ length ys
+  pub holds : length ys ≤ length list / 8 → ListHeld ys after
+  pub short : length list / 8 < length ys → length list / 8 < count
+
+-- ---- a unit as the code reads it
+
+pub record ReadAs (x : Sections) (u : Unit′) (r : Reading) (abbreviations unit : List ℕ) : Type 0 where
+  pub abbreviations-are : x .abbreviations ≡ abbreviations
+  pub bytes-are : u .bytes ≡ unit
+  pub encoding-is : u .header .encoding ≡ r .encoding
+
+-- its declarations are found as the code finds them
+abbrev pub Found : Unit′ → Reading → List ℕ → List ℕ → Type 0
+Found u r abbreviations table = (code : ℕ) → findAt abbreviations (r .from) table code ≡ declaredIn (u .declared) code
+
+module _ (x : Sections) (u : Unit′) where
+  -- what stands at a place can be read, its expressions operation by operation
+  pub record ReadDeep (at : ℕ) : Type 0 where
+    pub run : RunOf
+    pub is : readIn (u .header .encoding .«big_endian») (expressionIn (u .header .encoding)) (entryLayout (u .header .encoding) (x .abbreviations) (declaredIn (u .declared))) (drop at (u .bytes)) ≡ some run
+
+  unfoldable pub AllRead : List Standing → Type 0
+  AllRead [] = Unit {0}
+  AllRead (s ∷ rest) = ReadDeep (offsetOf (s .item)) × AllRead rest
+
+-- what a pass through the kept items of a unit asks for: a unit below 4 GiB, its parents, each kept item readable
+pub record Passable (x : Sections) (u : Unit′) (r : Reading) (abbreviations table unit parents marks : List ℕ) (first : ℕ) : Type 0 where
+  pub small : length unit < 2 ^ 32
+  pub read : ReadAs x u r abbreviations unit
+  pub found : Found u r abbreviations table
+  pub holds : HoldsFrom parents 0 (parentsFrom 0 [] (itemsBy r abbreviations table unit first))
+  pub deep : AllRead x u (keptFrom marks 0 [] (itemsBy r abbreviations table unit first))
+
+-- ---- one list
+
+-- for type units, and where an entry declares the attribute of a name; a list without such an attribute has the name 0
+unfoldable pub isAbsent : Sections → Unit′ → Bool → ℕ → List Item → Bool
+isAbsent x u typeUnits name items = typeUnits or pick (eqb name 0) false (anyDeclares x u name items)
+
+unfoldable pub ListAnswer : Option (List ℕ) → List ℕ → ListCount → List ℕ → Type 0
+ListAnswer none list Absent after = after ≡ list
+ListAnswer none list (Present n) after = ⊥
+ListAnswer (some ys) list Absent after = ⊥
+ListAnswer (some ys) list (Present n) after = Filled ys list n after
+
+unfoldable pub isShort : ListCount → ℕ → Bool
+isShort (Present n) room = ltb room n
+isShort Absent room = false

@@ -1,0 +1,99 @@
+-- What the writers leave: numbers at the start of a part of the output, index lists and maps as bytes.
+use mathlib.Core.Path.{_≡_}
+use Prim.Native.Nat.{ℕ, _+_, _*_, _-_, _^_, _/_, _≤_, _<_}
+use mathlib.Core.Bool.{Bool, true}
+use mathlib.Core.List.{List, [], _∷_, _++_}
+use mathlib.Core.Option.{Option, none, some}
+use lib.ListN.{length, take, drop}
+use lib.Dec.{ltb, leb}
+use Rattle.readers.specs.Choice.{pick, _and_, zeros}
+use Rattle.readers.specs.Numbers.{padded, fixedBytes, fixedValue}
+use Rattle.rewriting.specs.Ascending.{Ascending, Member}
+use Rattle.rewriting.specs.Indices.{insert}
+use Rattle.rewriting.specs.Places.{Place}
+use Rattle.rewriting.specs.Maps.{oldOffsets}
+use Rattle.rewriting.specs.declared.numbers.Padded.{Padded}
+use Rattle.rewriting.specs.declared.numbers.Padded.the-variants.{Written, Refused}
+use Rattle.rewriting.specs.declared.map.Mapped.{Mapped}
+use Rattle.rewriting.specs.declared.map.Mapped.the-variants.{To, Nothing}
+
+-- ---- numbers
+
+-- whether a number goes into so many bytes of a part of n: as a ULEB128 number of at most ten bytes, in a fixed width of at most eight, as one or the other
+unfoldable pub groupsFit : ℕ → ℕ → ℕ → Bool
+groupsFit value width n = ltb 0 width and leb width 10 and leb width n and ltb value (128 ^ width)
+
+unfoldable pub bytesFit : ℕ → ℕ → ℕ → Bool
+bytesFit value width n = leb width 8 and leb width n and ltb value (256 ^ width)
+
+unfoldable pub numberFits : Bool → ℕ → ℕ → ℕ → Bool
+numberFits isLeb value width n = pick isLeb (groupsFit value width n) (bytesFit value width n)
+
+-- a writer's answer, and the part after it: the bytes at its start where they fit, and else as it was
+pub record Put (fit : Bool) (bytes : List ℕ) (width : ℕ) (out : List ℕ) (answer : Bool) (after : List ℕ) : Type 0 where
+  pub told : answer ≡ fit
+  pub left : after ≡ pick fit (bytes ++ drop width out) out
+
+unfoldable pub paddedAnswer : ℕ → ℕ → ℕ → Padded
+paddedAnswer value width n = pick (groupsFit value width n) Written (Refused 15)
+
+unfoldable pub paddedOut : ℕ → ℕ → ℕ → List ℕ
+paddedOut value width n = pick (groupsFit value width n) (padded (width - 1) value ++ zeros (n - width)) (zeros n)
+
+-- ---- a table of big-endian numbers
+
+-- xs with ys in it from n on
+unfoldable pub put : List ℕ → ℕ → List ℕ → List ℕ
+put xs n ys = take n xs ++ (ys ++ drop (n + length ys) xs)
+
+unfoldable pub numberAt : ℕ → List ℕ → ℕ → ℕ
+numberAt width s at = fixedValue true (take width (drop at s))
+
+-- numbers of so many bytes each
+unfoldable pub runBytes : ℕ → List ℕ → List ℕ
+runBytes width [] = []
+runBytes width (x ∷ xs) = fixedBytes true width x ++ runBytes width xs
+
+-- a table holds some numbers, each within its width, and zeros after them
+pub record Held (width : ℕ) (xs bytes : List ℕ) : Type 0 where
+  pub are : bytes ≡ runBytes width xs ++ zeros (length bytes - width * length xs)
+  pub room : width * length xs ≤ length bytes
+  pub small : (v : ℕ) → Member v xs → v < 256 ^ width
+
+-- ---- index lists: eight bytes each
+
+abbrev pub listBytes : List ℕ → List ℕ
+listBytes xs = runBytes 8 xs
+
+pub record ListHeld (xs bytes : List ℕ) : Type 0 where
+  pub held : Held 8 xs bytes
+  pub ascending : Ascending xs
+
+-- one number more: how many there are then, and the list, which is as it was where it has no room
+pub record Inserted (xs : List ℕ) (value : ℕ) (list : List ℕ) (count : ℕ) (after : List ℕ) : Type 0 where
+  pub counted : count ≡ length (insert value xs)
+  pub holds : length (insert value xs) ≤ length list / 8 → ListHeld (insert value xs) after
+  pub full : length list / 8 < length (insert value xs) → after ≡ list
+
+-- ---- the map: old offset, new offset and depth of each place, four bytes each
+
+unfoldable pub columns : List Place → List ℕ
+columns [] = []
+columns (p ∷ ps) = p .old ∷ p .new ∷ p .depth ∷ columns ps
+
+unfoldable pub mapBytes : List Place → List ℕ
+mapBytes ps = runBytes 4 (columns ps)
+
+abbrev pub place : ℕ → ℕ → ℕ → Place
+place old new depth = record { old = old; new = new; depth = depth }
+
+abbrev pub withPlace : List Place → Place → List Place
+withPlace ps p = ps ++ (p ∷ [])
+
+pub record MapHeld (ps : List Place) (bytes : List ℕ) : Type 0 where
+  pub held : Held 4 (columns ps) bytes
+  pub ascending : Ascending (oldOffsets ps)
+
+unfoldable pub asMapped : Option ℕ → Mapped
+asMapped none = Nothing
+asMapped (some n) = To n

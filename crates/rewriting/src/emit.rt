@@ -1,0 +1,334 @@
+// Writes the kept entries and terminators of a unit, each at its own width, with new values for its references, siblings and indices.
+ghost use mathlib.Core.Path.{_≡_};
+ghost use mathlib.Core.List.{List, _++_};
+ghost use mathlib.Core.Option.{Option, some};
+ghost use mathlib.Core.Bool.{false};
+ghost use Prim.Native.Nat.{ℕ, _+_, _-_, _≤_};
+ghost use lib.ListN.{length, drop};
+ghost use Rattle.readers.specs.Layout.{Read, Piece, readIn, writeAll, patchAll, bytesOf, patchPieces, numberBytes};
+ghost use Rattle.readers.specs.Expression.{expressionIn};
+ghost use Rattle.readers.specs.Forms.{attributeLayout};
+ghost use Rattle.readers.specs.Entries.{attributeAt, entryLayout, stepAt};
+ghost use Rattle.readers.specs.References.{encodedBy};
+ghost use Rattle.readers.specs.declared.attributes.AttributeRead.the-variants.{Read as Attribute′};
+ghost use Rattle.rewriting.specs.Places.{Place};
+ghost use Rattle.rewriting.specs.Indices.{rankOr};
+ghost use Rattle.rewriting.specs.Written.{asMapped, MapHeld, ListHeld};
+ghost use Rattle.rewriting.specs.Rewriting.{Lists, newValue, readsRefusal, piecesRefusal, orSelf};
+ghost use Rattle.rewriting.specs.Emission.{between, Emits, Wide, numberRefusal, offsetRefusal, listForm, lebForm, Lent, Lends};
+ghost use Rattle.rewriting.specs.declared.emit.Emitted.the-variants.{To};
+use crate::lists::ListCount;
+use crate::lists::rank;
+use crate::map::Mapped;
+use crate::map::new_offset;
+use crate::map::sibling_offset;
+use crate::numbers::put_bytes;
+use crate::numbers::put_number;
+use marking::references::part;
+use marking::root_test::EntryAttribute;
+use marking::root_test::NextAttribute;
+use marking::root_test::next_attribute;
+use readers::cursor::Cursor;
+use readers::cursor::Encoding;
+use readers::expressions::Yield;
+use readers::fields::Field;
+
+// The next free byte of the output, or the number of a refusal.
+pub enum Emitted {
+    To(usize),
+    Refused(u8),
+}
+
+// Copies bytes of the unit to the next free byte.
+pub fn emit_bytes(unit: &[u8], from: usize, to: usize, out: &mut [u8], at: usize) -> usize
+    ensures { λ r. ⌜ (from ≤ to → to ≤ length (now (unit .entry)) → Emits 0 (between (now (unit .entry)) from to) (now (out .entry)) at (To r) (now (out .exit))) ⌝ }
+{
+    if from >= to {
+        return at;
+    }
+    if to > unit.len() {
+        return at;
+    }
+    if at > out.len() {
+        return at;
+    }
+    put_bytes(&unit[from..to], &mut out[at..]);
+    at + (to - from)
+}
+
+// A number in so many bytes at the next free byte: 9 where it does not fit.
+fn emit_number(value: u64, width: usize, leb: bool, out: &mut [u8], at: usize) -> Emitted
+    ensures { λ r. ⌜ (Wide leb width → Emits (numberRefusal (encodedBy leb width) value) (numberBytes false (encodedBy leb width) value) (now (out .entry)) at r (now (out .exit))) ⌝ }
+{
+    if at > out.len() {
+        return Emitted::Refused(9);
+    }
+    if width > out.len() - at {
+        return Emitted::Refused(9);
+    }
+    if put_number(value, width, leb, &mut out[at..]) {
+        return Emitted::To(at + width);
+    }
+    Emitted::Refused(9)
+}
+
+// The new offset in the old one's place: 8 where it has none.
+fn emit_offset(new: Mapped, width: usize, leb: bool, out: &mut [u8], at: usize) -> Emitted
+    ensures { λ r. ⌜ ((o : Option ℕ) (v : ℕ) → new ≡ asMapped o → Wide leb width → Emits (offsetRefusal (encodedBy leb width) v o) (numberBytes false (encodedBy leb width) (orSelf v o)) (now (out .entry)) at r (now (out .exit))) ⌝ }
+{
+    match new {
+        Mapped::To(value) => emit_number(value, width, leb, out, at),
+        Mapped::Nothing => Emitted::Refused(8),
+    }
+}
+
+// The place past a number, within a slice of a length.
+fn past(place: usize, width: usize, length: usize) -> usize
+    ensures { λ r. ⌜ (place + width ≤ length → r ≡ place + width) ⌝ }
+{
+    if place > length {
+        return length;
+    }
+    if width > length - place {
+        return length;
+    }
+    place + width
+}
+
+// An expression with the new offsets of the entries that it names, nested ones too (gc.rs: `emit_expression`).
+fn emit_expression(
+    s: &[u8],
+    e: Encoding,
+    map: &[u8],
+    places: usize,
+    out: &mut [u8],
+    at: usize,
+) -> Emitted
+    ensures { λ r. ⌜ ((lists : Lists) (ps : List Place) (depth : ℕ) (pieces : List Piece) → e .«big_endian» ≡ false → MapHeld ps (now (map .entry)) → places ≡ length ps → expressionIn e (now (s .entry)) ≡ some pieces → Emits (piecesRefusal lists ps depth pieces) (bytesOf false (patchPieces (newValue lists ps depth) pieces)) (now (out .entry)) at r (now (out .exit))) ⌝ }
+{
+    let mut from: usize = 0;
+    let mut copied: usize = 0;
+    let mut to = at;
+    loop {
+        let Yield::Reference(r) = (Cursor { at: from }).next_reference(s, e) else {
+            return Emitted::To(emit_bytes(s, copied, s.len(), out, to));
+        };
+        let target = r.target;
+        let next = r.next;
+        to = emit_bytes(s, copied, r.place, out, to);
+        match emit_offset(new_offset(map, places, target.0), r.width, r.leb, out, to) {
+            Emitted::To(place) => {
+                to = place;
+            }
+            Emitted::Refused(n) => {
+                return Emitted::Refused(n);
+            }
+        }
+        copied = past(r.place, r.width, s.len());
+        from = next.at;
+    }
+}
+
+// The number of the index list of a form: 0 ranges, 1 locations, 2 strings; 3 for a form that is no index.
+pub fn list_of(form: u64) -> u8
+    ensures { λ r. ⌜ r ≡ listForm form ⌝ }
+{
+    if form == 0x23 {
+        return 0;
+    }
+    if form == 0x22 {
+        return 1;
+    }
+    if form == 0x1a {
+        return 2;
+    }
+    if form < 0x25 {
+        return 3;
+    }
+    if form <= 0x28 {
+        return 2;
+    }
+    if form == 0x1f02 {
+        return 2;
+    }
+    3
+}
+
+// Whether a form's value is a ULEB128 number.
+fn is_leb(form: u64) -> bool
+    ensures { λ r. ⌜ r ≡ lebForm form ⌝ }
+{
+    if form == 0x15 {
+        return true;
+    }
+    if form == 0x1a {
+        return true;
+    }
+    if form == 0x22 {
+        return true;
+    }
+    if form == 0x23 {
+        return true;
+    }
+    form == 0x1f02
+}
+
+// An index by its rank; as it is where its list is absent.
+fn new_index(list: &[u8], count: ListCount, value: u64) -> u64
+    ensures { λ r. ⌜ ((o : Option (List ℕ)) → Lent o (now (list .entry)) count → r ≡ rankOr o value) ⌝ }
+{
+    match count {
+        ListCount::Present(n) => rank(list, n, value) as u64,
+        ListCount::Absent => value,
+    }
+}
+
+fn width(f: Field) -> usize
+    ensures { λ r. ⌜ r ≡ f .end - f .start ⌝ }
+{
+    if f.start <= f.end { f.end - f.start } else { 0 }
+}
+
+// An attribute's value: what stands before it (form numbers, a length) is copied (gc.rs: `emit_attribute`).
+fn emit_attribute(
+    unit: &[u8],
+    values: usize,
+    a: EntryAttribute,
+    depth: u64,
+    e: Encoding,
+    map: &[u8],
+    places: usize,
+    ranges: &[u8],
+    ranges_count: ListCount,
+    locations: &[u8],
+    locations_count: ListCount,
+    strings: &[u8],
+    strings_count: ListCount,
+    out: &mut [u8],
+    at: usize,
+) -> Emitted
+    ensures { λ r. ⌜ ((lists : Lists) (ps : List Place) (rs : List Read) (rest : List ℕ) → e .«big_endian» ≡ false → MapHeld ps (now (map .entry)) → places ≡ length ps → Lends lists (now (ranges .entry)) «ranges_count» (now (locations .entry)) «locations_count» (now (strings .entry)) «strings_count» → values ≤ length (now (unit .entry)) → attributeAt e (now (unit .entry)) values (a .name) (a .declared) ≡ Attribute′ (a .value) → readIn false (expressionIn e) (attributeLayout e (a .name) (a .declared)) (drop values (now (unit .entry))) ≡ some (rs, rest) → Emits (readsRefusal lists ps depth rs) (writeAll false (patchAll (newValue lists ps depth) rs)) (now (out .entry)) at r (now (out .exit))) ⌝ }
+{
+    let v = a.value;
+    let field = v.field;
+    let form = v.form;
+    let to = emit_bytes(unit, values, field.start, out, at);
+    let leb = is_leb(form);
+    if form == 0x18 {
+        return emit_expression(part(unit, field), e, map, places, out, to);
+    }
+    if form >= 0x11 {
+        if form <= 0x15 {
+            if a.name == 0x01 {
+                return emit_offset(
+                    sibling_offset(map, places, field.value, depth),
+                    width(field),
+                    leb,
+                    out,
+                    to,
+                );
+            }
+            return emit_offset(
+                new_offset(map, places, field.value),
+                width(field),
+                leb,
+                out,
+                to,
+            );
+        }
+    }
+    let list = list_of(form);
+    if list == 0 {
+        return emit_number(
+            new_index(ranges, ranges_count, field.value),
+            width(field),
+            leb,
+            out,
+            to,
+        );
+    }
+    if list == 1 {
+        return emit_number(
+            new_index(locations, locations_count, field.value),
+            width(field),
+            leb,
+            out,
+            to,
+        );
+    }
+    if list == 2 {
+        return emit_number(
+            new_index(strings, strings_count, field.value),
+            width(field),
+            leb,
+            out,
+            to,
+        );
+    }
+    Emitted::To(emit_bytes(unit, field.start, field.end, out, to))
+}
+
+// An entry: its code, then its attributes.
+pub fn emit_entry(
+    unit: &[u8],
+    abbreviations: &[u8],
+    start: usize,
+    specs: Cursor,
+    values: Cursor,
+    depth: u64,
+    e: Encoding,
+    map: &[u8],
+    places: usize,
+    ranges: &[u8],
+    ranges_count: ListCount,
+    locations: &[u8],
+    locations_count: ListCount,
+    strings: &[u8],
+    strings_count: ListCount,
+    out: &mut [u8],
+    at: usize,
+) -> Emitted {
+    let mut p = specs.at;
+    let mut from = values.at;
+    let mut to = emit_bytes(unit, start, from, out, at);
+    loop {
+        let NextAttribute::More(a) = next_attribute(
+            unit,
+            abbreviations,
+            Cursor { at: p },
+            Cursor { at: from },
+            e,
+        ) else {
+            return Emitted::To(to);
+        };
+        let v = a.value;
+        let field = v.field;
+        let next = a.next;
+        match emit_attribute(
+            unit,
+            from,
+            a,
+            depth,
+            e,
+            map,
+            places,
+            ranges,
+            ranges_count,
+            locations,
+            locations_count,
+            strings,
+            strings_count,
+            out,
+            to,
+        ) {
+            Emitted::To(place) => {
+                to = place;
+            }
+            Emitted::Refused(n) => {
+                return Emitted::Refused(n);
+            }
+        }
+        from = field.end;
+        p = next.at;
+    }
+}

@@ -1,0 +1,132 @@
+// The kept entries and terminators of a unit, one after the other.
+ghost use mathlib.Core.Path.{_≡_};
+ghost use Rattle.marking.specs.Marks.{isKept};
+ghost use Rattle.rewriting.specs.NextKept.{closesKept, itemsBy, Answers};
+use readers::cursor::Cursor;
+use readers::cursor::Encoding;
+use readers::entries::Nesting;
+use readers::entries::Step;
+use readers::offsets::EntryIndex;
+
+// How a unit is read: where its declarations start, and by what encoding.
+pub struct Reading {
+    pub from: u64,
+    pub encoding: Encoding,
+}
+
+// Where a pass through the kept items stands: the next place, how many entries there were, and the open ones.
+pub struct Stand {
+    pub at: usize,
+    pub count: usize,
+    pub nesting: Nesting,
+}
+
+// A kept item: where it starts and ends, its depth, for an entry where its specifications and its values start, and where the pass goes on.
+pub struct Kept {
+    pub start: usize,
+    pub end: usize,
+    pub depth: u64,
+    pub is_entry: bool,
+    pub specs: Cursor,
+    pub values: Cursor,
+    pub next: Stand,
+}
+
+pub enum KeptStep {
+    Item(Kept),
+    End,
+}
+
+// Whether the entry with an index is kept.
+fn is_kept(marks: &[u8], i: usize) -> bool
+    ensures { λ r. ⌜ r ≡ isKept (now (marks .entry)) i ⌝ }
+{
+    if i < marks.len() {
+        return marks[i] >= 2;
+    }
+    false
+}
+
+// Whether a terminator closes the children of a kept entry.
+fn closes_kept(marks: &[u8], nesting: Nesting) -> bool
+    ensures { λ r. ⌜ r ≡ closesKept (now (marks .entry)) nesting ⌝ }
+{
+    if nesting.depth == 0 {
+        return false;
+    }
+    let parent = nesting.parent;
+    is_kept(marks, parent.0 as usize)
+}
+
+// The next kept item. A unit below 4 GiB has fewer entries than a u32 can count.
+pub fn next_kept(
+    unit: &[u8],
+    abbreviations: &[u8],
+    r: Reading,
+    index: &[u64],
+    parents: &[u32],
+    marks: &[u8],
+    s: Stand,
+) -> KeptStep
+    ensures { λ x. ⌜ Answers (itemsBy r (now (abbreviations .entry)) (now (index .entry)) (now (unit .entry))) (now (parents .entry)) (now (marks .entry)) (now (unit .entry)) s x ⌝ }
+{
+    let from = r.from;
+    let encoding = r.encoding;
+    let mut at = s.at;
+    let mut count = s.count;
+    let mut nesting = s.nesting;
+    loop {
+        match (Cursor { at }).step(unit, abbreviations, from, index, encoding) {
+            Step::Entry(x) => {
+                if count > 0xffff_ffff {
+                    return KeptStep::End;
+                }
+                let declaration = x.declaration;
+                let specs = declaration.attributes;
+                let values = x.values;
+                let next = x.next;
+                let start = at;
+                let depth = nesting.depth;
+                let kept = is_kept(marks, count);
+                nesting = nesting.after_entry(EntryIndex(count as u32), declaration.children);
+                count += 1;
+                at = next.at;
+                if kept {
+                    return KeptStep::Item(Kept {
+                        start,
+                        end: at,
+                        depth,
+                        is_entry: true,
+                        specs,
+                        values,
+                        next: Stand { at, count, nesting },
+                    });
+                }
+            }
+            Step::Terminator(next) => {
+                let start = at;
+                let depth = nesting.depth;
+                let kept = closes_kept(marks, nesting);
+                nesting = nesting.after_terminator(parents);
+                at = next.at;
+                if kept {
+                    return KeptStep::Item(Kept {
+                        start,
+                        end: at,
+                        depth,
+                        is_entry: false,
+                        specs: next,
+                        values: next,
+                        next: Stand { at, count, nesting },
+                    });
+                }
+            }
+            Step::End => {
+                return KeptStep::End;
+            }
+            Step::Unreadable => {
+                return KeptStep::End;
+            }
+        }
+    }
+}

@@ -1,0 +1,10 @@
+// Rewriting: what is kept of a unit, index lists, the map, emission, collect.
+pub mod collect;
+pub mod emit;
+pub mod indices;
+pub mod kept;
+pub mod lists;
+pub mod map;
+pub mod numbers;
+pub mod passes;
+pub mod writing;

@@ -1,0 +1,164 @@
+// Numbers written into a part of the output.
+ghost use mathlib.Core.Path.{_≡_};
+ghost use Prim.Native.Nat.{_+_, _-_, _^_, _<_, _≤_};
+ghost use mathlib.Core.Bool.{true, false};
+ghost use mathlib.Core.List.{_++_};
+ghost use lib.ListN.{length, drop};
+ghost use lib.Dec.{ltb};
+ghost use Rattle.readers.specs.Choice.{zeros};
+ghost use Rattle.readers.specs.Numbers.{padded, fixedBytes};
+ghost use Rattle.readers.specs.Layout.{numberBytes};
+ghost use Rattle.readers.specs.References.{encodedBy};
+ghost use Rattle.rewriting.specs.Written.{groupsFit, bytesFit, numberFits, Put, paddedAnswer, paddedOut, put, numberAt};
+use readers::cursor::Cursor;
+use readers::cursor::Number;
+
+// The answer of padded_number.
+pub enum Padded {
+    Written,
+    Refused(u8),
+}
+
+// Whether a number has at most so many digits.
+fn fits(value: u64, base: u64, width: usize) -> bool
+    requires { ⌜ 0 < base ⌝ }
+    ensures { λ r. ⌜ r ≡ ltb value (base ^ width) ⌝ }
+{
+    let mut rest = value;
+    let mut i: usize = 0;
+    while i < width {
+        rest = rest / base;
+        i += 1;
+    }
+    rest == 0
+}
+
+// Makes a part zeros.
+fn clear(out: &mut [u8])
+    ensures { λ _. ⌜ now (out .exit) ≡ zeros (length (now (out .entry))) ⌝ }
+{
+    let mut i: usize = 0;
+    while i < out.len() {
+        out[i] = 0;
+        i += 1;
+    }
+}
+
+// A ULEB128 number in exactly so many bytes, each but the last with its high bit set: whether it fits.
+fn put_groups(value: u64, width: usize, out: &mut [u8]) -> bool
+    ensures { λ r. ⌜ Put (groupsFit value width (length (now (out .entry)))) (padded (width - 1) value) width (now (out .entry)) r (now (out .exit)) ⌝ }
+{
+    if width == 0 {
+        return false;
+    }
+    if width > 10 {
+        return false;
+    }
+    if width > out.len() {
+        return false;
+    }
+    if !fits(value, 128, width) {
+        return false;
+    }
+    let last = width - 1;
+    let mut rest = value;
+    let mut i: usize = 0;
+    while i < last {
+        out[i] = (rest % 128) as u8 + 128;
+        rest = rest / 128;
+        i += 1;
+    }
+    out[i] = rest as u8;
+    true
+}
+
+// A little-endian number in so many bytes, at most eight: whether it fits.
+fn put_fixed(value: u64, width: usize, out: &mut [u8]) -> bool
+    ensures { λ r. ⌜ Put (bytesFit value width (length (now (out .entry)))) (fixedBytes false width value) width (now (out .entry)) r (now (out .exit)) ⌝ }
+{
+    if width > 8 {
+        return false;
+    }
+    if width > out.len() {
+        return false;
+    }
+    if !fits(value, 256, width) {
+        return false;
+    }
+    let mut rest = value;
+    let mut i: usize = 0;
+    while i < width {
+        out[i] = (rest % 256) as u8;
+        rest = rest / 256;
+        i += 1;
+    }
+    true
+}
+
+// Writes a ULEB128 number in exactly so many bytes at the start of a slice, zeros after it (gc.rs: `write_uleb128_padded`). 15, and zeros, for a width of 0, above 10, below what the number
+// needs or beyond the slice.
+pub fn padded_number(value: u64, width: usize, out: &mut [u8]) -> Padded
+    ensures answer { λ r. ⌜ r ≡ paddedAnswer value width (length (now (out .entry))) ⌝ }
+    ensures bytes { λ _. ⌜ now (out .exit) ≡ paddedOut value width (length (now (out .entry))) ⌝ }
+{
+    clear(out);
+    if put_groups(value, width, out) {
+        Padded::Written
+    } else {
+        Padded::Refused(15)
+    }
+}
+
+// Writes a number in its own encoding at the start of a part: whether it fits.
+pub fn put_number(value: u64, width: usize, leb: bool, out: &mut [u8]) -> bool
+    ensures { λ r. ⌜ Put (numberFits leb value width (length (now (out .entry)))) (numberBytes false (encodedBy leb width) value) width (now (out .entry)) r (now (out .exit)) ⌝ }
+{
+    if leb {
+        return put_groups(value, width, out);
+    }
+    put_fixed(value, width, out)
+}
+
+// Copies a run of bytes into the start of a part that has room for it.
+pub fn put_bytes(bytes: &[u8], out: &mut [u8])
+    ensures { λ _. ⌜ (length (now (bytes .entry)) ≤ length (now (out .entry)) → now (out .exit) ≡ now (bytes .entry) ++ drop (length (now (bytes .entry))) (now (out .entry))) ⌝ }
+{
+    if bytes.len() > out.len() {
+        return;
+    }
+    let mut i: usize = 0;
+    while i < bytes.len() {
+        out[i] = bytes[i];
+        i += 1;
+    }
+}
+
+// A big-endian number of so many bytes at a place; 0 where it is not there.
+pub fn big_endian_at(s: &[u8], at: usize, width: usize) -> u64
+    ensures { λ r. ⌜ (width ≤ 8 → at + width ≤ length (now (s .entry)) → r ≡ numberAt width (now (s .entry)) at) ⌝ }
+{
+    let c = Cursor { at };
+    match c.fixed(s, width, true) {
+        Number::Value(value, _) => value,
+        Number::Unreadable => 0,
+    }
+}
+
+// Writes a big-endian number of so many bytes at a place that has room for it.
+pub fn put_big_endian(s: &mut [u8], at: usize, width: usize, value: u64)
+    ensures { λ _. ⌜ (at + width ≤ length (now (s .entry)) → now (s .exit) ≡ put (now (s .entry)) at (fixedBytes true width value)) ⌝ }
+{
+    if at > s.len() {
+        return;
+    }
+    if width > s.len() - at {
+        return;
+    }
+    let mut rest = value;
+    let mut i = width;
+    while i > 0 {
+        i -= 1;
+        s[at + i] = (rest % 256) as u8;
+        rest = rest / 256;
+    }
+}

@@ -1,0 +1,75 @@
+// Passes through the kept items: their sizes, and the map.
+ghost use Rattle.rewriting.specs.NextKept.{itemsBy};
+ghost use Rattle.rewriting.specs.Measures.{Measures};
+ghost use Rattle.rewriting.specs.MapFilled.{Fills};
+use crate::kept::KeptStep;
+use crate::kept::Reading;
+use crate::kept::Stand;
+use crate::kept::next_kept;
+use crate::map::put_place;
+use readers::entries::Nesting;
+
+pub struct Size {
+    pub places: usize,
+    pub bytes: usize,
+}
+
+// How many places and bytes the rewritten unit has.
+pub fn measure(
+    unit: &[u8],
+    abbreviations: &[u8],
+    r: Reading,
+    index: &[u64],
+    parents: &[u32],
+    marks: &[u8],
+    first: usize,
+) -> Size
+    ensures { λ z. ⌜ Measures (itemsBy r (now (abbreviations .entry)) (now (index .entry)) (now (unit .entry))) (now (unit .entry)) (now (parents .entry)) (now (marks .entry)) first z ⌝ }
+{
+    let mut s = Stand {
+        at: first,
+        count: 0,
+        nesting: Nesting::outside(),
+    };
+    let mut places: usize = 0;
+    let mut bytes = first;
+    loop {
+        let KeptStep::Item(x) = next_kept(unit, abbreviations, r, index, parents, marks, s) else {
+            return Size { places, bytes };
+        };
+        places += 1;
+        bytes += x.end - x.start;
+        s = x.next;
+    }
+}
+
+// Fills the map.
+pub fn fill_map(
+    unit: &[u8],
+    abbreviations: &[u8],
+    r: Reading,
+    index: &[u64],
+    parents: &[u32],
+    marks: &[u8],
+    first: usize,
+    map: &mut [u8],
+)
+    ensures { λ _. ⌜ Fills (itemsBy r (now (abbreviations .entry)) (now (index .entry)) (now (unit .entry))) (now (unit .entry)) (now (parents .entry)) (now (marks .entry)) first (now (map .entry)) (now (map .exit)) ⌝ }
+{
+    let mut s = Stand {
+        at: first,
+        count: 0,
+        nesting: Nesting::outside(),
+    };
+    let mut i: usize = 0;
+    let mut new = first;
+    loop {
+        let KeptStep::Item(x) = next_kept(unit, abbreviations, r, index, parents, marks, s) else {
+            return;
+        };
+        put_place(map, i, x.start as u64, new as u64, x.depth);
+        new += x.end - x.start;
+        i += 1;
+        s = x.next;
+    }
+}
