@@ -1,15 +1,15 @@
 -- The emission of an attribute at each place where it is decided. Assumes nothing.
-use mathlib.Core.Path.{_≡_, refl, ap, sym, _∙_}
-use Prim.Native.Nat.{ℕ, _-_, _≤_, _<_}
-use mathlib.Core.Bool.{Bool, true, false}
-use mathlib.Core.Option.{Option, none, some}
-use mathlib.Core.List.{List, [], _∷_}
+use mathlib.Core.Path.{_≡_, refl, sym, _∙_}
+use Prim.Native.Nat.{ℕ, _-_, _≤_}
+use mathlib.Core.Bool.{Bool, false}
+use mathlib.Core.Option.{Option, some}
+use mathlib.Core.List.{List}
 use lib.ListN.{length, drop}
-use lib.Dec.{T, leb, eqb}
+use lib.Dec.{T, leb}
 use lib.Pow.{areBytes}
 use mir.Facts.{yes-eqb, no-eqb}
 use Rattle.readers.specs.Choice.{pick, pick-yes, pick-no, _and_}
-use Rattle.readers.specs.Layout.{Role, reference, sibling, index, Piece, Read, readIn, writeAll, patchAll, patchPieces, bytesOf, numberBytes}
+use Rattle.readers.specs.Layout.{index, Piece, Read, readIn, writeAll, patchAll, patchPieces, bytesOf, numberBytes}
 use Rattle.readers.specs.Expression.{expressionIn}
 use Rattle.readers.specs.References.{encodedBy}
 use Rattle.readers.specs.Forms.{useOf, formToken, attributeLayout}
@@ -24,7 +24,7 @@ use Rattle.rewriting.specs.Written.{asMapped}
 use Rattle.rewriting.specs.Rewriting.{Lists, newValue, piecesRefusal, readsRefusal, orSelf, listAt}
 use Rattle.rewriting.specs.Emission.{between, Emits, Wide, numberRefusal, offsetRefusal, listForm, lebForm, Lent}
 use Rattle.rewriting.specs.declared.emit.Emitted.{Emitted}
-use Rattle.rewriting.specs.declared.emit.Emitted.the-variants.{To, Refused}
+use Rattle.rewriting.specs.declared.emit.Emitted.the-variants.{To}
 use Rattle.rewriting.specs.declared.lists.ListCount.{ListCount}
 use Rattle.rewriting.specs.declared.map.Mapped.{Mapped}
 use Rattle.rewriting.proofs.Exact.{token-ok}

@@ -94,7 +94,7 @@ module _ (big : Bool) (ex : ExpressionReader) where
               omega (arith, whole .0, length-append a (bytesOf big ps), length-append a (b ++ []), length-append b []) in n);
         }))))
 
-    token-as-bytes : (t : Token) (s : List ℕ) → All (TokenAsBytes t s) (tokenIn big ex t s)
+    pub token-as-bytes : (t : Token) (s : List ℕ) → All (TokenAsBytes t s) (tokenIn big ex t s)
     unfolding tokenIn
     token-as-bytes nothing s = same-token nothing s _ refl
     token-as-bytes (number k) s = same-token (number k) s _ refl

@@ -1,9 +1,9 @@
 -- Bytes put into the output one after the other, and the numbers among them. Assumes nothing.
 use mathlib.Core.Path.{_≡_, refl, ap, ap₂, sym, _∙_, subst}
-use Prim.Native.Nat.{ℕ, zero, suc, _+_, _-_, _^_, _≤_, _<_}
+use Prim.Native.Nat.{ℕ, suc, _+_, _-_, _^_, _≤_, _<_}
 use native.Mathlib.Omega.{arith}
-use mathlib.Core.Bool.{Bool, true, false, not}
-use mathlib.Core.List.{List, [], _∷_, _++_, append-assoc, append-nil}
+use mathlib.Core.Bool.{Bool, true, false}
+use mathlib.Core.List.{List, [], _++_, append-assoc, append-nil}
 use mathlib.Core.Option.{Option, none, some}
 use mathlib.Core.Logic.{⊎-elim}
 use lib.ListN.{length, take, drop, length-append, length-drop, drop-of-length-le, take-append-drop}
@@ -11,7 +11,7 @@ use lib.Seq.{length-take-le, take-at, drop-append-add, drop-drop, take-all}
 use lib.Dec.{T, ltb, leb, eqb}
 use mir.Facts.{yes-ltb, yes-leb, eqb-yes, eqb-no, no-eqb, yes-eqb}
 use Rattle.readers.specs.Choice.{pick, pick-yes, pick-no, either, _and_}
-use Rattle.readers.specs.Layout.{Encoded, infixed, inleb, width, numberBytes, length-number}
+use Rattle.readers.specs.Layout.{Encoded, width, numberBytes, length-number}
 use Rattle.readers.specs.References.{encodedBy}
 use Rattle.rewriting.specs.Places.{Place}
 use Rattle.rewriting.specs.Indices.{rankIn, rankOr}
@@ -210,7 +210,7 @@ fits-by : (leb′ : Bool) (w v n : ℕ) → Wide leb′ w → w ≤ n → number
 unfolding Wide numberFits groupsFit bytesFit pick
 fits-by true w v n h l =
     and-true (ltb 0 w) _ (yes-ltb {a = 0} {b = w} (h .0)) ∙ and-true (leb w 10) _ (yes-leb {a = w} {b = 10} (h .1)) ∙ and-true (leb w n) _ (yes-leb {a = w} {b = n} l)
-fits-by false w v n h l = and-true (leb w n) _ (yes-leb {a = w} {b = n} l)
+fits-by false w v n h l = and-true (leb w 8) _ (yes-leb {a = w} {b = 8} h) ∙ and-true (leb w n) _ (yes-leb {a = w} {b = n} l)
 
 module _ (value w : ℕ) (leb′ : Bool) (out : List ℕ) (at : ℕ) where
   abbrev code : Encoded

@@ -1,19 +1,17 @@
 -- Of bytes, what was read is exactly what is written of it: the pieces of a reading are the bytes it took, every number in them fits its width, and its links have no other roles than the
 -- layout's. Assumes nothing.
 use mathlib.Core.Path.{_≡_, refl, ap, ap₂, sym, _∙_, subst}
-use Prim.Native.Nat.{ℕ, zero, suc, _^_, _≤_, _<_}
-use native.Mathlib.Omega.{arith}
-use mathlib.Core.Bool.{Bool, true, false, not}
-use mathlib.Core.Option.{Option, none, some}
+use Prim.Native.Nat.{ℕ, zero, suc, _^_, _<_}
+use mathlib.Core.Bool.{Bool, true, false}
 use mathlib.Core.List.{List, [], _∷_, _++_, append-assoc, append-nil}
 use lib.ListN.{length, take, drop, getD, take-append-drop}
 use lib.Seq.{length-take-le}
-use lib.Dec.{T, ltb, leb, eqb}
+use lib.Dec.{T, ltb}
 use lib.Pow.{areBytes}
 use mir.Facts.{yes-ltb, ltb-yes, leb-yes, and-yes, yes-and}
-use Rattle.readers.specs.Choice.{pick, pick-either, _and_, All, all-some, all-none, all-of, all-check, all-bind, all-both, all-map, all-triv}
+use Rattle.readers.specs.Choice.{pick-either, _and_, All, all-some, all-none, all-check, all-bind, all-both, all-triv}
 use Rattle.readers.specs.Numbers.{Groups, groups, GroupsLaw, groups-law, ExactGroups, groups-exact, uleb, unsigned64, sleb, fixedValue, fixedBytes, fixed-bytes}
-use Rattle.readers.specs.Layout.{Kind, fixed, leb128, Encoded, infixed, inleb, Role, reference, typeReference, sibling, index, absolute, Token, nothing, number, bounded, forms, signed, link, string, run, block, expression, unknown, Layout, done, fail, field, Piece, copied, linked, Read, ReadOf, RunOf, ExpressionReader, Found, asLeb, copy, asNumber, asLink, asBounded, asForms, asSigned, asString, asBlock, asExpression, LebLaw, uleb-law, numberIn, formsIn, stringIn, tokenIn, readIn, before, numberBytes, pieceBytes, bytesOf, writeAll, bytes-append, Fit}
+use Rattle.readers.specs.Layout.{Kind, fixed, leb128, Role, reference, typeReference, sibling, index, absolute, Token, nothing, number, bounded, forms, signed, link, string, run, block, expression, unknown, Layout, done, fail, field, Piece, copied, linked, Read, ReadOf, RunOf, ExpressionReader, Found, asLeb, copy, asNumber, asLink, asBounded, asForms, asSigned, asString, asBlock, asExpression, LebLaw, uleb-law, numberIn, formsIn, stringIn, tokenIn, readIn, before, numberBytes, pieceBytes, bytesOf, writeAll, bytes-append, Fit}
 use Rattle.readers.specs.Tokens.{Use, plain, as′, numberAs, tokenOf}
 use Rattle.readers.specs.Operations.{Row, rows, rowOf, unreadableRow, rowLayout, operation, operationRow}
 use Rattle.readers.specs.Expression.{allPieces, andRest, expressionWithin, expressionIn, write-pieces}

@@ -22,6 +22,7 @@ pub mod ValueForms
 pub mod ValueParts
 pub mod ValueEmits
 pub mod AttributeEmits
+pub mod EntryEmits
 pub mod Putting
 pub mod Tables
 pub mod MapFills

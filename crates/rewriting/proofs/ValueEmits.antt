@@ -1,27 +1,25 @@
 -- The emission of a value, by its form: an expression, a reference, an index, or copied bytes. Assumes nothing.
 use mathlib.Core.Path.{_≡_, refl, ap, ap₂, sym, _∙_, subst}
-use Prim.Native.Nat.{ℕ, suc, _+_, _-_, _≤_, _<_}
+use Prim.Native.Nat.{ℕ, suc, _+_, _-_, _≤_}
 use native.Mathlib.Omega.{arith}
-use mathlib.Core.Bool.{Bool, true, false, not}
-use mathlib.Core.Option.{Option, none, some}
+use mathlib.Core.Bool.{Bool, false}
+use mathlib.Core.Option.{Option, some}
 use mathlib.Core.List.{List, [], _∷_, _++_, append-assoc, append-nil}
-use mathlib.Core.Logic.{⊎-elim}
-use lib.ListN.{length, take, drop, length-append, length-drop}
+use lib.ListN.{length, take, drop, length-append}
 use lib.Seq.{length-take-le, take-at, drop-drop}
-use lib.Dec.{T, leb, eqb}
+use lib.Dec.{T}
 use lib.Pow.{areBytes}
-use mir.Facts.{leb-yes, yes-leb, eqb-yes}
-use Rattle.readers.specs.Choice.{pick, pick-yes, pick-no, _and_, check-yes, bind, bind-at, All, all-some, all-none, all-of, all-check, all-bind, all-both, all-triv, Took, took-length}
+use mir.Facts.{leb-yes, yes-leb}
+use Rattle.readers.specs.Choice.{pick, _and_, check-yes, bind, bind-at, All, all-some, all-of, all-check, all-bind, all-both, all-triv}
 use Rattle.readers.specs.Numbers.{Groups, uleb}
-use Rattle.readers.specs.Layout.{Kind, fixed, leb128, Encoded, infixed, inleb, width, kindOf, Role, reference, typeReference, sibling, index, absolute, Token, link, expression, Piece, copied, linked, Read, ReadOf, Found, asBytes, NumberLaw, number-law, numberIn, asLink, LebLaw, uleb-law, asExpression, tokenIn, numberBytes, length-number, bytesOf, pieceBytes, writeAll, Patch, patchPiece, patchPieces, patchAll, Fit}
+use Rattle.readers.specs.Layout.{Kind, Encoded, infixed, inleb, width, kindOf, Role, reference, typeReference, sibling, index, absolute, Token, link, expression, Piece, copied, linked, Read, ReadOf, Found, asBytes, NumberLaw, number-law, numberIn, asLink, LebLaw, uleb-law, asExpression, tokenIn, numberBytes, length-number, bytesOf, pieceBytes, writeAll, patchPiece, patchPieces, patchAll, Fit}
 use Rattle.readers.specs.Expression.{expressionIn}
 use Rattle.readers.specs.References.{encodedBy}
 use Rattle.readers.specs.Forms.{valueToken}
-use Rattle.readers.specs.Tokens.{tokenOf}
 use Rattle.readers.specs.Fields.{linkedValue, size, fieldOf, asField, tokenAt}
 use Rattle.readers.specs.declared.cursor.Encoding.{Encoding}
 use Rattle.readers.specs.declared.fields.Field.{Field}
-use Rattle.readers.specs.declared.fields.FieldRead.the-variants.{Read as Field′, Unreadable as NoField}
+use Rattle.readers.specs.declared.fields.FieldRead.the-variants.{Read as Field′}
 use Rattle.readers.specs.declared.attributes.Attribute.{Attribute}
 use Rattle.readers.proofs.OperationPieces.{isLeb, isExpression}
 use Rattle.readers.proofs.Deep.{plain-token}
@@ -30,16 +28,16 @@ use Rattle.marking.specs.EntryReferences.{partOf}
 use Rattle.rewriting.specs.Places.{Place, newOf, siblingOf}
 use Rattle.rewriting.specs.Indices.{rankOr}
 use Rattle.rewriting.specs.Written.{asMapped}
-use Rattle.rewriting.specs.Rewriting.{Lists, newValue, hasPlace, fits, pieceRefusal, piecesRefusal, readsRefusal, orNext, orSelf, isSome, listAt}
-use Rattle.rewriting.specs.Emission.{between, Emits, Wide, numberRefusal, offsetRefusal, listForm, lebForm}
+use Rattle.rewriting.specs.Rewriting.{Lists, newValue, hasPlace, pieceRefusal, piecesRefusal, readsRefusal, orNext, orSelf, isSome, listAt}
+use Rattle.rewriting.specs.Emission.{between, Emits, Wide, numberRefusal, offsetRefusal, lebForm}
 use Rattle.rewriting.specs.declared.emit.Emitted.{Emitted}
-use Rattle.rewriting.specs.declared.emit.Emitted.the-variants.{To, Refused}
+use Rattle.rewriting.specs.declared.emit.Emitted.the-variants.{To}
 use Rattle.rewriting.specs.declared.map.Mapped.{Mapped}
 use Rattle.rewriting.proofs.Emissions.{emits-as, emits-then}
-use Rattle.rewriting.proofs.Exact.{useOk, tokenOk, Right, Rights, ExactReader, Exactly, TokenExact, number-exact, token-exact, token-ok, are-drop}
-use Rattle.rewriting.proofs.Splices.{fit-fits, fits-holds, next-zero, stays, reference-refusal, Sound, wide-of}
-use Rattle.rewriting.proofs.ValueForms.{onlyAbsolute, formIs, LinkForm, own}
-use Rattle.rewriting.proofs.ValueParts.{between-none, between-from, between-join, next-last, Value, token-known}
+use Rattle.rewriting.proofs.Exact.{tokenOk, Right, Rights, ExactReader, Exactly, TokenExact, number-exact, token-exact, are-drop}
+use Rattle.rewriting.proofs.Splices.{fits-holds, next-zero, stays, reference-refusal, Sound, wide-of}
+use Rattle.rewriting.proofs.ValueForms.{onlyAbsolute, formIs, LinkForm}
+use Rattle.rewriting.proofs.ValueParts.{between-from, between-join, next-last, Value, token-known}
 
 -- ---- refusals by role
 

@@ -1,28 +1,27 @@
 -- A value of an attribute, read deep: what stands before it, the token that it is read by, and its field. Assumes nothing.
 use mathlib.Core.Path.{_≡_, refl, ap, ap₂, sym, _∙_, subst}
-use Prim.Native.Nat.{ℕ, suc, _+_, _-_, _≤_, _<_}
+use Prim.Native.Nat.{ℕ, _+_, _-_, _≤_}
 use native.Mathlib.Omega.{arith}
-use mathlib.Core.Bool.{Bool, true, false, not}
-use mathlib.Core.Option.{Option, none, some}
-use mathlib.Core.List.{List, [], _∷_, _++_, append-assoc, append-nil}
+use mathlib.Core.Bool.{Bool, true, false}
+use mathlib.Core.Option.{none, some}
+use mathlib.Core.List.{List, [], _∷_, _++_, append-nil}
 use mathlib.Core.Logic.{⊎-elim}
-use lib.ListN.{length, take, drop, length-append, length-drop}
+use lib.ListN.{length, take, drop, length-drop}
 use lib.Seq.{take-add, drop-drop}
-use lib.Dec.{T, eqb}
+use lib.Dec.{eqb}
 use mir.Facts.{eqb-yes, eqb-no}
-use Rattle.readers.specs.Choice.{_and_, _or_, pick, pick-yes, pick-no, either, bind, bind-at, All, all-some, all-none, all-of, all-bind, all-triv}
-use Rattle.readers.specs.Layout.{Token, forms, unknown, Layout, done, field, Piece, copied, linked, Read, ReadOf, RunOf, ExpressionReader, FormsLaw, forms-law, formsIn, asForms, copy, tokenIn, readIn, before, bytesOf, pieceBytes, writeAll, Patch, patchPiece, patchPieces, patchRead, patchAll}
+use Rattle.readers.specs.Choice.{_and_, _or_, pick, pick-yes, pick-no, either, bind, All, all-some, all-of, all-bind, all-triv}
+use Rattle.readers.specs.Layout.{forms, done, field, copied, Read, ReadOf, RunOf, ExpressionReader, FormsLaw, forms-law, formsIn, asForms, copy, tokenIn, readIn, before, bytesOf, pieceBytes, writeAll, Patch, patchPiece, patchPieces, patchRead, patchAll}
 use Rattle.readers.specs.Expression.{expressionIn}
 use Rattle.readers.specs.Forms.{valueToken, attributeLayout}
 use Rattle.readers.specs.Cursors.{asFormNumber, formsAt}
 use Rattle.readers.specs.Fields.{tokenAt}
 use Rattle.readers.specs.Entries.{attributeAt}
 use Rattle.readers.specs.declared.cursor.Encoding.{Encoding}
-use Rattle.readers.specs.declared.fields.Field.{Field}
 use Rattle.readers.specs.declared.fields.FieldRead.{FieldRead}
 use Rattle.readers.specs.declared.fields.FieldRead.the-variants.{Read as Field′, Unreadable as NoField}
 use Rattle.readers.specs.declared.attributes.Attribute.{Attribute}
-use Rattle.readers.specs.declared.attributes.AttributeRead.the-variants.{Read as Attribute′, Unreadable as NoAttribute}
+use Rattle.readers.specs.declared.attributes.AttributeRead.the-variants.{Read as Attribute′}
 use Rattle.readers.proofs.Values.{valued, behindForms, attribute-direct, attribute-indirect}
 use Rattle.rewriting.specs.Places.{Place}
 use Rattle.rewriting.specs.Rewriting.{Lists, pieceRefusal, piecesRefusal, readsRefusal, orNext}

@@ -2,14 +2,12 @@
 use mathlib.Core.Path.{_≡_}
 use Prim.Native.Nat.{ℕ, _+_, _-_, _≤_, _<_}
 use mathlib.Core.Bool.{Bool, true, false}
-use mathlib.Core.List.{List, [], _∷_, _++_}
+use mathlib.Core.List.{List, []}
 use mathlib.Core.Option.{Option, none, some}
 use lib.ListN.{length, take, drop}
 use lib.Dec.{leb, eqb}
 use Rattle.readers.specs.Choice.{pick, _and_, _or_}
-use Rattle.readers.specs.Layout.{Encoded, infixed, inleb}
-use Rattle.rewriting.specs.Indices.{rankOr}
-use Rattle.rewriting.specs.Places.{Place}
+use Rattle.readers.specs.Layout.{Encoded}
 use Rattle.rewriting.specs.Written.{put, ListHeld}
 use Rattle.rewriting.specs.Rewriting.{Lists, noLists, fits, isSome, orSelf}
 use Rattle.rewriting.specs.declared.emit.Emitted.{Emitted}
@@ -36,10 +34,11 @@ Wide false w = w ≤ 8
 unfoldable pub holds : Encoded → ℕ → Bool
 holds e v = fits noLists [] 0 e v
 
--- 9 for a number that does not fit, 8 for one that there is none of
+-- 9 for a number that does not fit
 unfoldable pub numberRefusal : Encoded → ℕ → ℕ
 numberRefusal e v = pick (holds e v) 0 9
 
+-- 8 where there is no new offset
 unfoldable pub offsetRefusal : Encoded → ℕ → Option ℕ → ℕ
 offsetRefusal e v o = pick (isSome o) (numberRefusal e (orSelf v o)) 8
 
@@ -66,6 +65,7 @@ Lent none list (Present n) = ⊥
 Lent (some xs) list Absent = ⊥
 Lent (some xs) list (Present n) = ListHeld xs list × (n ≡ length xs)
 
+-- the three lists of a rewriting
 pub record Lends (lists : Lists) (ranges : List ℕ) (ranges′ : ListCount) (locations : List ℕ) (locations′ : ListCount) (strings : List ℕ) (strings′ : ListCount) : Type 0 where
   pub those-ranges : Lent (lists .ranges) ranges ranges′
   pub those-locations : Lent (lists .locations) locations locations′

@@ -1,4 +1,4 @@
--- P1 to P7 of document 01: the five-entry unit, computed by the definitions alone.
+-- P1 to P10 of document 01, computed by the definitions alone: the five-entry unit, padded numbers, tombstones.
 use mathlib.Core.Path.{_≡_, refl}
 use mathlib.Core.List.{List, [], _∷_, _++_}
 use mathlib.Core.Bool.{true, false}
@@ -38,6 +38,8 @@ use Rattle.rewriting.specs.Indices.{insert, insertAll, rankIn, indexIn, 
 use Rattle.rewriting.specs.Rewriting.{itemsIn, readsOr, readsAt, indicesFrom, itemDeclares, anyDeclares, listOf, listsOf, orSelf, isSome, listAt, newValue, hasPlace, fits, pieceRefusal, orNext, piecesRefusal, readsRefusal, refusalFrom, bytesFrom, unitBytes, listsFit, orRefused, rewriteOf, marksCollected, rowsCollected, analysedCollected, declaredCollected, headerCollected, collectOf}
 use Rattle.marking.specs.Analysis.{Sections, sections, rooms}
 use Rattle.rewriting.specs.Places.{Place}
+use Rattle.rewriting.specs.Written.{groupsFit, paddedAnswer, paddedOut}
+use Rattle.rewriting.specs.declared.numbers.Padded.the-variants.{Written, Refused as Padded′}
 use Rattle.rewriting.specs.Rewriting.{Collected, Room, Lists, noLists, untouched, rewritten, refused as refused″}
 
 -- 01 11 01 00 00 02 2e 00 11 1b 49 11 00 00 03 24 00 00 00 00
@@ -66,7 +68,7 @@ header5 n = n ∷ 0 ∷ 0 ∷ 0 ∷ 0x05 ∷ 0 ∷ 0x01 ∷ 0x08 ∷ 0 ∷ 0 ∷
 abbrev pub rewrite5 : ℕ → List Place → List ℕ → Collected
 rewrite5 kept map output = rewritten (record { entries = 5; kept = kept; lists = none3; map = map; output = output })
 
-pub five-entries :
+pub p1-to-p10 :
     (five (1 ∷ 0 ∷ []) ≡ rewrite5 3 (place 12 12 0 ∷ place 13 13 1 ∷ place 17 16 1 ∷ place 21 17 1 ∷ []) (header5 0x0e ++ 0x01 ∷ 0x02 ∷ 0x00 ∷ 0x10 ∷ 0x03 ∷ 0x00 ∷ []))
     × (five (0 ∷ 0 ∷ []) ≡ rewrite5 1 (place 12 12 0 ∷ place 21 13 1 ∷ []) (header5 0x0a ++ 0x01 ∷ 0x00 ∷ []))
     × (five (0 ∷ 1 ∷ []) ≡ rewrite5 3 (place 12 12 0 ∷ place 16 13 1 ∷ place 18 14 1 ∷ place 21 17 1 ∷ []) (header5 0x0e ++ 0x01 ∷ 0x03 ∷ 0x02 ∷ 0x01 ∷ 0x0d ∷ 0x00 ∷ []))
@@ -74,5 +76,8 @@ pub five-entries :
     × (five (2 ∷ 0 ∷ []) ≡ refused″ 6)
     × (five (1 ∷ []) ≡ refused″ 6)
     × (collectOf (sections abbreviations5 [] [] [] 0) room5 false [] ≡ untouched 0 noLists)
-unfolding pick _and_ _or_ check bind All below groups unsigned64 uleb negative signed64 sleb padded littleBytes littleValue ordered fixedBytes fixedValue asBytes width kindOf asLeb stringIn within16 short afterForm formsWithin formsIn copy asNumber asLink asBounded asForms asSigned asString asBlock asExpression before numberIn tokenIn readIn numberBytes pieceBytes bytesOf writeAll patchPiece patchPieces patchRead patchAll Fit FitPiece FitPieces FitAll numberAs tokenOf unreadableRow rows rowOf rowLayout operations rowAmong operationRow operation rangeEntries locationEntries listRow push onTurn scanWithin scan Goes allPieces andRest expressionWithin expressionIn formTokens tokenAmong formToken useOf valueToken attributeLayout asGroups groupsAt asLebNumber lebAt asFixed fixedAt skipAt asMoved stringAt asFormNumber formsAt linkedValue size fieldOf asField rowOfReads asRow tokenAt fieldAt rowAt numberField boundedField blockField numberAt partOf exprlocAt rowOperation operationOfReads asOperation operationAt listEntry rowEntry entryOfReads asListStep listEntryAt nameIn namesIn isAbsolute anyAbsolute asWalk walkOf named namedType referenceOf counted ownWalk yieldTurn operationTurn walkTurn yielded nextReference namesOf flatOperation flatTurn flat flattened flatFrom walkAnswer referencesAnswer numbersOf namesOr referencesIn answerTable referencesTable present right encodingOf headerMade headerFields headerOf listStart fromBase listOffset numberSpec implicitSpec specAt specTurn attributesFrom scannedTo pastAttributes numberDeclaration movedDeclaration declarationAt declarationTurn declarationsFrom declaredIn isFound distinct checkDistinct abbreviationsOf asChecked checkedOf indexed indexFor indexOf searchTurn foundBy searchAt declarationFound throughIndex findAt attributeOfReads asAttribute attributeAt then attributesLayout specsLayout asPast valuesAt foundLayout entryLayout entryFound stepOfReads asStep stepAt open′ close top nestingOf opened closed isTombstone byteLiveness lookupAt onNext walkWithin walk Forward orElse onLookup turnOf rangeEntry rangeStep rangesLive operationStep locationLive olderStep olderLive lowPc onAttribute valuesOf onSpec specsWithin specsFrom entryValues taken takenBy nextAttribute lowPcs locations otherRanges rangesOf firstRanges rootTest baseFrom baseAfter after andThen targets walkFound expressionFound partOf′EntryReferences locationFound onFound locationStep listFound attributeFound attributesFound any every count tab isParent isRoot references names parentFits pairFits rootFits wellFormed takes climbs isDescendant namedBy isTop isLive justified accepts step run nothing has round rounds keptOf markOf marksOf isKept keptCount answerOf endMarks push′Stream onStep itemsWithin itemsFrom onto onVerdict onFound′Analysis valuesOfEntry rootOf namesOf′Analysis baseOf analyseItems onDeclared unitAnalysed headerAnalysed analysisOf offsetsIn parentsIn rootsIn namesIn′Columns endsIn padTo column entryFrom pairFor pairsOfEntry pairsFrom pairsIn graphOf marksIn unitMarks asEntry Ascending opened′Places closed′Places innermost withIf keptFrom offsetOf sizeOf placesFrom sizeFrom newOf firstFrom orElse′Places siblingOf insert insertAll rankIn indexIn indicesIn readIndices declares rankOr countOf itemsIn readsOr readsAt indicesFrom itemDeclares anyDeclares listOf listsOf orSelf isSome listAt newValue hasPlace fits pieceRefusal orNext piecesRefusal readsRefusal refusalFrom bytesFrom unitBytes listsFit orRefused rewriteOf marksCollected rowsCollected analysedCollected declaredCollected headerCollected collectOf
-five-entries = (refl, refl, refl, refl, refl, refl, refl)
+    × ((paddedAnswer 0 1 1 ≡ Written) × (paddedOut 0 1 1 ≡ 0x00 ∷ []) × (paddedAnswer 16 2 2 ≡ Written) × (paddedOut 16 2 2 ≡ 0x90 ∷ 0x00 ∷ []))
+    × (paddedAnswer 128 1 1 ≡ Padded′ 15)
+    × ((isTombstone 0xffffffff 4 ≡ true) × (isTombstone 0xffffffff 8 ≡ false) × (isTombstone 0xffffffff 2 ≡ false))
+unfolding groupsFit paddedAnswer paddedOut pick _and_ _or_ check bind All below groups unsigned64 uleb negative signed64 sleb padded littleBytes littleValue ordered fixedBytes fixedValue asBytes width kindOf asLeb stringIn within16 short afterForm formsWithin formsIn copy asNumber asLink asBounded asForms asSigned asString asBlock asExpression before numberIn tokenIn readIn numberBytes pieceBytes bytesOf writeAll patchPiece patchPieces patchRead patchAll Fit FitPiece FitPieces FitAll numberAs tokenOf unreadableRow rows rowOf rowLayout operations rowAmong operationRow operation rangeEntries locationEntries listRow push onTurn scanWithin scan Goes allPieces andRest expressionWithin expressionIn formTokens tokenAmong formToken useOf valueToken attributeLayout asGroups groupsAt asLebNumber lebAt asFixed fixedAt skipAt asMoved stringAt asFormNumber formsAt linkedValue size fieldOf asField rowOfReads asRow tokenAt fieldAt rowAt numberField boundedField blockField numberAt partOf exprlocAt rowOperation operationOfReads asOperation operationAt listEntry rowEntry entryOfReads asListStep listEntryAt nameIn namesIn isAbsolute anyAbsolute asWalk walkOf named namedType referenceOf counted ownWalk yieldTurn operationTurn walkTurn yielded nextReference namesOf flatOperation flatTurn flat flattened flatFrom walkAnswer referencesAnswer numbersOf namesOr referencesIn answerTable referencesTable present right encodingOf headerMade headerFields headerOf listStart fromBase listOffset numberSpec implicitSpec specAt specTurn attributesFrom scannedTo pastAttributes numberDeclaration movedDeclaration declarationAt declarationTurn declarationsFrom declaredIn isFound distinct checkDistinct abbreviationsOf asChecked checkedOf indexed indexFor indexOf searchTurn foundBy searchAt declarationFound throughIndex findAt attributeOfReads asAttribute attributeAt then attributesLayout specsLayout asPast valuesAt foundLayout entryLayout entryFound stepOfReads asStep stepAt open′ close top nestingOf opened closed isTombstone byteLiveness lookupAt onNext walkWithin walk Forward orElse onLookup turnOf rangeEntry rangeStep rangesLive operationStep locationLive olderStep olderLive lowPc onAttribute valuesOf onSpec specsWithin specsFrom entryValues taken takenBy nextAttribute lowPcs locations otherRanges rangesOf firstRanges rootTest baseFrom baseAfter after andThen targets walkFound expressionFound partOf′EntryReferences locationFound onFound locationStep listFound attributeFound attributesFound any every count tab isParent isRoot references names parentFits pairFits rootFits wellFormed takes climbs isDescendant namedBy isTop isLive justified accepts step run nothing has round rounds keptOf markOf marksOf isKept keptCount answerOf endMarks push′Stream onStep itemsWithin itemsFrom onto onVerdict onFound′Analysis valuesOfEntry rootOf namesOf′Analysis baseOf analyseItems onDeclared unitAnalysed headerAnalysed analysisOf offsetsIn parentsIn rootsIn namesIn′Columns endsIn padTo column entryFrom pairFor pairsOfEntry pairsFrom pairsIn graphOf marksIn unitMarks asEntry Ascending opened′Places closed′Places innermost withIf keptFrom offsetOf sizeOf placesFrom sizeFrom newOf firstFrom orElse′Places siblingOf insert insertAll rankIn indexIn indicesIn readIndices declares rankOr countOf itemsIn readsOr readsAt indicesFrom itemDeclares anyDeclares listOf listsOf orSelf isSome listAt newValue hasPlace fits pieceRefusal orNext piecesRefusal readsRefusal refusalFrom bytesFrom unitBytes listsFit orRefused rewriteOf marksCollected rowsCollected analysedCollected declaredCollected headerCollected collectOf
+p1-to-p10 = (refl, refl, refl, refl, refl, refl, refl, (refl, refl, refl, refl), refl, (refl, refl, refl))

@@ -10,11 +10,10 @@ pub mod Written
 pub mod LeftOut
 pub mod Rewriting
 pub mod Landing
-pub mod FiveEntries
 pub mod Parents
 pub mod NextKept
 pub mod Measures
 pub mod MapFilled
 pub mod IndexLists
 pub mod Emission
-pub mod Outputs
+pub mod FiveEntries

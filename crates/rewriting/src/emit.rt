@@ -1,6 +1,6 @@
 // Writes the kept entries and terminators of a unit, each at its own width, with new values for its references, siblings and indices.
 ghost use mathlib.Core.Path.{_≡_};
-ghost use mathlib.Core.List.{List, _++_};
+ghost use mathlib.Core.List.{List};
 ghost use mathlib.Core.Option.{Option, some};
 ghost use mathlib.Core.Bool.{false};
 ghost use Prim.Native.Nat.{ℕ, _+_, _-_, _≤_};
@@ -10,10 +10,13 @@ ghost use Rattle.readers.specs.Expression.{expressionIn};
 ghost use Rattle.readers.specs.Forms.{attributeLayout};
 ghost use Rattle.readers.specs.Entries.{attributeAt, entryLayout, stepAt};
 ghost use Rattle.readers.specs.References.{encodedBy};
+ghost use Rattle.readers.specs.declared.abbreviations.Found.{Found};
+ghost use Rattle.readers.specs.declared.entries.Entry.{Entry};
+ghost use Rattle.readers.specs.declared.entries.Step.the-variants.{Entry as Entry′};
 ghost use Rattle.readers.specs.declared.attributes.AttributeRead.the-variants.{Read as Attribute′};
 ghost use Rattle.rewriting.specs.Places.{Place};
 ghost use Rattle.rewriting.specs.Indices.{rankOr};
-ghost use Rattle.rewriting.specs.Written.{asMapped, MapHeld, ListHeld};
+ghost use Rattle.rewriting.specs.Written.{asMapped, MapHeld};
 ghost use Rattle.rewriting.specs.Rewriting.{Lists, newValue, readsRefusal, piecesRefusal, orSelf};
 ghost use Rattle.rewriting.specs.Emission.{between, Emits, Wide, numberRefusal, offsetRefusal, listForm, lebForm, Lent, Lends};
 ghost use Rattle.rewriting.specs.declared.emit.Emitted.the-variants.{To};
@@ -287,7 +290,9 @@ pub fn emit_entry(
     strings_count: ListCount,
     out: &mut [u8],
     at: usize,
-) -> Emitted {
+) -> Emitted
+    ensures { λ r. ⌜ ((lists : Lists) (ps : List Place) (look : ℕ → Found) (x : Entry) (rs : List Read) (rest : List ℕ) → e .«big_endian» ≡ false → MapHeld ps (now (map .entry)) → places ≡ length ps → Lends lists (now (ranges .entry)) «ranges_count» (now (locations .entry)) «locations_count» (now (strings .entry)) «strings_count» → stepAt e (now (abbreviations .entry)) look (now (unit .entry)) start ≡ Entry′ x → specs ≡ x .declaration .attributes → values ≡ x .values → readIn false (expressionIn e) (entryLayout e (now (abbreviations .entry)) look) (drop start (now (unit .entry))) ≡ some (rs, rest) → Emits (readsRefusal lists ps depth rs) (writeAll false (patchAll (newValue lists ps depth) rs)) (now (out .entry)) at r (now (out .exit))) ⌝ }
+{
     let mut p = specs.at;
     let mut from = values.at;
     let mut to = emit_bytes(unit, start, from, out, at);

@@ -1,5 +1,4 @@
-// Rewriting: what is kept of a unit, index lists, the map, emission, collect.
-pub mod collect;
+// Rewriting: what is kept of a unit, index lists, the map, emission.
 pub mod emit;
 pub mod indices;
 pub mod kept;
@@ -7,4 +6,3 @@ pub mod lists;
 pub mod map;
 pub mod numbers;
 pub mod passes;
-pub mod writing;

@@ -1,64 +1,48 @@
+-- `emit_bytes`: nothing, no room, or the bytes. Assumes nothing.
 use borrow.Author.Needs.{needs}
 use Rattle.rewriting.proofs.Emissions.{bytes-none, bytes-past, bytes-short, bytes-put}
 use Rattle.rewriting.proofs.emit.emit_bytes.Statement.{statement}
 use Rattle.rewriting.proofs.emit.emit_bytes.Tie as tie
-use Rattle.rewriting.proofs.emit.emit_bytes.Reads as reads
-use Rattle.rewriting.proofs.emit.emit_bytes.Lts as lts
-use Rattle.rewriting.proofs.numbers.put_bytes.Reads as put-bytes-reads
 
--- src/emit.rt:52:9
 returns : tie.Need-returns
 returns c = bytes-none _ _ _ _ _ (c .if1 .taken)
 
--- src/emit.rt:55:9
 returns-2 : tie.Need-returns-2
 returns-2 c = bytes-past _ _ _ _ _ (c .if2 .taken)
 
--- src/emit.rt:58:9
 returns-3 : tie.Need-returns-3
 returns-3 c = bytes-short _ _ _ _ _ (c .if3 .taken)
 
--- src/emit.rt:60:15
 sub-put-bytes : tie.Need-sub-put-bytes
 sub-put-bytes c = search needs
 
--- src/emit.rt:60:15
 part-put-bytes-start : tie.Need-part-put-bytes-start
 part-put-bytes-start c = search needs
 
--- src/emit.rt:60:15
 part-put-bytes-end : tie.Need-part-put-bytes-end
 part-put-bytes-end c = search needs
 
--- src/emit.rt:60:32
 sub-put-bytes-2 : tie.Need-sub-put-bytes-2
 sub-put-bytes-2 c = search needs
 
--- src/emit.rt:60:32
 part-put-bytes-start-2 : tie.Need-part-put-bytes-start-2
 part-put-bytes-start-2 c = search needs
 
--- src/emit.rt:60:32
 part-put-bytes-end-2 : tie.Need-part-put-bytes-end-2
 part-put-bytes-end-2 c = search needs
 
--- src/emit.rt:60:5
 put-bytes-requires : tie.Need-put-bytes-requires
 put-bytes-requires c κs = search needs
 
--- src/emit.rt:61:11
 sub-result : tie.Need-sub-result
 sub-result c = search needs
 
--- src/emit.rt:61:5
 add-result : tie.Need-add-result
 add-result c = search needs
 
--- src/emit.rt:48:1
 same-length : tie.Need-same-length
 same-length c = search needs
 
--- src/emit.rt:48:1
 returns-4 : tie.Need-returns-4
 returns-4 c = bytes-put _ _ _ _ _ _ (same-length c) (c .before .before .put-bytes .ensures)
 

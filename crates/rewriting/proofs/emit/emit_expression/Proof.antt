@@ -1,3 +1,4 @@
+-- `emit_expression`: the invariant is that the answer from here on is that of the whole. Assumes nothing.
 use mathlib.Core.Path.{_≡_, refl, _∙_}
 use Prim.Native.Nat.{ℕ, _-_}
 use mathlib.Core.Bool.{false}
@@ -12,16 +13,9 @@ use Rattle.rewriting.specs.Rewriting.{Lists}
 use Rattle.rewriting.specs.Written.{MapHeld}
 use Rattle.rewriting.proofs.Exact.{are-bytes}
 use Rattle.marking.proofs.NextOffsets.{next-less}
-use Rattle.rewriting.proofs.Splices.{Going, going-start, going-end, going-place, going-refused, going-on}
+use Rattle.rewriting.proofs.Splices.{Going, going-start, going-end, going-refused, going-on}
 use Rattle.rewriting.proofs.emit.emit_expression.Statement.{statement}
 use Rattle.rewriting.proofs.emit.emit_expression.Tie as tie
-use Rattle.rewriting.proofs.emit.emit_expression.Reads as reads
-use Rattle.rewriting.proofs.emit.emit_expression.Lts as lts
-use Rattle.rewriting.proofs.emit.emit_bytes.Reads as emit-bytes-reads
-use Rattle.rewriting.proofs.emit.emit_offset.Reads as emit-offset-reads
-use Rattle.rewriting.proofs.emit.past.Reads as past-reads
-use Rattle.rewriting.proofs.map.new_offset.Reads as new-offset-reads
-use Rattle.readers.proofs.cursor.Cursor.next_reference.Reads as next-reference-reads
 
 abbrev Inv-loop : tie.InvT-loop
 Inv-loop s e map places out₀ at from₀ copied₀ to₀ out from copied to =
@@ -32,71 +26,54 @@ Inv-loop s e map places out₀ at from₀ copied₀ to₀ out from copied to =
 abbrev μ-loop : tie.MeasureT-loop
 μ-loop s e map places out₀ at from₀ copied₀ to₀ out from copied to = length s - from
 
--- src/emit.rt:117:5
 loop-holds : tie.Need-loop-holds Inv-loop μ-loop
 loop-holds c = (refl, λ lists ps depth pieces l h p q. going-start lists ps depth pieces _ _ _ _ (are-bytes (c .before .before .before .args .s .now) (c .before .before .shared-slice-known .given)) l q)
 
--- src/emit.rt:118:35
 next-reference-requires : tie.Need-next-reference-requires Inv-loop μ-loop
 next-reference-requires c κs = search needs
 
--- src/emit.rt:118:30
 enum-known-r : tie.Need-enum-known-r Inv-loop μ-loop
 enum-known-r c = search needs
 
--- src/emit.rt:119:54
 enum-told : tie.Need-enum-told Inv-loop μ-loop
 enum-told c = search needs
 
--- src/emit.rt:119:32
 emit-bytes-requires : tie.Need-emit-bytes-requires Inv-loop μ-loop
 emit-bytes-requires c κs = search needs
 
--- src/emit.rt:119:13
 same-length : tie.Need-same-length Inv-loop μ-loop
 same-length c = c .before .before .emit-bytes .kept .1 .1 .1 .0 ∙ c .before .before .before .before .before .before .before .loop .inv .0
 
--- src/emit.rt:119:13
 returns : tie.Need-returns Inv-loop μ-loop
 returns c = λ lists ps depth pieces l h p q. going-end lists ps depth pieces _ _ _ _ _ _ _ _ (c .before .before .before .before .before .before .before .loop .inv .1 lists ps depth pieces l h p q) _ (c .before .before .before .before .before .before .next-reference .ensures) (c .before .before .before .before .enum-told .given .1) _ _ (c .before .before .emit-bytes .ensures)
 
--- src/emit.rt:123:9
 emit-bytes-requires-2 : tie.Need-emit-bytes-requires-2 Inv-loop μ-loop
 emit-bytes-requires-2 c κs = search needs
 
--- src/emit.rt:125:13
 new-offset-requires : tie.Need-new-offset-requires Inv-loop μ-loop
 new-offset-requires c κs = search needs
 
--- src/emit.rt:124:15
 emit-offset-requires : tie.Need-emit-offset-requires Inv-loop μ-loop
 emit-offset-requires c κs = search needs
 
--- src/emit.rt:131:25
 enum-known-place : tie.Need-enum-known-place Inv-loop μ-loop
 enum-known-place c = search needs
 
--- src/emit.rt:134:30
 enum-known-n : tie.Need-enum-known-n Inv-loop μ-loop
 enum-known-n c = search needs
 
--- src/emit.rt:135:17
 same-length-2 : tie.Need-same-length-2 Inv-loop μ-loop
 same-length-2 c = c .before .before .before .before .before .emit-offset .kept .1 .1 .1 .0 ∙ c .before .before .before .before .before .before .before .before .before .before .emit-bytes2 .kept .1 .1 .1 .0 ∙ c .before .before .before .before .before .before .before .before .before .before .before .before .before .before .before .before .before .before .loop .inv .0
 
--- src/emit.rt:135:17
 returns-2 : tie.Need-returns-2 Inv-loop μ-loop
 returns-2 c = λ lists ps depth pieces l h p q. going-refused lists ps depth pieces _ _ _ _ _ _ _ _ (c .before .before .before .before .before .before .before .before .before .before .before .before .before .before .before .before .before .before .loop .inv .1 lists ps depth pieces l h p q) _ (c .before .before .before .before .before .before .before .before .before .before .before .before .before .before .before .before .before .next-reference .ensures) _ (c .before .before .before .before .before .before .before .before .before .before .before .before .before .before .before .r .given .1) _ _ (c .before .before .before .before .before .before .before .before .before .before .emit-bytes2 .ensures) _ (c .before .before .before .before .before .before .before .new-offset .ensures ps h p) _ _ (c .before .before .before .before .before .emit-offset .ensures) _ (c .before .n .given .1)
 
--- src/emit.rt:138:9
 past-requires : tie.Need-past-requires Inv-loop μ-loop
 past-requires c κs = search needs
 
--- src/emit.rt:117:5
 loop-less : tie.Need-loop-less Inv-loop μ-loop
 loop-less c = search next-less
 
--- src/emit.rt:117:5
 loop-again : tie.Need-loop-again Inv-loop μ-loop
 loop-again c = (c .before .before .before .before .before .before .emit-offset .kept .1 .1 .1 .0 ∙ c .before .before .before .before .before .before .before .before .before .before .before .emit-bytes2 .kept .1 .1 .1 .0 ∙ c .before .before .before .before .before .before .before .before .before .before .before .before .before .before .before .before .before .before .before .loop .inv .0, λ lists ps depth pieces l h p q. going-on lists ps depth pieces _ _ _ _ _ _ _ _ (c .before .before .before .before .before .before .before .before .before .before .before .before .before .before .before .before .before .before .before .loop .inv .1 lists ps depth pieces l h p q) _ (c .before .before .before .before .before .before .before .before .before .before .before .before .before .before .before .before .before .before .next-reference .ensures) _ (c .before .before .before .before .before .before .before .before .before .before .before .before .before .before .before .before .r .given .1) _ _ (c .before .before .before .before .before .before .before .before .before .before .before .emit-bytes2 .ensures) _ (c .before .before .before .before .before .before .before .before .new-offset .ensures ps h p) _ _ (c .before .before .before .before .before .before .emit-offset .ensures) _ (c .before .before .place .given .1) _ (c .past .ensures))
 

@@ -1,57 +1,43 @@
+-- `emit_number`: no room, a number that fits, or one that does not. Assumes nothing.
 use borrow.Author.Needs.{needs}
 use native.Mathlib.Omega.{arith}
 use Rattle.rewriting.proofs.Emissions.{number-past, number-short, number-yes, number-no}
 use Rattle.rewriting.proofs.emit.emit_number.Statement.{statement}
 use Rattle.rewriting.proofs.emit.emit_number.Tie as tie
-use Rattle.rewriting.proofs.emit.emit_number.Reads as reads
-use Rattle.rewriting.proofs.emit.emit_number.Lts as lts
-use Rattle.rewriting.proofs.numbers.put_number.Reads as put-number-reads
 
--- src/emit.rt:69:9
 returns : tie.Need-returns
 returns c = number-past _ _ _ _ _ (c .if1 .taken)
 
--- src/emit.rt:71:16
 sub-if2 : tie.Need-sub-if2
 sub-if2 c = search needs
 
--- src/emit.rt:72:9
 returns-2 : tie.Need-returns-2
 returns-2 c = number-short _ _ _ _ _ (c .before .if1 .left) (c .if2 .taken)
 
--- src/emit.rt:74:38
 sub-put-number : tie.Need-sub-put-number
 sub-put-number c = search needs
 
--- src/emit.rt:74:38
 part-put-number-start : tie.Need-part-put-number-start
 part-put-number-start c = search needs
 
--- src/emit.rt:74:38
 part-put-number-end : tie.Need-part-put-number-end
 part-put-number-end c = search needs
 
--- src/emit.rt:74:8
 put-number-requires : tie.Need-put-number-requires
 put-number-requires c κs = search needs
 
--- src/emit.rt:75:28
 add-t13 : tie.Need-add-t13
 add-t13 c = search needs
 
--- src/emit.rt:75:9
 same-length : tie.Need-same-length
 same-length c = search needs
 
--- src/emit.rt:75:9
 returns-3 : tie.Need-returns-3
 returns-3 c = number-yes _ _ _ _ _ (c .before .before .before .before .before .before .if1 .left) (c .before .before .before .before .before .if2 .left) (omega arith) _ (same-length c) _ (c .before .before .before .put-number .ensures) (c .if3 .taken)
 
--- src/emit.rt:65:1
 same-length-2 : tie.Need-same-length-2
 same-length-2 c = search needs
 
--- src/emit.rt:65:1
 returns-4 : tie.Need-returns-4
 returns-4 c = number-no _ _ _ _ _ (c .before .before .before .before .before .before .if1 .left) (c .before .before .before .before .before .if2 .left) (omega arith) _ (same-length-2 c) _ (c .before .before .before .put-number .ensures) (c .if3 .left)
 

@@ -1,32 +1,24 @@
+-- `emit_offset`: a new offset, or none. Assumes nothing.
 use borrow.Author.Needs.{needs}
 use Rattle.rewriting.proofs.Emissions.{offset-some, offset-none}
 use Rattle.rewriting.proofs.emit.emit_offset.Statement.{statement}
 use Rattle.rewriting.proofs.emit.emit_offset.Tie as tie
-use Rattle.rewriting.proofs.emit.emit_offset.Reads as reads
-use Rattle.rewriting.proofs.emit.emit_offset.Lts as lts
-use Rattle.rewriting.proofs.emit.emit_number.Reads as emit-number-reads
 
--- src/emit.rt:85:20
 enum-known-new : tie.Need-enum-known-new
 enum-known-new c = search needs
 
--- src/emit.rt:85:30
 emit-number-requires : tie.Need-emit-number-requires
 emit-number-requires c κs = search needs
 
--- src/emit.rt:86:28
 enum-told : tie.Need-enum-told
 enum-told c = search needs
 
--- src/emit.rt:81:1
 same-length : tie.Need-same-length
 same-length c = search needs
 
--- src/emit.rt:81:1
 returns : tie.Need-returns
 returns c = offset-some _ _ _ _ _ _ (c .before .before .before .before .before .new .given .1) _ _ (c .before .before .emit-number .ensures)
 
--- src/emit.rt:81:1
 returns-2 : tie.Need-returns-2
 returns-2 c = offset-none _ _ _ _ _ (c .enum-told .given .1)
 

@@ -1,26 +1,20 @@
+-- `is_leb`: by each form that is so. Assumes nothing.
 use Rattle.rewriting.proofs.FormKinds.{leb-reference, leb-string, leb-location, leb-range, leb-last}
 use Rattle.rewriting.proofs.emit.is_leb.Statement.{statement}
 use Rattle.rewriting.proofs.emit.is_leb.Tie as tie
-use Rattle.rewriting.proofs.emit.is_leb.Reads as reads
-use Rattle.rewriting.proofs.emit.is_leb.Lts as lts
 
--- src/emit.rt:173:9
 returns : tie.Need-returns
 returns c = leb-reference _ (c .if1 .taken)
 
--- src/emit.rt:176:9
 returns-2 : tie.Need-returns-2
 returns-2 c = leb-string _ (c .if2 .taken)
 
--- src/emit.rt:179:9
 returns-3 : tie.Need-returns-3
 returns-3 c = leb-location _ (c .if3 .taken)
 
--- src/emit.rt:182:9
 returns-4 : tie.Need-returns-4
 returns-4 c = leb-range _ (c .if4 .taken)
 
--- src/emit.rt:169:1
 returns-5 : tie.Need-returns-5
 returns-5 c = leb-last _ (c .before .before .before .if1 .left) (c .before .before .if2 .left) (c .before .if3 .left) (c .if4 .left)
 
