@@ -8,10 +8,10 @@ use native.Mathlib.Nat.{pow-zero, pow-suc, div-lt-iff-lt-mul}
 use native.Mathlib.Numerals.{add-one}
 use native.Mathlib.Omega.{arith}
 use lib.ListN.{length, getD, take, drop, set, length-append, length-replicate, length-set, drop-of-length-le, take-append-drop}
-use lib.Seq.{drop-cons, take-suc, set-at, append-snoc, length-take-le}
+use lib.Seq.{drop-cons, take-suc, take-at, getD-take, set-at, append-snoc, length-take-le}
 use lib.Dec.{ltb, leb, eqb}
 use mir.Facts.{ltb-yes, ltb-no}
-use borrow.Author.Tests.{lt-ltb, le-ltb, le-leb, lt-leb, ltb-true, eq-eqb, ne-eqb}
+use borrow.Author.Tests.{lt-ltb, le-ltb, le-leb, lt-leb, ltb-true, leb-true, eq-eqb, ne-eqb}
 use Rattle.readers.specs.Choice.{pick, _and_, zeros, either}
 use Rattle.readers.specs.Numbers.{padded, length-padded, littleBytes, ordered, fixedBytes, length-fixed}
 use Rattle.rewriting.specs.Written.{groupsFit, bytesFit, numberFits, Put, paddedAnswer, paddedOut, put, numberAt}
@@ -78,6 +78,11 @@ clear-done out₀ out i h p =
     (subst (λ n. Putting (zeros (length out₀)) out₀ (zeros n) out i) (let e : length out₀ - i ≡ 0 = omega arith in e) p)
     ∙ ap (λ l. zeros (length out₀) ++ l) (drop-of-length-le out₀ {i = length out₀} (omega arith)) ∙ append-nil (zeros (length out₀))
 
+pub drop-zeros : (n width : ℕ) → drop width (zeros n) ≡ zeros (n - width)
+drop-zeros n zero = ap (λ m. zeros m) (let e : n ≡ n - 0 = omega arith in e)
+drop-zeros zero (suc width) = ap (λ m. zeros m) (let e : 0 ≡ 0 - suc width = omega arith in e)
+drop-zeros (suc n) (suc width) = drop-zeros n width ∙ ap (λ m. zeros m) (let e : n - width ≡ suc n - suc width = omega arith in e)
+
 -- ---- a run of bytes
 
 pub copy-more : (bytes out₀ out : List ℕ) (i : ℕ) → i < length bytes → length bytes ≤ length out₀ → Putting bytes out₀ (drop i bytes) out i
@@ -89,6 +94,31 @@ copy-more bytes out₀ out i h l p =
 pub copy-done : (bytes out₀ out : List ℕ) (i : ℕ) → length bytes ≤ i → Putting bytes out₀ (drop i bytes) out i → out ≡ bytes ++ drop (length bytes) out₀
 copy-done bytes out₀ out i h p =
     putting-done bytes out₀ out i (length bytes) refl (subst (λ t. Putting bytes out₀ t out i) (drop-of-length-le bytes {i = i} h) p)
+
+-- After i of the first bytes of a run that is as long.
+pub record Copying (bytes : List ℕ) (width : ℕ) (out₀ out : List ℕ) (i : ℕ) : Type 0 where
+  pub same : length out ≡ length out₀
+  pub putting : width ≤ length bytes → Putting (take width bytes) out₀ (drop i (take width bytes)) out i
+
+pub copying-start : (bytes : List ℕ) (width : ℕ) (out : List ℕ) → Copying bytes width out out 0
+copying-start bytes width out = record { same = refl; putting = λ k. putting-start (take width bytes) out }
+
+pub copying-more : (bytes : List ℕ) (width : ℕ) (out₀ out : List ℕ) (i : ℕ) → width ≤ length out₀ → i < width → Copying bytes width out₀ out i
+    → Copying bytes width out₀ (set out i (getD bytes i 0)) (i + 1)
+copying-more bytes width out₀ out i l h p =
+    record {
+      same = length-set out i (getD bytes i 0) ∙ p .same;
+      putting = λ k.
+          (let n : length (take width bytes) ≡ width = length-take-le width bytes k in
+          subst (λ b. Putting (take width bytes) out₀ (drop (i + 1) (take width bytes)) (set out i b) (i + 1)) (getD-take width bytes i 0 h)
+          (copy-more (take width bytes) out₀ out i (omega arith) (omega arith) (p .putting k)));
+    }
+
+pub copying-done : (bytes : List ℕ) (width : ℕ) (out₀ out : List ℕ) (i : ℕ) → width ≤ i → Copying bytes width out₀ out i → width ≤ length bytes
+    → out ≡ take width bytes ++ drop width out₀
+copying-done bytes width out₀ out i h p k =
+    let n : length (take width bytes) ≡ width = length-take-le width bytes k in
+    copy-done (take width bytes) out₀ out i (omega arith) (p .putting k) ∙ ap (λ m. take width bytes ++ drop m out₀) n
 
 -- ---- digits
 
@@ -137,6 +167,16 @@ unfolding _and_
 and-second true b e = e
 and-second false b e = refl
 
+true-first : (a b : Bool) → (a and b) ≡ true → a ≡ true
+unfolding _and_
+true-first true b e = refl
+true-first false b e = e
+
+true-second : (a b : Bool) → (a and b) ≡ true → b ≡ true
+unfolding _and_
+true-second true b e = e
+true-second false b e = let z : _≡_ {A = ℕ} 0 1 = cc in absurd (omega arith)
+
 pub refused : (fit : Bool) (bytes : List ℕ) (width : ℕ) (out : List ℕ) → fit ≡ false → Put fit bytes width out false out
 unfolding pick
 refused fit bytes width out e = record { told = sym e; left = rw e }
@@ -162,9 +202,26 @@ module _ (value width n : ℕ) where
   unfolding groupsFit
   groups-large e = and-second (ltb 0 width) _ (and-second (leb width 10) _ (and-second (leb width n) _ e))
 
-  pub groups-fit : (width ≡ 0 → ⊥) → width ≤ 10 → width ≤ n → ltb value (128 ^ width) ≡ true → groupsFit value width n ≡ true
+  pub groups-rest : (width ≡ 0 → ⊥) → width ≤ 10 → width ≤ n → groupsFit value width n ≡ ltb value (128 ^ width)
   unfolding groupsFit _and_
-  groups-fit z t h e = rw (lt-ltb 0 width (omega arith), le-leb width 10 t, le-leb width n h, e)
+  groups-rest z t h = rw (lt-ltb 0 width (omega arith), le-leb width 10 t, le-leb width n h)
+
+  -- what is known of a number that fits
+  pub fit-some : groupsFit value width n ≡ true → 0 < width
+  unfolding groupsFit
+  fit-some e = ltb-true 0 width (true-first _ _ e)
+
+  pub fit-ten : groupsFit value width n ≡ true → width ≤ 10
+  unfolding groupsFit
+  fit-ten e = leb-true width 10 (true-first _ _ (true-second (ltb 0 width) _ e))
+
+  pub fit-room : groupsFit value width n ≡ true → width ≤ n
+  unfolding groupsFit
+  fit-room e = leb-true width n (true-first _ _ (true-second (leb width 10) _ (true-second (ltb 0 width) _ e)))
+
+  pub fit-low : groupsFit value width n ≡ true → value < 128 ^ width
+  unfolding groupsFit
+  fit-low e = ltb-true value (128 ^ width) (true-second (leb width n) _ (true-second (leb width 10) _ (true-second (ltb 0 width) _ e)))
 
   pub bytes-over : 8 < width → bytesFit value width n ≡ false
   unfolding bytesFit
@@ -188,18 +245,16 @@ module _ (value width n : ℕ) where
 pub record Grouping (value last : ℕ) (out₀ : List ℕ) (rest i : ℕ) (out : List ℕ) : Type 0 where
   pub few : i ≤ last
   pub room : last < length out₀
-  pub low : rest < 128 ^ suc (last - i)
+  pub low : value < 128 ^ suc last → rest < 128 ^ suc (last - i)
   pub putting : Putting (padded last value) out₀ (padded (last - i) rest) out i
 
-pub grouping-start : (value width last : ℕ) (out : List ℕ) → (width ≡ 0 → ⊥) → last ≡ width - 1 → width ≤ length out → ltb value (128 ^ width) ≡ true
-    → Grouping value last out value 0 out
-grouping-start value width last out z l h f =
+pub grouping-start : (value last : ℕ) (out : List ℕ) → last < length out → Grouping value last out value 0 out
+grouping-start value last out h =
     let e : last ≡ last - 0 = omega arith in
-    let w : width ≡ suc (last - 0) = omega arith in
     record {
       few = omega arith;
-      room = omega arith;
-      low = ltb-true value (128 ^ suc (last - 0)) (ap (λ n. ltb value (128 ^ n)) (sym w) ∙ f);
+      room = h;
+      low = λ l. subst (λ n. value < 128 ^ suc n) e l;
       putting = subst (λ n. Putting (padded last value) out (padded n value) out 0) e (putting-start (padded last value) out);
     }
 
@@ -209,29 +264,55 @@ unfolding padded
 grouping-more value last out₀ rest i out h p =
     let k : ℕ = last - (i + 1) in
     let e : last - i ≡ suc k = omega arith in
-    let l : rest < 128 ^ suc (suc k) = subst (λ n. rest < 128 ^ suc n) e (p .low) in
     let b : 128 + rest % 128 ≡ rest % 128 + 128 = omega arith in
     record {
       few = omega arith;
       room = p .room;
-      low = omega arith;
+      low = λ v. (let l : rest < 128 ^ suc (suc k) = subst (λ n. rest < 128 ^ suc n) e (p .low v) in omega arith);
       putting = putting-more (padded last value) out₀ (padded k (rest / 128)) out i (rest % 128 + 128) (omega (arith, p .room))
           (subst (λ (t : List ℕ). Putting (padded last value) out₀ t out i) (ap (λ n. padded n rest) e ∙ ap (λ (x : ℕ). x ∷ padded k (rest / 128)) b) (p .putting));
     }
 
-pub grouping-low : (value last : ℕ) (out₀ : List ℕ) (rest i : ℕ) (out : List ℕ) → last ≤ i → Grouping value last out₀ rest i out → rest < 128
-grouping-low value last out₀ rest i out h p =
+grouping-low : (value last : ℕ) (out₀ : List ℕ) (rest i : ℕ) (out : List ℕ) → last ≤ i → Grouping value last out₀ rest i out → value < 128 ^ suc last → rest < 128
+grouping-low value last out₀ rest i out h p v =
     let e : last - i ≡ 0 = (let f : i ≤ last = p .few in omega arith) in
-    let l : rest < 128 ^ suc 0 = subst (λ n. rest < 128 ^ suc n) e (p .low) in omega arith
+    let l : rest < 128 ^ suc 0 = subst (λ n. rest < 128 ^ suc n) e (p .low v) in omega arith
 
-pub grouping-done : (value width last : ℕ) (out₀ : List ℕ) (rest i : ℕ) (out : List ℕ) → (width ≡ 0 → ⊥) → last ≡ width - 1 → last ≤ i → Grouping value last out₀ rest i out
-    → set out i rest ≡ padded (width - 1) value ++ drop width out₀
+grouping-done : (value last : ℕ) (out₀ : List ℕ) (rest i : ℕ) (out : List ℕ) → last ≤ i → Grouping value last out₀ rest i out → value < 128 ^ suc last
+    → set out i (rest % 128) ≡ padded last value ++ drop (suc last) out₀
 unfolding padded
-grouping-done value width last out₀ rest i out z w h p =
+grouping-done value last out₀ rest i out h p v =
     let e : last - i ≡ 0 = (let f : i ≤ last = p .few in omega arith) in
-    rw (← w) (putting-done (padded last value) out₀ (set out i rest) (i + 1) width (length-padded last value ∙ (let g : suc last ≡ width = omega arith in g))
+    let r : rest % 128 ≡ rest = (let l : rest < 128 = grouping-low value last out₀ rest i out h p v in omega arith) in
+    ap (λ b. set out i b) r ∙ putting-done (padded last value) out₀ (set out i rest) (i + 1) (suc last) (length-padded last value)
     (putting-more (padded last value) out₀ [] out i rest (let f : i ≤ last = p .few in omega (arith, p .room))
-    (subst (λ n. Putting (padded last value) out₀ (padded n rest) out i) e (p .putting))))
+    (subst (λ n. Putting (padded last value) out₀ (padded n rest) out i) e (p .putting)))
+
+-- the whole array
+pub number-made : (value width rest i : ℕ) (out : List ℕ) → width - 1 ≤ i → Grouping value (width - 1) (zeros 10) rest i out → 0 < width → value < 128 ^ width
+    → set out i (rest % 128) ≡ padded (width - 1) value ++ zeros (10 - width)
+number-made value width rest i out h p w v =
+    let e : width ≡ suc (width - 1) = omega arith in
+    grouping-done value (width - 1) (zeros 10) rest i out h p (subst (λ n. value < 128 ^ n) e v)
+    ∙ ap (λ n. padded (width - 1) value ++ drop n (zeros 10)) (sym e) ∙ ap (λ l. padded (width - 1) value ++ l) (drop-zeros 10 width)
+
+-- made, and copied
+pub number-put : (value width : ℕ) (out number after : List ℕ) → groupsFit value width (length out) ≡ true
+    → (0 < width → width ≤ 10 → value < 128 ^ width → number ≡ padded (width - 1) value ++ zeros (10 - width))
+    → (length number ≡ 10 → width ≤ 10 → width ≤ length out → after ≡ take width number ++ drop width out)
+    → Put (groupsFit value width (length out)) (padded (width - 1) value) width out true after
+number-put value width out number after e made copied =
+    let w : 0 < width = fit-some value width (length out) e in
+    let t : width ≤ 10 = fit-ten value width (length out) e in
+    let n : length (padded (width - 1) value) ≡ width = length-padded (width - 1) value ∙ (let g : suc (width - 1) ≡ width = omega arith in g) in
+    let m : number ≡ padded (width - 1) value ++ zeros (10 - width) = made w t (fit-low value width (length out) e) in
+    let ten : length number ≡ 10 =
+    ap length m ∙ length-append (padded (width - 1) value) (zeros (10 - width)) ∙ ap₂ (λ a b. a + b) n (length-replicate (10 - width) 0)
+    ∙ (let g : width + (10 - width) ≡ 10 = omega arith in g) in
+    accepted _ _ _ _ _ e
+    (copied ten t (fit-room value width (length out) e)
+    ∙ ap (λ l. take width l ++ drop width out) m
+    ∙ ap (λ l. l ++ drop width out) (take-at (padded (width - 1) value) (zeros (10 - width)) width n))
 
 -- ---- a little-endian number
 
@@ -334,11 +415,6 @@ module _ (w : ℕ) (s : List ℕ) (at : ℕ) (o : Number) (q : o ≡ fixedAt tru
   read-nothing g = let k : Unreadable ≡ Value (numberAt w s at) (cursor (at + w)) = sym g ∙ read-is in let z : _≡_ {A = ℕ} 0 1 = cc in absurd (omega arith)
 
 -- ---- a padded number in a part of its own, a number in its own encoding
-
-pub drop-zeros : (n width : ℕ) → drop width (zeros n) ≡ zeros (n - width)
-drop-zeros n zero = ap (λ m. zeros m) (let e : n ≡ n - 0 = omega arith in e)
-drop-zeros zero (suc width) = ap (λ m. zeros m) (let e : 0 ≡ 0 - suc width = omega arith in e)
-drop-zeros (suc n) (suc width) = drop-zeros n width ∙ ap (λ m. zeros m) (let e : n - width ≡ suc n - suc width = omega arith in e)
 
 module _ (value width n : ℕ) (out out′ : List ℕ) (r : Bool) (z : out ≡ zeros n) (p : Put (groupsFit value width (length out)) (padded (width - 1) value) width out r out′) where
   fit-is : groupsFit value width n ≡ r

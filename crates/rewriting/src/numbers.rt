@@ -3,7 +3,7 @@ ghost use mathlib.Core.Path.{_≡_};
 ghost use Prim.Native.Nat.{_+_, _-_, _^_, _<_, _≤_};
 ghost use mathlib.Core.Bool.{true, false};
 ghost use mathlib.Core.List.{_++_};
-ghost use lib.ListN.{length, drop};
+ghost use lib.ListN.{length, take, drop};
 ghost use lib.Dec.{ltb};
 ghost use Rattle.readers.specs.Choice.{zeros};
 ghost use Rattle.readers.specs.Numbers.{padded, fixedBytes};
@@ -13,7 +13,7 @@ ghost use Rattle.rewriting.specs.Written.{groupsFit, bytesFit, numberFit
 use readers::cursor::Cursor;
 use readers::cursor::Number;
 
-// The answer of padded_number.
+// The answer of write_uleb128_padded.
 pub enum Padded {
     Written,
     Refused(u8),
@@ -44,9 +44,9 @@ fn clear(out: &mut [u8])
     }
 }
 
-// A ULEB128 number in exactly so many bytes, each but the last with its high bit set: whether it fits.
-fn put_groups(value: u64, width: usize, out: &mut [u8]) -> bool
-    ensures { λ r. ⌜ Put (groupsFit value width (length (now (out .entry)))) (padded (width - 1) value) width (now (out .entry)) r (now (out .exit)) ⌝ }
+// Whether a ULEB128 number goes into exactly so many bytes of a part of so many.
+fn groups_fit(value: u64, width: usize, room: usize) -> bool
+    ensures { λ r. ⌜ r ≡ groupsFit value width room ⌝ }
 {
     if width == 0 {
         return false;
@@ -54,22 +54,50 @@ fn put_groups(value: u64, width: usize, out: &mut [u8]) -> bool
     if width > 10 {
         return false;
     }
-    if width > out.len() {
+    if width > room {
         return false;
     }
-    if !fits(value, 128, width) {
-        return false;
+    fits(value, 128, width)
+}
+
+// A ULEB128 number in exactly so many bytes, each but the last with its high bit set, zeros after them.
+fn uleb128_padded(value: u64, width: usize) -> [u8; 10]
+    ensures { λ r. ⌜ (0 < width → width ≤ 10 → value < 128 ^ width → r ≡ padded (width - 1) value ++ zeros (10 - width)) ⌝ }
+{
+    let mut number = [0u8; 10];
+    if width == 0 {
+        return number;
+    }
+    if width > 10 {
+        return number;
     }
     let last = width - 1;
     let mut rest = value;
     let mut i: usize = 0;
     while i < last {
-        out[i] = (rest % 128) as u8 + 128;
+        number[i] = (rest % 128) as u8 + 128;
         rest = rest / 128;
         i += 1;
     }
-    out[i] = rest as u8;
-    true
+    number[i] = (rest % 128) as u8;
+    number
+}
+
+// Copies the first bytes of a number into the start of a part that has room for them.
+fn copy_number(number: &[u8; 10], width: usize, out: &mut [u8])
+    ensures { λ _. ⌜ (length (now (number .entry)) ≡ 10 → width ≤ 10 → width ≤ length (now (out .entry)) → now (out .exit) ≡ take width (now (number .entry)) ++ drop width (now (out .entry))) ⌝ }
+{
+    if width > 10 {
+        return;
+    }
+    if width > out.len() {
+        return;
+    }
+    let mut i: usize = 0;
+    while i < width {
+        out[i] = number[i];
+        i += 1;
+    }
 }
 
 // A little-endian number in so many bytes, at most eight: whether it fits.
@@ -97,16 +125,17 @@ fn put_fixed(value: u64, width: usize, out: &mut [u8]) -> bool
 
 // Writes a ULEB128 number in exactly so many bytes at the start of a slice, zeros after it (gc.rs: `write_uleb128_padded`). 15, and zeros, for a width of 0, above 10, below what the number
 // needs or beyond the slice.
-pub fn padded_number(value: u64, width: usize, out: &mut [u8]) -> Padded
+pub fn write_uleb128_padded(value: u64, width: usize, out: &mut [u8]) -> Padded
     ensures answer { λ r. ⌜ r ≡ paddedAnswer value width (length (now (out .entry))) ⌝ }
     ensures bytes { λ _. ⌜ now (out .exit) ≡ paddedOut value width (length (now (out .entry))) ⌝ }
 {
     clear(out);
-    if put_groups(value, width, out) {
-        Padded::Written
-    } else {
-        Padded::Refused(15)
+    if !groups_fit(value, width, out.len()) {
+        return Padded::Refused(15);
     }
+    let number = uleb128_padded(value, width);
+    copy_number(&number, width, out);
+    Padded::Written
 }
 
 // Writes a number in its own encoding at the start of a part: whether it fits.
@@ -114,7 +143,12 @@ pub fn put_number(value: u64, width: usize, leb: bool, out: &mut [u8]) -> bool
     ensures { λ r. ⌜ Put (numberFits leb value width (length (now (out .entry)))) (numberBytes false (encodedBy leb width) value) width (now (out .entry)) r (now (out .exit)) ⌝ }
 {
     if leb {
-        return put_groups(value, width, out);
+        if !groups_fit(value, width, out.len()) {
+            return false;
+        }
+        let number = uleb128_padded(value, width);
+        copy_number(&number, width, out);
+        return true;
     }
     put_fixed(value, width, out)
 }
