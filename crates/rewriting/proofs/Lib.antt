@@ -49,3 +49,5 @@ pub mod EntryIndices
 pub mod IndexTurns
 pub mod CollectTurns
 pub mod ListAnswers
+pub mod HeaderEmits
+pub mod ItemEmits

@@ -6,3 +6,4 @@ pub mod lists;
 pub mod map;
 pub mod numbers;
 pub mod passes;
+pub mod writing;
