@@ -37,29 +37,31 @@ use Rattle.marking.specs.Roots.{onAttribute, valuesOf, entryValues}
 use Rattle.marking.proofs.Attributes.{specs-all}
 use Rattle.rewriting.specs.Indices.{indexIn, indicesIn, readIndices}
 use Rattle.rewriting.specs.IndexLists.{roleList, useList, formList, valueIndex, valueIndices}
+use Rattle.rewriting.specs.Emission.{listForm}
 use Rattle.rewriting.proofs.DeepReads.{deep-step}
+use Rattle.rewriting.proofs.FormKinds as Kinds
 
 -- ---- the list of a form
 
 module _ (name : ℕ) where
-  pub list-ranges : (f : ℕ) → f ≡ 0x23 → 0 ≡ useList (useOf name f)
+  list-ranges : (f : ℕ) → f ≡ 0x23 → 0 ≡ useList (useOf name f)
   unfolding useList roleList useOf pick _and_ _or_
   list-ranges f h = sym (ap (λ (f : ℕ). useList (useOf name f)) h)
 
-  pub list-locations : (f : ℕ) → f ≡ 0x22 → 1 ≡ useList (useOf name f)
+  list-locations : (f : ℕ) → f ≡ 0x22 → 1 ≡ useList (useOf name f)
   unfolding useList roleList useOf pick _and_ _or_
   list-locations f h = sym (ap (λ (f : ℕ). useList (useOf name f)) h)
 
-  pub list-strx : (f : ℕ) → f ≡ 0x1a → 2 ≡ useList (useOf name f)
+  list-strx : (f : ℕ) → f ≡ 0x1a → 2 ≡ useList (useOf name f)
   unfolding useList roleList useOf pick _and_ _or_
   list-strx f h = sym (ap (λ (f : ℕ). useList (useOf name f)) h)
 
-  pub list-gnu : (f : ℕ) → f ≡ 0x1f02 → 2 ≡ useList (useOf name f)
+  list-gnu : (f : ℕ) → f ≡ 0x1f02 → 2 ≡ useList (useOf name f)
   unfolding useList roleList useOf pick _and_ _or_
   list-gnu f h = sym (ap (λ (f : ℕ). useList (useOf name f)) h)
 
   -- strx1 to strx4
-  pub list-strings : (f : ℕ) → 0x25 ≤ f → f ≤ 0x28 → 2 ≡ useList (useOf name f)
+  list-strings : (f : ℕ) → 0x25 ≤ f → f ≤ 0x28 → 2 ≡ useList (useOf name f)
   unfolding useList roleList useOf pick _and_ _or_
   list-strings f h k =
       ⊎-elim (λ t. sym (ap (λ (f : ℕ). useList (useOf name f)) (eqb-yes {a = f} {b = 0x25} t)))
@@ -99,11 +101,34 @@ module _ (name : ℕ) where
     no-and true false h = tt
     no-and false b h = tt
 
-    pub list-below : f < 0x25 → 3 ≡ useList (useOf name f)
+    list-below : f < 0x25 → 3 ≡ useList (useOf name f)
     list-below h = sym (other-list (no-and (leb 0x25 f) (leb f 0x28) (λ t _. let z : 0x25 ≤ f = leb-yes {a = 0x25} {b = f} t in absurd (omega arith))))
 
-    pub list-above : 0x28 < f → 3 ≡ useList (useOf name f)
+    list-above : 0x28 < f → 3 ≡ useList (useOf name f)
     list-above h = sym (other-list (no-and (leb 0x25 f) (leb f 0x28) (λ _ t. let z : f ≤ 0x28 = leb-yes {a = f} {b = 0x28} t in absurd (omega arith))))
+
+-- the list of a form (specs/Emission.antt) is that of its use, under any name
+pub form-list : (name f : ℕ) → listForm f ≡ useList (useOf name f)
+form-list name f =
+    ⊎-elim (λ a. sym (Kinds.list-ranges f (eqb-yes {a = f} {b = 0x23} a)) ∙ list-ranges name f (eqb-yes {a = f} {b = 0x23} a))
+    (λ a. ⊎-elim (λ b. sym (Kinds.list-locations f (eqb-yes {a = f} {b = 0x22} b)) ∙ list-locations name f (eqb-yes {a = f} {b = 0x22} b))
+    (λ b. ⊎-elim (λ c. sym (Kinds.list-strings f (eqb-yes {a = f} {b = 0x1a} c)) ∙ list-strx name f (eqb-yes {a = f} {b = 0x1a} c))
+    (λ c. ⊎-elim (λ d. sym (Kinds.list-gnu f (eqb-yes {a = f} {b = 0x1f02} d)) ∙ list-gnu name f (eqb-yes {a = f} {b = 0x1f02} d))
+    (λ d. ⊎-elim
+    (λ l. ⊎-elim
+    (λ h. sym (Kinds.list-fixed f (leb-yes {a = 0x25} {b = f} l) (leb-yes {a = f} {b = 0x28} h)) ∙ list-strings name f (leb-yes {a = 0x25} {b = f} l) (leb-yes {a = f} {b = 0x28} h))
+    (λ h. let z : 0x28 < f = leb-no {a = f} {b = 0x28} h in
+    sym (Kinds.list-above f z (eqb-no {a = f} {b = 0x1f02} d))
+    ∙ list-above name f (eqb-no {a = f} {b = 0x23} a) (eqb-no {a = f} {b = 0x22} b) (eqb-no {a = f} {b = 0x1a} c) (eqb-no {a = f} {b = 0x1f02} d) z)
+    (either (leb f 0x28)))
+    (λ l. let z : f < 0x25 = leb-no {a = 0x25} {b = f} l in
+    sym (Kinds.list-below f z (eqb-no {a = f} {b = 0x23} a) (eqb-no {a = f} {b = 0x22} b) (eqb-no {a = f} {b = 0x1a} c))
+    ∙ list-below name f (eqb-no {a = f} {b = 0x23} a) (eqb-no {a = f} {b = 0x22} b) (eqb-no {a = f} {b = 0x1a} c) (eqb-no {a = f} {b = 0x1f02} d) z)
+    (either (leb 0x25 f)))
+    (either (eqb f 0x1f02)))
+    (either (eqb f 0x1a)))
+    (either (eqb f 0x22)))
+    (either (eqb f 0x23))
 
 -- ---- indices of some pieces after others
 

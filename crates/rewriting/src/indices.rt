@@ -3,7 +3,6 @@ ghost use mathlib.Core.Path.{_≡_};
 ghost use Prim.Native.Nat.{ℕ, _/_, _<_};
 ghost use mathlib.Core.List.{List, []};
 ghost use lib.ListN.{length};
-ghost use Rattle.readers.specs.Forms.{useOf};
 ghost use Rattle.marking.specs.Roots.{entryValues};
 ghost use Rattle.marking.specs.Analysis.{Sections};
 ghost use Rattle.rewriting.specs.Places.{keptFrom};
@@ -11,7 +10,8 @@ ghost use Rattle.rewriting.specs.Indices.{insertAll, declares};
 ghost use Rattle.rewriting.specs.Rewriting.{Unit as Unit′, indicesFrom, anyDeclares, listOf};
 ghost use Rattle.rewriting.specs.NextKept.{itemsBy};
 ghost use Rattle.rewriting.specs.Written.{ListHeld};
-ghost use Rattle.rewriting.specs.IndexLists.{useList, valueIndices, Filled, ReadAs, Passable, isAbsent, ListAnswer, isShort};
+ghost use Rattle.rewriting.specs.IndexLists.{valueIndices, Filled, ReadAs, Passable, isAbsent, ListAnswer, isShort};
+use crate::emit::list_of;
 use crate::kept::KeptStep;
 use crate::kept::Reading;
 use crate::kept::Stand;
@@ -24,31 +24,6 @@ use readers::cursor::Cursor;
 use readers::cursor::Encoding;
 use readers::entries::Nesting;
 use readers::entries::Step;
-
-// The number of the index list of a form: 0 ranges, 1 locations, 2 strings; 3 for a form that is no index.
-pub fn list_of(form: u64) -> u8
-    ensures { λ r. ⌜ ((name : ℕ) → r ≡ useList (useOf name form)) ⌝ }
-{
-    if form == 0x23 {
-        return 0;
-    }
-    if form == 0x22 {
-        return 1;
-    }
-    if form == 0x1a {
-        return 2;
-    }
-    if form == 0x1f02 {
-        return 2;
-    }
-    if form < 0x25 {
-        return 3;
-    }
-    if form > 0x28 {
-        return 3;
-    }
-    2
-}
 
 // Whether an entry declares an attribute of a name in sec_offset.
 fn entry_declares(

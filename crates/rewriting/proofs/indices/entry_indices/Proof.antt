@@ -5,6 +5,7 @@ use lib.ListN.{length}
 use borrow.Author.Needs.{needs}
 use Rattle.rewriting.specs.Indices.{insert}
 use Rattle.rewriting.proofs.IndexTurns.{attributes-less, all-grow, Filling, filling-start, filling-end, filling-on, filling-short, filling-more, inserted-filled, Indices, indices-end, indices-more, indices-other}
+use Rattle.rewriting.proofs.EntryIndices.{form-list}
 use Rattle.rewriting.proofs.indices.entry_indices.Statement.{statement}
 use Rattle.rewriting.proofs.indices.entry_indices.Tie as tie
 
@@ -52,7 +53,7 @@ returns-2 c =
     let x = c .before .before .before .before .before .before .before .before .before .before .before .a .given .0 .0 in
     filling-short _ _ _ _ _ _ (l .loop .inv) (insert (x .value .field .value))
     (Indices (a .kind) (a .e) (a .abbreviations .now) (a .unit .now) (x .next .at) (x .value .field .end))
-    (indices-more _ _ _ _ _ _ _ (c .before .before .before .before .before .before .before .before .before .before .before .before .before .next-attribute .ensures) x (c .before .before .before .before .before .before .before .before .before .before .before .a .given .1) _ (w .list-of .ensures) (t .if1 .taken))
+    (indices-more _ _ _ _ _ _ _ (c .before .before .before .before .before .before .before .before .before .before .before .before .before .next-attribute .ensures) x (c .before .before .before .before .before .before .before .before .before .before .before .a .given .1) _ (λ name. w .list-of .ensures ∙ form-list name _) (t .if1 .taken))
     (λ xs. all-grow _ xs) _ _ (m .insert .kept .0) (inserted-filled _ _ _ _ _ (m .insert .ensures)) (c .if2 .taken)
 
 loop-less : tie.Need-loop-less Inv-loop μ-loop
@@ -68,7 +69,7 @@ loop-again c =
     let x = c .before .before .before .before .before .before .before .before .before .before .before .a .given .0 .0 in
     filling-more _ _ _ _ _ _ (l .loop .inv) (insert (x .value .field .value))
     (Indices (a .kind) (a .e) (a .abbreviations .now) (a .unit .now) (x .next .at) (x .value .field .end))
-    (indices-more _ _ _ _ _ _ _ (c .before .before .before .before .before .before .before .before .before .before .before .before .before .next-attribute .ensures) x (c .before .before .before .before .before .before .before .before .before .before .before .a .given .1) _ (w .list-of .ensures) (t .if1 .taken))
+    (indices-more _ _ _ _ _ _ _ (c .before .before .before .before .before .before .before .before .before .before .before .before .before .next-attribute .ensures) x (c .before .before .before .before .before .before .before .before .before .before .before .a .given .1) _ (λ name. w .list-of .ensures ∙ form-list name _) (t .if1 .taken))
     (λ xs. all-grow _ xs) _ _ (m .insert .kept .0) (inserted-filled _ _ _ _ _ (m .insert .ensures)) (c .if2 .left)
 
 loop-less-2 : tie.Need-loop-less-2 Inv-loop μ-loop
@@ -77,7 +78,7 @@ loop-less-2 c = search attributes-less
 loop-again-2 : tie.Need-loop-again-2 Inv-loop μ-loop
 loop-again-2 c =
     filling-on _ _ _ _ _ _ (c .before .before .before .before .before .before .before .before .before .loop .inv) _
-    (indices-other _ _ _ _ _ _ _ (c .before .before .before .before .before .before .before .before .next-attribute .ensures) (c .before .before .before .before .before .before .a .given .0 .0) (c .before .before .before .before .before .before .a .given .1) _ (c .before .list-of .ensures) (c .if1 .left))
+    (indices-other _ _ _ _ _ _ _ (c .before .before .before .before .before .before .before .before .next-attribute .ensures) (c .before .before .before .before .before .before .a .given .0 .0) (c .before .before .before .before .before .before .a .given .1) _ (λ name. c .before .list-of .ensures ∙ form-list name _) (c .if1 .left))
 
 pub entry-indices-spec : {M : Type 1} → statement M
 entry-indices-spec =
