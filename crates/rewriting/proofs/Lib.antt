@@ -51,3 +51,7 @@ pub mod CollectTurns
 pub mod ListAnswers
 pub mod HeaderEmits
 pub mod ItemEmits
+pub mod Answering
+pub mod Listings
+pub mod UnitAnswers
+pub mod UnitWritten

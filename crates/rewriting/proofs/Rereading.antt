@@ -29,7 +29,7 @@ use Rattle.rewriting.proofs.ItemsStand.{Every, Stands}
 
 module _ (e : Encoding) (abbreviations : List ℕ) (look : ℕ → Found) (unit : List ℕ) where
   -- a step that ends at a place is as long as the item that stands there
-  size-of : (i : Item) (w : ℕ) → Stands e abbreviations look unit i → EndsAt (offsetOf i + w) (stepAt e abbreviations look unit (offsetOf i)) → w ≡ sizeOf i
+  pub size-of : (i : Item) (w : ℕ) → Stands e abbreviations look unit i → EndsAt (offsetOf i + w) (stepAt e abbreviations look unit (offsetOf i)) → w ≡ sizeOf i
   unfolding Stands EndsAt offsetOf sizeOf
   size-of (entry x) w s h =
       let q : x .next .at ≡ x .offset .0 + w = subst (EndsAt (x .offset .0 + w)) s h in

@@ -16,4 +16,6 @@ pub mod Measures
 pub mod MapFilled
 pub mod IndexLists
 pub mod Emission
+pub mod Outputs
+pub mod Leaving
 pub mod FiveEntries

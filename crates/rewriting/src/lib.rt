@@ -1,4 +1,5 @@
-// Rewriting: what is kept of a unit, index lists, the map, emission.
+// Rewriting: what is kept of a unit, index lists, the map, emission, collect.
+pub mod collect;
 pub mod emit;
 pub mod indices;
 pub mod kept;

@@ -1,0 +1,480 @@
+// Thins the first unit of a section (gc.rs: `gc_debug_info`): analysis, marks, index lists, map, output.
+ghost use mathlib.Core.Path.{_≡_};
+ghost use mathlib.Core.List.{List, []};
+ghost use lib.ListN.{length};
+ghost use Rattle.readers.specs.Choice.{zeros};
+ghost use Rattle.readers.specs.Abbreviations.{Placed};
+ghost use Rattle.marking.specs.Analysis.{Sections, Rooms, Row, sections};
+ghost use Rattle.rewriting.specs.Places.{keptFrom};
+ghost use Rattle.rewriting.specs.Rewriting.{Unit as Unit′, Lists, Room, itemsIn, listsOf, noLists, untouched, rewriteOf, collectOf};
+ghost use Rattle.rewriting.specs.IndexLists.{Passable};
+ghost use Rattle.rewriting.specs.Emission.{Lends};
+ghost use Rattle.rewriting.specs.Outputs.{roomOf, listCount, answerFor, mapFor, listFor, outputFor, rangesIn, locationsIn, stringsIn};
+ghost use Rattle.rewriting.specs.Leaving.{Answers, roomBy, ownUnit, Tabled, Blank, markedOf, ListsAnswer, Writable, WriteAnswer};
+use crate::emit::Emitted;
+use crate::indices::is_short;
+use crate::indices::one_list;
+use crate::kept::Reading;
+use crate::lists::ListCount;
+use crate::passes::fill_map;
+use crate::passes::measure;
+use crate::writing::emit_header;
+use crate::writing::emit_items;
+use marking::analysis::clear_columns;
+use marking::columns::clear_bytes;
+use marking::columns::clear_indexes;
+use marking::units::UnitMarks;
+use marking::units::mark_unit;
+use readers::header::HeaderRead;
+use readers::header::UnitHeader;
+use readers::header::unit_header;
+use readers::header::unit_part;
+use readers::tables::clear;
+
+// What an accepted answer counts: entries, kept ones, map places, output bytes (both 0 where untouched), and the numbers of each list.
+pub struct Counts {
+    pub entries: usize,
+    pub kept: usize,
+    pub places: usize,
+    pub bytes: usize,
+    pub ranges: ListCount,
+    pub locations: ListCount,
+    pub strings: ListCount,
+}
+
+pub enum Collected {
+    Untouched(Counts),
+    Rewritten(Counts),
+    Refused(u8),
+}
+
+// Makes map, lists and output zeros.
+fn clear_outputs(
+    map: &mut [u8],
+    ranges: &mut [u8],
+    locations: &mut [u8],
+    strings: &mut [u8],
+    out: &mut [u8],
+)
+    ensures map { λ _. ⌜ now (map .exit) ≡ zeros (length (now (map .entry))) ⌝ }
+    ensures ranges { λ _. ⌜ now (ranges .exit) ≡ zeros (length (now (ranges .entry))) ⌝ }
+    ensures locations { λ _. ⌜ now (locations .exit) ≡ zeros (length (now (locations .entry))) ⌝ }
+    ensures strings { λ _. ⌜ now (strings .exit) ≡ zeros (length (now (strings .entry))) ⌝ }
+    ensures out { λ _. ⌜ now (out .exit) ≡ zeros (length (now (out .entry))) ⌝ }
+{
+    clear_bytes(map);
+    clear_bytes(ranges);
+    clear_bytes(locations);
+    clear_bytes(strings);
+    clear_bytes(out);
+}
+
+// Makes the tables zeros.
+fn clear_tables(
+    index: &mut [u64],
+    offsets: &mut [u64],
+    parents: &mut [u32],
+    roots: &mut [u8],
+    ends: &mut [u64],
+    marks: &mut [u8],
+    targets: &mut [u64],
+    pairs: &mut [u32],
+)
+    ensures index { λ _. ⌜ now (index .exit) ≡ zeros (length (now (index .entry))) ⌝ }
+    ensures offsets { λ _. ⌜ now (offsets .exit) ≡ zeros (length (now (offsets .entry))) ⌝ }
+    ensures parents { λ _. ⌜ now (parents .exit) ≡ zeros (length (now (parents .entry))) ⌝ }
+    ensures roots { λ _. ⌜ now (roots .exit) ≡ zeros (length (now (roots .entry))) ⌝ }
+    ensures ends { λ _. ⌜ now (ends .exit) ≡ zeros (length (now (ends .entry))) ⌝ }
+    ensures marks { λ _. ⌜ now (marks .exit) ≡ zeros (length (now (marks .entry))) ⌝ }
+    ensures targets { λ _. ⌜ now (targets .exit) ≡ zeros (length (now (targets .entry))) ⌝ }
+    ensures pairs { λ _. ⌜ now (pairs .exit) ≡ zeros (length (now (pairs .entry))) ⌝ }
+{
+    clear(index);
+    clear_columns(offsets, parents, roots, ends, targets);
+    clear_bytes(marks);
+    clear_indexes(pairs);
+}
+
+// The counts of a unit's lists, or a list has no room.
+pub enum Listed {
+    Made {
+        ranges: ListCount,
+        locations: ListCount,
+        strings: ListCount,
+    },
+    Short,
+}
+
+// The lists of a unit.
+fn index_lists(
+    unit: &[u8],
+    abbreviations: &[u8],
+    r: Reading,
+    index: &[u64],
+    parents: &[u32],
+    marks: &[u8],
+    first: usize,
+    type_units: bool,
+    range_list: &mut [u8],
+    location_list: &mut [u8],
+    string_list: &mut [u8],
+) -> Listed
+    ensures { λ c. ⌜ ((x : Sections) (u : Unit′) → Passable x u r (now (abbreviations .entry)) (now (index .entry)) (now (unit .entry)) (now (parents .entry)) (now (marks .entry)) first → first ≡ u .header .first .0 → now («range_list» .entry) ≡ zeros (length (now («range_list» .entry))) → now («location_list» .entry) ≡ zeros (length (now («location_list» .entry))) → now («string_list» .entry) ≡ zeros (length (now («string_list» .entry))) → ListsAnswer (listsOf x u «type_units» (keptFrom (now (marks .entry)) 0 [] (itemsIn x u))) (length (now («range_list» .entry))) (length (now («location_list» .entry))) (length (now («string_list» .entry))) c (now («range_list» .exit)) (now («location_list» .exit)) (now («string_list» .exit))) ⌝ }
+{
+    let ranges = one_list(
+        unit,
+        abbreviations,
+        r,
+        index,
+        parents,
+        marks,
+        first,
+        0,
+        0x55,
+        type_units,
+        range_list,
+    );
+    if is_short(ranges, range_list) {
+        return Listed::Short;
+    }
+    let locations = one_list(
+        unit,
+        abbreviations,
+        r,
+        index,
+        parents,
+        marks,
+        first,
+        1,
+        0x02,
+        type_units,
+        location_list,
+    );
+    if is_short(locations, location_list) {
+        return Listed::Short;
+    }
+    let strings = one_list(
+        unit,
+        abbreviations,
+        r,
+        index,
+        parents,
+        marks,
+        first,
+        2,
+        0,
+        type_units,
+        string_list,
+    );
+    if is_short(strings, string_list) {
+        return Listed::Short;
+    }
+    Listed::Made {
+        ranges,
+        locations,
+        strings,
+    }
+}
+
+// Map and output of a unit where something is dead.
+fn write_unit(
+    unit: &[u8],
+    abbreviations: &[u8],
+    r: Reading,
+    index: &[u64],
+    parents: &[u32],
+    marks: &[u8],
+    first: usize,
+    entries: usize,
+    kept: usize,
+    range_list: &[u8],
+    ranges: ListCount,
+    location_list: &[u8],
+    locations: ListCount,
+    string_list: &[u8],
+    strings: ListCount,
+    map: &mut [u8],
+    out: &mut [u8],
+) -> Collected
+    ensures { λ c. ⌜ ((x : Sections) (u : Unit′) (lists : Lists) (room : Room) → Passable x u r (now (abbreviations .entry)) (now (index .entry)) (now (unit .entry)) (now (parents .entry)) (now (marks .entry)) first → Lends lists (now («range_list» .entry)) ranges (now («location_list» .entry)) locations (now («string_list» .entry)) strings → Writable u room (now (unit .entry)) first (now (map .entry)) (now (out .entry)) → WriteAnswer (rewriteOf x room u entries kept lists (keptFrom (now (marks .entry)) 0 [] (itemsIn x u))) c (length (now (map .entry))) (length (now (out .entry))) (now (map .exit)) (now (out .exit))) ⌝ }
+{
+    let size = measure(unit, abbreviations, r, index, parents, marks, first);
+    if size.places > map.len() / 12 {
+        return Collected::Refused(13);
+    }
+    if size.bytes > out.len() {
+        return Collected::Refused(14);
+    }
+    fill_map(unit, abbreviations, r, index, parents, marks, first, map);
+    emit_header(unit, first, size.bytes, out);
+    match emit_items(
+        unit,
+        abbreviations,
+        r,
+        index,
+        parents,
+        marks,
+        first,
+        map,
+        size.places,
+        range_list,
+        ranges,
+        location_list,
+        locations,
+        string_list,
+        strings,
+        out,
+    ) {
+        Emitted::To(_) => {
+            Collected::Rewritten(Counts {
+                entries,
+                kept,
+                places: size.places,
+                bytes: size.bytes,
+                ranges,
+                locations,
+                strings,
+            })
+        }
+        Emitted::Refused(n) => Collected::Refused(n),
+    }
+}
+
+// The unit of marked tables: lists, then map and output where something is dead.
+fn rewrite_unit(
+    section: &[u8],
+    h: UnitHeader,
+    abbreviations: &[u8],
+    index: &[u64],
+    parents: &[u32],
+    marks: &[u8],
+    entries: usize,
+    kept: usize,
+    type_units: bool,
+    map: &mut [u8],
+    range_list: &mut [u8],
+    location_list: &mut [u8],
+    string_list: &mut [u8],
+    out: &mut [u8],
+) -> Collected
+    ensures { λ c. ⌜ ((x : Sections) (tables : Rooms) (ds : List Placed) (rows : List Row) → Tabled x tables (now (section .entry)) h ds rows (now (abbreviations .entry)) (now (index .entry)) (now (parents .entry)) (now (marks .entry)) entries kept → Blank (now (map .entry)) (now («range_list» .entry)) (now («location_list» .entry)) (now («string_list» .entry)) (now (out .entry)) → Answers (markedOf x (roomBy tables (length (now (map .entry))) (length (now («range_list» .entry))) (length (now («location_list» .entry))) (length (now («string_list» .entry))) (length (now (out .entry)))) «type_units» (ownUnit h (now (section .entry)) ds) rows) c (length (now (map .entry))) (length (now («range_list» .entry))) (length (now («location_list» .entry))) (length (now («string_list» .entry))) (length (now (out .entry))) (now (map .exit)) (now («range_list» .exit)) (now («location_list» .exit)) (now («string_list» .exit)) (now (out .exit))) ⌝ }
+{
+    let encoding = h.encoding;
+    let r = Reading {
+        from: h.abbreviations,
+        encoding,
+    };
+    let unit = unit_part(section, h);
+    let start = h.first;
+    let first = start.0 as usize;
+    match index_lists(
+        unit,
+        abbreviations,
+        r,
+        index,
+        parents,
+        marks,
+        first,
+        type_units,
+        range_list,
+        location_list,
+        string_list,
+    ) {
+        Listed::Short => Collected::Refused(12),
+        Listed::Made {
+            ranges,
+            locations,
+            strings,
+        } => {
+            if kept == entries {
+                return Collected::Untouched(Counts {
+                    entries,
+                    kept,
+                    places: 0,
+                    bytes: 0,
+                    ranges,
+                    locations,
+                    strings,
+                });
+            }
+            write_unit(
+                unit,
+                abbreviations,
+                r,
+                index,
+                parents,
+                marks,
+                first,
+                entries,
+                kept,
+                range_list,
+                ranges,
+                location_list,
+                locations,
+                string_list,
+                strings,
+                map,
+                out,
+            )
+        }
+    }
+}
+
+// Untouched, without entries.
+fn nothing() -> Collected
+    ensures { λ r. ⌜ r ≡ answerFor (untouched 0 noLists) ⌝ }
+{
+    Collected::Untouched(Counts {
+        entries: 0,
+        kept: 0,
+        places: 0,
+        bytes: 0,
+        ranges: ListCount::Absent,
+        locations: ListCount::Absent,
+        strings: ListCount::Absent,
+    })
+}
+
+// The answer, with tables as they are left, and after a refusal also map, lists and output.
+fn collect_unit(
+    section: &[u8],
+    abbreviations: &[u8],
+    locations: &[u8],
+    ranges: &[u8],
+    addresses: &[u8],
+    ranges_base: u64,
+    type_units: bool,
+    index: &mut [u64],
+    offsets: &mut [u64],
+    parents: &mut [u32],
+    roots: &mut [u8],
+    ends: &mut [u64],
+    marks: &mut [u8],
+    targets: &mut [u64],
+    pairs: &mut [u32],
+    map: &mut [u8],
+    range_list: &mut [u8],
+    location_list: &mut [u8],
+    string_list: &mut [u8],
+    out: &mut [u8],
+) -> Collected
+    ensures { λ r. ⌜ Answers (collectOf (sections (now (abbreviations .entry)) (now (locations .entry)) (now (ranges .entry)) (now (addresses .entry)) «ranges_base») (roomOf (length (now (marks .entry))) (length (now (pairs .entry))) (length (now (offsets .entry))) (length (now (parents .entry))) (length (now (roots .entry))) (length (now (ends .entry))) (length (now (targets .entry))) (length (now (map .entry))) (length (now («range_list» .entry))) (length (now («location_list» .entry))) (length (now («string_list» .entry))) (length (now (out .entry)))) «type_units» (now (section .entry))) r (length (now (map .entry))) (length (now («range_list» .entry))) (length (now («location_list» .entry))) (length (now («string_list» .entry))) (length (now (out .entry))) (now (map .exit)) (now («range_list» .exit)) (now («location_list» .exit)) (now («string_list» .exit)) (now (out .exit)) ⌝ }
+{
+    clear_outputs(map, range_list, location_list, string_list, out);
+    match mark_unit(
+        section,
+        abbreviations,
+        locations,
+        ranges,
+        addresses,
+        ranges_base,
+        index,
+        offsets,
+        parents,
+        roots,
+        ends,
+        marks,
+        targets,
+        pairs,
+    ) {
+        UnitMarks::Refused(n) => Collected::Refused(n),
+        UnitMarks::Marked { entries, kept } => {
+            if entries == 0 {
+                return nothing();
+            }
+            match unit_header(section) {
+                HeaderRead::Unit(h) => rewrite_unit(
+                    section,
+                    h,
+                    abbreviations,
+                    index,
+                    parents,
+                    marks,
+                    entries,
+                    kept,
+                    type_units,
+                    map,
+                    range_list,
+                    location_list,
+                    string_list,
+                    out,
+                ),
+                HeaderRead::Empty => nothing(),
+                HeaderRead::Refused(n) => Collected::Refused(n),
+            }
+        }
+    }
+}
+
+// Thins the first unit of a section. The sections and the address table are read; the tables (entries: `offsets`, `parents`, `roots`, `ends`, `marks`; references: `targets`, `pairs`; and the index of the
+// declarations) are scratch, zeros on every answer. The map has 12 bytes a place (old offset, new offset, depth), a list 8 bytes a number, all big-endian. Refused with a number of document 01; then map, lists and
+// output are zeros.
+pub fn collect(
+    section: &[u8],
+    abbreviations: &[u8],
+    locations: &[u8],
+    ranges: &[u8],
+    addresses: &[u8],
+    ranges_base: u64,
+    type_units: bool,
+    index: &mut [u64],
+    offsets: &mut [u64],
+    parents: &mut [u32],
+    roots: &mut [u8],
+    ends: &mut [u64],
+    marks: &mut [u8],
+    targets: &mut [u64],
+    pairs: &mut [u32],
+    map: &mut [u8],
+    range_list: &mut [u8],
+    location_list: &mut [u8],
+    string_list: &mut [u8],
+    out: &mut [u8],
+) -> Collected
+    ensures answer { λ r. ⌜ r ≡ answerFor (collectOf (sections (now (abbreviations .entry)) (now (locations .entry)) (now (ranges .entry)) (now (addresses .entry)) «ranges_base») (roomOf (length (now (marks .entry))) (length (now (pairs .entry))) (length (now (offsets .entry))) (length (now (parents .entry))) (length (now (roots .entry))) (length (now (ends .entry))) (length (now (targets .entry))) (length (now (map .entry))) (length (now («range_list» .entry))) (length (now («location_list» .entry))) (length (now («string_list» .entry))) (length (now (out .entry)))) «type_units» (now (section .entry))) ⌝ }
+    ensures map { λ _. ⌜ now (map .exit) ≡ mapFor (length (now (map .entry))) (collectOf (sections (now (abbreviations .entry)) (now (locations .entry)) (now (ranges .entry)) (now (addresses .entry)) «ranges_base») (roomOf (length (now (marks .entry))) (length (now (pairs .entry))) (length (now (offsets .entry))) (length (now (parents .entry))) (length (now (roots .entry))) (length (now (ends .entry))) (length (now (targets .entry))) (length (now (map .entry))) (length (now («range_list» .entry))) (length (now («location_list» .entry))) (length (now («string_list» .entry))) (length (now (out .entry)))) «type_units» (now (section .entry))) ⌝ }
+    ensures ranges { λ _. ⌜ now («range_list» .exit) ≡ listFor rangesIn (length (now («range_list» .entry))) (collectOf (sections (now (abbreviations .entry)) (now (locations .entry)) (now (ranges .entry)) (now (addresses .entry)) «ranges_base») (roomOf (length (now (marks .entry))) (length (now (pairs .entry))) (length (now (offsets .entry))) (length (now (parents .entry))) (length (now (roots .entry))) (length (now (ends .entry))) (length (now (targets .entry))) (length (now (map .entry))) (length (now («range_list» .entry))) (length (now («location_list» .entry))) (length (now («string_list» .entry))) (length (now (out .entry)))) «type_units» (now (section .entry))) ⌝ }
+    ensures locations { λ _. ⌜ now («location_list» .exit) ≡ listFor locationsIn (length (now («location_list» .entry))) (collectOf (sections (now (abbreviations .entry)) (now (locations .entry)) (now (ranges .entry)) (now (addresses .entry)) «ranges_base») (roomOf (length (now (marks .entry))) (length (now (pairs .entry))) (length (now (offsets .entry))) (length (now (parents .entry))) (length (now (roots .entry))) (length (now (ends .entry))) (length (now (targets .entry))) (length (now (map .entry))) (length (now («range_list» .entry))) (length (now («location_list» .entry))) (length (now («string_list» .entry))) (length (now (out .entry)))) «type_units» (now (section .entry))) ⌝ }
+    ensures strings { λ _. ⌜ now («string_list» .exit) ≡ listFor stringsIn (length (now («string_list» .entry))) (collectOf (sections (now (abbreviations .entry)) (now (locations .entry)) (now (ranges .entry)) (now (addresses .entry)) «ranges_base») (roomOf (length (now (marks .entry))) (length (now (pairs .entry))) (length (now (offsets .entry))) (length (now (parents .entry))) (length (now (roots .entry))) (length (now (ends .entry))) (length (now (targets .entry))) (length (now (map .entry))) (length (now («range_list» .entry))) (length (now («location_list» .entry))) (length (now («string_list» .entry))) (length (now (out .entry)))) «type_units» (now (section .entry))) ⌝ }
+    ensures output { λ _. ⌜ now (out .exit) ≡ outputFor (length (now (out .entry))) (collectOf (sections (now (abbreviations .entry)) (now (locations .entry)) (now (ranges .entry)) (now (addresses .entry)) «ranges_base») (roomOf (length (now (marks .entry))) (length (now (pairs .entry))) (length (now (offsets .entry))) (length (now (parents .entry))) (length (now (roots .entry))) (length (now (ends .entry))) (length (now (targets .entry))) (length (now (map .entry))) (length (now («range_list» .entry))) (length (now («location_list» .entry))) (length (now («string_list» .entry))) (length (now (out .entry)))) «type_units» (now (section .entry))) ⌝ }
+    ensures index { λ _. ⌜ now (index .exit) ≡ zeros (length (now (index .entry))) ⌝ }
+    ensures offsets { λ _. ⌜ now (offsets .exit) ≡ zeros (length (now (offsets .entry))) ⌝ }
+    ensures parents { λ _. ⌜ now (parents .exit) ≡ zeros (length (now (parents .entry))) ⌝ }
+    ensures roots { λ _. ⌜ now (roots .exit) ≡ zeros (length (now (roots .entry))) ⌝ }
+    ensures ends { λ _. ⌜ now (ends .exit) ≡ zeros (length (now (ends .entry))) ⌝ }
+    ensures marks { λ _. ⌜ now (marks .exit) ≡ zeros (length (now (marks .entry))) ⌝ }
+    ensures targets { λ _. ⌜ now (targets .exit) ≡ zeros (length (now (targets .entry))) ⌝ }
+    ensures pairs { λ _. ⌜ now (pairs .exit) ≡ zeros (length (now (pairs .entry))) ⌝ }
+{
+    let answer = collect_unit(
+        section,
+        abbreviations,
+        locations,
+        ranges,
+        addresses,
+        ranges_base,
+        type_units,
+        index,
+        offsets,
+        parents,
+        roots,
+        ends,
+        marks,
+        targets,
+        pairs,
+        map,
+        range_list,
+        location_list,
+        string_list,
+        out,
+    );
+    clear_tables(index, offsets, parents, roots, ends, marks, targets, pairs);
+    match answer {
+        Collected::Untouched(c) => Collected::Untouched(c),
+        Collected::Rewritten(c) => Collected::Rewritten(c),
+        Collected::Refused(n) => {
+            clear_outputs(map, range_list, location_list, string_list, out);
+            Collected::Refused(n)
+        }
+    }
+}
