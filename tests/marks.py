@@ -231,10 +231,10 @@ def files():
     return made
 
 
-def main():
-    checking = sys.argv[1:] == ['check']
+def write(made, checking):
+    """Writes files under crates/, or compares them: how many differ."""
     wrong = 0
-    for name, data in files().items():
+    for name, data in made.items():
         path = os.path.join(CRATES, name)
         if checking:
             if not os.path.exists(path) or open(path, 'rb').read() != data:
@@ -244,9 +244,10 @@ def main():
             os.makedirs(os.path.dirname(path), exist_ok=True)
             with open(path, 'wb') as f:
                 f.write(data)
-    print('marks: %d points, %s' % (len(points), ', '.join('%s %d' % (f, len(kept(f))) for f in FAMILIES)))
-    sys.exit(wrong > 0)
+    return wrong
 
 
 if __name__ == '__main__':
-    main()
+    differing = write(files(), sys.argv[1:] == ['check'])
+    print('marks: %d points, %s' % (len(points), ', '.join('%s %d' % (f, len(kept(f))) for f in FAMILIES)))
+    sys.exit(differing > 0)

@@ -7,81 +7,81 @@ use Rattle.listing.proofs.list_all.Tie as tie
 use Rattle.listing.proofs.list_all.Reads as reads
 use Rattle.listing.proofs.list_all.Lts as lts
 use Rattle.listing.proofs.list.Reads as list-reads
-use Rattle.listing.proofs.number.Reads as number-reads
 use Rattle.listing.proofs.size.Reads as size-reads
-use Rattle.listing.proofs.text.Reads as text-reads
+use Rattle.listing.proofs.text.number.Reads as number-reads
+use Rattle.listing.proofs.text.text.Reads as text-reads
 
 abbrev Inv-loop : tie.InvT-loop
-Inv-loop s at₀ t5 t6 at = Unit {0}
+Inv-loop s what at₀ t6 t7 at = Unit {0}
 
 abbrev μ-loop : tie.MeasureT-loop
-μ-loop s at₀ t5 t6 at = length s - at
+μ-loop s what at₀ t6 t7 at = length s - at
 
--- src/lib.rt:79:5
+-- src/lib.rt:41:5
 loop-holds : tie.Need-loop-holds Inv-loop μ-loop
 loop-holds c = search needs
 
--- src/lib.rt:80:13
+-- src/lib.rt:42:13
 size-requires : tie.Need-size-requires Inv-loop μ-loop
 size-requires c κs = search needs
 
--- src/lib.rt:82:13
+-- src/lib.rt:44:13
 returns : tie.Need-returns Inv-loop μ-loop
 returns c = search needs
 
--- src/lib.rt:84:16
+-- src/lib.rt:46:16
 sub-if2 : tie.Need-sub-if2 Inv-loop μ-loop
 sub-if2 c = search needs
 
--- src/lib.rt:85:13
+-- src/lib.rt:47:13
 returns-2 : tie.Need-returns-2 Inv-loop μ-loop
 returns-2 c = search needs
 
--- src/lib.rt:87:19
+-- src/lib.rt:49:19
 add-end : tie.Need-add-end Inv-loop μ-loop
 add-end c = search needs
 
--- src/lib.rt:88:16
+-- src/lib.rt:50:16
 slice-aggregate-number : tie.Need-slice-aggregate-number Inv-loop μ-loop
 slice-aggregate-number c = search needs
 
--- src/lib.rt:88:9
+-- src/lib.rt:50:9
 number-requires : tie.Need-number-requires Inv-loop μ-loop
 number-requires c κs = search needs
 
--- src/lib.rt:89:14
+-- src/lib.rt:51:14
 slice-aggregate-text : tie.Need-slice-aggregate-text Inv-loop μ-loop
 slice-aggregate-text c = search needs
 
--- src/lib.rt:89:9
+-- src/lib.rt:51:9
 text-requires : tie.Need-text-requires Inv-loop μ-loop
 text-requires c κs = search needs
 
--- src/lib.rt:90:14
+-- src/lib.rt:52:14
 sub-list : tie.Need-sub-list Inv-loop μ-loop
 sub-list c = search needs
 
--- src/lib.rt:90:14
+-- src/lib.rt:52:14
 part-list-start : tie.Need-part-list-start Inv-loop μ-loop
 part-list-start c = search needs
 
--- src/lib.rt:90:14
+-- src/lib.rt:52:14
 part-list-end : tie.Need-part-list-end Inv-loop μ-loop
 part-list-end c = search needs
 
--- src/lib.rt:90:9
+-- src/lib.rt:52:9
 list-requires : tie.Need-list-requires Inv-loop μ-loop
 list-requires c κs = search needs
 
--- src/lib.rt:79:5
+-- src/lib.rt:41:5
 loop-less : tie.Need-loop-less Inv-loop μ-loop
 loop-less c = search needs
 
--- src/lib.rt:79:5
+-- src/lib.rt:41:5
 loop-again : tie.Need-loop-again Inv-loop μ-loop
 loop-again c = search needs
 
--- src/lib.rt:77:1
+-- src/lib.rt:39:1
 returns-3 : tie.Need-returns-3 Inv-loop μ-loop
 returns-3 c = search needs
 

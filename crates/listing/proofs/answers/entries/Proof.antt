@@ -1,0 +1,145 @@
+-- `answers/entries` is safe and ends: the measure is what is left. Assumes nothing.
+use Prim.Native.Nat.{_-_}
+use lib.ListN.{length}
+use borrow.Author.Needs.{needs}
+use Rattle.listing.proofs.answers.entries.Statement.{statement}
+use Rattle.listing.proofs.answers.entries.Tie as tie
+use Rattle.listing.proofs.answers.entries.Reads as reads
+use Rattle.listing.proofs.answers.entries.Lts as lts
+use Rattle.listing.proofs.answers.new_offset.Reads as new-offset-reads
+use Rattle.listing.proofs.marks.letter.Reads as letter-reads
+use Rattle.listing.proofs.text.number.Reads as number-reads
+use Rattle.listing.proofs.text.text.Reads as text-reads
+
+abbrev Inv-loop : tie.InvT-loop
+Inv-loop offsets marks map c rewritten i₀ t10 t11 i = Unit {0}
+
+abbrev μ-loop : tie.MeasureT-loop
+μ-loop offsets marks map c rewritten i₀ t10 t11 i = c .entries - i
+
+-- src/answers.rt:39:12
+slice-aggregate-number : tie.Need-slice-aggregate-number Inv-loop μ-loop
+slice-aggregate-number c = search needs
+
+-- src/answers.rt:39:5
+number-requires : tie.Need-number-requires Inv-loop μ-loop
+number-requires c κs = search needs
+
+-- src/answers.rt:40:12
+slice-aggregate-number-2 : tie.Need-slice-aggregate-number-2 Inv-loop μ-loop
+slice-aggregate-number-2 c = search needs
+
+-- src/answers.rt:40:5
+number-requires-2 : tie.Need-number-requires-2 Inv-loop μ-loop
+number-requires-2 c κs = search needs
+
+-- src/answers.rt:41:10
+slice-aggregate-text : tie.Need-slice-aggregate-text Inv-loop μ-loop
+slice-aggregate-text c = search needs
+
+-- src/answers.rt:41:5
+text-requires : tie.Need-text-requires Inv-loop μ-loop
+text-requires c κs = search needs
+
+-- src/answers.rt:43:5
+loop-holds : tie.Need-loop-holds Inv-loop μ-loop
+loop-holds c = search needs
+
+-- src/answers.rt:45:13
+returns : tie.Need-returns Inv-loop μ-loop
+returns c = search needs
+
+-- src/answers.rt:48:13
+returns-2 : tie.Need-returns-2 Inv-loop μ-loop
+returns-2 c = search needs
+
+-- src/answers.rt:50:16
+slice-aggregate-number-3 : tie.Need-slice-aggregate-number-3 Inv-loop μ-loop
+slice-aggregate-number-3 c = search needs
+
+-- src/answers.rt:50:21
+mul-number : tie.Need-mul-number Inv-loop μ-loop
+mul-number c = search needs
+
+-- src/answers.rt:50:21
+shared-slice-read-number : tie.Need-shared-slice-read-number Inv-loop μ-loop
+shared-slice-read-number c = search needs
+
+-- src/answers.rt:50:9
+number-requires-3 : tie.Need-number-requires-3 Inv-loop μ-loop
+number-requires-3 c κs = search needs
+
+-- src/answers.rt:51:16
+shared-slice-read-letter : tie.Need-shared-slice-read-letter Inv-loop μ-loop
+shared-slice-read-letter c = search needs
+
+-- src/answers.rt:51:9
+letter-requires : tie.Need-letter-requires Inv-loop μ-loop
+letter-requires c κs = search needs
+
+-- src/answers.rt:52:39
+mul-new-offset : tie.Need-mul-new-offset Inv-loop μ-loop
+mul-new-offset c = search needs
+
+-- src/answers.rt:52:39
+shared-slice-read-new-offset : tie.Need-shared-slice-read-new-offset Inv-loop μ-loop
+shared-slice-read-new-offset c = search needs
+
+-- src/answers.rt:52:9
+new-offset-requires : tie.Need-new-offset-requires Inv-loop μ-loop
+new-offset-requires c κs = search needs
+
+-- src/answers.rt:53:14
+slice-aggregate-text-2 : tie.Need-slice-aggregate-text-2 Inv-loop μ-loop
+slice-aggregate-text-2 c = search needs
+
+-- src/answers.rt:53:9
+text-requires-2 : tie.Need-text-requires-2 Inv-loop μ-loop
+text-requires-2 c κs = search needs
+
+-- src/answers.rt:54:9
+add-i : tie.Need-add-i Inv-loop μ-loop
+add-i c = search needs
+
+-- src/answers.rt:43:5
+loop-less : tie.Need-loop-less Inv-loop μ-loop
+loop-less c = search needs
+
+-- src/answers.rt:43:5
+loop-again : tie.Need-loop-again Inv-loop μ-loop
+loop-again c = search needs
+
+-- src/answers.rt:38:1
+returns-3 : tie.Need-returns-3 Inv-loop μ-loop
+returns-3 c = search needs
+
+pub entries-spec : {M : Type 1} → statement M
+entries-spec =
+    tie.close
+    (tie.spec
+    Inv-loop
+    μ-loop
+    slice-aggregate-number
+    number-requires
+    slice-aggregate-number-2
+    number-requires-2
+    slice-aggregate-text
+    text-requires
+    loop-holds
+    returns
+    returns-2
+    slice-aggregate-number-3
+    mul-number
+    shared-slice-read-number
+    number-requires-3
+    shared-slice-read-letter
+    letter-requires
+    mul-new-offset
+    shared-slice-read-new-offset
+    new-offset-requires
+    slice-aggregate-text-2
+    text-requires-2
+    add-i
+    loop-less
+    loop-again
+    returns-3)
