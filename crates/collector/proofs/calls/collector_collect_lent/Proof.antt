@@ -1,0 +1,82 @@
+-- `collector_collect_lent` meets its contract: what collect and the counts leave. Assumes nothing.
+use mathlib.Core.Path.{ap, _∙_}
+use Rattle.collector.specs.Call.{numberFor, countsFor}
+use borrow.Author.Needs.{needs}
+use Rattle.collector.proofs.calls.collector_collect_lent.Statement.{statement}
+use Rattle.collector.proofs.calls.collector_collect_lent.Tie as tie
+
+collect-requires : tie.Need-collect-requires
+collect-requires c κs = search needs
+
+give-requires : tie.Need-give-requires
+give-requires c κs = search needs
+
+same-length : tie.Need-same-length
+same-length c = search needs
+
+same-length-2 : tie.Need-same-length-2
+same-length-2 c = search needs
+
+same-length-3 : tie.Need-same-length-3
+same-length-3 c = search needs
+
+same-length-4 : tie.Need-same-length-4
+same-length-4 c = search needs
+
+same-length-5 : tie.Need-same-length-5
+same-length-5 c = search needs
+
+same-length-6 : tie.Need-same-length-6
+same-length-6 c = search needs
+
+same-length-7 : tie.Need-same-length-7
+same-length-7 c = search needs
+
+same-length-8 : tie.Need-same-length-8
+same-length-8 c = search needs
+
+same-length-9 : tie.Need-same-length-9
+same-length-9 c = search needs
+
+same-length-10 : tie.Need-same-length-10
+same-length-10 c = search needs
+
+same-length-11 : tie.Need-same-length-11
+same-length-11 c = search needs
+
+same-length-12 : tie.Need-same-length-12
+same-length-12 c = search needs
+
+same-length-13 : tie.Need-same-length-13
+same-length-13 c = search needs
+
+same-length-14 : tie.Need-same-length-14
+same-length-14 c = search needs
+
+returns : tie.Need-returns
+returns c =
+    let e = c .before .before .before .before .before .before .before .before .before .before .before .before .before .before .before .before .before .before .before .before .before .before .before .before .before .before .before .before .before .before .collect in
+    let g = c .before .before .give in
+    (g .ensures .0 ∙ ap (numberFor _) (e .ensures .0), (g .ensures .1 ∙ ap (countsFor _) (e .ensures .0), (e .ensures .1 .0, (e .ensures .1 .1 .0, (e .ensures .1 .1 .1 .0, (e .ensures .1 .1 .1 .1 .0, (e .ensures .1 .1 .1 .1 .1 .0, (e .ensures .1 .1 .1 .1 .1 .1 .0, (e .ensures .1 .1 .1 .1 .1 .1 .1 .0, (e .ensures .1 .1 .1 .1 .1 .1 .1 .1 .0, (e .ensures .1 .1 .1 .1 .1 .1 .1 .1 .1 .0, (e .ensures .1 .1 .1 .1 .1 .1 .1 .1 .1 .1 .0, (e .ensures .1 .1 .1 .1 .1 .1 .1 .1 .1 .1 .1 .0, (e .ensures .1 .1 .1 .1 .1 .1 .1 .1 .1 .1 .1 .1 .0, e .ensures .1 .1 .1 .1 .1 .1 .1 .1 .1 .1 .1 .1 .1))))))))))))))
+
+pub collector-collect-lent-spec : {M : Type 1} → statement M
+collector-collect-lent-spec =
+    tie.close
+    (tie.spec
+    collect-requires
+    give-requires
+    same-length
+    same-length-2
+    same-length-3
+    same-length-4
+    same-length-5
+    same-length-6
+    same-length-7
+    same-length-8
+    same-length-9
+    same-length-10
+    same-length-11
+    same-length-12
+    same-length-13
+    same-length-14
+    returns)

@@ -1,0 +1,133 @@
+// The calls for hosts in C.
+ghost use mathlib.Core.Path.{_≡_};
+ghost use lib.ListN.{length};
+ghost use Rattle.readers.specs.Choice.{zeros};
+ghost use Rattle.rewriting.specs.Outputs.{roomOf, answerFor, mapFor, listFor, outputFor, rangesIn, locationsIn, stringsIn};
+ghost use Rattle.collector.specs.Call.{numberFor, countsFor, collectedOf, ownRoom};
+use crate::answers::give;
+use rewriting::collect::Collected;
+use rewriting::collect::collect;
+
+// Thins the first unit of a section with tables that are lent. They are scratch, and zeros after the call.
+#[no_mangle]
+pub extern "C" fn collector_collect_lent(
+    section: &[u8],
+    abbreviations: &[u8],
+    locations: &[u8],
+    ranges: &[u8],
+    addresses: &[u8],
+    ranges_base: u64,
+    type_units: u64,
+    index: &mut [u64],
+    offsets: &mut [u64],
+    parents: &mut [u32],
+    roots: &mut [u8],
+    ends: &mut [u64],
+    marks: &mut [u8],
+    targets: &mut [u64],
+    pairs: &mut [u32],
+    map: &mut [u8],
+    range_list: &mut [u8],
+    location_list: &mut [u8],
+    string_list: &mut [u8],
+    out: &mut [u8],
+    counts: &mut [u8],
+) -> u64
+    ensures answer { λ r. ⌜ r ≡ numberFor (length (now (counts .entry))) (answerFor (collectedOf (now (section .entry)) (now (abbreviations .entry)) (now (locations .entry)) (now (ranges .entry)) (now (addresses .entry)) «ranges_base» «type_units» (roomOf (length (now (marks .entry))) (length (now (pairs .entry))) (length (now (offsets .entry))) (length (now (parents .entry))) (length (now (roots .entry))) (length (now (ends .entry))) (length (now (targets .entry))) (length (now (map .entry))) (length (now («range_list» .entry))) (length (now («location_list» .entry))) (length (now («string_list» .entry))) (length (now (out .entry)))))) ⌝ }
+    ensures counts { λ _. ⌜ now (counts .exit) ≡ countsFor (length (now (counts .entry))) (answerFor (collectedOf (now (section .entry)) (now (abbreviations .entry)) (now (locations .entry)) (now (ranges .entry)) (now (addresses .entry)) «ranges_base» «type_units» (roomOf (length (now (marks .entry))) (length (now (pairs .entry))) (length (now (offsets .entry))) (length (now (parents .entry))) (length (now (roots .entry))) (length (now (ends .entry))) (length (now (targets .entry))) (length (now (map .entry))) (length (now («range_list» .entry))) (length (now («location_list» .entry))) (length (now («string_list» .entry))) (length (now (out .entry)))))) ⌝ }
+    ensures map { λ _. ⌜ now (map .exit) ≡ mapFor (length (now (map .entry))) (collectedOf (now (section .entry)) (now (abbreviations .entry)) (now (locations .entry)) (now (ranges .entry)) (now (addresses .entry)) «ranges_base» «type_units» (roomOf (length (now (marks .entry))) (length (now (pairs .entry))) (length (now (offsets .entry))) (length (now (parents .entry))) (length (now (roots .entry))) (length (now (ends .entry))) (length (now (targets .entry))) (length (now (map .entry))) (length (now («range_list» .entry))) (length (now («location_list» .entry))) (length (now («string_list» .entry))) (length (now (out .entry))))) ⌝ }
+    ensures ranges { λ _. ⌜ now («range_list» .exit) ≡ listFor rangesIn (length (now («range_list» .entry))) (collectedOf (now (section .entry)) (now (abbreviations .entry)) (now (locations .entry)) (now (ranges .entry)) (now (addresses .entry)) «ranges_base» «type_units» (roomOf (length (now (marks .entry))) (length (now (pairs .entry))) (length (now (offsets .entry))) (length (now (parents .entry))) (length (now (roots .entry))) (length (now (ends .entry))) (length (now (targets .entry))) (length (now (map .entry))) (length (now («range_list» .entry))) (length (now («location_list» .entry))) (length (now («string_list» .entry))) (length (now (out .entry))))) ⌝ }
+    ensures locations { λ _. ⌜ now («location_list» .exit) ≡ listFor locationsIn (length (now («location_list» .entry))) (collectedOf (now (section .entry)) (now (abbreviations .entry)) (now (locations .entry)) (now (ranges .entry)) (now (addresses .entry)) «ranges_base» «type_units» (roomOf (length (now (marks .entry))) (length (now (pairs .entry))) (length (now (offsets .entry))) (length (now (parents .entry))) (length (now (roots .entry))) (length (now (ends .entry))) (length (now (targets .entry))) (length (now (map .entry))) (length (now («range_list» .entry))) (length (now («location_list» .entry))) (length (now («string_list» .entry))) (length (now (out .entry))))) ⌝ }
+    ensures strings { λ _. ⌜ now («string_list» .exit) ≡ listFor stringsIn (length (now («string_list» .entry))) (collectedOf (now (section .entry)) (now (abbreviations .entry)) (now (locations .entry)) (now (ranges .entry)) (now (addresses .entry)) «ranges_base» «type_units» (roomOf (length (now (marks .entry))) (length (now (pairs .entry))) (length (now (offsets .entry))) (length (now (parents .entry))) (length (now (roots .entry))) (length (now (ends .entry))) (length (now (targets .entry))) (length (now (map .entry))) (length (now («range_list» .entry))) (length (now («location_list» .entry))) (length (now («string_list» .entry))) (length (now (out .entry))))) ⌝ }
+    ensures output { λ _. ⌜ now (out .exit) ≡ outputFor (length (now (out .entry))) (collectedOf (now (section .entry)) (now (abbreviations .entry)) (now (locations .entry)) (now (ranges .entry)) (now (addresses .entry)) «ranges_base» «type_units» (roomOf (length (now (marks .entry))) (length (now (pairs .entry))) (length (now (offsets .entry))) (length (now (parents .entry))) (length (now (roots .entry))) (length (now (ends .entry))) (length (now (targets .entry))) (length (now (map .entry))) (length (now («range_list» .entry))) (length (now («location_list» .entry))) (length (now («string_list» .entry))) (length (now (out .entry))))) ⌝ }
+    ensures index { λ _. ⌜ now (index .exit) ≡ zeros (length (now (index .entry))) ⌝ }
+    ensures offsets { λ _. ⌜ now (offsets .exit) ≡ zeros (length (now (offsets .entry))) ⌝ }
+    ensures parents { λ _. ⌜ now (parents .exit) ≡ zeros (length (now (parents .entry))) ⌝ }
+    ensures roots { λ _. ⌜ now (roots .exit) ≡ zeros (length (now (roots .entry))) ⌝ }
+    ensures ends { λ _. ⌜ now (ends .exit) ≡ zeros (length (now (ends .entry))) ⌝ }
+    ensures marks { λ _. ⌜ now (marks .exit) ≡ zeros (length (now (marks .entry))) ⌝ }
+    ensures targets { λ _. ⌜ now (targets .exit) ≡ zeros (length (now (targets .entry))) ⌝ }
+    ensures pairs { λ _. ⌜ now (pairs .exit) ≡ zeros (length (now (pairs .entry))) ⌝ }
+{
+    let answer = collect(
+        section,
+        abbreviations,
+        locations,
+        ranges,
+        addresses,
+        ranges_base,
+        type_units > 0,
+        index,
+        offsets,
+        parents,
+        roots,
+        ends,
+        marks,
+        targets,
+        pairs,
+        map,
+        range_list,
+        location_list,
+        string_list,
+        out,
+    );
+    give(answer, counts)
+}
+
+// The same with tables of its own, of 2,048 entries and 8,192 references.
+#[no_mangle]
+pub extern "C" fn collector_collect(
+    section: &[u8],
+    abbreviations: &[u8],
+    locations: &[u8],
+    ranges: &[u8],
+    addresses: &[u8],
+    ranges_base: u64,
+    type_units: u64,
+    map: &mut [u8],
+    range_list: &mut [u8],
+    location_list: &mut [u8],
+    string_list: &mut [u8],
+    out: &mut [u8],
+    counts: &mut [u8],
+) -> u64
+    ensures answer { λ r. ⌜ r ≡ numberFor (length (now (counts .entry))) (answerFor (collectedOf (now (section .entry)) (now (abbreviations .entry)) (now (locations .entry)) (now (ranges .entry)) (now (addresses .entry)) «ranges_base» «type_units» (ownRoom (length (now (map .entry))) (length (now («range_list» .entry))) (length (now («location_list» .entry))) (length (now («string_list» .entry))) (length (now (out .entry)))))) ⌝ }
+    ensures counts { λ _. ⌜ now (counts .exit) ≡ countsFor (length (now (counts .entry))) (answerFor (collectedOf (now (section .entry)) (now (abbreviations .entry)) (now (locations .entry)) (now (ranges .entry)) (now (addresses .entry)) «ranges_base» «type_units» (ownRoom (length (now (map .entry))) (length (now («range_list» .entry))) (length (now («location_list» .entry))) (length (now («string_list» .entry))) (length (now (out .entry)))))) ⌝ }
+    ensures map { λ _. ⌜ now (map .exit) ≡ mapFor (length (now (map .entry))) (collectedOf (now (section .entry)) (now (abbreviations .entry)) (now (locations .entry)) (now (ranges .entry)) (now (addresses .entry)) «ranges_base» «type_units» (ownRoom (length (now (map .entry))) (length (now («range_list» .entry))) (length (now («location_list» .entry))) (length (now («string_list» .entry))) (length (now (out .entry))))) ⌝ }
+    ensures ranges { λ _. ⌜ now («range_list» .exit) ≡ listFor rangesIn (length (now («range_list» .entry))) (collectedOf (now (section .entry)) (now (abbreviations .entry)) (now (locations .entry)) (now (ranges .entry)) (now (addresses .entry)) «ranges_base» «type_units» (ownRoom (length (now (map .entry))) (length (now («range_list» .entry))) (length (now («location_list» .entry))) (length (now («string_list» .entry))) (length (now (out .entry))))) ⌝ }
+    ensures locations { λ _. ⌜ now («location_list» .exit) ≡ listFor locationsIn (length (now («location_list» .entry))) (collectedOf (now (section .entry)) (now (abbreviations .entry)) (now (locations .entry)) (now (ranges .entry)) (now (addresses .entry)) «ranges_base» «type_units» (ownRoom (length (now (map .entry))) (length (now («range_list» .entry))) (length (now («location_list» .entry))) (length (now («string_list» .entry))) (length (now (out .entry))))) ⌝ }
+    ensures strings { λ _. ⌜ now («string_list» .exit) ≡ listFor stringsIn (length (now («string_list» .entry))) (collectedOf (now (section .entry)) (now (abbreviations .entry)) (now (locations .entry)) (now (ranges .entry)) (now (addresses .entry)) «ranges_base» «type_units» (ownRoom (length (now (map .entry))) (length (now («range_list» .entry))) (length (now («location_list» .entry))) (length (now («string_list» .entry))) (length (now (out .entry))))) ⌝ }
+    ensures output { λ _. ⌜ now (out .exit) ≡ outputFor (length (now (out .entry))) (collectedOf (now (section .entry)) (now (abbreviations .entry)) (now (locations .entry)) (now (ranges .entry)) (now (addresses .entry)) «ranges_base» «type_units» (ownRoom (length (now (map .entry))) (length (now («range_list» .entry))) (length (now («location_list» .entry))) (length (now («string_list» .entry))) (length (now (out .entry))))) ⌝ }
+{
+    let mut index = [0u64; 1024];
+    let mut offsets = [0u64; 2048];
+    let mut parents = [0u32; 2048];
+    let mut roots = [0u8; 2048];
+    let mut ends = [0u64; 2048];
+    let mut marks = [0u8; 2048];
+    let mut targets = [0u64; 8192];
+    let mut pairs = [0u32; 16384];
+    collector_collect_lent(
+        section,
+        abbreviations,
+        locations,
+        ranges,
+        addresses,
+        ranges_base,
+        type_units,
+        &mut index,
+        &mut offsets,
+        &mut parents,
+        &mut roots,
+        &mut ends,
+        &mut marks,
+        &mut targets,
+        &mut pairs,
+        map,
+        range_list,
+        location_list,
+        string_list,
+        out,
+        counts,
+    )
+}

@@ -1,0 +1,91 @@
+/* The unit collector, for hosts in C. Link libcollector.a, which `rt staticlib collector` writes (x86-64 Linux).
+ *
+ * A call thins the first unit of a section: it drops the debugging entries that nothing live needs and writes the unit anew. Every slice is a pointer and the number of its elements.
+ * A pointer is never null, also where the number is 0. What is written may overlap nothing else that is lent.
+ *
+ * Read, and the same after the call
+ *   section        the unit's section; its first unit is taken
+ *   abbreviations, locations, ranges    the sections of abbreviations, location lists and range lists, relocated
+ *   addresses      a byte an index: 0 dead, 1 live
+ *   ranges_base    added to a ranges attribute in sec_offset
+ *   type_units     0 no, any other number yes: the index lists are then absent
+ *
+ * Written, whatever it held before; zeros wherever the answer is not, all zeros after a refusal
+ *   map            12 bytes a place: old offset, new offset, depth, four big-endian bytes each, ascending
+ *   range_list, location_list, string_list    8 big-endian bytes a number, ascending without repeats
+ *   out            the new unit
+ *   counts         COLLECTOR_COUNTS bytes: see below
+ * Bytes short of a whole place or number count for nothing and end as zeros. Enough for every unit: as many bytes of out as the section has; 12 bytes of map for each byte of the section
+ * (at most two places an entry); 8 bytes of a list for each index of its kind.
+ *
+ * The answer is a refusal's number, 1 to 14, or one of the numbers below. Of an accepted answer `counts` holds seven numbers of eight big-endian bytes: entries, kept entries, map places,
+ * bytes of the new unit (these two 0 where untouched), numbers of the ranges, locations and strings list; then for each list a byte, 1 present, 0 absent (an absent list counts 0); then zeros.
+ * Where `counts` is shorter than COLLECTOR_COUNTS the answer tells so, and `counts` is zeros; all else is as it would be.
+ *
+ * Refusals: 1 header cut short, 2 a header value outside the domain, 3 abbreviations, 4 unreadable entry, 5 unreadable list or expression, 6 the address table fails, 7 a section-absolute
+ * reference, 8 a reference whose target is not kept, 9 a value that does not fit its width, 10 more entries than the tables hold, 11 more references, 12 an index list too short,
+ * 13 the map too short, 14 the output too short.
+ */
+#ifndef COLLECTOR_H
+#define COLLECTOR_H
+
+#include <stddef.h>
+#include <stdint.h>
+
+#ifdef __cplusplus
+extern "C" {
+#endif
+
+#define COLLECTOR_COUNTS 59
+
+#define COLLECTOR_UNTOUCHED 256           /* nothing is dead: the unit stays as it is; map and out are zeros */
+#define COLLECTOR_REWRITTEN 257           /* out holds the new unit */
+#define COLLECTOR_UNTOUCHED_UNCOUNTED 258 /* the same, where counts has no room */
+#define COLLECTOR_REWRITTEN_UNCOUNTED 259
+
+/* With tables of its own, for units of up to 2,048 entries and 8,192 references. */
+uint64_t collector_collect(
+    const uint8_t *section, size_t section_length,
+    const uint8_t *abbreviations, size_t abbreviations_length,
+    const uint8_t *locations, size_t locations_length,
+    const uint8_t *ranges, size_t ranges_length,
+    const uint8_t *addresses, size_t addresses_length,
+    uint64_t ranges_base, uint64_t type_units,
+    uint8_t *map, size_t map_length,
+    uint8_t *range_list, size_t range_list_length,
+    uint8_t *location_list, size_t location_list_length,
+    uint8_t *string_list, size_t string_list_length,
+    uint8_t *out, size_t out_length,
+    uint8_t *counts, size_t counts_length);
+
+/* With tables of the host's. They are scratch, and zeros after the call. The shortest of offsets, parents, roots, ends and marks is the number of entries that there is room for; the
+ * shorter of targets and half of pairs that of references. index (of the declarations of the abbreviations; as long as their highest code + 1 is best) and work (twice the entries) bound
+ * nothing: shorter ones only cost time. Lengths count elements. */
+uint64_t collector_collect_lent(
+    const uint8_t *section, size_t section_length,
+    const uint8_t *abbreviations, size_t abbreviations_length,
+    const uint8_t *locations, size_t locations_length,
+    const uint8_t *ranges, size_t ranges_length,
+    const uint8_t *addresses, size_t addresses_length,
+    uint64_t ranges_base, uint64_t type_units,
+    uint64_t *index, size_t index_length,
+    uint64_t *offsets, size_t offsets_length,
+    uint32_t *parents, size_t parents_length,
+    uint8_t *roots, size_t roots_length,
+    uint64_t *ends, size_t ends_length,
+    uint8_t *marks, size_t marks_length,
+    uint64_t *targets, size_t targets_length,
+    uint32_t *pairs, size_t pairs_length,
+    uint32_t *work, size_t work_length,
+    uint8_t *map, size_t map_length,
+    uint8_t *range_list, size_t range_list_length,
+    uint8_t *location_list, size_t location_list_length,
+    uint8_t *string_list, size_t string_list_length,
+    uint8_t *out, size_t out_length,
+    uint8_t *counts, size_t counts_length);
+
+#ifdef __cplusplus
+}
+#endif
+
+#endif

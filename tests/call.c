@@ -1,0 +1,312 @@
+/* call FILE.. : runs each bundle of each file through the C call and prints its answer as crates/collect_kept does.
+ * call --rules : checks of the call itself: counts without room, flags, lengths that are no whole places.
+ * Every slice is a block of memory of its own, exactly as long as it is lent and full of 0xa5 before the call, so that valgrind sees a byte read or written outside; sections are compared
+ * with a copy after the call, and every byte past the answer must be 0. */
+#include <stdio.h>
+#include <stdlib.h>
+#include <string.h>
+
+#include "collector.h"
+
+enum { SECTIONS = 5, LENT = 6 };
+enum { MAP, RANGES, LOCATIONS, STRINGS, OUT, COUNTS };
+
+struct bytes {
+    uint8_t *at;
+    size_t length;
+};
+
+static void fail(const char *what)
+{
+    fprintf(stderr, "call: %s\n", what);
+    exit(1);
+}
+
+static struct bytes block(size_t length)
+{
+    struct bytes b = {malloc(length + (length == 0)), length};
+    if (b.at == NULL)
+        fail("no memory");
+    memset(b.at, 0xa5, length);
+    return b;
+}
+
+static struct bytes copy(struct bytes from)
+{
+    struct bytes b = block(from.length);
+    memcpy(b.at, from.at, from.length);
+    return b;
+}
+
+static uint64_t big(const uint8_t *at, int width)
+{
+    uint64_t n = 0;
+    for (int i = 0; i < width; i++)
+        n = n << 8 | at[i];
+    return n;
+}
+
+static uint64_t count(const struct bytes *lent, int which)
+{
+    return big(lent[COUNTS].at + 8 * which, 8);
+}
+
+/* The bytes from a place on are 0. */
+static void zeros(struct bytes b, uint64_t from, const char *what)
+{
+    if (from > b.length)
+        fail(what);
+    for (size_t i = from; i < b.length; i++)
+        if (b.at[i] != 0)
+            fail(what);
+}
+
+static uint64_t call(const struct bytes *sections, uint64_t ranges_base, uint64_t type_units, struct bytes *lent)
+{
+    struct bytes s[SECTIONS];
+    for (int i = 0; i < SECTIONS; i++)
+        s[i] = copy(sections[i]);
+    uint64_t answer = collector_collect(
+        s[0].at, s[0].length, s[1].at, s[1].length, s[2].at, s[2].length, s[3].at, s[3].length, s[4].at, s[4].length,
+        ranges_base, type_units,
+        lent[MAP].at, lent[MAP].length, lent[RANGES].at, lent[RANGES].length, lent[LOCATIONS].at, lent[LOCATIONS].length,
+        lent[STRINGS].at, lent[STRINGS].length, lent[OUT].at, lent[OUT].length, lent[COUNTS].at, lent[COUNTS].length);
+    for (int i = 0; i < SECTIONS; i++) {
+        if (memcmp(s[i].at, sections[i].at, s[i].length) != 0)
+            fail("a section changed");
+        free(s[i].at);
+    }
+    return answer;
+}
+
+/* What is past the answer is zeros; a refusal leaves zeros alone. */
+static void check_zeros(uint64_t answer, const struct bytes *lent)
+{
+    if (answer < COLLECTOR_UNTOUCHED) {
+        if (answer < 1 || answer > 14)
+            fail("a number that is none");
+        for (int i = 0; i < LENT; i++)
+            zeros(lent[i], 0, "bytes after a refusal");
+        return;
+    }
+    if (lent[COUNTS].length < COLLECTOR_COUNTS) {
+        if (answer != COLLECTOR_UNTOUCHED_UNCOUNTED && answer != COLLECTOR_REWRITTEN_UNCOUNTED)
+            fail("counts without room are not told");
+        zeros(lent[COUNTS], 0, "counts without room");
+        return;
+    }
+    if (answer != COLLECTOR_UNTOUCHED && answer != COLLECTOR_REWRITTEN)
+        fail("an answer that is none");
+    zeros(lent[MAP], 12 * count(lent, 2), "bytes past the map");
+    zeros(lent[OUT], count(lent, 3), "bytes past the output");
+    for (int i = 0; i < 3; i++) {
+        zeros(lent[RANGES + i], 8 * count(lent, 4 + i), "bytes past a list");
+        uint8_t present = lent[COUNTS].at[56 + i];
+        if (present > 1 || (present == 0 && count(lent, 4 + i) != 0))
+            fail("an absent list that counts");
+    }
+    zeros(lent[COUNTS], COLLECTOR_COUNTS, "bytes past the counts");
+}
+
+static void print_list(const char *name, const struct bytes *lent, int which)
+{
+    printf(" %s ", name);
+    if (lent[COUNTS].at[56 + which] == 0) {
+        printf("absent");
+        return;
+    }
+    printf("[");
+    for (uint64_t i = 0; i < count(lent, 4 + which); i++)
+        printf("%s%llu", i == 0 ? "" : ",", (unsigned long long)big(lent[RANGES + which].at + 8 * i, 8));
+    printf("]");
+}
+
+static void print_answer(uint64_t answer, const struct bytes *lent)
+{
+    if (answer < COLLECTOR_UNTOUCHED) {
+        printf("refused %llu\n", (unsigned long long)answer);
+        return;
+    }
+    printf("%s entries %llu kept %llu map ", answer == COLLECTOR_REWRITTEN ? "rewritten" : "untouched",
+           (unsigned long long)count(lent, 0), (unsigned long long)count(lent, 1));
+    if (count(lent, 2) == 0)
+        printf("-");
+    for (uint64_t i = 0; i < count(lent, 2); i++) {
+        const uint8_t *at = lent[MAP].at + 12 * i;
+        printf("%s%llu>%llu@%llu", i == 0 ? "" : ",", (unsigned long long)big(at, 4), (unsigned long long)big(at + 4, 4), (unsigned long long)big(at + 8, 4));
+    }
+    print_list("ranges", lent, 0);
+    print_list("locations", lent, 1);
+    print_list("strings", lent, 2);
+    printf(" bytes ");
+    if (count(lent, 3) == 0)
+        printf("-");
+    for (uint64_t i = 0; i < count(lent, 3); i++)
+        printf("%02x", lent[OUT].at[i]);
+    printf("\n");
+}
+
+static void lend(struct bytes *lent, size_t map, size_t list, size_t out, size_t counts)
+{
+    lent[MAP] = block(map);
+    for (int i = 0; i < 3; i++)
+        lent[RANGES + i] = block(list);
+    lent[OUT] = block(out);
+    lent[COUNTS] = block(counts);
+}
+
+static void give_back(struct bytes *lent)
+{
+    for (int i = 0; i < LENT; i++)
+        free(lent[i].at);
+}
+
+/* The sections of a bundle: each after a four-byte length, behind the whole's length and the version byte. */
+static void sections_of(struct bytes bundle, struct bytes *sections)
+{
+    size_t at = 5;
+    for (int i = 0; i < SECTIONS; i++) {
+        if (bundle.length - at < 4)
+            fail("a bundle that is cut");
+        size_t n = big(bundle.at + at, 4);
+        at += 4;
+        if (bundle.length - at < n)
+            fail("a bundle that is cut");
+        sections[i] = (struct bytes){bundle.at + at, n};
+        at += n;
+    }
+}
+
+static void run_bundle(struct bytes bundle)
+{
+    struct bytes sections[SECTIONS], lent[LENT];
+    sections_of(bundle, sections);
+    lend(lent, 12 * 4096, 8 * 8192, 65536, COLLECTOR_COUNTS + 5);
+    uint64_t answer = call(sections, 0, 0, lent);
+    check_zeros(answer, lent);
+    print_answer(answer, lent);
+    give_back(lent);
+}
+
+static struct bytes read_file(const char *path)
+{
+    FILE *f = fopen(path, "rb");
+    if (f == NULL)
+        fail("no such file");
+    if (fseek(f, 0, SEEK_END) != 0)
+        fail("a file that can't be read");
+    long length = ftell(f);
+    rewind(f);
+    if (length < 0)
+        fail("a file that can't be read");
+    struct bytes b = block((size_t)length);
+    if (fread(b.at, 1, b.length, f) != b.length)
+        fail("a file that can't be read");
+    fclose(f);
+    return b;
+}
+
+static void run_file(const char *path)
+{
+    const char *name = strrchr(path, '/');
+    printf("== %s\n", name == NULL ? path : name + 1);
+    struct bytes b = read_file(path);
+    size_t at = 0;
+    while (b.length - at >= 4) {
+        size_t n = 4 + big(b.at + at, 4);
+        if (n > b.length - at)
+            fail("a bundle that is cut");
+        printf("-- %zu\n", at);
+        run_bundle((struct bytes){b.at + at, n});
+        at += n;
+    }
+    free(b.at);
+}
+
+/* ---- the call itself, on the five-entry unit of document 01 */
+
+static uint8_t abbreviations[] = {0x01, 0x11, 0x01, 0x00, 0x00, 0x02, 0x2e, 0x00, 0x11, 0x1b, 0x49, 0x11, 0x00, 0x00, 0x03, 0x24, 0x00, 0x00, 0x00, 0x00};
+static uint8_t unit[] = {0x12, 0, 0, 0, 5, 0, 1, 8, 0, 0, 0, 0, 0x01, 0x02, 0x00, 0x11, 0x03, 0x03, 0x02, 0x01, 0x10, 0x00};
+static uint8_t one_dead[] = {1, 0}, none_dead[] = {1, 1}, wrong[] = {2, 0};
+static uint8_t nothing[1];
+
+static uint64_t five(uint8_t *table, uint64_t type_units, struct bytes *lent)
+{
+    struct bytes sections[SECTIONS] = {{unit, sizeof unit}, {abbreviations, sizeof abbreviations}, {nothing, 0}, {nothing, 0}, {table, 2}};
+    uint64_t answer = call(sections, 0, type_units, lent);
+    check_zeros(answer, lent);
+    return answer;
+}
+
+static void expect(uint64_t is, uint64_t should, const char *what)
+{
+    if (is != should) {
+        fprintf(stderr, "call: %s: %llu, not %llu\n", what, (unsigned long long)is, (unsigned long long)should);
+        exit(1);
+    }
+}
+
+static void check_rules(void)
+{
+    struct bytes lent[LENT];
+    static const uint8_t map[] = {0, 0, 0, 12, 0, 0, 0, 12, 0, 0, 0, 0, 0, 0, 0, 13, 0, 0, 0, 13, 0, 0, 0, 1, 0, 0, 0, 17, 0, 0, 0, 16, 0, 0, 0, 1, 0, 0, 0, 21, 0, 0, 0, 17, 0, 0, 0, 1};
+    static const uint8_t thin[] = {0x0e, 0, 0, 0, 5, 0, 1, 8, 0, 0, 0, 0, 0x01, 0x02, 0x00, 0x10, 0x03, 0x00};
+
+    /* exactly full, and what is in the counts */
+    lend(lent, 48, 0, 18, COLLECTOR_COUNTS);
+    expect(five(one_dead, 0, lent), COLLECTOR_REWRITTEN, "exactly full");
+    expect((uint64_t)memcmp(lent[MAP].at, map, 48), 0, "map");
+    expect((uint64_t)memcmp(lent[OUT].at, thin, 18), 0, "output");
+    static const uint64_t counts[] = {5, 3, 4, 18, 0, 0, 0};
+    for (int i = 0; i < 7; i++)
+        expect(count(lent, i), counts[i], "count");
+    for (int i = 0; i < 3; i++)
+        expect(lent[COUNTS].at[56 + i], 1, "a present list");
+    give_back(lent);
+
+    /* counts: every length below the whole tells so, and loses nothing else */
+    for (size_t n = 0; n < COLLECTOR_COUNTS; n++) {
+        lend(lent, 48, 0, 18, n);
+        expect(five(one_dead, 0, lent), COLLECTOR_REWRITTEN_UNCOUNTED, "counts without room");
+        expect((uint64_t)memcmp(lent[MAP].at, map, 48), 0, "map without counts");
+        expect((uint64_t)memcmp(lent[OUT].at, thin, 18), 0, "output without counts");
+        expect(five(none_dead, 0, lent), COLLECTOR_UNTOUCHED_UNCOUNTED, "counts without room, untouched");
+        zeros(lent[MAP], 0, "map of an untouched unit");
+        zeros(lent[OUT], 0, "output of an untouched unit");
+        expect(five(wrong, 0, lent), 6, "a refusal without counts");
+        give_back(lent);
+    }
+
+    /* bytes short of a whole place count for nothing; one more than whole ends as zero (check_zeros) */
+    lend(lent, 47, 7, 18, COLLECTOR_COUNTS);
+    expect(five(one_dead, 0, lent), 13, "a map one byte short");
+    give_back(lent);
+    lend(lent, 59, 7, 18, COLLECTOR_COUNTS + 1);
+    expect(five(one_dead, 0, lent), COLLECTOR_REWRITTEN, "a map of eleven bytes more");
+    give_back(lent);
+    lend(lent, 48, 0, 17, COLLECTOR_COUNTS);
+    expect(five(one_dead, 0, lent), 14, "an output one byte short");
+    give_back(lent);
+
+    /* any number but 0 is a yes */
+    static const uint64_t flags[] = {1, 2, 256, (uint64_t)1 << 32, UINT64_MAX};
+    for (size_t i = 0; i < sizeof flags / sizeof *flags; i++) {
+        lend(lent, 48, 0, 18, COLLECTOR_COUNTS);
+        expect(five(one_dead, flags[i], lent), COLLECTOR_REWRITTEN, "type units");
+        for (int j = 0; j < 3; j++)
+            expect(lent[COUNTS].at[56 + j], 0, "an absent list");
+        give_back(lent);
+    }
+    printf("the call's own rules hold\n");
+}
+
+int main(int argc, char **argv)
+{
+    if (argc == 2 && strcmp(argv[1], "--rules") == 0) {
+        check_rules();
+        return 0;
+    }
+    for (int i = 1; i < argc; i++)
+        run_file(argv[i]);
+    return 0;
+}
