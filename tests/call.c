@@ -1,4 +1,5 @@
 /* call FILE.. : runs each bundle of each file through the C call and prints its answer as crates/collect_kept does.
+ * call --nested N : a unit whose one expression has N entry values, one in the other, with a reference to the terminator in the innermost, and a dead entry: what stack it takes is seen with `ulimit -s`.
  * call --rules : checks of the call itself: counts without room, flags, lengths that are no whole places.
  * Every slice is a block of memory of its own, exactly as long as it is lent and full of 0xa5 before the call, so that valgrind sees a byte read or written outside; sections are compared
  * with a copy after the call, and every byte past the answer must be 0. */
@@ -300,8 +301,66 @@ static void check_rules(void)
     printf("the call's own rules hold\n");
 }
 
+/* ---- entry values, one in the other */
+
+static size_t put_uleb(uint8_t *at, uint64_t n)
+{
+    size_t i = 0;
+    do {
+        at[i] = (uint8_t)(n & 0x7f) | (n > 0x7f ? 0x80 : 0);
+        n >>= 7;
+        i++;
+    } while (n > 0);
+    return i;
+}
+
+static uint64_t nested(size_t levels)
+{
+    static uint8_t declarations[] = {0x01, 0x24, 0x01, 0x02, 0x18, 0x00, 0x00, 0x02, 0x24, 0x00, 0x00, 0x00, 0x00};
+    static const uint8_t innermost[] = {0x99, 0, 0, 0, 0}; /* call4 of the terminator */
+    size_t room = 12 * levels + 64;
+    struct bytes expression = block(room), section = block(room);
+    size_t n = sizeof innermost, start = room - n;
+    memcpy(expression.at + start, innermost, n);
+    for (size_t i = 0; i < levels; i++) {
+        uint8_t length[10];
+        size_t w = put_uleb(length, n);
+        start -= w + 1;
+        expression.at[start] = 0xa3;
+        memcpy(expression.at + start + 1, length, w);
+        n += w + 1;
+    }
+    static const uint8_t header[] = {0, 0, 0, 0, 5, 0, 1, 8, 0, 0, 0, 0, 0x01};
+    memcpy(section.at, header, sizeof header);
+    size_t at = sizeof header;
+    at += put_uleb(section.at + at, n);
+    memcpy(section.at + at, expression.at + start, n);
+    at += n;
+    section.at[at++] = 0x02;
+    section.at[at++] = 0x00;
+    for (int i = 0; i < 4; i++) {
+        section.at[i] = (uint8_t)((at - 4) >> (8 * i));
+        section.at[at - 6 + i] = (uint8_t)((at - 1) >> (8 * i));
+    }
+    struct bytes sections[SECTIONS] = {{section.at, at}, {declarations, sizeof declarations}, {nothing, 0}, {nothing, 0}, {nothing, 0}};
+    struct bytes lent[LENT];
+    lend(lent, 12 * 4, 0, at - 1, COLLECTOR_COUNTS);
+    uint64_t answer = call(sections, 0, 0, lent);
+    check_zeros(answer, lent);
+    for (int i = 0; i < 4; i++)
+        expect(lent[OUT].at[at - 6 + i], (uint8_t)((at - 2) >> (8 * i)), "the innermost reference");
+    give_back(lent);
+    free(expression.at);
+    free(section.at);
+    return answer;
+}
+
 int main(int argc, char **argv)
 {
+    if (argc == 3 && strcmp(argv[1], "--nested") == 0) {
+        expect(nested(strtoull(argv[2], NULL, 10)), COLLECTOR_REWRITTEN, "nested entry values");
+        return 0;
+    }
     if (argc == 2 && strcmp(argv[1], "--rules") == 0) {
         check_rules();
         return 0;
