@@ -358,6 +358,8 @@ case('a padded ref_udata keeps its width', 'H 01 9000 02 02 00', '1 24 children 
 case('a padded length of an exprloc', 'H 01 8300 981300 02 02', X, rewritten(3, 2, '12>12@0 19>18@0', '01 8300 981200 02'))
 case('a padded operand', 'H 01 04 a8938000 02 02', X, rewritten(3, 2, '12>12@0 19>18@0', '01 04 a8928000 02'))
 case('a padded index', 'H 01 858000 09 02', '1 11 03/1a 03/1a; 2 24', rewritten(2, 1, '12>12@0', '01 808000 01', strings='5 9'))
+case('padded indices of each form', 'H 01 8500 8900 8700 8600 02', '1 11 03/1f02 55/23 40/22 03/1a; 2 24',
+     rewritten(2, 1, '12>12@0', '01 8000 8000 8000 8100', '9', '7', '5 6'))
 case('every form of a reference', 'H 01 1e 1f00 20000000 2100000000000000 22 02 02 02 02 02 02', '1 11 49/11 49/12 49/13 49/14 49/15; 2 24',
      rewritten(7, 6, '12>12@0 30>29@0 31>30@0 32>31@0 33>32@0 34>33@0', '01 1d 1e00 1f000000 2000000000000000 21 02 02 02 02 02'))
 case('a reference behind indirect', 'H 01 11 10 02 02', '1 11 49/16; 2 24', rewritten(3, 2, '12>12@0 16>15@0', '01 11 0f 02'))
