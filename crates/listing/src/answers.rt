@@ -11,7 +11,7 @@ use rewriting::collect::Counts;
 use rewriting::lists::ListCount;
 use rewriting::map::Mapped;
 
-fn refused(n: u8) {
+pub fn refused(n: u8) {
     number(b"refused ", n as u64);
     text(b"\n");
 }
@@ -152,8 +152,9 @@ fn two_digits(b: u8) {
     io::print_hex(STDOUT_FILENO, b as u64, 2);
 }
 
-fn hex(bytes: &[u8], n: usize) {
-    text(b" bytes ");
+// Bytes after a name, `-` where there are none.
+pub fn hex(name: &[u8], bytes: &[u8], n: usize) {
+    text(name);
     if n == 0 {
         text(b"-");
         return;
@@ -187,7 +188,7 @@ fn line(
     list(b" ranges ", ranges, ranges_count);
     list(b" locations ", locations, locations_count);
     list(b" strings ", strings, strings_count);
-    hex(out, c.bytes);
+    hex(b" bytes ", out, c.bytes);
     text(b"\n");
 }
 

@@ -6,6 +6,7 @@ use readers::cursor::Number;
 use readers::cursor::left;
 
 pub mod answers;
+pub mod cases;
 pub mod marks;
 pub mod text;
 
@@ -66,6 +67,14 @@ fn list_file(path: &[u8], what: u8) {
     let mut input = [0u8; 262144];
     let n = io::read_full(fd, &mut input);
     libc::close(fd);
+    if what == 3 {
+        cases::list_all(&input[..n]);
+        return;
+    }
+    if what == 4 {
+        answers::thin(&input[..n]);
+        return;
+    }
     list_all(&input[..n], what);
 }
 
@@ -82,7 +91,8 @@ fn list_argument(i: usize, what: u8) -> bool {
     true
 }
 
-// Prints every bundle in the files that the program's arguments name: 0 its marks, 1 the thinned unit, 2 its whole answer.
+// Prints every bundle in the files that the program's arguments name: 0 its marks, 1 the thinned unit, 2 its whole answer;
+// 3 every case of collect; 4 the thinned unit of each whole file.
 pub fn list_arguments(what: u8) {
     let mut i: usize = 1;
     while i < 10000 {

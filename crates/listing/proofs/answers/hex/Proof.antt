@@ -10,60 +10,56 @@ use Rattle.listing.proofs.answers.two_digits.Reads as two-digits-reads
 use Rattle.listing.proofs.text.text.Reads as text-reads
 
 abbrev Inv-loop : tie.InvT-loop
-Inv-loop bytes n i₀ i = Unit {0}
+Inv-loop name bytes n i₀ i = Unit {0}
 
 abbrev μ-loop : tie.MeasureT-loop
-μ-loop bytes n i₀ i = n - i
+μ-loop name bytes n i₀ i = n - i
 
--- src/answers.rt:156:10
-slice-aggregate-text : tie.Need-slice-aggregate-text Inv-loop μ-loop
-slice-aggregate-text c = search needs
-
--- src/answers.rt:156:5
+-- src/answers.rt:157:5
 text-requires : tie.Need-text-requires Inv-loop μ-loop
 text-requires c κs = search needs
 
--- src/answers.rt:158:14
-slice-aggregate-text-2 : tie.Need-slice-aggregate-text-2 Inv-loop μ-loop
-slice-aggregate-text-2 c = search needs
+-- src/answers.rt:159:14
+slice-aggregate-text : tie.Need-slice-aggregate-text Inv-loop μ-loop
+slice-aggregate-text c = search needs
 
--- src/answers.rt:158:9
+-- src/answers.rt:159:9
 text-requires-2 : tie.Need-text-requires-2 Inv-loop μ-loop
 text-requires-2 c κs = search needs
 
--- src/answers.rt:159:9
+-- src/answers.rt:160:9
 returns : tie.Need-returns Inv-loop μ-loop
 returns c = search needs
 
--- src/answers.rt:162:5
+-- src/answers.rt:163:5
 loop-holds : tie.Need-loop-holds Inv-loop μ-loop
 loop-holds c = search needs
 
--- src/answers.rt:164:13
+-- src/answers.rt:165:13
 returns-2 : tie.Need-returns-2 Inv-loop μ-loop
 returns-2 c = search needs
 
--- src/answers.rt:166:20
+-- src/answers.rt:167:20
 shared-slice-read-two-digits : tie.Need-shared-slice-read-two-digits Inv-loop μ-loop
 shared-slice-read-two-digits c = search needs
 
--- src/answers.rt:166:9
+-- src/answers.rt:167:9
 two-digits-requires : tie.Need-two-digits-requires Inv-loop μ-loop
 two-digits-requires c κs = search needs
 
--- src/answers.rt:167:9
+-- src/answers.rt:168:9
 add-i : tie.Need-add-i Inv-loop μ-loop
 add-i c = search needs
 
--- src/answers.rt:162:5
+-- src/answers.rt:163:5
 loop-less : tie.Need-loop-less Inv-loop μ-loop
 loop-less c = search needs
 
--- src/answers.rt:162:5
+-- src/answers.rt:163:5
 loop-again : tie.Need-loop-again Inv-loop μ-loop
 loop-again c = search needs
 
--- src/answers.rt:155:1
+-- src/answers.rt:156:1
 returns-3 : tie.Need-returns-3 Inv-loop μ-loop
 returns-3 c = search needs
 
@@ -73,9 +69,8 @@ hex-spec =
     (tie.spec
     Inv-loop
     μ-loop
-    slice-aggregate-text
     text-requires
-    slice-aggregate-text-2
+    slice-aggregate-text
     text-requires-2
     returns
     loop-holds

@@ -1,0 +1,454 @@
+#!/usr/bin/python3
+"""collect.py [check]: writes the cases and the expected lines of crates/collect_points, and the bundles and lines of crates/thin_points.
+
+The cases are written here, each with the point that it is about, its bytes, what it lends, and the answer that the specification gives, never from a run. With `check` nothing is written,
+and the files are compared with what would be. `collect.py names` prints the number of each case with what it is about.
+
+A case is fifteen numbers of eight bytes, big-endian (how much is lent of the index of the declarations, of the columns offsets, parents, roots, ends, marks, targets, pairs, of map, three lists
+and output; the ranges base; type units), then a bundle. What is not said is lent with something to spare, so that zeros after the answer are seen. Bytes are hexadecimal; `H` stands for the header with
+the right length (type 1, address size 8), `H4` for address size 4, `H5` for unit type 5. Abbreviations are code tag children name/form; T is a list section of 12 zeros and a table of one offset, 4."""
+import os
+import sys
+
+from marks import A5, FIVE, T, BIG, abbreviations, bundle, uleb, write
+
+SETTINGS = ('index', 'offsets', 'parents', 'roots', 'ends', 'marks', 'targets', 'pairs', 'map', 'ranges', 'locations', 'strings', 'output', 'base', 'type_units')
+ENTRY_COLUMNS = ('offsets', 'parents', 'roots', 'ends', 'marks')
+LISTS = ('ranges', 'locations', 'strings')
+cases = []
+
+
+# ---- answers
+
+def no(n):
+    return {'refused': n}
+
+
+def untouched(entries, ranges='', locations='', strings=''):
+    return {'entries': entries, 'kept': entries, 'places': '', 'unit': None, 'ranges': ranges, 'locations': locations, 'strings': strings}
+
+
+def rewritten(entries, kept, places, body, ranges='', locations='', strings=''):
+    """places: `old>new@depth ..`; body: what follows the header. A list is its numbers, or `absent`."""
+    return {'entries': entries, 'kept': kept, 'places': places, 'unit': body, 'ranges': ranges, 'locations': locations, 'strings': strings}
+
+
+NOTHING = untouched(0, 'absent', 'absent', 'absent')
+
+
+def header(body, kind):
+    rest = {'H': '0500 01 08 00000000', 'H4': '0500 01 04 00000000', 'H5': '0500 05 08 00000000 1122334455667788'}[kind]
+    rest = bytes.fromhex(rest)
+    return (len(rest) + len(body)).to_bytes(4, 'little') + rest + body
+
+
+def octets(text):
+    return text if isinstance(text, bytes) else bytes.fromhex(text)
+
+
+def numbers(text, width):
+    return b''.join(int(w).to_bytes(width, 'big') for w in text.replace('>', ' ').replace('@', ' ').split())
+
+
+def case(why, of_unit, table, answer, locations='', ranges='', addresses='', tail='', lend=None):
+    """of_unit: `H ..`, `H4 ..`, `H5 ..`, bytes for the body after H, or a raw section. lend: settings that matter, by name; `entries` and `references` for a whole table."""
+    kind = 'H'
+    if isinstance(of_unit, bytes):
+        section = header(of_unit, kind)
+    elif of_unit.startswith('H'):
+        kind, _, rest = of_unit.partition(' ')
+        section = header(octets(rest), kind)
+    else:
+        section = octets(of_unit)
+    lend = dict(lend or {})
+    refused = 'refused' in answer
+    lists = {k: b'' if refused or answer[k] == 'absent' else numbers(answer[k], 8) for k in LISTS}
+    places = b'' if refused else numbers(answer['places'], 4)
+    out = b'' if refused or answer['unit'] is None else header(octets(answer['unit']), kind)
+    given = {'index': 16, 'targets': 8, 'pairs': 16, 'base': 0, 'type_units': 0, 'map': 101 if refused else len(places) + 5, 'output': len(section if refused else out) + 3}
+    given.update({c: 8 if refused else answer['entries'] + 1 for c in ENTRY_COLUMNS})
+    given.update({k: len(lists[k]) + 11 for k in LISTS})
+    if 'entries' in lend:
+        given.update({c: lend['entries'] for c in ENTRY_COLUMNS})
+    if 'references' in lend:
+        given.update({'targets': lend['references'], 'pairs': 2 * lend['references']})
+    given.update({k: v for k, v in lend.items() if k in SETTINGS})
+    assert all(k in SETTINGS or k in ('entries', 'references') for k in lend), why
+    if refused:
+        lines = ['refused %d' % answer['refused']]
+    else:
+        counts = ['absent' if answer[k] == 'absent' else str(len(answer[k].split())) for k in LISTS]
+        lines = ['%s entries %d kept %d places %d bytes %d ranges %s locations %s strings %s' %
+                 ('untouched' if answer['unit'] is None else 'rewritten', answer['entries'], answer['kept'], len(places) // 12, len(out), *counts)]
+    for name, data in (('map', places), ('ranges', lists['ranges']), ('locations', lists['locations']), ('strings', lists['strings']), ('output', out)):
+        assert len(data) <= given[name], why
+        lines.append('%s %s' % (name, (data + bytes(given[name] - len(data))).hex() or '-'))
+    lines.append('clean')
+    parts = [section + octets(tail), abbreviations(table)] + [octets(p) for p in (locations, ranges, addresses)]
+    cases.append((why, b''.join(given[k].to_bytes(8, 'big') for k in SETTINGS) + bundle(parts), ''.join(line + '\n' for line in lines)))
+
+
+# ---- the five-entry unit
+ONE = rewritten(5, 3, '12>12@0 13>13@1 17>16@1 21>17@1', '01 020010 03 00')
+case('P1', FIVE, A5, ONE, addresses='0100')
+case('P2', FIVE, A5, rewritten(5, 1, '12>12@0 21>13@1', '01 00'), addresses='0000')
+case('P3', FIVE, A5, rewritten(5, 3, '12>12@0 16>13@1 18>14@1 21>17@1', '01 03 02010d 00'), addresses='0001')
+case('P4', FIVE, A5, untouched(5), addresses='0101')
+case('P5', FIVE, A5, no(6), addresses='0200')
+case('P6', FIVE, A5, no(6), addresses='01')
+case('P7', '', A5, NOTHING)
+
+# ---- points
+G = '1 24 49/11; 2 24'
+R = '1 11 children; 2 2e 55/23'
+L = '1 24 children 02/22; 2 24'
+M = '1 24 02/22; 2 24'
+X = '1 24 02/18; 2 24'
+O = '1 11 children; 2 2e 55/17'
+S = '1 11 children 49/11; 2 24 01/11; 3 24'
+case('2: the last kept entry ends where the unit ends', 'H 01 0f 02 02', G, rewritten(3, 2, '12>12@0 15>14@0', '01 0e 02'))
+case('11: a surplus terminator before the first entry is dropped', 'H 00 03 03', A5, rewritten(2, 1, '13>12@0', '03'))
+case('11: a list of children that is open at the end', 'H 01 03', A5, rewritten(2, 1, '12>12@0', '01'))
+case('11: a second tree', 'H 03 03', A5, rewritten(2, 1, '12>12@0', '03'))
+case('11: surplus terminators alone make no rewrite', 'H 03 00', A5, untouched(1))
+case('11: one between two trees', 'H 03 00 03', A5, rewritten(2, 1, '12>12@0', '03'))
+case('11: one behind a closed tree', 'H 01 00 00 03', A5, rewritten(2, 1, '12>12@0 13>13@1', '01 00'))
+case('11: terminators and no entry', 'H 00 00', A5, NOTHING)
+case('16: an offset at the section\'s end is an empty list', 'H 01 02 00 00', R, rewritten(2, 1, '12>12@0 15>13@1', '01 00'), ranges=T)
+case('16: past it is live', 'H 01 02 00 00', R, untouched(2, '0'), ranges='00' * 12 + '05000000')
+case('16: so is a table place that is cut', 'H 01 02 00 00', R, untouched(2, '0'), ranges=T[:-2])
+case('16: locations at the end', 'H 01 00 02 00', L, rewritten(2, 1, '12>12@0 15>14@1', '01 00 00', locations='0'), locations=T)
+case('16: locations past it', 'H 01 00 02 00', L, no(5), locations='00' * 12 + '05000000')
+case('16: a table place of locations that is cut', 'H 01 00 02 00', L, no(5), locations=T[:-2])
+case('17: an index whose place is above 64 bits', 'H 01 02 %s 00' % BIG, R, untouched(2, str(2 ** 62)), ranges=T)
+case('17: of locations', 'H 01 %s 02 00' % BIG, L, no(5), locations=T)
+case('17, 51: ranges base plus offset above 64 bits', 'H 01 02 01000000 00', O, untouched(2, 'absent'), ranges='ffff00', lend={'base': 2 ** 64 - 1})
+case('25: a dangling reference in a location list is no 8', 'H 01 00 02', M, rewritten(2, 1, '12>12@0', '01 00', locations='0'), locations=T + '0503986300 00')
+case('25, 57: one that names an entry keeps it', 'H 01 00 02', M, untouched(2, locations='0'), locations=T + '0503980e00 00')
+case('25: and the list is not rewritten', 'H 01 00 02 02', M, rewritten(3, 2, '12>12@0 15>14@0', '01 00 02', locations='0'), locations=T + '0503980f00 00')
+case('26: call2 with 0 dangles', 'H 01 03 980000 02', X, no(8))
+case('26: call4 with 0', 'H 01 05 9900000000 02', X, no(8))
+case('26: GNU_parameter_ref with 0', 'H 01 05 fa00000000 02', X, no(8))
+case('26: convert with 0 is copied', 'H 01 02 a800 02', X, rewritten(2, 1, '12>12@0', '01 02 a800'))
+case('26: so with a padded 0', 'H 01 03 a88000 02', X, rewritten(2, 1, '12>12@0', '01 03 a88000'))
+case('26: all six with 0', 'H 01 11 a40001ffa50100a60400a70400a800a900 02', X, rewritten(2, 1, '12>12@0', '01 11 a40001ffa50100a60400a70400a800a900'))
+case('26: all six with an entry', 'H 01 11 a42001ffa50120a60420a70420a820a920 02 02', X,
+     rewritten(3, 2, '12>12@0 32>31@0', '01 11 a41f01ffa5011fa6041fa7041fa81fa91f 02'))
+case('26: the GNU codes', 'H 01 0e f41d01fff5011df6041df71df91d 02 02', X, rewritten(3, 2, '12>12@0 29>28@0', '01 0e f41c01fff5011cf6041cf71cf91c 02'))
+case('26: call2, call4, GNU_parameter_ref', 'H 01 0d 981c00991c000000fa1c000000 02 02', X,
+     rewritten(3, 2, '12>12@0 28>27@0', '01 0d 981b00991b000000fa1b000000 02'))
+case('27: a terminator of a kept parent', 'H 01 0f 02 00', '1 24 children 49/11; 2 24', rewritten(2, 1, '12>12@0 15>14@1', '01 0e 00'))
+case('27: a surplus one', 'H 01 0f 02 00', G, no(8))
+case('27: that of a dead parent', 'H 01 0f 02 00', '1 24 49/11; 2 24 children', no(8))
+case('27: into the header', 'H 01 05 02', G, no(8))
+case('27: offset 0', 'H 01 00 02', G, no(8))
+case('27: inside an entry', 'H 01 0d 02', G, no(8))
+case('27: the unit\'s end', 'H 01 0f 02', G, no(8))
+case('27: beyond it', 'H 01 63 02', G, no(8))
+case('27: a dangling reference where nothing is dead', 'H 01 63', G, untouched(1))
+case('27: one of a dead entry', 'H 01 02 63 00', '1 11 children; 2 24 49/11', rewritten(2, 1, '12>12@0 15>13@1', '01 00'))
+case('28: block1 under location is copied', 'H 01 03 980e00 02', '1 24 02/0a; 2 24', rewritten(2, 1, '12>12@0', '01 03 980e00'))
+case('28: block, block1, block2, block4', 'H 01 03980e00 03980e00 0300980e00 03000000980e00 02', '1 24 02/09 02/0a 02/03 02/04; 2 24',
+     rewritten(2, 1, '12>12@0', '01 03980e00 03980e00 0300980e00 03000000980e00'))
+case('32: a sibling that is its owner\'s child', 'H 01 0e 02 10 03 00 03 00', '1 11 children 49/11; 2 24 children 01/11; 3 24',
+     rewritten(4, 3, '12>12@0 14>14@1 16>16@2 17>17@2 19>18@1', '01 0e 02 10 03 00 00'))
+case('32: one before its owner', 'H 01 0e 02 0c 03 00 03 00', '1 11 children 49/11; 2 24 children 01/11; 3 24',
+     rewritten(4, 3, '12>12@0 14>14@1 16>16@2 17>17@2 19>18@1', '01 0e 02 0c 03 00 00'))
+case('32: one in the map', 'H 01 10 13 03 02 13 03 03 00', '1 11 children 49/11 49/11; 2 24 01/11; 3 24',
+     rewritten(5, 3, '12>12@0 16>15@1 19>17@1 20>18@1', '01 0f 11 02 11 03 00'))
+case('32: a dead one: the terminator that closes the owner\'s siblings', 'H 01 0f 03 02 12 03 03 00', S, rewritten(5, 2, '12>12@0 15>14@1 19>16@1', '01 0e 02 10 00'))
+case('32: a dead one: deeper places are passed over', 'H 01 0f 13 02 12 04 03 03 00 03 00', '1 11 children 49/11 49/11; 2 24 01/11; 3 24; 4 24 children',
+     rewritten(6, 4, '12>12@0 15>15@1 17>17@1 19>18@2 20>19@2 22>20@1', '01 0f 12 02 14 04 03 00 00'))
+case('32: nothing found', 'H 01 0e 02 63 03 00', S, no(8))
+case('32: nothing found, where nothing is dead', 'H 01 0e 02 63 00', S, untouched(2))
+case('32: nothing behind it', 'H 02 0e 03', S, no(8))
+case('32: the terminator of its own children is too deep', 'H 01 0e 03 00', '1 24 children 01/11; 3 24', no(8))
+case('32: 0 finds the first entry', 'H 01 00 03 00', '1 24 children 01/11; 3 24', rewritten(2, 1, '12>12@0 15>14@1', '01 0c 00'))
+case('32: a number inside an entry', 'H 01 0e 02 0d 03 00', S, rewritten(3, 2, '12>12@0 14>14@1 17>16@1', '01 0e 02 0e 00'))
+case('32: a sibling of a dead entry', 'H 01 10 02 63 03 00', S, rewritten(3, 2, '12>12@0 16>14@1 17>15@1', '01 0e 03 00'))
+for form, old, new, width in (('11', '12', '10', 1), ('12', '1300', '1100', 2), ('13', '15000000', '13000000', 4), ('14', '1900000000000000', '1700000000000000', 8),
+                              ('15', '12', '10', 1), ('15', '948000', '928000', 3), ('16', '1113', '1111', 2), ('16', '16121500', '16121300', 4)):
+    case('32: a dead sibling in form %s, %s' % (form, old), 'H 01 0f 03 02 %s 03 03 00' % old, '1 11 children 49/11; 2 24 01/%s; 3 24' % form,
+         rewritten(5, 2, '12>12@0 15>14@1 %d>%d@1' % (18 + width, 15 + width), '01 0e 02 %s 00' % new))
+case('42: a sibling in ref_addr is copied', 'H 01 0f 03 02 15000000 03 03 00', '1 11 children 49/11; 2 24 01/10; 3 24',
+     rewritten(5, 2, '12>12@0 15>14@1 22>19@1', '01 0e 02 15000000 00'))
+case('42: ref_addr behind indirect is copied', 'H 01 10 00000000 02', '1 11 49/16; 2 24', rewritten(2, 1, '12>12@0', '01 10 00000000'))
+case('33: strx under the name of siblings', 'H 01 05 02', '1 11 01/1a; 2 24', rewritten(2, 1, '12>12@0', '01 00', strings='5'))
+case('33: strx behind indirect', 'H 01 1a 05 02', '1 11 03/16; 2 24', rewritten(2, 1, '12>12@0', '01 1a 00', strings='5'))
+case('33: rnglistx and loclistx under another name', 'H 01 09 07 02', '1 11 40/23 40/22; 2 24', rewritten(2, 1, '12>12@0', '01 00 00', '9', '7'))
+case('34: ranges in sec_offset, of a dead entry', 'H 01 07 02 00000000', '1 11 55/23; 2 24 55/17', rewritten(2, 1, '12>12@0', '01 07', 'absent'))
+case('34: of a kept entry', 'H 01 00000000 07 02', '1 11 55/17 55/23; 2 24', rewritten(2, 1, '12>12@0', '01 00000000 07', 'absent'))
+case('34: location in sec_offset', 'H 01 01 02 00000000', '1 11 02/22; 2 24 02/17', rewritten(2, 1, '12>12@0', '01 01', locations='absent'),
+     locations='00' * 12 + '0800000008000000')
+case('34: a declaration that no entry uses', 'H 01 07 02', '1 11 55/23; 2 24; 3 24 55/17', rewritten(2, 1, '12>12@0', '01 00', '7'))
+case('34: the other lists stay', 'H 01 05 07 09 02 00000000', '1 11 03/1a 55/23 40/22; 2 24 55/17', rewritten(2, 1, '12>12@0', '01 00 07 00', 'absent', '9', '5'))
+case('34: data4 makes no list absent', 'H 01 07 02 00000000 00', '1 11 children 55/23; 2 24 55/06', rewritten(2, 1, '12>12@0 19>14@1', '01 00 00', '7'))
+case('34: sec_offset under another name', 'H 01 07 02 00000000', '1 11 55/23; 2 24 40/17', rewritten(2, 1, '12>12@0', '01 00', '7'))
+case('34: where nothing is dead', 'H 01 00000000 07', '1 11 55/17 55/23', untouched(1, 'absent'))
+case('35: 12 where nothing is dead', 'H 01 00', '1 11 03/1a', no(12), lend={'ranges': 0, 'locations': 0, 'strings': 0})
+case('35: room for it', 'H 01 00', '1 11 03/1a', untouched(1, strings='0'), lend={'ranges': 0, 'locations': 0, 'strings': 8, 'map': 0, 'output': 0})
+case('35: never for an absent list', 'H 01 07 02 00000000', '1 11 55/23; 2 24 55/17', rewritten(2, 1, '12>12@0', '01 07', 'absent'), lend={'ranges': 0})
+case('35: never without entries', 'H', A5, NOTHING, lend={'ranges': 0, 'locations': 0, 'strings': 0, 'map': 0, 'output': 0, 'entries': 0, 'references': 0, 'index': 0})
+case('36: 4 of the entry that is one too many', 'H 03 04', A5, no(4), lend={'entries': 1})
+case('36: one too many', 'H 03 03', A5, no(10), lend={'entries': 1})
+case('36: 10 before its root test', 'H 01 02 02a107', '1 24; 2 34 02/18', no(10), lend={'entries': 1})
+case('36: 10 before its references', 'H 01 02 00000000', '1 24; 2 24 49/10', no(10), lend={'entries': 1})
+case('36: 7 before 11', 'H 01 0c 00000000', '1 24 49/11 49/10', no(7), lend={'references': 0})
+case('36: 5 before 11', 'H 01 0c 01ff', '1 24 49/11 02/18', no(5), lend={'references': 0})
+case('36: 11 before 4 of the next', 'H 01 0c 63', '1 24 49/11', no(11), lend={'references': 0})
+case('36: 11 before 10 of the next', 'H 01 0c 01 0c', '1 24 49/11', no(11), lend={'references': 0, 'entries': 1})
+case('36: 10 before 11 of the same', 'H 01 0c 01 0c', '1 24 49/11', no(10), lend={'references': 1, 'entries': 1})
+case('36: terminators need no room', 'H 01 00 00', A5, untouched(1), lend={'entries': 1})
+case('37: 13 before 8', 'H 01 63 02', G, no(13), lend={'map': 0})
+case('37: 13 before 14', 'H 01 63 02', G, no(13), lend={'map': 11, 'output': 0})
+case('37: 14 before 8', 'H 01 63 02', G, no(14), lend={'output': 13})
+case('37: 8', 'H 01 63 02', G, no(8), lend={'map': 12, 'output': 14})
+case('37: none of them where nothing is dead', 'H 01 63', G, untouched(1), lend={'map': 0, 'output': 0})
+case('38: sec_offset behind indirect is read as one', 'H 01 02 17 00000000 00', '1 11 children; 2 2e 55/16', rewritten(2, 1, '12>12@0 19>13@1', '01 00'), ranges='00')
+case('38: and makes no list absent', 'H 01 07 02 17 00000000 00', '1 11 children 55/23; 2 2e 55/16', rewritten(2, 1, '12>12@0 20>14@1', '01 00 00', '7'), ranges='00')
+case('41: the first ranges attribute decides', 'H 01 02 00 00 00', '1 11 children; 2 2e 55/23 55/0b', rewritten(2, 1, '12>12@0 16>13@1', '01 00'), ranges=T)
+
+# 43: a new place that does not fit. The sibling's number lies inside its owner, so the place behind the owner is found.
+NINE = '1 11 children 49/11; 2 24 01/%s 03/0a; 3 24'
+
+
+def long_owner(sibling, n, after='03 00'):
+    return bytes.fromhex('01 0e 02' + sibling) + bytes([n]) + bytes(n) + bytes.fromhex(after)
+
+
+case('43: ref1, 255', long_owner('14', 238), NINE % '11', rewritten(3, 2, '12>12@0 14>14@1 256>255@1', long_owner('ff', 238, '00')))
+case('43: ref1, 256', long_owner('14', 239), NINE % '11', no(9))
+case('43: ref1, where nothing is dead', long_owner('14', 250, '00'), NINE % '11', untouched(2))
+case('43: ref2, 256', long_owner('1400', 238), NINE % '12', rewritten(3, 2, '12>12@0 14>14@1 257>256@1', long_owner('0001', 238, '00')))
+case('43: one byte of ref_udata, 127', long_owner('14', 110), NINE % '15', rewritten(3, 2, '12>12@0 14>14@1 128>127@1', long_owner('7f', 110, '00')))
+case('43: one byte of ref_udata, 128', long_owner('14', 111), NINE % '15', no(9))
+case('43: two bytes of ref_udata, 128', long_owner('9400', 110), NINE % '15', rewritten(3, 2, '12>12@0 14>14@1 129>128@1', long_owner('8001', 110, '00')))
+case('43: behind indirect', long_owner('1114', 250), NINE % '16', no(9))
+case('37: 14 before 9', long_owner('14', 239), NINE % '11', no(14), lend={'map': 36, 'output': 256})
+case('37: 9', long_owner('14', 239), NINE % '11', no(9), lend={'map': 36, 'output': 257})
+case('37: 9 before a later 8', bytes.fromhex('01 10 0e01 02 14 fa') + bytes(250) + bytes.fromhex('03 04 63 00'),
+     '1 11 children 49/11 49/12; 2 24 01/11 03/0a; 3 24; 4 24 49/11', no(9))
+case('37: 8 before a later 9', bytes.fromhex('01 63 0f 02 14 fa') + bytes(250) + bytes.fromhex('03 00'), '1 11 children 49/11 49/11; 2 24 01/11 03/0a; 3 24', no(8))
+case('37: 9 before 8 in one entry', bytes.fromhex('01 0e 02 14 63 fa') + bytes(250) + bytes.fromhex('03 00'), '1 11 children 49/11; 2 24 01/11 49/11 03/0a; 3 24', no(9))
+case('37: 8 before 9 in one entry', bytes.fromhex('01 0e 02 63 14 fa') + bytes(250) + bytes.fromhex('03 00'), '1 11 children 49/11; 2 24 49/11 01/11 03/0a; 3 24', no(8))
+
+case('51: ranges base', 'H 01 02 00000000 00', O, rewritten(2, 1, '12>12@0 18>13@1', '01 00', 'absent'), ranges='ffff00', lend={'base': 2})
+case('51: without it', 'H 01 02 00000000 00', O, no(5), ranges='ffff00')
+case('51: up to the section\'s end', 'H 01 02 01000000 00', O, rewritten(2, 1, '12>12@0 18>13@1', '01 00', 'absent'), ranges='ffff00', lend={'base': 2})
+case('51: past it', 'H 01 02 02000000 00', O, untouched(2, 'absent'), ranges='ffff00', lend={'base': 2})
+case('51: not for rnglistx', 'H 01 02 00 00', R, rewritten(2, 1, '12>12@0 15>13@1', '01 00'), ranges=T, lend={'base': 1})
+case('51: not for locations', 'H 01 01000000 02', '1 24 02/17; 2 24', rewritten(2, 1, '12>12@0', '01 01000000', locations='absent'), locations='090009', lend={'base': 1})
+TU = '1 11 03/1a 55/23 40/22; 2 24'
+case('51: type units: lists absent, indices copied', 'H 01 05 07 09 02', TU, rewritten(2, 1, '12>12@0', '01 05 07 09', 'absent', 'absent', 'absent'),
+     lend={'type_units': 1, 'ranges': 0, 'locations': 0, 'strings': 0})
+case('51: without them', 'H 01 05 07 09 02', TU, rewritten(2, 1, '12>12@0', '01 00 00 00', '7', '9', '5'))
+case('51: type units, where nothing is dead', 'H 01 05 07 09', TU, untouched(1, 'absent', 'absent', 'absent'), lend={'type_units': 1})
+case('51: type units, references patched all the same', 'H 01 0f 02 02', G, rewritten(3, 2, '12>12@0 15>14@0', '01 0e 02', 'absent', 'absent', 'absent'), lend={'type_units': 1})
+
+
+def nested(levels, operand):
+    """An expression with a call2 in the innermost of so many entry values."""
+    out = b'\x98' + operand.to_bytes(2, 'little')
+    for _ in range(levels):
+        out = b'\xa3' + uleb(len(out)) + out
+    return uleb(len(out)) + out
+
+
+def nested_unit(levels):
+    dead = 13 + len(nested(levels, 0))
+    return b'\1' + nested(levels, dead + 1) + b'\2\2', b'\1' + nested(levels, dead) + b'\2', dead
+
+
+DEEP, THINNED, DEAD = nested_unit(3000)
+case('52: three thousand entry values in each other', DEEP, X, rewritten(3, 2, '12>12@0 %d>%d@0' % (DEAD + 1, DEAD), THINNED))
+case('53: bytes after the first unit', 'H 01 0f 02 02', G, rewritten(3, 2, '12>12@0 15>14@0', '01 0e 02'), tail='ffffffff 00', lend={'output': 15})
+case('53: they are none of its entries', 'H 01 0c', G, untouched(1), tail='02 02')
+case('53: nor named', 'H 01 0f 02', G, no(8), tail='02')
+case('55: 12 where the other lists were long enough', 'H 01 07 09 05 02', '1 11 55/23 40/22 03/1a; 2 24', no(12), lend={'ranges': 16, 'locations': 16, 'strings': 7})
+case('55: an untouched answer has its lists, no map and no output', 'H 01 07 09 05', '1 11 55/23 40/22 03/1a', untouched(1, '7', '9', '5'), lend={'map': 30, 'output': 20})
+case('55: 8 leaves no list', 'H 01 07 63 02', '1 11 03/1a 49/11; 2 24', no(8), lend={'strings': 8, 'map': 24, 'output': 24})
+case('56: two siblings in one entry', 'H 01 0f 03 02 14 1400 03 03 00', '1 11 children 49/11; 2 24 01/11 01/12; 3 24',
+     rewritten(5, 2, '12>12@0 15>14@1 21>18@1', '01 0e 02 12 1200 00'))
+case('56: any of several ranges in sec_offset', 'H 01 07 02 07 00000000', '1 11 55/23; 2 24 55/23 55/17', rewritten(2, 1, '12>12@0', '01 07', 'absent'))
+case('56: each low_pc in turn', 'H 01 02 00 01 03 00', '1 11 children; 2 2e 11/1b 11/1b; 3 24', rewritten(3, 2, '12>12@0 13>13@1 17>16@1', '01 02 00 01 00'), addresses='0001')
+
+# ---- refusals, each leaves zeros
+case('1: no length', '080000', A5, no(1))
+case('1: a length past the section, before the version', '03000000 0400', A5, no(1))
+case('1: cut inside the header', '02000000 0500', A5, no(1))
+case('1: a section one byte short', '08000000 0500 01 08 000000', A5, no(1))
+case('2: a length of 0xfffffff0', 'f0ffffff', A5, no(2))
+case('2: version 4', '08000000 0400 01 08 00000000', A5, no(2))
+case('2: version 4, and nothing after it', '02000000 0400', A5, no(2))
+case('2: unit type 4', '08000000 0500 04 08 00000000', A5, no(2))
+case('2: address size 2', '08000000 0500 01 02 00000000', A5, no(2))
+case('3: a list that is not closed', 'H 03', A5[:-3], no(3))
+case('3: no abbreviations at all', 'H', '', no(3))
+case('3: an offset past the section', '08000000 0500 01 08 15000000', A5, no(3))
+case('3: a code twice', 'H 01', '1 24; 1 24', no(3))
+case('4: an unknown code', 'H 63', A5, no(4))
+case('4: a code that is cut', 'H 03 80', A5, no(4))
+case('4: a value that is cut', 'H 01 00', '1 24 03/05', no(4))
+case('5: an unknown operation', 'H 01 01f0 02', X, no(5))
+case('5: an unknown kind in a range list', 'H 01 02 00 00', R, no(5), ranges=T + 'ff')
+case('6: no address table', 'H 01 02 00 00', '1 11 children; 2 2e 11/1b', no(6))
+case('7: ref_addr', 'H 01 00000000 02', '1 24 49/10; 2 24', no(7))
+case('7: call_ref', 'H 01 05 9a00000000 02', X, no(7))
+
+# ---- lent lengths: the five-entry unit has 5 entries, 2 references, 4 places and 18 bytes
+FULL = {'entries': 5, 'references': 2, 'map': 48, 'output': 18, 'ranges': 0, 'locations': 0, 'strings': 0}
+case('every length exactly full', FIVE, A5, ONE, addresses='0100', lend=FULL)
+case('entries one short', FIVE, A5, no(10), addresses='0100', lend=dict(FULL, entries=4))
+case('no entries', FIVE, A5, no(10), addresses='0100', lend=dict(FULL, entries=0))
+case('references one short', FIVE, A5, no(11), addresses='0100', lend=dict(FULL, references=1))
+case('no references', FIVE, A5, no(11), addresses='0100', lend=dict(FULL, references=0))
+case('47: map one byte short', FIVE, A5, no(13), addresses='0100', lend=dict(FULL, map=47))
+case('47: map one place short', FIVE, A5, no(13), addresses='0100', lend=dict(FULL, map=36))
+case('no map', FIVE, A5, no(13), addresses='0100', lend=dict(FULL, map=0))
+case('47: map one byte more', FIVE, A5, ONE, addresses='0100', lend=dict(FULL, map=49))
+case('47: map one byte short of a place more', FIVE, A5, ONE, addresses='0100', lend=dict(FULL, map=59))
+case('47: output one byte short', FIVE, A5, no(14), addresses='0100', lend=dict(FULL, output=17))
+case('no output', FIVE, A5, no(14), addresses='0100', lend=dict(FULL, output=0))
+case('47: output one byte more', FIVE, A5, ONE, addresses='0100', lend=dict(FULL, output=19))
+case('13 before 14', FIVE, A5, no(13), addresses='0100', lend=dict(FULL, map=47, output=17))
+case('6 before 13', FIVE, A5, no(6), addresses='01', lend=dict(FULL, map=0, output=0))
+case('no index of the declarations', FIVE, A5, ONE, addresses='0100', lend=dict(FULL, index=0))
+case('an index of one', FIVE, A5, ONE, addresses='0100', lend=dict(FULL, index=1))
+case('untouched needs no map and no output', FIVE, A5, untouched(5), addresses='0101', lend=dict(FULL, map=0, output=0))
+for column in ENTRY_COLUMNS:
+    case('59: the column %s is one short' % column, FIVE, A5, no(10), addresses='0100', lend=dict(FULL, **{column: 4}))
+    case('59: the column %s is longer' % column, FIVE, A5, ONE, addresses='0100', lend=dict(FULL, **{column: 9}))
+case('59: the column targets is one short', FIVE, A5, no(11), addresses='0100', lend=dict(FULL, targets=1))
+case('59: the column pairs is one number short', FIVE, A5, no(11), addresses='0100', lend=dict(FULL, pairs=3))
+case('59: the column pairs has an odd number', FIVE, A5, ONE, addresses='0100', lend=dict(FULL, pairs=5))
+case('repeats and dangling references count', 'H 01 63 63 0c', '1 24 49/11 49/11 49/11', untouched(1), lend={'references': 3})
+case('one short for them', 'H 01 63 63 0c', '1 24 49/11 49/11 49/11', no(11), lend={'references': 2})
+case('those of a location list count', 'H 01 00 02', M, no(11), locations=T + '0503986300 00', lend={'references': 0})
+case('those of nested entry values count', 'H 01 05 a303 980c00', X, no(11), lend={'references': 0})
+case('those of dead entries count', 'H 01 02 63 00', '1 11 children; 2 24 49/11', no(11), lend={'references': 0})
+case('call2 with 0 counts', 'H 01 03 980000', X, no(11), lend={'references': 0})
+case('convert with 0 does not', 'H 01 02 a800', X, untouched(1), lend={'references': 0})
+case('a sibling does not', 'H 01 63', '1 24 01/11', untouched(1), lend={'references': 0})
+
+# two numbers in each list
+TWO = '1 11 55/23 55/23 40/22 40/22 03/1a 03/1a; 3 24'
+NUMBERS = 'H 01 07 03 04 02 09 01 03'
+RANKED = rewritten(2, 1, '12>12@0', '01 01 00 01 00 01 00', '3 7', '2 4', '1 9')
+EXACT = {'ranges': 16, 'locations': 16, 'strings': 16, 'map': 12, 'output': 19}
+case('lists exactly full', NUMBERS, TWO, RANKED, lend=EXACT)
+for which in LISTS:
+    for size in (15, 8, 0):
+        case('47: 12 for %s, %d bytes' % (which, size), NUMBERS, TWO, no(12), lend=dict(EXACT, **{which: size}))
+    case('47: %s, 23 bytes' % which, NUMBERS, TWO, RANKED, lend=dict(EXACT, **{which: 23}))
+    case('12: %s, where nothing is dead' % which, NUMBERS[:-3], TWO, no(12), lend=dict(EXACT, **{which: 15}))
+case('no list', NUMBERS, TWO, no(12), lend=dict(EXACT, ranges=0, locations=0, strings=0))
+case('12 before 13 and 14', NUMBERS, TWO, no(12), lend=dict(EXACT, strings=15, map=0, output=0))
+case('13 then', NUMBERS, TWO, no(13), lend=dict(EXACT, map=11, output=0))
+case('14 then', NUMBERS, TWO, no(14), lend=dict(EXACT, output=18))
+case('12 before 8', 'H 01 05 63 02', '1 11 03/1a 49/11; 2 24', no(12), lend={'strings': 7})
+case('lists exactly full, where nothing is dead', NUMBERS[:-3], TWO, untouched(1, '3 7', '2 4', '1 9'), lend=dict(EXACT, map=0, output=0))
+
+# ---- shapes
+case('an empty section', '', '', NOTHING)
+case('a header alone', 'H', A5, NOTHING)
+case('a header alone, type 5', 'H5', A5, NOTHING)
+case('padded codes and terminators keep their width', 'H 818000 02 8000', '1 11 children; 2 24', rewritten(2, 1, '12>12@0 16>15@1', '818000 8000'))
+case('a padded terminator of a dead parent', 'H 01 02 8000 00', '1 11 children; 2 24 children', rewritten(2, 1, '12>12@0 16>13@1', '01 00'))
+case('a padded ref_udata keeps its width', 'H 01 9000 02 02 00', '1 24 children 49/15; 2 24', rewritten(3, 2, '12>12@0 16>15@1 17>16@1', '01 8f00 02 00'))
+case('a padded length of an exprloc', 'H 01 8300 981300 02 02', X, rewritten(3, 2, '12>12@0 19>18@0', '01 8300 981200 02'))
+case('a padded operand', 'H 01 04 a8938000 02 02', X, rewritten(3, 2, '12>12@0 19>18@0', '01 04 a8928000 02'))
+case('a padded index', 'H 01 858000 09 02', '1 11 03/1a 03/1a; 2 24', rewritten(2, 1, '12>12@0', '01 808000 01', strings='5 9'))
+case('padded indices of each form', 'H 01 8500 8900 8700 8600 02', '1 11 03/1f02 55/23 40/22 03/1a; 2 24',
+     rewritten(2, 1, '12>12@0', '01 8000 8000 8000 8100', '9', '7', '5 6'))
+case('every form of a reference', 'H 01 1e 1f00 20000000 2100000000000000 22 02 02 02 02 02 02', '1 11 49/11 49/12 49/13 49/14 49/15; 2 24',
+     rewritten(7, 6, '12>12@0 30>29@0 31>30@0 32>31@0 33>32@0 34>33@0', '01 1d 1e00 1f000000 2000000000000000 21 02 02 02 02 02'))
+case('a reference behind indirect', 'H 01 11 10 02 02', '1 11 49/16; 2 24', rewritten(3, 2, '12>12@0 16>15@0', '01 11 0f 02'))
+case('behind two', 'H 01 16 15 11 02 02', '1 11 49/16; 2 24', rewritten(3, 2, '12>12@0 17>16@0', '01 16 15 10 02'))
+case('a signature is copied', 'H 01 1122334455667788 02', '1 24 49/20; 2 24', rewritten(2, 1, '12>12@0', '01 1122334455667788'))
+case('implicit_const under type is no reference', 'H 01 02', '01 24 00 49 21 0d 00 00 02 24 00 00 00 00', rewritten(2, 1, '12>12@0', '01'))
+case('other values are copied', 'H 01 616200 33 3333 33333333 3333333333333333 33333333333333333333333333333333 ff7f b300 02',
+     '1 24 03/08 03/19 03/0b 03/05 03/06 03/07 03/1e 03/0d 03/0f; 2 24',
+     rewritten(2, 1, '12>12@0', '01 616200 33 3333 33333333 3333333333333333 33333333333333333333333333333333 ff7f b300'))
+case('references at three levels of entry values', 'H 01 0d 981c00 a308 981d00 a303 981f00 02 02 02 02 02', X,
+     rewritten(6, 4, '12>12@0 28>27@0 29>28@0 31>29@0', '01 0d 981b00 a308 981c00 a303 981d00 02 02 02'))
+case('GNU_entry_value', 'H 01 05 f303 981400 02 02', X, rewritten(3, 2, '12>12@0 20>19@0', '01 05 f303 981300 02'))
+case('a dangling reference in an entry value', 'H 01 05 a303 986300 02', X, no(8))
+case('an exprloc under any name', 'H 01 03 981200 02 02', '1 24 40/18; 2 24', rewritten(3, 2, '12>12@0 18>17@0', '01 03 981100 02'))
+case('an exprloc behind indirect', 'H 01 18 03 981300 02 02', '1 24 02/16; 2 24', rewritten(3, 2, '12>12@0 19>18@0', '01 18 03 981200 02'))
+case('operands that only look like references', 'H 01 0b 0e981300000000000008a8 02', X, rewritten(2, 1, '12>12@0', '01 0b 0e981300000000000008a8'))
+case('several trees', 'H 01 10 02 00 02 03 00 03', '1 24 49/11; 2 24 children; 3 24', rewritten(5, 3, '12>12@0 16>14@0 17>15@1 18>16@1', '01 0e 02 03 00'))
+case('two lists of children open at the end', 'H 01 0f 03 02 03', '1 11 children 49/11; 2 24 children; 3 24', rewritten(4, 3, '12>12@0 15>14@1 16>15@2', '01 0e 02 03'))
+case('a parent that is retained for its child', 'H 01 10 02 03 03 00 03 00', '1 11 children 49/11; 2 24 children; 3 24',
+     rewritten(5, 3, '12>12@0 14>14@1 16>15@2 17>16@2 19>17@1', '01 0f 02 03 00 00'))
+case('a dead subtree of three levels', 'H 01 02 02 03 00 00 03 00', '1 11 children; 2 24 children; 3 24', rewritten(5, 1, '12>12@0 19>13@1', '01 00'))
+case('unit type 5', 'H5 01 020019 03 03 020118 00', A5, rewritten(5, 3, '20>20@0 21>21@1 25>24@1 29>25@1', '01 020018 03 00'), addresses='0100')
+case('unit type 5, into its header', 'H5 01 0c 02', G, no(8))
+case('address size 4', 'H4 01 02 00000000 02 ffffffff 02 01000000 00', '1 11 children; 2 2e 11/01; 3 24', rewritten(4, 2, '12>12@0 23>13@1 28>18@1', '01 02 01000000 00'))
+case('address size 4 in an expression', 'H4 01 08 0398989898 981700 02 02', X, rewritten(3, 2, '12>12@0 23>22@0', '01 08 0398989898 981600 02'))
+case('strings in every form, repeats, out of order', 'H 01 05 0300 090000 05000000 07 03 02', '1 11 03/25 03/26 03/27 03/28 03/1a 03/1f02; 2 24',
+     rewritten(2, 1, '12>12@0', '01 01 0000 030000 01000000 02 00', strings='3 5 7 9'))
+case('strings of a dead entry', 'H 01 05 02 03 00', '1 11 children 03/1a; 2 24 03/1a', rewritten(2, 1, '12>12@0 16>14@1', '01 00 00', strings='5'))
+case('strings of two entries', 'H 01 0f 09 02 04 03 00', '1 11 children 49/11 03/1a; 2 24 03/1a; 3 24',
+     rewritten(3, 2, '12>12@0 15>15@1 18>17@1', '01 0f 01 02 00 00', strings='4 9'))
+case('the largest index', 'H 01 ffffffffffffffffff01 02', '1 11 03/1a; 2 24', rewritten(2, 1, '12>12@0', '01 80808080808080808000', strings=str(2 ** 64 - 1)))
+case('ranges out of order, repeated', 'H 01 09 04 09 00 02', '1 11 55/23 55/23 55/23 55/23; 2 24', rewritten(2, 1, '12>12@0', '01 02 01 02 00', '0 4 9'))
+case('an address index is no list index', 'H 01 07 02', '1 11 11/1b; 2 24', rewritten(2, 1, '12>12@0', '01 07'))
+case('constx and addrx in an expression are copied', 'H 01 04 a105a206 02', X, rewritten(2, 1, '12>12@0', '01 04 a105a206'))
+
+# ---- 50: padded numbers, in the order of crates/collect_points/src/main.rt: value, width, length, bytes or none where refused (15)
+PADDED = [(0, 1, 1, '00'), (16, 2, 3, '900000'), (127, 1, 3, '7f0000'), (128, 1, 3, None), (128, 2, 3, '800100'), (0, 0, 3, None), (0, 4, 3, None), (0, 3, 3, '808000'),
+          (0, 1, 0, None), (0, 0, 0, None),
+          (1, 10, 12, '818080808080808080000000'), (1, 11, 12, None), (2 ** 64 - 1, 10, 10, 'ffffffffffffffffff01'), (2 ** 64 - 1, 9, 10, None),
+          (2 ** 63, 10, 12, '808080808080808080010000'), (2 ** 63 - 1, 9, 9, 'ffffffffffffffff7f'), (2 ** 63 - 1, 10, 9, None)]
+
+
+def padded_lines():
+    return ''.join('padded %d in %d of %d %s %s\n' % (v, w, n, 'refused 15' if b is None else 'written', '00' * n if b is None and n else b or '-') for v, w, n, b in PADDED)
+
+
+# ---- 45, 46: what thin prints, a file each
+def thin_cases():
+    def one(of_unit, table, addresses=''):
+        return bundle([header(octets(of_unit), 'H') if of_unit is not None else b'', abbreviations(table), b'', b'', octets(addresses)])
+    five = one(FIVE[2:], A5, '0100')
+    largest = 65536 - len(one(FIVE[2:], A5))
+    lines = 'entries 5 kept 3\n12 R 12\n13 L 13\n16 D -\n17 L 16\n18 D -\n'
+    deep, _, dead = nested_unit(17000)
+    return [('P1', five, lines),
+            ('P4', one(FIVE[2:], A5, '0101'), 'entries 5 kept 5\n12 R 12\n13 L 13\n16 L 16\n17 L 17\n18 L 18\n'),
+            ('P6', one(FIVE[2:], A5, '01'), 'refused 6\n'),
+            ('P7', one(None, A5), 'entries 0 kept 0\n'),
+            ('header-alone', one('', A5), 'entries 0 kept 0\n'),
+            ('only-terminators', one('0000', A5), 'entries 0 kept 0\n'),
+            ('dangling', one('01 63 02', G), 'refused 8\n'),
+            ('named-first', one('01 0c 02', G), 'entries 2 kept 1\n12 L 12\n14 D -\n'),
+            ('empty', b'', 'bundle\n'),
+            ('cut-length', five[:3], 'bundle\n'),
+            ('one-more', five + b'\0', 'bundle\n'),
+            ('one-less', five[:-1], 'bundle\n'),
+            ('left-over', (len(five) - 3).to_bytes(4, 'big') + five[4:] + b'\0', 'bundle\n'),
+            ('another-version', five[:4] + b'\2' + five[5:], 'bundle\n'),
+            ('too-far', five[:5] + b'\0\0\0\xff' + five[9:], 'bundle\n'),
+            ('65536', one(FIVE[2:], A5, b'\1\0' + bytes(largest - 2)), lines),
+            ('65537', one(FIVE[2:], A5, b'\1\0' + bytes(largest - 1)), 'bundle\n'),
+            ('52-deep', one(deep, X), 'entries 3 kept 2\n12 R 12\n%d D -\n%d L %d\n' % (dead, dead + 1, dead))]
+
+
+def files():
+    made = {'collect_points/args': b'points.cases\n', 'collect_points/data/points.cases': b''.join(data for _, data, _ in cases)}
+    made['collect_points/stdout'] = ('== points.cases\n' + ''.join('-- %d\n%s' % (n + 1, lines) for n, (_, _, lines) in enumerate(cases)) + padded_lines()).encode()
+    thin = thin_cases()
+    made['thin_points/args'] = ''.join('%s.bundle\n' % name for name, _, _ in thin).encode()
+    made['thin_points/stdout'] = ''.join('== %s.bundle\n%s' % (name, lines) for name, _, lines in thin).encode()
+    made.update({'thin_points/data/%s.bundle' % name: data for name, data, _ in thin})
+    return made
+
+
+if __name__ == '__main__':
+    if sys.argv[1:] == ['names']:
+        for n, (why, _, _) in enumerate(cases):
+            print('%d %s' % (n + 1, why))
+        sys.exit(0)
+    wrong = write(files(), sys.argv[1:] == ['check'])
+    print('collect: %d cases, %d padded numbers; thin: %d files' % (len(cases), len(PADDED), len(thin_cases())))
+    sys.exit(wrong > 0)
