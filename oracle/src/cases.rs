@@ -3,8 +3,8 @@
 use std::collections::BTreeSet;
 
 /// Families that are made of nothing given, in the order of README.md.
-pub const FAMILIES: [&str; 13] = [
-    "small", "bytes", "valid", "lists", "expressions", "trees", "deep", "refused", "headers", "siblings", "many", "damaged", "listed",
+pub const FAMILIES: [&str; 14] = [
+    "small", "bytes", "valid", "lists", "expressions", "trees", "deep", "refused", "headers", "siblings", "many", "damaged", "listed", "sums",
 ];
 /// Families of given bundles.
 pub const OF_FILES: [&str; 2] = ["tables", "damaged-files"];
@@ -192,6 +192,8 @@ struct Style {
     trees: bool,
     /// What the original is known to answer otherwise.
     listed: bool,
+    /// Indices of lists whose place is above 64 bits, often.
+    far: bool,
     /// A fault of each kind, 0 for none.
     fault: u8,
 }
@@ -249,6 +251,10 @@ impl Maker<'_> {
 
     /// An index into a table of lists: in it, seldom not. Four times an index stays below 2^64, but where differences are wanted.
     fn index(&mut self, count: usize, seldom: usize) -> u64 {
+        if self.style.far && self.dice.rare(4) {
+            let near = u64::MAX >> 2;
+            return near.wrapping_add(self.dice.below(8) as u64).wrapping_sub(self.dice.of(&[1, 3, 4, 40]));
+        }
         if self.dice.rare(seldom) {
             return self.dice.number() >> if self.style.listed { 0 } else { 3 };
         }
@@ -1038,8 +1044,9 @@ fn headers(dice: &mut Dice) -> Parts {
 
 /// Siblings whose first target dies, so that a later place is searched for: one that fits the width, or lies just behind what fits.
 fn siblings(dice: &mut Dice) -> Parts {
-    let form = dice.of(&[0x11, 0x11, 0x11, 0x12, 0x13, 0x14, 0x15, 0x15, 0x15]);
+    let form = dice.of(&[0x11, 0x11, 0x11, 0x12, 0x13, 0x14, 0x15, 0x15, 0x15, 0x18]);
     let width = match form {
+        0x18 => 2,
         0x11 => 1,
         0x12 => 2,
         0x13 => 4,
@@ -1065,6 +1072,7 @@ fn siblings(dice: &mut Dice) -> Parts {
         body.push(dice.of(&[12, 99]));
     }
     body.extend(match form {
+        0x18 => vec![1, dice.of(&[0x96, 0xff])],
         0x15 => uleb(target as u64, width - 1),
         _ => target.to_le_bytes()[..width].to_vec(),
     });
@@ -1166,6 +1174,7 @@ impl<'a> Cases<'a> {
             }
             "deep" => deep(dice),
             "refused" => refused(dice),
+            "sums" => structured(dice, Style { lists: true, far: true, ..style }),
             "headers" => headers(dice),
             "siblings" => siblings(dice),
             "many" => many(dice),

@@ -1,7 +1,7 @@
 //! The port's C call and the original on the same cases, in one process; README.md has the rules. Every result is compared: the number that
 //! comes back, counts, map, lists, output, every byte that is lent and not written, and that what is only read stays as it was.
 
-use oracle::cases::{bundle, unbundle, Cases, Dice, Parts, FAMILIES};
+use oracle::cases::{bundle, unbundle, Cases, Dice, Parts, FAMILIES, OF_FILES};
 use oracle::expected::{expect, Expected, Plan, Room};
 use oracle::judge::{hex, judge, said, Answer, Setting};
 use std::collections::{BTreeMap, BTreeSet};
@@ -11,10 +11,11 @@ use std::panic;
 use std::sync::atomic::{AtomicUsize, Ordering};
 use std::sync::Mutex;
 
-const USAGE: &str = "usage: differ [--seed N] [--count N] [--threads N] [--blocks] [--save FOLDER] [FAMILY ..] [-- BUNDLE ..]
-       differ --lines < BUNDLES
-Cases of each family, all that need nothing given if none is named; of the bundles where there are some: tables, damaged-files. --blocks: what is
-lent is a block of memory of its own, nothing around it. --lines: the port's answer for each of the bundles on standard input.";
+const USAGE: &str = "usage: differ [--seed N] [--count N] [--threads N] [--blocks] [--save FOLDER] [FAMILY .. | --only-files] [-- BUNDLE ..]
+       differ --lines [--type-units] [--ranges-base N] < BUNDLES
+So many cases of each family (of many a fiftieth, of tables and damaged-files a fifth); all families if none is named. --blocks: what is lent is a
+block of memory of its own, nothing around it. --save: where cases that differ are left. --lines: the port's answer for each of the bundles
+on standard input.";
 
 extern "C" {
     fn collector_collect(
@@ -191,7 +192,7 @@ fn call(parts: &Parts, setting: Setting, lengths: &Lengths, manner: Manner) -> L
                     )*
                 };
             }
-            check!(index, offsets, parents, roots, ends, marks, targets, pairs);let _ = &mut work;
+            check!(index, offsets, parents, roots, ends, marks, targets, pairs, work);
             number
         }
     };
@@ -426,7 +427,7 @@ fn reduced(parts: &Parts, with: Setting, seed: u64, blocks: bool) -> Parts {
 #[derive(Default)]
 struct Tally {
     cases: usize,
-    /// By the answer of the first call, where it is the original's own; and of the second.
+    /// By the port's answer in the first call, and in the second.
     first: BTreeMap<String, usize>,
     second: BTreeMap<String, usize>,
     listed: BTreeMap<String, usize>,
@@ -436,13 +437,12 @@ struct Tally {
 impl Tally {
     fn add(&mut self, ended: &Ended) {
         self.cases += 1;
+        *self.first.entry(ended.first.clone()).or_default() += 1;
         *self.second.entry(ended.second.clone()).or_default() += 1;
         if ended.different.is_some() {
             self.different += 1;
         } else if let Some(rules) = &ended.listed {
             *self.listed.entry(rules.clone()).or_default() += 1;
-        } else {
-            *self.first.entry(ended.first.clone()).or_default() += 1;
         }
     }
 
@@ -471,7 +471,13 @@ static AT: [AtomicUsize; 8] = [const { AtomicUsize::new(0) }; 8];
 fn run_part(family: &str, given: &[Parts], options: &Options, thread: usize, saved: &Mutex<usize>) -> Tally {
     let mut tally = Tally::default();
     let Some(mut cases) = Cases::new(family, options.seed, given) else { return tally };
-    for i in 0..options.count {
+    // Large units: fewer.
+    let count = match family {
+        "many" => options.count.div_ceil(50),
+        "tables" | "damaged-files" => options.count.div_ceil(5),
+        _ => options.count,
+    };
+    for i in 0..count {
         let mine = i % options.threads == thread;
         if !mine && family != "small" {
             continue;
@@ -514,16 +520,16 @@ fn report(family: &str, i: usize, parts: &Parts, with: Setting, seed: u64, what:
     let _ = fs::write(format!("{path}.txt"), text);
 }
 
-const FIRST: [&str; 11] = ["rewritten", "untouched", "1", "2", "3", "4", "5", "6", "7", "8", "9"];
+const FIRST: [&str; 13] = ["rewritten", "untouched", "1", "2", "3", "4", "5", "6", "7", "8", "9", "10", "11"];
 const SECOND: [&str; 5] = ["10", "11", "12", "13", "14"];
 
 fn row(name: &str, tally: &Tally) -> String {
     let of = |counts: &BTreeMap<String, usize>, k: &str| counts.get(k).copied().unwrap_or(0);
     let mut cells = vec![name.to_string(), tally.cases.to_string()];
     cells.extend(FIRST.iter().map(|k| of(&tally.first, k).to_string()));
+    cells.extend(SECOND.iter().map(|k| of(&tally.second, k).to_string()));
     cells.push(tally.listed.values().sum::<usize>().to_string());
     cells.push(tally.different.to_string());
-    cells.extend(SECOND.iter().map(|k| (of(&tally.second, k) + of(&tally.first, k)).to_string()));
     format!("| {} |", cells.join(" | "))
 }
 
@@ -532,6 +538,7 @@ fn run(families: &[String], given: &[Parts], options: &Options) -> bool {
     let mut total = Tally::default();
     let saved = Mutex::new(0);
     for family in families {
+        let started = std::time::Instant::now();
         let mut tally = Tally::default();
         std::thread::scope(|scope| {
             let saved = &saved;
@@ -552,11 +559,11 @@ fn run(families: &[String], given: &[Parts], options: &Options) -> bool {
                 }
             }
         });
-        eprintln!("{}", row(family, &tally));
+        eprintln!("{} {:?}", row(family, &tally), started.elapsed());
         rows.push(row(family, &tally));
         total.merge(tally);
     }
-    println!("| family | cases | {} | listed | different | {} |", FIRST.join(" | "), SECOND.join(" | "));
+    println!("| family | cases | {} | then {} | listed | different |", FIRST.join(" | "), SECOND.join(" | "));
     println!("|{}", "---|".repeat(4 + FIRST.len() + SECOND.len()));
     for row in rows {
         println!("{row}");
@@ -575,10 +582,10 @@ fn run(families: &[String], given: &[Parts], options: &Options) -> bool {
 }
 
 /// The port's answer in words, with room for everything.
-fn line(parts: &Parts) -> String {
+fn line(parts: &Parts, with: Setting) -> String {
     let size = parts[0].len() + 1;
     let lengths = Lengths { map: 12 * size, lists: [8 * size; 3], output: size, counts: COUNTS, tables: None };
-    let left = call(parts, Setting::default(), &lengths, Manner { around: 16, fill: 0xa5, yes: 1 });
+    let left = call(parts, with, &lengths, Manner { around: 16, fill: 0xa5, yes: 1 });
     if let Some(wrong) = left.wrong {
         return format!("wrong: {wrong}");
     }
@@ -603,14 +610,14 @@ fn line(parts: &Parts) -> String {
     format!("{kind} entries {} kept {} {}", count(0), count(1), answer.shown())
 }
 
-fn lines() -> io::Result<()> {
+fn lines(with: Setting) -> io::Result<()> {
     let mut all = Vec::new();
     io::stdin().read_to_end(&mut all)?;
     let mut rest = &all[..];
     while let Some((length, after)) = rest.split_first_chunk::<4>() {
         let size = u32::from_be_bytes(*length) as usize;
         let parts = after.get(..size).and_then(|_| unbundle(&rest[..4 + size]));
-        println!("{}", parts.as_ref().map_or("bundle".to_string(), line));
+        println!("{}", parts.as_ref().map_or("bundle".to_string(), |p| line(p, with)));
         rest = after.get(size..).unwrap_or(&[]);
     }
     Ok(())
@@ -657,7 +664,8 @@ fn main() {
     let mut options = Options { seed: 1, count: 1000, threads: 2, blocks: false, save: "different".to_string() };
     let mut families = Vec::new();
     let mut given = Vec::new();
-    let mut files = false;
+    let (mut files, mut only, mut in_lines) = (false, false, false);
+    let mut with = Setting::default();
     let mut args = std::env::args().skip(1);
     while let Some(arg) = args.next() {
         let mut number = || args.next().and_then(|n| n.parse().ok()).unwrap_or_else(|| usage());
@@ -669,25 +677,26 @@ fn main() {
                     std::process::exit(1)
                 }
             },
-            "--lines" => {
-                let child = std::thread::Builder::new().stack_size(1 << 30).spawn(lines).expect("a thread");
-                std::process::exit(i32::from(!matches!(child.join(), Ok(Ok(())))))
-            }
+            "--lines" => in_lines = true,
+            "--type-units" => with.type_units = true,
+            "--ranges-base" => with.ranges_base = number() as usize,
             "--seed" => options.seed = number(),
             "--count" => options.count = number() as usize,
             "--threads" => options.threads = (number() as usize).clamp(1, 8),
             "--blocks" => options.blocks = true,
             "--save" => options.save = args.next().unwrap_or_else(|| usage()),
+            "--only-files" => only = true,
             "--" => files = true,
             _ if arg.starts_with('-') => usage(),
             _ => families.push(arg),
         }
     }
+    if in_lines {
+        let child = std::thread::Builder::new().stack_size(1 << 30).spawn(move || lines(with)).expect("a thread");
+        std::process::exit(i32::from(!matches!(child.join(), Ok(Ok(())))))
+    }
     if families.is_empty() {
-        families = match given.is_empty() {
-            true => FAMILIES.iter().map(|f| f.to_string()).collect(),
-            false => vec!["tables".to_string(), "damaged-files".to_string()],
-        };
+        families = FAMILIES.iter().filter(|_| !only).chain(OF_FILES.iter().filter(|_| !given.is_empty())).map(|f| f.to_string()).collect();
     }
     if families.iter().any(|f| Cases::new(f, 1, &given).is_none()) {
         usage();
