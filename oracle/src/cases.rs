@@ -3,8 +3,9 @@
 use std::collections::BTreeSet;
 
 /// Families that are made of nothing given, in the order of README.md.
-pub const FAMILIES: [&str; 14] = [
-    "small", "bytes", "valid", "lists", "expressions", "trees", "deep", "refused", "headers", "siblings", "many", "damaged", "listed", "sums",
+pub const FAMILIES: [&str; 18] = [
+    "small", "bytes", "valid", "lists", "expressions", "trees", "deep", "refused", "headers", "declarations", "numbers", "operations", "kinds",
+    "siblings", "many", "damaged", "listed", "sums",
 ];
 /// Families of given bundles.
 pub const OF_FILES: [&str; 2] = ["tables", "damaged-files"];
@@ -1131,6 +1132,214 @@ fn many(dice: &mut Dice) -> Parts {
     parts
 }
 
+/// A number that is short, or long in one of the ways that matter: padded, just within 64 bits, just above, unfinished or too long.
+fn edge(dice: &mut Dice) -> Vec<u8> {
+    if dice.rare(3) {
+        return vec![dice.below(20) as u8];
+    }
+    let width = dice.of(&[1, 2, 2, 3, 3, 4, 5, 8, 9, 9, 10, 10, 10, 11]);
+    let low = dice.of(&[0x80, 0x80, 0x80, 0xff, 0x81, 0x8c, 0x8d]);
+    let middle = if low == 0xff { 0xff } else { 0x80 };
+    let mut out = vec![middle; width];
+    out[0] = low;
+    out[width - 1] = dice.of(&[0, 0, 0, 1, 1, 2, 3, 4, 0x3f, 0x40, 0x7e, 0x7f]);
+    out
+}
+
+/// A unit of three entries: the second's abbreviation has this tag and these attributes, and this is its value.
+fn of_value(tag: u8, specs: &[u8], value: &[u8]) -> Parts {
+    let mut parts = of_body(&[&[1, 2], value, &[3, 0]].concat(), &[1, 0]);
+    parts[1] = [&[1, 0x11, 1, 0, 0, 2, tag, 0], specs, &[0, 0, 3, 0x24, 0, 0, 0, 0]].concat();
+    parts
+}
+
+/// A list section with one list.
+fn one_list(held: &[u8]) -> Vec<u8> {
+    [&[0; 12][..], &[4, 0, 0, 0], held].concat()
+}
+
+/// Numbers at the edges of what can be read, in every place that has one.
+fn numbers(dice: &mut Dice) -> Parts {
+    let mut number = edge(dice);
+    let second = edge(dice);
+    let more = dice.below(4);
+    let after = dice.bytes(more);
+    let tag = dice.of(&[0x24, 0x2e, 0x34]);
+    match dice.below(8) {
+        // the code of an entry, or a terminator
+        0 => {
+            let mut parts = of_value(tag, &[], &[]);
+            parts[0].splice(13..14, number);
+            let length = parts[0].len() as u32 - 4;
+            parts[0][..4].copy_from_slice(&length.to_le_bytes());
+            parts
+        }
+        // a value, or the length of one
+        1 | 2 => {
+            let form = dice.of(&[0x09, 0x0d, 0x0f, 0x15, 0x15, 0x18, 0x1a, 0x1b, 0x22, 0x23]);
+            let name = dice.of(&[0x01, 0x02, 0x03, 0x11, 0x49, 0x55]);
+            if matches!(form, 0x09 | 0x18) {
+                number.extend(after);
+            }
+            let mut parts = of_value(tag, &[name, form], &number);
+            parts[2] = one_list(&[0]);
+            parts[3] = one_list(&[0]);
+            parts
+        }
+        // the number of a form, and a value of it
+        3 => {
+            let form = dice.of(&[0x0b, 0x0f, 0x11, 0x15, 0x16, 0x17, 0x18, 0x1a, 0x21, 0x00, 0x02]);
+            let more = dice.below(4);
+            let mut value = uleb(form, more);
+            if dice.rare(3) {
+                value = number;
+            }
+            value.extend(dice.of(&[&[0x0c][..], &[0, 0, 0, 0], &[0x0b, 1], &[0x8b, 0, 1], &[0x8b, 0x80, 0, 1], &[0x8b, 0x80, 0x80, 0, 1]]));
+            of_value(tag, &[dice.of(&[0x01, 0x02, 0x49, 0x55, 0x03]), 0x16], &value)
+        }
+        // an operand, also in an entry value
+        4 | 5 => {
+            let code = dice.of(&[0x10, 0x11, 0x23, 0x70, 0x8f, 0x90, 0x91, 0x92, 0x93, 0x9d, 0x9e, 0xa0, 0xa1, 0xa2, 0xa3, 0xa4, 0xa5, 0xa6, 0xa8, 0xfb, 0xfc]);
+            let fixed: &[u8] = match code {
+                0xa0 => &[0, 0, 0, 0],
+                0xa6 => &[4],
+                _ => &[],
+            };
+            let mut expression = [&[code], fixed, &number, &second, &after].concat();
+            if dice.rare(4) {
+                expression = [&[0xa3], &uleb(expression.len() as u64, 0)[..], &expression].concat();
+            }
+            let name = dice.of(&[0x02, 0x40]);
+            if dice.rare(3) {
+                let mut parts = of_value(tag, &[name, 0x22], &[0]);
+                parts[2] = one_list(&[&[5], &uleb(expression.len() as u64, 0)[..], &expression, &[0]].concat());
+                return parts;
+            }
+            of_value(tag, &[name, 0x18], &[&uleb(expression.len() as u64, 0)[..], &expression].concat())
+        }
+        // lists
+        6 => {
+            let mut parts = of_value(0x2e, &[0x55, 0x23], &[0]);
+            parts[3] = one_list(&[&[dice.of(&[1, 2, 3, 4])], &number[..], &second, &[0]].concat());
+            parts
+        }
+        _ => {
+            let mut parts = of_value(tag, &[0x02, 0x22], &[0]);
+            parts[2] = one_list(&[&[dice.of(&[1, 2, 3, 4, 5])], &number[..], &second, &[1, 0x96, 0]].concat());
+            parts
+        }
+    }
+}
+
+/// Tables of abbreviations, every number of them at its edges.
+fn declarations(dice: &mut Dice) -> Parts {
+    let seldom = dice.of(&[6, 20, 60]);
+    let number = |dice: &mut Dice, usual: u64| {
+        if dice.rare(seldom) {
+            match dice.below(3) {
+                0 => edge(dice),
+                1 => {
+                    let n = dice.of(&[0, 1, 0x7f, 0x80, 0x3fff, 0x4000, 0xffff, 0x1_0000]);
+                    uleb(n, dice.below(3))
+                }
+                _ => uleb(usual, dice.below(4)),
+            }
+        } else {
+            uleb(usual, 0)
+        }
+    };
+    let mut table = Vec::new();
+    let count = dice.of(&[0, 1, 1, 2, 3]);
+    for code in 1..=count {
+        let again = if dice.rare(seldom) { 1 } else { code };
+        table.extend(number(dice, again));
+        table.extend(number(dice, 0x24));
+        table.push(if dice.rare(seldom) { dice.of(&[2, 0x80, 0xff, 1]) } else { 0 });
+        for _ in 0..dice.below(3) {
+            let form = dice.of(&[0x0b, 0x19, 0x21, 0x49]);
+            table.extend(number(dice, 0x03));
+            table.extend(number(dice, form));
+            if form == 0x21 {
+                table.extend(if dice.rare(2) { edge(dice) } else { vec![dice.next() as u8 & 0x7f] });
+            }
+        }
+        table.extend(number(dice, 0));
+        table.extend(number(dice, 0));
+    }
+    if !dice.rare(seldom) {
+        table.extend(number(dice, 0));
+    }
+    let body = [&[1, 0, 0][..], &[1], &[2, 0], &[], &[0]][dice.below(5)].to_vec();
+    let mut parts = of_body(&body, &[]);
+    if dice.rare(8) {
+        let offset = (dice.below(table.len() + 3) as u32).to_le_bytes();
+        parts[0][8..12].copy_from_slice(&offset);
+    }
+    parts[1] = table;
+    parts
+}
+
+/// Expressions of operations of any code, with operands of any bytes: mostly 0x30, an operation of its own, and as an offset that of the last entry.
+fn operations(dice: &mut Dice) -> Parts {
+    let mut expression = Vec::new();
+    for _ in 0..dice.of(&[1, 1, 1, 2, 3]) {
+        expression.push(dice.next() as u8);
+        for _ in 0..dice.below(10) {
+            expression.push(match dice.below(12) {
+                0 => dice.next() as u8,
+                1 => dice.of(&[0, 1, 2, 4, 12, 13, 0xb0]),
+                _ => 0x30,
+            });
+        }
+    }
+    if dice.rare(4) {
+        expression = vec![dice.next() as u8, 0x30, 0, 0, 0, 0x30];
+        let keep = 1 + dice.below(6);
+        expression.truncate(keep);
+    }
+    let held = [&uleb(expression.len() as u64, 0)[..], &expression].concat();
+    let tag = dice.of(&[0x34, 0x2e, 0x2e, 0x24]);
+    let name = dice.of(&[0x02, 0x40]);
+    let in_list = dice.rare(3);
+    // The first entry, a dead one, the one that holds the expression and fills up to 0x30, the last.
+    let value = if in_list { vec![0] } else { held.clone() };
+    let fill = 32usize.saturating_sub(value.len());
+    let body = [&[1, 3, 2], &value[..], &[fill as u8], &vec![0; fill], &[3, 0]].concat();
+    let count = dice.below(60);
+    let table = address_table(dice, count);
+    let mut parts = of_body(&body, &table);
+    let specs: &[u8] = if in_list { &[0x02, 0x22, 0x03, 0x0a] } else { &[name, 0x18, 0x03, 0x0a] };
+    let root: &[u8] = if dice.rare(4) { &[] } else { &[0x11, 0x19] };
+    parts[1] = [&[1, 0x11, 1, 0, 0, 2, tag, 0], specs, root, &[0, 0, 3, 0x24, 0, 0, 0, 0]].concat();
+    parts[2] = one_list(&[&[5], &held[..], &[0]].concat());
+    if dice.rare(4) {
+        parts[0][7] = 4;
+    }
+    parts
+}
+
+/// Lists of entries of any kind, with operands of any bytes.
+fn kinds(dice: &mut Dice) -> Parts {
+    let mut list = Vec::new();
+    for _ in 0..dice.of(&[0, 1, 1, 2, 3]) {
+        list.push(if dice.rare(12) { dice.next() as u8 } else { dice.below(10) as u8 });
+        for _ in 0..dice.of(&[0, 1, 2, 2, 3, 5, 9, 17]) {
+            list.push(if dice.rare(4) { dice.next() as u8 } else { dice.of(&[0, 0, 0, 1, 1, 2, 3, 0x96]) });
+        }
+    }
+    list.extend(vec![0; dice.below(3)]);
+    let ranges = dice.rare(2);
+    let (name, index, tag) = if ranges { (0x55, 0x23, 0x2e) } else { (0x02, 0x22, dice.of(&[0x34, 0x2e, 0x24])) };
+    let mut parts = if dice.rare(3) { of_value(tag, &[name, 0x17], &[16, 0, 0, 0]) } else { of_value(tag, &[name, index], &[0]) };
+    parts[if ranges { 3 } else { 2 }] = one_list(&list);
+    if dice.rare(4) {
+        parts[0][7] = 4;
+    }
+    let count = dice.below(5);
+    parts[4] = address_table(dice, count);
+    parts
+}
+
 /// A given unit with another address table: as long, seldom shorter or with a wrong byte.
 fn varied(dice: &mut Dice, parts: &mut Parts) {
     let count = parts[4].len();
@@ -1176,6 +1385,10 @@ impl<'a> Cases<'a> {
             "refused" => refused(dice),
             "sums" => structured(dice, Style { lists: true, far: true, ..style }),
             "headers" => headers(dice),
+            "declarations" => declarations(dice),
+            "numbers" => numbers(dice),
+            "operations" => operations(dice),
+            "kinds" => kinds(dice),
             "siblings" => siblings(dice),
             "many" => many(dice),
             "damaged" => {

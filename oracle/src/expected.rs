@@ -260,6 +260,7 @@ pub fn expect(parts: [&[u8]; 5], setting: Setting, judged: &Judged) -> Expected 
                 Change::Base(n) => base.ranges_base = n,
             }
         }
+        assert!(base.ranges_base != with.ranges_base || next != now, "the changes change nothing");
         let again = judge::judge([&next[0], &next[1], &next[2], &next[3], &next[4]], base);
         changed = Some((next, base, again));
     }

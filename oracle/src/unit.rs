@@ -128,11 +128,13 @@ pub(crate) fn read(parts: [&[u8]; 5], met: usize) -> gimli::Result<Option<Unit>>
 /// Where the form numbers of an abbreviation's attributes start, in a table that can be read.
 pub(crate) fn form_places(table: &[u8], from: usize, code: u64) -> Option<Vec<usize>> {
     let mut at = from;
+    // The value is cut to 64 bits, for a constant may be a SLEB128.
     let mut next = || {
         let start = at;
-        let (value, width) = uleb(table.get(at..)?)?;
+        let width = 1 + table.get(at..)?.iter().position(|b| b & 0x80 == 0)?;
         at += width;
-        Some((value, start))
+        let value = table[start..at].iter().take(9).enumerate().fold(0, |n, (i, b)| n | u64::from(b & 0x7f) << (7 * i));
+        Some((value | if width == 10 { u64::from(table[at - 1]) << 63 } else { 0 }, start))
     };
     loop {
         let found = next()?.0;

@@ -326,8 +326,14 @@ fn parts_of(parts: &Parts) -> [&[u8]; 5] {
     [&parts[0], &parts[1], &parts[2], &parts[3], &parts[4]]
 }
 
-/// One case: the original, what follows from it, and two calls of the port.
+/// One case; a panic, which neither side may show here, is a difference.
 fn one(parts: &Parts, setting: Setting, seed: u64, blocks: bool) -> Ended {
+    panic::catch_unwind(|| compared(parts, setting, seed, blocks))
+        .unwrap_or_else(|p| Ended { different: Some(format!("panic: {}", said(p))), ..Ended::default() })
+}
+
+/// The original, what follows from it, and two calls of the port.
+fn compared(parts: &Parts, setting: Setting, seed: u64, blocks: bool) -> Ended {
     let judged = judge(parts_of(parts), setting);
     let expected = expect(parts_of(parts), setting, &judged);
     let dice = &mut Dice(seed);
