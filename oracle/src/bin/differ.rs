@@ -11,10 +11,10 @@ use std::panic;
 use std::sync::atomic::{AtomicUsize, Ordering};
 use std::sync::Mutex;
 
-const USAGE: &str = "usage: differ [--seed N] [--count N] [--threads N] [--blocks] [--save FOLDER] [FAMILY .. | --only-files] [-- BUNDLE ..]
+const USAGE: &str = "usage: differ [--seed N] [--count N] [--threads N] [--blocks] [--quiet | --save FOLDER] [FAMILY .. | --only-files] [-- BUNDLE ..]
        differ --lines [--type-units] [--ranges-base N] < BUNDLES
 So many cases of each family (of many a fiftieth, of tables and damaged-files a fifth); all families if none is named. --blocks: what is lent is a
-block of memory of its own, nothing around it. --save: where cases that differ are left. --lines: the port's answer for each of the bundles
+block of memory of its own, nothing around it. --save: where cases that differ are left; --quiet: they are only counted. --lines: the port's answer for each of the bundles
 on standard input.";
 
 extern "C" {
@@ -468,6 +468,8 @@ struct Options {
     count: usize,
     threads: usize,
     blocks: bool,
+    /// Differences are only counted.
+    quiet: bool,
     save: String,
 }
 
@@ -501,7 +503,7 @@ fn run_part(family: &str, given: &[Parts], options: &Options, thread: usize, sav
         if let Some(what) = &ended.different {
             let mut saved = saved.lock().unwrap();
             *saved += 1;
-            if *saved <= 20 {
+            if *saved <= 20 && !options.quiet {
                 report(family, i, &parts, with, seed, what, options);
             }
         }
@@ -667,7 +669,7 @@ fn main() {
         eprintln!("{USAGE}");
         std::process::exit(2)
     };
-    let mut options = Options { seed: 1, count: 1000, threads: 2, blocks: false, save: "different".to_string() };
+    let mut options = Options { seed: 1, count: 1000, threads: 2, blocks: false, quiet: false, save: "different".to_string() };
     let mut families = Vec::new();
     let mut given = Vec::new();
     let (mut files, mut only, mut in_lines) = (false, false, false);
@@ -690,6 +692,7 @@ fn main() {
             "--count" => options.count = number() as usize,
             "--threads" => options.threads = (number() as usize).clamp(1, 8),
             "--blocks" => options.blocks = true,
+            "--quiet" => options.quiet = true,
             "--save" => options.save = args.next().unwrap_or_else(|| usage()),
             "--only-files" => only = true,
             "--" => files = true,
