@@ -240,7 +240,12 @@ fn enough(dice: &mut Dice, expected: &Expected) -> Lengths {
     let exact = dice.rare(2);
     let mut more = |n: usize| if exact { n } else { n + dice.of(&[0, 1, 7, 8, 11, 12, 13, 40]) };
     let lengths = Lengths { map: more(map), lists: lists.map(&mut more), output: more(output), counts: COUNTS, tables: None };
-    Lengths { counts: COUNTS + dice.of(&[0, 0, 0, 1, 9]), ..lengths }
+    // Tables of the caller's sometimes, and mostly where the call's own would be full.
+    let references = expected.references.iter().sum();
+    let full = expected.met > OWN.0 || references > OWN.1;
+    let lent = if full { !dice.rare(4) } else { dice.rare(8) };
+    let tables = lent.then(|| tables(dice, expected.met, references));
+    Lengths { counts: COUNTS + dice.of(&[0, 0, 0, 1, 9]), tables, ..lengths }
 }
 
 /// Lent tables with room for just so many.
