@@ -56,6 +56,14 @@ fn main() {
     // 6. The module that sees gc.rs's private names.
     text.push_str(&format!("\n#[path = {:?}]\npub(crate) mod probe;\n", format!("{here}/src/probe.rs")));
 
+    if env::var_os("CARGO_FEATURE_PORT").is_some() {
+        println!("cargo:rerun-if-env-changed=COLLECTOR");
+        let archive = env::var("COLLECTOR").unwrap_or_else(|_| format!("{here}/../target/staticlib/libcollector.a"));
+        assert!(Path::new(&archive).exists(), "no archive {archive} (rt staticlib collector writes it; COLLECTOR names another)");
+        println!("cargo:rerun-if-changed={archive}");
+        println!("cargo:rustc-link-arg-bin=differ={archive}");
+    }
+
     let out = env::var("OUT_DIR").unwrap();
     let file = format!("{out}/gc.rs");
     fs::write(&file, text).unwrap();

@@ -2,13 +2,13 @@
 """bundles.py OBJECT OUT: makes a bundle of the first unit of an object.
 
 With split DWARF the unit is that of OBJECT's .dwo file, or of its own .dwo sections; else that of .debug_info, relocated.
-The address table has one byte, 1, for each address of .debug_addr. A bundle of more than 65,536 bytes is not made."""
+The address table has one byte, 1, for each address of .debug_addr. A bundle of more than 65,536 bytes (or what MOST says) is not made."""
 import os
 import sys
 from elftools.elf.elffile import ELFFile
 from elftools.elf.relocation import RelocationHandler
 
-MOST = 65536
+MOST = int(os.environ.get('MOST', 65536))
 
 # pyelftools knows no relocations of thread-local offsets; any value serves here: that of the symbol and what is there.
 R64, R32 = RelocationHandler._RELOCATION_RECIPES_X64, RelocationHandler._RELOCATION_RECIPES_X86

@@ -1,62 +1,26 @@
-//! Which of the listed differences a case can show, told from the input and the marks, never from the answer.
+//! Which of the listed differences a case can show, told from the input and the marks, never from the answer; and how the input is to be
+//! changed so that the original reads what the port reads.
 
+use crate::judge::Setting;
+use crate::unit::{self, fixed, uleb, Slice, Unit};
 use gimli::{EndianSlice, Operation, Reader, RunTimeEndian};
 use std::collections::{BTreeMap, BTreeSet, HashMap};
 
-type Slice<'a> = EndianSlice<'a, RunTimeEndian>;
-
-struct Attribute {
-    name: u16,
-    /// The form found, behind indirect too.
-    form: u16,
-    /// Where the value starts, behind form numbers, and where it ends.
-    at: usize,
-    end: usize,
-}
-
-/// An entry, or a terminator, of the unit.
-struct Item {
-    start: usize,
-    end: usize,
-    /// Tag, whether there are children, and attributes; none for a terminator.
-    entry: Option<(u16, bool, Vec<Attribute>)>,
-}
-
-pub(crate) struct Case<'a> {
-    pub(crate) parts: [&'a [u8]; 5],
-    pub(crate) type_units: bool,
-    pub(crate) ranges_base: usize,
+pub struct Case<'a> {
+    pub parts: [&'a [u8]; 5],
+    pub setting: Setting,
     /// How many entries were met.
-    pub(crate) met: usize,
+    pub met: usize,
     /// Final marks, empty where something was refused before.
-    pub(crate) marks: &'a [(usize, char)],
+    pub marks: &'a [(usize, char)],
 }
 
-/// The specification's number for the header, 0 where it is fine.
-fn header(section: &[u8]) -> u8 {
-    let Some((length, rest)) = section.split_first_chunk::<4>() else { return 1 };
-    let length = u32::from_le_bytes(*length);
-    if length >= 0xffff_fff0 {
-        return 2;
-    }
-    let Some(unit) = rest.get(..length as usize) else { return 1 };
-    let fields: [(usize, &dyn Fn(&[u8]) -> bool); 4] =
-        [(2, &|u| u[..2] == [5, 0]), (3, &|u| matches!(u[2], 1 | 5)), (4, &|u| matches!(u[3], 4 | 8)), (8, &|_| true)];
-    for (need, right) in fields {
-        if unit.len() < need {
-            return 1;
-        }
-        if !right(unit) {
-            return 2;
-        }
-    }
-    u8::from(unit[2] == 5 && unit.len() < 16)
-}
-
-fn uleb(bytes: &[u8]) -> Option<(u64, usize)> {
-    let mut reader = EndianSlice::new(bytes, RunTimeEndian::Little);
-    let value = reader.read_uleb128().ok()?;
-    Some((value, bytes.len() - reader.len()))
+/// What makes the original read as the port does. No width changes.
+pub(crate) enum Change {
+    /// A byte of a part: part, place, byte.
+    Byte(usize, usize, u8),
+    /// The ranges base.
+    Base(usize),
 }
 
 fn natural(mut n: u64) -> usize {
@@ -68,120 +32,80 @@ fn natural(mut n: u64) -> usize {
     width
 }
 
-fn fixed(bytes: &[u8]) -> u64 {
-    bytes.iter().rev().fold(0, |n, b| n << 8 | u64::from(*b))
-}
-
-/// Whether an operation is met that one side knows and the other does not: 0xed and 0xfd.
-fn odd_operation(expression: Slice<'_>, encoding: gimli::Encoding) -> bool {
-    let mut operations = gimli::Expression(expression).operations(encoding);
-    loop {
-        match operations.next() {
-            Ok(None) => return false,
-            Ok(Some(Operation::WasmLocal { .. } | Operation::WasmGlobal { .. } | Operation::WasmStack { .. })) => return true,
-            Ok(Some(Operation::EntryValue { expression })) if odd_operation(expression, encoding) => return true,
-            Ok(Some(_)) => {}
-            Err(gimli::Error::InvalidExpression(code)) => return code.0 == 0xfd,
-            Err(_) => return false,
-        }
-    }
-}
-
-/// The items up to the last entry that was met.
-fn items(case: &Case<'_>, unit: &gimli::UnitHeader<Slice<'_>>, table: &gimli::Abbreviations) -> gimli::Result<Vec<Item>> {
-    let mut found = Vec::new();
-    let mut met = 0;
-    let mut entries = unit.entries_raw(table, None)?;
-    while !entries.is_empty() {
-        let start = entries.next_offset().0;
-        let Some(abbreviation) = (match entries.read_abbreviation() {
-            Ok(a) => a,
-            Err(_) => return Ok(found),
-        }) else {
-            found.push(Item { start, end: entries.next_offset().0, entry: None });
-            continue;
-        };
-        if met == case.met {
-            return Ok(found);
-        }
-        met += 1;
-        let mut attributes = Vec::new();
-        for spec in abbreviation.attributes() {
-            let mut at = entries.next_offset().0;
-            if entries.read_attribute(*spec).is_err() {
-                return Ok(found);
+/// The first operation that one side knows and the other does not, 0xed and 0xfd: its place, and an operation of the same operands that both
+/// take as the port takes this one.
+fn odd_operation(expression: Slice<'_>, encoding: gimli::Encoding) -> Option<(usize, u8)> {
+    let mut rest = expression;
+    while !rest.is_empty() {
+        let place = expression.len() - rest.len();
+        match Operation::parse(&mut rest, encoding) {
+            Ok(Operation::WasmLocal { .. } | Operation::WasmGlobal { .. } | Operation::WasmStack { .. }) => return Some((place, 0xff)),
+            Ok(Operation::EntryValue { expression: inner }) => {
+                let start = expression.len() - rest.len() - inner.len();
+                if let Some((within, code)) = odd_operation(inner, encoding) {
+                    return Some((start + within, code));
+                }
             }
-            let end = entries.next_offset().0;
-            let mut form = spec.form().0;
-            while form == 0x16 {
-                let Some((number, width)) = uleb(&case.parts[0][at..end]) else { return Ok(found) };
-                form = number as u16;
-                at += width;
-            }
-            attributes.push(Attribute { name: spec.name().0, form, at, end });
+            Ok(_) => {}
+            Err(gimli::Error::InvalidExpression(code)) if code.0 == 0xfd => return Some((place, 0x9a)),
+            Err(_) => return None,
         }
-        let entry = Some((abbreviation.tag().0, abbreviation.has_children(), attributes));
-        found.push(Item { start, end: entries.next_offset().0, entry });
     }
-    Ok(found)
+    None
 }
 
-pub(crate) fn rules(case: &Case<'_>) -> BTreeSet<&'static str> {
-    let mut rules = BTreeSet::new();
-    if case.parts[0].is_empty() {
-        return rules;
-    }
-    match header(case.parts[0]) {
-        0 => {}
-        2 => {
-            rules.insert("header");
-            return rules;
-        }
-        _ => return rules,
-    }
-    let _ = read(case, &mut rules);
-    rules
-}
-
-fn read(case: &Case<'_>, rules: &mut BTreeSet<&'static str>) -> gimli::Result<()> {
-    let reader = |i: usize| EndianSlice::new(case.parts[i], RunTimeEndian::Little);
-    let empty = EndianSlice::new(&[][..], RunTimeEndian::Little);
-    let section = gimli::DebugInfo::from(reader(0));
-    let Some(unit) = section.units().next()? else { return Ok(()) };
-    let table = unit.abbreviations(&gimli::DebugAbbrev::from(reader(1)))?;
-    let items = items(case, &unit, &table)?;
+/// What of the listed is read, entry by entry, with the changes for each.
+pub(crate) fn reading(case: &Case<'_>, unit: &Unit) -> Vec<(&'static str, Vec<Change>)> {
     let bytes = case.parts[0];
-    let encoding = unit.encoding();
-    let lists = gimli::LocationLists::new(gimli::DebugLoc::from(empty), gimli::DebugLocLists::from(reader(2)));
-    let odd = |part: &[u8]| odd_operation(EndianSlice::new(part, RunTimeEndian::Little), encoding);
-
-    // What is read, entry by entry.
+    let encoding = unit.encoding;
+    let reader = |part| EndianSlice::new(part, RunTimeEndian::Little);
+    let section = reader(case.parts[2]);
+    let lists = gimli::LocationLists::new(gimli::DebugLoc::from(reader(&[][..])), gimli::DebugLocLists::from(section));
+    let mut found = Vec::new();
     let (mut range_base, mut location_base) = (12u64, 12u64);
-    for item in &items {
-        let Some((tag, _, attributes)) = &item.entry else { continue };
-        for a in attributes.iter().filter(|a| *tag == 0x11 && a.form == 0x17) {
+    for item in &unit.items {
+        let Some(entry) = &item.entry else { continue };
+        for a in entry.attributes.iter().filter(|a| entry.tag == 0x11 && a.form == 0x17) {
             match a.name {
                 0x74 => range_base = fixed(&bytes[a.at..a.end]),
                 0x8c => location_base = fixed(&bytes[a.at..a.end]),
                 _ => {}
             }
         }
-        for a in attributes {
+        for (i, a) in entry.attributes.iter().enumerate() {
             let value = &bytes[a.at..a.end];
+            // The low seven bits of the form's number become others.
+            let form = |low: u8| {
+                let (part, place) = match a.number {
+                    Some(place) => (0, place),
+                    None => {
+                        let from = fixed(&bytes[8..12]) as usize;
+                        (1, unit::form_places(case.parts[1], from, entry.code).map_or(0, |p| p[i]))
+                    }
+                };
+                vec![Change::Byte(part, place, case.parts[part][place] & 0x80 | low)]
+            };
             let past = |base: u64| uleb(value).is_some_and(|(i, _)| u128::from(base) + 4 * u128::from(i) > u64::MAX.into());
+            // An index that is as far out, without a sum above 64 bits.
+            let smaller = || {
+                let index = uleb(value).map_or(0, |v| v.0) >> 3;
+                padded(index, value.len()).into_iter().enumerate().map(|(i, b)| Change::Byte(0, a.at + i, b)).collect()
+            };
             let mut list = None;
             match (a.form, a.name) {
-                (0x1f01 | 0x1f20 | 0x1f21, _) => drop(rules.insert("form")),
-                (0x18, 0x01) => drop(rules.insert("sibling-exprloc")),
-                (0x06, 0x02) => drop(rules.insert("data4")),
-                (0x06, 0x55) if *tag == 0x2e => drop(rules.insert("data4")),
-                (0x23, 0x55) if *tag == 0x2e && past(range_base) => drop(rules.insert("sum")),
-                (0x22, 0x02) if past(location_base) => drop(rules.insert("sum")),
-                (0x17, 0x55) if *tag == 0x2e && fixed(value).checked_add(case.ranges_base as u64).is_none() => drop(rules.insert("sum")),
+                (0x1f01 | 0x1f20 | 0x1f21, _) => found.push(("form", form(0x7f))),
+                (0x18, 0x01) => found.push(("sibling-exprloc", form(0x02))),
+                (0x06, 0x02) => found.push(("data4", form(0x0e))),
+                (0x06, 0x55) if entry.tag == 0x2e => found.push(("data4", form(0x0e))),
+                (0x23, 0x55) if entry.tag == 0x2e && past(range_base) => found.push(("sum", smaller())),
+                (0x22, 0x02) if past(location_base) => found.push(("sum", smaller())),
+                (0x17, 0x55) if entry.tag == 0x2e && fixed(value).checked_add(case.setting.ranges_base as u64).is_none() => {
+                    found.push(("sum", vec![Change::Base(1 << 63)]))
+                }
                 (0x18, _) => {
                     let skip = uleb(value).map_or(0, |v| v.1);
-                    if odd(&value[skip..]) {
-                        rules.insert("operation");
+                    if let Some((place, code)) = odd_operation(reader(&value[skip..]), encoding) {
+                        found.push(("operation", vec![Change::Byte(0, a.at + skip + place, code)]));
                     }
                 }
                 (0x17, 0x02) => list = Some(fixed(value) as usize),
@@ -200,24 +124,39 @@ fn read(case: &Case<'_>, rules: &mut BTreeSet<&'static str>) -> gimli::Result<()
                     | StartEnd { data, .. } | StartLength { data, .. } | AddressOrOffsetPair { data, .. } => data.0,
                     BaseAddressx { .. } | BaseAddress { .. } => continue,
                 };
-                if odd_operation(expression, encoding) {
-                    rules.insert("operation");
+                if let Some((place, code)) = odd_operation(expression, encoding) {
+                    found.push(("operation", vec![Change::Byte(2, expression.offset_from(section) + place, code)]));
                 }
             }
         }
     }
+    found
+}
 
-    // What is written, where something is dead.
+/// A ULEB128 of this width, which is enough.
+pub(crate) fn padded(mut value: u64, width: usize) -> Vec<u8> {
+    let mut out = Vec::new();
+    for i in 0..width {
+        out.push(value as u8 & 0x7f | if i + 1 < width { 0x80 } else { 0 });
+        value >>= 7;
+    }
+    out
+}
+
+/// What of the listed is written, where something is dead.
+pub(crate) fn writing(case: &Case<'_>, unit: &Unit) -> BTreeSet<&'static str> {
+    let mut rules = BTreeSet::new();
+    let bytes = case.parts[0];
     let marks: HashMap<usize, char> = case.marks.iter().copied().collect();
     if !marks.values().any(|m| *m == 'D') {
-        return Ok(());
+        return rules;
     }
-    let kept = |item: &Item| marks.get(&item.start).is_some_and(|m| *m != 'D');
+    let kept = |item: &unit::Item| marks.get(&item.start).is_some_and(|m| *m != 'D');
     let mut map: BTreeMap<usize, (usize, usize)> = BTreeMap::new();
     let mut open: Vec<bool> = Vec::new();
-    let mut place = unit.size_of_header();
-    let mut owners: Vec<(&Item, usize)> = Vec::new();
-    for item in &items {
+    let mut place = unit.first;
+    let mut owners: Vec<(&unit::Item, usize)> = Vec::new();
+    for item in &unit.items {
         match &item.entry {
             None => {
                 if open.pop() == Some(true) {
@@ -228,26 +167,26 @@ fn read(case: &Case<'_>, rules: &mut BTreeSet<&'static str>) -> gimli::Result<()
                     place += 1;
                 }
             }
-            Some((_, children, _)) => {
+            Some(entry) => {
                 if kept(item) {
                     map.insert(item.start, (place, open.len()));
                     owners.push((item, open.len()));
                     place += item.end - item.start;
                 }
-                if *children {
+                if entry.children {
                     open.push(kept(item));
                 }
             }
         }
     }
-    if items.last().is_some_and(|i| i.entry.is_some() && kept(i)) {
+    if unit.items.last().is_some_and(|i| i.entry.is_some() && kept(i)) {
         rules.insert("last");
     }
     for (item, depth) in owners {
-        let Some((_, _, attributes)) = &item.entry else { continue };
-        for a in attributes {
+        let Some(entry) = &item.entry else { continue };
+        for a in &entry.attributes {
             let value = &bytes[a.at..a.end];
-            if a.form == 0x27 && !case.type_units {
+            if a.form == 0x27 && !case.setting.type_units {
                 rules.insert("strx3");
             }
             if !matches!(a.form, 0x11..=0x15) {
@@ -266,5 +205,24 @@ fn read(case: &Case<'_>, rules: &mut BTreeSet<&'static str>) -> gimli::Result<()
             }
         }
     }
-    Ok(())
+    rules
+}
+
+/// The rules that match a case.
+pub fn rules(case: &Case<'_>) -> BTreeSet<&'static str> {
+    if case.parts[0].is_empty() {
+        return BTreeSet::new();
+    }
+    match unit::header(case.parts[0]) {
+        0 => match unit::read(case.parts, case.met) {
+            Ok(Some(unit)) => {
+                let mut rules = writing(case, &unit);
+                rules.extend(reading(case, &unit).into_iter().map(|f| f.0));
+                rules
+            }
+            _ => BTreeSet::new(),
+        },
+        2 => BTreeSet::from(["header"]),
+        _ => BTreeSet::new(),
+    }
 }

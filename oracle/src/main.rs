@@ -1,39 +1,13 @@
 //! The original collector as the judge: reads bundles and prints one line for each. README.md has the line's form.
 
-mod error;
-mod listed;
-mod shims;
-mod package {
-    pub(crate) use crate::shims::DwoId;
-}
-mod relocate {
-    pub(crate) use crate::shims::Relocate;
-}
-include!(concat!(env!("OUT_DIR"), "/declare.rs"));
-
-use gc::probe;
-use gimli::{
-    DebugAbbrev, DebugInfo, DebugLoc, DebugLocLists, DebugRanges, DebugRngLists, DebugRngListsBase,
-    EndianSlice, LocationLists, RangeLists, RunTimeEndian,
-};
-use std::any::Any;
-use std::collections::BTreeSet;
-use std::fmt::Write as _;
+use oracle::judge::{self, judge, or_dash, said, Judged, Setting};
+use oracle::listed;
 use std::io::{self, BufRead, BufReader, BufWriter, Read, Write};
 use std::panic::{self, AssertUnwindSafe};
 
 const USAGE: &str = "usage: oracle [--type-units] [--ranges-base N] [--more] [BUNDLE ..]
        oracle --expression ADDRESS_SIZE HEX | --padded VALUE WIDTH | --tombstone ADDRESS ADDRESS_SIZE
 Without a file: bundles one after another from standard input.";
-
-/// What a case leaves to the command line.
-#[derive(Clone, Copy, Default)]
-struct Setting {
-    type_units: bool,
-    ranges_base: usize,
-    /// Lines say how far it came, and which listed differences the case can show.
-    more: bool,
-}
 
 /// The five sections of a bundle whose first length has been taken off, or none for a wrong layout.
 fn sections(mut rest: &[u8]) -> Option<[&[u8]; 5]> {
@@ -52,126 +26,42 @@ fn sections(mut rest: &[u8]) -> Option<[&[u8]; 5]> {
     rest.is_empty().then_some(parts)
 }
 
-fn indices(set: &Option<BTreeSet<u64>>) -> String {
-    match set {
-        None => "absent".to_string(),
-        Some(set) => {
-            let shown: Vec<String> = set.iter().map(u64::to_string).collect();
-            format!("[{}]", shown.join(","))
-        }
-    }
-}
-
-fn hex(bytes: &[u8]) -> String {
-    bytes.iter().fold(String::with_capacity(2 * bytes.len()), |mut s, b| {
-        let _ = write!(s, "{b:02x}");
-        s
-    })
-}
-
-fn or_dash(shown: String) -> String {
-    if shown.is_empty() { "-".to_string() } else { shown }
-}
-
-/// The line of a case that `gc_debug_info` answers or refuses.
-fn judge(parts: [&[u8]; 5], setting: Setting) -> String {
-    let reader = |i: usize| EndianSlice::new(parts[i], RunTimeEndian::Little);
-    let empty = EndianSlice::new(&[][..], RunTimeEndian::Little);
-    let table = parts[4];
-    let is_addr_live = |index: gimli::DebugAddrIndex<usize>| match table.get(index.0) {
-        Some(0) => Ok(false),
-        Some(1) => Ok(true),
-        _ => Err(error::Error::Address),
-    };
-    let answer = gc::gc_debug_info(
-        DebugInfo::from(reader(0)),
-        DebugAbbrev::from(reader(1)),
-        LocationLists::new(DebugLoc::from(empty), DebugLocLists::from(reader(2))),
-        RangeLists::new(DebugRanges::from(empty), DebugRngLists::from(reader(3))),
-        DebugRngListsBase(setting.ranges_base),
-        is_addr_live,
-        shims::DwoId(0),
-        setting.type_units,
-    );
-    let answer = match answer {
-        Err(e) => return format!("error {e}"),
-        Ok(answer) => answer,
-    };
-    let seen = probe::seen();
-    let kept = seen.marks.iter().filter(|m| m.1 != 'D').count();
-    let marks: Vec<String> = seen.marks.iter().map(|(o, m)| format!("{o}{m}")).collect();
-    let map: Vec<String> = answer
-        .offset_remap
-        .iter()
-        .flatten()
-        .map(|(old, (new, depth))| format!("{}>{}@{depth}", old.0, new.0))
-        .collect();
-    format!(
-        "{} entries {} kept {kept} references {} marks {} map {} ranges {} locations {} strings {} bytes {}",
-        if answer.rewritten.is_some() { "rewritten" } else { "untouched" },
-        seen.marks.len(),
-        seen.references,
-        or_dash(marks.join(",")),
-        or_dash(map.join(",")),
-        indices(&answer.referenced_rnglists),
-        indices(&answer.referenced_loclists),
-        indices(&answer.referenced_str_offsets),
-        or_dash(answer.rewritten.map_or_else(String::new, |v| hex(v.slice()))),
-    )
-}
-
-/// What a panic said, on one line.
-fn said(panic: Box<dyn Any + Send>) -> String {
-    let text = match panic.downcast::<String>() {
-        Ok(text) => *text,
-        Err(panic) => panic.downcast::<&str>().map_or("?".to_string(), |t| t.to_string()),
-    };
-    text.split_whitespace().collect::<Vec<_>>().join(" ")
-}
-
 fn caught(job: impl FnOnce() -> String) -> String {
     panic::catch_unwind(AssertUnwindSafe(job)).unwrap_or_else(|p| format!("panic {}", said(p)))
 }
 
-/// The line of a case, its first length taken off.
-fn line(rest: &[u8], setting: Setting) -> String {
+/// The line of a case, its first length taken off. With `more` it says how far it came, and which listed differences the case can show.
+fn line(rest: &[u8], setting: Setting, more: bool) -> String {
     match sections(rest) {
         None => "bundle".to_string(),
         Some(parts) => {
-            probe::clear();
-            let mut line = caught(|| judge(parts, setting));
-            if setting.more {
-                line.push_str(&caught(|| more(parts, setting)));
+            let judged = judge(parts, setting);
+            let mut line = judged.line();
+            if more {
+                line.push_str(&caught(|| added(parts, setting, &judged)));
             }
             line
         }
     }
 }
 
-/// What `--more` adds to the line of the case that was judged last.
-fn more(parts: [&[u8]; 5], setting: Setting) -> String {
-    let seen = probe::seen();
-    let case = listed::Case {
-        parts,
-        type_units: setting.type_units,
-        ranges_base: setting.ranges_base,
-        met: seen.met,
-        marks: &seen.marks,
-    };
+/// What `--more` adds.
+fn added(parts: [&[u8]; 5], setting: Setting, judged: &Judged) -> String {
+    let case = listed::Case { parts, setting, met: judged.met, marks: &judged.marks };
     let rules: Vec<&str> = listed::rules(&case).into_iter().collect();
-    format!(" | met {} references {} listed {}", seen.met, seen.references, or_dash(rules.join(",")))
+    format!(" | met {} references {} listed {}", judged.met, judged.all_references(), or_dash(rules.join(",")))
 }
 
 /// The line of a whole file.
-fn whole(bytes: &[u8], setting: Setting) -> String {
+fn whole(bytes: &[u8], setting: Setting, more: bool) -> String {
     match bytes.split_first_chunk::<4>() {
-        Some((length, rest)) if u32::from_be_bytes(*length) as usize == rest.len() => line(rest, setting),
+        Some((length, rest)) if u32::from_be_bytes(*length) as usize == rest.len() => line(rest, setting, more),
         _ => "bundle".to_string(),
     }
 }
 
 /// Cases from standard input. Lines are handed out before the next case is waited for.
-fn stream(output: &mut impl Write, setting: Setting) -> io::Result<()> {
+fn stream(output: &mut impl Write, setting: Setting, more: bool) -> io::Result<()> {
     let mut input = BufReader::with_capacity(1 << 16, io::stdin().lock());
     let mut rest = Vec::new();
     loop {
@@ -191,7 +81,7 @@ fn stream(output: &mut impl Write, setting: Setting) -> io::Result<()> {
         if rest.len() < length {
             return writeln!(output, "bundle");
         }
-        writeln!(output, "{}", line(&rest, setting))?;
+        writeln!(output, "{}", line(&rest, setting, more))?;
     }
 }
 
@@ -217,25 +107,25 @@ fn single(args: &[String]) -> Option<String> {
     Some(match what.as_str() {
         "--expression" => {
             let (size, bytes) = (number(first)? as u8, unhex(second)?);
-            caught(|| match probe::references(&bytes, size) {
+            caught(|| match judge::references(&bytes, size) {
                 Err(e) => format!("error {e}"),
                 Ok(found) => {
                     let shown: Vec<String> =
-                        found.iter().map(|(place, old, width)| format!("{place}:{old}:{width}")).collect();
+                        found.iter().map(|(place, old, width, _)| format!("{place}:{old}:{width}")).collect();
                     format!("references {} {}", found.len(), or_dash(shown.join(",")))
                 }
             })
         }
         "--padded" => {
             let (value, width) = (number(first)?, number(second)? as usize);
-            caught(|| match probe::padded(value, width) {
+            caught(|| match judge::padded(value, width) {
                 Err(e) => format!("error {e}"),
-                Ok(bytes) => format!("padded {}", hex(&bytes)),
+                Ok(bytes) => format!("padded {}", judge::hex(&bytes)),
             })
         }
         "--tombstone" => {
             let (address, size) = (number(first)?, number(second)? as u8);
-            format!("tombstone {}", if gc::is_tombstone(address, size) { "yes" } else { "no" })
+            format!("tombstone {}", if judge::tombstone(address, size) { "yes" } else { "no" })
         }
         _ => return None,
     })
@@ -250,12 +140,13 @@ fn run() -> io::Result<i32> {
         return Ok(0);
     }
     let mut setting = Setting::default();
+    let mut more = false;
     let mut files = Vec::new();
     let mut args = args.into_iter();
     while let Some(arg) = args.next() {
         match arg.as_str() {
             "--type-units" => setting.type_units = true,
-            "--more" => setting.more = true,
+            "--more" => more = true,
             "--ranges-base" => match args.next().as_deref().and_then(number) {
                 Some(base) => setting.ranges_base = base as usize,
                 None => {
@@ -271,11 +162,11 @@ fn run() -> io::Result<i32> {
         }
     }
     if files.is_empty() {
-        stream(&mut output, setting)?;
+        stream(&mut output, setting, more)?;
     }
     for file in files {
         let shown = match std::fs::read(&file) {
-            Ok(bytes) => whole(&bytes, setting),
+            Ok(bytes) => whole(&bytes, setting, more),
             Err(e) => {
                 eprintln!("{file}: {e}");
                 return Ok(1);

@@ -8,8 +8,8 @@ use std::cell::RefCell;
 pub(crate) struct Seen {
     /// Entries whose attributes were read.
     pub(crate) met: usize,
-    /// References found, over all entries, before any mark.
-    pub(crate) references: usize,
+    /// How many references each entry has, before any mark.
+    pub(crate) references: Vec<usize>,
     /// Old offset and letter of each entry in stream order.
     pub(crate) marks: Vec<(usize, char)>,
 }
@@ -18,9 +18,9 @@ thread_local! {
     static SEEN: RefCell<Seen> = RefCell::default();
 }
 
-/// What was taken down since it was last cleared.
-pub(crate) fn seen() -> Seen {
-    SEEN.with_borrow(Seen::clone)
+/// What was taken down since it was last cleared, or taken.
+pub(crate) fn taken() -> Seen {
+    SEEN.take()
 }
 
 pub(crate) fn clear() {
@@ -34,7 +34,7 @@ pub(super) fn entry(index: usize) {
 
 /// Called when an entry's references are read.
 pub(super) fn edges(edges: &[gimli::UnitOffset]) {
-    SEEN.with_borrow_mut(|s| s.references += edges.len());
+    SEEN.with_borrow_mut(|s| s.references.push(edges.len()));
 }
 
 /// Called when the marks are final.
@@ -54,8 +54,8 @@ pub(super) fn marks(dies: &[DieRecord], places: &HashMap<gimli::UnitOffset, usiz
     SEEN.with_borrow_mut(|s| s.marks = marks);
 }
 
-/// `walk_expression` alone: place, old offset and width of each reference, in the order of the walk.
-pub(crate) fn references(bytes: &[u8], address_size: u8) -> Result<Vec<(usize, u64, usize)>> {
+/// `walk_expression` alone: place, old offset and width of each reference, in the order of the walk, and whether it is a ULEB128.
+pub(crate) fn references(bytes: &[u8], address_size: u8) -> Result<Vec<(usize, u64, usize, bool)>> {
     let encoding = gimli::Encoding { format: gimli::Format::Dwarf32, version: 5, address_size };
     let expression = gimli::EndianSlice::new(bytes, RunTimeEndian::Little);
     let mut found: Vec<ExprRef> = Vec::new();
@@ -74,7 +74,7 @@ pub(crate) fn references(bytes: &[u8], address_size: u8) -> Result<Vec<(usize, u
                 ExprRefEnc::U4 => 4,
                 ExprRefEnc::Uleb => uleb128_len(expression.range_from(r.pos..))?,
             };
-            Ok((r.pos, r.old.0 as u64, width))
+            Ok((r.pos, r.old.0 as u64, width, matches!(r.enc, ExprRefEnc::Uleb)))
         })
         .collect()
 }

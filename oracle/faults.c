@@ -1,0 +1,121 @@
+/* The port's C call with one fault put in, for oracle/faults: each fault is something that oracle/differ has to see. FAULT says which, 0 for none. */
+#include <stddef.h>
+#include <stdint.h>
+#include <stdlib.h>
+#include <string.h>
+
+#define SECTIONS const uint8_t *s, size_t sn, const uint8_t *a, size_t an, const uint8_t *l, size_t ln, const uint8_t *r, size_t rn, const uint8_t *t, size_t tn, uint64_t base, uint64_t units
+#define TABLES uint64_t *index, size_t in, uint64_t *offsets, size_t on, uint32_t *parents, size_t pn, uint8_t *roots, size_t ron, uint64_t *ends, size_t en, uint8_t *marks, size_t mn, \
+    uint64_t *targets, size_t tgn, uint32_t *pairs, size_t prn, uint32_t *work, size_t wn
+#define RESULTS uint8_t *map, size_t mapn, uint8_t *rl, size_t rln, uint8_t *ll, size_t lln, uint8_t *sl, size_t sln, uint8_t *out, size_t outn, uint8_t *counts, size_t cn
+
+uint64_t port_collect(SECTIONS, RESULTS);
+uint64_t port_collect_lent(SECTIONS, TABLES, RESULTS);
+
+static int fault(void)
+{
+    const char *f = getenv("FAULT");
+    return f == NULL ? 0 : atoi(f);
+}
+
+static size_t count(const uint8_t *counts, int which)
+{
+    size_t n = 0;
+    for (int i = 0; i < 8; i++)
+        n = n << 8 | counts[8 * which + i];
+    return n;
+}
+
+static uint64_t spoilt(uint64_t answer, SECTIONS, RESULTS)
+{
+    int f = fault();
+    int counted = answer == 256 || answer == 257;
+    (void)a, (void)an, (void)l, (void)ln, (void)r, (void)rn, (void)t, (void)tn, (void)base, (void)units;
+    switch (f) {
+    case 1: /* a byte of the output */
+        if (answer == 257)
+            out[count(counts, 3) - 1] ^= 1;
+        break;
+    case 2: /* a depth */
+        if (answer == 257)
+            map[12 * count(counts, 2) - 1] ^= 1;
+        break;
+    case 3: /* a new offset */
+        if (answer == 257)
+            map[12 * count(counts, 2) - 5] ^= 1;
+        break;
+    case 4: /* the count of the kept */
+        if (counted)
+            counts[15]++;
+        break;
+    case 5: /* which list is present */
+        if (counted)
+            counts[57] ^= 1;
+        break;
+    case 6: /* a number of a list */
+        if (counted && count(counts, 6) > 0)
+            sl[7] ^= 1;
+        break;
+    case 7: /* a byte left behind a list */
+        if (counted && rln > 8 * count(counts, 4))
+            rl[rln - 1] = 1;
+        break;
+    case 8: /* a byte left after a refusal */
+        if (answer < 256 && outn > 0)
+            out[0] = 1;
+        break;
+    case 9: /* a byte beside the output */
+        if (answer == 257)
+            out[outn] = 0;
+        break;
+    case 10: /* a byte of a section */
+        if (sn > 0)
+            ((uint8_t *)s)[sn - 1] ^= 1;
+        break;
+    case 11: /* 1 and 2 */
+        return answer == 1 ? 2 : answer;
+    case 12:
+        return answer == 2 ? 1 : answer;
+    case 13: /* 13 and 14 */
+        return answer == 13 ? 14 : answer;
+    case 14: /* 8 and 9 */
+        return answer == 9 ? 8 : answer;
+    case 15: /* the answer of counts without room */
+        return answer == 258 ? 256 : answer;
+    case 16: /* 10 and 11 */
+        return answer == 11 ? 10 : answer;
+    case 17: /* a byte left where untouched */
+        if (answer == 256 && mapn > 0)
+            map[mapn - 1] = 1;
+        break;
+    }
+    (void)ll, (void)lln, (void)sln, (void)cn;
+    return answer;
+}
+
+uint64_t collector_collect(SECTIONS, RESULTS)
+{
+    if (fault() == 18) /* type units are not looked at */
+        units = 0;
+    if (fault() == 19) /* the ranges base is not looked at */
+        base = 0;
+    uint64_t answer = port_collect(s, sn, a, an, l, ln, r, rn, t, tn, base, units, map, mapn, rl, rln, ll, lln, sl, sln, out, outn, counts, cn);
+    return spoilt(answer, s, sn, a, an, l, ln, r, rn, t, tn, base, units, map, mapn, rl, rln, ll, lln, sl, sln, out, outn, counts, cn);
+}
+
+uint64_t collector_collect_lent(SECTIONS, TABLES, RESULTS)
+{
+    int one_reference = fault() == 20 && tgn > 0; /* a place of the reference table is not used */
+    int one_entry = fault() == 21 && en > 0;      /* a place of the entry table */
+    tgn -= one_reference;
+    en -= one_entry;
+    uint64_t answer = port_collect_lent(s, sn, a, an, l, ln, r, rn, t, tn, base, units, index, in, offsets, on, parents, pn, roots, ron, ends, en, marks, mn, targets, tgn, pairs, prn, work,
+                                        wn, map, mapn, rl, rln, ll, lln, sl, sln, out, outn, counts, cn);
+    if (one_reference)
+        targets[tgn] = 0;
+    if (one_entry)
+        ends[en] = 0;
+    if (fault() == 22 && mn > 0) /* a table is not zeros */
+        marks[mn - 1] = 2;
+    return spoilt(answer, s, sn, a, an, l, ln, r, rn, t, tn, base, units, map, mapn, rl, rln, ll, lln, sl, sln, out, outn, counts, cn);
+}

@@ -1,0 +1,721 @@
+//! The port's C call and the original on the same cases, in one process; README.md has the rules. Every result is compared: the number that
+//! comes back, counts, map, lists, output, every byte that is lent and not written, and that what is only read stays as it was.
+
+use oracle::cases::{bundle, unbundle, Cases, Dice, Parts, FAMILIES, OF_FILES};
+use oracle::expected::{expect, Expected, Plan, Room};
+use oracle::judge::{hex, judge, said, Answer, Setting};
+use std::collections::{BTreeMap, BTreeSet};
+use std::fs;
+use std::io::{self, Read as _};
+use std::panic;
+use std::sync::atomic::{AtomicUsize, Ordering};
+use std::sync::Mutex;
+
+const USAGE: &str = "usage: differ [--seed N] [--count N] [--threads N] [--blocks] [--quiet | --save FOLDER] [FAMILY .. | --only-files] [-- BUNDLE ..]
+       differ --lines [--type-units] [--ranges-base N] < BUNDLES
+So many cases of each family (of many a fiftieth, of tables and damaged-files a fifth); all families if none is named. --blocks: what is lent is a
+block of memory of its own, nothing around it. --save: where cases that differ are left; --quiet: they are only counted. --lines: the port's answer for each of the bundles
+on standard input.";
+
+extern "C" {
+    fn collector_collect(
+        section: *const u8, _: usize, abbreviations: *const u8, _: usize, locations: *const u8, _: usize, ranges: *const u8, _: usize,
+        addresses: *const u8, _: usize, ranges_base: u64, type_units: u64, map: *mut u8, _: usize, range_list: *mut u8, _: usize,
+        location_list: *mut u8, _: usize, string_list: *mut u8, _: usize, out: *mut u8, _: usize, counts: *mut u8, _: usize,
+    ) -> u64;
+    fn collector_collect_lent(
+        section: *const u8, _: usize, abbreviations: *const u8, _: usize, locations: *const u8, _: usize, ranges: *const u8, _: usize,
+        addresses: *const u8, _: usize, ranges_base: u64, type_units: u64, index: *mut u64, _: usize, offsets: *mut u64, _: usize,
+        parents: *mut u32, _: usize, roots: *mut u8, _: usize, ends: *mut u64, _: usize, marks: *mut u8, _: usize, targets: *mut u64, _: usize,
+        pairs: *mut u32, _: usize, work: *mut u32, _: usize, map: *mut u8, _: usize, range_list: *mut u8, _: usize,
+        location_list: *mut u8, _: usize, string_list: *mut u8, _: usize, out: *mut u8, _: usize, counts: *mut u8, _: usize,
+    ) -> u64;
+}
+
+/// Entries and references of the C call's own tables, and bytes of the counts.
+const OWN: (usize, usize) = (2048, 8192);
+const COUNTS: usize = 59;
+
+/// Elements that are lent, with others before and behind that stay as they were.
+struct Lent<T> {
+    cells: Vec<T>,
+    around: usize,
+    fill: T,
+}
+
+impl<T: Copy + PartialEq + Default> Lent<T> {
+    fn new(length: usize, around: usize, fill: T) -> Self {
+        Lent { cells: vec![fill; length + 2 * around], around, fill }
+    }
+
+    fn of(held: &[T], around: usize, fill: T) -> Self {
+        let mut lent = Lent::new(held.len(), around, fill);
+        lent.cells[around..around + held.len()].copy_from_slice(held);
+        lent
+    }
+
+    fn length(&self) -> usize {
+        self.cells.len() - 2 * self.around
+    }
+
+    fn start(&mut self) -> *mut T {
+        self.cells[self.around..].as_mut_ptr()
+    }
+
+    fn inside(&self) -> &[T] {
+        &self.cells[self.around..self.cells.len() - self.around]
+    }
+
+    fn around_kept(&self) -> bool {
+        let same = |part: &[T]| part.iter().all(|c| *c == self.fill);
+        same(&self.cells[..self.around]) && same(&self.cells[self.cells.len() - self.around..])
+    }
+
+    /// Whether these elements come first and zeros after them.
+    fn holds(&self, first: &[T]) -> bool {
+        let inside = self.inside();
+        inside.len() >= first.len()
+            && inside[..first.len()] == *first
+            && inside[first.len()..].iter().all(|c| *c == T::default())
+    }
+}
+
+/// Lengths of what is lent: bytes of the map, the lists, the output and the counts; elements of the tables, or none for the call with its own.
+#[derive(Clone, Debug)]
+struct Lengths {
+    map: usize,
+    lists: [usize; 3],
+    output: usize,
+    counts: usize,
+    /// index, offsets, parents, roots, ends, marks, targets, pairs, work.
+    tables: Option<[usize; 9]>,
+}
+
+impl Lengths {
+    fn room(&self) -> Room {
+        let (entries, references) = match &self.tables {
+            None => OWN,
+            Some(t) => (*t[1..6].iter().min().unwrap(), t[6].min(t[7] / 2)),
+        };
+        Room { entries, references, map: self.map / 12, lists: self.lists.map(|l| l / 8), output: self.output }
+    }
+}
+
+/// What every lent part must hold after a call that ends so.
+struct Contents {
+    number: u64,
+    map: Vec<u8>,
+    lists: [Vec<u8>; 3],
+    output: Vec<u8>,
+    counts: Vec<u8>,
+}
+
+fn contents(answer: Result<&Plan, u8>, counts: usize) -> Contents {
+    let plan = match answer {
+        Err(n) => return Contents { number: n.into(), map: vec![], lists: Default::default(), output: vec![], counts: vec![] },
+        Ok(plan) => plan,
+    };
+    let output = plan.output.as_ref().expect("an accepted unit");
+    let list = |i: usize| -> Vec<u8> { plan.lists[i].iter().flatten().flat_map(|n| n.to_be_bytes()).collect() };
+    let mut held = Vec::new();
+    let lengths = [0, 1, 2].map(|i: usize| plan.lists[i].as_ref().map_or(0, BTreeSet::len));
+    for n in [plan.entries, plan.kept, plan.map.len(), output.len(), lengths[0], lengths[1], lengths[2]] {
+        held.extend((n as u64).to_be_bytes());
+    }
+    held.extend(plan.lists.iter().map(|l| u8::from(l.is_some())));
+    let room = counts >= COUNTS;
+    Contents {
+        number: 256 + u64::from(plan.dead) + if room { 0 } else { 2 },
+        map: plan.map.iter().flat_map(|p| [p.0, p.1, p.2]).flat_map(|n| (n as u32).to_be_bytes()).collect(),
+        lists: [list(0), list(1), list(2)],
+        output: output.clone(),
+        counts: if room { held } else { vec![] },
+    }
+}
+
+/// What the port left behind.
+struct Left {
+    number: u64,
+    map: Lent<u8>,
+    lists: [Lent<u8>; 3],
+    output: Lent<u8>,
+    counts: Lent<u8>,
+    /// What changed that must not, or is not zero that must be.
+    wrong: Option<&'static str>,
+}
+
+/// How a call is made, beyond what it is about.
+#[derive(Clone, Copy)]
+struct Manner {
+    around: usize,
+    fill: u8,
+    yes: u64,
+}
+
+fn call(parts: &Parts, setting: Setting, lengths: &Lengths, manner: Manner) -> Left {
+    let Manner { around, fill, yes } = manner;
+    let bytes = |n: usize| Lent::new(n, around, fill);
+    let mut s: Vec<Lent<u8>> = parts.iter().map(|p| Lent::of(p, around, fill)).collect();
+    let (mut map, mut output, mut counts) = (bytes(lengths.map), bytes(lengths.output), bytes(lengths.counts));
+    let mut lists = lengths.lists.map(bytes);
+    let (base, units) = (setting.ranges_base as u64, if setting.type_units { yes } else { 0 });
+    let mut wrong = None;
+    macro_rules! lend {
+        ($f:ident, $s:ident, [$($t:expr),*]) => {
+            unsafe {
+                $f(
+                    $s[0].start(), $s[0].length(), $s[1].start(), $s[1].length(), $s[2].start(), $s[2].length(), $s[3].start(), $s[3].length(),
+                    $s[4].start(), $s[4].length(), base, units, $($t.start(), $t.length(),)* map.start(), map.length(),
+                    lists[0].start(), lists[0].length(), lists[1].start(), lists[1].length(), lists[2].start(), lists[2].length(),
+                    output.start(), output.length(), counts.start(), counts.length(),
+                )
+            }
+        };
+    }
+    let number = match &lengths.tables {
+        None => lend!(collector_collect, s, []),
+        Some(t) => {
+            let wide = |n: usize| Lent::new(n, around.div_ceil(8), u64::from_ne_bytes([fill; 8]));
+            let half = |n: usize| Lent::new(n, around.div_ceil(4), u32::from_ne_bytes([fill; 4]));
+            let (mut index, mut offsets, mut parents, mut roots, mut ends) = (wide(t[0]), wide(t[1]), half(t[2]), bytes(t[3]), wide(t[4]));
+            let (mut marks, mut targets, mut pairs, mut work) = (bytes(t[5]), wide(t[6]), half(t[7]), half(t[8]));
+            let number = lend!(collector_collect_lent, s, [index, offsets, parents, roots, ends, marks, targets, pairs, work]);
+            macro_rules! check {
+                ($($t:ident),*) => {
+                    $(
+                        if !$t.holds(&[]) {
+                            wrong = Some(concat!("not zeros: ", stringify!($t)));
+                        }
+                        if !$t.around_kept() {
+                            wrong = Some(concat!("written beside: ", stringify!($t)));
+                        }
+                    )*
+                };
+            }
+            check!(index, offsets, parents, roots, ends, marks, targets, pairs, work);
+            number
+        }
+    };
+    if s.iter().zip(parts).any(|(l, p)| l.inside() != p || !l.around_kept()) {
+        wrong = Some("a section changed");
+    }
+    if [&map, &output, &counts, &lists[0], &lists[1], &lists[2]].iter().any(|l| !l.around_kept()) {
+        wrong = Some("written beside what is lent");
+    }
+    Left { number, map, lists, output, counts, wrong }
+}
+
+/// The first thing that is not as it must be.
+fn compare(left: &Left, must: &Contents) -> Option<String> {
+    if left.number != must.number {
+        return Some(format!("answered {}, expected {}", left.number, must.number));
+    }
+    let parts = [
+        ("counts", &left.counts, &must.counts),
+        ("map", &left.map, &must.map),
+        ("ranges", &left.lists[0], &must.lists[0]),
+        ("locations", &left.lists[1], &must.lists[1]),
+        ("strings", &left.lists[2], &must.lists[2]),
+        ("output", &left.output, &must.output),
+    ];
+    for (name, found, held) in parts {
+        if !found.holds(held) {
+            return Some(format!("{name}: {} expected, and zeros; found {}", hex(held), hex(found.inside())));
+        }
+    }
+    left.wrong.map(str::to_string)
+}
+
+/// What the answer needs, or nothing where the reading refuses.
+fn needs(expected: &Expected) -> (usize, [usize; 3], usize) {
+    match &expected.read {
+        Err(_) => (0, [0; 3], 0),
+        Ok(p) => (12 * p.map.len(), [0, 1, 2].map(|i: usize| 8 * p.lists[i].as_ref().map_or(0, BTreeSet::len)), p.size),
+    }
+}
+
+/// Exactly what is needed, or more.
+fn enough(dice: &mut Dice, expected: &Expected) -> Lengths {
+    let (map, lists, output) = needs(expected);
+    let exact = dice.rare(2);
+    let mut more = |n: usize| if exact { n } else { n + dice.of(&[0, 1, 7, 8, 11, 12, 13, 40]) };
+    let lengths = Lengths { map: more(map), lists: lists.map(&mut more), output: more(output), counts: COUNTS, tables: None };
+    // Tables of the caller's sometimes, and mostly where the call's own would be full.
+    let references = expected.references.iter().sum();
+    let full = expected.met > OWN.0 || references > OWN.1;
+    let lent = if full { !dice.rare(4) } else { dice.rare(8) };
+    let tables = lent.then(|| tables(dice, expected.met, references));
+    Lengths { counts: COUNTS + dice.of(&[0, 0, 0, 1, 9]), tables, ..lengths }
+}
+
+/// Lent tables with room for just so many.
+fn tables(dice: &mut Dice, entries: usize, references: usize) -> [usize; 9] {
+    let mut lengths = [0; 9];
+    let least = 1 + dice.below(5);
+    for (i, l) in lengths.iter_mut().enumerate().take(6).skip(1) {
+        *l = entries + if i == least { 0 } else { dice.of(&[0, 0, 1, 5]) };
+    }
+    let by_pairs = dice.rare(2);
+    lengths[6] = references + if by_pairs { dice.below(3) } else { 0 };
+    lengths[7] = 2 * references + if by_pairs { dice.below(2) } else { dice.below(5) };
+    lengths[0] = dice.of(&[0, 1, 2, 5, 20, 200]);
+    lengths[8] = dice.of(&[0, 1, entries / 2, 2 * entries, 2 * entries + 3]);
+    lengths
+}
+
+/// What is lent in the second call: one or several things short, tables of its own, counts without room.
+fn varied(dice: &mut Dice, expected: &Expected) -> Lengths {
+    let (map, lists, output) = needs(expected);
+    let mut lengths = enough(dice, expected);
+    let less = |dice: &mut Dice, n: usize| match dice.below(6) {
+        0 => dice.below(n + 1),
+        1 => 0,
+        _ => n.saturating_sub(1),
+    };
+    let kind = dice.below(8);
+    let short = match kind {
+        0 => 1 << 3,
+        1 => 1 << 4,
+        2 | 3 => 1 << dice.below(3),
+        4 => dice.below(32),
+        _ => 0,
+    };
+    for i in 0..3 {
+        if short >> i & 1 == 1 {
+            lengths.lists[i] = less(dice, lists[i]);
+        }
+    }
+    if short >> 3 & 1 == 1 {
+        lengths.map = less(dice, map);
+    }
+    if short >> 4 & 1 == 1 {
+        lengths.output = less(dice, output);
+    }
+    if kind >= 4 {
+        let met = expected.met;
+        let references: usize = expected.references.iter().sum();
+        let (entries, references) = match dice.below(6) {
+            0 => (met, references),
+            1 | 2 => (met.saturating_sub(1), references),
+            3 | 4 => (met + dice.below(2), references.saturating_sub(1)),
+            _ => (dice.below(met + 2), dice.below(references + 2)),
+        };
+        lengths.tables = Some(tables(dice, entries, references));
+    }
+    if dice.rare(6) {
+        lengths.counts = dice.below(COUNTS);
+    }
+    lengths
+}
+
+/// How one case ended.
+#[derive(Default)]
+struct Ended {
+    /// Of the first call, nothing being short: the answer's name.
+    first: String,
+    /// Of the second call.
+    second: String,
+    /// The listed differences, where the two answer otherwise.
+    listed: Option<String>,
+    different: Option<String>,
+}
+
+fn name(answer: Result<&Plan, u8>) -> String {
+    match answer {
+        Err(n) => n.to_string(),
+        Ok(plan) => if plan.dead { "rewritten" } else { "untouched" }.to_string(),
+    }
+}
+
+fn parts_of(parts: &Parts) -> [&[u8]; 5] {
+    [&parts[0], &parts[1], &parts[2], &parts[3], &parts[4]]
+}
+
+/// One case; a panic, which neither side may show here, is a difference.
+fn one(parts: &Parts, setting: Setting, seed: u64, blocks: bool) -> Ended {
+    panic::catch_unwind(|| compared(parts, setting, seed, blocks))
+        .unwrap_or_else(|p| Ended { different: Some(format!("panic: {}", said(p))), ..Ended::default() })
+}
+
+/// The original, what follows from it, and two calls of the port.
+fn compared(parts: &Parts, setting: Setting, seed: u64, blocks: bool) -> Ended {
+    let judged = judge(parts_of(parts), setting);
+    let expected = expect(parts_of(parts), setting, &judged);
+    let dice = &mut Dice(seed);
+    let mut ended = Ended::default();
+    let names: Vec<&str> = expected.rules.iter().copied().collect();
+    if !expected.is(&judged, &parts[0]) {
+        match names.is_empty() {
+            true => ended.different = Some(format!("the original answers otherwise, and no rule matches: {}", judged.line())),
+            false => ended.listed = Some(names.join(",")),
+        }
+    }
+    for second in [false, true] {
+        let lengths = if second { varied(dice, &expected) } else { enough(dice, &expected) };
+        let manner = Manner {
+            around: if blocks { 0 } else { 16 },
+            fill: dice.of(&[0xa5, 0x5a, 0xff, 0x01, 0x80]),
+            yes: dice.of(&[1, 1, 2, 256, 1 << 32, u64::MAX]),
+        };
+        let answer = expected.answer(&lengths.room());
+        let left = call(parts, setting, &lengths, manner);
+        if let Some(what) = compare(&left, &contents(answer, lengths.counts)) {
+            ended.different.get_or_insert(format!("{what}; lent {lengths:?}"));
+        }
+        if second {
+            ended.second = name(answer);
+        } else {
+            ended.first = name(answer);
+        }
+    }
+    ended
+}
+
+/// The setting of a case: mostly as the program has it.
+fn setting(dice: &mut Dice) -> Setting {
+    let ranges_base = match dice.below(24) {
+        0 => dice.below(40),
+        1 => 12,
+        2 => (dice.next() >> dice.below(64)) as usize,
+        3 => usize::MAX - dice.below(40),
+        _ => 0,
+    };
+    Setting { type_units: dice.rare(8), ranges_base }
+}
+
+/// Smaller parts that still differ: shorter, then with more zeros.
+fn reduced(parts: &Parts, with: Setting, seed: u64, blocks: bool) -> Parts {
+    let mut best = parts.clone();
+    let mut tries = 0;
+    let fit = |p: &mut Parts| {
+        if p[0].len() >= 4 {
+            let length = p[0].len() as u32 - 4;
+            p[0][..4].copy_from_slice(&length.to_le_bytes());
+        }
+    };
+    let mut again = true;
+    while again && tries < 20_000 {
+        again = false;
+        for part in 0..5 {
+            let mut size = best[part].len();
+            while size > 0 {
+                let mut at = 0;
+                while at + size <= best[part].len() && tries < 20_000 {
+                    let mut shorter = best.clone();
+                    shorter[part].drain(at..at + size);
+                    let mut fitted = shorter.clone();
+                    fit(&mut fitted);
+                    tries += 2;
+                    if let Some(p) = [fitted, shorter].into_iter().find(|p| one(p, with, seed, blocks).different.is_some()) {
+                        best = p;
+                        again = true;
+                    } else {
+                        at += size;
+                    }
+                }
+                size /= 2;
+            }
+            for at in 0..best[part].len() {
+                for byte in [0, 1] {
+                    if best[part][at] > byte && tries < 20_000 {
+                        let mut other = best.clone();
+                        other[part][at] = byte;
+                        tries += 1;
+                        if one(&other, with, seed, blocks).different.is_some() {
+                            best = other;
+                            again = true;
+                            break;
+                        }
+                    }
+                }
+            }
+        }
+    }
+    best
+}
+
+/// Counts of a family.
+#[derive(Default)]
+struct Tally {
+    cases: usize,
+    /// By the port's answer in the first call, and in the second.
+    first: BTreeMap<String, usize>,
+    second: BTreeMap<String, usize>,
+    listed: BTreeMap<String, usize>,
+    different: usize,
+}
+
+impl Tally {
+    fn add(&mut self, ended: &Ended) {
+        self.cases += 1;
+        *self.first.entry(ended.first.clone()).or_default() += 1;
+        *self.second.entry(ended.second.clone()).or_default() += 1;
+        if ended.different.is_some() {
+            self.different += 1;
+        } else if let Some(rules) = &ended.listed {
+            *self.listed.entry(rules.clone()).or_default() += 1;
+        }
+    }
+
+    fn merge(&mut self, other: Tally) {
+        self.cases += other.cases;
+        self.different += other.different;
+        for (into, from) in [(&mut self.first, other.first), (&mut self.second, other.second), (&mut self.listed, other.listed)] {
+            for (k, n) in from {
+                *into.entry(k).or_default() += n;
+            }
+        }
+    }
+}
+
+struct Options {
+    seed: u64,
+    count: usize,
+    threads: usize,
+    blocks: bool,
+    /// Differences are only counted.
+    quiet: bool,
+    save: String,
+}
+
+/// Which case each thread is at, for one that ends the process.
+static AT: [AtomicUsize; 8] = [const { AtomicUsize::new(0) }; 8];
+
+fn run_part(family: &str, given: &[Parts], options: &Options, thread: usize, saved: &Mutex<usize>) -> Tally {
+    let mut tally = Tally::default();
+    let Some(mut cases) = Cases::new(family, options.seed, given) else { return tally };
+    // Large units: fewer.
+    let count = match family {
+        "many" => options.count.div_ceil(50),
+        "tables" | "damaged-files" => options.count.div_ceil(5),
+        _ => options.count,
+    };
+    for i in 0..count {
+        let mine = i % options.threads == thread;
+        if !mine && family != "small" {
+            continue;
+        }
+        let parts = cases.case(i);
+        if !mine {
+            continue;
+        }
+        AT[thread].store(i, Ordering::Relaxed);
+        let mut dice = Dice(options.seed.wrapping_mul(0x9e37_79b9).wrapping_add(i as u64) << 7 ^ family.len() as u64);
+        let with = setting(&mut dice);
+        let seed = dice.next();
+        let ended = one(&parts, with, seed, options.blocks);
+        tally.add(&ended);
+        if let Some(what) = &ended.different {
+            let mut saved = saved.lock().unwrap();
+            *saved += 1;
+            if *saved <= 20 && !options.quiet {
+                report(family, i, &parts, with, seed, what, options);
+            }
+        }
+    }
+    tally
+}
+
+fn report(family: &str, i: usize, parts: &Parts, with: Setting, seed: u64, what: &str, options: &Options) {
+    let small = reduced(parts, with, seed, options.blocks);
+    let why = one(&small, with, seed, options.blocks).different.unwrap_or_default();
+    let text = format!(
+        "{family} seed {} case {i} {with:?}\n  {what}\nreduced\n  unit {}\n  abbreviations {}\n  locations {}\n  ranges {}\n  addresses {}\n  {why}\n  \
+         original: {}\n",
+        options.seed, hex(&small[0]), hex(&small[1]), hex(&small[2]), hex(&small[3]), hex(&small[4]),
+        judge(parts_of(&small), with).line(),
+    );
+    println!("{text}");
+    let path = format!("{}/{family}-{}-{i}", options.save, options.seed);
+    let _ = fs::create_dir_all(&options.save);
+    let _ = fs::write(format!("{path}.bundle"), bundle(parts));
+    let _ = fs::write(format!("{path}.reduced.bundle"), bundle(&small));
+    let _ = fs::write(format!("{path}.txt"), text);
+}
+
+const FIRST: [&str; 13] = ["rewritten", "untouched", "1", "2", "3", "4", "5", "6", "7", "8", "9", "10", "11"];
+const SECOND: [&str; 5] = ["10", "11", "12", "13", "14"];
+
+fn row(name: &str, tally: &Tally) -> String {
+    let of = |counts: &BTreeMap<String, usize>, k: &str| counts.get(k).copied().unwrap_or(0);
+    let mut cells = vec![name.to_string(), tally.cases.to_string()];
+    cells.extend(FIRST.iter().map(|k| of(&tally.first, k).to_string()));
+    cells.extend(SECOND.iter().map(|k| of(&tally.second, k).to_string()));
+    cells.push(tally.listed.values().sum::<usize>().to_string());
+    cells.push(tally.different.to_string());
+    format!("| {} |", cells.join(" | "))
+}
+
+fn run(families: &[String], given: &[Parts], options: &Options) -> bool {
+    let mut rows = Vec::new();
+    let mut total = Tally::default();
+    let saved = Mutex::new(0);
+    for family in families {
+        let started = std::time::Instant::now();
+        let mut tally = Tally::default();
+        std::thread::scope(|scope| {
+            let saved = &saved;
+            let parts: Vec<_> = (0..options.threads)
+                .map(|t| {
+                    // Entry values may nest as deep as a bundle has bytes, and the walks are recursive.
+                    let builder = std::thread::Builder::new().stack_size(1 << 29);
+                    builder.spawn_scoped(scope, move || run_part(family, given, options, t, saved)).expect("a thread")
+                })
+                .collect();
+            for part in parts {
+                match part.join() {
+                    Ok(t) => tally.merge(t),
+                    Err(p) => {
+                        println!("{family}: {} (about case {:?})", said(p), AT[0]);
+                        tally.different += 1;
+                    }
+                }
+            }
+        });
+        eprintln!("{} {:?}", row(family, &tally), started.elapsed());
+        rows.push(row(family, &tally));
+        total.merge(tally);
+    }
+    println!("| family | cases | {} | then {} | listed | different |", FIRST.join(" | "), SECOND.join(" | "));
+    println!("|{}", "---|".repeat(4 + FIRST.len() + SECOND.len()));
+    for row in rows {
+        println!("{row}");
+    }
+    println!("{}", row("all", &total));
+    println!();
+    let mut by_rule: BTreeMap<&str, usize> = BTreeMap::new();
+    for (rules, n) in &total.listed {
+        for rule in rules.split(',') {
+            *by_rule.entry(rule).or_default() += n;
+        }
+    }
+    println!("listed, by rule (several may match a case): {}", by_rule.iter().map(|(r, n)| format!("{r} {n}")).collect::<Vec<_>>().join(", "));
+    println!("differ: {} cases, {} different", total.cases, total.different);
+    total.different == 0
+}
+
+/// The port's answer in words, with room for everything.
+fn line(parts: &Parts, with: Setting) -> String {
+    let size = parts[0].len() + 1;
+    let lengths = Lengths { map: 12 * size, lists: [8 * size; 3], output: size, counts: COUNTS, tables: None };
+    let left = call(parts, with, &lengths, Manner { around: 16, fill: 0xa5, yes: 1 });
+    if let Some(wrong) = left.wrong {
+        return format!("wrong: {wrong}");
+    }
+    let number = |bytes: &[u8]| bytes.iter().fold(0u64, |n, b| n << 8 | u64::from(*b));
+    if left.number < 256 {
+        return format!("refused {}", left.number);
+    }
+    let count = |i: usize| number(&left.counts.inside()[8 * i..8 * i + 8]) as usize;
+    let list = |i: usize| {
+        let numbers = left.lists[i].inside()[..8 * count(4 + i)].chunks(8).map(number).collect();
+        (left.counts.inside()[56 + i] == 1).then_some(numbers)
+    };
+    let answer = Answer {
+        rewritten: (left.number == 257).then(|| left.output.inside()[..count(3)].to_vec()),
+        map: left.map.inside()[..12 * count(2)]
+            .chunks(12)
+            .map(|p| (number(&p[..4]) as usize, number(&p[4..8]) as usize, number(&p[8..]) as usize))
+            .collect(),
+        lists: [list(0), list(1), list(2)],
+    };
+    let kind = if left.number == 257 { "rewritten" } else { "untouched" };
+    format!("{kind} entries {} kept {} {}", count(0), count(1), answer.shown())
+}
+
+fn lines(with: Setting) -> io::Result<()> {
+    let mut all = Vec::new();
+    io::stdin().read_to_end(&mut all)?;
+    let mut rest = &all[..];
+    while let Some((length, after)) = rest.split_first_chunk::<4>() {
+        let size = u32::from_be_bytes(*length) as usize;
+        let parts = after.get(..size).and_then(|_| unbundle(&rest[..4 + size]));
+        println!("{}", parts.as_ref().map_or("bundle".to_string(), |p| line(p, with)));
+        rest = after.get(size..).unwrap_or(&[]);
+    }
+    Ok(())
+}
+
+/// Says where a call that ends the process was; the case can be made again from that.
+mod ending {
+    use super::AT;
+    use std::sync::atomic::Ordering;
+
+    #[repr(C)]
+    struct Action {
+        handler: extern "C" fn(i32),
+        mask: [u64; 16],
+        flags: i32,
+        restorer: usize,
+    }
+
+    extern "C" {
+        fn sigaction(signal: i32, action: *const Action, old: *mut Action) -> i32;
+        fn _exit(code: i32) -> !;
+    }
+
+    extern "C" fn end(signal: i32) {
+        let at: Vec<usize> = AT.iter().map(|a| a.load(Ordering::Relaxed)).collect();
+        eprintln!("signal {signal}; the threads were at cases {at:?} of the family after the last row");
+        unsafe { _exit(3) }
+    }
+
+    pub fn watch() {
+        // SA_ONSTACK | SA_RESETHAND
+        let action = Action { handler: end, mask: [0; 16], flags: 0x0800_0000u32 as i32 | 0x8000_0000u32 as i32, restorer: 0 };
+        for signal in [4, 6, 7, 8, 11] {
+            unsafe { sigaction(signal, &action, std::ptr::null_mut()) };
+        }
+    }
+}
+
+fn main() {
+    let usage = || -> ! {
+        eprintln!("{USAGE}");
+        std::process::exit(2)
+    };
+    let mut options = Options { seed: 1, count: 1000, threads: 2, blocks: false, quiet: false, save: "different".to_string() };
+    let mut families = Vec::new();
+    let mut given = Vec::new();
+    let (mut files, mut only, mut in_lines) = (false, false, false);
+    let mut with = Setting::default();
+    let mut args = std::env::args().skip(1);
+    while let Some(arg) = args.next() {
+        let mut number = || args.next().and_then(|n| n.parse().ok()).unwrap_or_else(|| usage());
+        match arg.as_str() {
+            _ if files => match fs::read(&arg).ok().and_then(|b| unbundle(&b)) {
+                Some(parts) => given.push(parts),
+                None => {
+                    eprintln!("{arg}: no bundle");
+                    std::process::exit(1)
+                }
+            },
+            "--lines" => in_lines = true,
+            "--type-units" => with.type_units = true,
+            "--ranges-base" => with.ranges_base = number() as usize,
+            "--seed" => options.seed = number(),
+            "--count" => options.count = number() as usize,
+            "--threads" => options.threads = (number() as usize).clamp(1, 8),
+            "--blocks" => options.blocks = true,
+            "--quiet" => options.quiet = true,
+            "--save" => options.save = args.next().unwrap_or_else(|| usage()),
+            "--only-files" => only = true,
+            "--" => files = true,
+            _ if arg.starts_with('-') => usage(),
+            _ => families.push(arg),
+        }
+    }
+    if in_lines {
+        let child = std::thread::Builder::new().stack_size(1 << 30).spawn(move || lines(with)).expect("a thread");
+        std::process::exit(i32::from(!matches!(child.join(), Ok(Ok(())))))
+    }
+    if families.is_empty() {
+        families = FAMILIES.iter().filter(|_| !only).chain(OF_FILES.iter().filter(|_| !given.is_empty())).map(|f| f.to_string()).collect();
+    }
+    if families.iter().any(|f| Cases::new(f, 1, &given).is_none()) {
+        usage();
+    }
+    panic::set_hook(Box::new(|_| ()));
+    ending::watch();
+    std::process::exit(i32::from(!run(&families, &given, &options)))
+}

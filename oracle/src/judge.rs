@@ -1,0 +1,194 @@
+//! One run of `gc_debug_info`, and what it let be seen.
+
+use crate::{error::Error, gc, gc::probe, shims};
+use gimli::{
+    DebugAbbrev, DebugInfo, DebugLoc, DebugLocLists, DebugRanges, DebugRngLists, DebugRngListsBase,
+    EndianSlice, LocationLists, RangeLists, RunTimeEndian,
+};
+use std::any::Any;
+use std::collections::BTreeSet;
+use std::fmt::Write as _;
+use std::panic::{self, AssertUnwindSafe};
+
+/// What a case leaves to the caller.
+#[derive(Clone, Copy, Default, Debug)]
+pub struct Setting {
+    pub type_units: bool,
+    pub ranges_base: usize,
+}
+
+/// Numbers of an index list, or none where it is absent.
+pub type List = Option<BTreeSet<u64>>;
+
+#[derive(PartialEq, Eq, Debug)]
+pub struct Answer {
+    /// The new unit, none where nothing is dead.
+    pub rewritten: Option<Vec<u8>>,
+    /// Old offset, new offset, depth.
+    pub map: Vec<(usize, usize, usize)>,
+    /// Ranges, locations, strings.
+    pub lists: [List; 3],
+}
+
+pub enum Outcome {
+    Answer(Answer),
+    /// The number of the specification, where there is one (1 stands for 1 and 2), and the error's names.
+    Error(Option<u8>, String),
+    Panic(String),
+}
+
+pub struct Judged {
+    pub outcome: Outcome,
+    /// Entries whose attributes were read.
+    pub met: usize,
+    /// Number of references of each entry whose references were read.
+    pub references: Vec<usize>,
+    /// Old offset and letter of each entry in stream order, once the marks are final.
+    pub marks: Vec<(usize, char)>,
+}
+
+impl Judged {
+    pub fn all_references(&self) -> usize {
+        self.references.iter().sum()
+    }
+
+    pub fn kept(&self) -> usize {
+        self.marks.iter().filter(|m| m.1 != 'D').count()
+    }
+
+    /// The line that README.md describes.
+    pub fn line(&self) -> String {
+        let answer = match &self.outcome {
+            Outcome::Panic(said) => return format!("panic {said}"),
+            Outcome::Error(_, names) => return format!("error {names}"),
+            Outcome::Answer(answer) => answer,
+        };
+        let marks: Vec<String> = self.marks.iter().map(|(o, m)| format!("{o}{m}")).collect();
+        format!(
+            "{} entries {} kept {} references {} marks {} {}",
+            if answer.rewritten.is_some() { "rewritten" } else { "untouched" },
+            self.marks.len(),
+            self.kept(),
+            self.all_references(),
+            or_dash(marks.join(",")),
+            answer.shown(),
+        )
+    }
+}
+
+impl Answer {
+    /// Map, lists and bytes, as in a line.
+    pub fn shown(&self) -> String {
+        let map: Vec<String> = self.map.iter().map(|(old, new, depth)| format!("{old}>{new}@{depth}")).collect();
+        format!(
+            "map {} ranges {} locations {} strings {} bytes {}",
+            or_dash(map.join(",")),
+            indices(&self.lists[0]),
+            indices(&self.lists[1]),
+            indices(&self.lists[2]),
+            or_dash(self.rewritten.as_deref().map_or_else(String::new, hex)),
+        )
+    }
+}
+
+fn indices(list: &List) -> String {
+    match list {
+        None => "absent".to_string(),
+        Some(set) => {
+            let shown: Vec<String> = set.iter().map(u64::to_string).collect();
+            format!("[{}]", shown.join(","))
+        }
+    }
+}
+
+pub fn hex(bytes: &[u8]) -> String {
+    bytes.iter().fold(String::with_capacity(2 * bytes.len()), |mut s, b| {
+        let _ = write!(s, "{b:02x}");
+        s
+    })
+}
+
+pub fn or_dash(shown: String) -> String {
+    if shown.is_empty() { "-".to_string() } else { shown }
+}
+
+/// What a panic said, on one line.
+pub fn said(panic: Box<dyn Any + Send>) -> String {
+    let text = match panic.downcast::<String>() {
+        Ok(text) => *text,
+        Err(panic) => panic.downcast::<&str>().map_or("?".to_string(), |t| t.to_string()),
+    };
+    text.split_whitespace().collect::<Vec<_>>().join(" ")
+}
+
+fn number(error: &Error) -> Option<u8> {
+    Some(match error {
+        Error::ParseUnitHeader(_) => 1,
+        Error::ParseUnitAbbreviations(_) => 3,
+        Error::ParseUnit(_) => 4,
+        // The last kept entry ends where the unit ends.
+        Error::Read(gimli::Error::OffsetOutOfBounds) => return None,
+        Error::Read(_) => 5,
+        Error::Address => 6,
+        Error::UnexpectedSectionAbsoluteReference => 7,
+        Error::MalformedDebugInfo => 8,
+        _ => return None,
+    })
+}
+
+fn outcome(parts: [&[u8]; 5], setting: Setting) -> Outcome {
+    let reader = |i: usize| EndianSlice::new(parts[i], RunTimeEndian::Little);
+    let empty = EndianSlice::new(&[][..], RunTimeEndian::Little);
+    let table = parts[4];
+    let is_addr_live = |index: gimli::DebugAddrIndex<usize>| match table.get(index.0) {
+        Some(0) => Ok(false),
+        Some(1) => Ok(true),
+        _ => Err(Error::Address),
+    };
+    let answer = gc::gc_debug_info(
+        DebugInfo::from(reader(0)),
+        DebugAbbrev::from(reader(1)),
+        LocationLists::new(DebugLoc::from(empty), DebugLocLists::from(reader(2))),
+        RangeLists::new(DebugRanges::from(empty), DebugRngLists::from(reader(3))),
+        DebugRngListsBase(setting.ranges_base),
+        is_addr_live,
+        shims::DwoId(0),
+        setting.type_units,
+    );
+    match answer {
+        Err(e) => Outcome::Error(number(&e), e.to_string()),
+        Ok(a) => Outcome::Answer(Answer {
+            rewritten: a.rewritten.map(|v| v.into_vec()),
+            map: a.offset_remap.into_iter().flatten().map(|(old, (new, depth))| (old.0, new.0, depth)).collect(),
+            lists: [a.referenced_rnglists, a.referenced_loclists, a.referenced_str_offsets],
+        }),
+    }
+}
+
+/// Runs the original on the five sections of a bundle.
+pub fn judge(parts: [&[u8]; 5], setting: Setting) -> Judged {
+    probe::clear();
+    let outcome = panic::catch_unwind(AssertUnwindSafe(|| outcome(parts, setting)));
+    let seen = probe::taken();
+    Judged {
+        outcome: outcome.unwrap_or_else(|p| Outcome::Panic(said(p))),
+        met: seen.met,
+        references: seen.references,
+        marks: seen.marks,
+    }
+}
+
+/// `walk_expression` alone: place, old offset and width of each reference in the order of the walk, and whether it is a ULEB128.
+pub fn references(bytes: &[u8], address_size: u8) -> Result<Vec<(usize, u64, usize, bool)>, String> {
+    probe::references(bytes, address_size).map_err(|e| e.to_string())
+}
+
+/// `write_uleb128_padded` alone.
+pub fn padded(value: u64, width: usize) -> Result<Vec<u8>, String> {
+    probe::padded(value, width).map_err(|e| e.to_string())
+}
+
+/// `is_tombstone` alone.
+pub fn tombstone(address: u64, size: u8) -> bool {
+    gc::is_tombstone(address, size)
+}

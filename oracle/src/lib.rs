@@ -1,0 +1,17 @@
+//! The original collector as a library: `judge` runs it, `unit` and `listed` say which listed differences a case can show, `expected` what
+//! the port has to answer, and `cases` makes cases.
+
+pub mod cases;
+mod error;
+pub mod expected;
+pub mod judge;
+pub mod listed;
+mod shims;
+pub mod unit;
+mod package {
+    pub(crate) use crate::shims::DwoId;
+}
+mod relocate {
+    pub(crate) use crate::shims::Relocate;
+}
+include!(concat!(env!("OUT_DIR"), "/declare.rs"));
