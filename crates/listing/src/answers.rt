@@ -74,6 +74,7 @@ fn marked(
     let mut marks = [0u8; 2048];
     let mut targets = [0u64; 8192];
     let mut pairs = [0u32; 16384];
+    let mut work = [0u32; 4096];
     match marking::units::mark_unit(
         section,
         abbreviations,
@@ -89,6 +90,7 @@ fn marked(
         &mut marks,
         &mut targets,
         &mut pairs,
+        &mut work,
     ) {
         UnitMarks::Marked {
             entries: _,
@@ -212,6 +214,7 @@ fn unit(
     let mut marks = [0u8; 2048];
     let mut targets = [0u64; 8192];
     let mut pairs = [0u32; 16384];
+    let mut work = [0u32; 4096];
     let mut map = [7u8; 49152];
     let mut range_list = [7u8; 65536];
     let mut location_list = [7u8; 65536];
@@ -233,6 +236,7 @@ fn unit(
         &mut marks,
         &mut targets,
         &mut pairs,
+        &mut work,
         &mut map,
         &mut range_list,
         &mut location_list,

@@ -41,6 +41,7 @@ fn unit(section: &[u8], abbreviations: &[u8], locations: &[u8], ranges: &[u8], a
     let mut marks = [0u8; 2048];
     let mut targets = [0u64; 8192];
     let mut pairs = [0u32; 16384];
+    let mut work = [0u32; 4096];
     match marking::units::mark_unit(
         section,
         abbreviations,
@@ -56,6 +57,7 @@ fn unit(section: &[u8], abbreviations: &[u8], locations: &[u8], ranges: &[u8], a
         &mut marks,
         &mut targets,
         &mut pairs,
+        &mut work,
     ) {
         UnitMarks::Marked { entries, kept } => {
             number(b"entries ", entries as u64);

@@ -17,6 +17,7 @@ pub mod Rounds
 pub mod Letters
 pub mod Laws
 pub mod Passes
+pub mod Spreads
 pub mod Settled
 pub mod Starts
 pub mod Answers

@@ -24,6 +24,10 @@ use Rattle.marking.proofs.Rows.{UnitRows, unit-rows, no-rows, graph-tak
 use Rattle.marking.proofs.Columned.{pairs-most, drop-zeros, padded-few, padded-take, rows-held}
 use Rattle.marking.proofs.UnitAnalyses.{small-unit, least-left, zeros-own, Answered}
 
+-- one fact more after nine
+pub with-last : {A B C D E F G H I J : Type 0} → A × (B × (C × (D × (E × (F × (G × (H × I))))))) → J → A × (B × (C × (D × (E × (F × (G × (H × (I × J))))))))
+with-last p j = (p .0, (p .1 .0, (p .1 .1 .0, (p .1 .1 .1 .0, (p .1 .1 .1 .1 .0, (p .1 .1 .1 .1 .1 .0, (p .1 .1 .1 .1 .1 .1 .0, (p .1 .1 .1 .1 .1 .1 .1 .0, (p .1 .1 .1 .1 .1 .1 .1 .1, j)))))))))
+
 -- ---- columns that hold rows
 
 pub take-within : (n : ℕ) (xs : List ℕ) → n ≤ length xs → n ≡ length (take n xs)

@@ -31,6 +31,10 @@ pub record Pass (On : Graph → Type 0) (Done : Type 0) (m m′ : List ℕ) (r :
   pub same : r ≡ false → m′ ≡ m
   pub done : r ≡ false → Done
 
+-- the same, where only the marks count
+pub record Spread (On : Graph → Type 0) (m m′ : List ℕ) : Type 0 where
+  pub sound : (g : Graph) → On g → Sound g m → Sound g m′
+
 abbrev pub WithParents : List ℕ → Graph → Type 0
 WithParents ps g = g .parents ≡ ps
 

@@ -6,4 +6,5 @@ pub mod marks;
 pub mod references;
 pub mod root_test;
 pub mod roots;
+mod spread;
 pub mod units;

@@ -6,6 +6,7 @@ ghost use Rattle.marking.specs.Below.{every, tab};
 ghost use Rattle.marking.specs.Graph.{graph, parentFits, pairFits, rootFits, takes as takesOf};
 ghost use Rattle.marking.specs.Marks.{answerOf, endMarks, keptCount};
 ghost use Rattle.marking.specs.Passes.{Pass, WithParents, WithPairs, WithBoth, DownAt, AlongAt, UpAt, Down, Along, Up, Settled, ParentsFit, PairsFit, startMark, namesFirst, endFirst};
+use crate::spread::spread;
 
 // What stands for the parent of an entry that has none.
 const NO_PARENT: u32 = 0xffff_ffff;
@@ -87,7 +88,7 @@ fn takes(parents: &[u32], pairs: &[u32], roots: &[u8], n: usize) -> bool
 // ---- one mark
 
 // Entry i becomes live where its parent is.
-fn down_at(parents: &[u32], marks: &mut [u8], i: usize) -> bool
+pub(crate) fn down_at(parents: &[u32], marks: &mut [u8], i: usize) -> bool
     requires { ⌜ ParentsFit (now parents) (now marks) ⌝ }
     requires { ⌜ i < length (now marks) ⌝ }
     ensures { λ r. ⌜ Pass (WithParents (now (parents .entry))) (DownAt (now (parents .entry)) (now (marks .entry)) i) (now (marks .entry)) (now (marks .exit)) r ⌝ }
@@ -108,7 +109,7 @@ fn down_at(parents: &[u32], marks: &mut [u8], i: usize) -> bool
 }
 
 // What reference j names becomes live where its holder is kept, retained or live.
-fn along_at(pairs: &[u32], marks: &mut [u8], j: usize) -> bool
+pub(crate) fn along_at(pairs: &[u32], marks: &mut [u8], j: usize) -> bool
     requires { ⌜ PairsFit (now pairs) (now marks) ⌝ }
     requires { ⌜ j < length (now pairs) / 2 ⌝ }
     ensures { λ r. ⌜ Pass (WithPairs (now (pairs .entry))) (AlongAt (now (pairs .entry)) (now (marks .entry)) j) (now (marks .entry)) (now (marks .exit)) r ⌝ }
@@ -126,7 +127,7 @@ fn along_at(pairs: &[u32], marks: &mut [u8], j: usize) -> bool
 }
 
 // The parent of entry i is retained where i is kept.
-fn up_at(parents: &[u32], marks: &mut [u8], i: usize) -> bool
+pub(crate) fn up_at(parents: &[u32], marks: &mut [u8], i: usize) -> bool
     requires { ⌜ ParentsFit (now parents) (now marks) ⌝ }
     requires { ⌜ i < length (now marks) ⌝ }
     ensures { λ r. ⌜ Pass (WithParents (now (parents .entry))) (UpAt (now (parents .entry)) (now (marks .entry)) i) (now (marks .entry)) (now (marks .exit)) r ⌝ }
@@ -149,7 +150,7 @@ fn up_at(parents: &[u32], marks: &mut [u8], i: usize) -> bool
 // ---- one pass; each answers whether a mark rose
 
 // From parent to child, the first entry first, so that one pass reaches every depth.
-fn down(parents: &[u32], marks: &mut [u8]) -> bool
+pub(crate) fn down(parents: &[u32], marks: &mut [u8]) -> bool
     requires { ⌜ ParentsFit (now parents) (now marks) ⌝ }
     ensures { λ r. ⌜ Pass (WithParents (now (parents .entry))) (Down (now (parents .entry)) (now (marks .entry))) (now (marks .entry)) (now (marks .exit)) r ⌝ }
 {
@@ -303,12 +304,15 @@ pub enum Marked {
     Refused(u8),
 }
 
-// Marks each entry 1 dead, 2 retained, 3 live. Pairs are two numbers each, the entry that holds the reference and the one that it names; an odd last number
-// counts for nothing. 16, and zeros, where parents, roots and marks differ in length, a parent is not below its child (0xffffffff is none), a pair leaves the
-// tree or a root is above 1.
-// A round looks at each entry twice and at each pair once; the first round that raises no mark is the last. A chain of references is followed in one round where
-// its pairs stand in its order, one link a round where they stand against it. A mark rises at most twice, so n entries take at most 2n + 1 rounds.
-pub fn mark(parents: &[u32], pairs: &[u32], roots: &[u8], marks: &mut [u8]) -> Marked
+// `mark` with memory: a work column, best of zeros and with two numbers an entry, changes its time alone. The rounds start from marks that are spread already, and where
+// the pairs stand by holder the first one raises none and is the last.
+pub(crate) fn mark_with(
+    parents: &[u32],
+    pairs: &[u32],
+    roots: &[u8],
+    marks: &mut [u8],
+    work: &mut [u32],
+) -> Marked
     ensures answer { λ r. ⌜ r ≡ answerOf (graph (now (parents .entry)) (now (pairs .entry)) (now (roots .entry))) (length (now (marks .entry))) ⌝ }
     ensures marks { λ _. ⌜ now (marks .exit) ≡ endMarks (graph (now (parents .entry)) (now (pairs .entry)) (now (roots .entry))) (length (now (marks .entry))) ⌝ }
 {
@@ -317,7 +321,22 @@ pub fn mark(parents: &[u32], pairs: &[u32], roots: &[u8], marks: &mut [u8]) -> M
         return Marked::Refused(16);
     }
     start(roots, marks);
+    spread(parents, pairs, marks, work);
     while round(parents, pairs, marks) {}
     end_first(pairs, marks);
     Marked::Kept(count_kept(marks))
+}
+
+// Marks each entry 1 dead, 2 retained, 3 live. Pairs are two numbers each, the entry that holds the reference and the one that it names; an odd last number
+// counts for nothing. 16, and zeros, where parents, roots and marks differ in length, a parent is not below its child (0xffffffff is none), a pair leaves the
+// tree or a root is above 1.
+// It needs no memory but the marks, and goes by rounds alone: a round looks at each entry twice and at each pair once; the first round that raises no mark is the last. A chain of
+// references is followed in one round where its pairs stand in its order, one link a round where they stand against it. A mark rises at most twice, so n entries take at most
+// 2n + 1 rounds. The marks of a unit are made by `mark_with`.
+pub fn mark(parents: &[u32], pairs: &[u32], roots: &[u8], marks: &mut [u8]) -> Marked
+    ensures answer { λ r. ⌜ r ≡ answerOf (graph (now (parents .entry)) (now (pairs .entry)) (now (roots .entry))) (length (now (marks .entry))) ⌝ }
+    ensures marks { λ _. ⌜ now (marks .exit) ≡ endMarks (graph (now (parents .entry)) (now (pairs .entry)) (now (roots .entry))) (length (now (marks .entry))) ⌝ }
+{
+    let mut none = [0u32; 0];
+    mark_with(parents, pairs, roots, marks, &mut none)
 }

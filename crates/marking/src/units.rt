@@ -3,6 +3,7 @@ ghost use mathlib.Core.Path.{_≡_};
 ghost use Prim.Native.Nat.{_+_, _*_, _-_};
 ghost use mathlib.Core.List.{List};
 ghost use lib.ListN.{length, take, drop};
+ghost use Rattle.readers.specs.Choice.{zeros};
 ghost use Rattle.readers.specs.Header.{headerOf};
 ghost use Rattle.marking.specs.Analysis.{Row, analysed, sections, analysisOf};
 ghost use Rattle.marking.specs.Columns.{padTo, column, offsetsIn, parentsIn, rootsIn, endsIn, namesIn, unitRooms, indexAfter};
@@ -12,7 +13,7 @@ use crate::analysis::analyse;
 use crate::columns::clear_bytes;
 use crate::columns::clear_indexes;
 use crate::marks::Marked;
-use crate::marks::mark;
+use crate::marks::mark_with;
 use readers::offsets::EntryIndex;
 use readers::offsets::UnitOffset;
 
@@ -124,27 +125,33 @@ fn mark_rows(
     marks: &mut [u8],
     targets: &[u64],
     pairs: &mut [u32],
+    work: &mut [u32],
 ) -> UnitMarks
     requires { ⌜ Markable (now offsets) (now parents) (now roots) (now ends) entries (now marks) (now targets) (now pairs) ⌝ }
     ensures answer { λ r. ⌜ ((rows : List Row) → Laid rows (now (offsets .entry)) (now (parents .entry)) (now (roots .entry)) (now (ends .entry)) entries (now (marks .entry)) (now (targets .entry)) (now (pairs .entry)) → r ≡ unitMarks (analysed rows)) ⌝ }
     ensures marks { λ r. ⌜ ((rows : List Row) → Laid rows (now (offsets .entry)) (now (parents .entry)) (now (roots .entry)) (now (ends .entry)) entries (now (marks .entry)) (now (targets .entry)) (now (pairs .entry)) → now (marks .exit) ≡ padTo (length (now (marks .entry))) (marksIn rows)) ⌝ }
     ensures pairs { λ r. ⌜ ((rows : List Row) → Laid rows (now (offsets .entry)) (now (parents .entry)) (now (roots .entry)) (now (ends .entry)) entries (now (marks .entry)) (now (targets .entry)) (now (pairs .entry)) → now (pairs .exit) ≡ padTo (length (now (pairs .entry))) (pairsIn rows)) ⌝ }
+    ensures work { λ _. ⌜ now (work .exit) ≡ zeros (length (now (work .entry))) ⌝ }
 {
     let n = resolve(offsets, ends, entries, targets, pairs);
     let m = 2 * n;
-    match mark(
+    let marked = mark_with(
         &parents[..entries],
         &pairs[..m],
         &roots[..entries],
         &mut marks[..entries],
-    ) {
+        work,
+    );
+    clear_indexes(work);
+    match marked {
         Marked::Kept(kept) => UnitMarks::Marked { entries, kept },
         Marked::Refused(n) => UnitMarks::Refused(n),
     }
 }
 
 // Marks the entries of the first unit of a section: 1 dead, 2 retained, 3 live. The columns are those of `analyse`, with the marks among those of the entry table and the
-// pairs among those of the reference table, two numbers each. A refusal is the analysis's, and leaves zeros.
+// pairs among those of the reference table, two numbers each. A refusal is the analysis's, and leaves zeros. The work column is scratch, zeros on every answer; its length, best two
+// numbers an entry, changes the time alone.
 pub fn mark_unit(
     section: &[u8],
     abbreviations: &[u8],
@@ -160,6 +167,7 @@ pub fn mark_unit(
     marks: &mut [u8],
     targets: &mut [u64],
     pairs: &mut [u32],
+    work: &mut [u32],
 ) -> UnitMarks
     ensures answer { λ r. ⌜ r ≡ unitMarks (analysisOf (sections (now (abbreviations .entry)) (now (locations .entry)) (now (ranges .entry)) (now (addresses .entry)) «ranges_base») (now (section .entry)) (unitRooms (length (now (marks .entry))) (length (now (pairs .entry))) (length (now (offsets .entry))) (length (now (parents .entry))) (length (now (roots .entry))) (length (now (ends .entry))) (length (now (targets .entry))))) ⌝ }
     ensures index { λ _. ⌜ now (index .exit) ≡ indexAfter (now (abbreviations .entry)) (headerOf (now (section .entry))) (length (now (index .entry))) ⌝ }
@@ -170,9 +178,11 @@ pub fn mark_unit(
     ensures marks { λ _. ⌜ now (marks .exit) ≡ column marksIn (length (now (marks .entry))) (analysisOf (sections (now (abbreviations .entry)) (now (locations .entry)) (now (ranges .entry)) (now (addresses .entry)) «ranges_base») (now (section .entry)) (unitRooms (length (now (marks .entry))) (length (now (pairs .entry))) (length (now (offsets .entry))) (length (now (parents .entry))) (length (now (roots .entry))) (length (now (ends .entry))) (length (now (targets .entry))))) ⌝ }
     ensures targets { λ _. ⌜ now (targets .exit) ≡ column namesIn (length (now (targets .entry))) (analysisOf (sections (now (abbreviations .entry)) (now (locations .entry)) (now (ranges .entry)) (now (addresses .entry)) «ranges_base») (now (section .entry)) (unitRooms (length (now (marks .entry))) (length (now (pairs .entry))) (length (now (offsets .entry))) (length (now (parents .entry))) (length (now (roots .entry))) (length (now (ends .entry))) (length (now (targets .entry))))) ⌝ }
     ensures pairs { λ _. ⌜ now (pairs .exit) ≡ column pairsIn (length (now (pairs .entry))) (analysisOf (sections (now (abbreviations .entry)) (now (locations .entry)) (now (ranges .entry)) (now (addresses .entry)) «ranges_base») (now (section .entry)) (unitRooms (length (now (marks .entry))) (length (now (pairs .entry))) (length (now (offsets .entry))) (length (now (parents .entry))) (length (now (roots .entry))) (length (now (ends .entry))) (length (now (targets .entry))))) ⌝ }
+    ensures work { λ _. ⌜ now (work .exit) ≡ zeros (length (now (work .entry))) ⌝ }
 {
     clear_indexes(pairs);
     clear_bytes(marks);
+    clear_indexes(work);
     match analyse(
         section,
         abbreviations,
@@ -203,6 +213,7 @@ pub fn mark_unit(
                 marks,
                 targets,
                 pairs,
+                work,
             )
         }
     }

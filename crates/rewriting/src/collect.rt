@@ -79,6 +79,7 @@ fn clear_tables(
     marks: &mut [u8],
     targets: &mut [u64],
     pairs: &mut [u32],
+    work: &mut [u32],
 )
     ensures index { λ _. ⌜ now (index .exit) ≡ zeros (length (now (index .entry))) ⌝ }
     ensures offsets { λ _. ⌜ now (offsets .exit) ≡ zeros (length (now (offsets .entry))) ⌝ }
@@ -88,11 +89,13 @@ fn clear_tables(
     ensures marks { λ _. ⌜ now (marks .exit) ≡ zeros (length (now (marks .entry))) ⌝ }
     ensures targets { λ _. ⌜ now (targets .exit) ≡ zeros (length (now (targets .entry))) ⌝ }
     ensures pairs { λ _. ⌜ now (pairs .exit) ≡ zeros (length (now (pairs .entry))) ⌝ }
+    ensures work { λ _. ⌜ now (work .exit) ≡ zeros (length (now (work .entry))) ⌝ }
 {
     clear(index);
     clear_columns(offsets, parents, roots, ends, targets);
     clear_bytes(marks);
     clear_indexes(pairs);
+    clear_indexes(work);
 }
 
 // The counts of a unit's lists, or a list has no room.
@@ -352,6 +355,7 @@ fn collect_unit(
     marks: &mut [u8],
     targets: &mut [u64],
     pairs: &mut [u32],
+    work: &mut [u32],
     map: &mut [u8],
     range_list: &mut [u8],
     location_list: &mut [u8],
@@ -376,6 +380,7 @@ fn collect_unit(
         marks,
         targets,
         pairs,
+        work,
     ) {
         UnitMarks::Refused(n) => Collected::Refused(n),
         UnitMarks::Marked { entries, kept } => {
@@ -406,9 +411,9 @@ fn collect_unit(
     }
 }
 
-// Thins the first unit of a section. The sections and the address table are read; the tables (entries: `offsets`, `parents`, `roots`, `ends`, `marks`; references: `targets`, `pairs`; and the index of the
-// declarations) are scratch, zeros on every answer. The map has 12 bytes a place (old offset, new offset, depth), a list 8 bytes a number, all big-endian. Refused with a number of document 01; then map, lists and
-// output are zeros.
+// Thins the first unit of a section. The sections and the address table are read; the tables (entries: `offsets`, `parents`, `roots`, `ends`, `marks`; references: `targets`, `pairs`; the index of the
+// declarations, and the work column of the marking, best two numbers an entry, whose lengths change the time alone) are scratch, zeros on every answer. The map has 12 bytes a place (old offset, new
+// offset, depth), a list 8 bytes a number, all big-endian. Refused with a number of document 01; then map, lists and output are zeros.
 pub fn collect(
     section: &[u8],
     abbreviations: &[u8],
@@ -425,6 +430,7 @@ pub fn collect(
     marks: &mut [u8],
     targets: &mut [u64],
     pairs: &mut [u32],
+    work: &mut [u32],
     map: &mut [u8],
     range_list: &mut [u8],
     location_list: &mut [u8],
@@ -445,6 +451,7 @@ pub fn collect(
     ensures marks { λ _. ⌜ now (marks .exit) ≡ zeros (length (now (marks .entry))) ⌝ }
     ensures targets { λ _. ⌜ now (targets .exit) ≡ zeros (length (now (targets .entry))) ⌝ }
     ensures pairs { λ _. ⌜ now (pairs .exit) ≡ zeros (length (now (pairs .entry))) ⌝ }
+    ensures work { λ _. ⌜ now (work .exit) ≡ zeros (length (now (work .entry))) ⌝ }
 {
     let answer = collect_unit(
         section,
@@ -462,13 +469,24 @@ pub fn collect(
         marks,
         targets,
         pairs,
+        work,
         map,
         range_list,
         location_list,
         string_list,
         out,
     );
-    clear_tables(index, offsets, parents, roots, ends, marks, targets, pairs);
+    clear_tables(
+        index,
+        offsets,
+        parents,
+        roots,
+        ends,
+        marks,
+        targets,
+        pairs,
+        work,
+    );
     match answer {
         Collected::Untouched(c) => Collected::Untouched(c),
         Collected::Rewritten(c) => Collected::Rewritten(c),

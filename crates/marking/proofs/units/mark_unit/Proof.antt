@@ -1,8 +1,9 @@
--- `mark_unit` clears the marks and the pairs, analyses the unit, and marks its rows. Assumes nothing.
-use mathlib.Core.Path.{sym, _∙_}
+-- `mark_unit` clears the marks, the pairs and the work column, analyses the unit, and marks its rows. Assumes nothing.
+use mathlib.Core.Path.{sym, ap, _∙_}
 use lib.ListN.{length}
+use Rattle.readers.specs.Choice.{zeros}
 use borrow.Author.Needs.{needs}
-use Rattle.marking.proofs.UnitMarkings.{unit-refused, unit-markable, unit-marked}
+use Rattle.marking.proofs.UnitMarkings.{with-last, unit-refused, unit-markable, unit-marked}
 use Rattle.marking.proofs.units.mark_unit.Statement.{statement}
 use Rattle.marking.proofs.units.mark_unit.Tie as tie
 
@@ -11,6 +12,9 @@ clear-indexes-requires c κs = search needs
 
 clear-bytes-requires : tie.Need-clear-bytes-requires
 clear-bytes-requires c κs = search needs
+
+clear-indexes-requires-2 : tie.Need-clear-indexes-requires-2
+clear-indexes-requires-2 c κs = search needs
 
 analyse-requires : tie.Need-analyse-requires
 analyse-requires c κs = search needs
@@ -23,11 +27,11 @@ enum-known-entries c = search needs
 
 mark-rows-requires : tie.Need-mark-rows-requires
 mark-rows-requires c κs =
-    let a = c .before .before .before .before .before .before .before .before .before .before .before .before .before .before .before .before .before .before .before .before .before .before .analyse in
-    let s = c .before .before .before .before .before .before .before .before .before .before .before .before .before .before .before .before .before .before .before .before .before .before .before .before .before .before .before .before .before .before .before .before .before .before .before .before .before .before .before .before .before .before .before .before .before .before .before .before .before .before .args in
-    let u = c .before .before .before .before .before .before .before .before .before .before .before .before .before .before .before .before .before .before .before .before .before .before .before .before .before .before .before .before .before .before .before .clear-bytes .ensures in
-    let z = c .before .before .before .before .before .before .before .before .before .before .before .before .before .before .before .before .before .before .before .before .before .before .before .before .before .before .before .before .before .before .before .before .before .before .before .clear-indexes .ensures in
-    unit-markable _ _ (length (s .marks .now)) (length (s .pairs .now)) _ _ _ _ _ _ _ _ _ _ _ _ _ _ u z (a .kept .1 .1 .1 .1 .1 .1 .1 .1 .1 .0) (a .kept .1 .1 .1 .1 .1 .1 .1 .1 .1 .1 .0) (a .kept .1 .1 .1 .1 .1 .1 .1 .1 .1 .1 .1 .0) (a .kept .1 .1 .1 .1 .1 .1 .1 .1 .1 .1 .1 .1 .0) (a .kept .1 .1 .1 .1 .1 .1 .1 .1 .1 .1 .1 .1 .1 .0) _ _ (sym (c .before .before .before .before .before .before .before .before .entries .given .1) ∙ a .ensures .0, a .ensures .1)
+    let a = c .before .before .before .before .before .before .before .before .before .before .before .before .before .before .before .before .before .before .before .before .before .before .before .analyse in
+    let s = c .before .before .before .before .before .before .before .before .before .before .before .before .before .before .before .before .before .before .before .before .before .before .before .before .before .before .before .before .before .before .before .before .before .before .before .before .before .before .before .before .before .before .before .before .before .before .before .before .before .before .before .before .before .before .before .before .args in
+    let u = c .before .before .before .before .before .before .before .before .before .before .before .before .before .before .before .before .before .before .before .before .before .before .before .before .before .before .before .before .before .before .before .before .before .before .before .before .clear-bytes .ensures in
+    let z = c .before .before .before .before .before .before .before .before .before .before .before .before .before .before .before .before .before .before .before .before .before .before .before .before .before .before .before .before .before .before .before .before .before .before .before .before .before .before .before .before .clear-indexes .ensures in
+    unit-markable _ _ (length (s .marks .now)) (length (s .pairs .now)) _ _ _ _ _ _ _ _ _ _ _ _ _ _ u z (a .kept .1 .1 .1 .1 .1 .1 .1 .1 .1 .0) (a .kept .1 .1 .1 .1 .1 .1 .1 .1 .1 .1 .0) (a .kept .1 .1 .1 .1 .1 .1 .1 .1 .1 .1 .1 .0) (a .kept .1 .1 .1 .1 .1 .1 .1 .1 .1 .1 .1 .1 .0) (a .kept .1 .1 .1 .1 .1 .1 .1 .1 .1 .1 .1 .1 .1 .0) _ _ (sym (c .before .before .before .before .before .before .before .before .before .entries .given .1) ∙ a .ensures .0, a .ensures .1)
 
 same-length : tie.Need-same-length
 same-length c = search needs
@@ -53,16 +57,16 @@ same-length-7 c = search needs
 same-length-8 : tie.Need-same-length-8
 same-length-8 c = search needs
 
+same-length-9 : tie.Need-same-length-9
+same-length-9 c = search needs
+
 returns : tie.Need-returns
 returns c =
     let a = c .before .before .before .before .before .before .before .before .before .before .before .before .before .before .before .analyse in
-    let s = c .before .before .before .before .before .before .before .before .before .before .before .before .before .before .before .before .before .before .before .before .before .before .before .before .before .before .before .before .before .before .before .before .before .before .before .before .before .before .before .before .before .before .before .args in
-    let u = c .before .before .before .before .before .before .before .before .before .before .before .before .before .before .before .before .before .before .before .before .before .before .before .before .clear-bytes .ensures in
-    let z = c .before .before .before .before .before .before .before .before .before .before .before .before .before .before .before .before .before .before .before .before .before .before .before .before .before .before .before .before .clear-indexes .ensures in
-    unit-refused _ _ (length (s .marks .now)) (length (s .pairs .now)) _ _ _ _ _ _ _ _ _ _ _ _ _ _ u z _ (sym (c .before .n .given .1) ∙ a .ensures .0, a .ensures .1)
-
-same-length-9 : tie.Need-same-length-9
-same-length-9 c = search needs
+    let s = c .before .before .before .before .before .before .before .before .before .before .before .before .before .before .before .before .before .before .before .before .before .before .before .before .before .before .before .before .before .before .before .before .before .before .before .before .before .before .before .before .before .before .before .before .before .before .before .before .args in
+    let u = c .before .before .before .before .before .before .before .before .before .before .before .before .before .before .before .before .before .before .before .before .before .before .before .before .before .before .before .before .clear-bytes .ensures in
+    let z = c .before .before .before .before .before .before .before .before .before .before .before .before .before .before .before .before .before .before .before .before .before .before .before .before .before .before .before .before .before .before .before .before .clear-indexes .ensures in
+    with-last (unit-refused _ _ (length (s .marks .now)) (length (s .pairs .now)) _ _ _ _ _ _ _ _ _ _ _ _ _ _ u z _ (sym (c .before .n .given .1) ∙ a .ensures .0, a .ensures .1)) (c .before .before .before .before .before .before .before .before .before .before .before .before .before .before .before .before .before .before .before .before .before .before .before .before .clear-indexes2 .ensures)
 
 same-length-10 : tie.Need-same-length-10
 same-length-10 c = search needs
@@ -77,24 +81,30 @@ same-length-13 : tie.Need-same-length-13
 same-length-13 c = search needs
 
 same-length-14 : tie.Need-same-length-14
-same-length-14 c =
-    c .before .before .before .before .mark-rows .kept .1 .1 .1 .1 .1 .0 ∙ c .before .before .before .before .before .before .before .before .before .before .before .before .before .before .before .before .before .before .before .before .before .before .before .before .before .before .before .before .before .before .before .before .before .before .before .before .clear-bytes .kept .0
+same-length-14 c = search needs
 
 same-length-15 : tie.Need-same-length-15
-same-length-15 c = search needs
+same-length-15 c =
+    c .before .before .before .before .before .before .mark-rows .kept .1 .1 .1 .1 .1 .0 ∙ c .before .before .before .before .before .before .before .before .before .before .before .before .before .before .before .before .before .before .before .before .before .before .before .before .before .before .before .before .before .before .before .before .before .before .before .before .before .before .before .before .before .before .before .clear-bytes .kept .0
 
 same-length-16 : tie.Need-same-length-16
-same-length-16 c =
-    c .before .before .before .before .mark-rows .kept .1 .1 .1 .1 .1 .1 .1 .0 ∙ c .before .before .before .before .before .before .before .before .before .before .before .before .before .before .before .before .before .before .before .before .before .before .before .before .before .before .before .before .before .before .before .before .before .before .before .before .before .before .before .before .clear-indexes .kept .0
+same-length-16 c = search needs
+
+same-length-17 : tie.Need-same-length-17
+same-length-17 c =
+    c .before .before .before .before .before .before .mark-rows .kept .1 .1 .1 .1 .1 .1 .1 .0 ∙ c .before .before .before .before .before .before .before .before .before .before .before .before .before .before .before .before .before .before .before .before .before .before .before .before .before .before .before .before .before .before .before .before .before .before .before .before .before .before .before .before .before .before .before .before .before .before .before .clear-indexes .kept .0
+
+same-length-18 : tie.Need-same-length-18
+same-length-18 c = c .before .before .before .before .before .before .mark-rows .kept .1 .1 .1 .1 .1 .1 .1 .1 .0 ∙ c .before .before .before .before .before .before .before .before .before .before .before .before .before .before .before .before .before .before .before .before .before .before .before .before .before .before .before .before .before .before .before .before .before .before .before .before .before .before .before .clear-indexes2 .kept .0
 
 returns-2 : tie.Need-returns-2
 returns-2 c =
-    let a = c .before .before .before .before .before .before .before .before .before .before .before .before .before .before .before .before .before .before .before .before .before .before .before .before .before .before .before .analyse in
-    let s = c .before .before .before .before .before .before .before .before .before .before .before .before .before .before .before .before .before .before .before .before .before .before .before .before .before .before .before .before .before .before .before .before .before .before .before .before .before .before .before .before .before .before .before .before .before .before .before .before .before .before .before .before .before .before .before .args in
-    let u = c .before .before .before .before .before .before .before .before .before .before .before .before .before .before .before .before .before .before .before .before .before .before .before .before .before .before .before .before .before .before .before .before .before .before .before .before .clear-bytes .ensures in
-    let z = c .before .before .before .before .before .before .before .before .before .before .before .before .before .before .before .before .before .before .before .before .before .before .before .before .before .before .before .before .before .before .before .before .before .before .before .before .before .before .before .before .clear-indexes .ensures in
-    let m = c .before .before .before .before .mark-rows .ensures in
-    unit-marked _ _ (length (s .marks .now)) (length (s .pairs .now)) _ _ _ _ _ _ _ _ _ _ _ _ _ _ u z (a .kept .1 .1 .1 .1 .1 .1 .1 .1 .1 .0) (a .kept .1 .1 .1 .1 .1 .1 .1 .1 .1 .1 .0) (a .kept .1 .1 .1 .1 .1 .1 .1 .1 .1 .1 .1 .0) (a .kept .1 .1 .1 .1 .1 .1 .1 .1 .1 .1 .1 .1 .0) (a .kept .1 .1 .1 .1 .1 .1 .1 .1 .1 .1 .1 .1 .1 .0) _ _ (sym (c .before .before .before .before .before .before .before .before .before .before .before .before .before .entries .given .1) ∙ a .ensures .0, a .ensures .1) _ _ _ (m .0) (m .1 .0) (m .1 .1)
+    let a = c .before .before .before .before .before .before .before .before .before .before .before .before .before .before .before .before .before .before .before .before .before .before .before .before .before .before .before .before .before .before .analyse in
+    let s = c .before .before .before .before .before .before .before .before .before .before .before .before .before .before .before .before .before .before .before .before .before .before .before .before .before .before .before .before .before .before .before .before .before .before .before .before .before .before .before .before .before .before .before .before .before .before .before .before .before .before .before .before .before .before .before .before .before .before .before .before .before .before .before .args in
+    let u = c .before .before .before .before .before .before .before .before .before .before .before .before .before .before .before .before .before .before .before .before .before .before .before .before .before .before .before .before .before .before .before .before .before .before .before .before .before .before .before .before .before .before .before .clear-bytes .ensures in
+    let z = c .before .before .before .before .before .before .before .before .before .before .before .before .before .before .before .before .before .before .before .before .before .before .before .before .before .before .before .before .before .before .before .before .before .before .before .before .before .before .before .before .before .before .before .before .before .before .before .clear-indexes .ensures in
+    let m = c .before .before .before .before .before .before .mark-rows .ensures in
+    with-last (unit-marked _ _ (length (s .marks .now)) (length (s .pairs .now)) _ _ _ _ _ _ _ _ _ _ _ _ _ _ u z (a .kept .1 .1 .1 .1 .1 .1 .1 .1 .1 .0) (a .kept .1 .1 .1 .1 .1 .1 .1 .1 .1 .1 .0) (a .kept .1 .1 .1 .1 .1 .1 .1 .1 .1 .1 .1 .0) (a .kept .1 .1 .1 .1 .1 .1 .1 .1 .1 .1 .1 .1 .0) (a .kept .1 .1 .1 .1 .1 .1 .1 .1 .1 .1 .1 .1 .1 .0) _ _ (sym (c .before .before .before .before .before .before .before .before .before .before .before .before .before .before .before .before .entries .given .1) ∙ a .ensures .0, a .ensures .1) _ _ _ (m .0) (m .1 .0) (m .1 .1 .0)) (m .1 .1 .1 ∙ ap zeros (c .before .before .before .before .before .before .before .before .before .before .before .before .before .before .before .before .before .before .before .before .before .before .before .before .before .before .before .before .before .before .before .before .before .before .before .before .before .before .before .clear-indexes2 .kept .0))
 
 pub mark-unit-spec : {M : Type 1} → statement M
 mark-unit-spec =
@@ -102,6 +112,7 @@ mark-unit-spec =
     (tie.spec
     clear-indexes-requires
     clear-bytes-requires
+    clear-indexes-requires-2
     analyse-requires
     enum-known-n
     enum-known-entries
@@ -114,8 +125,8 @@ mark-unit-spec =
     same-length-6
     same-length-7
     same-length-8
-    returns
     same-length-9
+    returns
     same-length-10
     same-length-11
     same-length-12
@@ -123,4 +134,6 @@ mark-unit-spec =
     same-length-14
     same-length-15
     same-length-16
+    same-length-17
+    same-length-18
     returns-2)

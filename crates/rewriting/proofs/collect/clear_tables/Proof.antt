@@ -15,6 +15,9 @@ clear-bytes-requires c κs = search needs
 clear-indexes-requires : tie.Need-clear-indexes-requires
 clear-indexes-requires c κs = search needs
 
+clear-indexes-requires-2 : tie.Need-clear-indexes-requires-2
+clear-indexes-requires-2 c κs = search needs
+
 same-length : tie.Need-same-length
 same-length c = search needs
 
@@ -39,8 +42,11 @@ same-length-7 c = search needs
 same-length-8 : tie.Need-same-length-8
 same-length-8 c = search needs
 
+same-length-9 : tie.Need-same-length-9
+same-length-9 c = search needs
+
 returns : tie.Need-returns
-returns c = (search needs, (search needs, (search needs, (search needs, (search needs, (search needs, (search needs, search needs)))))))
+returns c = (search needs, (search needs, (search needs, (search needs, (search needs, (search needs, (search needs, (search needs, search needs))))))))
 
 pub clear-tables-spec : {M : Type 1} → statement M
 clear-tables-spec =
@@ -50,6 +56,7 @@ clear-tables-spec =
     clear-columns-requires
     clear-bytes-requires
     clear-indexes-requires
+    clear-indexes-requires-2
     same-length
     same-length-2
     same-length-3
@@ -58,4 +65,5 @@ clear-tables-spec =
     same-length-6
     same-length-7
     same-length-8
+    same-length-9
     returns)

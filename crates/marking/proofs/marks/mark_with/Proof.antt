@@ -1,4 +1,4 @@
--- `mark` meets its contract. The loop's invariant: the marks are sound; their sum rises. At the end they are settled. Assumes nothing.
+-- `mark_with` meets its contract. The loop's invariant: the marks are sound; their sum rises. At the end they are settled. Assumes nothing.
 use Prim.Native.Nat.{_*_, _-_}
 use mathlib.Core.Path.{refl, sym, ap, _∙_}
 use native.Mathlib.Omega.{arith}
@@ -9,30 +9,34 @@ use Rattle.marking.specs.Graph.{Graph, graph}
 use Rattle.marking.specs.Passes.{sum, Sound, endFirst}
 use Rattle.marking.proofs.Starts.{start-sound}
 use Rattle.marking.proofs.Answers.{Taken, taken, parents-fit, pairs-fit, sound-sum, refused-answer, refused-marks, marked-answer, marked-marks}
-use Rattle.marking.proofs.marks.mark.Statement.{statement}
-use Rattle.marking.proofs.marks.mark.Tie as tie
+use Rattle.marking.proofs.marks.mark_with.Statement.{statement}
+use Rattle.marking.proofs.marks.mark_with.Tie as tie
 
 abbrev Inv-loop : tie.InvT-loop
-Inv-loop parents pairs roots marks₀ marks = Sound (graph parents pairs roots) marks
+Inv-loop parents pairs roots marks₀ work marks = Sound (graph parents pairs roots) marks
 
 abbrev μ-loop : tie.MeasureT-loop
-μ-loop parents pairs roots marks₀ marks = 3 * length parents - sum marks
+μ-loop parents pairs roots marks₀ work marks = 3 * length parents - sum marks
 
 -- the graph of the arguments, and what is known of it once it is taken
 abbrev G : tie.Start Inv-loop μ-loop → Graph
 G s = graph (s .args .parents .now) (s .args .pairs .now) (s .args .roots .now)
 
 abbrev start-of : tie.After-takes Inv-loop μ-loop → tie.Start Inv-loop μ-loop
-start-of c = c .before .before .before .before .before
+start-of c = c .before .before .before .before .before .before
 
 known : (c : tie.Else1 Inv-loop μ-loop) → Taken (G (start-of (c .before))) (length (start-of (c .before) .args .marks .now))
 known c = taken (G (start-of (c .before))) (length (start-of (c .before) .args .marks .now)) (sym (c .before .takes .ensures) ∙ not-false _ (c .if1 .left))
 
 abbrev else-of : tie.At-loop Inv-loop μ-loop → tie.Else1 Inv-loop μ-loop
-else-of c = c .before .before .before .before .before
+else-of c = c .before .before .before .before .before .before .before .before .before .before .before .before
 
 abbrev graph-of : tie.At-loop Inv-loop μ-loop → Graph
 graph-of l = G (start-of (else-of l .before))
+
+-- the first marks are sound
+started : (c : tie.After-start Inv-loop μ-loop) → Sound (G (start-of (c .before .before .before))) (c .start .last .1 .0)
+started c = let e = c .before .before in start-sound (G (start-of (e .before))) (known e .form) (c .start .last .1 .0) (c .start .ensures)
 
 -- after a round the marks are sound still
 sound : (c : tie.After-round Inv-loop μ-loop) → Sound (graph-of (c .before .before)) (c .round .last .1 .1 .0)
@@ -56,10 +60,19 @@ returns c =
 start-requires : tie.Need-start-requires Inv-loop μ-loop
 start-requires c κs = let k = known (c .before) in k .long ∙ sym (k .form .same-roots)
 
+spread-requires : tie.Need-spread-requires Inv-loop μ-loop
+spread-requires c κs =
+    let s = c .before .before .before .before in
+    let e = s .before .before in
+    let g = G (start-of (e .before)) in
+    let v = known e .form in
+    (parents-fit g (s .start .last .1 .0) v (started s), pairs-fit g (s .start .last .1 .0) v (started s))
+
 loop-holds : tie.Need-loop-holds Inv-loop μ-loop
 loop-holds c =
-    let e = c .before .before .before .before in
-    start-sound (G (start-of (e .before))) (known e .form) (c .before .before .start .last .1 .0) (c .before .before .start .ensures)
+    let p = c .before .before .before .before in
+    let s = p .before .before .before .before .before in
+    p .spread .ensures .sound (G (start-of (s .before .before .before))) (refl, refl) (started s)
 
 round-requires : tie.Need-round-requires Inv-loop μ-loop
 round-requires c κs =
@@ -90,6 +103,9 @@ same-length-2 c =
     let r = f .before .before .before .before .before in
     f .end-first .kept .1 .0 ∙ sound r .long ∙ sym (known (else-of (r .before .before)) .long)
 
+same-length-3 : tie.Need-same-length-3 Inv-loop μ-loop
+same-length-3 c = search needs
+
 returns-2 : tie.Need-returns-2 Inv-loop μ-loop
 returns-2 c =
     let f = c .before .before .before .before in
@@ -104,8 +120,8 @@ returns-2 c =
       marked-marks (graph-of l) n (l .loop .marks) (f .end-first .last .1 .0) yes (l .loop .inv) (r .round .ensures .done no) ends,
     )
 
-pub mark-spec : {M : Type 1} → statement M
-mark-spec =
+pub mark-with-spec : {M : Type 1} → statement M
+mark-with-spec =
     tie.close
     (tie.spec
     Inv-loop
@@ -115,6 +131,7 @@ mark-spec =
     same-length
     returns
     start-requires
+    spread-requires
     loop-holds
     round-requires
     loop-less
@@ -122,4 +139,5 @@ mark-spec =
     end-first-requires
     count-kept-requires
     same-length-2
+    same-length-3
     returns-2)

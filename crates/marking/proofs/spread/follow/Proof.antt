@@ -1,0 +1,88 @@
+-- `follow` meets its contract: the marks so far are sound where those at the start were. Assumes nothing.
+use Prim.Native.Nat.{_≤_, _-_}
+use mathlib.Core.Path.{_≡_}
+use native.Mathlib.Omega.{arith}
+use borrow.Author.Needs.{needs}
+use lib.ListN.{length}
+use Rattle.marking.specs.Passes.{WithBoth, Spread}
+use Rattle.marking.proofs.Passes.{pairs-fit-still}
+use Rattle.marking.proofs.Spreads.{parents-fit-still, spread-on}
+use Rattle.marking.proofs.spread.follow.Statement.{statement}
+use Rattle.marking.proofs.spread.follow.Tie as tie
+
+abbrev Inv-loop : tie.InvT-loop
+Inv-loop parents pairs marks₀ work₀ holder top n to₀ j₀ marks work to j = (j ≤ n) × (length marks ≡ length marks₀) × (length work ≡ length work₀) × Spread (WithBoth parents pairs) marks₀ marks
+
+abbrev μ-loop : tie.MeasureT-loop
+μ-loop parents pairs marks₀ work₀ holder top n to₀ j₀ marks work to j = n - j
+
+first-pair-requires : tie.Need-first-pair-requires Inv-loop μ-loop
+first-pair-requires c κs = search needs
+
+loop-holds : tie.Need-loop-holds Inv-loop μ-loop
+loop-holds c = search needs
+
+mul-wide : tie.Need-mul-wide Inv-loop μ-loop
+mul-wide c = search needs
+
+mul-wide-2 : tie.Need-mul-wide-2 Inv-loop μ-loop
+mul-wide-2 c = search needs
+
+shared-slice-read-wide : tie.Need-shared-slice-read-wide Inv-loop μ-loop
+shared-slice-read-wide c = search needs
+
+wide-requires : tie.Need-wide-requires Inv-loop μ-loop
+wide-requires c κs = search needs
+
+same-length : tie.Need-same-length Inv-loop μ-loop
+same-length c = search needs
+
+same-length-2 : tie.Need-same-length-2 Inv-loop μ-loop
+same-length-2 c = search needs
+
+returns : tie.Need-returns Inv-loop μ-loop
+returns c = search needs
+
+follow-at-requires : tie.Need-follow-at-requires Inv-loop μ-loop
+follow-at-requires c κs = (search parents-fit-still, (search pairs-fit-still, omega arith))
+
+add-j : tie.Need-add-j Inv-loop μ-loop
+add-j c = search needs
+
+loop-less : tie.Need-loop-less Inv-loop μ-loop
+loop-less c = search needs
+
+loop-again : tie.Need-loop-again Inv-loop μ-loop
+loop-again c = (omega arith, search needs, search needs, search spread-on)
+
+same-length-3 : tie.Need-same-length-3 Inv-loop μ-loop
+same-length-3 c = search needs
+
+same-length-4 : tie.Need-same-length-4 Inv-loop μ-loop
+same-length-4 c = search needs
+
+returns-2 : tie.Need-returns-2 Inv-loop μ-loop
+returns-2 c = search needs
+
+pub follow-spec : {M : Type 1} → statement M
+follow-spec =
+    tie.close
+    (tie.spec
+    Inv-loop
+    μ-loop
+    first-pair-requires
+    loop-holds
+    mul-wide
+    mul-wide-2
+    shared-slice-read-wide
+    wide-requires
+    same-length
+    same-length-2
+    returns
+    follow-at-requires
+    add-j
+    loop-less
+    loop-again
+    same-length-3
+    same-length-4
+    returns-2)

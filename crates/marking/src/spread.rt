@@ -1,0 +1,269 @@
+// The marks of a unit spread by a work list, so that the rounds that follow find nothing to do. What is proved of it is that each mark it raises is
+// justified; that it raises all of them is left to the rounds. So nothing is known of what the work column holds: each number taken from it is tested.
+ghost use mathlib.Core.Path.{_≡_};
+ghost use Prim.Native.Nat.{_/_, _<_, _≤_};
+ghost use lib.ListN.{length};
+ghost use Rattle.marking.specs.Passes.{WithParents, WithBoth, ParentsFit, PairsFit, Spread};
+use crate::marks::along_at;
+use crate::marks::down;
+use crate::marks::down_at;
+use crate::marks::up_at;
+
+// ---- the work column: for each entry the end of its descendants, then a stack of entries; `top` is the place past the stack
+
+// An entry or a place as the column holds it.
+fn stored(i: usize) -> u32 {
+    if i > 0xffff_ffff {
+        return 0xffff_ffff;
+    }
+    i as u32
+}
+
+fn wide(x: u32) -> usize
+    ensures { λ r. ⌜ r ≡ x ⌝ }
+{
+    x as usize
+}
+
+// The end of entry k's descendants in a tree of n entries, past k at least.
+fn end_of(work: &[u32], k: usize, n: usize) -> usize
+    requires { ⌜ k < n ⌝ }
+    ensures past { λ r. ⌜ k < r ⌝ }
+    ensures inside { λ r. ⌜ r ≤ n ⌝ }
+{
+    if k >= work.len() {
+        return k + 1;
+    }
+    let end = wide(work[k]);
+    if end <= k {
+        return k + 1;
+    }
+    if end > n {
+        return n;
+    }
+    end
+}
+
+// The end that entry i has is this one at least.
+fn raise_end(work: &mut [u32], i: usize, end: u32) {
+    if i >= work.len() {
+        return;
+    }
+    if work[i] < end {
+        work[i] = end;
+    }
+}
+
+// Entry i has its end, and its parent ends no sooner.
+fn widen(parents: &[u32], work: &mut [u32], i: usize)
+    requires { ⌜ i < length (now parents) ⌝ }
+{
+    let end = stored(end_of(work, i, parents.len()));
+    raise_end(work, i, end);
+    raise_end(work, wide(parents[i]), end);
+}
+
+// The ends of all entries' descendants, into a column of zeros, the last entry first.
+fn subtree_ends(parents: &[u32], work: &mut [u32]) {
+    let mut i = parents.len();
+    while 0 < i {
+        i -= 1;
+        widen(parents, work, i);
+    }
+}
+
+// Entry i onto the stack.
+fn push(work: &mut [u32], top: usize, i: usize) -> usize {
+    if top >= work.len() {
+        return top;
+    }
+    work[top] = stored(i);
+    top + 1
+}
+
+// An entry that is now kept onto the stack, where its mark before was not one of a kept entry.
+fn push_new(work: &mut [u32], top: usize, i: usize, before: u8) -> usize {
+    if before >= 2 {
+        return top;
+    }
+    push(work, top, i)
+}
+
+// Every kept entry onto the empty stack.
+fn push_kept(marks: &[u8], work: &mut [u32]) -> usize {
+    let mut top = marks.len();
+    let mut i = marks.len();
+    while 0 < i {
+        i -= 1;
+        if marks[i] >= 2 {
+            top = push(work, top, i);
+        }
+    }
+    top
+}
+
+// ---- one mark; where an entry is now kept that was not, it goes onto the stack
+
+// Entry k becomes live where its parent is.
+fn reach_child(parents: &[u32], marks: &mut [u8], work: &mut [u32], k: usize, top: usize) -> usize
+    requires { ⌜ ParentsFit (now parents) (now marks) ⌝ }
+    requires { ⌜ k < length (now marks) ⌝ }
+    ensures { λ _. ⌜ Spread (WithParents (now (parents .entry))) (now (marks .entry)) (now (marks .exit)) ⌝ }
+{
+    let before = marks[k];
+    if !down_at(parents, marks, k) {
+        return top;
+    }
+    push_new(work, top, k, before)
+}
+
+// The parent of entry i is retained where i is kept.
+fn lift(parents: &[u32], marks: &mut [u8], work: &mut [u32], i: usize, top: usize) -> usize
+    requires { ⌜ ParentsFit (now parents) (now marks) ⌝ }
+    requires { ⌜ i < length (now marks) ⌝ }
+    ensures { λ _. ⌜ Spread (WithParents (now (parents .entry))) (now (marks .entry)) (now (marks .exit)) ⌝ }
+{
+    if !up_at(parents, marks, i) {
+        return top;
+    }
+    push(work, top, wide(parents[i]))
+}
+
+// The descendants of entry i become live where it is. Those of a live one are live already, and are passed over.
+fn descend(parents: &[u32], marks: &mut [u8], work: &mut [u32], i: usize, top: usize) -> usize
+    requires { ⌜ ParentsFit (now parents) (now marks) ⌝ }
+    requires { ⌜ i < length (now marks) ⌝ }
+    ensures { λ _. ⌜ Spread (WithParents (now (parents .entry))) (now (marks .entry)) (now (marks .exit)) ⌝ }
+{
+    let end = end_of(work, i, marks.len());
+    let mut to = top;
+    let mut k = i + 1;
+    while k < end {
+        if marks[k] >= 3 {
+            k = end_of(work, k, end);
+        } else {
+            to = reach_child(parents, marks, work, k, to);
+            k += 1;
+        }
+    }
+    to
+}
+
+// What reference j names becomes live where its holder is kept, and so do its descendants.
+fn follow_at(
+    parents: &[u32],
+    pairs: &[u32],
+    marks: &mut [u8],
+    work: &mut [u32],
+    j: usize,
+    top: usize,
+) -> usize
+    requires { ⌜ ParentsFit (now parents) (now marks) ⌝ }
+    requires { ⌜ PairsFit (now pairs) (now marks) ⌝ }
+    requires { ⌜ j < length (now pairs) / 2 ⌝ }
+    ensures { λ _. ⌜ Spread (WithBoth (now (parents .entry)) (now (pairs .entry))) (now (marks .entry)) (now (marks .exit)) ⌝ }
+{
+    let t = wide(pairs[2 * j + 1]);
+    let before = marks[t];
+    if !along_at(pairs, marks, j) {
+        return top;
+    }
+    let to = push_new(work, top, t, before);
+    descend(parents, marks, work, t, to)
+}
+
+// ---- the references of an entry
+
+// The first pair of a holder, where pairs stand by holder.
+fn first_pair(pairs: &[u32], holder: usize) -> usize
+    ensures { λ r. ⌜ r ≤ length (now (pairs .entry)) / 2 ⌝ }
+{
+    let mut low = 0;
+    let mut high = pairs.len() / 2;
+    while low < high {
+        let middle = low + (high - low) / 2;
+        if wide(pairs[2 * middle]) < holder {
+            low = middle + 1;
+        } else {
+            high = middle;
+        }
+    }
+    low
+}
+
+// All references of a holder.
+fn follow(
+    parents: &[u32],
+    pairs: &[u32],
+    marks: &mut [u8],
+    work: &mut [u32],
+    holder: usize,
+    top: usize,
+) -> usize
+    requires { ⌜ ParentsFit (now parents) (now marks) ⌝ }
+    requires { ⌜ PairsFit (now pairs) (now marks) ⌝ }
+    ensures { λ _. ⌜ Spread (WithBoth (now (parents .entry)) (now (pairs .entry))) (now (marks .entry)) (now (marks .exit)) ⌝ }
+{
+    let n = pairs.len() / 2;
+    let mut to = top;
+    let mut j = first_pair(pairs, holder);
+    while j < n {
+        if wide(pairs[2 * j]) != holder {
+            return to;
+        }
+        to = follow_at(parents, pairs, marks, work, j, to);
+        j += 1;
+    }
+    to
+}
+
+// ---- the work list
+
+// The entry at a place of the stack: its references and its parent.
+fn visit(parents: &[u32], pairs: &[u32], marks: &mut [u8], work: &mut [u32], place: usize) -> usize
+    requires { ⌜ ParentsFit (now parents) (now marks) ⌝ }
+    requires { ⌜ PairsFit (now pairs) (now marks) ⌝ }
+    ensures { λ _. ⌜ Spread (WithBoth (now (parents .entry)) (now (pairs .entry))) (now (marks .entry)) (now (marks .exit)) ⌝ }
+{
+    if place >= work.len() {
+        return place;
+    }
+    let i = wide(work[place]);
+    if i >= marks.len() {
+        return place;
+    }
+    let top = follow(parents, pairs, marks, work, i, place);
+    lift(parents, marks, work, i, top)
+}
+
+// Entries are taken off the stack until it is empty. Each was put there once, when it was first kept, so as many turns as entries are enough.
+fn visit_all(parents: &[u32], pairs: &[u32], marks: &mut [u8], work: &mut [u32], top: usize)
+    requires { ⌜ ParentsFit (now parents) (now marks) ⌝ }
+    requires { ⌜ PairsFit (now pairs) (now marks) ⌝ }
+    ensures { λ _. ⌜ Spread (WithBoth (now (parents .entry)) (now (pairs .entry))) (now (marks .entry)) (now (marks .exit)) ⌝ }
+{
+    let mut to = top;
+    let mut i = 0;
+    while i < marks.len() {
+        if to <= marks.len() {
+            return;
+        }
+        to = visit(parents, pairs, marks, work, to - 1);
+        i += 1;
+    }
+}
+
+// Spreads the marks that `start` left. The work column is lent as zeros; where it has not two places an entry nothing is done.
+pub(crate) fn spread(parents: &[u32], pairs: &[u32], marks: &mut [u8], work: &mut [u32])
+    requires { ⌜ ParentsFit (now parents) (now marks) ⌝ }
+    requires { ⌜ PairsFit (now pairs) (now marks) ⌝ }
+    ensures { λ _. ⌜ Spread (WithBoth (now (parents .entry)) (now (pairs .entry))) (now (marks .entry)) (now (marks .exit)) ⌝ }
+{
+    if work.len() / 2 < marks.len() {
+        return;
+    }
+    subtree_ends(parents, work);
+    down(parents, marks);
+    let top = push_kept(marks, work);
+    visit_all(parents, pairs, marks, work, top);
+}
