@@ -26,6 +26,7 @@ pub extern "C" fn collector_collect_lent(
     marks: &mut [u8],
     targets: &mut [u64],
     pairs: &mut [u32],
+    work: &mut [u32],
     map: &mut [u8],
     range_list: &mut [u8],
     location_list: &mut [u8],
@@ -48,6 +49,7 @@ pub extern "C" fn collector_collect_lent(
     ensures marks { λ _. ⌜ now (marks .exit) ≡ zeros (length (now (marks .entry))) ⌝ }
     ensures targets { λ _. ⌜ now (targets .exit) ≡ zeros (length (now (targets .entry))) ⌝ }
     ensures pairs { λ _. ⌜ now (pairs .exit) ≡ zeros (length (now (pairs .entry))) ⌝ }
+    ensures work { λ _. ⌜ now (work .exit) ≡ zeros (length (now (work .entry))) ⌝ }
 {
     let answer = collect(
         section,
@@ -65,6 +67,7 @@ pub extern "C" fn collector_collect_lent(
         marks,
         targets,
         pairs,
+        work,
         map,
         range_list,
         location_list,
@@ -107,6 +110,7 @@ pub extern "C" fn collector_collect(
     let mut marks = [0u8; 2048];
     let mut targets = [0u64; 8192];
     let mut pairs = [0u32; 16384];
+    let mut work = [0u32; 4096];
     collector_collect_lent(
         section,
         abbreviations,
@@ -123,6 +127,7 @@ pub extern "C" fn collector_collect(
         &mut marks,
         &mut targets,
         &mut pairs,
+        &mut work,
         map,
         range_list,
         location_list,

@@ -86,6 +86,7 @@ fn collect_bundle(
     string_list: &mut [u8],
     out: &mut [u8],
 ) -> Collected {
+    let mut work = [0xa5a5_a5a5u32; 4096];
     let BundleRead::Read(b) = bundle::read_bundle(s) else {
         return Collected::Refused(0);
     };
@@ -105,6 +106,7 @@ fn collect_bundle(
         marks,
         targets,
         pairs,
+        &mut work,
         map,
         range_list,
         location_list,

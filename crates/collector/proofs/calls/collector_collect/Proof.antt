@@ -27,6 +27,9 @@ slice-aggregate-collector-collect-lent-7 c = search needs
 slice-aggregate-collector-collect-lent-8 : tie.Need-slice-aggregate-collector-collect-lent-8
 slice-aggregate-collector-collect-lent-8 c = search needs
 
+slice-aggregate-collector-collect-lent-9 : tie.Need-slice-aggregate-collector-collect-lent-9
+slice-aggregate-collector-collect-lent-9 c = search needs
+
 collector-collect-lent-requires : tie.Need-collector-collect-lent-requires
 collector-collect-lent-requires c κs = search needs
 
@@ -50,7 +53,7 @@ same-length-6 c = search needs
 
 returns : tie.Need-returns
 returns c =
-    let e = c .before .before .before .before .before .before .before .before .before .before .before .before .before .before .before .before .before .before .before .before .collector-collect-lent in
+    let e = c .before .before .before .before .before .before .before .before .before .before .before .before .before .before .before .before .before .before .before .before .before .collector-collect-lent in
     (e .ensures .0, (e .ensures .1 .0, (e .ensures .1 .1 .0, (e .ensures .1 .1 .1 .0, (e .ensures .1 .1 .1 .1 .0, (e .ensures .1 .1 .1 .1 .1 .0, e .ensures .1 .1 .1 .1 .1 .1 .0))))))
 
 pub collector-collect-spec : {M : Type 1} → statement M
@@ -65,6 +68,7 @@ collector-collect-spec =
     slice-aggregate-collector-collect-lent-6
     slice-aggregate-collector-collect-lent-7
     slice-aggregate-collector-collect-lent-8
+    slice-aggregate-collector-collect-lent-9
     collector-collect-lent-requires
     same-length
     same-length-2

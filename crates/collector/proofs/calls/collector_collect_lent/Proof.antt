@@ -53,11 +53,14 @@ same-length-13 c = search needs
 same-length-14 : tie.Need-same-length-14
 same-length-14 c = search needs
 
+same-length-15 : tie.Need-same-length-15
+same-length-15 c = search needs
+
 returns : tie.Need-returns
 returns c =
-    let e = c .before .before .before .before .before .before .before .before .before .before .before .before .before .before .before .before .before .before .before .before .before .before .before .before .before .before .before .before .before .before .collect in
+    let e = c .before .before .before .before .before .before .before .before .before .before .before .before .before .before .before .before .before .before .before .before .before .before .before .before .before .before .before .before .before .before .before .before .collect in
     let g = c .before .before .give in
-    (g .ensures .0 ∙ ap (numberFor _) (e .ensures .0), (g .ensures .1 ∙ ap (countsFor _) (e .ensures .0), (e .ensures .1 .0, (e .ensures .1 .1 .0, (e .ensures .1 .1 .1 .0, (e .ensures .1 .1 .1 .1 .0, (e .ensures .1 .1 .1 .1 .1 .0, (e .ensures .1 .1 .1 .1 .1 .1 .0, (e .ensures .1 .1 .1 .1 .1 .1 .1 .0, (e .ensures .1 .1 .1 .1 .1 .1 .1 .1 .0, (e .ensures .1 .1 .1 .1 .1 .1 .1 .1 .1 .0, (e .ensures .1 .1 .1 .1 .1 .1 .1 .1 .1 .1 .0, (e .ensures .1 .1 .1 .1 .1 .1 .1 .1 .1 .1 .1 .0, (e .ensures .1 .1 .1 .1 .1 .1 .1 .1 .1 .1 .1 .1 .0, e .ensures .1 .1 .1 .1 .1 .1 .1 .1 .1 .1 .1 .1 .1))))))))))))))
+    (g .ensures .0 ∙ ap (numberFor _) (e .ensures .0), (g .ensures .1 ∙ ap (countsFor _) (e .ensures .0), (e .ensures .1 .0, (e .ensures .1 .1 .0, (e .ensures .1 .1 .1 .0, (e .ensures .1 .1 .1 .1 .0, (e .ensures .1 .1 .1 .1 .1 .0, (e .ensures .1 .1 .1 .1 .1 .1 .0, (e .ensures .1 .1 .1 .1 .1 .1 .1 .0, (e .ensures .1 .1 .1 .1 .1 .1 .1 .1 .0, (e .ensures .1 .1 .1 .1 .1 .1 .1 .1 .1 .0, (e .ensures .1 .1 .1 .1 .1 .1 .1 .1 .1 .1 .0, (e .ensures .1 .1 .1 .1 .1 .1 .1 .1 .1 .1 .1 .0, (e .ensures .1 .1 .1 .1 .1 .1 .1 .1 .1 .1 .1 .1 .0, (e .ensures .1 .1 .1 .1 .1 .1 .1 .1 .1 .1 .1 .1 .1 .0, e .ensures .1 .1 .1 .1 .1 .1 .1 .1 .1 .1 .1 .1 .1 .1)))))))))))))))
 
 pub collector-collect-lent-spec : {M : Type 1} → statement M
 collector-collect-lent-spec =
@@ -79,4 +82,5 @@ collector-collect-lent-spec =
     same-length-12
     same-length-13
     same-length-14
+    same-length-15
     returns)
