@@ -22,8 +22,8 @@
  * bytes of the new unit (these two 0 where untouched), numbers of the ranges, locations and strings list; then for each list a byte, 1 present, 0 absent (an absent list counts 0); then zeros.
  * Where `counts` is shorter than COLLECTOR_COUNTS the answer tells so, and `counts` is zeros; all else is as it would be.
  *
- * Stack: collector_collect takes 192 KiB, its tables; collector_collect_lent some KiB; and both 208 bytes more for each level of DW_OP_entry_value operations that stand one in the other.
- * A level takes at least two bytes of the unit or of a location list, so 104 bytes of stack for each byte of the longer of these two sections, and 200 KiB, are enough for every input. Nothing else is
+ * Stack: collector_collect takes 211 KiB, most of it its tables; collector_collect_lent some KiB; and both 208 bytes more for each level of DW_OP_entry_value operations that stand one in the other.
+ * A level takes at least two bytes of the unit or of a location list, so 104 bytes of stack for each byte of the longer of these two sections, and 256 KiB, are enough for every input. Nothing else is
  * recursive, and no memory is taken from anywhere else.
  *
  * Refusals: 1 header cut short, 2 a header value outside the domain, 3 abbreviations, 4 unreadable entry, 5 unreadable list or expression, 6 the address table fails, 7 a section-absolute
