@@ -62,7 +62,18 @@ fn main() {
         assert!(Path::new(&archive).exists(), "no archive {archive} (rt staticlib collector writes it; COLLECTOR names another)");
         println!("cargo:rerun-if-changed={archive}");
         println!("cargo:rustc-link-arg-bin=differ={archive}");
+
+        // The call with lent tables is as its header has it: with the table `work`, or without.
+        println!("cargo:rerun-if-env-changed=COLLECTOR_HEADER");
+        let header = env::var("COLLECTOR_HEADER").unwrap_or_else(|_| format!("{here}/../include/collector.h"));
+        println!("cargo:rerun-if-changed={header}");
+        let text = fs::read_to_string(&header).unwrap_or_else(|e| panic!("{header}: {e}"));
+        let (_, call) = text.split_once("collector_collect_lent(").expect("collector_collect_lent");
+        if call.split_once(';').is_some_and(|(call, _)| call.contains("*work,")) {
+            println!("cargo:rustc-cfg=work_table");
+        }
     }
+    println!("cargo:rustc-check-cfg=cfg(work_table)");
 
     let out = env::var("OUT_DIR").unwrap();
     let file = format!("{out}/gc.rs");
