@@ -13,7 +13,7 @@ import sys
 TESTS = os.path.dirname(os.path.abspath(__file__))
 CRATES = os.path.join(TESTS, '..', 'crates')
 KEPT = os.path.join(TESTS, '..', 'oracle', 'kept')
-FAMILIES = 'small bytes valid lists expressions trees deep refused damaged listed tables'.split()
+FAMILIES = 'small bytes valid lists expressions trees deep refused damaged listed headers declarations numbers operations kinds siblings sums tables'.split()
 A5 = '01 11 01 00 00 02 2e 00 11 1b 49 11 00 00 03 24 00 00 00 00'
 FIVE = 'H 01 020011 03 03 020110 00'
 T = '00' * 12 + '04000000'
