@@ -1,4 +1,5 @@
 /* call FILE.. : runs each bundle of each file through the C call and prints its answer as crates/collect_kept does.
+ * call --cases FILE : runs cases that say what they lend through the call with lent tables, and prints what they leave as crates/collect_points does.
  * call --nested N : a unit whose one expression has N entry values, one in the other, with a reference to the terminator in the innermost, and a dead entry: what stack it takes is seen with `ulimit -s`.
  * call --rules : checks of the call itself: counts without room, flags, lengths that are no whole places.
  * Every slice is a block of memory of its own, exactly as long as it is lent and full of 0xa5 before the call, so that valgrind sees a byte read or written outside; sections are compared
@@ -224,6 +225,102 @@ static void run_file(const char *path)
     free(b.at);
 }
 
+/* ---- cases that say what they lend: fifteen numbers of eight big-endian bytes, then a bundle */
+
+enum { INDEX, OFFSETS, PARENTS, ROOTS, ENDS, MARKS, TARGETS, PAIRS, TABLES, SETTINGS = 15, WORK = 4096 };
+
+static size_t setting(const uint8_t *settings, int which, size_t most)
+{
+    uint64_t n = big(settings + 8 * which, 8);
+    return n < most ? (size_t)n : most;
+}
+
+static void print_count(const char *name, const struct bytes *lent, int which)
+{
+    if (lent[COUNTS].at[56 + which] == 0)
+        printf(" %s absent", name);
+    else
+        printf(" %s %llu", name, (unsigned long long)count(lent, 4 + which));
+}
+
+static void print_hex(const char *name, struct bytes b)
+{
+    printf("%s ", name);
+    if (b.length == 0)
+        printf("-");
+    for (size_t i = 0; i < b.length; i++)
+        printf("%02x", b.at[i]);
+    printf("\n");
+}
+
+static void print_left(uint64_t answer, const struct bytes *lent)
+{
+    if (answer < COLLECTOR_UNTOUCHED) {
+        printf("refused %llu\n", (unsigned long long)answer);
+    } else {
+        printf("%s entries %llu kept %llu places %llu bytes %llu", answer == COLLECTOR_REWRITTEN ? "rewritten" : "untouched", (unsigned long long)count(lent, 0),
+               (unsigned long long)count(lent, 1), (unsigned long long)count(lent, 2), (unsigned long long)count(lent, 3));
+        print_count("ranges", lent, 0);
+        print_count("locations", lent, 1);
+        print_count("strings", lent, 2);
+        printf("\n");
+    }
+    static const char *const names[] = {"map", "ranges", "locations", "strings", "output"};
+    for (int i = 0; i < COUNTS; i++)
+        print_hex(names[i], lent[i]);
+    printf("clean\n");
+}
+
+static void run_case(const uint8_t *settings, struct bytes bundle)
+{
+    static const size_t width[TABLES] = {8, 8, 4, 1, 8, 1, 8, 4}, most[TABLES] = {1024, 2048, 2048, 2048, 2048, 2048, 8192, 16384};
+    static const size_t most_bytes[] = {49152, 65536, 65536, 65536, 65536};
+    struct bytes s[SECTIONS], lent[LENT], table[TABLES + 1];
+    sections_of(bundle, s);
+    for (int i = 0; i < TABLES; i++)
+        table[i] = block(width[i] * setting(settings, i, most[i]));
+    table[TABLES] = block(4 * WORK);
+    for (int i = 0; i < COUNTS; i++)
+        lent[i] = block(setting(settings, TABLES + i, most_bytes[i]));
+    lent[COUNTS] = block(COLLECTOR_COUNTS);
+    uint64_t answer = collector_collect_lent(
+        s[0].at, s[0].length, s[1].at, s[1].length, s[2].at, s[2].length, s[3].at, s[3].length, s[4].at, s[4].length,
+        big(settings + 8 * 13, 8), big(settings + 8 * 14, 8),
+        (uint64_t *)table[INDEX].at, table[INDEX].length / 8, (uint64_t *)table[OFFSETS].at, table[OFFSETS].length / 8,
+        (uint32_t *)table[PARENTS].at, table[PARENTS].length / 4, table[ROOTS].at, table[ROOTS].length,
+        (uint64_t *)table[ENDS].at, table[ENDS].length / 8, table[MARKS].at, table[MARKS].length,
+        (uint64_t *)table[TARGETS].at, table[TARGETS].length / 8, (uint32_t *)table[PAIRS].at, table[PAIRS].length / 4,
+        (uint32_t *)table[TABLES].at, WORK,
+        lent[MAP].at, lent[MAP].length, lent[RANGES].at, lent[RANGES].length, lent[LOCATIONS].at, lent[LOCATIONS].length,
+        lent[STRINGS].at, lent[STRINGS].length, lent[OUT].at, lent[OUT].length, lent[COUNTS].at, lent[COUNTS].length);
+    check_zeros(answer, lent);
+    for (int i = 0; i <= TABLES; i++) {
+        zeros(table[i], 0, "a table that is not zeros");
+        free(table[i].at);
+    }
+    print_left(answer, lent);
+    give_back(lent);
+}
+
+static void run_cases(const char *path)
+{
+    const char *name = strrchr(path, '/');
+    printf("== %s\n", name == NULL ? path : name + 1);
+    struct bytes b = read_file(path);
+    int number = 0;
+    for (size_t at = 0; b.length - at >= 8 * SETTINGS + 4;) {
+        const uint8_t *settings = b.at + at;
+        at += 8 * SETTINGS;
+        size_t n = 4 + big(b.at + at, 4);
+        if (n > b.length - at)
+            fail("a bundle that is cut");
+        printf("-- %d\n", ++number);
+        run_case(settings, (struct bytes){b.at + at, n});
+        at += n;
+    }
+    free(b.at);
+}
+
 /* ---- the call itself, on the five-entry unit of document 01 */
 
 static uint8_t abbreviations[] = {0x01, 0x11, 0x01, 0x00, 0x00, 0x02, 0x2e, 0x00, 0x11, 0x1b, 0x49, 0x11, 0x00, 0x00, 0x03, 0x24, 0x00, 0x00, 0x00, 0x00};
@@ -357,6 +454,10 @@ static uint64_t nested(size_t levels)
 
 int main(int argc, char **argv)
 {
+    if (argc == 3 && strcmp(argv[1], "--cases") == 0) {
+        run_cases(argv[2]);
+        return 0;
+    }
     if (argc == 3 && strcmp(argv[1], "--nested") == 0) {
         expect(nested(strtoull(argv[2], NULL, 10)), COLLECTOR_REWRITTEN, "nested entry values");
         return 0;
