@@ -72,7 +72,6 @@ fn main() {
     // 6. The module that sees gc.rs's private names.
     text.push_str(&format!("\n#[path = {:?}]\npub(crate) mod probe;\n", format!("{here}/src/probe.rs")));
 
-    if env::var_os("NO_WORK").is_some() { println!("cargo:rustc-cfg=no_work"); }
     if env::var_os("CARGO_FEATURE_PORT").is_some() {
         println!("cargo:rerun-if-env-changed=COLLECTOR");
         let archive = env::var("COLLECTOR").unwrap_or_else(|_| format!("{here}/../target/staticlib/libcollector.a"));

@@ -21,7 +21,7 @@ extern "C" {
         section: *const u8, _: usize, abbreviations: *const u8, _: usize, locations: *const u8, _: usize, ranges: *const u8, _: usize,
         addresses: *const u8, _: usize, ranges_base: u64, type_units: u64, index: *mut u64, _: usize, offsets: *mut u64, _: usize,
         parents: *mut u32, _: usize, roots: *mut u8, _: usize, ends: *mut u64, _: usize, marks: *mut u8, _: usize, targets: *mut u64, _: usize,
-        pairs: *mut u32, _: usize, #[cfg(not(no_work))] work: *mut u32, #[cfg(not(no_work))] _: usize, map: *mut u8, _: usize, range_list: *mut u8, _: usize,
+        pairs: *mut u32, _: usize, work: *mut u32, _: usize, map: *mut u8, _: usize, range_list: *mut u8, _: usize,
         location_list: *mut u8, _: usize, string_list: *mut u8, _: usize, out: *mut u8, _: usize, counts: *mut u8, _: usize,
     ) -> u64;
     fn clock_gettime(clock: i32, time: *mut [i64; 2]) -> i32;
@@ -178,10 +178,7 @@ macro_rules! collect {
 }
 
 fn port(parts: &Parts, lent: &mut Lent) -> u64 {
-    #[cfg(not(no_work))]
-    return collect!(collector_collect_lent, parts, lent, [index, offsets, parents, roots, ends, marks, targets, pairs, work]);
-    #[cfg(no_work)]
-    collect!(collector_collect_lent, parts, lent, [index, offsets, parents, roots, ends, marks, targets, pairs])
+    collect!(collector_collect_lent, parts, lent, [index, offsets, parents, roots, ends, marks, targets, pairs, work])
 }
 
 fn own(parts: &Parts, lent: &mut Lent) -> u64 {
@@ -215,15 +212,16 @@ fn judged(parts: &Parts) -> Judged {
     judge([&parts[0], &parts[1], &parts[2], &parts[3], &parts[4]], Setting::default())
 }
 
-/// What is lent for a unit that both sides answer, after one call of each; none where the original refuses.
+/// What is lent for a unit that both sides answer, after one call of each; none where both refuse.
 fn prepared(what: &str, parts: &Parts, sizes: &Sizes) -> Option<(Lent, usize)> {
     let judged = judged(parts);
-    if let Outcome::Error(_, names) = &judged.outcome {
-        println!("refused\t{what}\t{names}");
-        return None;
-    }
     let mut lent = Lent::new(parts, sizes, judged.all_references());
     let number = port(parts, &mut lent);
+    if let Outcome::Error(_, names) = &judged.outcome {
+        println!("refused\t{what}\t{names}\t{number}");
+        assert!(number < 256, "{what}: the port answers what the original refuses");
+        return None;
+    }
     same(what, &judged.outcome, number, &lent);
     Some((lent, judged.all_references()))
 }
