@@ -125,8 +125,8 @@ def report(kept):
 
     yield '# Speed, measured'
     yield ''
-    yield 'Written by `bench/run` from what it measured; bench/README.md has the units and the rules. %s, %s, %s cores; load average %s at the end, so others ran beside it and times are rough.' % (
-        date, model, cores, load)
+    yield 'Written by `bench/run` from what it measured; bench/README.md has the units and the rules. %s, %s, %s cores; load average %s at the end%s.' % (
+        date, model, cores, load, ', so others ran beside it and times are rough' if float(load) > 1.2 else '')
     yield 'The port is `collector_collect_lent` (archive %s), the original `gc_debug_info` of gc.rs over gimli 0.27.0 (%s, release; without the hook that oracle/ has), both in one process on the same bytes.' % (archive, rustc)
     yield 'A time is that of the thread, the least of nine measurements of at least 5 ms each (of three where a call takes more than 0.1 s; one call where it takes more than 1 s). Each row\'s answers were compared first: new unit,'
     yield 'map and lists are the same. The port\'s time has the clearing of all that it is lent: tables of the unit\'s size, a map of all its items, an output as long as the section. The original\'s has its allocations and their freeing.'
@@ -244,7 +244,7 @@ def svg(kept):
     for number, (title, points, lines) in enumerate(plots):
         x0, y0 = number % across * width, 24 + number // across * height
         low_x, high_x = (0, 5) if not lines else (3, 6)
-        low_y, high_y = (3, 9) if not lines else (4, 10.3)
+        low_y, high_y = (3, 9) if not lines else (3, 10.3)
 
         def place(size, ns):
             x = x0 + left + (math.log10(size) - low_x) / (high_x - low_x) * (width - left - right)
