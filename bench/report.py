@@ -41,7 +41,10 @@ def instructions(kept):
             if cells[0] != 'calls':
                 continue
             number += 1
-            with open(os.path.join(kept, 'calls.out.%d' % number)) as g:
+            path = os.path.join(kept, 'calls.out.%d' % number)
+            if not os.path.exists(path):
+                break
+            with open(path) as g:
                 total = int(re.search('^totals: ([0-9]+)', g.read(), re.M).group(1))
             found.setdefault((cells[1], int(cells[2])), {'entries': int(cells[3])})[cells[4]] = total
     return found
@@ -152,7 +155,7 @@ def report(kept):
                    '%.2f to %.2f' % (own[0], own[-1]) if own else '-']
     yield from table(['units', 'number', 'entries', 'best ratio', 'median', 'worst', 'port, ns an entry (median)', 'original', 'collector_collect by original'], summary())
     yield ''
-    both = [(c['port'] / c['original']) for (n, s), c in counted.items() if s == 0]
+    both = [(c['port'] / c['original']) for (n, s), c in counted.items() if s == 0 and 'original' in c]
     yield 'Of instructions, on %d of these units: %s.' % (len(both), spread(both))
     yield ''
     yield 'The larger ones, and those whose instructions were counted (times of `collector_collect` where its tables of 2,048 entries and 8,192 references do; it clears all of them):'
@@ -173,7 +176,7 @@ def report(kept):
     yield ''
     yield '## Families'
     yield ''
-    yield 'Each has one shape, and grows until a call would take more than 10 s. The exponent is the slope of time over size in the last decade of sizes: 1 linear, 2 quadratic.'
+    yield 'Each has one shape, and grows until a call would take more than 10 s, or to the size that was asked for. The exponent is the slope of time over size in the last decade of sizes: 1 linear, 2 quadratic.'
     yield ''
     names = list(dict.fromkeys(r['name'] for r in families))
 
@@ -214,7 +217,7 @@ def report(kept):
     yield ''
     yield '## Where the time goes'
     yield ''
-    yield 'Instructions of each function, one call on %s, the largest of the Rust units (callgrind):' % largest
+    yield 'Instructions of each function, one call on %s, the unit of the most entries (callgrind):' % largest
     yield ''
     for side in ('port', 'original'):
         yield '%s:' % side.capitalize()
