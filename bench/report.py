@@ -132,7 +132,7 @@ def report(kept):
         date, model, cores, load, ', so others ran beside it and times are rough' if float(load) > 1.2 else '')
     yield 'The port is `collector_collect_lent` (archive %s), the original `gc_debug_info` of gc.rs over gimli 0.27.0 (%s, release; without the hook that oracle/ has), both in one process on the same bytes.' % (archive, rustc)
     yield 'A time is that of the thread, the least of nine measurements of at least 5 ms each (of three where a call takes more than 0.1 s; one call where it takes more than 1 s). Each row\'s answers were compared first: new unit,'
-    yield 'map and lists are the same. The port\'s time has the clearing of all that it is lent: tables of the unit\'s size, a map of all its items, an output as long as the section. The original\'s has its allocations and their freeing.'
+    yield 'map and the lengths of the lists are the same. The port\'s time has the clearing of all that it is lent: tables of the unit\'s size, a map of all its items, an output as long as the section. The original\'s has its allocations and their freeing.'
     yield 'Ratio: port by original; below 1 the port is faster. Instructions: callgrind (%s), one call after one that is not counted.' % valgrind
     yield ''
     yield '![times of both sides](bench.svg)'

@@ -194,7 +194,7 @@ fn counts(lent: &Lent) -> Vec<usize> {
     lent.counts[..56].chunks(8).map(|c| c.iter().fold(0, |n, b| n << 8 | usize::from(*b))).collect()
 }
 
-/// Both sides' answers must be the same bytes, places and lists.
+/// Both sides' answers must be the same bytes and places, and lists of the same length.
 fn same(what: &str, judged: &Outcome, number: u64, lent: &Lent) {
     let Outcome::Answer(answer) = judged else { panic!("{what}: the original gives no answer") };
     let found = counts(lent);
