@@ -21,7 +21,10 @@ const PATCHES: &[(&str, &str, usize)] = &[
     ("header.root_offset().0", "header.size_of_header()", 1),
     // 4. gimli 0.27 indexes its slices by open ranges only.
     ("&expr[copied..r.pos]", "&expr.slice()[copied..r.pos]", 1),
-    // 5. The hook: entries met, references, marks.
+];
+
+/// 5. The hook: entries met, references, marks.
+const HOOKS: &[(&str, &str, usize)] = &[
     (
         "        offset_to_index.insert(offset, index);\n",
         "        offset_to_index.insert(offset, index); probe::entry(index);\n",
@@ -39,6 +42,21 @@ const PATCHES: &[(&str, &str, usize)] = &[
     ),
 ];
 
+fn patch(text: String, patches: &[(&str, &str, usize)]) -> String {
+    patches.iter().fold(text, |text, (old, new, times)| {
+        let found = text.matches(old).count();
+        assert_eq!(found, *times, "gc.rs: found {found} times, not {times}: {old}");
+        text.replace(old, new)
+    })
+}
+
+/// Writes a module and returns its declaration.
+fn module(out: &str, name: &str, text: &str) -> String {
+    let file = format!("{out}/{name}.rs");
+    fs::write(&file, text).unwrap();
+    format!("#[allow(dead_code, clippy::all)]\n#[path = {file:?}]\nmod {name};\n")
+}
+
 fn main() {
     let here = env::var("CARGO_MANIFEST_DIR").unwrap();
     let source = Path::new(&here).join("..").join(SOURCE);
@@ -46,13 +64,11 @@ fn main() {
     println!("cargo:rerun-if-changed=build.rs");
     println!("cargo:rerun-if-changed=src/probe.rs");
 
-    let mut text = fs::read_to_string(&source)
+    let text = fs::read_to_string(&source)
         .unwrap_or_else(|e| panic!("{}: {e}", source.display()));
-    for (old, new, times) in PATCHES {
-        let found = text.matches(old).count();
-        assert_eq!(found, *times, "gc.rs: found {found} times, not {times}: {old}");
-        text = text.replace(old, new);
-    }
+    // Without the hook: what is measured.
+    let plain = patch(text, PATCHES);
+    let mut text = patch(plain.clone(), HOOKS);
     // 6. The module that sees gc.rs's private names.
     text.push_str(&format!("\n#[path = {:?}]\npub(crate) mod probe;\n", format!("{here}/src/probe.rs")));
 
@@ -61,23 +77,12 @@ fn main() {
         let archive = env::var("COLLECTOR").unwrap_or_else(|_| format!("{here}/../target/staticlib/libcollector.a"));
         assert!(Path::new(&archive).exists(), "no archive {archive} (rt staticlib collector writes it; COLLECTOR names another)");
         println!("cargo:rerun-if-changed={archive}");
-        println!("cargo:rustc-link-arg-bin=differ={archive}");
-
-        // The call with lent tables is as its header has it: with the table `work`, or without.
-        println!("cargo:rerun-if-env-changed=COLLECTOR_HEADER");
-        let header = env::var("COLLECTOR_HEADER").unwrap_or_else(|_| format!("{here}/../include/collector.h"));
-        println!("cargo:rerun-if-changed={header}");
-        let text = fs::read_to_string(&header).unwrap_or_else(|e| panic!("{header}: {e}"));
-        let (_, call) = text.split_once("collector_collect_lent(").expect("collector_collect_lent");
-        if call.split_once(';').is_some_and(|(call, _)| call.contains("*work,")) {
-            println!("cargo:rustc-cfg=work_table");
+        for program in ["differ", "bench"] {
+            println!("cargo:rustc-link-arg-bin={program}={archive}");
         }
     }
-    println!("cargo:rustc-check-cfg=cfg(work_table)");
 
     let out = env::var("OUT_DIR").unwrap();
-    let file = format!("{out}/gc.rs");
-    fs::write(&file, text).unwrap();
-    let declaration = format!("#[allow(dead_code, clippy::all)]\n#[path = {file:?}]\nmod gc;\n");
-    fs::write(format!("{out}/declare.rs"), declaration).unwrap();
+    let declarations = module(&out, "gc", &text) + &module(&out, "plain", &plain);
+    fs::write(format!("{out}/declare.rs"), declarations).unwrap();
 }

@@ -5,16 +5,8 @@
 #include <string.h>
 
 #define SECTIONS const uint8_t *s, size_t sn, const uint8_t *a, size_t an, const uint8_t *l, size_t ln, const uint8_t *r, size_t rn, const uint8_t *t, size_t tn, uint64_t base, uint64_t units
-/* The table `work`, where the header has it. */
-#ifdef WITH_WORK
-#define WORK , uint32_t *work, size_t wn
-#define ITS_WORK , work, wn
-#else
-#define WORK
-#define ITS_WORK
-#endif
 #define TABLES uint64_t *index, size_t in, uint64_t *offsets, size_t on, uint32_t *parents, size_t pn, uint8_t *roots, size_t ron, uint64_t *ends, size_t en, uint8_t *marks, size_t mn, \
-    uint64_t *targets, size_t tgn, uint32_t *pairs, size_t prn WORK
+    uint64_t *targets, size_t tgn, uint32_t *pairs, size_t prn, uint32_t *work, size_t wn
 #define RESULTS uint8_t *map, size_t mapn, uint8_t *rl, size_t rln, uint8_t *ll, size_t lln, uint8_t *sl, size_t sln, uint8_t *out, size_t outn, uint8_t *counts, size_t cn
 
 uint64_t port_collect(SECTIONS, RESULTS);
@@ -117,7 +109,7 @@ uint64_t collector_collect_lent(SECTIONS, TABLES, RESULTS)
     int one_entry = fault() == 21 && en > 0;      /* a place of the entry table */
     tgn -= one_reference;
     en -= one_entry;
-    uint64_t answer = port_collect_lent(s, sn, a, an, l, ln, r, rn, t, tn, base, units, index, in, offsets, on, parents, pn, roots, ron, ends, en, marks, mn, targets, tgn, pairs, prn ITS_WORK,
+    uint64_t answer = port_collect_lent(s, sn, a, an, l, ln, r, rn, t, tn, base, units, index, in, offsets, on, parents, pn, roots, ron, ends, en, marks, mn, targets, tgn, pairs, prn, work, wn,
                                         map, mapn, rl, rln, ll, lln, sl, sln, out, outn, counts, cn);
     if (one_reference)
         targets[tgn] = 0;

@@ -1,6 +1,6 @@
 //! One run of `gc_debug_info`, and what it let be seen.
 
-use crate::{error::Error, gc, gc::probe, shims};
+use crate::{error::Error, gc, gc::probe, plain, shims};
 use gimli::{
     DebugAbbrev, DebugInfo, DebugLoc, DebugLocLists, DebugRanges, DebugRngLists, DebugRngListsBase,
     EndianSlice, LocationLists, RangeLists, RunTimeEndian,
@@ -136,26 +136,33 @@ fn number(error: &Error) -> Option<u8> {
     })
 }
 
+/// Calls `gc_debug_info` of a module on the five sections of a bundle.
+macro_rules! original {
+    ($module:ident, $parts:expr, $setting:expr) => {{
+        let (parts, setting): ([&[u8]; 5], Setting) = ($parts, $setting);
+        let reader = |i: usize| EndianSlice::new(parts[i], RunTimeEndian::Little);
+        let empty = EndianSlice::new(&[][..], RunTimeEndian::Little);
+        let table = parts[4];
+        let is_addr_live = |index: gimli::DebugAddrIndex<usize>| match table.get(index.0) {
+            Some(0) => Ok(false),
+            Some(1) => Ok(true),
+            _ => Err(Error::Address),
+        };
+        $module::gc_debug_info(
+            DebugInfo::from(reader(0)),
+            DebugAbbrev::from(reader(1)),
+            LocationLists::new(DebugLoc::from(empty), DebugLocLists::from(reader(2))),
+            RangeLists::new(DebugRanges::from(empty), DebugRngLists::from(reader(3))),
+            DebugRngListsBase(setting.ranges_base),
+            is_addr_live,
+            shims::DwoId(0),
+            setting.type_units,
+        )
+    }};
+}
+
 fn outcome(parts: [&[u8]; 5], setting: Setting) -> Outcome {
-    let reader = |i: usize| EndianSlice::new(parts[i], RunTimeEndian::Little);
-    let empty = EndianSlice::new(&[][..], RunTimeEndian::Little);
-    let table = parts[4];
-    let is_addr_live = |index: gimli::DebugAddrIndex<usize>| match table.get(index.0) {
-        Some(0) => Ok(false),
-        Some(1) => Ok(true),
-        _ => Err(Error::Address),
-    };
-    let answer = gc::gc_debug_info(
-        DebugInfo::from(reader(0)),
-        DebugAbbrev::from(reader(1)),
-        LocationLists::new(DebugLoc::from(empty), DebugLocLists::from(reader(2))),
-        RangeLists::new(DebugRanges::from(empty), DebugRngLists::from(reader(3))),
-        DebugRngListsBase(setting.ranges_base),
-        is_addr_live,
-        shims::DwoId(0),
-        setting.type_units,
-    );
-    match answer {
+    match original!(gc, parts, setting) {
         Err(e) => Outcome::Error(number(&e), e.to_string()),
         Ok(a) => Outcome::Answer(Answer {
             rewritten: a.rewritten.map(|v| v.into_vec()),
@@ -163,6 +170,12 @@ fn outcome(parts: [&[u8]; 5], setting: Setting) -> Outcome {
             lists: [a.referenced_rnglists, a.referenced_loclists, a.referenced_str_offsets],
         }),
     }
+}
+
+/// The original without the hook, its result freed: what is measured. The new unit's length, 0 where untouched, or none.
+pub fn measured(parts: [&[u8]; 5], setting: Setting) -> Option<usize> {
+    let answer = original!(plain, parts, setting).ok()?;
+    Some(answer.rewritten.as_ref().map_or(0, |v| v.slice().len()))
 }
 
 /// Runs the original on the five sections of a bundle.

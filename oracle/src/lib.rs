@@ -1,9 +1,10 @@
 //! The original collector as a library: `judge` runs it, `unit` and `listed` say which listed differences a case can show, `expected` what
-//! the port has to answer, and `cases` makes cases.
+//! the port has to answer, `cases` makes cases, and `growth` units that grow.
 
 pub mod cases;
 mod error;
 pub mod expected;
+pub mod growth;
 pub mod judge;
 pub mod listed;
 mod shims;

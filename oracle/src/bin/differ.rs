@@ -27,7 +27,7 @@ extern "C" {
         section: *const u8, _: usize, abbreviations: *const u8, _: usize, locations: *const u8, _: usize, ranges: *const u8, _: usize,
         addresses: *const u8, _: usize, ranges_base: u64, type_units: u64, index: *mut u64, _: usize, offsets: *mut u64, _: usize,
         parents: *mut u32, _: usize, roots: *mut u8, _: usize, ends: *mut u64, _: usize, marks: *mut u8, _: usize, targets: *mut u64, _: usize,
-        pairs: *mut u32, _: usize, #[cfg(work_table)] work: *mut u32, #[cfg(work_table)] _: usize, map: *mut u8, _: usize,
+        pairs: *mut u32, _: usize, work: *mut u32, _: usize, map: *mut u8, _: usize,
         range_list: *mut u8, _: usize, location_list: *mut u8, _: usize, string_list: *mut u8, _: usize, out: *mut u8, _: usize,
         counts: *mut u8, _: usize,
     ) -> u64;
@@ -179,12 +179,8 @@ fn call(parts: &Parts, setting: Setting, lengths: &Lengths, manner: Manner) -> L
             let wide = |n: usize| Lent::new(n, around.div_ceil(8), u64::from_ne_bytes([fill; 8]));
             let half = |n: usize| Lent::new(n, around.div_ceil(4), u32::from_ne_bytes([fill; 4]));
             let (mut index, mut offsets, mut parents, mut roots, mut ends) = (wide(t[0]), wide(t[1]), half(t[2]), bytes(t[3]), wide(t[4]));
-            #[allow(unused_mut)]
-            let (mut marks, mut targets, mut pairs, mut work) = (bytes(t[5]), wide(t[6]), half(t[7]), half(if cfg!(work_table) { t[8] } else { 0 }));
-            #[cfg(work_table)]
+            let (mut marks, mut targets, mut pairs, mut work) = (bytes(t[5]), wide(t[6]), half(t[7]), half(t[8]));
             let number = lend!(collector_collect_lent, s, [index, offsets, parents, roots, ends, marks, targets, pairs, work]);
-            #[cfg(not(work_table))]
-            let number = lend!(collector_collect_lent, s, [index, offsets, parents, roots, ends, marks, targets, pairs]);
             macro_rules! check {
                 ($($t:ident),*) => {
                     $(
