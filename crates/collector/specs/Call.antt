@@ -1,6 +1,6 @@
 -- What the calls for C answer: a number, and the counts as bytes (document 01, "collect": "An accepted answer says untouched or rewritten and gives the counts of entries, kept entries, map places and output bytes .. and of each list,
 -- or that it is absent").
-use Prim.Native.Nat.{ℕ, _+_}
+use Prim.Native.Nat.{ℕ}
 use mathlib.Core.Bool.{Bool}
 use mathlib.Core.List.{List, [], _∷_, _++_}
 use lib.Dec.{ltb}
@@ -16,11 +16,12 @@ use Rattle.rewriting.specs.declared.collect.Counts.{Counts}
 use Rattle.rewriting.specs.declared.collect.Collected.{Collected as Answer}
 use Rattle.rewriting.specs.declared.collect.Collected.the-variants.{Untouched, Rewritten, Refused}
 
--- a list's count, 0 where it is absent, and 1 where it is present
+-- a list's count, 0 where it is absent
 unfoldable pub countOf : ListCount → ℕ
 countOf (Present n) = n
 countOf Absent = 0
 
+-- 1 where a list is present
 unfoldable pub presenceOf : ListCount → ℕ
 presenceOf (Present n) = 1
 presenceOf Absent = 0
@@ -36,7 +37,7 @@ presencesOf c = presenceOf (c .ranges) ∷ presenceOf (c .locations) ∷ presenc
 unfoldable pub countBytes : Counts → List ℕ
 countBytes c = runBytes 8 (numbersOf c) ++ runBytes 1 (presencesOf c)
 
--- whether n bytes have no room for them
+-- whether n bytes have no room for them (`counts-take`: they are 59)
 unfoldable pub isUncounted : ℕ → Bool
 isUncounted n = ltb n 59
 

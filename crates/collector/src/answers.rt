@@ -12,7 +12,7 @@ use rewriting::collect::Counts;
 use rewriting::lists::ListCount;
 use rewriting::numbers::put_big_endian;
 
-// The numbers of an accepted answer, above every refusal's.
+// The numbers of an accepted answer, above every refusal's, with and without room for the counts.
 const UNTOUCHED: u64 = 256;
 
 const REWRITTEN: u64 = 257;
@@ -93,7 +93,7 @@ fn accepted(number: u64, uncounted: u64, c: Counts, counts: &mut [u8]) -> u64
 }
 
 // The number of an answer, and its counts; zeros after a refusal, and where they have no room.
-pub fn give(answer: Collected, counts: &mut [u8]) -> u64
+pub(crate) fn give(answer: Collected, counts: &mut [u8]) -> u64
     ensures answer { λ r. ⌜ r ≡ numberFor (length (now (counts .entry))) answer ⌝ }
     ensures counts { λ _. ⌜ now (counts .exit) ≡ countsFor (length (now (counts .entry))) answer ⌝ }
 {

@@ -5,7 +5,6 @@ ghost use Rattle.readers.specs.Choice.{zeros};
 ghost use Rattle.rewriting.specs.Outputs.{roomOf, answerFor, mapFor, listFor, outputFor, rangesIn, locationsIn, stringsIn};
 ghost use Rattle.collector.specs.Call.{numberFor, countsFor, collectedOf, ownRoom};
 use crate::answers::give;
-use rewriting::collect::Collected;
 use rewriting::collect::collect;
 
 // Thins the first unit of a section with tables that are lent. They are scratch, and zeros after the call.

@@ -1,5 +1,6 @@
 // What collect makes of a bundle's unit: the printout of document 01, or the whole answer on one line.
 use crate::marks::letter;
+use crate::marks::mark;
 use crate::text::number;
 use crate::text::text;
 use bundle::BundleRead;
@@ -66,31 +67,16 @@ fn marked(
     c: Counts,
     rewritten: bool,
 ) {
-    let mut index = [0u64; 1024];
     let mut offsets = [0u64; 2048];
-    let mut parents = [0u32; 2048];
-    let mut roots = [0u8; 2048];
-    let mut ends = [0u64; 2048];
     let mut marks = [0u8; 2048];
-    let mut targets = [0u64; 8192];
-    let mut pairs = [0u32; 16384];
-    let mut work = [0u32; 4096];
-    match marking::units::mark_unit(
+    match mark(
         section,
         abbreviations,
         locations,
         ranges,
         addresses,
-        0,
-        &mut index,
         &mut offsets,
-        &mut parents,
-        &mut roots,
-        &mut ends,
         &mut marks,
-        &mut targets,
-        &mut pairs,
-        &mut work,
     ) {
         UnitMarks::Marked {
             entries: _,

@@ -31,18 +31,24 @@ fn lines(offsets: &[u64], marks: &[u8], entries: usize) {
     }
 }
 
-// The marks of the unit of given sections, with tables of 2,048 entries and 8,192 references.
-fn unit(section: &[u8], abbreviations: &[u8], locations: &[u8], ranges: &[u8], addresses: &[u8]) {
+// Marks the unit of given sections, with tables of 8,192 references and as many entries as the caller has offsets and marks for, 2,048 at most.
+pub fn mark(
+    section: &[u8],
+    abbreviations: &[u8],
+    locations: &[u8],
+    ranges: &[u8],
+    addresses: &[u8],
+    offsets: &mut [u64],
+    marks: &mut [u8],
+) -> UnitMarks {
     let mut index = [0u64; 1024];
-    let mut offsets = [0u64; 2048];
     let mut parents = [0u32; 2048];
     let mut roots = [0u8; 2048];
     let mut ends = [0u64; 2048];
-    let mut marks = [0u8; 2048];
     let mut targets = [0u64; 8192];
     let mut pairs = [0u32; 16384];
     let mut work = [0u32; 4096];
-    match marking::units::mark_unit(
+    marking::units::mark_unit(
         section,
         abbreviations,
         locations,
@@ -50,14 +56,29 @@ fn unit(section: &[u8], abbreviations: &[u8], locations: &[u8], ranges: &[u8], a
         addresses,
         0,
         &mut index,
-        &mut offsets,
+        offsets,
         &mut parents,
         &mut roots,
         &mut ends,
-        &mut marks,
+        marks,
         &mut targets,
         &mut pairs,
         &mut work,
+    )
+}
+
+// The marks of the unit of given sections.
+fn unit(section: &[u8], abbreviations: &[u8], locations: &[u8], ranges: &[u8], addresses: &[u8]) {
+    let mut offsets = [0u64; 2048];
+    let mut marks = [0u8; 2048];
+    match mark(
+        section,
+        abbreviations,
+        locations,
+        ranges,
+        addresses,
+        &mut offsets,
+        &mut marks,
     ) {
         UnitMarks::Marked { entries, kept } => {
             number(b"entries ", entries as u64);

@@ -19,8 +19,8 @@ use Rattle.marking.specs.Resolution.{marksIn, unitMarks}
 use Rattle.marking.specs.declared.units.UnitMarks.{UnitMarks}
 use Rattle.marking.specs.declared.units.UnitMarks.the-variants.{Marked, Refused as NotMarked}
 use Rattle.rewriting.specs.Rewriting.{Room, Collected, untouched, rewritten, refused, noLists, rowsCollected, analysedCollected, declaredCollected, headerCollected, collectOf}
-use Rattle.rewriting.specs.Outputs.{listCount, countsOf, answerFor, mapFor, outputFor, listOr, listFor, rangesIn, locationsIn, stringsIn}
-use Rattle.rewriting.specs.Leaving.{Accepts, Answers, roomBy, ownUnit, Tabled, Blank, markedOf}
+use Rattle.rewriting.specs.Outputs.{roomBy, listCount, countsOf, answerFor, mapFor, outputFor, listOr, listFor, rangesIn, locationsIn, stringsIn}
+use Rattle.rewriting.specs.Leaving.{Accepts, Answers, ownUnit, Tabled, Blank, markedOf}
 use Rattle.rewriting.specs.declared.collect.Counts.{Counts}
 use Rattle.rewriting.specs.declared.collect.Collected.{Collected as Answer}
 use Rattle.rewriting.specs.declared.collect.Collected.the-variants.{Untouched, Rewritten, Refused}

@@ -23,8 +23,8 @@ use Rattle.rewriting.specs.Parents.{parentsFrom, HoldsFrom}
 use Rattle.rewriting.specs.Rewriting.{Unit as Unit′, Lists, Room, Collected, untouched, rewritten, refused, itemsIn, listsOf, listsFit, orRefused, rewriteOf, marksCollected}
 use Rattle.rewriting.specs.IndexLists.{ReadAs, Found, Passable}
 use Rattle.rewriting.specs.Emission.{Lends}
-use Rattle.rewriting.specs.Outputs.{listCount, countsOf, answerFor, mapFor, outputFor, listOr, listFor, rangesIn, locationsIn, stringsIn}
-use Rattle.rewriting.specs.Leaving.{Accepts, Answers, roomBy, ownUnit, Tabled, Blank, markedOf, haveRoom, ListsAnswer, Writable, WriteAnswer}
+use Rattle.rewriting.specs.Outputs.{roomBy, listCount, countsOf, answerFor, mapFor, outputFor, listOr, listFor, rangesIn, locationsIn, stringsIn}
+use Rattle.rewriting.specs.Leaving.{Accepts, Answers, ownUnit, Tabled, Blank, markedOf, haveRoom, ListsAnswer, Writable, WriteAnswer}
 use Rattle.rewriting.specs.declared.kept.Reading.{Reading}
 use Rattle.rewriting.specs.declared.lists.ListCount.{ListCount}
 use Rattle.rewriting.specs.declared.collect.Counts.{Counts}

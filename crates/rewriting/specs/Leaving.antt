@@ -43,10 +43,7 @@ pub record Answers (c : Collected) (r : Answer) (map ranges locations strings ou
 
 -- ---- a unit whose entries were marked
 
--- what there is room for, by the lengths of the slices
-abbrev pub roomBy : Rooms → ℕ → ℕ → ℕ → ℕ → ℕ → Room
-roomBy tables map ranges locations strings out = record { tables = tables; ranges = ranges / 8; locations = locations / 8; strings = strings / 8; places = map / 12; bytes = out }
-
+-- the first unit of a section
 abbrev pub ownUnit : UnitHeader → List ℕ → List Placed → Unit′
 ownUnit h section ds = record { header = h; bytes = take (h .end) section; declared = ds }
 

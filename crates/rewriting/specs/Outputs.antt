@@ -4,6 +4,7 @@ use mathlib.Core.List.{List, [], _∷_}
 use mathlib.Core.Option.{Option, none, some}
 use lib.ListN.{length}
 use Rattle.readers.specs.Choice.{zeros}
+use Rattle.marking.specs.Analysis.{Rooms}
 use Rattle.marking.specs.Columns.{padTo, unitRooms}
 use Rattle.rewriting.specs.Written.{listBytes, mapBytes}
 use Rattle.rewriting.specs.Rewriting.{Lists, Room, Rewrite, Collected, untouched, rewritten, refused}
@@ -13,10 +14,13 @@ use Rattle.rewriting.specs.declared.collect.Counts.{Counts}
 use Rattle.rewriting.specs.declared.collect.Collected.{Collected as Answer}
 use Rattle.rewriting.specs.declared.collect.Collected.the-variants.{Untouched, Rewritten, Refused}
 
--- what a call has room for, by the lengths of its slices: entries and references by their tables' shortest column, 8 bytes a list number, 12 a map place
+-- what there is room for, by the lengths of the slices: 8 bytes a list number, 12 a map place
+abbrev pub roomBy : Rooms → ℕ → ℕ → ℕ → ℕ → ℕ → Room
+roomBy tables map ranges locations strings out = record { tables = tables; ranges = ranges / 8; locations = locations / 8; strings = strings / 8; places = map / 12; bytes = out }
+
+-- what a call has room for: entries and references by their tables' shortest column
 abbrev pub roomOf : ℕ → ℕ → ℕ → ℕ → ℕ → ℕ → ℕ → ℕ → ℕ → ℕ → ℕ → ℕ → Room
-roomOf marks pairs offsets parents roots ends targets map ranges locations strings out =
-    record { tables = unitRooms marks pairs offsets parents roots ends targets; ranges = ranges / 8; locations = locations / 8; strings = strings / 8; places = map / 12; bytes = out }
+roomOf marks pairs offsets parents roots ends targets map ranges locations strings out = roomBy (unitRooms marks pairs offsets parents roots ends targets) map ranges locations strings out
 
 unfoldable pub listCount : Option (List ℕ) → ListCount
 listCount none = Absent
