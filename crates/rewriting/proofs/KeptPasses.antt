@@ -115,7 +115,7 @@ module _ (items : ℕ → List Item) (parents marks unit : List ℕ) where
         }
 
     module _ (x : Kept) (q : r ≡ Item′ x) where
-      pub measuring-fits : (places < length unit) × (x .start ≤ x .end) × (bytes + (x .end - x .start) ≤ x .end)
+      pub measuring-fits : (places < x .end) × (x .start ≤ x .end) × (bytes + (x .end - x .start) ≤ x .end)
       measuring-fits =
           let f = next-forward s r a x q in
           let f0 : s .at ≤ x .start = f .0 in

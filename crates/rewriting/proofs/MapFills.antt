@@ -11,7 +11,7 @@ use Rattle.readers.specs.declared.entries.Nesting.{Nesting}
 use Rattle.rewriting.specs.Places.{Standing, Place, sizeOf, placesFrom}
 use Rattle.rewriting.specs.Written.{runBytes, Held, columns, mapBytes, place, withPlace}
 use Rattle.rewriting.specs.NextKept.{Stood, keptAt, Answers}
-use Rattle.rewriting.specs.Measures.{ParentsHeld, keptOfUnit}
+use Rattle.rewriting.specs.Measures.{ParentsHeld, keptOfUnit, Measures}
 use Rattle.rewriting.specs.MapFilled.{Fills}
 use Rattle.rewriting.specs.declared.kept.Stand.{Stand}
 use Rattle.rewriting.specs.declared.kept.Kept.{Kept}
@@ -19,7 +19,7 @@ use Rattle.rewriting.specs.declared.kept.KeptStep.{KeptStep}
 use Rattle.rewriting.specs.declared.kept.KeptStep.the-variants.{Item as Item′, End}
 use Rattle.rewriting.proofs.Sorted.{nothing-in}
 use Rattle.rewriting.proofs.KeptSteps.{stand}
-use Rattle.rewriting.proofs.KeptPasses.{shown-size, shown-offset, next-forward, next-item, next-end, stood-start, kept-start}
+use Rattle.rewriting.proofs.KeptPasses.{shown-size, shown-offset, next-forward, next-item, next-end, stood-start, kept-start, Measuring, measuring-start, measuring-end, measuring-fits, measuring-more}
 
 -- ---- places and their columns
 
@@ -66,19 +66,18 @@ module _ (items : ℕ → List Item) (parents marks unit : List ℕ) (first : �
     pub many : length (keptOfUnit items marks first) ≡ i + length (keptAt items parents marks s stack)
     pub whole : placesFrom first (keptOfUnit items marks first) ≡ done ++ placesFrom new (keptAt items parents marks s stack)
 
-  pub record Filling (map : List ℕ) (s : Stand) (i new : ℕ) : Type 0 where
+  -- measured up to here, and filled so far
+  pub record Placing (map : List ℕ) (s : Stand) (i new : ℕ) : Type 0 where
+    pub measuring : Measuring items parents marks unit first s i new
     pub same : length map ≡ length map₀
-    pub few : first + i ≤ new
-    pub passed : new ≤ s .at
     pub filled : length unit < 2 ^ 32 → ParentsHeld items parents first → 12 * length (keptOfUnit items marks first) ≤ length map₀ → map₀ ≡ zeros (length map₀)
         → Filled map s i new
 
-  pub filling-start : (n : Nesting) → n ≡ nestingOf [] → Filling map₀ (stand first 0 n) 0 first
-  filling-start n m =
+  pub placing-start : (n : Nesting) → n ≡ nestingOf [] → Placing map₀ (stand first 0 n) 0 first
+  placing-start n m =
       record {
+        measuring = measuring-start items parents marks unit first n m;
         same = refl;
-        few = omega arith;
-        passed = omega arith;
         filled = λ u h r z.
             let k : keptOfUnit items marks first ≡ keptAt items parents marks (stand first 0 n) [] = kept-start items parents marks unit first n in
             let l : length (keptOfUnit items marks first) ≡ length (keptAt items parents marks (stand first 0 n) []) = ap length k in
@@ -93,9 +92,9 @@ module _ (items : ℕ → List Item) (parents marks unit : List ℕ) (first : �
             };
       }
 
-  module _ (map : List ℕ) (s : Stand) (i new : ℕ) (f : Filling map s i new) where
-    pub filling-size : length map ≡ length map₀
-    filling-size = f .same
+  module _ (map : List ℕ) (s : Stand) (i new : ℕ) (f : Placing map s i new) where
+    pub placing-size : length map ≡ length map₀
+    placing-size = f .same
 
     module _ (r : KeptStep) (a : Answers items parents marks unit s r) where
       end-held : r ≡ End → length unit < 2 ^ 32 → ParentsHeld items parents first → 12 * length (keptOfUnit items marks first) ≤ length map₀ → map₀ ≡ zeros (length map₀)
@@ -108,8 +107,11 @@ module _ (items : ℕ → List Item) (parents marks unit : List ℕ) (first : �
           (sym (d .whole ∙ ap (λ (k : List Standing). d .done ++ placesFrom new k) e ∙ append-nil (d .done)))
           (d .held)
 
-      pub filling-end : r ≡ End → Fills items unit parents marks first map₀ map
-      filling-end q =
+      pub placing-measured : r ≡ End → Measures items unit parents marks first (record { places = i; bytes = new })
+      placing-measured q = measuring-end items parents marks unit first s i new (f .measuring) r a q
+
+      pub placing-filled : r ≡ End → Fills items unit parents marks first map₀ map
+      placing-filled q =
           record {
             holds = λ u h m z. end-held q u h m z;
             bytes = λ u h m z.
@@ -118,26 +120,20 @@ module _ (items : ℕ → List Item) (parents marks unit : List ℕ) (first : �
           }
 
       module _ (x : Kept) (q : r ≡ Item′ x) where
-        pub filling-fits : (i < x .end) × (x .start ≤ x .end) × (new + (x .end - x .start) ≤ x .end)
-        filling-fits =
-            let g = next-forward items parents marks unit s r a x q in
-            let g0 : s .at ≤ x .start = g .0 in
-            let g1 : x .start < x .end = g .1 in
-            let g2 : x .end ≤ length unit = g .2 in
-            (omega (arith, f .few, f .passed), omega arith, omega (arith, f .passed))
+        pub placing-fits : (i < x .end) × (x .start ≤ x .end) × (new + (x .end - x .start) ≤ x .end)
+        placing-fits = measuring-fits items parents marks unit first s i new (f .measuring) r a x q
 
-        pub filling-more : (map′ : List ℕ) → length map′ ≡ length map → Puts map i (x .start) new (x .depth) map′ → Filling map′ (x .next) (i + 1) (new + (x .end - x .start))
+        pub placing-more : (map′ : List ℕ) → length map′ ≡ length map → Puts map i (x .start) new (x .depth) map′ → Placing map′ (x .next) (i + 1) (new + (x .end - x .start))
         unfolding placesFrom
-        filling-more map′ l p =
+        placing-more map′ l p =
             let g = next-forward items parents marks unit s r a x q in
             let g0 : s .at ≤ x .start = g .0 in
             let g1 : x .start < x .end = g .1 in
             let g2 : x .end ≤ length unit = g .2 in
             let g3 : x .next .at ≡ x .end = g .3 in
             record {
+              measuring = measuring-more items parents marks unit first s i new (f .measuring) r a x q;
               same = l ∙ f .same;
-              few = omega (arith, f .few);
-              passed = omega (arith, f .passed);
               filled = λ u h m z.
                   let d = f .filled u h m z in
                   let y = next-item items parents marks unit s r a x q (d .stack) u (d .stood) in
@@ -147,7 +143,7 @@ module _ (items : ℕ → List Item) (parents marks unit : List ℕ) (first : �
                     stack = y .after;
                     stood = y .stood;
                     done = withPlace (d .done) (place (x .start) new (x .depth));
-                    held = p (d .done) (d .held) (d .counted) w (omega arith) (omega (arith, f .passed)) (omega (arith, y .low));
+                    held = p (d .done) (d .held) (d .counted) w (omega arith) (omega (arith, f .measuring .passed)) (omega (arith, y .low));
                     counted = (let e : length (d .done ++ (place (x .start) new (x .depth) ∷ [])) ≡ length (d .done) + 1 = length-append (d .done) (place (x .start) new (x .depth) ∷ []) in omega (arith, d .counted));
                     many = omega (arith, d .many);
                     whole =

@@ -146,9 +146,9 @@ module _ (x : Sections) (u : Unit′) (lists : Lists) (room : Room) (entries kep
 -- ---- the returns
 
 module _ (r : Reading) (s table unit parents marks : List ℕ) (first entries kept : ℕ) (rl : List ℕ) (rc : ListCount) (ll : List ℕ) (lc : ListCount) (sl : List ℕ) (sc : ListCount) (map out : List ℕ)
-    (z : Size) (m : Measures (itemsBy r s table unit) unit parents marks first z) where
-  abbrev Goal : Answer → List ℕ → List ℕ → Type 0
-  Goal a map′ out′ = (x : Sections) (u : Unit′) (lists : Lists) (room : Room) → Passable x u r s table unit parents marks first → Lends lists rl rc ll lc sl sc → Writable u room unit first map out
+    (z : Size) (m : Measures (itemsBy r s table unit) unit parents marks first z) (map′ : List ℕ) (fills : Fills (itemsBy r s table unit) unit parents marks first map map′) (as-long : length map′ ≡ length map) where
+  abbrev Goal : Answer → List ℕ → Type 0
+  Goal a out′ = (x : Sections) (u : Unit′) (lists : Lists) (room : Room) → Passable x u r s table unit parents marks first → Lends lists rl rc ll lc sl sc → Writable u room unit first map out
       → WriteAnswer (rewriteOf x room u entries kept lists (keptFrom marks 0 [] (itemsIn x u))) a (length map) (length out) map′ out′
 
   abbrev items : List Standing
@@ -162,24 +162,24 @@ module _ (r : Reading) (s table unit parents marks : List ℕ) (first entries ke
     bytes-are = m .found (p .small) (p .holds) .1
 
     -- of the unit's own items
-    by-items : (a : Answer) (map′ out′ : List ℕ) → WriteAnswer (rewriteOf x room u entries kept lists items) a (length map) (length out) map′ out′
+    by-items : (a : Answer) (out′ : List ℕ) → WriteAnswer (rewriteOf x room u entries kept lists items) a (length map) (length out) map′ out′
         → WriteAnswer (rewriteOf x room u entries kept lists (keptFrom marks 0 [] (itemsIn x u))) a (length map) (length out) map′ out′
-    by-items a map′ out′ h =
+    by-items a out′ h =
         subst (λ (is : List Item). WriteAnswer (rewriteOf x room u entries kept lists (keptFrom marks 0 [] is)) a (length map) (length out) map′ out′)
         (items-here true r s table unit parents marks first x u p (w .first-is)) h
 
-    no-map : length map / 12 < z .places → WriteAnswer (rewriteOf x room u entries kept lists items) (Refused 13) (length map) (length out) map out
+    no-map : length map′ / 12 < z .places → WriteAnswer (rewriteOf x room u entries kept lists items) (Refused 13) (length map) (length out) map′ out
     no-map k =
-        write-refused _ 13 (length map) (length out) map out
-        (case-map x u lists room entries kept items first (w .first-is) (let q : room .places < length items = omega (arith, w .places-are, places-are) in q))
+        write-refused _ 13 (length map) (length out) map′ out
+        (case-map x u lists room entries kept items first (w .first-is) (let q : room .places < length items = omega (arith, w .places-are, places-are, as-long) in q))
 
-    no-out : z .places ≤ length map / 12 → length out < z .bytes → WriteAnswer (rewriteOf x room u entries kept lists items) (Refused 14) (length map) (length out) map out
+    no-out : z .places ≤ length map′ / 12 → length out < z .bytes → WriteAnswer (rewriteOf x room u entries kept lists items) (Refused 14) (length map) (length out) map′ out
     no-out k b =
-        write-refused _ 14 (length map) (length out) map out
-        (case-out x u lists room entries kept items first (w .first-is) (let q : length items ≤ room .places = omega (arith, w .places-are, places-are) in q)
+        write-refused _ 14 (length map) (length out) map′ out
+        (case-out x u lists room entries kept items first (w .first-is) (let q : length items ≤ room .places = omega (arith, w .places-are, places-are, as-long) in q)
         (let q : room .bytes < first + sizeFrom items = omega (arith, w .bytes-are, bytes-are) in q))
 
-    module _ (few : z .places ≤ length map / 12) (less : z .bytes ≤ length out) (map′ out₁ out₂ : List ℕ) (fills : Fills (itemsBy r s table unit) unit parents marks first map map′)
+    module _ (few : z .places ≤ length map′ / 12) (less : z .bytes ≤ length out) (out₁ out₂ : List ℕ)
         (same : length out₁ ≡ length out)
         (headed : 4 ≤ first → first ≤ length unit → first ≤ length out → 4 ≤ z .bytes → z .bytes - 4 < 2 ^ 32 → out₁ ≡ put out 0 (fixedBytes false 4 (z .bytes - 4) ++ drop 4 (take first unit)))
         (emitted : Emitted)
@@ -196,7 +196,7 @@ module _ (r : Reading) (s table unit parents marks : List ℕ) (first entries ke
       front = fixedBytes false 4 (z .bytes - 4) ++ drop 4 (take first unit)
 
       room-map : 12 * length items ≤ length map
-      room-map = omega (arith, places-are)
+      room-map = omega (arith, places-are, as-long)
 
       it : Emits (refusalFrom x u lists ps items) body out₁ first emitted out₂
       it =
@@ -219,7 +219,7 @@ module _ (r : Reading) (s table unit parents marks : List ℕ) (first entries ke
       room-out = omega (arith, wide, bytes-are, same)
 
       enough : length items ≤ room .places
-      enough = omega (arith, w .places-are, places-are)
+      enough = omega (arith, w .places-are, places-are, as-long)
 
       enough-bytes : first + sizeFrom items ≤ room .bytes
       enough-bytes = omega (arith, w .bytes-are, bytes-are)
@@ -298,21 +298,21 @@ module _ (r : Reading) (s table unit parents marks : List ℕ) (first entries ke
             out-left = λ _. out-is front body out out₁ out₂ first length-front (w .out-blank) header-there (it .fine room-out n .1) ∙ ap (padTo (length out)) (sym unit-bytes-are) ∙ sym (ap (outputFor (length out)) c);
           }
 
-  pub map-short : length map / 12 < z .places → Goal (Refused 13) map out
-  map-short k x u lists room p l w = by-items x u lists room p l w (Refused 13) map out (no-map x u lists room p l w k)
+  pub map-short : length map′ / 12 < z .places → Goal (Refused 13) out
+  map-short k x u lists room p l w = by-items x u lists room p l w (Refused 13) out (no-map x u lists room p l w k)
 
-  pub out-short : z .places ≤ length map / 12 → length out < z .bytes → Goal (Refused 14) map out
-  out-short k b x u lists room p l w = by-items x u lists room p l w (Refused 14) map out (no-out x u lists room p l w k b)
+  pub out-short : z .places ≤ length map′ / 12 → length out < z .bytes → Goal (Refused 14) out
+  out-short k b x u lists room p l w = by-items x u lists room p l w (Refused 14) out (no-out x u lists room p l w k b)
 
-  module _ (few : z .places ≤ length map / 12) (less : z .bytes ≤ length out) (map′ out₁ out₂ : List ℕ) (fills : Fills (itemsBy r s table unit) unit parents marks first map map′)
+  module _ (few : z .places ≤ length map′ / 12) (less : z .bytes ≤ length out) (out₁ out₂ : List ℕ)
       (same : length out₁ ≡ length out)
       (headed : 4 ≤ first → first ≤ length unit → first ≤ length out → 4 ≤ z .bytes → z .bytes - 4 < 2 ^ 32 → out₁ ≡ put out 0 (fixedBytes false 4 (z .bytes - 4) ++ drop 4 (take first unit)))
       (emitted : Emitted)
       (emits : (x : Sections) (u : Unit′) (lists : Lists) (ps : List Place) → Passable x u r s table unit parents marks first → first ≡ u .header .first .0 → r .encoding .«big_endian» ≡ false
       → MapHeld ps map′ → z .places ≡ length ps → Lends lists rl rc ll lc sl sc
       → Emits (refusalFrom x u lists ps (keptFrom marks 0 [] (itemsIn x u))) (bytesFrom x u lists ps (keptFrom marks 0 [] (itemsIn x u))) out₁ first emitted out₂) where
-    pub unit-written : (to : ℕ) → emitted ≡ To to → Goal (Rewritten (record { entries = entries; kept = kept; places = z .places; bytes = z .bytes; ranges = rc; locations = lc; strings = sc })) map′ out₂
-    unit-written to q x u lists room p l w = by-items x u lists room p l w _ map′ out₂ (was-written x u lists room p l w few less map′ out₁ out₂ fills same headed emitted emits to q)
+    pub unit-written : (to : ℕ) → emitted ≡ To to → Goal (Rewritten (record { entries = entries; kept = kept; places = z .places; bytes = z .bytes; ranges = rc; locations = lc; strings = sc })) out₂
+    unit-written to q x u lists room p l w = by-items x u lists room p l w _ out₂ (was-written x u lists room p l w few less out₁ out₂ same headed emitted emits to q)
 
-    pub unit-refused : (k : ℕ) → emitted ≡ NotEmitted k → Goal (Refused k) map′ out₂
-    unit-refused k q x u lists room p l w = by-items x u lists room p l w _ map′ out₂ (not-written x u lists room p l w few less map′ out₁ out₂ fills same headed emitted emits k q)
+    pub unit-refused : (k : ℕ) → emitted ≡ NotEmitted k → Goal (Refused k) out₂
+    unit-refused k q x u lists room p l w = by-items x u lists room p l w _ out₂ (not-written x u lists room p l w few less out₁ out₂ same headed emitted emits k q)

@@ -1,4 +1,4 @@
--- What `fill_map` leaves: the places of the kept items, in a map that was cleared.
+-- What `place_items` leaves in the map: the places of the kept items, in a map that was cleared.
 use Prim.Native.Nat.{ℕ, _*_, _^_, _-_, _≤_, _<_}
 use mathlib.Core.Path.{_≡_}
 use mathlib.Core.List.{List, _++_}

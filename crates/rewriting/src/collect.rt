@@ -16,8 +16,7 @@ use crate::indices::is_short;
 use crate::indices::one_list;
 use crate::kept::Reading;
 use crate::lists::ListCount;
-use crate::passes::fill_map;
-use crate::passes::measure;
+use crate::passes::place_items;
 use crate::writing::emit_header;
 use crate::writing::emit_items;
 use marking::analysis::clear_columns;
@@ -201,14 +200,13 @@ fn write_unit(
 ) -> Collected
     ensures { λ c. ⌜ ((x : Sections) (u : Unit′) (lists : Lists) (room : Room) → Passable x u r (now (abbreviations .entry)) (now (index .entry)) (now (unit .entry)) (now (parents .entry)) (now (marks .entry)) first → Lends lists (now («range_list» .entry)) ranges (now («location_list» .entry)) locations (now («string_list» .entry)) strings → Writable u room (now (unit .entry)) first (now (map .entry)) (now (out .entry)) → WriteAnswer (rewriteOf x room u entries kept lists (keptFrom (now (marks .entry)) 0 [] (itemsIn x u))) c (length (now (map .entry))) (length (now (out .entry))) (now (map .exit)) (now (out .exit))) ⌝ }
 {
-    let size = measure(unit, abbreviations, r, index, parents, marks, first);
+    let size = place_items(unit, abbreviations, r, index, parents, marks, first, map);
     if size.places > map.len() / 12 {
         return Collected::Refused(13);
     }
     if size.bytes > out.len() {
         return Collected::Refused(14);
     }
-    fill_map(unit, abbreviations, r, index, parents, marks, first, map);
     emit_header(unit, first, size.bytes, out);
     match emit_items(
         unit,

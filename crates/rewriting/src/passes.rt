@@ -1,4 +1,4 @@
-// Passes through the kept items: their sizes, and the map.
+// The pass through the kept items that measures them and fills the map.
 ghost use Rattle.rewriting.specs.NextKept.{itemsBy};
 ghost use Rattle.rewriting.specs.Measures.{Measures};
 ghost use Rattle.rewriting.specs.MapFilled.{Fills};
@@ -14,8 +14,8 @@ pub struct Size {
     pub bytes: usize,
 }
 
-// How many places and bytes the rewritten unit has.
-pub fn measure(
+// How many places and bytes the rewritten unit has; fills the map, where there is room for all its places.
+pub fn place_items(
     unit: &[u8],
     abbreviations: &[u8],
     r: Reading,
@@ -23,8 +23,10 @@ pub fn measure(
     parents: &[u32],
     marks: &[u8],
     first: usize,
+    map: &mut [u8],
 ) -> Size
-    ensures { λ z. ⌜ Measures (itemsBy r (now (abbreviations .entry)) (now (index .entry)) (now (unit .entry))) (now (unit .entry)) (now (parents .entry)) (now (marks .entry)) first z ⌝ }
+    ensures size { λ z. ⌜ Measures (itemsBy r (now (abbreviations .entry)) (now (index .entry)) (now (unit .entry))) (now (unit .entry)) (now (parents .entry)) (now (marks .entry)) first z ⌝ }
+    ensures map { λ _. ⌜ Fills (itemsBy r (now (abbreviations .entry)) (now (index .entry)) (now (unit .entry))) (now (unit .entry)) (now (parents .entry)) (now (marks .entry)) first (now (map .entry)) (now (map .exit)) ⌝ }
 {
     let mut s = Stand {
         at: first,
@@ -37,39 +39,9 @@ pub fn measure(
         let KeptStep::Item(x) = next_kept(unit, abbreviations, r, index, parents, marks, s) else {
             return Size { places, bytes };
         };
-        places += 1;
+        put_place(map, places, x.start as u64, bytes as u64, x.depth);
         bytes += x.end - x.start;
-        s = x.next;
-    }
-}
-
-// Fills the map.
-pub fn fill_map(
-    unit: &[u8],
-    abbreviations: &[u8],
-    r: Reading,
-    index: &[u64],
-    parents: &[u32],
-    marks: &[u8],
-    first: usize,
-    map: &mut [u8],
-)
-    ensures { λ _. ⌜ Fills (itemsBy r (now (abbreviations .entry)) (now (index .entry)) (now (unit .entry))) (now (unit .entry)) (now (parents .entry)) (now (marks .entry)) first (now (map .entry)) (now (map .exit)) ⌝ }
-{
-    let mut s = Stand {
-        at: first,
-        count: 0,
-        nesting: Nesting::outside(),
-    };
-    let mut i: usize = 0;
-    let mut new = first;
-    loop {
-        let KeptStep::Item(x) = next_kept(unit, abbreviations, r, index, parents, marks, s) else {
-            return;
-        };
-        put_place(map, i, x.start as u64, new as u64, x.depth);
-        new += x.end - x.start;
-        i += 1;
+        places += 1;
         s = x.next;
     }
 }
