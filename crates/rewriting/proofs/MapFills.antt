@@ -1,4 +1,4 @@
--- The map is filled place by place: what is put, and the places from here on, are all of them. Assumes nothing.
+-- The map is filled while the items are measured: the places that are put, and those from here on, are all of them. Assumes nothing.
 use mathlib.Core.Path.{_≡_, refl, ap, ap₂, sym, _∙_, subst}
 use Prim.Native.Nat.{ℕ, suc, _+_, _*_, _-_, _^_, _/_, _≤_, _<_}
 use native.Mathlib.Omega.{arith}
@@ -11,7 +11,7 @@ use Rattle.readers.specs.declared.entries.Nesting.{Nesting}
 use Rattle.rewriting.specs.Places.{Standing, Place, sizeOf, placesFrom}
 use Rattle.rewriting.specs.Written.{runBytes, Held, columns, mapBytes, place, withPlace}
 use Rattle.rewriting.specs.NextKept.{Stood, keptAt, Answers}
-use Rattle.rewriting.specs.Measures.{ParentsHeld, keptOfUnit, Measures}
+use Rattle.rewriting.specs.Measures.{ParentsHeld, keptOfUnit}
 use Rattle.rewriting.specs.MapFilled.{Fills}
 use Rattle.rewriting.specs.declared.kept.Stand.{Stand}
 use Rattle.rewriting.specs.declared.kept.Kept.{Kept}
@@ -19,7 +19,7 @@ use Rattle.rewriting.specs.declared.kept.KeptStep.{KeptStep}
 use Rattle.rewriting.specs.declared.kept.KeptStep.the-variants.{Item as Item′, End}
 use Rattle.rewriting.proofs.Sorted.{nothing-in}
 use Rattle.rewriting.proofs.KeptSteps.{stand}
-use Rattle.rewriting.proofs.KeptPasses.{shown-size, shown-offset, next-forward, next-item, next-end, stood-start, kept-start, Measuring, measuring-start, measuring-end, measuring-fits, measuring-more}
+use Rattle.rewriting.proofs.KeptPasses.{shown-size, shown-offset, next-forward, next-item, next-end, stood-start, kept-start, Measuring, measuring-start, measuring-more}
 
 -- ---- places and their columns
 
@@ -107,11 +107,8 @@ module _ (items : ℕ → List Item) (parents marks unit : List ℕ) (first : �
           (sym (d .whole ∙ ap (λ (k : List Standing). d .done ++ placesFrom new k) e ∙ append-nil (d .done)))
           (d .held)
 
-      pub placing-measured : r ≡ End → Measures items unit parents marks first (record { places = i; bytes = new })
-      placing-measured q = measuring-end items parents marks unit first s i new (f .measuring) r a q
-
-      pub placing-filled : r ≡ End → Fills items unit parents marks first map₀ map
-      placing-filled q =
+      pub placing-end : r ≡ End → Fills items unit parents marks first map₀ map
+      placing-end q =
           record {
             holds = λ u h m z. end-held q u h m z;
             bytes = λ u h m z.
@@ -120,9 +117,6 @@ module _ (items : ℕ → List Item) (parents marks unit : List ℕ) (first : �
           }
 
       module _ (x : Kept) (q : r ≡ Item′ x) where
-        pub placing-fits : (i < x .end) × (x .start ≤ x .end) × (new + (x .end - x .start) ≤ x .end)
-        placing-fits = measuring-fits items parents marks unit first s i new (f .measuring) r a x q
-
         pub placing-more : (map′ : List ℕ) → length map′ ≡ length map → Puts map i (x .start) new (x .depth) map′ → Placing map′ (x .next) (i + 1) (new + (x .end - x .start))
         unfolding placesFrom
         placing-more map′ l p =

@@ -4,8 +4,8 @@ use native.Mathlib.Omega.{arith}
 use borrow.Author.Needs.{needs}
 use lib.ListN.{length}
 use Rattle.rewriting.specs.NextKept.{itemsBy}
-use Rattle.rewriting.proofs.KeptPasses.{next-less}
-use Rattle.rewriting.proofs.MapFills.{Placing, placing-start, placing-size, placing-measured, placing-filled, placing-fits, placing-more}
+use Rattle.rewriting.proofs.KeptPasses.{measuring-end, measuring-fits, next-less}
+use Rattle.rewriting.proofs.MapFills.{Placing, placing-start, placing-size, placing-end, placing-more}
 use Rattle.rewriting.proofs.passes.place_items.Statement.{statement}
 use Rattle.rewriting.proofs.passes.place_items.Tie as tie
 
@@ -35,23 +35,23 @@ same-length : tie.Need-same-length Inv-loop μ-loop
 same-length c = search placing-size
 
 returns : tie.Need-returns Inv-loop μ-loop
-returns c = (search placing-measured, search placing-filled)
+returns c = (search measuring-end, search placing-end)
 
 put-place-requires : tie.Need-put-place-requires Inv-loop μ-loop
 put-place-requires c κs = search needs
 
 sub-bytes : tie.Need-sub-bytes Inv-loop μ-loop
-sub-bytes c = placing-fits _ _ _ _ _ _ _ _ _ _ (c .before .before .before .before .before .before .before .before .before .loop .inv) _ (c .before .before .before .before .before .before .before .before .next-kept .ensures) _ (c .before .before .before .before .before .before .x .given .1) .1
+sub-bytes c = measuring-fits _ _ _ _ _ _ _ _ (c .before .before .before .before .before .before .before .before .before .loop .inv .measuring) _ (c .before .before .before .before .before .before .before .before .next-kept .ensures) _ (c .before .before .before .before .before .before .x .given .1) .1
 
 add-bytes : tie.Need-add-bytes Inv-loop μ-loop
 add-bytes c =
-    let f = placing-fits _ _ _ _ _ _ _ _ _ _ (c .before .before .before .before .before .before .before .before .before .loop .inv) _ (c .before .before .before .before .before .before .before .before .next-kept .ensures) _ (c .before .before .before .before .before .before .x .given .1) in
+    let f = measuring-fits _ _ _ _ _ _ _ _ (c .before .before .before .before .before .before .before .before .before .loop .inv .measuring) _ (c .before .before .before .before .before .before .before .before .next-kept .ensures) _ (c .before .before .before .before .before .before .x .given .1) in
     let g : c .before .before .before .before .before .before .before .before .before .loop .bytes + (c .before .before .before .before .before .before .x .given .0 .0 .end - c .before .before .before .before .before .before .x .given .0 .0 .start) ≤ c .before .before .before .before .before .before .x .given .0 .0 .end = f .2 in
     omega (arith, g, c .struct-known .given)
 
 add-places : tie.Need-add-places Inv-loop μ-loop
 add-places c =
-    let f = placing-fits _ _ _ _ _ _ _ _ _ _ (c .before .before .before .before .before .before .before .before .before .loop .inv) _ (c .before .before .before .before .before .before .before .before .next-kept .ensures) _ (c .before .before .before .before .before .before .x .given .1) in
+    let f = measuring-fits _ _ _ _ _ _ _ _ (c .before .before .before .before .before .before .before .before .before .loop .inv .measuring) _ (c .before .before .before .before .before .before .before .before .next-kept .ensures) _ (c .before .before .before .before .before .before .x .given .1) in
     let g : c .before .before .before .before .before .before .before .before .before .loop .places < c .before .before .before .before .before .before .x .given .0 .0 .end = f .0 in
     omega (arith, g, c .struct-known .given)
 
