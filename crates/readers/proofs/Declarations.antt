@@ -15,12 +15,13 @@ use Rattle.readers.specs.Numbers.{uleb}
 use Rattle.readers.specs.Layout.{short}
 use Rattle.readers.specs.Scan.{Turn, more, stop, bad, Scanned, push, onTurn, scanWithin, scan, Goes, scan-stop, scan-bad, scan-more}
 use Rattle.readers.specs.Cursors.{lebAt, fixedAt}
-use Rattle.readers.specs.Abbreviations.{pastAttributes, numberDeclaration, movedDeclaration, declarationAt, Placed, declarationTurn, declarationsFrom, declaredIn, isFound, distinct, checkDistinct, abbreviationsOf, asChecked, checkedOf, indexed, indexFor, indexOf, searchTurn, foundBy, searchAt, declarationFound, throughIndex, findAt}
+use Rattle.readers.specs.Abbreviations.{scannedTo, pastAttributes, numberDeclaration, movedDeclaration, headAt, wholeDeclaration, declarationAt, Placed, declarationTurn, declarationsFrom, declaredIn, isFound, distinct, checkDistinct, abbreviationsOf, asChecked, checkedOf, indexed, indexFor, indexOf, searchTurn, foundBy, searchAt, declarationFound, throughIndex, findAt, wholeFound}
 use Rattle.readers.specs.declared.cursor.Cursor.{Cursor}
 use Rattle.readers.specs.declared.cursor.Number.{Number}
 use Rattle.readers.specs.declared.cursor.Number.the-variants.{Value, Unreadable}
 use Rattle.readers.specs.declared.cursor.Moved.{Moved}
 use Rattle.readers.specs.declared.cursor.Moved.the-variants.{To, Unreadable as Nowhere}
+use Rattle.readers.specs.declared.abbreviations.AttributeSpec.{AttributeSpec}
 use Rattle.readers.specs.declared.abbreviations.Declaration.{Declaration}
 use Rattle.readers.specs.declared.abbreviations.DeclarationStep.{DeclarationStep}
 use Rattle.readers.specs.declared.abbreviations.DeclarationStep.the-variants.{Declaration as Declared, Last, Unreadable as NoDeclaration}
@@ -33,43 +34,67 @@ use Rattle.readers.proofs.Specs.{Past, past-read}
 
 -- ---- one declaration, by what was read of it
 
-pub declaration-no-code : (s : List ℕ) (at : ℕ) → lebAt uleb s at ≡ Unreadable → NoDeclaration ≡ declarationAt s at
-unfolding declarationAt numberDeclaration
-declaration-no-code s at e = rw e
+pub head-no-code : (s : List ℕ) (at : ℕ) → lebAt uleb s at ≡ Unreadable → NoDeclaration ≡ headAt s at
+unfolding headAt numberDeclaration
+head-no-code s at e = rw e
 
 module _ (s : List ℕ) (at code : ℕ) (c₁ : Cursor) (e₁ : lebAt uleb s at ≡ Value code c₁) where
-  pub declaration-last : code ≡ 0 → Last c₁ ≡ declarationAt s at
-  unfolding declarationAt numberDeclaration
-  declaration-last z = rw e₁ (sym (pick-yes _ _ _ (yes-eqb z)))
+  pub head-last : code ≡ 0 → Last c₁ ≡ headAt s at
+  unfolding headAt numberDeclaration
+  head-last z = rw e₁ (sym (pick-yes _ _ _ (yes-eqb z)))
 
   module _ (coded : code ≡ 0 → ⊥) where
-    pub declaration-no-tag : lebAt short s (c₁ .at) ≡ Unreadable → NoDeclaration ≡ declarationAt s at
-    unfolding declarationAt numberDeclaration
-    declaration-no-tag e₂ = rw (e₁, e₂) (sym (pick-no _ _ _ (no-eqb coded)))
+    pub head-no-tag : lebAt short s (c₁ .at) ≡ Unreadable → NoDeclaration ≡ headAt s at
+    unfolding headAt numberDeclaration
+    head-no-tag e₂ = rw (e₁, e₂) (sym (pick-no _ _ _ (no-eqb coded)))
 
     module _ (tag : ℕ) (c₂ : Cursor) (e₂ : lebAt short s (c₁ .at) ≡ Value tag c₂) where
-      pub declaration-untagged : tag ≡ 0 → NoDeclaration ≡ declarationAt s at
-      unfolding declarationAt numberDeclaration
-      declaration-untagged z = rw (e₁, e₂) (sym (pick-no _ _ _ (no-eqb coded) ∙ pick-yes _ _ _ (yes-eqb z)))
+      pub head-untagged : tag ≡ 0 → NoDeclaration ≡ headAt s at
+      unfolding headAt numberDeclaration
+      head-untagged z = rw (e₁, e₂) (sym (pick-no _ _ _ (no-eqb coded) ∙ pick-yes _ _ _ (yes-eqb z)))
 
       module _ (tagged : tag ≡ 0 → ⊥) where
-        pub declaration-no-children : fixedAt false 1 s (c₂ .at) ≡ Unreadable → NoDeclaration ≡ declarationAt s at
-        unfolding declarationAt numberDeclaration
-        declaration-no-children e₃ = rw (e₁, e₂, e₃) (sym (pick-no _ _ _ (no-eqb coded) ∙ pick-no _ _ _ (no-eqb tagged)))
+        pub head-no-children : fixedAt false 1 s (c₂ .at) ≡ Unreadable → NoDeclaration ≡ headAt s at
+        unfolding headAt numberDeclaration
+        head-no-children e₃ = rw (e₁, e₂, e₃) (sym (pick-no _ _ _ (no-eqb coded) ∙ pick-no _ _ _ (no-eqb tagged)))
 
         module _ (children : ℕ) (c₃ : Cursor) (e₃ : fixedAt false 1 s (c₂ .at) ≡ Value children c₃) where
-          pub declaration-over : 1 < children → NoDeclaration ≡ declarationAt s at
-          unfolding declarationAt numberDeclaration
-          declaration-over h = rw (e₁, e₂, e₃) (sym (pick-no _ _ _ (no-eqb coded) ∙ pick-no _ _ _ (no-eqb tagged) ∙ pick-no _ _ _ (no-leb h)))
+          pub head-over : 1 < children → NoDeclaration ≡ headAt s at
+          unfolding headAt numberDeclaration
+          head-over h = rw (e₁, e₂, e₃) (sym (pick-no _ _ _ (no-eqb coded) ∙ pick-no _ _ _ (no-eqb tagged) ∙ pick-no _ _ _ (no-leb h)))
 
-          pub declaration-no-attributes : children ≤ 1 → pastAttributes s (c₃ .at) ≡ Nowhere → NoDeclaration ≡ declarationAt s at
-          unfolding declarationAt numberDeclaration movedDeclaration
-          declaration-no-attributes h e₄ = rw (e₁, e₂, e₃, e₄) (sym (pick-no _ _ _ (no-eqb coded) ∙ pick-no _ _ _ (no-eqb tagged) ∙ pick-yes _ _ _ (yes-leb h)))
+          pub head-whole : children ≤ 1 → Declared (record { code = code; tag = tag; children = eqb children 1; attributes = c₃ }) c₃ ≡ headAt s at
+          unfolding headAt numberDeclaration
+          head-whole h = rw (e₁, e₂, e₃) (sym (pick-no _ _ _ (no-eqb coded) ∙ pick-no _ _ _ (no-eqb tagged) ∙ pick-yes _ _ _ (yes-leb h)))
 
-          pub declaration-whole : (c₄ : Cursor) → children ≤ 1 → pastAttributes s (c₃ .at) ≡ To c₄
-              → Declared (record { code = code; tag = tag; children = eqb children 1; attributes = c₃ }) c₄ ≡ declarationAt s at
-          unfolding declarationAt numberDeclaration movedDeclaration
-          declaration-whole c₄ h e₄ = rw (e₁, e₂, e₃, e₄) (sym (pick-no _ _ _ (no-eqb coded) ∙ pick-no _ _ _ (no-eqb tagged) ∙ pick-yes _ _ _ (yes-leb h)))
+-- ---- and its attribute specifications
+
+module _ (s : List ℕ) (at : ℕ) (r : DeclarationStep) (p : r ≡ headAt s at) where
+  pub declaration-none : r ≡ NoDeclaration → NoDeclaration ≡ declarationAt s at
+  unfolding declarationAt wholeDeclaration
+  declaration-none q = ap (wholeDeclaration s) (sym q ∙ p)
+
+  pub declaration-last : (c : Cursor) → r ≡ Last c → Last c ≡ declarationAt s at
+  unfolding declarationAt wholeDeclaration
+  declaration-last c q = ap (wholeDeclaration s) (sym q ∙ p)
+
+  module _ (d : Declaration) (c : Cursor) (q : r ≡ Declared d c) (m : Moved) (l : m ≡ pastAttributes s (d .attributes .at)) where
+    pub declaration-no-attributes : m ≡ Nowhere → NoDeclaration ≡ declarationAt s at
+    unfolding declarationAt wholeDeclaration movedDeclaration
+    declaration-no-attributes k = ap (λ (m : Moved). movedDeclaration m (Declared d)) (sym k ∙ l) ∙ ap (wholeDeclaration s) (sym q ∙ p)
+
+    pub declaration-whole : (next : Cursor) → m ≡ To next → Declared d next ≡ declarationAt s at
+    unfolding declarationAt wholeDeclaration movedDeclaration
+    declaration-whole next k = ap (λ (m : Moved). movedDeclaration m (Declared d)) (sym k ∙ l) ∙ ap (wholeDeclaration s) (sym q ∙ p)
+
+head-found : (s : List ℕ) (at : ℕ) (r : DeclarationStep) → headAt s at ≡ r → wholeFound s (declarationFound r) ≡ declarationFound (declarationAt s at)
+unfolding declarationAt wholeFound declarationFound wholeDeclaration
+head-found s at r e = same r ∙ sym (ap (λ (r : DeclarationStep). declarationFound (wholeDeclaration s r)) e)
+  where
+    same : (r : DeclarationStep) → wholeFound s (declarationFound r) ≡ declarationFound (wholeDeclaration s r)
+    same (Declared d c) = refl
+    same (Last c) = refl
+    same NoDeclaration = refl
 
 -- ---- how far it comes
 
@@ -94,18 +119,21 @@ unfolding movedDeclaration
 moved-inside P (To c) k z h = h c refl
 moved-inside P Nowhere k z h = z
 
+abbrev Wholly : List ℕ → ℕ → DeclarationStep → Type 0
+Wholly s at r = InsideStep s at (wholeDeclaration s r)
+
 step-inside : (s : List ℕ) (at : ℕ) → InsideStep s at (declarationAt s at)
-unfolding declarationAt InsideStep
+unfolding declarationAt headAt wholeDeclaration InsideStep
 step-inside s at =
-    number-inside (InsideStep s at) (lebAt uleb s at) _ tt (λ code c₁ e₁.
+    number-inside (Wholly s at) (lebAt uleb s at) _ tt (λ code c₁ e₁.
     let q₁ : (at < c₁ .at) × (c₁ .at ≤ length s) = uleb-inside s at code c₁ e₁ in
-    pick-either (InsideStep s at) (eqb code 0) _ _ (λ _. q₁) (λ coded.
-    number-inside (InsideStep s at) (lebAt short s (c₁ .at)) _ tt (λ tag c₂ e₂.
+    pick-either (Wholly s at) (eqb code 0) _ _ (λ _. q₁) (λ coded.
+    number-inside (Wholly s at) (lebAt short s (c₁ .at)) _ tt (λ tag c₂ e₂.
     let q₂ : (c₁ .at < c₂ .at) × (c₂ .at ≤ length s) = short-inside s (c₁ .at) tag c₂ e₂ in
-    pick-either (InsideStep s at) (eqb tag 0) _ _ (λ _. tt) (λ _.
-    number-inside (InsideStep s at) (fixedAt false 1 s (c₂ .at)) _ tt (λ children c₃ e₃.
+    pick-either (Wholly s at) (eqb tag 0) _ _ (λ _. tt) (λ _.
+    number-inside (Wholly s at) (fixedAt false 1 s (c₂ .at)) _ tt (λ children c₃ e₃.
     let q₃ : (c₃ .at ≡ c₂ .at + 1) × (1 ≤ length s - c₂ .at) = fixed-inside false 1 s (c₂ .at) children c₃ e₃ in
-    pick-either (InsideStep s at) (leb children 1) _ _ (λ _.
+    pick-either (Wholly s at) (leb children 1) _ _ (λ _.
     moved-inside (InsideStep s at) (pastAttributes s (c₃ .at)) _ tt (λ c₄ e₄.
     record { ahead = omega (arith, q₁ .0, q₂ .0, q₃ .0); past = past-read s (c₃ .at) c₄ e₄; coded = eqb-no coded }))
     (λ _. tt))))))
@@ -512,6 +540,11 @@ module _ (s : List ℕ) (from : ℕ) (index : List ℕ) (code : ℕ) where
     pub find-zero : getD index code 0 ≡ 0 → Nothing ≡ findAt s from index code
     find-zero z = sym (find-through ∙ ap (throughIndex s) z ∙ through-zero s)
 
+    -- by the head of a declaration
+    pub find-head : (r : DeclarationStep) → (getD index code 0 ≡ 0 → ⊥) → headAt s (getD index code 0 - 1) ≡ r → wholeFound s (declarationFound r) ≡ findAt s from index code
+    unfolding throughIndex declarationAt
+    find-head r z e = head-found s (getD index code 0 - 1) r e ∙ sym (find-through ∙ pick-no _ _ _ (no-eqb z))
+
     pub find-there : (r : DeclarationStep) → (getD index code 0 ≡ 0 → ⊥) → declarationAt s (getD index code 0 - 1) ≡ r → declarationFound r ≡ findAt s from index code
     unfolding throughIndex
     find-there r z e = sym (find-through ∙ pick-no _ _ _ (no-eqb z) ∙ ap declarationFound e)
@@ -634,6 +667,16 @@ within-found s to code (suc k) at =
 search-found : (s : List ℕ) (to code at : ℕ) → FoundLaw s (searchAt s to code at)
 unfolding searchAt scan
 search-found s to code at = within-found s to code _ at
+
+-- so its attribute specifications can be read
+found-whole : (s : List ℕ) (f : Found) → FoundLaw s f → wholeFound s f ≡ f
+unfolding FoundLaw wholeFound wholeDeclaration movedDeclaration declarationFound pastAttributes scannedTo
+found-whole s (Found′ d) q = ap (λ (o : Option (Scanned AttributeSpec ℕ)). declarationFound (movedDeclaration (scannedTo o) (Declared d))) (declaration-inside s (q .place) d (q .next) (q .is) .past .read)
+found-whole s Nothing q = refl
+
+pub search-whole : (s : List ℕ) (from : ℕ) (index : List ℕ) (code : ℕ) → length index ≤ code → (f : Found) → f ≡ searchAt s (length s) code from → wholeFound s f ≡ findAt s from index code
+search-whole s from index code h f q =
+    found-whole s f (subst (FoundLaw s) (sym q) (search-found s (length s) code from)) ∙ q ∙ find-search s from index code h
 
 find-found : (s : List ℕ) (from : ℕ) (index : List ℕ) (code : ℕ) → FoundLaw s (findAt s from index code)
 unfolding findAt throughIndex FoundLaw

@@ -80,6 +80,20 @@ tenth s i v h lo =
     rw (drop-cons s i 0 h)
     (ap (λ o. bind o (onto 9 v)) (pick-no _ _ _ (no-ltb {a = getD s i 0} {b = 128} lo)))
 
+-- a number of one byte
+module _ (s : List ℕ) (at : ℕ) (h : at < length s) (lo : getD s at 0 < 128) where
+  one-group : (k : ℕ) → groups (suc k) (drop at s) ≡ some (0, getD s at 0, drop (suc at) s)
+  unfolding groups
+  one-group k = rw (drop-cons s at 0 h) (pick-yes _ _ _ (yes-ltb {a = getD s at 0} {b = 128} lo))
+
+  pub uleb-one : Value (getD s at 0) (cursor (at + 1)) ≡ lebAt uleb s at
+  unfolding lebAt uleb asLebNumber unsigned64
+  uleb-one = sym (ap (asLebNumber at) (bind-at unsigned64 (one-group 9) ∙ check-yes _ _ (yes-ltb {a = getD s at 0} {b = 2 ^ 64} (omega arith))))
+
+  pub short-one : Value (getD s at 0) (cursor (at + 1)) ≡ lebAt short s at
+  unfolding lebAt short asLebNumber within16
+  short-one = sym (ap (asLebNumber at) (bind-at within16 (one-group 2) ∙ check-yes _ _ (yes-ltb {a = getD s at 0} {b = 2 ^ 16} (omega arith))))
+
 -- the loop's invariant: k bytes from `from` on are behind
 pub record Reading (s : List ℕ) (from at low weight k : ℕ) : Type 0 where
   pub few : k ≤ 9

@@ -18,7 +18,7 @@ use Rattle.readers.specs.Forms.{formToken, formTokens, tokenAmong, useOf
 use Rattle.readers.specs.Cursors.{cursor, asLebNumber, lebAt, asFormNumber, formsAt}
 use Rattle.readers.specs.Fields.{size, fieldOf, asField, tokenAt, fieldAt}
 use Rattle.readers.specs.Scan.{Scanned, push}
-use Rattle.readers.specs.Abbreviations.{specAt, attributesFrom}
+use Rattle.readers.specs.Abbreviations.{specAt, attributesFrom, scannedTo, pastAttributes, movedDeclaration, wholeDeclaration, declarationFound, wholeFound}
 use Rattle.readers.specs.Entries.{attributeOfReads, asAttribute, attributeAt, then, attributesLayout, specsLayout, asPast, valuesAt, foundLayout, entryLayout, entryFound, stepOfReads, asStep, stepAt}
 use Rattle.readers.specs.declared.cursor.Encoding.{Encoding}
 use Rattle.readers.specs.declared.cursor.Cursor.{Cursor}
@@ -32,6 +32,7 @@ use Rattle.readers.specs.declared.fields.FieldRead.the-variants.{Read as
 use Rattle.readers.specs.declared.abbreviations.AttributeSpec.{AttributeSpec}
 use Rattle.readers.specs.declared.abbreviations.SpecStep.the-variants.{Attribute, Last as LastSpec, Unreadable as NoSpec}
 use Rattle.readers.specs.declared.abbreviations.Declaration.{Declaration}
+use Rattle.readers.specs.declared.abbreviations.DeclarationStep.the-variants.{Declaration as Declared}
 use Rattle.readers.specs.declared.abbreviations.Found.{Found}
 use Rattle.readers.specs.declared.abbreviations.Found.the-variants.{Declaration as Found′, Nothing}
 use Rattle.readers.specs.declared.attributes.Attribute.{Attribute as Valued}
@@ -448,6 +449,16 @@ module _ (e : Encoding) (abbreviations : List ℕ) (look : ℕ → Found) (unit 
   unfolding stepAt entryLayout readIn tokenIn numberIn lebAt
   step-by h = pick-yes _ _ _ (yes-ltb {a = at} {b = length unit} h) ∙ entry-by (uleb (drop at unit)) (uleb-law (drop at unit))
 
+  -- where the attribute specifications can't be read, neither can the values
+  whole-step : (values : Cursor) (d : Declaration) → entryStep values d (valuesAt e abbreviations (d .attributes .at) unit (values .at)) ≡ foundStep values (wholeFound abbreviations (Found′ d))
+  unfolding wholeFound wholeDeclaration movedDeclaration declarationFound pastAttributes scannedTo foundStep entryStep valuesAt specsLayout readIn asPast
+  whole-step values d = of (attributesFrom abbreviations (d .attributes .at)) refl
+    where
+      of : (o : Option (Scanned AttributeSpec ℕ)) → attributesFrom abbreviations (d .attributes .at) ≡ o
+          → entryStep values d (valuesAt e abbreviations (d .attributes .at) unit (values .at)) ≡ foundStep values (wholeFound abbreviations (Found′ d))
+      of none q = rw q
+      of (some r) q = ap (λ (o : Option (Scanned AttributeSpec ℕ)). foundStep values (declarationFound (movedDeclaration (scannedTo o) (Declared d)))) (sym q)
+
   -- what the steps of its reader answer
   pub step-end : length unit ≤ at → End ≡ stepAt e abbreviations look unit at
   unfolding stepAt
@@ -463,19 +474,18 @@ module _ (e : Encoding) (abbreviations : List ℕ) (look : ℕ → Found) (unit 
       unfolding codeStep
       step-terminator z = sym (step-by h ∙ ap codeStep (sym p ∙ q) ∙ pick-yes _ _ _ (yes-eqb {a = code} {b = 0} z))
 
-      module _ (z : code ≡ 0 → ⊥) (f : Found) (p′ : f ≡ look code) where
-        step-code : foundStep values f ≡ stepAt e abbreviations look unit at
+      module _ (z : code ≡ 0 → ⊥) (f : Found) (p′ : wholeFound abbreviations f ≡ look code) where
+        step-code : foundStep values (wholeFound abbreviations f) ≡ stepAt e abbreviations look unit at
         unfolding codeStep
         step-code = ap (foundStep values) p′ ∙ sym (step-by h ∙ ap codeStep (sym p ∙ q) ∙ pick-no _ _ _ (no-eqb {a = code} {b = 0} z))
 
         pub step-unknown : f ≡ Nothing → Unreadable ≡ stepAt e abbreviations look unit at
-        unfolding foundStep
-        step-unknown q′ = sym (ap (foundStep values) q′) ∙ step-code
+        unfolding foundStep wholeFound
+        step-unknown q′ = sym (ap (λ (f : Found). foundStep values (wholeFound abbreviations f)) q′) ∙ step-code
 
         module _ (d : Declaration) (q′ : f ≡ Found′ d) (m : Moved) (p″ : m ≡ valuesAt e abbreviations (d .attributes .at) unit (values .at)) where
           step-found : entryStep values d m ≡ stepAt e abbreviations look unit at
-          unfolding foundStep
-          step-found = ap (entryStep values d) p″ ∙ sym (ap (foundStep values) q′) ∙ step-code
+          step-found = ap (entryStep values d) p″ ∙ whole-step values d ∙ sym (ap (λ (f : Found). foundStep values (wholeFound abbreviations f)) q′) ∙ step-code
 
           pub step-unread : m ≡ Nowhere → Unreadable ≡ stepAt e abbreviations look unit at
           unfolding entryStep

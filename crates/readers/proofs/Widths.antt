@@ -17,6 +17,7 @@ use Rattle.readers.specs.Numbers.{littleValue, ordered, fixedValue, leng
 use Rattle.readers.specs.Layout.{fixed, width, numberIn, stringIn}
 use Rattle.readers.specs.Cursors.{cursor, asFixed, fixedAt, skipAt, asMoved, stringAt}
 use Rattle.readers.specs.declared.cursor.Cursor.{Cursor}
+use Rattle.readers.specs.declared.cursor.Number.{Number}
 use Rattle.readers.specs.declared.cursor.Number.the-variants.{Value, Unreadable}
 use Rattle.readers.specs.declared.cursor.Moved.the-variants.{To, Unreadable as Nowhere}
 
@@ -161,6 +162,37 @@ pub fixed-one : (big : Bool) (s : List ℕ) (at : ℕ) → at < length s → fix
 fixed-one big s at h =
     fixed-is big 1 s at (omega arith) (omega arith)
     ∙ ap (λ v. Value v (cursor (at + 1))) (ap (λ l. fixedValue big (take 1 l)) (drop-cons s at 0 h) ∙ value-one big (getD s at 0) (drop (suc at) s))
+
+pub fixed-none : (big : Bool) (s : List ℕ) (at : ℕ) → length s ≤ at → Unreadable ≡ fixedAt big 1 s at
+fixed-none big s at h = sym (fixed-short big 1 s at (omega arith))
+
+-- four bytes
+pub fixed-four : (s : List ℕ) (at : ℕ) → 4 ≤ length s - at → (v : ℕ) → v ≡ getD s at 0 + 256 * (getD s (at + 1) 0 + 256 * (getD s (at + 2) 0 + 256 * getD s (at + 3) 0))
+    → Value v (cursor (at + 4)) ≡ fixedAt false 4 s at
+unfolding fixedValue ordered littleValue
+fixed-four s at h v q =
+    let l : drop at s ≡ getD s at 0 ∷ getD s (suc at) 0 ∷ getD s (suc (suc at)) 0 ∷ getD s (suc (suc (suc at))) 0 ∷ drop (suc (suc (suc (suc at)))) s =
+    drop-cons s at 0 (omega arith)
+    ∙ ap (λ (t : List ℕ). getD s at 0 ∷ t)
+    (drop-cons s (suc at) 0 (omega arith)
+    ∙ ap (λ (t : List ℕ). getD s (suc at) 0 ∷ t)
+    (drop-cons s (suc (suc at)) 0 (omega arith) ∙ ap (λ (t : List ℕ). getD s (suc (suc at)) 0 ∷ t) (drop-cons s (suc (suc (suc at))) 0 (omega arith)))) in
+    let e : v ≡ getD s at 0 + 256 * (getD s (suc at) 0 + 256 * (getD s (suc (suc at)) 0 + 256 * getD s (suc (suc (suc at))) 0)) =
+    q
+    ∙ ap₂ (λ (x y : ℕ). getD s at 0 + 256 * (x + 256 * y)) (ap (λ (n : ℕ). getD s n 0) (let z : at + 1 ≡ suc at = omega arith in z))
+    (ap₂ (λ (x y : ℕ). x + 256 * y) (ap (λ (n : ℕ). getD s n 0) (let z : at + 2 ≡ suc (suc at) = omega arith in z)) (ap (λ (n : ℕ). getD s n 0) (let z : at + 3 ≡ suc (suc (suc at)) = omega arith in z))) in
+    ap (λ (w : ℕ). Value w (cursor (at + 4))) (e ∙ (let z : getD s at 0 + 256 * (getD s (suc at) 0 + 256 * (getD s (suc (suc at)) 0 + 256 * getD s (suc (suc (suc at))) 0)) ≡ getD s at 0 + 256 * (getD s (suc at) 0 + 256 * (getD s (suc (suc at)) 0 + 256 * (getD s (suc (suc (suc at))) 0 + 256 * 0))) = omega arith in z) ∙ sym (ap (λ (t : List ℕ). fixedValue false (take 4 t)) l)) ∙ sym (fixed-is false 4 s at (omega arith) h)
+
+-- the answer of a width and an order that were looked at
+module _ (big : Bool) (w : ℕ) (s : List ℕ) (at : ℕ) (r : Number) where
+  pub width-one : w ≡ 1 → ((b : Bool) → r ≡ fixedAt b 1 s at) → r ≡ fixedAt big w s at
+  width-one q h = h big ∙ ap (λ (n : ℕ). fixedAt big n s at) (sym q)
+
+  pub width-four : big ≡ false → w ≡ 4 → r ≡ fixedAt false 4 s at → r ≡ fixedAt big w s at
+  width-four b q h = h ∙ ap₂ (λ (b : Bool) (n : ℕ). fixedAt b n s at) (sym b) (sym q)
+
+  pub any-order : (b : Bool) → big ≡ b → r ≡ fixedAt b w s at → r ≡ fixedAt big w s at
+  any-order b q h = h ∙ ap (λ (b : Bool). fixedAt b w s at) (sym q)
 
 -- ---- a run of bytes
 

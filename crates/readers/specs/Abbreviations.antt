@@ -75,18 +75,26 @@ unfoldable pub movedDeclaration : Moved → (Cursor → DeclarationStep) → Dec
 movedDeclaration (To c) k = k c
 movedDeclaration Nowhere k = NoDeclaration
 
--- a code, a tag, a children byte, attribute specifications; code 0 closes the list
-unfoldable pub declarationAt : List ℕ → ℕ → DeclarationStep
-declarationAt s at =
+-- a code, a tag, a children byte, and where the attribute specifications start; code 0 closes the list
+unfoldable pub headAt : List ℕ → ℕ → DeclarationStep
+headAt s at =
     numberDeclaration (lebAt uleb s at) (λ code afterCode.
     pick (eqb code 0) (Last (cursor afterCode))
     (numberDeclaration (lebAt short s afterCode) (λ tag afterTag.
     pick (eqb tag 0) NoDeclaration
     (numberDeclaration (fixedAt false 1 s afterTag) (λ children attributes.
     pick (leb children 1)
-    (movedDeclaration (pastAttributes s attributes) (λ next.
-    Declared (record { code = code; tag = tag; children = eqb children 1; attributes = cursor attributes }) next))
+    (Declared (record { code = code; tag = tag; children = eqb children 1; attributes = cursor attributes }) (cursor attributes))
     NoDeclaration)))))
+
+-- and the attribute specifications
+unfoldable pub wholeDeclaration : List ℕ → DeclarationStep → DeclarationStep
+wholeDeclaration s (Declared d c) = movedDeclaration (pastAttributes s (d .attributes .at)) (Declared d)
+wholeDeclaration s (Last c) = Last c
+wholeDeclaration s NoDeclaration = NoDeclaration
+
+unfoldable pub declarationAt : List ℕ → ℕ → DeclarationStep
+declarationAt s at = wholeDeclaration s (headAt s at)
 
 -- a declaration and its place
 abbrev pub Placed : Type 0
@@ -160,6 +168,11 @@ unfoldable pub declarationFound : DeclarationStep → Found
 declarationFound (Declared d c) = Found′ d
 declarationFound (Last c) = Nothing
 declarationFound NoDeclaration = Nothing
+
+-- what is found by the head of its declaration, if the attribute specifications can be read too
+unfoldable pub wholeFound : List ℕ → Found → Found
+wholeFound s (Found′ d) = declarationFound (wholeDeclaration s (Declared d (d .attributes)))
+wholeFound s Nothing = Nothing
 
 unfoldable pub throughIndex : List ℕ → ℕ → Found
 throughIndex s place = pick (eqb place 0) Nothing (declarationFound (declarationAt s (place - 1)))

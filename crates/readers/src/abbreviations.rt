@@ -2,7 +2,7 @@
 ghost use mathlib.Core.Path.{_≡_};
 ghost use lib.ListN.{length};
 ghost use Rattle.readers.specs.Choice.{zeros};
-ghost use Rattle.readers.specs.Abbreviations.{specAt, implicitSpec, pastAttributes, declarationAt, searchAt, checkedOf, indexOf, findAt};
+ghost use Rattle.readers.specs.Abbreviations.{specAt, implicitSpec, pastAttributes, headAt, declarationAt, searchAt, checkedOf, indexOf, findAt, wholeFound};
 ghost use Rattle.readers.specs.declared.abbreviations.Checked.the-variants.{Accepted};
 use crate::cursor::Cursor;
 use crate::cursor::Moved;
@@ -117,9 +117,9 @@ impl Cursor {
         }
     }
 
-    // The declaration at a place.
-    pub fn declaration(self, s: &[u8]) -> DeclarationStep
-        ensures { λ r. ⌜ r ≡ declarationAt (now (s .entry)) (self .at) ⌝ }
+    // The head of the declaration at a place: its code, tag and children byte, and the cursor to its attribute specifications.
+    pub fn head(self, s: &[u8]) -> DeclarationStep
+        ensures { λ r. ⌜ r ≡ headAt (now (s .entry)) (self .at) ⌝ }
     {
         let Number::Value(code, after_code) = self.uleb(s) else {
             return DeclarationStep::Unreadable;
@@ -139,9 +139,6 @@ impl Cursor {
         if children > 1 {
             return DeclarationStep::Unreadable;
         }
-        let Moved::To(next) = attributes.past_attributes(s) else {
-            return DeclarationStep::Unreadable;
-        };
         DeclarationStep::Declaration(
             Declaration {
                 code,
@@ -149,8 +146,25 @@ impl Cursor {
                 children: children == 1,
                 attributes,
             },
-            next,
+            attributes,
         )
+    }
+
+    // The declaration at a place, with its attribute specifications.
+    pub fn declaration(self, s: &[u8]) -> DeclarationStep
+        ensures { λ r. ⌜ r ≡ declarationAt (now (s .entry)) (self .at) ⌝ }
+    {
+        match self.head(s) {
+            DeclarationStep::Declaration(d, _) => {
+                let attributes = d.attributes;
+                let Moved::To(next) = attributes.past_attributes(s) else {
+                    return DeclarationStep::Unreadable;
+                };
+                DeclarationStep::Declaration(d, next)
+            }
+            DeclarationStep::Last(next) => DeclarationStep::Last(next),
+            DeclarationStep::Unreadable => DeclarationStep::Unreadable,
+        }
     }
 
     // The first declaration with a code among those that start at this place and before `to`.
@@ -229,9 +243,10 @@ pub fn check_abbreviations(s: &[u8], from: u64, index: &mut [u64]) -> Checked
     }
 }
 
-// The declaration with a code, through the index where the code is below its length, else by search.
+// The declaration with a code, through the index where the code is below its length, else by search. Its head alone is read: whoever reads an entry's values reads the attribute specifications, and
+// finds out whether that is possible.
 pub fn find_declaration(s: &[u8], from: u64, index: &[u64], code: u64) -> Found
-    ensures { λ r. ⌜ r ≡ findAt (now (s .entry)) from (now (index .entry)) code ⌝ }
+    ensures { λ r. ⌜ wholeFound (now (s .entry)) r ≡ findAt (now (s .entry)) from (now (index .entry)) code ⌝ }
 {
     if code < (index.len() as u64) {
         let i = code as usize;
@@ -241,7 +256,7 @@ pub fn find_declaration(s: &[u8], from: u64, index: &[u64], code: u64) -> Found
         }
         return match (Cursor {
             at: (place - 1) as usize,
-        }).declaration(s) {
+        }).head(s) {
             DeclarationStep::Declaration(d, _) => Found::Declaration(d),
             DeclarationStep::Last(_) => Found::Nothing,
             DeclarationStep::Unreadable => Found::Nothing,

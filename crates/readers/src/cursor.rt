@@ -1,6 +1,7 @@
 // Where a reader stands, what it reads by, and the numbers that DWARF is made of. Each read takes the cursor and hands the next one back.
 ghost use mathlib.Core.Path.{_≡_};
-ghost use Prim.Native.Nat.{_-_};
+ghost use Prim.Native.Nat.{_+_, _*_, _-_};
+ghost use mathlib.Core.Bool.{Bool, false};
 ghost use lib.ListN.{length};
 ghost use Rattle.readers.specs.Numbers.{uleb, sleb};
 ghost use Rattle.readers.specs.Layout.{short};
@@ -49,6 +50,13 @@ pub fn left(s: &[u8], at: usize) -> usize
     if at < s.len() { s.len() - at } else { 0 }
 }
 
+// The number that four bytes are, the lowest first.
+pub fn little_four(a: u8, b: u8, c: u8, d: u8) -> u64
+    ensures { λ r. ⌜ r ≡ a + 256 * (b + 256 * (c + 256 * d)) ⌝ }
+{
+    (a as u64) + 256 * ((b as u64) + 256 * ((c as u64) + 256 * (d as u64)))
+}
+
 impl Cursor {
     // The groups of a LEB128 number.
     pub fn groups(self, s: &[u8]) -> Groups
@@ -91,8 +99,8 @@ impl Cursor {
         Groups::Unreadable
     }
 
-    // An unsigned LEB128 number within 64 bits.
-    pub fn uleb(self, s: &[u8]) -> Number
+    // An unsigned LEB128 number within 64 bits, of any length.
+    fn long_uleb(self, s: &[u8]) -> Number
         ensures { λ r. ⌜ r ≡ lebAt uleb (now (s .entry)) (self .at) ⌝ }
     {
         match self.groups(s) {
@@ -110,6 +118,20 @@ impl Cursor {
             }
             Groups::Unreadable => Number::Unreadable,
         }
+    }
+
+    // An unsigned LEB128 number within 64 bits. Most have one byte.
+    pub fn uleb(self, s: &[u8]) -> Number
+        ensures { λ r. ⌜ r ≡ lebAt uleb (now (s .entry)) (self .at) ⌝ }
+    {
+        let at = self.at;
+        if at < s.len() {
+            let b = s[at] as u64;
+            if b < 128 {
+                return Number::Value(b, Cursor { at: at + 1 });
+            }
+        }
+        self.long_uleb(s)
     }
 
     // A signed LEB128 number within 64 bits, as the bits of its two's complement.
@@ -141,8 +163,8 @@ impl Cursor {
         }
     }
 
-    // A number in at most three bytes and 16 bits: a tag, a name or a form.
-    pub fn short(self, s: &[u8]) -> Number
+    // A number in at most three bytes and 16 bits, of any length.
+    fn long_short(self, s: &[u8]) -> Number
         ensures { λ r. ⌜ r ≡ lebAt short (now (s .entry)) (self .at) ⌝ }
     {
         match self.groups(s) {
@@ -164,8 +186,63 @@ impl Cursor {
         }
     }
 
-    // A number of a fixed width, at most eight bytes.
+    // A number in at most three bytes and 16 bits: a tag, a name or a form. Most have one byte.
+    pub fn short(self, s: &[u8]) -> Number
+        ensures { λ r. ⌜ r ≡ lebAt short (now (s .entry)) (self .at) ⌝ }
+    {
+        let at = self.at;
+        if at < s.len() {
+            let b = s[at] as u64;
+            if b < 128 {
+                return Number::Value(b, Cursor { at: at + 1 });
+            }
+        }
+        self.long_short(s)
+    }
+
+    // A byte.
+    fn byte(self, s: &[u8]) -> Number
+        ensures { λ r. ⌜ ((big : Bool) → r ≡ fixedAt big 1 (now (s .entry)) (self .at)) ⌝ }
+    {
+        let at = self.at;
+        if at < s.len() {
+            return Number::Value(s[at] as u64, Cursor { at: at + 1 });
+        }
+        Number::Unreadable
+    }
+
+    // Four little-endian bytes.
+    fn four(self, s: &[u8]) -> Number
+        ensures { λ r. ⌜ r ≡ fixedAt false 4 (now (s .entry)) (self .at) ⌝ }
+    {
+        let at = self.at;
+        if 4 > left(s, at) {
+            return Number::Unreadable;
+        }
+        Number::Value(
+            little_four(s[at], s[at + 1], s[at + 2], s[at + 3]),
+            Cursor { at: at + 4 },
+        )
+    }
+
+    // A number of a fixed width, at most eight bytes. Most have one byte or four little-endian ones.
     pub fn fixed(self, s: &[u8], width: usize, big_endian: bool) -> Number
+        ensures { λ r. ⌜ r ≡ fixedAt «big_endian» width (now (s .entry)) (self .at) ⌝ }
+    {
+        if width == 1 {
+            return self.byte(s);
+        }
+        if big_endian {
+            return self.bytewise(s, width, true);
+        }
+        if width == 4 {
+            return self.four(s);
+        }
+        self.bytewise(s, width, false)
+    }
+
+    // A number of a fixed width, byte by byte.
+    fn bytewise(self, s: &[u8], width: usize, big_endian: bool) -> Number
         ensures { λ r. ⌜ r ≡ fixedAt «big_endian» width (now (s .entry)) (self .at) ⌝ }
     {
         let at = self.at;
