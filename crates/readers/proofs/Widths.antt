@@ -166,33 +166,78 @@ fixed-one big s at h =
 pub fixed-none : (big : Bool) (s : List ℕ) (at : ℕ) → length s ≤ at → Unreadable ≡ fixedAt big 1 s at
 fixed-none big s at h = sym (fixed-short big 1 s at (omega arith))
 
--- four bytes
-pub fixed-four : (s : List ℕ) (at : ℕ) → 4 ≤ length s - at → (v : ℕ) → v ≡ getD s at 0 + 256 * (getD s (at + 1) 0 + 256 * (getD s (at + 2) 0 + 256 * getD s (at + 3) 0))
-    → Value v (cursor (at + 4)) ≡ fixedAt false 4 s at
-unfolding fixedValue ordered littleValue
-fixed-four s at h v q =
-    let l : drop at s ≡ getD s at 0 ∷ getD s (suc at) 0 ∷ getD s (suc (suc at)) 0 ∷ getD s (suc (suc (suc at))) 0 ∷ drop (suc (suc (suc (suc at)))) s =
-    drop-cons s at 0 (omega arith)
-    ∙ ap (λ (t : List ℕ). getD s at 0 ∷ t)
-    (drop-cons s (suc at) 0 (omega arith)
-    ∙ ap (λ (t : List ℕ). getD s (suc at) 0 ∷ t)
-    (drop-cons s (suc (suc at)) 0 (omega arith) ∙ ap (λ (t : List ℕ). getD s (suc (suc at)) 0 ∷ t) (drop-cons s (suc (suc (suc at))) 0 (omega arith)))) in
-    let e : v ≡ getD s at 0 + 256 * (getD s (suc at) 0 + 256 * (getD s (suc (suc at)) 0 + 256 * getD s (suc (suc (suc at))) 0)) =
-    q
-    ∙ ap₂ (λ (x y : ℕ). getD s at 0 + 256 * (x + 256 * y)) (ap (λ (n : ℕ). getD s n 0) (let z : at + 1 ≡ suc at = omega arith in z))
-    (ap₂ (λ (x y : ℕ). x + 256 * y) (ap (λ (n : ℕ). getD s n 0) (let z : at + 2 ≡ suc (suc at) = omega arith in z)) (ap (λ (n : ℕ). getD s n 0) (let z : at + 3 ≡ suc (suc (suc at)) = omega arith in z))) in
-    ap (λ (w : ℕ). Value w (cursor (at + 4))) (e ∙ (let z : getD s at 0 + 256 * (getD s (suc at) 0 + 256 * (getD s (suc (suc at)) 0 + 256 * getD s (suc (suc (suc at))) 0)) ≡ getD s at 0 + 256 * (getD s (suc at) 0 + 256 * (getD s (suc (suc at)) 0 + 256 * (getD s (suc (suc (suc at))) 0 + 256 * 0))) = omega arith in z) ∙ sym (ap (λ (t : List ℕ). fixedValue false (take 4 t)) l)) ∙ sym (fixed-is false 4 s at (omega arith) h)
+-- bytes one by one
+next : (s : List ℕ) (at : ℕ) → at < length s → drop at s ≡ getD s at 0 ∷ drop (at + 1) s
+next s at h = drop-cons s at 0 h ∙ ap (λ (n : ℕ). getD s at 0 ∷ drop n s) (sym (add-one at))
 
--- the answer of a width and an order that were looked at
+four-there : (s : List ℕ) (at : ℕ) → at + 4 ≤ length s → drop at s ≡ getD s at 0 ∷ getD s (at + 1) 0 ∷ getD s (at + 2) 0 ∷ getD s (at + 3) 0 ∷ drop (at + 4) s
+four-there s at h =
+    let at′ : (k : ℕ) → at + k < length s → drop (at + k) s ≡ getD s (at + k) 0 ∷ drop (at + (k + 1)) s =
+    (λ (k : ℕ) (l : at + k < length s). next s (at + k) l ∙ ap (λ (n : ℕ). getD s (at + k) 0 ∷ drop n s) (let z : at + k + 1 ≡ at + (k + 1) = omega arith in z)) in
+    next s at (omega arith)
+    ∙ ap (λ (t : List ℕ). getD s at 0 ∷ t)
+    (at′ 1 (omega arith) ∙ ap (λ (t : List ℕ). getD s (at + 1) 0 ∷ t) (at′ 2 (omega arith) ∙ ap (λ (t : List ℕ). getD s (at + 2) 0 ∷ t) (at′ 3 (omega arith))))
+
+eight-there : (s : List ℕ) (at : ℕ) → at + 8 ≤ length s
+    → drop at s ≡ getD s at 0 ∷ getD s (at + 1) 0 ∷ getD s (at + 2) 0 ∷ getD s (at + 3) 0 ∷ getD s (at + 4) 0 ∷ getD s (at + 5) 0 ∷ getD s (at + 6) 0 ∷ getD s (at + 7) 0 ∷ drop (at + 8) s
+eight-there s at h =
+    four-there s at (omega arith)
+    ∙ ap (λ (t : List ℕ). getD s at 0 ∷ getD s (at + 1) 0 ∷ getD s (at + 2) 0 ∷ getD s (at + 3) 0 ∷ t)
+    (four-there s (at + 4) (omega arith)
+    ∙ rw (let z : at + 4 + 1 ≡ at + 5 = omega arith in z, let z : at + 4 + 2 ≡ at + 6 = omega arith in z, let z : at + 4 + 3 ≡ at + 7 = omega arith in z, let z : at + 4 + 4 ≡ at + 8 = omega arith in z) refl)
+
+-- what four bytes come to, and eight
+four-value : (a b c d : ℕ) → littleValue (a ∷ b ∷ c ∷ d ∷ []) ≡ a + 256 * (b + 256 * (c + 256 * d))
+unfolding littleValue
+four-value a b c d = omega arith
+
+eight-value : (a b c d e f g h : ℕ) → littleValue (a ∷ b ∷ c ∷ d ∷ e ∷ f ∷ g ∷ h ∷ []) ≡ a + 256 * (b + 256 * (c + 256 * d)) + 4294967296 * (e + 256 * (f + 256 * (g + 256 * h)))
+unfolding littleValue
+eight-value a b c d e f g h = omega arith
+
+module _ (s : List ℕ) (at : ℕ) where
+  abbrev here : ℕ → ℕ
+  here k = getD s (at + k) 0
+
+  -- four bytes of which the lowest comes first, or last
+  module _ (h : 4 ≤ length s - at) (v : ℕ) where
+    pub four-little : v ≡ getD s at 0 + 256 * (here 1 + 256 * (here 2 + 256 * here 3)) → (big : Bool) → big ≡ false → Value v (cursor (at + 4)) ≡ fixedAt big 4 s at
+    unfolding fixedValue ordered
+    four-little q big b =
+        ap (λ (w : ℕ). Value w (cursor (at + 4))) (q ∙ sym (four-value (getD s at 0) (here 1) (here 2) (here 3)) ∙ sym (ap (λ (t : List ℕ). fixedValue false (take 4 t)) (four-there s at (omega arith))))
+        ∙ sym (fixed-is false 4 s at (omega arith) h) ∙ ap (λ (b : Bool). fixedAt b 4 s at) (sym b)
+
+    pub four-big : v ≡ here 3 + 256 * (here 2 + 256 * (here 1 + 256 * getD s at 0)) → (big : Bool) → big ≡ true → Value v (cursor (at + 4)) ≡ fixedAt big 4 s at
+    unfolding fixedValue ordered
+    four-big q big b =
+        ap (λ (w : ℕ). Value w (cursor (at + 4))) (q ∙ sym (four-value (here 3) (here 2) (here 1) (getD s at 0)) ∙ sym (ap (λ (t : List ℕ). fixedValue true (take 4 t)) (four-there s at (omega arith))))
+        ∙ sym (fixed-is true 4 s at (omega arith) h) ∙ ap (λ (b : Bool). fixedAt b 4 s at) (sym b)
+
+  -- eight
+  module _ (h : 8 ≤ length s - at) (low high : ℕ) where
+    pub eight-little : low ≡ getD s at 0 + 256 * (here 1 + 256 * (here 2 + 256 * here 3)) → high ≡ here 4 + 256 * (here 5 + 256 * (here 6 + 256 * here 7))
+        → (big : Bool) → big ≡ false → Value (low + 4294967296 * high) (cursor (at + 8)) ≡ fixedAt big 8 s at
+    unfolding fixedValue ordered
+    eight-little p q big b =
+        ap (λ (w : ℕ). Value w (cursor (at + 8)))
+        (ap₂ (λ (x y : ℕ). x + 4294967296 * y) p q ∙ sym (eight-value (getD s at 0) (here 1) (here 2) (here 3) (here 4) (here 5) (here 6) (here 7)) ∙ sym (ap (λ (t : List ℕ). fixedValue false (take 8 t)) (eight-there s at (omega arith))))
+        ∙ sym (fixed-is false 8 s at (omega arith) h) ∙ ap (λ (b : Bool). fixedAt b 8 s at) (sym b)
+
+    pub eight-big : low ≡ here 7 + 256 * (here 6 + 256 * (here 5 + 256 * here 4)) → high ≡ here 3 + 256 * (here 2 + 256 * (here 1 + 256 * getD s at 0))
+        → (big : Bool) → big ≡ true → Value (low + 4294967296 * high) (cursor (at + 8)) ≡ fixedAt big 8 s at
+    unfolding fixedValue ordered
+    eight-big p q big b =
+        ap (λ (w : ℕ). Value w (cursor (at + 8)))
+        (ap₂ (λ (x y : ℕ). x + 4294967296 * y) p q ∙ sym (eight-value (here 7) (here 6) (here 5) (here 4) (here 3) (here 2) (here 1) (getD s at 0)) ∙ sym (ap (λ (t : List ℕ). fixedValue true (take 8 t)) (eight-there s at (omega arith))))
+        ∙ sym (fixed-is true 8 s at (omega arith) h) ∙ ap (λ (b : Bool). fixedAt b 8 s at) (sym b)
+
+-- the answer of a width that was looked at
 module _ (big : Bool) (w : ℕ) (s : List ℕ) (at : ℕ) (r : Number) where
   pub width-one : w ≡ 1 → ((b : Bool) → r ≡ fixedAt b 1 s at) → r ≡ fixedAt big w s at
   width-one q h = h big ∙ ap (λ (n : ℕ). fixedAt big n s at) (sym q)
 
-  pub width-four : big ≡ false → w ≡ 4 → r ≡ fixedAt false 4 s at → r ≡ fixedAt big w s at
-  width-four b q h = h ∙ ap₂ (λ (b : Bool) (n : ℕ). fixedAt b n s at) (sym b) (sym q)
-
-  pub any-order : (b : Bool) → big ≡ b → r ≡ fixedAt b w s at → r ≡ fixedAt big w s at
-  any-order b q h = h ∙ ap (λ (b : Bool). fixedAt b w s at) (sym q)
+  pub width-is : (n : ℕ) → w ≡ n → r ≡ fixedAt big n s at → r ≡ fixedAt big w s at
+  width-is n q h = h ∙ ap (λ (n : ℕ). fixedAt big n s at) (sym q)
 
 -- ---- a run of bytes
 

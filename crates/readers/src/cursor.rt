@@ -1,7 +1,7 @@
 // Where a reader stands, what it reads by, and the numbers that DWARF is made of. Each read takes the cursor and hands the next one back.
 ghost use mathlib.Core.Path.{_≡_};
-ghost use Prim.Native.Nat.{_+_, _*_, _-_};
-ghost use mathlib.Core.Bool.{Bool, false};
+ghost use Prim.Native.Nat.{_+_, _*_, _-_, _<_};
+ghost use mathlib.Core.Bool.{Bool};
 ghost use lib.ListN.{length};
 ghost use Rattle.readers.specs.Numbers.{uleb, sleb};
 ghost use Rattle.readers.specs.Layout.{short};
@@ -51,8 +51,9 @@ pub fn left(s: &[u8], at: usize) -> usize
 }
 
 // The number that four bytes are, the lowest first.
-pub fn little_four(a: u8, b: u8, c: u8, d: u8) -> u64
-    ensures { λ r. ⌜ r ≡ a + 256 * (b + 256 * (c + 256 * d)) ⌝ }
+fn four_bytes(a: u8, b: u8, c: u8, d: u8) -> u64
+    ensures is { λ r. ⌜ r ≡ a + 256 * (b + 256 * (c + 256 * d)) ⌝ }
+    ensures below { λ r. ⌜ r < 4294967296 ⌝ }
 {
     (a as u64) + 256 * ((b as u64) + 256 * ((c as u64) + 256 * (d as u64)))
 }
@@ -211,34 +212,58 @@ impl Cursor {
         Number::Unreadable
     }
 
-    // Four little-endian bytes.
-    fn four(self, s: &[u8]) -> Number
-        ensures { λ r. ⌜ r ≡ fixedAt false 4 (now (s .entry)) (self .at) ⌝ }
+    // Four bytes.
+    fn four(self, s: &[u8], big_endian: bool) -> Number
+        ensures { λ r. ⌜ r ≡ fixedAt «big_endian» 4 (now (s .entry)) (self .at) ⌝ }
     {
         let at = self.at;
         if 4 > left(s, at) {
             return Number::Unreadable;
         }
+        if big_endian {
+            return Number::Value(
+                four_bytes(s[at + 3], s[at + 2], s[at + 1], s[at]),
+                Cursor { at: at + 4 },
+            );
+        }
         Number::Value(
-            little_four(s[at], s[at + 1], s[at + 2], s[at + 3]),
+            four_bytes(s[at], s[at + 1], s[at + 2], s[at + 3]),
             Cursor { at: at + 4 },
         )
     }
 
-    // A number of a fixed width, at most eight bytes. Most have one byte or four little-endian ones.
+    // Eight bytes.
+    fn eight(self, s: &[u8], big_endian: bool) -> Number
+        ensures { λ r. ⌜ r ≡ fixedAt «big_endian» 8 (now (s .entry)) (self .at) ⌝ }
+    {
+        let at = self.at;
+        if 8 > left(s, at) {
+            return Number::Unreadable;
+        }
+        if big_endian {
+            let high = four_bytes(s[at + 3], s[at + 2], s[at + 1], s[at]);
+            let low = four_bytes(s[at + 7], s[at + 6], s[at + 5], s[at + 4]);
+            return Number::Value(low + 4294967296 * high, Cursor { at: at + 8 });
+        }
+        let low = four_bytes(s[at], s[at + 1], s[at + 2], s[at + 3]);
+        let high = four_bytes(s[at + 4], s[at + 5], s[at + 6], s[at + 7]);
+        Number::Value(low + 4294967296 * high, Cursor { at: at + 8 })
+    }
+
+    // A number of a fixed width, at most eight bytes. Those of one, four and eight bytes are read at once.
     pub fn fixed(self, s: &[u8], width: usize, big_endian: bool) -> Number
         ensures { λ r. ⌜ r ≡ fixedAt «big_endian» width (now (s .entry)) (self .at) ⌝ }
     {
         if width == 1 {
             return self.byte(s);
         }
-        if big_endian {
-            return self.bytewise(s, width, true);
-        }
         if width == 4 {
-            return self.four(s);
+            return self.four(s, big_endian);
         }
-        self.bytewise(s, width, false)
+        if width == 8 {
+            return self.eight(s, big_endian);
+        }
+        self.bytewise(s, width, big_endian)
     }
 
     // A number of a fixed width, byte by byte.

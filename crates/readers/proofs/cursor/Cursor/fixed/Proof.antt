@@ -1,8 +1,9 @@
 -- `Cursor::fixed` meets its contract, by its callees. Assumes nothing.
-use Rattle.readers.proofs.Widths.{width-one, width-four, any-order}
+use Rattle.readers.proofs.Widths.{width-one, width-is}
 use borrow.Author.Needs.{needs}
 use Rattle.readers.proofs.cursor.Cursor.fixed.Statement.{statement}
 use Rattle.readers.proofs.cursor.Cursor.fixed.Tie as tie
+use Rattle.readers.proofs.cursor.Cursor.fixed.Reads as reads
 
 byte-requires : tie.Need-byte-requires
 byte-requires c κs = search needs
@@ -10,23 +11,23 @@ byte-requires c κs = search needs
 returns : tie.Need-returns
 returns c = width-one _ _ _ _ _ (c .before .if1 .taken) (c .byte .ensures)
 
-bytewise-requires : tie.Need-bytewise-requires
-bytewise-requires c κs = search needs
-
-returns-2 : tie.Need-returns-2
-returns-2 c = any-order _ _ _ _ _ _ (c .before .if2 .taken) (c .bytewise .ensures)
-
 four-requires : tie.Need-four-requires
 four-requires c κs = search needs
 
-returns-3 : tie.Need-returns-3
-returns-3 c = width-four _ _ _ _ _ (c .before .before .if2 .left) (c .before .if3 .taken) (c .four .ensures)
+returns-2 : tie.Need-returns-2
+returns-2 c = width-is _ _ _ _ _ _ (c .before .if2 .taken) (c .four .ensures)
 
-bytewise-requires-2 : tie.Need-bytewise-requires-2
-bytewise-requires-2 c κs = search needs
+eight-requires : tie.Need-eight-requires
+eight-requires c κs = search needs
+
+returns-3 : tie.Need-returns-3
+returns-3 c = width-is _ _ _ _ _ _ (c .before .if3 .taken) (c .eight .ensures)
+
+bytewise-requires : tie.Need-bytewise-requires
+bytewise-requires c κs = search needs
 
 returns-4 : tie.Need-returns-4
-returns-4 c = any-order _ _ _ _ _ _ (c .before .before .if2 .left) (c .bytewise2 .ensures)
+returns-4 c = search needs
 
 pub fixed-spec : {M : Type 1} → statement M
 fixed-spec =
@@ -34,9 +35,9 @@ fixed-spec =
     (tie.spec
     byte-requires
     returns
-    bytewise-requires
-    returns-2
     four-requires
+    returns-2
+    eight-requires
     returns-3
-    bytewise-requires-2
+    bytewise-requires
     returns-4)
