@@ -1,6 +1,6 @@
 -- The indices of the kept entries, item by item. Assumes nothing.
 use mathlib.Core.Path.{_≡_, refl, ap, ap₂, sym, _∙_, subst}
-use Prim.Native.Nat.{ℕ, _-_, _/_, _≤_, _<_}
+use Prim.Native.Nat.{ℕ, _-_, _<_}
 use native.Mathlib.Omega.{arith}
 use mathlib.Core.Bool.{true, false}
 use mathlib.Core.List.{List, [], _∷_, _++_}
@@ -20,11 +20,10 @@ use Rattle.marking.specs.Roots.{entryValues}
 use Rattle.marking.specs.Analysis.{Sections}
 use Rattle.rewriting.specs.Places.{Standing, keptFrom, offsetOf}
 use Rattle.rewriting.specs.Parents.{Chained}
-use Rattle.rewriting.specs.Indices.{insertAll, readIndices}
+use Rattle.rewriting.specs.Indices.{readIndices}
 use Rattle.rewriting.specs.Rewriting.{Unit as Unit′, readsOr, readsAt, indicesFrom}
 use Rattle.rewriting.specs.NextKept.{openKept, itemsBy, ShowsItem, Forward, Stood, keptAt, NextItem, Next, Answers}
-use Rattle.rewriting.specs.Written.{ListHeld}
-use Rattle.rewriting.specs.IndexLists.{valueIndices, Filled, ReadAs, Found, ReadDeep, AllRead, Passable}
+use Rattle.rewriting.specs.IndexLists.{valueIndices, PutsOn, ReadAs, Found, ReadDeep, AllRead, Passable, Listing}
 use Rattle.rewriting.specs.declared.kept.Reading.{Reading}
 use Rattle.rewriting.specs.declared.kept.Stand.{Stand}
 use Rattle.rewriting.specs.declared.kept.Kept.{Kept}
@@ -32,7 +31,7 @@ use Rattle.rewriting.specs.declared.kept.KeptStep.{KeptStep}
 use Rattle.rewriting.specs.declared.kept.KeptStep.the-variants.{Item as Item′, End}
 use Rattle.rewriting.proofs.ItemsStand.{Every, Stands, kept-stand}
 use Rattle.rewriting.proofs.EntryIndices.{StepIndices, deep-indices}
-use Rattle.rewriting.proofs.IndexTurns.{all-grow, all-append, Filling, filling-start, filling-end, filling-on, filling-short, filling-more}
+use Rattle.rewriting.proofs.Holdings.{holding-none, holding-all, Onward, onward-start, onward-on, onward-more, onward-end}
 
 module _ (r : Reading) (s table unit : List ℕ) (k : ℕ) where
   abbrev look : ℕ → Declared
@@ -96,9 +95,6 @@ module _ (r : Reading) (s table unit : List ℕ) (k : ℕ) where
     abbrev items : ℕ → List Item
     items at = itemsBy r s table unit at
 
-    abbrev pub Put : (x : Sections) (u : Unit′) → List Standing → List ℕ → List ℕ
-    Put x u kept = insertAll (indicesFrom x u k kept)
-
     abbrev all-kept : List Standing
     all-kept = keptFrom marks 0 [] (items first)
 
@@ -107,7 +103,7 @@ module _ (r : Reading) (s table unit : List ℕ) (k : ℕ) where
       pub stack : List ℕ
       pub stood : Stood items parents t stack
       pub deep : AllRead x u (keptAt items parents marks t stack)
-      pub filling : Filling (Put x u all-kept) list₀ 0 (Put x u (keptAt items parents marks t stack)) list n
+      pub onward : Onward (indicesFrom x u k all-kept) 0 list₀ (indicesFrom x u k (keptAt items parents marks t stack)) n list
 
     abbrev pub Collecting : List ℕ → Stand → List ℕ → ℕ → Type 0
     Collecting list₀ t list n =
@@ -121,97 +117,78 @@ module _ (r : Reading) (s table unit : List ℕ) (k : ℕ) where
         stack = [];
         stood = record { nested = m; chained = tt; counted = omega arith; passed = omega arith; holds = p .holds };
         deep = p .deep;
-        filling = filling-start _ _ _;
+        onward = onward-start _ _ _;
       },
     )
 
-    module _ (list₀ : List ℕ) (t : Stand) (list : List ℕ) (n : ℕ) (g : Collecting list₀ t list n) (o : KeptStep)
-        (a : Answers items parents marks unit t o) where
-      abbrev Answered : ℕ → List ℕ → Type 0
-      Answered m after =
-          (x : Sections) (u : Unit′) → Passable x u r s table unit parents marks first → k < 3 → ListHeld [] list₀ → Filled (Put x u all-kept []) list₀ m after
+    module _ (t : Stand) (o : KeptStep) (a : Answers items parents marks unit t o) where
+      pub collect-less : (y : Kept) → o ≡ Item′ y → length unit - y .next .at < length unit - t .at
+      unfolding Forward
+      collect-less y q =
+          let i : Forward unit (t .at) (Item′ y) = subst (Forward unit (t .at)) q (a .forward) in
+          omega (arith, i .0, i .1, i .2, i .3)
 
-      pub collect-end : o ≡ End → Answered n list
-      unfolding Next indicesFrom insertAll
-      collect-end q x u p l h =
-          let v : Passing x u list₀ t list n = g .1 x u p l in
-          let e : keptAt items parents marks t (v .stack) ≡ [] = subst (Next items parents marks t (v .stack)) q (a .next (v .stack) (p .small) (v .stood)) in
-          filling-end _ _ _ _ _ _ (v .filling) (λ xs. ap (λ (ss : List Standing). insertAll (indicesFrom x u k ss) xs) e) [] h refl
+      module _ (list₀ list : List ℕ) (n : ℕ) (g : Collecting list₀ t list n) where
+        pub collect-end : o ≡ End → k < 3 → Listing k r s table unit parents marks first list₀ n list
+        unfolding Next indicesFrom
+        collect-end q l x u p h =
+            let v : Passing x u list₀ t list n = g .1 x u p l in
+            let e : keptAt items parents marks t (v .stack) ≡ [] = subst (Next items parents marks t (v .stack)) q (a .next (v .stack) (p .small) (v .stood)) in
+            holding-all _ n list list₀ (onward-end _ _ _ _ _ _ (v .onward) (ap (indicesFrom x u k) e) [] (holding-none list₀ h)) (g .0)
 
-      module _ (y : Kept) (q : o ≡ Item′ y) where
-        pub collect-less : length unit - y .next .at < length unit - t .at
-        unfolding Forward
-        collect-less =
-            let i : Forward unit (t .at) (Item′ y) = subst (Forward unit (t .at)) q (a .forward) in
-            omega (arith, i .0, i .1, i .2, i .3)
+        module _ (y : Kept) (q : o ≡ Item′ y) where
+          module _ (x : Sections) (u : Unit′) (p : Passable x u r s table unit parents marks first) (l : k < 3) where
+            abbrev now : Passing x u list₀ t list n
+            now = g .1 x u p l
 
-        module _ (x : Sections) (u : Unit′) (p : Passable x u r s table unit parents marks first) (l : k < 3) where
-          abbrev now : Passing x u list₀ t list n
-          now = g .1 x u p l
+            next-item : NextItem items parents marks t (now .stack) y
+            unfolding Next
+            next-item = subst (Next items parents marks t (now .stack)) q (a .next (now .stack) (p .small) (now .stood))
 
-          next-item : NextItem items parents marks t (now .stack) y
-          unfolding Next
-          next-item = subst (Next items parents marks t (now .stack)) q (a .next (now .stack) (p .small) (now .stood))
+            deep-here : AllRead x u (next-item .standing ∷ keptAt items parents marks (y .next) (next-item .after))
+            deep-here = subst (AllRead x u) (next-item .whole) (now .deep)
 
-          deep-here : AllRead x u (next-item .standing ∷ keptAt items parents marks (y .next) (next-item .after))
-          deep-here = subst (AllRead x u) (next-item .whole) (now .deep)
+            deep-after : AllRead x u (keptAt items parents marks (y .next) (next-item .after))
+            unfolding AllRead
+            deep-after = deep-here .1
 
-          deep-after : AllRead x u (keptAt items parents marks (y .next) (next-item .after))
-          unfolding AllRead
-          deep-after = deep-here .1
+            stands-here : Stands (r .encoding) s look unit (next-item .standing .item)
+            unfolding Every
+            stands-here =
+                let h : Every (λ (z : Standing). Stands (r .encoding) s look unit (z .item)) (next-item .standing ∷ keptAt items parents marks (y .next) (next-item .after)) =
+                subst (Every (λ (z : Standing). Stands (r .encoding) s look unit (z .item))) (next-item .whole)
+                (kept-stand (r .encoding) s look unit marks (t .count) (openKept marks (now .stack)) (t .at)) in
+                h .0
 
-          stands-here : Stands (r .encoding) s look unit (next-item .standing .item)
-          unfolding Every
-          stands-here =
-              let h : Every (λ (z : Standing). Stands (r .encoding) s look unit (z .item)) (next-item .standing ∷ keptAt items parents marks (y .next) (next-item .after)) =
-              subst (Every (λ (z : Standing). Stands (r .encoding) s look unit (z .item))) (next-item .whole)
-              (kept-stand (r .encoding) s look unit marks (t .count) (openKept marks (now .stack)) (t .at)) in
-              h .0
+            indices-here : ItemIndices (next-item .standing .item) (readIndices k (readsAt x u (offsetOf (next-item .standing .item))))
+            unfolding AllRead
+            indices-here = item-indices x u (p .read) (p .found) l (next-item .standing .item) stands-here (deep-here .0)
 
-          indices-here : ItemIndices (next-item .standing .item) (readIndices k (readsAt x u (offsetOf (next-item .standing .item))))
-          unfolding AllRead
-          indices-here = item-indices x u (p .read) (p .found) l (next-item .standing .item) stands-here (deep-here .0)
+            turn : (is : List ℕ) → readIndices k (readsAt x u (offsetOf (next-item .standing .item))) ≡ is
+                → indicesFrom x u k (keptAt items parents marks t (now .stack)) ≡ is ++ indicesFrom x u k (keptAt items parents marks (y .next) (next-item .after))
+            unfolding indicesFrom
+            turn is e =
+                ap (indicesFrom x u k) (next-item .whole)
+                ∙ ap (λ (js : List ℕ). js ++ indicesFrom x u k (keptAt items parents marks (y .next) (next-item .after))) e
 
-          put-turn : (is : List ℕ) → readIndices k (readsAt x u (offsetOf (next-item .standing .item))) ≡ is → (xs : List ℕ)
-              → Put x u (keptAt items parents marks t (now .stack)) xs ≡ Put x u (keptAt items parents marks (y .next) (next-item .after)) (insertAll is xs)
-          unfolding indicesFrom
-          put-turn is e xs =
-              ap (λ (ss : List Standing). Put x u ss xs) (next-item .whole)
-              ∙ ap (λ (js : List ℕ). insertAll (js ++ indicesFrom x u k (keptAt items parents marks (y .next) (next-item .after))) xs) e
-              ∙ all-append is _ xs
+          -- a terminator
+          pub collect-terminator : y .«is_entry» ≡ false → Collecting list₀ (y .next) list n
+          collect-terminator b = (
+            g .0,
+            λ x u p l.
+                let i = next-item x u p l in
+                record {
+                  stack = i .after;
+                  stood = i .stood;
+                  deep = deep-after x u p l;
+                  onward = onward-on _ _ _ _ _ _ (now x u p l .onward) _ (turn x u p l [] (shown-terminator y (i .standing .item) _ (i .shows) b (indices-here x u p l)));
+                },
+          )
 
-        -- a terminator
-        pub collect-terminator : y .«is_entry» ≡ false → Collecting list₀ (y .next) list n
-        unfolding insertAll
-        collect-terminator b = (
-          g .0,
-          λ x u p l.
-              let i = next-item x u p l in
-              record {
-                stack = i .after;
-                stood = i .stood;
-                deep = deep-after x u p l;
-                filling = filling-on _ _ _ _ _ _ (now x u p l .filling) (Put x u (keptAt items parents marks (y .next) (i .after)))
-                    (put-turn x u p l [] (shown-terminator y (i .standing .item) _ (i .shows) b (indices-here x u p l)));
-              },
-        )
-
-        -- an entry, and what its indices made of the list
-        module _ (b : y .«is_entry» ≡ true) (m : ℕ) (after : List ℕ) (e : length after ≡ length list)
-            (d : (xs : List ℕ) → ListHeld xs list → n ≡ length xs
-            → Filled (insertAll (valueIndices k (entryValues (r .encoding) s (y .specs .at) unit (y .values .at))) xs) list m after) where
-          abbrev own : List ℕ
-          own = valueIndices k (entryValues (r .encoding) s (y .specs .at) unit (y .values .at))
-
-          pub collect-short : length after / 8 < m → Answered m after
-          collect-short h x u p l z =
-              let i = next-item x u p l in
-              filling-short _ _ _ _ _ _ (now x u p l .filling) (insertAll own) (Put x u (keptAt items parents marks (y .next) (i .after)))
-              (put-turn x u p l own (shown-entry y (i .standing .item) _ (i .shows) b (indices-here x u p l)))
-              (λ xs. all-grow _ xs) m after e d h [] z refl
-
-          pub collect-more : m ≤ length after / 8 → Collecting list₀ (y .next) after m
-          collect-more h = (
+          -- an entry, whose indices were put into the list
+          pub collect-entry : y .«is_entry» ≡ true → (m : ℕ) (after : List ℕ) → length after ≡ length list
+              → PutsOn (valueIndices k (entryValues (r .encoding) s (y .specs .at) unit (y .values .at))) n list m after → Collecting list₀ (y .next) after m
+          collect-entry b m after e d = (
             e ∙ g .0,
             λ x u p l.
                 let i = next-item x u p l in
@@ -219,8 +196,6 @@ module _ (r : Reading) (s table unit : List ℕ) (k : ℕ) where
                   stack = i .after;
                   stood = i .stood;
                   deep = deep-after x u p l;
-                  filling = filling-more _ _ _ _ _ _ (now x u p l .filling) (insertAll own) (Put x u (keptAt items parents marks (y .next) (i .after)))
-                      (put-turn x u p l own (shown-entry y (i .standing .item) _ (i .shows) b (indices-here x u p l)))
-                      (λ xs. all-grow _ xs) m after e d h;
+                  onward = onward-more _ _ _ _ _ _ (now x u p l .onward) _ _ (turn x u p l _ (shown-entry y (i .standing .item) _ (i .shows) b (indices-here x u p l))) m after d;
                 },
           )

@@ -47,6 +47,7 @@ pub mod CollectLaws
 pub mod Held
 pub mod EntryIndices
 pub mod IndexTurns
+pub mod Holdings
 pub mod CollectTurns
 pub mod ListAnswers
 pub mod HeaderEmits

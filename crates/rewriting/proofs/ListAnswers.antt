@@ -1,6 +1,6 @@
 -- What the answers of the index lists say of the lists of a unit. Assumes nothing.
 use mathlib.Core.Path.{_≡_, refl, ap, sym, _∙_, subst}
-use Prim.Native.Nat.{ℕ, _/_, _^_, _≤_, _<_}
+use Prim.Native.Nat.{ℕ, _-_, _*_, _/_, _^_, _≤_, _<_}
 use native.Mathlib.Omega.{arith}
 use mathlib.Core.Bool.{Bool, true, false, not}
 use mathlib.Core.List.{List, [], _∷_}
@@ -9,7 +9,7 @@ use mathlib.Core.Logic.{⊎-elim}
 use lib.ListN.{length}
 use lib.Dec.{T, ltb, leb}
 use mir.Facts.{ltb-yes, ltb-no, yes-ltb, no-ltb, leb-yes, leb-no}
-use Rattle.readers.specs.Choice.{either}
+use Rattle.readers.specs.Choice.{pick, either, _or_, zeros}
 use Rattle.readers.specs.Abbreviations.{declaredIn, findAt}
 use Rattle.readers.specs.Stream.{Item, Items, itemsFrom}
 use Rattle.readers.proofs.Streams.{items-look}
@@ -20,7 +20,7 @@ use Rattle.rewriting.specs.Parents.{parentsFrom, HoldsFrom}
 use Rattle.rewriting.specs.Indices.{countOf}
 use Rattle.rewriting.specs.Rewriting.{Unit as Unit′, itemsIn, listOf, listsOf}
 use Rattle.rewriting.specs.NextKept.{itemsBy}
-use Rattle.rewriting.specs.Written.{ListHeld}
+use Rattle.rewriting.specs.Written.{runBytes, ListHeld}
 use Rattle.rewriting.specs.IndexLists.{Filled, ReadAs, Found, AllRead, Passable, isAbsent, ListAnswer, isShort}
 use Rattle.rewriting.specs.declared.kept.Reading.{Reading}
 use Rattle.rewriting.specs.declared.lists.ListCount.{ListCount}
@@ -62,18 +62,36 @@ module _ (x : Sections) (u : Unit′) where
 
   -- ---- its lists: DW_AT_ranges 0x55, DW_AT_location 0x02, and no name for the strings
 
-  module _ (t : Bool) (kept : List Standing) where
-    pub ranges-are : listOf x u (isAbsent x u t 0x55 (itemsIn x u)) 0 kept ≡ listsOf x u t kept .ranges
-    unfolding listsOf
-    ranges-are = ap (λ (b : Bool). listOf x u b 0 kept) (absent-named x u t 0x55 (itemsIn x u) (λ q. absurd (omega arith)))
+  module _ (t : Bool) (kept : List Standing) (h : t ≡ false) where
+    unless : (b : Bool) → b ≡ t or b
+    unfolding _or_
+    unless b = sym (ap (λ (t : Bool). t or b) h)
 
-    pub locations-are : listOf x u (isAbsent x u t 0x02 (itemsIn x u)) 1 kept ≡ listsOf x u t kept .locations
+    pub ranges-are : listOf x u (isAbsent x u 0x55 (itemsIn x u)) 0 kept ≡ listsOf x u t kept .ranges
     unfolding listsOf
-    locations-are = ap (λ (b : Bool). listOf x u b 1 kept) (absent-named x u t 0x02 (itemsIn x u) (λ q. absurd (omega arith)))
+    ranges-are = ap (λ (b : Bool). listOf x u b 0 kept) (absent-named x u 0x55 (itemsIn x u) (λ q. absurd (omega arith)) ∙ unless _)
 
-    pub strings-are : listOf x u (isAbsent x u t 0 (itemsIn x u)) 2 kept ≡ listsOf x u t kept .strings
+    pub locations-are : listOf x u (isAbsent x u 0x02 (itemsIn x u)) 1 kept ≡ listsOf x u t kept .locations
     unfolding listsOf
-    strings-are = ap (λ (b : Bool). listOf x u b 2 kept) (absent-plain x u t 0 (itemsIn x u) refl)
+    locations-are = ap (λ (b : Bool). listOf x u b 1 kept) (absent-named x u 0x02 (itemsIn x u) (λ q. absurd (omega arith)) ∙ unless _)
+
+    pub strings-are : listOf x u (isAbsent x u 0 (itemsIn x u)) 2 kept ≡ listsOf x u t kept .strings
+    unfolding listsOf
+    strings-are = ap (λ (b : Bool). listOf x u b 2 kept) (absent-plain x u 0 (itemsIn x u) refl ∙ sym h)
+
+  -- with type units
+  module _ (t : Bool) (kept : List Standing) (h : t ≡ true) where
+    pub no-ranges : listsOf x u t kept .ranges ≡ none
+    unfolding listsOf listOf pick _or_
+    no-ranges = ap (λ (t : Bool). listsOf x u t kept .ranges) h
+
+    pub no-locations : listsOf x u t kept .locations ≡ none
+    unfolding listsOf listOf pick _or_
+    no-locations = ap (λ (t : Bool). listsOf x u t kept .locations) h
+
+    pub no-strings : listsOf x u t kept .strings ≡ none
+    unfolding listsOf listOf pick
+    no-strings = ap (λ (t : Bool). listsOf x u t kept .strings) h
 
 -- ---- whether a list is too short, and what it holds where it is not
 
@@ -120,3 +138,27 @@ pub answer-absent : (list : List ℕ) (c : ListCount) (after : List ℕ) → Lis
 unfolding ListAnswer
 answer-absent list Absent after h = (refl, h)
 answer-absent list (Present n) after h = absurd h
+
+-- ---- a list that was gathered
+
+-- it holds nothing where it has no number
+nothing-held : (ys list after : List ℕ) → Filled ys list 0 after → after ≡ zeros (length after)
+unfolding runBytes
+nothing-held [] list after f = f .holds (omega arith) .held .are ∙ ap (λ (n : ℕ). zeros n) (let e : length after - 8 * 0 ≡ length after = omega arith in e)
+nothing-held (y ∷ ys) list after f =
+    absurd
+    (⊎-elim (λ (v : T (leb (length (y ∷ ys)) (length list / 8))). let q : 0 ≡ length (y ∷ ys) = f .counted (leb-yes v) in omega arith)
+    (λ (v : T (not (leb (length (y ∷ ys)) (length list / 8)))). let q : length list / 8 < 0 = f .short (leb-no {a = length (y ∷ ys)} {b = length list / 8} v) in omega arith)
+    (either (leb (length (y ∷ ys)) (length list / 8))))
+
+module _ (ys list₀ : List ℕ) (n : ℕ) (list : List ℕ) (z : list₀ ≡ zeros (length list)) (f : Filled ys list₀ n list) (a b : Bool) (q : b ≡ a) where
+  pub settle-absent : b ≡ true → (after : List ℕ) → after ≡ zeros (length list) → ListAnswer (pick a none (some ys)) list₀ Absent after
+  unfolding ListAnswer pick
+  settle-absent h after e = subst (λ (a : Bool). ListAnswer (pick a none (some ys)) list₀ Absent after) (sym h ∙ q) (e ∙ sym z)
+
+  pub settle-empty : b ≡ true → n ≤ 0 → ListAnswer (pick a none (some ys)) list₀ Absent list
+  settle-empty h l = settle-absent h list (nothing-held ys list₀ list (subst (λ (n : ℕ). Filled ys list₀ n list) (let e : n ≡ 0 = omega arith in e) f))
+
+  pub settle-present : b ≡ false → ListAnswer (pick a none (some ys)) list₀ (Present n) list
+  unfolding ListAnswer pick
+  settle-present h = subst (λ (a : Bool). ListAnswer (pick a none (some ys)) list₀ (Present n) list) (sym h ∙ q) f

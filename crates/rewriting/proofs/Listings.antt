@@ -8,7 +8,7 @@ use mathlib.Core.Option.{Option, none, some}
 use lib.ListN.{length}
 use lib.Dec.{ltb, leb}
 use borrow.Author.Tests.{ltb-true, ltb-false, leb-true, le-leb, lt-leb}
-use Rattle.readers.specs.Choice.{_and_, zeros}
+use Rattle.readers.specs.Choice.{pick, _and_, zeros}
 use Rattle.readers.specs.Stream.{Item}
 use Rattle.marking.specs.Analysis.{Sections}
 use Rattle.marking.specs.Columns.{padTo}
@@ -17,9 +17,9 @@ use Rattle.rewriting.specs.Indices.{countOf}
 use Rattle.rewriting.specs.Rewriting.{Unit as Unit′, Lists, itemsIn, listOf, listsOf}
 use Rattle.rewriting.specs.NextKept.{itemsBy}
 use Rattle.rewriting.specs.Written.{runBytes, ListHeld}
-use Rattle.rewriting.specs.IndexLists.{Passable, isAbsent, ListAnswer, isShort}
+use Rattle.rewriting.specs.IndexLists.{Filled, ReadAs, Passable, Listing, isAbsent, ListAnswer, isShort}
 use Rattle.rewriting.specs.Emission.{Lent, Lends}
-use Rattle.rewriting.specs.Outputs.{listCount, listOr}
+use Rattle.rewriting.specs.Outputs.{listCount, listOr, rangesIn, locationsIn, stringsIn}
 use Rattle.rewriting.specs.Leaving.{haveRoom, ListsAnswer}
 use Rattle.rewriting.specs.declared.kept.Reading.{Reading}
 use Rattle.rewriting.specs.declared.lists.ListCount.{ListCount}
@@ -28,7 +28,7 @@ use Rattle.rewriting.specs.declared.collect.Listed.{Listed}
 use Rattle.rewriting.specs.declared.collect.Listed.the-variants.{Made, Short}
 use Rattle.rewriting.proofs.Tables.{length-run}
 use Rattle.rewriting.proofs.Held.{list-none}
-use Rattle.rewriting.proofs.ListAnswers.{items-are, ranges-are, locations-are, strings-are, answer-short, answer-held, answer-absent}
+use Rattle.rewriting.proofs.ListAnswers.{items-are, ranges-are, locations-are, strings-are, no-ranges, no-locations, no-strings, answer-short, answer-held, answer-absent}
 
 -- ---- three tests
 
@@ -85,41 +85,51 @@ module _ (t : Bool) (r : Reading) (s table unit parents marks : List ℕ) (first
   abbrev items : List Item
   items = itemsBy r s table unit first
 
+  pub items-here : (x : Sections) (u : Unit′) → Passable x u r s table unit parents marks first → first ≡ u .header .first .0 → items ≡ itemsIn x u
+  items-here x u p f = ap (λ (n : ℕ). itemsBy r s table unit n) f ∙ items-are x u r s table unit (p .read) (p .found)
+
   -- what is known of one
-  abbrev Known : ℕ → ℕ → List ℕ → ListCount → List ℕ → Type 0
-  Known k name list c after = (x : Sections) (u : Unit′) → Passable x u r s table unit parents marks first → k < 3 → ListHeld [] list
-      → ListAnswer (listOf x u (isAbsent x u t name items) k (keptFrom marks 0 [] items)) list c after
+  abbrev Answered : (Lists → Option (List ℕ)) → List ℕ → ListCount → List ℕ → Type 0
+  Answered field list c after = (x : Sections) (u : Unit′) → Passable x u r s table unit parents marks first → first ≡ u .header .first .0
+      → list ≡ zeros (length list) → ListAnswer (field (listsOf x u t (keptFrom marks 0 [] (itemsIn x u)))) list c after
 
-  module _ (x : Sections) (u : Unit′) (p : Passable x u r s table unit parents marks first) (f : first ≡ u .header .first .0) where
-    pub items-here : items ≡ itemsIn x u
-    items-here = ap (λ (n : ℕ). itemsBy r s table unit n) f ∙ items-are x u r s table unit (p .read) (p .found)
+  -- it is absent with type units
+  module _ (h : t ≡ true) (list : List ℕ) where
+    absent : (o : Option (List ℕ)) → o ≡ none → ListAnswer o list Absent list
+    unfolding ListAnswer
+    absent o e = subst (λ (o : Option (List ℕ)). ListAnswer o list Absent list) (sym e) refl
 
-    abbrev kept : List Standing
-    kept = keptFrom marks 0 [] (itemsIn x u)
+    pub type-ranges : Answered rangesIn list Absent list
+    type-ranges x u p f z = absent _ (no-ranges x u t _ h)
 
-    abbrev lists : Lists
-    lists = listsOf x u t kept
+    pub type-locations : Answered locationsIn list Absent list
+    type-locations x u p f z = absent _ (no-locations x u t _ h)
 
-    blank-list : (list : List ℕ) → list ≡ zeros (length list) → ListHeld [] list
-    blank-list list z = subst (ListHeld []) (sym z) (list-none (length list))
+    pub type-strings : Answered stringsIn list Absent list
+    type-strings x u p f z = absent _ (no-strings x u t _ h)
 
-    ranges-answer : (list : List ℕ) (c : ListCount) (after : List ℕ) → Known 0 0x55 list c after → list ≡ zeros (length list) → ListAnswer (lists .ranges) list c after
-    ranges-answer list c after h z =
-        subst (λ (o : Option (List ℕ)). ListAnswer o list c after)
-        (ap (λ (is : List Item). listOf x u (isAbsent x u t 0x55 is) 0 (keptFrom marks 0 [] is)) items-here ∙ ranges-are x u t kept)
-        (h x u p (omega arith) (blank-list list z))
+  -- it was gathered and settled
+  module _ (h : t ≡ false) (list : List ℕ) (n : ℕ) (mid : List ℕ) (l : length mid ≡ length list) (c : ListCount) (after : List ℕ) where
+    abbrev Settled : ℕ → Type 0
+    Settled name = (x : Sections) (u : Unit′) (ys list₀ : List ℕ) → ReadAs x u r s unit → list₀ ≡ zeros (length mid) → Filled ys list₀ n mid
+        → ListAnswer (pick (isAbsent x u name items) none (some ys)) list₀ c after
 
-    locations-answer : (list : List ℕ) (c : ListCount) (after : List ℕ) → Known 1 0x02 list c after → list ≡ zeros (length list) → ListAnswer (lists .locations) list c after
-    locations-answer list c after h z =
-        subst (λ (o : Option (List ℕ)). ListAnswer o list c after)
-        (ap (λ (is : List Item). listOf x u (isAbsent x u t 0x02 is) 1 (keptFrom marks 0 [] is)) items-here ∙ locations-are x u t kept)
-        (h x u p (omega arith) (blank-list list z))
+    settled : (k name : ℕ) → Listing k r s table unit parents marks first list n mid → Settled name
+        → (x : Sections) (u : Unit′) → Passable x u r s table unit parents marks first → first ≡ u .header .first .0 → list ≡ zeros (length list)
+        → ListAnswer (listOf x u (isAbsent x u name (itemsIn x u)) k (keptFrom marks 0 [] (itemsIn x u))) list c after
+    unfolding listOf
+    settled k name g s x u p f z =
+        subst (λ (is : List Item). ListAnswer (listOf x u (isAbsent x u name is) k (keptFrom marks 0 [] is)) list c after) (items-here x u p f)
+        (s x u _ list (p .read) (z ∙ ap zeros (sym l)) (g x u p (subst (ListHeld []) (sym z) (list-none (length list)))))
 
-    strings-answer : (list : List ℕ) (c : ListCount) (after : List ℕ) → Known 2 0 list c after → list ≡ zeros (length list) → ListAnswer (lists .strings) list c after
-    strings-answer list c after h z =
-        subst (λ (o : Option (List ℕ)). ListAnswer o list c after)
-        (ap (λ (is : List Item). listOf x u (isAbsent x u t 0 is) 2 (keptFrom marks 0 [] is)) items-here ∙ strings-are x u t kept)
-        (h x u p (omega arith) (blank-list list z))
+    pub settled-ranges : Listing 0 r s table unit parents marks first list n mid → Settled 0x55 → Answered rangesIn list c after
+    settled-ranges g s x u p f z = subst (λ (o : Option (List ℕ)). ListAnswer o list c after) (ranges-are x u t _ h) (settled 0 0x55 g s x u p f z)
+
+    pub settled-locations : Listing 1 r s table unit parents marks first list n mid → Settled 0x02 → Answered locationsIn list c after
+    settled-locations g s x u p f z = subst (λ (o : Option (List ℕ)). ListAnswer o list c after) (locations-are x u t _ h) (settled 1 0x02 g s x u p f z)
+
+    pub settled-strings : Listing 2 r s table unit parents marks first list n mid → Settled 0 → Answered stringsIn list c after
+    settled-strings g s x u p f z = subst (λ (o : Option (List ℕ)). ListAnswer o list c after) (strings-are x u t _ h) (settled 2 0 g s x u p f z)
 
   abbrev Wanted : List ℕ → List ℕ → List ℕ → Listed → List ℕ → List ℕ → List ℕ → Type 0
   Wanted ranges locations strings c ranges′ locations′ strings′ = (x : Sections) (u : Unit′) → Passable x u r s table unit parents marks first → first ≡ u .header .first .0
@@ -131,51 +141,66 @@ module _ (t : Bool) (r : Reading) (s table unit parents marks : List ℕ) (first
       let no : haveRoom l ranges locations strings ≡ true → ⊥ = (λ e. false≢true (sym q ∙ e)) in
       record { short = λ _. refl; made = λ e. absurd (no e); lent = λ e. absurd (no e); ranges-left = λ e. absurd (no e); locations-left = λ e. absurd (no e); strings-left = λ e. absurd (no e) }
 
-  module _ (ranges locations strings ranges′ : List ℕ) (c₁ : ListCount) (k₁ : Known 0 0x55 ranges c₁ ranges′) (l₁ : length ranges′ ≡ length ranges) (b₁ : Bool) (q₁ : b₁ ≡ isShort c₁ (length ranges′ / 8)) where
-    pub ranges-short : b₁ ≡ true → Wanted ranges locations strings Short ranges′ locations strings
+  abbrev lists : (x : Sections) (u : Unit′) → Lists
+  lists x u = listsOf x u t (keptFrom marks 0 [] (itemsIn x u))
+
+  module _ (ranges locations strings ranges′ locations′ strings′ : List ℕ) where
+    pub ranges-short : (c : ListCount) → Answered rangesIn ranges c ranges′ → length ranges′ ≡ length ranges → (b : Bool) → b ≡ isShort c (length ranges′ / 8) → b ≡ true
+        → Wanted ranges locations strings Short ranges′ locations′ strings′
     unfolding haveRoom
-    ranges-short e x u p f z y w =
-        short-lists (lists x u p f) (length ranges) (length locations) (length strings) ranges′ locations strings
-        (no-first _ _ _ (too-short (lists x u p f .ranges) ranges c₁ ranges′ (ranges-answer x u p f ranges c₁ ranges′ k₁ z) l₁ b₁ q₁ e))
+    ranges-short c k l b q e x u p f z y w =
+        short-lists (lists x u) (length ranges) (length locations) (length strings) ranges′ locations′ strings′
+        (no-first _ _ _ (too-short (lists x u .ranges) ranges c ranges′ (k x u p f z) l b q e))
 
-    module _ (locations′ : List ℕ) (c₂ : ListCount) (k₂ : Known 1 0x02 locations c₂ locations′) (l₂ : length locations′ ≡ length locations) (b₂ : Bool) (q₂ : b₂ ≡ isShort c₂ (length locations′ / 8)) where
-      pub locations-short : b₂ ≡ true → Wanted ranges locations strings Short ranges′ locations′ strings
-      unfolding haveRoom
-      locations-short e x u p f z y w =
-          short-lists (lists x u p f) (length ranges) (length locations) (length strings) ranges′ locations′ strings
-          (no-second _ _ _ (too-short (lists x u p f .locations) locations c₂ locations′ (locations-answer x u p f locations c₂ locations′ k₂ y) l₂ b₂ q₂ e))
+    pub locations-short : (c : ListCount) → Answered locationsIn locations c locations′ → length locations′ ≡ length locations → (b : Bool) → b ≡ isShort c (length locations′ / 8) → b ≡ true
+        → Wanted ranges locations strings Short ranges′ locations′ strings′
+    unfolding haveRoom
+    locations-short c k l b q e x u p f z y w =
+        short-lists (lists x u) (length ranges) (length locations) (length strings) ranges′ locations′ strings′
+        (no-second _ _ _ (too-short (lists x u .locations) locations c locations′ (k x u p f y) l b q e))
 
-      module _ (strings′ : List ℕ) (c₃ : ListCount) (k₃ : Known 2 0 strings c₃ strings′) (l₃ : length strings′ ≡ length strings) (b₃ : Bool) (q₃ : b₃ ≡ isShort c₃ (length strings′ / 8)) where
-        pub strings-short : b₃ ≡ true → Wanted ranges locations strings Short ranges′ locations′ strings′
-        unfolding haveRoom
-        strings-short e x u p f z y w =
-            short-lists (lists x u p f) (length ranges) (length locations) (length strings) ranges′ locations′ strings′
-            (no-third _ _ _ (too-short (lists x u p f .strings) strings c₃ strings′ (strings-answer x u p f strings c₃ strings′ k₃ w) l₃ b₃ q₃ e))
+    pub strings-short : (c : ListCount) → Answered stringsIn strings c strings′ → length strings′ ≡ length strings → (b : Bool) → b ≡ isShort c (length strings′ / 8) → b ≡ true
+        → Wanted ranges locations strings Short ranges′ locations′ strings′
+    unfolding haveRoom
+    strings-short c k l b q e x u p f z y w =
+        short-lists (lists x u) (length ranges) (length locations) (length strings) ranges′ locations′ strings′
+        (no-third _ _ _ (too-short (lists x u .strings) strings c strings′ (k x u p f w) l b q e))
 
-        pub lists-made : b₁ ≡ false → b₂ ≡ false → b₃ ≡ false → Wanted ranges locations strings (Made c₁ c₂ c₃) ranges′ locations′ strings′
-        unfolding haveRoom _and_
-        lists-made e₁ e₂ e₃ x u p f z y w =
-            let l : Lists = lists x u p f in
-            let a₁ = ranges-answer x u p f ranges c₁ ranges′ k₁ z in
-            let a₂ = locations-answer x u p f locations c₂ locations′ k₂ y in
-            let a₃ = strings-answer x u p f strings c₃ strings′ k₃ w in
-            let h₁ = has-room (l .ranges) ranges c₁ ranges′ a₁ l₁ b₁ q₁ e₁ in
-            let h₂ = has-room (l .locations) locations c₂ locations′ a₂ l₂ b₂ q₂ e₂ in
-            let h₃ = has-room (l .strings) strings c₃ strings′ a₃ l₃ b₃ q₃ e₃ in
-            let m₁ = made-list (l .ranges) ranges c₁ ranges′ a₁ l₁ z h₁ in
-            let m₂ = made-list (l .locations) locations c₂ locations′ a₂ l₂ y h₂ in
-            let m₃ = made-list (l .strings) strings c₃ strings′ a₃ l₃ w h₃ in
-            let yes : haveRoom l (length ranges) (length locations) (length strings) ≡ true = all-three _ _ _ h₁ h₂ h₃ in
-            record {
-              short = λ e. absurd (false≢true (sym e ∙ yes));
-              made = λ _. ap (λ (c : ListCount). Made c c₂ c₃) (m₁ .counted) ∙ ap (λ (c : ListCount). Made (listCount (l .ranges)) c c₃) (m₂ .counted) ∙ ap (λ (c : ListCount). Made (listCount (l .ranges)) (listCount (l .locations)) c) (m₃ .counted);
-              lent = λ _. record { those-ranges = m₁ .lent; those-locations = m₂ .lent; those-strings = m₃ .lent };
-              ranges-left = λ _. m₁ .left;
-              locations-left = λ _. m₂ .left;
-              strings-left = λ _. m₃ .left;
-            }
-          where
-            all-three : (a b c : Bool) → a ≡ true → b ≡ true → c ≡ true → (a and b and c) ≡ true
-            all-three true true c p q r = r
-            all-three true false c p q r = absurd (false≢true q)
-            all-three false b c p q r = absurd (false≢true p)
+    pub lists-made : (c₁ c₂ c₃ : ListCount)
+        → Answered rangesIn ranges c₁ ranges′ → Answered locationsIn locations c₂ locations′ → Answered stringsIn strings c₃ strings′
+        → length ranges′ ≡ length ranges → length locations′ ≡ length locations → length strings′ ≡ length strings
+        → false ≡ isShort c₁ (length ranges′ / 8) → false ≡ isShort c₂ (length locations′ / 8) → false ≡ isShort c₃ (length strings′ / 8)
+        → Wanted ranges locations strings (Made c₁ c₂ c₃) ranges′ locations′ strings′
+    unfolding haveRoom _and_
+    lists-made c₁ c₂ c₃ k₁ k₂ k₃ l₁ l₂ l₃ q₁ q₂ q₃ x u p f z y w =
+        let l : Lists = lists x u in
+        let a₁ = k₁ x u p f z in
+        let a₂ = k₂ x u p f y in
+        let a₃ = k₃ x u p f w in
+        let h₁ = has-room (l .ranges) ranges c₁ ranges′ a₁ l₁ false q₁ refl in
+        let h₂ = has-room (l .locations) locations c₂ locations′ a₂ l₂ false q₂ refl in
+        let h₃ = has-room (l .strings) strings c₃ strings′ a₃ l₃ false q₃ refl in
+        let m₁ = made-list (l .ranges) ranges c₁ ranges′ a₁ l₁ z h₁ in
+        let m₂ = made-list (l .locations) locations c₂ locations′ a₂ l₂ y h₂ in
+        let m₃ = made-list (l .strings) strings c₃ strings′ a₃ l₃ w h₃ in
+        let yes : haveRoom l (length ranges) (length locations) (length strings) ≡ true = all-three _ _ _ h₁ h₂ h₃ in
+        record {
+          short = λ e. absurd (false≢true (sym e ∙ yes));
+          made = λ _. ap (λ (c : ListCount). Made c c₂ c₃) (m₁ .counted) ∙ ap (λ (c : ListCount). Made (listCount (l .ranges)) c c₃) (m₂ .counted) ∙ ap (λ (c : ListCount). Made (listCount (l .ranges)) (listCount (l .locations)) c) (m₃ .counted);
+          lent = λ _. record { those-ranges = m₁ .lent; those-locations = m₂ .lent; those-strings = m₃ .lent };
+          ranges-left = λ _. m₁ .left;
+          locations-left = λ _. m₂ .left;
+          strings-left = λ _. m₃ .left;
+        }
+      where
+        all-three : (a b c : Bool) → a ≡ true → b ≡ true → c ≡ true → (a and b and c) ≡ true
+        all-three true true c p q r = r
+        all-three true false c p q r = absurd (false≢true q)
+        all-three false b c p q r = absurd (false≢true p)
+
+  -- with type units
+  pub type-lists : t ≡ true → (ranges locations strings : List ℕ) → Wanted ranges locations strings (Made Absent Absent Absent) ranges locations strings
+  unfolding isShort
+  type-lists h ranges locations strings =
+      lists-made ranges locations strings ranges locations strings Absent Absent Absent
+      (type-ranges h ranges) (type-locations h locations) (type-strings h strings) refl refl refl refl refl refl

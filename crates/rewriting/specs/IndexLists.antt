@@ -6,7 +6,7 @@ use mathlib.Core.List.{List, [], _∷_, _++_}
 use mathlib.Core.Option.{Option, none, some}
 use lib.ListN.{length, drop}
 use lib.Dec.{ltb, eqb}
-use Rattle.readers.specs.Choice.{pick, _or_}
+use Rattle.readers.specs.Choice.{pick}
 use Rattle.readers.specs.Layout.{Role, reference, typeReference, sibling, index, absolute, RunOf, readIn}
 use Rattle.readers.specs.Expression.{expressionIn}
 use Rattle.readers.specs.Entries.{entryLayout}
@@ -17,7 +17,8 @@ use Rattle.readers.specs.Stream.{Item}
 use Rattle.readers.specs.declared.attributes.Attribute.{Attribute}
 use Rattle.marking.specs.Roots.{Valued}
 use Rattle.marking.specs.Analysis.{Sections}
-use Rattle.rewriting.specs.Rewriting.{Unit as Unit′, anyDeclares}
+use Rattle.rewriting.specs.Indices.{insertAll}
+use Rattle.rewriting.specs.Rewriting.{Unit as Unit′, anyDeclares, indicesFrom}
 use Rattle.rewriting.specs.Places.{Standing, keptFrom, offsetOf}
 use Rattle.rewriting.specs.Parents.{parentsFrom, HoldsFrom}
 use Rattle.rewriting.specs.NextKept.{itemsBy}
@@ -45,8 +46,12 @@ formList f = useList (useOf 0 f)
 
 -- ---- the indices of an entry, by its attributes
 
+-- a value of kind i, among those of kind k
+abbrev pub kindIndex : ℕ → ℕ → ℕ → List ℕ
+kindIndex k i v = pick (eqb i k) (v ∷ []) []
+
 unfoldable pub valueIndex : ℕ → Attribute → List ℕ
-valueIndex k v = pick (eqb (formList (v .form)) k) (v .field .value ∷ []) []
+valueIndex k v = kindIndex k (formList (v .form)) (v .field .value)
 
 unfoldable pub valueIndices : ℕ → List Valued → List ℕ
 valueIndices k [] = []
@@ -59,6 +64,14 @@ pub record Filled (ys list : List ℕ) (count : ℕ) (after : List ℕ) : Type 0
   pub counted : length ys ≤ length list / 8 → count ≡ length ys
   pub holds : length ys ≤ length list / 8 → ListHeld ys after
   pub short : length list / 8 < length ys → length list / 8 < count
+
+-- a list that some values were put into, one after the other
+pub record Holding (vs : List ℕ) (count : ℕ) (list : List ℕ) : Type 0 where
+  pub filled : Filled (insertAll vs []) list count list
+
+-- these values were put into it, after whatever was
+abbrev pub PutsOn : List ℕ → ℕ → List ℕ → ℕ → List ℕ → Type 0
+PutsOn ws count list count′ list′ = (vs : List ℕ) → Holding vs count list → Holding (vs ++ ws) count′ list′
 
 -- ---- a unit as the code reads it
 
@@ -91,9 +104,15 @@ pub record Passable (x : Sections) (u : Unit′) (r : Reading) (abbreviations ta
 
 -- ---- one list
 
--- for type units, and where an entry declares the attribute of a name; a list without such an attribute has the name 0
-unfoldable pub isAbsent : Sections → Unit′ → Bool → ℕ → List Item → Bool
-isAbsent x u typeUnits name items = typeUnits or pick (eqb name 0) false (anyDeclares x u name items)
+-- what a pass leaves in the list of a kind
+abbrev pub Listing : ℕ → Reading → List ℕ → List ℕ → List ℕ → List ℕ → List ℕ → ℕ → List ℕ → ℕ → List ℕ → Type 0
+Listing k r abbreviations table unit parents marks first list count after =
+    (x : Sections) (u : Unit′) → Passable x u r abbreviations table unit parents marks first → ListHeld [] list
+    → Filled (insertAll (indicesFrom x u k (keptFrom marks 0 [] (itemsBy r abbreviations table unit first))) []) list count after
+
+-- where an entry declares the attribute of a name; a list without such an attribute has the name 0
+unfoldable pub isAbsent : Sections → Unit′ → ℕ → List Item → Bool
+isAbsent x u name items = pick (eqb name 0) false (anyDeclares x u name items)
 
 unfoldable pub ListAnswer : Option (List ℕ) → List ℕ → ListCount → List ℕ → Type 0
 ListAnswer none list Absent after = after ≡ list

@@ -12,8 +12,9 @@ ghost use Rattle.rewriting.specs.Emission.{Lends};
 ghost use Rattle.rewriting.specs.Outputs.{roomBy, roomOf, listCount, answerFor, mapFor, listFor, outputFor, rangesIn, locationsIn, stringsIn};
 ghost use Rattle.rewriting.specs.Leaving.{Answers, ownUnit, Tabled, Blank, markedOf, ListsAnswer, Writable, WriteAnswer};
 use crate::emit::Emitted;
+use crate::indices::gather;
 use crate::indices::is_short;
-use crate::indices::one_list;
+use crate::indices::settle;
 use crate::kept::Reading;
 use crate::lists::ListCount;
 use crate::passes::place_items;
@@ -123,7 +124,14 @@ fn index_lists(
 ) -> Listed
     ensures { λ c. ⌜ ((x : Sections) (u : Unit′) → Passable x u r (now (abbreviations .entry)) (now (index .entry)) (now (unit .entry)) (now (parents .entry)) (now (marks .entry)) first → first ≡ u .header .first .0 → now («range_list» .entry) ≡ zeros (length (now («range_list» .entry))) → now («location_list» .entry) ≡ zeros (length (now («location_list» .entry))) → now («string_list» .entry) ≡ zeros (length (now («string_list» .entry))) → ListsAnswer (listsOf x u «type_units» (keptFrom (now (marks .entry)) 0 [] (itemsIn x u))) (length (now («range_list» .entry))) (length (now («location_list» .entry))) (length (now («string_list» .entry))) c (now («range_list» .exit)) (now («location_list» .exit)) (now («string_list» .exit))) ⌝ }
 {
-    let ranges = one_list(
+    if type_units {
+        return Listed::Made {
+            ranges: ListCount::Absent,
+            locations: ListCount::Absent,
+            strings: ListCount::Absent,
+        };
+    }
+    let g = gather(
         unit,
         abbreviations,
         r,
@@ -131,41 +139,44 @@ fn index_lists(
         parents,
         marks,
         first,
-        0,
+        range_list,
+        location_list,
+        string_list,
+    );
+    let ranges = settle(
+        unit,
+        abbreviations,
+        r,
+        index,
+        first,
         0x55,
-        type_units,
+        g.ranges,
         range_list,
     );
     if is_short(ranges, range_list) {
         return Listed::Short;
     }
-    let locations = one_list(
+    let locations = settle(
         unit,
         abbreviations,
         r,
         index,
-        parents,
-        marks,
         first,
-        1,
         0x02,
-        type_units,
+        g.locations,
         location_list,
     );
     if is_short(locations, location_list) {
         return Listed::Short;
     }
-    let strings = one_list(
+    let strings = settle(
         unit,
         abbreviations,
         r,
         index,
-        parents,
-        marks,
         first,
-        2,
         0,
-        type_units,
+        g.strings,
         string_list,
     );
     if is_short(strings, string_list) {

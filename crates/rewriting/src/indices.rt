@@ -1,16 +1,16 @@
 // The index lists of a unit: the indices of its kept entries, ascending without repeats, or absent.
 ghost use mathlib.Core.Path.{_≡_};
-ghost use Prim.Native.Nat.{ℕ, _/_, _<_};
-ghost use mathlib.Core.List.{List, []};
+ghost use Prim.Native.Nat.{ℕ, _/_};
+ghost use mathlib.Core.List.{List, [], _∷_, _++_};
+ghost use mathlib.Core.Option.{none, some};
 ghost use lib.ListN.{length};
+ghost use Rattle.readers.specs.Choice.{pick, zeros};
 ghost use Rattle.marking.specs.Roots.{entryValues};
 ghost use Rattle.marking.specs.Analysis.{Sections};
-ghost use Rattle.rewriting.specs.Places.{keptFrom};
-ghost use Rattle.rewriting.specs.Indices.{insertAll, declares};
-ghost use Rattle.rewriting.specs.Rewriting.{Unit as Unit′, indicesFrom, anyDeclares, listOf};
+ghost use Rattle.rewriting.specs.Indices.{declares};
+ghost use Rattle.rewriting.specs.Rewriting.{Unit as Unit′, anyDeclares};
 ghost use Rattle.rewriting.specs.NextKept.{itemsBy};
-ghost use Rattle.rewriting.specs.Written.{ListHeld};
-ghost use Rattle.rewriting.specs.IndexLists.{valueIndices, Filled, ReadAs, Passable, isAbsent, ListAnswer, isShort};
+ghost use Rattle.rewriting.specs.IndexLists.{kindIndex, valueIndices, Filled, Holding, PutsOn, ReadAs, Listing, isAbsent, ListAnswer, isShort};
 use crate::emit::list_of;
 use crate::kept::KeptStep;
 use crate::kept::Reading;
@@ -18,6 +18,8 @@ use crate::kept::Stand;
 use crate::kept::next_kept;
 use crate::lists::ListCount;
 use crate::lists::insert;
+use crate::lists::room;
+use marking::columns::clear_bytes;
 use marking::root_test::NextAttribute;
 use marking::root_test::next_attribute;
 use readers::cursor::Cursor;
@@ -103,22 +105,82 @@ fn any_declares(
     }
 }
 
-// The indices of an entry into one list, put into it: how many it has then, more than it has room for where it is too short.
-fn entry_indices(
+// How many numbers each list has, more than it has room for where it is too short.
+pub struct Gathered {
+    pub ranges: usize,
+    pub locations: usize,
+    pub strings: usize,
+}
+
+// One value more in a list. One that is too short stays so.
+fn put_index(list: &mut [u8], count: usize, value: u64) -> usize
+    ensures { λ n. ⌜ ((vs : List ℕ) → Holding vs count (now (list .entry)) → Holding (vs ++ (value ∷ [])) n (now (list .exit))) ⌝ }
+{
+    if count > room(list) {
+        return count;
+    }
+    insert(list, count, value)
+}
+
+// One value more in the list of a kind: 0 ranges, 1 locations, 2 strings, 3 none.
+fn put_by_kind(
+    kind: u8,
+    value: u64,
+    range_list: &mut [u8],
+    location_list: &mut [u8],
+    string_list: &mut [u8],
+    g: Gathered,
+) -> Gathered
+    ensures ranges { λ n. ⌜ PutsOn (kindIndex 0 kind value) (g .ranges) (now («range_list» .entry)) (n .ranges) (now («range_list» .exit)) ⌝ }
+    ensures locations { λ n. ⌜ PutsOn (kindIndex 1 kind value) (g .locations) (now («location_list» .entry)) (n .locations) (now («location_list» .exit)) ⌝ }
+    ensures strings { λ n. ⌜ PutsOn (kindIndex 2 kind value) (g .strings) (now («string_list» .entry)) (n .strings) (now («string_list» .exit)) ⌝ }
+{
+    let ranges = g.ranges;
+    let locations = g.locations;
+    let strings = g.strings;
+    if kind == 0 {
+        return Gathered {
+            ranges: put_index(range_list, ranges, value),
+            locations,
+            strings,
+        };
+    }
+    if kind == 1 {
+        return Gathered {
+            ranges,
+            locations: put_index(location_list, locations, value),
+            strings,
+        };
+    }
+    if kind == 2 {
+        return Gathered {
+            ranges,
+            locations,
+            strings: put_index(string_list, strings, value),
+        };
+    }
+    g
+}
+
+// The indices of an entry, each in its list.
+fn entry_gather(
     unit: &[u8],
     abbreviations: &[u8],
     specs: Cursor,
     values: Cursor,
-    kind: u8,
     e: Encoding,
-    list: &mut [u8],
-    count: usize,
-) -> usize
-    ensures { λ n. ⌜ ((xs : List ℕ) → ListHeld xs (now (list .entry)) → count ≡ length xs → Filled (insertAll (valueIndices kind (entryValues e (now (abbreviations .entry)) (specs .at) (now (unit .entry)) (values .at))) xs) (now (list .entry)) n (now (list .exit))) ⌝ }
+    range_list: &mut [u8],
+    location_list: &mut [u8],
+    string_list: &mut [u8],
+    counts: Gathered,
+) -> Gathered
+    ensures ranges { λ n. ⌜ PutsOn (valueIndices 0 (entryValues e (now (abbreviations .entry)) (specs .at) (now (unit .entry)) (values .at))) (counts .ranges) (now («range_list» .entry)) (n .ranges) (now («range_list» .exit)) ⌝ }
+    ensures locations { λ n. ⌜ PutsOn (valueIndices 1 (entryValues e (now (abbreviations .entry)) (specs .at) (now (unit .entry)) (values .at))) (counts .locations) (now («location_list» .entry)) (n .locations) (now («location_list» .exit)) ⌝ }
+    ensures strings { λ n. ⌜ PutsOn (valueIndices 2 (entryValues e (now (abbreviations .entry)) (specs .at) (now (unit .entry)) (values .at))) (counts .strings) (now («string_list» .entry)) (n .strings) (now («string_list» .exit)) ⌝ }
 {
     let mut p = specs.at;
     let mut from = values.at;
-    let mut n = count;
+    let mut g = counts;
     loop {
         let NextAttribute::More(a) = next_attribute(
             unit,
@@ -127,24 +189,26 @@ fn entry_indices(
             Cursor { at: from },
             e,
         ) else {
-            return n;
+            return g;
         };
         let v = a.value;
         let field = v.field;
         let next = a.next;
-        if list_of(v.form) == kind {
-            n = insert(list, n, field.value);
-            if n > list.len() / 8 {
-                return n;
-            }
-        }
+        g = put_by_kind(
+            list_of(v.form),
+            field.value,
+            range_list,
+            location_list,
+            string_list,
+            g,
+        );
         from = field.end;
         p = next.at;
     }
 }
 
-// The indices of the kept entries into one list.
-fn collect_indices(
+// The indices of the kept entries, each in its list.
+pub fn gather(
     unit: &[u8],
     abbreviations: &[u8],
     r: Reading,
@@ -152,44 +216,47 @@ fn collect_indices(
     parents: &[u32],
     marks: &[u8],
     first: usize,
-    kind: u8,
-    list: &mut [u8],
-) -> usize
-    ensures { λ n. ⌜ ((x : Sections) (u : Unit′) → Passable x u r (now (abbreviations .entry)) (now (index .entry)) (now (unit .entry)) (now (parents .entry)) (now (marks .entry)) first → kind < 3 → ListHeld [] (now (list .entry)) → Filled (insertAll (indicesFrom x u kind (keptFrom (now (marks .entry)) 0 [] (itemsBy r (now (abbreviations .entry)) (now (index .entry)) (now (unit .entry)) first))) []) (now (list .entry)) n (now (list .exit))) ⌝ }
+    range_list: &mut [u8],
+    location_list: &mut [u8],
+    string_list: &mut [u8],
+) -> Gathered
+    ensures ranges { λ n. ⌜ Listing 0 r (now (abbreviations .entry)) (now (index .entry)) (now (unit .entry)) (now (parents .entry)) (now (marks .entry)) first (now («range_list» .entry)) (n .ranges) (now («range_list» .exit)) ⌝ }
+    ensures locations { λ n. ⌜ Listing 1 r (now (abbreviations .entry)) (now (index .entry)) (now (unit .entry)) (now (parents .entry)) (now (marks .entry)) first (now («location_list» .entry)) (n .locations) (now («location_list» .exit)) ⌝ }
+    ensures strings { λ n. ⌜ Listing 2 r (now (abbreviations .entry)) (now (index .entry)) (now (unit .entry)) (now (parents .entry)) (now (marks .entry)) first (now («string_list» .entry)) (n .strings) (now («string_list» .exit)) ⌝ }
 {
     let mut s = Stand {
         at: first,
         count: 0,
         nesting: Nesting::outside(),
     };
-    let mut n: usize = 0;
+    let mut g = Gathered {
+        ranges: 0,
+        locations: 0,
+        strings: 0,
+    };
     loop {
         let KeptStep::Item(x) = next_kept(unit, abbreviations, r, index, parents, marks, s) else {
-            return n;
+            return g;
         };
         let next = x.next;
+        s = next;
         if x.is_entry {
-            n = entry_indices(
+            g = entry_gather(
                 unit,
                 abbreviations,
                 x.specs,
                 x.values,
-                kind,
                 r.encoding,
-                list,
-                n,
+                range_list,
+                location_list,
+                string_list,
+                g,
             );
-            if n > list.len() / 8 {
-                return n;
-            }
-            s = next;
-        } else {
-            s = next;
         }
     }
 }
 
-// Whether a list is absent: for type units, and where an entry declares the attribute of a name in sec_offset. A list without such an attribute has the name 0.
+// Whether a list is absent: where an entry declares the attribute of a name in sec_offset. A list without such an attribute has the name 0.
 fn is_absent(
     unit: &[u8],
     abbreviations: &[u8],
@@ -197,49 +264,35 @@ fn is_absent(
     index: &[u64],
     first: usize,
     name: u64,
-    type_units: bool,
 ) -> bool
-    ensures { λ b. ⌜ ((x : Sections) (u : Unit′) → ReadAs x u r (now (abbreviations .entry)) (now (unit .entry)) → b ≡ isAbsent x u «type_units» name (itemsBy r (now (abbreviations .entry)) (now (index .entry)) (now (unit .entry)) first)) ⌝ }
+    ensures { λ b. ⌜ ((x : Sections) (u : Unit′) → ReadAs x u r (now (abbreviations .entry)) (now (unit .entry)) → b ≡ isAbsent x u name (itemsBy r (now (abbreviations .entry)) (now (index .entry)) (now (unit .entry)) first)) ⌝ }
 {
-    if type_units {
-        return true;
-    }
     if name == 0 {
         return false;
     }
     any_declares(unit, abbreviations, r, index, first, name)
 }
 
-// One list: absent, or its count.
-pub fn one_list(
+// A list that was gathered: absent, and zeros again, or its count.
+pub fn settle(
     unit: &[u8],
     abbreviations: &[u8],
     r: Reading,
     index: &[u64],
-    parents: &[u32],
-    marks: &[u8],
     first: usize,
-    kind: u8,
     name: u64,
-    type_units: bool,
+    count: usize,
     list: &mut [u8],
 ) -> ListCount
-    ensures { λ c. ⌜ ((x : Sections) (u : Unit′) → Passable x u r (now (abbreviations .entry)) (now (index .entry)) (now (unit .entry)) (now (parents .entry)) (now (marks .entry)) first → kind < 3 → ListHeld [] (now (list .entry)) → ListAnswer (listOf x u (isAbsent x u «type_units» name (itemsBy r (now (abbreviations .entry)) (now (index .entry)) (now (unit .entry)) first)) kind (keptFrom (now (marks .entry)) 0 [] (itemsBy r (now (abbreviations .entry)) (now (index .entry)) (now (unit .entry)) first))) (now (list .entry)) c (now (list .exit))) ⌝ }
+    ensures { λ c. ⌜ ((x : Sections) (u : Unit′) (ys list₀ : List ℕ) → ReadAs x u r (now (abbreviations .entry)) (now (unit .entry)) → list₀ ≡ zeros (length (now (list .entry))) → Filled ys list₀ count (now (list .entry)) → ListAnswer (pick (isAbsent x u name (itemsBy r (now (abbreviations .entry)) (now (index .entry)) (now (unit .entry)) first)) none (some ys)) list₀ c (now (list .exit))) ⌝ }
 {
-    if is_absent(unit, abbreviations, r, index, first, name, type_units) {
+    if is_absent(unit, abbreviations, r, index, first, name) {
+        if count > 0 {
+            clear_bytes(list);
+        }
         return ListCount::Absent;
     }
-    ListCount::Present(collect_indices(
-        unit,
-        abbreviations,
-        r,
-        index,
-        parents,
-        marks,
-        first,
-        kind,
-        list,
-    ))
+    ListCount::Present(count)
 }
 
 // Whether a list has no room for its numbers.

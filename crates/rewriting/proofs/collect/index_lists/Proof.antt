@@ -1,26 +1,24 @@
 -- `index_lists` makes the three lists, or finds one too short. Assumes nothing.
+use mathlib.Core.Path.{sym, _∙_}
 use borrow.Author.Needs.{needs}
-use Rattle.rewriting.proofs.Listings.{ranges-short, locations-short, strings-short, lists-made}
+use Rattle.rewriting.proofs.Listings.{type-lists, settled-ranges, settled-locations, settled-strings, ranges-short, locations-short, strings-short, lists-made}
 use Rattle.rewriting.proofs.collect.index_lists.Statement.{statement}
 use Rattle.rewriting.proofs.collect.index_lists.Tie as tie
 
-one-list-requires : tie.Need-one-list-requires
-one-list-requires c κs = search needs
+returns : tie.Need-returns
+returns c = type-lists _ _ _ _ _ _ _ _ (c .if1 .taken) _ _ _
+
+gather-requires : tie.Need-gather-requires
+gather-requires c κs = search needs
+
+settle-requires : tie.Need-settle-requires
+settle-requires c κs = search needs
 
 is-short-requires : tie.Need-is-short-requires
 is-short-requires c κs = search needs
 
 same-length : tie.Need-same-length
 same-length c = search needs
-
-returns : tie.Need-returns
-returns c = ranges-short _ _ _ _ _ _ _ _ _ _ _ _ _ (c .before .before .before .before .before .one-list .ensures) (c .before .before .before .before .before .one-list .kept .1 .1 .1 .1 .1 .1 .1 .1 .1 .1 .0) _ (c .before .is-short .ensures) (c .if1 .taken)
-
-one-list-requires-2 : tie.Need-one-list-requires-2
-one-list-requires-2 c κs = search needs
-
-is-short-requires-2 : tie.Need-is-short-requires-2
-is-short-requires-2 c κs = search needs
 
 same-length-2 : tie.Need-same-length-2
 same-length-2 c = search needs
@@ -29,13 +27,17 @@ same-length-3 : tie.Need-same-length-3
 same-length-3 c = search needs
 
 returns-2 : tie.Need-returns-2
-returns-2 c = locations-short _ _ _ _ _ _ _ _ _ _ _ _ _ (c .before .before .before .before .before .before .before .before .before .before .before .before .one-list .ensures) (c .before .before .before .before .before .before .before .before .before .before .before .before .one-list .kept .1 .1 .1 .1 .1 .1 .1 .1 .1 .1 .0) _ (c .before .before .before .before .before .before .before .before .is-short .ensures) _ _ (c .before .before .before .before .before .one-list2 .ensures) (c .before .before .before .before .before .one-list2 .kept .1 .1 .1 .1 .1 .1 .1 .1 .1 .1 .0) _ (c .before .is-short2 .ensures) (c .if2 .taken)
+returns-2 c =
+    let o = c .before .before .before .before .before .before .before .before .before .before .before .before .before .before .before .before .before .if1 .left in
+    let g = c .before .before .before .before .before .before .before .before .before .before .before .before .before in
+    let s = c .before .before .before .before .before in
+    ranges-short _ _ _ _ _ _ _ _ _ _ _ _ _ _ _ (settled-ranges _ _ _ _ _ _ _ _ o _ _ _ (g .gather .kept .1 .1 .1 .1 .1 .1 .1 .0) _ _ (g .gather .ensures .0) (s .settle .ensures)) (s .settle .kept .1 .1 .1 .1 .1 .1 .1 .0 ∙ g .gather .kept .1 .1 .1 .1 .1 .1 .1 .0) _ (c .before .is-short .ensures) (c .if2 .taken)
 
-one-list-requires-3 : tie.Need-one-list-requires-3
-one-list-requires-3 c κs = search needs
+settle-requires-2 : tie.Need-settle-requires-2
+settle-requires-2 c κs = search needs
 
-is-short-requires-3 : tie.Need-is-short-requires-3
-is-short-requires-3 c κs = search needs
+is-short-requires-2 : tie.Need-is-short-requires-2
+is-short-requires-2 c κs = search needs
 
 same-length-4 : tie.Need-same-length-4
 same-length-4 c = search needs
@@ -47,10 +49,20 @@ same-length-6 : tie.Need-same-length-6
 same-length-6 c = search needs
 
 returns-3 : tie.Need-returns-3
-returns-3 c = strings-short _ _ _ _ _ _ _ _ _ _ _ _ _ (c .before .before .before .before .before .before .before .before .before .before .before .before .before .before .before .before .before .before .before .one-list .ensures) (c .before .before .before .before .before .before .before .before .before .before .before .before .before .before .before .before .before .before .before .one-list .kept .1 .1 .1 .1 .1 .1 .1 .1 .1 .1 .0) _ (c .before .before .before .before .before .before .before .before .before .before .before .before .before .before .before .is-short .ensures) _ _ (c .before .before .before .before .before .before .before .before .before .before .before .before .one-list2 .ensures) (c .before .before .before .before .before .before .before .before .before .before .before .before .one-list2 .kept .1 .1 .1 .1 .1 .1 .1 .1 .1 .1 .0) _ (c .before .before .before .before .before .before .before .before .is-short2 .ensures) _ _ (c .before .before .before .before .before .one-list3 .ensures) (c .before .before .before .before .before .one-list3 .kept .1 .1 .1 .1 .1 .1 .1 .1 .1 .1 .0) _ (c .before .is-short3 .ensures) (c .if3 .taken)
+returns-3 c =
+    let o = c .before .before .before .before .before .before .before .before .before .before .before .before .before .before .before .before .before .before .before .before .before .before .before .before .if1 .left in
+    let g = c .before .before .before .before .before .before .before .before .before .before .before .before .before .before .before .before .before .before .before .before in
+    let s₂ = c .before .before .before .before .before in
+    locations-short _ _ _ _ _ _ _ _ _ _ _ _ _ _ _ (settled-locations _ _ _ _ _ _ _ _ o _ _ _ (g .gather .kept .1 .1 .1 .1 .1 .1 .1 .1 .0) _ _ (g .gather .ensures .1 .0) (s₂ .settle2 .ensures)) (s₂ .settle2 .kept .1 .1 .1 .1 .1 .1 .1 .0 ∙ g .gather .kept .1 .1 .1 .1 .1 .1 .1 .1 .0) _ (c .before .is-short2 .ensures) (c .if3 .taken)
+
+settle-requires-3 : tie.Need-settle-requires-3
+settle-requires-3 c κs = search needs
+
+is-short-requires-3 : tie.Need-is-short-requires-3
+is-short-requires-3 c κs = search needs
 
 same-length-7 : tie.Need-same-length-7
-same-length-7 c = search needs
+same-length-7 c = c .before .before .before .before .before .before .before .before .before .before .before .before .before .before .before .before .before .before .before .settle .kept .1 .1 .1 .1 .1 .1 .1 .0 ∙ c .before .before .before .before .before .before .before .before .before .before .before .before .before .before .before .before .before .before .before .before .before .before .before .before .before .before .before .gather .kept .1 .1 .1 .1 .1 .1 .1 .0
 
 same-length-8 : tie.Need-same-length-8
 same-length-8 c = search needs
@@ -59,28 +71,60 @@ same-length-9 : tie.Need-same-length-9
 same-length-9 c = search needs
 
 returns-4 : tie.Need-returns-4
-returns-4 c = lists-made _ _ _ _ _ _ _ _ _ _ _ _ _ (c .before .before .before .before .before .before .before .before .before .before .before .before .before .before .before .before .before .before .before .one-list .ensures) (c .before .before .before .before .before .before .before .before .before .before .before .before .before .before .before .before .before .before .before .one-list .kept .1 .1 .1 .1 .1 .1 .1 .1 .1 .1 .0) _ (c .before .before .before .before .before .before .before .before .before .before .before .before .before .before .before .is-short .ensures) _ _ (c .before .before .before .before .before .before .before .before .before .before .before .before .one-list2 .ensures) (c .before .before .before .before .before .before .before .before .before .before .before .before .one-list2 .kept .1 .1 .1 .1 .1 .1 .1 .1 .1 .1 .0) _ (c .before .before .before .before .before .before .before .before .is-short2 .ensures) _ _ (c .before .before .before .before .before .one-list3 .ensures) (c .before .before .before .before .before .one-list3 .kept .1 .1 .1 .1 .1 .1 .1 .1 .1 .1 .0) _ (c .before .is-short3 .ensures) (c .before .before .before .before .before .before .before .before .before .before .before .before .before .before .if1 .left) (c .before .before .before .before .before .before .before .if2 .left) (c .if3 .left)
+returns-4 c =
+    let o = c .before .before .before .before .before .before .before .before .before .before .before .before .before .before .before .before .before .before .before .before .before .before .before .before .before .before .before .before .before .before .before .if1 .left in
+    let g = c .before .before .before .before .before .before .before .before .before .before .before .before .before .before .before .before .before .before .before .before .before .before .before .before .before .before .before in
+    let s₃ = c .before .before .before .before .before in
+    strings-short _ _ _ _ _ _ _ _ _ _ _ _ _ _ _ (settled-strings _ _ _ _ _ _ _ _ o _ _ _ (g .gather .kept .1 .1 .1 .1 .1 .1 .1 .1 .1 .0) _ _ (g .gather .ensures .1 .1) (s₃ .settle3 .ensures)) (s₃ .settle3 .kept .1 .1 .1 .1 .1 .1 .1 .0 ∙ g .gather .kept .1 .1 .1 .1 .1 .1 .1 .1 .1 .0) _ (c .before .is-short3 .ensures) (c .if4 .taken)
+
+same-length-10 : tie.Need-same-length-10
+same-length-10 c = c .before .before .before .before .before .before .before .before .before .before .before .before .before .before .before .before .before .before .before .settle .kept .1 .1 .1 .1 .1 .1 .1 .0 ∙ c .before .before .before .before .before .before .before .before .before .before .before .before .before .before .before .before .before .before .before .before .before .before .before .before .before .before .before .gather .kept .1 .1 .1 .1 .1 .1 .1 .0
+
+same-length-11 : tie.Need-same-length-11
+same-length-11 c = search needs
+
+same-length-12 : tie.Need-same-length-12
+same-length-12 c = search needs
+
+returns-5 : tie.Need-returns-5
+returns-5 c =
+    let o = c .before .before .before .before .before .before .before .before .before .before .before .before .before .before .before .before .before .before .before .before .before .before .before .before .before .before .before .before .before .before .before .if1 .left in
+    let g = c .before .before .before .before .before .before .before .before .before .before .before .before .before .before .before .before .before .before .before .before .before .before .before .before .before .before .before in
+    let s = c .before .before .before .before .before .before .before .before .before .before .before .before .before .before .before .before .before .before .before in
+    let s₂ = c .before .before .before .before .before .before .before .before .before .before .before .before in
+    let s₃ = c .before .before .before .before .before in
+    lists-made _ _ _ _ _ _ _ _ _ _ _ _ _ _ _ _ _
+    (settled-ranges _ _ _ _ _ _ _ _ o _ _ _ (g .gather .kept .1 .1 .1 .1 .1 .1 .1 .0) _ _ (g .gather .ensures .0) (s .settle .ensures))
+    (settled-locations _ _ _ _ _ _ _ _ o _ _ _ (g .gather .kept .1 .1 .1 .1 .1 .1 .1 .1 .0) _ _ (g .gather .ensures .1 .0) (s₂ .settle2 .ensures))
+    (settled-strings _ _ _ _ _ _ _ _ o _ _ _ (g .gather .kept .1 .1 .1 .1 .1 .1 .1 .1 .1 .0) _ _ (g .gather .ensures .1 .1) (s₃ .settle3 .ensures))
+    (s .settle .kept .1 .1 .1 .1 .1 .1 .1 .0 ∙ g .gather .kept .1 .1 .1 .1 .1 .1 .1 .0) (s₂ .settle2 .kept .1 .1 .1 .1 .1 .1 .1 .0 ∙ g .gather .kept .1 .1 .1 .1 .1 .1 .1 .1 .0) (s₃ .settle3 .kept .1 .1 .1 .1 .1 .1 .1 .0 ∙ g .gather .kept .1 .1 .1 .1 .1 .1 .1 .1 .1 .0)
+    (sym (c .before .before .before .before .before .before .before .before .before .before .before .before .before .before .if2 .left) ∙ c .before .before .before .before .before .before .before .before .before .before .before .before .before .before .before .is-short .ensures) (sym (c .before .before .before .before .before .before .before .if3 .left) ∙ c .before .before .before .before .before .before .before .before .is-short2 .ensures) (sym (c .if4 .left) ∙ c .before .is-short3 .ensures)
 
 pub index-lists-spec : {M : Type 1} → statement M
 index-lists-spec =
     tie.close
     (tie.spec
-    one-list-requires
+    returns
+    gather-requires
+    settle-requires
     is-short-requires
     same-length
-    returns
-    one-list-requires-2
-    is-short-requires-2
     same-length-2
     same-length-3
     returns-2
-    one-list-requires-3
-    is-short-requires-3
+    settle-requires-2
+    is-short-requires-2
     same-length-4
     same-length-5
     same-length-6
     returns-3
+    settle-requires-3
+    is-short-requires-3
     same-length-7
     same-length-8
     same-length-9
-    returns-4)
+    returns-4
+    same-length-10
+    same-length-11
+    same-length-12
+    returns-5)
