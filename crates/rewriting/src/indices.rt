@@ -1,7 +1,7 @@
 // The index lists of a unit: the indices of its kept entries, ascending without repeats, or absent.
 ghost use mathlib.Core.Path.{_≡_};
 ghost use Prim.Native.Nat.{ℕ, _/_};
-ghost use mathlib.Core.List.{List, [], _∷_, _++_};
+ghost use mathlib.Core.List.{List, [], _∷_};
 ghost use mathlib.Core.Option.{none, some};
 ghost use lib.ListN.{length};
 ghost use Rattle.readers.specs.Choice.{pick, zeros};
@@ -11,7 +11,7 @@ ghost use Rattle.marking.specs.Analysis.{Sections};
 ghost use Rattle.rewriting.specs.Indices.{declares, specsDeclare, tableDeclares};
 ghost use Rattle.rewriting.specs.Rewriting.{Unit as Unit′, anyDeclares};
 ghost use Rattle.rewriting.specs.NextKept.{itemsBy};
-ghost use Rattle.rewriting.specs.IndexLists.{kindIndex, valueIndices, Filled, Holding, PutsOn, ReadAs, Found, Listing, isAbsent, ListAnswer, isShort};
+ghost use Rattle.rewriting.specs.IndexLists.{kindIndex, valueIndices, Filled, PutsOn, ReadAs, Found, Listing, isAbsent, ListAnswer, isShort};
 use crate::emit::list_of;
 use crate::kept::KeptStep;
 use crate::kept::Reading;
@@ -117,7 +117,7 @@ pub struct Gathered {
 
 // One value more in a list. One that is too short stays so.
 fn put_index(list: &mut [u8], count: usize, value: u64) -> usize
-    ensures { λ n. ⌜ ((vs : List ℕ) → Holding vs count (now (list .entry)) → Holding (vs ++ (value ∷ [])) n (now (list .exit))) ⌝ }
+    ensures { λ n. ⌜ PutsOn (value ∷ []) count (now (list .entry)) n (now (list .exit)) ⌝ }
 {
     if count > room(list) {
         return count;
