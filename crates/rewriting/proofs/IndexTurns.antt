@@ -3,7 +3,7 @@ use mathlib.Core.Path.{_≡_, ap, sym, _∙_}
 use Prim.Native.Nat.{ℕ, _-_, _<_}
 use native.Mathlib.Omega.{arith}
 use mathlib.Core.Bool.{Bool, true, false}
-use mathlib.Core.List.{List, [], _∷_, _++_}
+use mathlib.Core.List.{List, [], _++_}
 use lib.ListN.{length}
 use lib.Dec.{ltb, eqb}
 use borrow.Author.Tests.{eq-eqb, ne-eqb}
@@ -97,7 +97,7 @@ module _ (r : Reading) (s table unit : List ℕ) (name : ℕ) where
   abbrev pub SameFrom : ℕ → ℕ → Type 0
   SameFrom a b = (x : Sections) (u : Unit′) → ReadAs x u r s unit → anyDeclares x u name (itemsBy r s table unit a) ≡ anyDeclares x u name (itemsBy r s table unit b)
 
-  item-declares : (x : Sections) (u : Unit′) → ReadAs x u r s unit → (y : Entry)
+  pub item-declares : (x : Sections) (u : Unit′) → ReadAs x u r s unit → (y : Entry)
       → itemDeclares x u name (entry y) ≡ declares name (entryValues (r .encoding) s (y .declaration .attributes .at) unit (y .values .at))
   unfolding itemDeclares valuesOfEntry
   item-declares x u w y =

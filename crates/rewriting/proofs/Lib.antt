@@ -48,6 +48,7 @@ pub mod Held
 pub mod EntryIndices
 pub mod IndexTurns
 pub mod Holdings
+pub mod Declaring
 pub mod CollectTurns
 pub mod ListAnswers
 pub mod HeaderEmits

@@ -1,9 +1,9 @@
 -- The three lists of a unit: too short, or made. Assumes nothing.
 use mathlib.Core.Path.{_≡_, refl, ap, sym, _∙_, subst}
-use Prim.Native.Nat.{ℕ, _-_, _*_, _/_, _≤_, _<_}
+use Prim.Native.Nat.{ℕ, _-_, _*_, _/_}
 use native.Mathlib.Omega.{arith}
 use mathlib.Core.Bool.{Bool, true, false, false≢true}
-use mathlib.Core.List.{List, [], _∷_, _++_}
+use mathlib.Core.List.{List, [], _++_}
 use mathlib.Core.Option.{Option, none, some}
 use lib.ListN.{length}
 use lib.Dec.{ltb, leb}
@@ -12,18 +12,18 @@ use Rattle.readers.specs.Choice.{pick, _and_, zeros}
 use Rattle.readers.specs.Stream.{Item}
 use Rattle.marking.specs.Analysis.{Sections}
 use Rattle.marking.specs.Columns.{padTo}
-use Rattle.rewriting.specs.Places.{Standing, keptFrom}
+use Rattle.rewriting.specs.Places.{keptFrom}
 use Rattle.rewriting.specs.Indices.{countOf}
 use Rattle.rewriting.specs.Rewriting.{Unit as Unit′, Lists, itemsIn, listOf, listsOf}
 use Rattle.rewriting.specs.NextKept.{itemsBy}
 use Rattle.rewriting.specs.Written.{runBytes, ListHeld}
-use Rattle.rewriting.specs.IndexLists.{Filled, ReadAs, Passable, Listing, isAbsent, ListAnswer, isShort}
+use Rattle.rewriting.specs.IndexLists.{Filled, ReadAs, Found, Passable, Listing, isAbsent, ListAnswer, isShort}
 use Rattle.rewriting.specs.Emission.{Lent, Lends}
 use Rattle.rewriting.specs.Outputs.{listCount, listOr, rangesIn, locationsIn, stringsIn}
 use Rattle.rewriting.specs.Leaving.{haveRoom, ListsAnswer}
 use Rattle.rewriting.specs.declared.kept.Reading.{Reading}
 use Rattle.rewriting.specs.declared.lists.ListCount.{ListCount}
-use Rattle.rewriting.specs.declared.lists.ListCount.the-variants.{Present, Absent}
+use Rattle.rewriting.specs.declared.lists.ListCount.the-variants.{Absent}
 use Rattle.rewriting.specs.declared.collect.Listed.{Listed}
 use Rattle.rewriting.specs.declared.collect.Listed.the-variants.{Made, Short}
 use Rattle.rewriting.proofs.Tables.{length-run}
@@ -111,7 +111,7 @@ module _ (t : Bool) (r : Reading) (s table unit parents marks : List ℕ) (first
   -- it was gathered and settled
   module _ (h : t ≡ false) (list : List ℕ) (n : ℕ) (mid : List ℕ) (l : length mid ≡ length list) (c : ListCount) (after : List ℕ) where
     abbrev Settled : ℕ → Type 0
-    Settled name = (x : Sections) (u : Unit′) (ys list₀ : List ℕ) → ReadAs x u r s unit → list₀ ≡ zeros (length mid) → Filled ys list₀ n mid
+    Settled name = (x : Sections) (u : Unit′) (ys list₀ : List ℕ) → ReadAs x u r s unit → Found u r s table → list₀ ≡ zeros (length mid) → Filled ys list₀ n mid
         → ListAnswer (pick (isAbsent x u name items) none (some ys)) list₀ c after
 
     settled : (k name : ℕ) → Listing k r s table unit parents marks first list n mid → Settled name
@@ -120,7 +120,7 @@ module _ (t : Bool) (r : Reading) (s table unit parents marks : List ℕ) (first
     unfolding listOf
     settled k name g s x u p f z =
         subst (λ (is : List Item). ListAnswer (listOf x u (isAbsent x u name is) k (keptFrom marks 0 [] is)) list c after) (items-here x u p f)
-        (s x u _ list (p .read) (z ∙ ap zeros (sym l)) (g x u p (subst (ListHeld []) (sym z) (list-none (length list)))))
+        (s x u _ list (p .read) (p .found) (z ∙ ap zeros (sym l)) (g x u p (subst (ListHeld []) (sym z) (list-none (length list)))))
 
     pub settled-ranges : Listing 0 r s table unit parents marks first list n mid → Settled 0x55 → Answered rangesIn list c after
     settled-ranges g s x u p f z = subst (λ (o : Option (List ℕ)). ListAnswer o list c after) (ranges-are x u t _ h) (settled 0 0x55 g s x u p f z)

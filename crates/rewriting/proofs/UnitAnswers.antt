@@ -96,7 +96,13 @@ module _ (x : Sections) (tables : Rooms) (section : List ℕ) (h : UnitHeader) (
   law = header-laws section h (w .header-is)
 
   read-as : ReadAs x own how s unit
-  read-as = record { abbreviations-are = w .abbreviations-are; bytes-are = sym is; encoding-is = refl }
+  read-as =
+      record {
+        abbreviations-are = w .abbreviations-are;
+        bytes-are = sym is;
+        encoding-is = refl;
+        declared-are = ap (λ (l : List ℕ). abbreviationsOf l (h .abbreviations)) (sym (w .abbreviations-are)) ∙ w .declared-are;
+      }
 
   found : Found own how s index
   found code =

@@ -12,7 +12,7 @@ use Rattle.readers.specs.Expression.{expressionIn}
 use Rattle.readers.specs.Entries.{entryLayout}
 use Rattle.readers.specs.Tokens.{Use, plain, as′}
 use Rattle.readers.specs.Forms.{useOf}
-use Rattle.readers.specs.Abbreviations.{declaredIn, findAt}
+use Rattle.readers.specs.Abbreviations.{abbreviationsOf, declaredIn, findAt}
 use Rattle.readers.specs.Stream.{Item}
 use Rattle.readers.specs.declared.attributes.Attribute.{Attribute}
 use Rattle.marking.specs.Roots.{Valued}
@@ -79,6 +79,7 @@ pub record ReadAs (x : Sections) (u : Unit′) (r : Reading) (abbreviations unit
   pub abbreviations-are : x .abbreviations ≡ abbreviations
   pub bytes-are : u .bytes ≡ unit
   pub encoding-is : u .header .encoding ≡ r .encoding
+  pub declared-are : abbreviationsOf abbreviations (r .from) ≡ some (u .declared)
 
 -- its declarations are found as the code finds them
 abbrev pub Found : Unit′ → Reading → List ℕ → List ℕ → Type 0

@@ -1,16 +1,17 @@
 // The index lists of a unit: the indices of its kept entries, ascending without repeats, or absent.
 ghost use mathlib.Core.Path.{_≡_};
 ghost use Prim.Native.Nat.{ℕ, _/_};
-ghost use mathlib.Core.List.{List, [], _∷_, _++_};
+ghost use mathlib.Core.List.{List, [], _∷_};
 ghost use mathlib.Core.Option.{none, some};
 ghost use lib.ListN.{length};
 ghost use Rattle.readers.specs.Choice.{pick, zeros};
-ghost use Rattle.marking.specs.Roots.{entryValues};
+ghost use Rattle.readers.specs.Abbreviations.{Placed, abbreviationsOf};
+ghost use Rattle.marking.specs.Roots.{specsFrom, entryValues};
 ghost use Rattle.marking.specs.Analysis.{Sections};
-ghost use Rattle.rewriting.specs.Indices.{declares};
+ghost use Rattle.rewriting.specs.Indices.{declares, specsDeclare, tableDeclares};
 ghost use Rattle.rewriting.specs.Rewriting.{Unit as Unit′, anyDeclares};
 ghost use Rattle.rewriting.specs.NextKept.{itemsBy};
-ghost use Rattle.rewriting.specs.IndexLists.{kindIndex, valueIndices, Filled, Holding, PutsOn, ReadAs, Listing, isAbsent, ListAnswer, isShort};
+ghost use Rattle.rewriting.specs.IndexLists.{kindIndex, valueIndices, Filled, PutsOn, ReadAs, Found, Listing, isAbsent, ListAnswer, isShort};
 use crate::emit::list_of;
 use crate::kept::KeptStep;
 use crate::kept::Reading;
@@ -22,6 +23,8 @@ use crate::lists::room;
 use marking::columns::clear_bytes;
 use marking::root_test::NextAttribute;
 use marking::root_test::next_attribute;
+use readers::abbreviations::DeclarationStep;
+use readers::abbreviations::SpecStep;
 use readers::cursor::Cursor;
 use readers::cursor::Encoding;
 use readers::entries::Nesting;
@@ -114,7 +117,7 @@ pub struct Gathered {
 
 // One value more in a list. One that is too short stays so.
 fn put_index(list: &mut [u8], count: usize, value: u64) -> usize
-    ensures { λ n. ⌜ ((vs : List ℕ) → Holding vs count (now (list .entry)) → Holding (vs ++ (value ∷ [])) n (now (list .exit))) ⌝ }
+    ensures { λ n. ⌜ PutsOn (value ∷ []) count (now (list .entry)) n (now (list .exit)) ⌝ }
 {
     if count > room(list) {
         return count;
@@ -256,7 +259,57 @@ pub fn gather(
     }
 }
 
-// Whether a list is absent: where an entry declares the attribute of a name in sec_offset. A list without such an attribute has the name 0.
+// Whether the specifications from a place on declare an attribute of a name in sec_offset.
+fn specs_declare(abbreviations: &[u8], specs: Cursor, name: u64) -> bool
+    ensures { λ b. ⌜ b ≡ specsDeclare name (specsFrom (now (abbreviations .entry)) (specs .at)) ⌝ }
+{
+    let mut p = specs.at;
+    loop {
+        match (Cursor { at: p }).attribute_spec(abbreviations) {
+            SpecStep::Attribute(a) => {
+                let next = a.next;
+                p = next.at;
+                if a.name == name {
+                    if a.form == 0x17 {
+                        return true;
+                    }
+                }
+            }
+            SpecStep::Last(_) => {
+                return false;
+            }
+            SpecStep::Unreadable => {
+                return false;
+            }
+        }
+    }
+}
+
+// Whether any declaration of a unit does, used or not.
+fn table_declares(abbreviations: &[u8], from: u64, name: u64) -> bool
+    ensures { λ b. ⌜ ((ds : List Placed) → abbreviationsOf (now (abbreviations .entry)) from ≡ some ds → b ≡ tableDeclares (now (abbreviations .entry)) name ds) ⌝ }
+{
+    let mut at = from as usize;
+    loop {
+        match (Cursor { at }).declaration(abbreviations) {
+            DeclarationStep::Declaration(d, next) => {
+                if specs_declare(abbreviations, d.attributes, name) {
+                    return true;
+                }
+                at = next.at;
+            }
+            DeclarationStep::Last(_) => {
+                return false;
+            }
+            DeclarationStep::Unreadable => {
+                return false;
+            }
+        }
+    }
+}
+
+// Whether a list is absent: where an entry declares the attribute of a name in sec_offset. A list without such an attribute has the name 0. No entry does
+// where no declaration of the unit does, and then the unit is not looked through.
 fn is_absent(
     unit: &[u8],
     abbreviations: &[u8],
@@ -265,12 +318,15 @@ fn is_absent(
     first: usize,
     name: u64,
 ) -> bool
-    ensures { λ b. ⌜ ((x : Sections) (u : Unit′) → ReadAs x u r (now (abbreviations .entry)) (now (unit .entry)) → b ≡ isAbsent x u name (itemsBy r (now (abbreviations .entry)) (now (index .entry)) (now (unit .entry)) first)) ⌝ }
+    ensures { λ b. ⌜ ((x : Sections) (u : Unit′) → ReadAs x u r (now (abbreviations .entry)) (now (unit .entry)) → Found u r (now (abbreviations .entry)) (now (index .entry)) → b ≡ isAbsent x u name (itemsBy r (now (abbreviations .entry)) (now (index .entry)) (now (unit .entry)) first)) ⌝ }
 {
     if name == 0 {
         return false;
     }
-    any_declares(unit, abbreviations, r, index, first, name)
+    if table_declares(abbreviations, r.from, name) {
+        return any_declares(unit, abbreviations, r, index, first, name);
+    }
+    false
 }
 
 // A list that was gathered: absent, and zeros again, or its count.
@@ -284,7 +340,7 @@ pub fn settle(
     count: usize,
     list: &mut [u8],
 ) -> ListCount
-    ensures { λ c. ⌜ ((x : Sections) (u : Unit′) (ys list₀ : List ℕ) → ReadAs x u r (now (abbreviations .entry)) (now (unit .entry)) → list₀ ≡ zeros (length (now (list .entry))) → Filled ys list₀ count (now (list .entry)) → ListAnswer (pick (isAbsent x u name (itemsBy r (now (abbreviations .entry)) (now (index .entry)) (now (unit .entry)) first)) none (some ys)) list₀ c (now (list .exit))) ⌝ }
+    ensures { λ c. ⌜ ((x : Sections) (u : Unit′) (ys list₀ : List ℕ) → ReadAs x u r (now (abbreviations .entry)) (now (unit .entry)) → Found u r (now (abbreviations .entry)) (now (index .entry)) → list₀ ≡ zeros (length (now (list .entry))) → Filled ys list₀ count (now (list .entry)) → ListAnswer (pick (isAbsent x u name (itemsBy r (now (abbreviations .entry)) (now (index .entry)) (now (unit .entry)) first)) none (some ys)) list₀ c (now (list .exit))) ⌝ }
 {
     if is_absent(unit, abbreviations, r, index, first, name) {
         if count > 0 {

@@ -1,5 +1,4 @@
 -- `gather`: each list has the indices of the kept items so far, and is to get those of the items from here on. Assumes nothing.
-use mathlib.Core.Path.{_∙_}
 use Prim.Native.Nat.{_-_}
 use native.Mathlib.Omega.{arith}
 use lib.ListN.{length}
