@@ -43,7 +43,7 @@ columns-append (q ∷ ps) p = ap (λ (l : List ℕ). q .old ∷ q .new ∷ q .de
 abbrev nowhere : Place
 nowhere = place 0 0 0
 
-old-of : (ps : List Place) (i : ℕ) → getD (oldOffsets ps) i 0 ≡ (getD ps i nowhere) .old
+pub old-of : (ps : List Place) (i : ℕ) → getD (oldOffsets ps) i 0 ≡ (getD ps i nowhere) .old
 unfolding oldOffsets
 old-of [] i = refl
 old-of (p ∷ ps) zero = refl
@@ -110,7 +110,7 @@ new-absent (p ∷ ps) v f = pick-no _ _ _ (no-eqb {a = p .old} {b = v} (λ e. f 
 
 -- ---- the first place that is no deeper
 
-first-skip : (ps : List Place) (depth v : ℕ) → firstFrom ps depth v ≡ firstFrom (drop (rankIn (oldOffsets ps) v) ps) depth v
+pub first-skip : (ps : List Place) (depth v : ℕ) → firstFrom ps depth v ≡ firstFrom (drop (rankIn (oldOffsets ps) v) ps) depth v
 unfolding firstFrom oldOffsets rankIn _and_
 first-skip [] depth v = refl
 first-skip (p ∷ ps) depth v =

@@ -63,7 +63,7 @@ pub fn put_place(map: &mut [u8], i: usize, old: u64, new: u64, depth: u64)
 }
 
 // How many of the first places are before an old offset.
-fn before(map: &[u8], places: usize, old: u64) -> usize
+pub fn before(map: &[u8], places: usize, old: u64) -> usize
     ensures { λ r. ⌜ ((ps : List Place) → MapHeld ps (now (map .entry)) → places ≡ length ps → r ≡ rankIn (oldOffsets ps) old) ⌝ }
 {
     let mut low: usize = 0;
