@@ -1,4 +1,4 @@
--- The search for a sibling's target with a table of bounds, and the table. Assumes nothing.
+-- The search for a sibling's place by a table of bounds, and how the table is filled. Assumes nothing.
 use Prim.Native.Nat.{ℕ, zero, suc, _+_, _-_, _*_, _/_, _≤_, _<_}
 use mathlib.Core.Path.{_≡_, refl, ap, sym, _∙_, subst}
 use mathlib.Core.List.{List}
@@ -18,10 +18,7 @@ use Rattle.rewriting.specs.Written.{numberAt, MapHeld, place, asMapped}
 use Rattle.rewriting.specs.Bounds.{AsDeep, BoundsFrom, Bounds}
 use Rattle.rewriting.specs.declared.map.Mapped.the-variants.{To, Nothing}
 use Rattle.rewriting.proofs.Ranks.{rank-above}
-use Rattle.rewriting.proofs.Places.{length-olds, old-of, depth-held, new-held, first-skip, first-here, first-on}
-
-abbrev nowhere : Place
-nowhere = place 0 0 0
+use Rattle.rewriting.proofs.Places.{nowhere, length-olds, old-of, depth-held, new-held, first-skip, first-here, first-on}
 
 -- ---- a block that is deeper than so
 

@@ -1,5 +1,5 @@
-// The place of a sibling whose target is not in the map: the search jumps over runs of places that are too deep. For that it has a table of bounds: a row of two numbers for each eight places, the
-// row where its block ends, and a depth that no place of the block is below. Whatever the table has room for, the answer is the same.
+// The new place of a sibling's target. Where the target is not in the map the first place after it that is no deeper than the sibling's owner is searched for, past whole blocks of deeper places. For that there is a
+// table of bounds: a row of two numbers for each eight places, namely the row at which its block ends, and a number that no place of the block is less deep than. How long the table is changes the time alone.
 ghost use mathlib.Core.Path.{_≡_};
 ghost use Prim.Native.Nat.{_+_, _*_, _/_, _<_, _≤_};
 ghost use mathlib.Core.List.{List};
@@ -96,7 +96,7 @@ pub struct Row {
     pub least: u32,
 }
 
-// A row, by the ones after it: its own eight places alone, or with two blocks after them where these are of one length (so a search goes by as many rows as a length has digits).
+// A row, by the ones after it. Its block is its own eight places alone, or these and the next two blocks where the two are of one length: then a search for n places looks at some log n rows.
 fn row_at(map: &[u8], places: usize, bounds: &[u32], k: usize) -> Row
     ensures { λ r. ⌜ ((ps : List Place) → MapHeld ps (now (map .entry)) → places ≡ length ps → BoundsFrom (k + 1) ps (now (bounds .entry)) → AsDeep ps (r .least) (8 * k) (8 * r .end)) ⌝ }
 {

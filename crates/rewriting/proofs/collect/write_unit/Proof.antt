@@ -1,4 +1,4 @@
--- `write_unit` measures, fills the map and writes header and items. Assumes nothing.
+-- `write_unit` measures, fills the map and its bounds, and writes header and items. Assumes nothing.
 use borrow.Author.Needs.{needs}
 use Rattle.rewriting.proofs.UnitWritten.{map-short, out-short, unit-written, unit-refused}
 use Rattle.rewriting.proofs.collect.write_unit.Statement.{statement}
@@ -15,6 +15,9 @@ returns-2 c = out-short _ _ _ _ _ _ _ _ _ _ _ _ _ _ _ _ _ _ (c .before .before .
 
 fill-map-requires : tie.Need-fill-map-requires
 fill-map-requires c κs = search needs
+
+fill-bounds-requires : tie.Need-fill-bounds-requires
+fill-bounds-requires c κs = search needs
 
 emit-header-requires : tie.Need-emit-header-requires
 emit-header-requires c κs = search needs
@@ -34,17 +37,23 @@ same-length c = search needs
 same-length-2 : tie.Need-same-length-2
 same-length-2 c = search needs
 
-returns-3 : tie.Need-returns-3
-returns-3 c = unit-written _ _ _ _ _ _ _ _ _ _ _ _ _ _ _ _ _ _ (c .before .before .before .before .before .before .before .before .before .before .before .before .before .before .before .before .before .before .before .measure .ensures) (c .before .before .before .before .before .before .before .before .before .before .before .before .before .before .before .before .before .if1 .left) (c .before .before .before .before .before .before .before .before .before .before .before .before .before .before .before .if2 .left) _ _ _ (c .before .before .before .before .before .before .before .before .before .before .before .before .before .fill-map .ensures) (c .before .before .before .before .before .before .before .before .before .emit-header .kept .1 .1 .1 .0) (c .before .before .before .before .before .before .before .before .before .emit-header .ensures) _ (c .before .before .before .before .emit-items .ensures) _ (c .enum-told .given .1)
-
 same-length-3 : tie.Need-same-length-3
 same-length-3 c = search needs
+
+returns-3 : tie.Need-returns-3
+returns-3 c = unit-written _ _ _ _ _ _ _ _ _ _ _ _ _ _ _ _ _ _ (c .before .before .before .before .before .before .before .before .before .before .before .before .before .before .before .before .before .before .before .before .before .before .before .before .before .measure .ensures) (c .before .before .before .before .before .before .before .before .before .before .before .before .before .before .before .before .before .before .before .before .before .before .before .if1 .left) (c .before .before .before .before .before .before .before .before .before .before .before .before .before .before .before .before .before .before .before .before .before .if2 .left) _ _ _ (c .before .before .before .before .before .before .before .before .before .before .before .before .before .before .before .before .before .before .before .fill-map .ensures) _ (c .before .before .before .before .before .before .before .before .before .before .before .before .before .before .fill-bounds .ensures) (c .before .before .before .before .before .before .before .before .before .before .emit-header .kept .1 .1 .1 .0) (c .before .before .before .before .before .before .before .before .before .before .emit-header .ensures) _ (c .before .before .before .before .emit-items .ensures) _ (c .enum-told .given .1)
 
 same-length-4 : tie.Need-same-length-4
 same-length-4 c = search needs
 
+same-length-5 : tie.Need-same-length-5
+same-length-5 c = search needs
+
+same-length-6 : tie.Need-same-length-6
+same-length-6 c = search needs
+
 returns-4 : tie.Need-returns-4
-returns-4 c = unit-refused _ _ _ _ _ _ _ _ _ _ _ _ _ _ _ _ _ _ (c .before .before .before .before .before .before .before .before .before .before .before .before .before .before .before .before .before .before .before .before .measure .ensures) (c .before .before .before .before .before .before .before .before .before .before .before .before .before .before .before .before .before .before .if1 .left) (c .before .before .before .before .before .before .before .before .before .before .before .before .before .before .before .before .if2 .left) _ _ _ (c .before .before .before .before .before .before .before .before .before .before .before .before .before .before .fill-map .ensures) (c .before .before .before .before .before .before .before .before .before .before .emit-header .kept .1 .1 .1 .0) (c .before .before .before .before .before .before .before .before .before .before .emit-header .ensures) _ (c .before .before .before .before .before .emit-items .ensures) _ (c .before .n .given .1)
+returns-4 c = unit-refused _ _ _ _ _ _ _ _ _ _ _ _ _ _ _ _ _ _ (c .before .before .before .before .before .before .before .before .before .before .before .before .before .before .before .before .before .before .before .before .before .before .before .before .before .before .measure .ensures) (c .before .before .before .before .before .before .before .before .before .before .before .before .before .before .before .before .before .before .before .before .before .before .before .before .if1 .left) (c .before .before .before .before .before .before .before .before .before .before .before .before .before .before .before .before .before .before .before .before .before .before .if2 .left) _ _ _ (c .before .before .before .before .before .before .before .before .before .before .before .before .before .before .before .before .before .before .before .before .fill-map .ensures) _ (c .before .before .before .before .before .before .before .before .before .before .before .before .before .before .before .fill-bounds .ensures) (c .before .before .before .before .before .before .before .before .before .before .before .emit-header .kept .1 .1 .1 .0) (c .before .before .before .before .before .before .before .before .before .before .before .emit-header .ensures) _ (c .before .before .before .before .before .emit-items .ensures) _ (c .before .n .given .1)
 
 pub write-unit-spec : {M : Type 1} → statement M
 write-unit-spec =
@@ -54,13 +63,16 @@ write-unit-spec =
     returns
     returns-2
     fill-map-requires
+    fill-bounds-requires
     emit-header-requires
     emit-items-requires
     enum-told
     enum-known-n
     same-length
     same-length-2
-    returns-3
     same-length-3
+    returns-3
     same-length-4
+    same-length-5
+    same-length-6
     returns-4)
