@@ -28,6 +28,7 @@ pub mod Tables
 pub mod MapFills
 pub mod Ranks
 pub mod Places
+pub mod Bounded
 pub mod Inserting
 pub mod KeptItems
 pub mod UnitKept

@@ -1,5 +1,5 @@
 -- The map as a table: its columns, what is read at a place, the place of an old offset, and one place more.
-use Prim.Native.Nat.{ℕ, zero, suc, _+_, _-_, _*_, _/_, _≤_, _<_}
+use Prim.Native.Nat.{ℕ, zero, suc, _+_, _*_, _/_, _≤_, _<_}
 use mathlib.Core.Path.{_≡_, refl, ap, sym, _∙_}
 use mathlib.Core.Bool.{true, false}
 use mathlib.Core.List.{List, [], _∷_, _++_}
@@ -7,10 +7,10 @@ use mathlib.Core.Logic.{⊎-elim}
 use mathlib.Core.Option.{none, some}
 use native.Mathlib.Numerals.{add-one}
 use native.Mathlib.Omega.{arith}
-use lib.ListN.{length, getD, drop, length-append, drop-of-length-le}
+use lib.ListN.{length, getD, drop, length-append}
 use lib.Seq.{drop-cons}
 use lib.Dec.{ltb, leb}
-use mir.Facts.{ltb-yes, ltb-no, yes-eqb, no-eqb}
+use mir.Facts.{ltb-yes, yes-eqb, no-eqb}
 use borrow.Author.Tests.{le-leb, lt-leb}
 use Rattle.readers.specs.Choice.{pick, _and_, pick-yes, pick-no, either}
 use Rattle.readers.specs.Numbers.{fixedBytes, length-fixed}
@@ -21,7 +21,7 @@ use Rattle.rewriting.specs.Maps.{oldOffsets}
 use Rattle.rewriting.specs.Written.{put, numberAt, Held, columns, MapHeld, place, withPlace, asMapped}
 use Rattle.rewriting.specs.declared.map.Mapped.the-variants.{To, Nothing}
 use Rattle.rewriting.proofs.Tables.{held-at, held-more, length-put}
-use Rattle.rewriting.proofs.Ranks.{rank-above, rank-is}
+use Rattle.rewriting.proofs.Ranks.{rank-is}
 
 -- ---- columns
 
@@ -40,10 +40,10 @@ unfolding columns
 columns-append [] p = refl
 columns-append (q ∷ ps) p = ap (λ (l : List ℕ). q .old ∷ q .new ∷ q .depth ∷ l) (columns-append ps p)
 
-abbrev nowhere : Place
+abbrev pub nowhere : Place
 nowhere = place 0 0 0
 
-old-of : (ps : List Place) (i : ℕ) → getD (oldOffsets ps) i 0 ≡ (getD ps i nowhere) .old
+pub old-of : (ps : List Place) (i : ℕ) → getD (oldOffsets ps) i 0 ≡ (getD ps i nowhere) .old
 unfolding oldOffsets
 old-of [] i = refl
 old-of (p ∷ ps) zero = refl
@@ -110,7 +110,7 @@ new-absent (p ∷ ps) v f = pick-no _ _ _ (no-eqb {a = p .old} {b = v} (λ e. f 
 
 -- ---- the first place that is no deeper
 
-first-skip : (ps : List Place) (depth v : ℕ) → firstFrom ps depth v ≡ firstFrom (drop (rankIn (oldOffsets ps) v) ps) depth v
+pub first-skip : (ps : List Place) (depth v : ℕ) → firstFrom ps depth v ≡ firstFrom (drop (rankIn (oldOffsets ps) v) ps) depth v
 unfolding firstFrom oldOffsets rankIn _and_
 first-skip [] depth v = refl
 first-skip (p ∷ ps) depth v =
@@ -165,54 +165,6 @@ mapped-nothing ps old e = rw e
 pub sibling-to : (ps : List Place) (depth old n : ℕ) → newOf ps old ≡ some n → To n ≡ asMapped (siblingOf ps depth old)
 unfolding asMapped siblingOf orElse
 sibling-to ps depth old n e = rw e
-
--- ---- the search for a sibling's target: what the answer is, from a place on
-
-pub record Seeking (map : List ℕ) (places old depth i : ℕ) : Type 0 where
-  pub seek : (ps : List Place) → MapHeld ps map → places ≡ length ps → (siblingOf ps depth old ≡ firstFrom (drop i ps) depth old) × (rankIn (oldOffsets ps) old ≤ i)
-
-pub seeking-start : (map : List ℕ) (places old depth i : ℕ) → ((ps : List Place) → MapHeld ps map → places ≡ length ps → (newOf ps old ≡ none) × (i ≡ rankIn (oldOffsets ps) old))
-    → Seeking map places old depth i
-unfolding siblingOf orElse
-seeking-start map places old depth i f =
-    record {
-      seek = λ ps h e.
-          let q : newOf ps old ≡ none = f ps h e .0 in
-          let r : i ≡ rankIn (oldOffsets ps) old = f ps h e .1 in
-          (rw (q, r) (first-skip ps depth old), omega arith);
-    }
-
-module _ (map : List ℕ) (places old depth i d : ℕ) (p : Seeking map places old depth i) (l : i < places) (is-depth : i < length map / 12 → d ≡ numberAt 4 map (12 * i + 8)) where
-  from-here : (ps : List Place) → MapHeld ps map → places ≡ length ps → old ≤ (getD ps i nowhere) .old
-  from-here ps h e =
-      ⊎-elim
-      (λ t. let b : i < rankIn (oldOffsets ps) old = rank-above (oldOffsets ps) old i (h .ascending) (omega (arith, length-olds ps)) (omega (arith, old-of ps i, ltb-yes {a = (getD ps i nowhere) .old} {b = old} t)) in
-      absurd (omega (arith, p .seek ps h e .1)))
-      (λ t. ltb-no {a = (getD ps i nowhere) .old} {b = old} t)
-      (either (ltb ((getD ps i nowhere) .old) old))
-
-  pub seeking-here : (n : ℕ) → d ≤ depth → (i < length map / 12 → n ≡ numberAt 4 map (12 * i + 4)) → (ps : List Place) → MapHeld ps map → places ≡ length ps
-      → To n ≡ asMapped (siblingOf ps depth old)
-  unfolding asMapped
-  seeking-here n b f ps h e =
-      let k : d ≡ (getD ps i nowhere) .depth = depth-held ps map h i (omega arith) d is-depth in
-      let q : siblingOf ps depth old ≡ some n =
-      p .seek ps h e .0 ∙ first-here ps depth old i (omega arith) (from-here ps h e) (omega arith) ∙ ap (λ x. some x) (sym (new-held ps map h i (omega arith) n f)) in
-      rw q
-
-  pub seeking-more : depth < d → Seeking map places old depth (i + 1)
-  seeking-more b =
-      record {
-        seek = λ ps h e.
-            let k : d ≡ (getD ps i nowhere) .depth = depth-held ps map h i (omega arith) d is-depth in
-            (p .seek ps h e .0 ∙ first-on ps depth old i (omega arith) (from-here ps h e) (omega arith), omega (arith, p .seek ps h e .1));
-      }
-
-pub seeking-done : (map : List ℕ) (places old depth i : ℕ) → Seeking map places old depth i → places ≤ i → (ps : List Place) → MapHeld ps map → places ≡ length ps
-    → Nothing ≡ asMapped (siblingOf ps depth old)
-unfolding asMapped firstFrom
-seeking-done map places old depth i p l ps h e =
-    let q : siblingOf ps depth old ≡ none = p .seek ps h e .0 ∙ ap (λ x. firstFrom x depth old) (drop-of-length-le ps {i = i} (omega arith)) in rw q
 
 -- ---- one place more
 

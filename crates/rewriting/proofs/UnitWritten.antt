@@ -24,6 +24,7 @@ use Rattle.rewriting.specs.Places.{Standing, keptFrom, offsetOf, sizeOf,
 use Rattle.rewriting.specs.Rewriting.{Unit as Unit′, Lists, Room, Collected, untouched, rewritten, refused, itemsIn, readsOr, readsAt, newValue, refusalFrom, bytesFrom, unitBytes, orRefused, rewriteOf}
 use Rattle.rewriting.specs.NextKept.{itemsBy}
 use Rattle.rewriting.specs.Written.{put, runBytes, columns, mapBytes, ListHeld, MapHeld}
+use Rattle.rewriting.specs.Bounds.{Bounds}
 use Rattle.rewriting.specs.IndexLists.{ReadDeep, AllRead, Passable}
 use Rattle.rewriting.specs.Measures.{Measures}
 use Rattle.rewriting.specs.MapFilled.{Fills}
@@ -180,11 +181,12 @@ module _ (r : Reading) (s table unit parents marks : List ℕ) (first entries ke
         (let q : room .bytes < first + sizeFrom items = omega (arith, w .bytes-are, bytes-are) in q))
 
     module _ (few : z .places ≤ length map′ / 12) (less : z .bytes ≤ length out) (out₁ out₂ : List ℕ)
+        (bounds : List ℕ) (bounded : (ps : List Place) → MapHeld ps map′ → z .places ≡ length ps → Bounds ps bounds)
         (same : length out₁ ≡ length out)
         (headed : 4 ≤ first → first ≤ length unit → first ≤ length out → 4 ≤ z .bytes → z .bytes - 4 < 2 ^ 32 → out₁ ≡ put out 0 (fixedBytes false 4 (z .bytes - 4) ++ drop 4 (take first unit)))
         (emitted : Emitted)
         (emits : (x : Sections) (u : Unit′) (lists : Lists) (ps : List Place) → Passable x u r s table unit parents marks first → first ≡ u .header .first .0 → r .encoding .«big_endian» ≡ false
-        → MapHeld ps map′ → z .places ≡ length ps → Lends lists rl rc ll lc sl sc
+        → MapHeld ps map′ → z .places ≡ length ps → Bounds ps bounds → Lends lists rl rc ll lc sl sc
         → Emits (refusalFrom x u lists ps (keptFrom marks 0 [] (itemsIn x u))) (bytesFrom x u lists ps (keptFrom marks 0 [] (itemsIn x u))) out₁ first emitted out₂) where
       abbrev ps : List Place
       ps = placesFrom first items
@@ -198,12 +200,18 @@ module _ (r : Reading) (s table unit parents marks : List ℕ) (first entries ke
       room-map : 12 * length items ≤ length map
       room-map = omega (arith, places-are, as-long)
 
+      held : MapHeld ps map′
+      held = map-held r s table unit parents marks first map map′ fills (p .small) (p .holds) room-map (w .map-blank)
+
+      places : z .places ≡ length ps
+      places = places-are ∙ sym (length-places first items)
+
       it : Emits (refusalFrom x u lists ps items) body out₁ first emitted out₂
       it =
           subst (λ (is : List Item). Emits (refusalFrom x u lists ps (keptFrom marks 0 [] is)) (bytesFrom x u lists ps (keptFrom marks 0 [] is)) out₁ first emitted out₂)
           (sym (items-here true r s table unit parents marks first x u p (w .first-is)))
           (emits x u lists ps p (w .first-is) (sym (ap (λ (y : Encoding). y .«big_endian») (p .read .encoding-is)) ∙ w .little)
-          (map-held r s table unit parents marks first map map′ fills (p .small) (p .holds) room-map (w .map-blank)) (places-are ∙ sym (length-places first items)) l)
+          held places (bounded ps held places) l)
 
       stand : Every (StandsThere x u) items
       unfolding itemsIn
@@ -305,14 +313,15 @@ module _ (r : Reading) (s table unit parents marks : List ℕ) (first entries ke
   out-short k b x u lists room p l w = by-items x u lists room p l w (Refused 14) out (no-out x u lists room p l w k b)
 
   module _ (few : z .places ≤ length map′ / 12) (less : z .bytes ≤ length out) (out₁ out₂ : List ℕ)
+      (bounds : List ℕ) (bounded : (ps : List Place) → MapHeld ps map′ → z .places ≡ length ps → Bounds ps bounds)
       (same : length out₁ ≡ length out)
       (headed : 4 ≤ first → first ≤ length unit → first ≤ length out → 4 ≤ z .bytes → z .bytes - 4 < 2 ^ 32 → out₁ ≡ put out 0 (fixedBytes false 4 (z .bytes - 4) ++ drop 4 (take first unit)))
       (emitted : Emitted)
       (emits : (x : Sections) (u : Unit′) (lists : Lists) (ps : List Place) → Passable x u r s table unit parents marks first → first ≡ u .header .first .0 → r .encoding .«big_endian» ≡ false
-      → MapHeld ps map′ → z .places ≡ length ps → Lends lists rl rc ll lc sl sc
+      → MapHeld ps map′ → z .places ≡ length ps → Bounds ps bounds → Lends lists rl rc ll lc sl sc
       → Emits (refusalFrom x u lists ps (keptFrom marks 0 [] (itemsIn x u))) (bytesFrom x u lists ps (keptFrom marks 0 [] (itemsIn x u))) out₁ first emitted out₂) where
     pub unit-written : (to : ℕ) → emitted ≡ To to → Goal (Rewritten (record { entries = entries; kept = kept; places = z .places; bytes = z .bytes; ranges = rc; locations = lc; strings = sc })) out₂
-    unit-written to q x u lists room p l w = by-items x u lists room p l w _ out₂ (was-written x u lists room p l w few less out₁ out₂ same headed emitted emits to q)
+    unit-written to q x u lists room p l w = by-items x u lists room p l w _ out₂ (was-written x u lists room p l w few less out₁ out₂ bounds bounded same headed emitted emits to q)
 
     pub unit-refused : (k : ℕ) → emitted ≡ NotEmitted k → Goal (Refused k) out₂
-    unit-refused k q x u lists room p l w = by-items x u lists room p l w _ out₂ (not-written x u lists room p l w few less out₁ out₂ same headed emitted emits k q)
+    unit-refused k q x u lists room p l w = by-items x u lists room p l w _ out₂ (not-written x u lists room p l w few less out₁ out₂ bounds bounded same headed emitted emits k q)

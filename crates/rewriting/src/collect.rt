@@ -18,6 +18,7 @@ use crate::indices::settle;
 use crate::kept::Reading;
 use crate::lists::ListCount;
 use crate::passes::place_items;
+use crate::siblings::fill_bounds;
 use crate::writing::emit_header;
 use crate::writing::emit_items;
 use marking::analysis::clear_columns;
@@ -189,7 +190,7 @@ fn index_lists(
     }
 }
 
-// Map and output of a unit where something is dead.
+// Map and output of a unit where something is dead. The work column, whatever it holds, is filled with the bounds of the map's depths.
 fn write_unit(
     unit: &[u8],
     abbreviations: &[u8],
@@ -206,6 +207,7 @@ fn write_unit(
     locations: ListCount,
     string_list: &[u8],
     strings: ListCount,
+    work: &mut [u32],
     map: &mut [u8],
     out: &mut [u8],
 ) -> Collected
@@ -218,6 +220,7 @@ fn write_unit(
     if size.bytes > out.len() {
         return Collected::Refused(14);
     }
+    fill_bounds(map, size.places, work);
     emit_header(unit, first, size.bytes, out);
     match emit_items(
         unit,
@@ -229,6 +232,7 @@ fn write_unit(
         first,
         map,
         size.places,
+        work,
         range_list,
         ranges,
         location_list,
@@ -263,6 +267,7 @@ fn rewrite_unit(
     entries: usize,
     kept: usize,
     type_units: bool,
+    work: &mut [u32],
     map: &mut [u8],
     range_list: &mut [u8],
     location_list: &mut [u8],
@@ -325,6 +330,7 @@ fn rewrite_unit(
                 locations,
                 string_list,
                 strings,
+                work,
                 map,
                 out,
             )
@@ -407,6 +413,7 @@ fn collect_unit(
                     entries,
                     kept,
                     type_units,
+                    work,
                     map,
                     range_list,
                     location_list,
@@ -421,7 +428,7 @@ fn collect_unit(
 }
 
 // Thins the first unit of a section. The sections and the address table are read; the tables (entries: `offsets`, `parents`, `roots`, `ends`, `marks`; references: `targets`, `pairs`; the index of the
-// declarations, and the work column of the marking, best two numbers an entry, whose lengths change the time alone) are scratch, zeros on every answer. The map has 12 bytes a place (old offset, new
+// declarations, and the work column of the marking and of the search for siblings, best two numbers an entry, whose lengths change the time alone) are scratch, zeros on every answer. The map has 12 bytes a place (old offset, new
 // offset, depth), a list 8 bytes a number, all big-endian. Refused with a number of document 01; then map, lists and output are zeros.
 pub fn collect(
     section: &[u8],

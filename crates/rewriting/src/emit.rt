@@ -17,6 +17,7 @@ ghost use Rattle.readers.specs.declared.attributes.AttributeRead.the-variants.{
 ghost use Rattle.rewriting.specs.Places.{Place};
 ghost use Rattle.rewriting.specs.Indices.{rankOr};
 ghost use Rattle.rewriting.specs.Written.{asMapped, MapHeld};
+ghost use Rattle.rewriting.specs.Bounds.{Bounds};
 ghost use Rattle.rewriting.specs.Rewriting.{Lists, newValue, readsRefusal, piecesRefusal, orSelf};
 ghost use Rattle.rewriting.specs.Emission.{between, Emits, Wide, numberRefusal, offsetRefusal, listForm, lebForm, Lent, Lends};
 ghost use Rattle.rewriting.specs.declared.emit.Emitted.the-variants.{To};
@@ -24,9 +25,9 @@ use crate::lists::ListCount;
 use crate::lists::rank;
 use crate::map::Mapped;
 use crate::map::new_offset;
-use crate::map::sibling_offset;
 use crate::numbers::put_bytes;
 use crate::numbers::put_number;
+use crate::siblings::sibling_offset;
 use marking::references::part;
 use marking::root_test::EntryAttribute;
 use marking::root_test::NextAttribute;
@@ -201,6 +202,7 @@ fn emit_attribute(
     e: Encoding,
     map: &[u8],
     places: usize,
+    bounds: &[u32],
     ranges: &[u8],
     ranges_count: ListCount,
     locations: &[u8],
@@ -210,7 +212,7 @@ fn emit_attribute(
     out: &mut [u8],
     at: usize,
 ) -> Emitted
-    ensures { λ r. ⌜ ((lists : Lists) (ps : List Place) (rs : List Read) (rest : List ℕ) → e .«big_endian» ≡ false → MapHeld ps (now (map .entry)) → places ≡ length ps → Lends lists (now (ranges .entry)) «ranges_count» (now (locations .entry)) «locations_count» (now (strings .entry)) «strings_count» → values ≤ length (now (unit .entry)) → attributeAt e (now (unit .entry)) values (a .name) (a .declared) ≡ Attribute′ (a .value) → readIn false (expressionIn e) (attributeLayout e (a .name) (a .declared)) (drop values (now (unit .entry))) ≡ some (rs, rest) → Emits (readsRefusal lists ps depth rs) (writeAll false (patchAll (newValue lists ps depth) rs)) (now (out .entry)) at r (now (out .exit))) ⌝ }
+    ensures { λ r. ⌜ ((lists : Lists) (ps : List Place) (rs : List Read) (rest : List ℕ) → e .«big_endian» ≡ false → MapHeld ps (now (map .entry)) → places ≡ length ps → Bounds ps (now (bounds .entry)) → Lends lists (now (ranges .entry)) «ranges_count» (now (locations .entry)) «locations_count» (now (strings .entry)) «strings_count» → values ≤ length (now (unit .entry)) → attributeAt e (now (unit .entry)) values (a .name) (a .declared) ≡ Attribute′ (a .value) → readIn false (expressionIn e) (attributeLayout e (a .name) (a .declared)) (drop values (now (unit .entry))) ≡ some (rs, rest) → Emits (readsRefusal lists ps depth rs) (writeAll false (patchAll (newValue lists ps depth) rs)) (now (out .entry)) at r (now (out .exit))) ⌝ }
 {
     let v = a.value;
     let field = v.field;
@@ -224,7 +226,7 @@ fn emit_attribute(
         if form <= 0x15 {
             if a.name == 0x01 {
                 return emit_offset(
-                    sibling_offset(map, places, field.value, depth),
+                    sibling_offset(map, places, bounds, field.value, depth),
                     width(field),
                     leb,
                     out,
@@ -282,6 +284,7 @@ pub fn emit_entry(
     e: Encoding,
     map: &[u8],
     places: usize,
+    bounds: &[u32],
     ranges: &[u8],
     ranges_count: ListCount,
     locations: &[u8],
@@ -291,7 +294,7 @@ pub fn emit_entry(
     out: &mut [u8],
     at: usize,
 ) -> Emitted
-    ensures { λ r. ⌜ ((lists : Lists) (ps : List Place) (look : ℕ → Found) (x : Entry) (rs : List Read) (rest : List ℕ) → e .«big_endian» ≡ false → MapHeld ps (now (map .entry)) → places ≡ length ps → Lends lists (now (ranges .entry)) «ranges_count» (now (locations .entry)) «locations_count» (now (strings .entry)) «strings_count» → stepAt e (now (abbreviations .entry)) look (now (unit .entry)) start ≡ Entry′ x → specs ≡ x .declaration .attributes → values ≡ x .values → readIn false (expressionIn e) (entryLayout e (now (abbreviations .entry)) look) (drop start (now (unit .entry))) ≡ some (rs, rest) → Emits (readsRefusal lists ps depth rs) (writeAll false (patchAll (newValue lists ps depth) rs)) (now (out .entry)) at r (now (out .exit))) ⌝ }
+    ensures { λ r. ⌜ ((lists : Lists) (ps : List Place) (look : ℕ → Found) (x : Entry) (rs : List Read) (rest : List ℕ) → e .«big_endian» ≡ false → MapHeld ps (now (map .entry)) → places ≡ length ps → Bounds ps (now (bounds .entry)) → Lends lists (now (ranges .entry)) «ranges_count» (now (locations .entry)) «locations_count» (now (strings .entry)) «strings_count» → stepAt e (now (abbreviations .entry)) look (now (unit .entry)) start ≡ Entry′ x → specs ≡ x .declaration .attributes → values ≡ x .values → readIn false (expressionIn e) (entryLayout e (now (abbreviations .entry)) look) (drop start (now (unit .entry))) ≡ some (rs, rest) → Emits (readsRefusal lists ps depth rs) (writeAll false (patchAll (newValue lists ps depth) rs)) (now (out .entry)) at r (now (out .exit))) ⌝ }
 {
     let mut p = specs.at;
     let mut from = values.at;
@@ -317,6 +320,7 @@ pub fn emit_entry(
             e,
             map,
             places,
+            bounds,
             ranges,
             ranges_count,
             locations,

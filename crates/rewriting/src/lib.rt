@@ -7,4 +7,5 @@ pub mod lists;
 pub mod map;
 pub mod numbers;
 pub mod passes;
+pub mod siblings;
 pub mod writing;

@@ -3,7 +3,7 @@ ghost use mathlib.Core.Path.{_≡_};
 ghost use Prim.Native.Nat.{_+_, _*_, _/_, _<_};
 ghost use mathlib.Core.List.{List};
 ghost use lib.ListN.{length};
-ghost use Rattle.rewriting.specs.Places.{Place, newOf, siblingOf};
+ghost use Rattle.rewriting.specs.Places.{Place, newOf};
 ghost use Rattle.rewriting.specs.Indices.{rankIn};
 ghost use Rattle.rewriting.specs.Maps.{oldOffsets};
 ghost use Rattle.rewriting.specs.Written.{numberAt, Held, columns, MapHeld, place, withPlace, asMapped};
@@ -63,7 +63,7 @@ pub fn put_place(map: &mut [u8], i: usize, old: u64, new: u64, depth: u64)
 }
 
 // How many of the first places are before an old offset.
-fn before(map: &[u8], places: usize, old: u64) -> usize
+pub fn before(map: &[u8], places: usize, old: u64) -> usize
     ensures { λ r. ⌜ ((ps : List Place) → MapHeld ps (now (map .entry)) → places ≡ length ps → r ≡ rankIn (oldOffsets ps) old) ⌝ }
 {
     let mut low: usize = 0;
@@ -88,26 +88,6 @@ pub fn new_offset(map: &[u8], places: usize, old: u64) -> Mapped
         if old_at(map, i) == old {
             return Mapped::To(new_at(map, i));
         }
-    }
-    Mapped::Nothing
-}
-
-// The new offset of a sibling's target: its own place, or the first at or after it that is no deeper.
-pub fn sibling_offset(map: &[u8], places: usize, old: u64, depth: u64) -> Mapped
-    ensures { λ r. ⌜ ((ps : List Place) → MapHeld ps (now (map .entry)) → places ≡ length ps → r ≡ asMapped (siblingOf ps depth old)) ⌝ }
-{
-    let start = before(map, places, old);
-    if start < places {
-        if old_at(map, start) == old {
-            return Mapped::To(new_at(map, start));
-        }
-    }
-    let mut i = start;
-    while i < places {
-        if depth_at(map, i) <= depth {
-            return Mapped::To(new_at(map, i));
-        }
-        i += 1;
     }
     Mapped::Nothing
 }

@@ -9,6 +9,7 @@ ghost use Rattle.marking.specs.Analysis.{Sections};
 ghost use Rattle.rewriting.specs.Places.{Place, keptFrom};
 ghost use Rattle.rewriting.specs.Rewriting.{Unit as Unit′, Lists, itemsIn, refusalFrom, bytesFrom};
 ghost use Rattle.rewriting.specs.Written.{put, MapHeld};
+ghost use Rattle.rewriting.specs.Bounds.{Bounds};
 ghost use Rattle.rewriting.specs.IndexLists.{Passable};
 ghost use Rattle.rewriting.specs.Emission.{Emits, Lends};
 use crate::emit::Emitted;
@@ -34,6 +35,7 @@ pub fn emit_items(
     first: usize,
     map: &[u8],
     places: usize,
+    bounds: &[u32],
     ranges: &[u8],
     ranges_count: ListCount,
     locations: &[u8],
@@ -42,7 +44,7 @@ pub fn emit_items(
     strings_count: ListCount,
     out: &mut [u8],
 ) -> Emitted
-    ensures { λ t. ⌜ ((x : Sections) (u : Unit′) (lists : Lists) (ps : List Place) → Passable x u r (now (abbreviations .entry)) (now (index .entry)) (now (unit .entry)) (now (parents .entry)) (now (marks .entry)) first → first ≡ u .header .first .0 → r .encoding .«big_endian» ≡ false → MapHeld ps (now (map .entry)) → places ≡ length ps → Lends lists (now (ranges .entry)) «ranges_count» (now (locations .entry)) «locations_count» (now (strings .entry)) «strings_count» → Emits (refusalFrom x u lists ps (keptFrom (now (marks .entry)) 0 [] (itemsIn x u))) (bytesFrom x u lists ps (keptFrom (now (marks .entry)) 0 [] (itemsIn x u))) (now (out .entry)) first t (now (out .exit))) ⌝ }
+    ensures { λ t. ⌜ ((x : Sections) (u : Unit′) (lists : Lists) (ps : List Place) → Passable x u r (now (abbreviations .entry)) (now (index .entry)) (now (unit .entry)) (now (parents .entry)) (now (marks .entry)) first → first ≡ u .header .first .0 → r .encoding .«big_endian» ≡ false → MapHeld ps (now (map .entry)) → places ≡ length ps → Bounds ps (now (bounds .entry)) → Lends lists (now (ranges .entry)) «ranges_count» (now (locations .entry)) «locations_count» (now (strings .entry)) «strings_count» → Emits (refusalFrom x u lists ps (keptFrom (now (marks .entry)) 0 [] (itemsIn x u))) (bytesFrom x u lists ps (keptFrom (now (marks .entry)) 0 [] (itemsIn x u))) (now (out .entry)) first t (now (out .exit))) ⌝ }
 {
     let mut s = Stand {
         at: first,
@@ -66,6 +68,7 @@ pub fn emit_items(
                 r.encoding,
                 map,
                 places,
+                bounds,
                 ranges,
                 ranges_count,
                 locations,

@@ -58,8 +58,11 @@ same-length-10 c = search needs
 same-length-11 : tie.Need-same-length-11
 same-length-11 c = search needs
 
+same-length-12 : tie.Need-same-length-12
+same-length-12 c = search needs
+
 returns-3 : tie.Need-returns-3
-returns-3 c = written-unit _ _ _ _ _ _ _ _ _ _ _ _ _ _ _ (c .before .before .before .before .before .before .before .before .before .before .before .before .before .before .before .before .before .before .before .before .before .before .before .before .before .unit-part .ensures) _ _ _ _ (c .before .before .before .before .before .before .before .before .before .before .before .before .before .before .before .before .before .before .before .before .index-lists .ensures) _ _ _ (c .before .before .before .before .before .before .before .before .before .before .before .before .ranges .given .1) (c .before .before .before .before .before .before .before .before .before .before .if1 .left) _ _ _ (c .before .before .before .before .write-unit .ensures)
+returns-3 c = written-unit _ _ _ _ _ _ _ _ _ _ _ _ _ _ _ (c .before .before .before .before .before .before .before .before .before .before .before .before .before .before .before .before .before .before .before .before .before .before .before .before .before .before .before .before .unit-part .ensures) _ _ _ _ (c .before .before .before .before .before .before .before .before .before .before .before .before .before .before .before .before .before .before .before .before .before .before .before .index-lists .ensures) _ _ _ (c .before .before .before .before .before .before .before .before .before .before .before .before .before .before .before .ranges .given .1) (c .before .before .before .before .before .before .before .before .before .before .before .before .before .if1 .left) _ _ _ (c .before .before .before .before .before .before .write-unit .ensures)
 
 pub rewrite-unit-spec : {M : Type 1} → statement M
 rewrite-unit-spec =
@@ -83,4 +86,5 @@ rewrite-unit-spec =
     same-length-9
     same-length-10
     same-length-11
+    same-length-12
     returns-3)
