@@ -7,6 +7,7 @@ pub mod Nth
 pub mod UnitSurvivors
 pub mod Maps
 pub mod Written
+pub mod Gathering
 pub mod LeftOut
 pub mod Rewriting
 pub mod Landing
