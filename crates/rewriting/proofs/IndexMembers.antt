@@ -17,16 +17,16 @@ use Rattle.rewriting.proofs.Sorted.{nothing-in}
 -- ---- members of two lists
 
 module _ {A : Type 0} where
-  in-left : (a : A) (xs ys : List A) → Member a xs → Member a (xs ++ ys)
+  pub in-left : (a : A) (xs ys : List A) → Member a xs → Member a (xs ++ ys)
   in-left a [] ys m = absurd (nothing-in a m)
   in-left a (x ∷ xs) ys (here e) = here e
   in-left a (x ∷ xs) ys (there m) = there (in-left a xs ys m)
 
-  in-right : (a : A) (xs ys : List A) → Member a ys → Member a (xs ++ ys)
+  pub in-right : (a : A) (xs ys : List A) → Member a ys → Member a (xs ++ ys)
   in-right a [] ys m = m
   in-right a (x ∷ xs) ys m = there (in-right a xs ys m)
 
-  in-either : (a : A) (xs ys : List A) → Member a (xs ++ ys) → Member a xs ⊎ Member a ys
+  pub in-either : (a : A) (xs ys : List A) → Member a (xs ++ ys) → Member a xs ⊎ Member a ys
   in-either a [] ys m = inr m
   in-either a (x ∷ xs) ys (here e) = inl (here e)
   in-either a (x ∷ xs) ys (there m) = ⊎-elim (λ n. inl (there n)) (λ n. inr n) (in-either a xs ys m)

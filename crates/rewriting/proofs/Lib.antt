@@ -1,4 +1,6 @@
 pub mod Sorted
+pub mod Shuffling
+pub mod GatherLaws
 pub mod Maps
 pub mod Items
 pub mod Sizes

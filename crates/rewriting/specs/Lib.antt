@@ -8,6 +8,7 @@ pub mod UnitSurvivors
 pub mod Maps
 pub mod Written
 pub mod Bounds
+pub mod Gathering
 pub mod LeftOut
 pub mod Rewriting
 pub mod Landing

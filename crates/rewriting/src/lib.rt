@@ -1,6 +1,7 @@
 // Rewriting: what is kept of a unit, index lists, the map, emission, collect.
 pub mod collect;
 pub mod emit;
+pub mod gathering;
 pub mod indices;
 pub mod kept;
 pub mod lists;
