@@ -24,10 +24,19 @@ insert-grows v (x ∷ xs) =
     (λ t. omega arith)
     (λ t. pick-either (λ (l : List ℕ). length (x ∷ xs) ≤ length l) (eqb v x) (x ∷ xs) (x ∷ insert v xs) (λ u. omega arith) (λ u. omega (arith, insert-grows v xs)))
 
+pub all-grow : (vs xs : List ℕ) → length xs ≤ length (insertAll vs xs)
+unfolding insertAll
+all-grow [] xs = omega arith
+all-grow (v ∷ vs) xs = omega (arith, insert-grows v xs, all-grow vs (insert v xs))
+
+pub all-append : (vs ws xs : List ℕ) → insertAll (vs ++ ws) xs ≡ insertAll ws (insertAll vs xs)
+unfolding insertAll
+all-append [] ws xs = refl
+all-append (v ∷ vs) ws xs = all-append vs ws (insert v xs)
+
 insert-last : (vs : List ℕ) (v : ℕ) (xs : List ℕ) → insertAll (vs ++ (v ∷ [])) xs ≡ insert v (insertAll vs xs)
 unfolding insertAll
-insert-last [] v xs = refl
-insert-last (w ∷ vs) v xs = insert-last vs v (insert w xs)
+insert-last vs v xs = all-append vs (v ∷ []) xs
 
 -- ---- none, and all
 
