@@ -1,5 +1,5 @@
 -- Values of attributes from a place of a slice on: each by its form, those of an entry one after the other, and entries by the steps of their reader.
-use Prim.Native.Nat.{ℕ, suc, _+_, _≤_, _<_}
+use Prim.Native.Nat.{ℕ, suc, _+_, _-_, _≤_, _<_}
 use mathlib.Core.Path.{_≡_, refl, ap, ap₂, sym, _∙_, subst}
 use mathlib.Core.Logic.{_⊎_, inl, inr, ⊎-elim}
 use mathlib.Core.Bool.{Bool, true, false, not}
@@ -8,18 +8,18 @@ use mathlib.Core.List.{List, [], _∷_, _++_, append-nil}
 use native.Mathlib.Omega.{arith}
 use lib.ListN.{length, getD, take, drop, length-append}
 use lib.Seq.{length-take-le, drop-drop}
-use lib.Dec.{T, ltb, eqb}
-use mir.Facts.{yes-ltb, no-ltb, ltb-yes, yes-eqb, no-eqb, eqb-yes}
+use lib.Dec.{T, ltb, leb, eqb}
+use mir.Facts.{yes-ltb, no-ltb, ltb-yes, yes-eqb, no-eqb, eqb-yes, eqb-no, leb-yes, leb-no}
 use Rattle.readers.specs.Choice.{pick, pick-yes, pick-no, pick-either, _and_, _or_, either, bind, bind-bind, bind-ext, All, all-some, all-bind, all-triv, all-map}
 use Rattle.readers.specs.Numbers.{Groups, uleb}
 use Rattle.readers.specs.Layout.{Read, ReadOf, RunOf, ExpressionReader, Token, forms, Layout, done, fail, field, asBytes, asLeb, copy, asNumber, asForms, before, numberIn, formsIn, tokenIn, readIn, pieceBytes, bytesOf, writeAll, width, LebLaw, uleb-law, FormsLaw, forms-law, ReadLaw, read-law, as-bytes-law}
 use Rattle.readers.specs.Operations.{Codes}
 use Rattle.readers.specs.Forms.{formToken, formTokens, tokenAmong, useOf, valueToken, attributeLayout}
-use Rattle.readers.specs.Cursors.{cursor, asLebNumber, lebAt, asFormNumber, formsAt}
-use Rattle.readers.specs.Fields.{size, fieldOf, asField, tokenAt, fieldAt}
+use Rattle.readers.specs.Cursors.{cursor, asLebNumber, lebAt, fixedAt, skipAt, asFormNumber, formsAt}
+use Rattle.readers.specs.Fields.{size, fieldOf, asField, tokenAt, fieldAt, numberField, numberAt}
 use Rattle.readers.specs.Scan.{Scanned, push}
 use Rattle.readers.specs.Abbreviations.{specAt, attributesFrom, scannedTo, pastAttributes, movedDeclaration, wholeDeclaration, declarationFound, wholeFound}
-use Rattle.readers.specs.Entries.{attributeOfReads, asAttribute, attributeAt, then, attributesLayout, specsLayout, asPast, valuesAt, foundLayout, entryLayout, entryFound, stepOfReads, asStep, stepAt}
+use Rattle.readers.specs.Entries.{attributeOfReads, asAttribute, attributeAt, attributeEnd, then, attributesLayout, specsLayout, asPast, valuesAt, foundLayout, entryLayout, entryFound, stepOfReads, asStep, stepAt}
 use Rattle.readers.specs.declared.cursor.Encoding.{Encoding}
 use Rattle.readers.specs.declared.cursor.Cursor.{Cursor}
 use Rattle.readers.specs.declared.cursor.Number.{Number}
@@ -42,7 +42,8 @@ use Rattle.readers.specs.declared.entries.Step.{Step}
 use Rattle.readers.specs.declared.entries.Step.the-variants.{Entry as Entry′, Terminator, End, Unreadable}
 use Rattle.readers.proofs.Specs.{attributes-more, attributes-last, attributes-bad}
 use Rattle.readers.proofs.Constants.{listed, entry}
-use Rattle.readers.proofs.Tokens.{token-use, token-unknown}
+use Rattle.readers.proofs.Tokens.{token-use, token-unknown, number-read, number-unread, field-nothing, field-number, number-fixed}
+use Rattle.readers.proofs.Widths.{fixed-is, fixed-short, skip-to, skip-over}
 
 abbrev order : Encoding → Bool
 order e = e .«big_endian»
@@ -209,6 +210,67 @@ module _ (e : Encoding) (s : List ℕ) (at name form : ℕ) where
       unfolding behindForms valued
       indirect-read f q′ = ap (valued found) (sym q′ ∙ p′) ∙ ap behindForms (sym q ∙ p) ∙ sym (attribute-indirect h)
 
+-- ---- forms of a fixed width, and ULEB128
+
+-- no name makes their values unreadable, and DW_FORM_indirect is none of them
+module _ (e : Encoding) (s : List ℕ) (at name form t : ℕ) (p : t ≡ formToken form) (h : t ≤ 11) where
+  plain-form : form ≡ 0x16 → ⊥
+  unfolding formToken formTokens tokenAmong pick
+  plain-form q = let z : t ≡ 21 = p ∙ ap formToken q in omega arith
+
+  plain-value : tokenAt e s at (valueToken e false name form) ≡ fieldAt e s at t
+  unfolding formToken formTokens tokenAmong pick
+  plain-value =
+      value-other e s at false name form
+      (λ _ k. let z : t ≡ 19 = p ∙ ap formToken k in omega arith)
+      (λ b _. absurd (subst T (sym b) tt))
+      ∙ ap (fieldAt e s at) (sym p)
+
+  pub plain-nothing : t ≡ 0 → Attribute′ (record { form = form; field = record { value = 0; start = at; end = at } }) ≡ attributeAt e s at name form
+  plain-nothing q = direct-read e s at name form _ _ plain-form (sym plain-value) (field-nothing e s at t q)
+
+  module _ (z : 0 < t) (n : Number) (q : n ≡ numberAt e s at t) where
+    plain-number : tokenAt e s at (valueToken e false name form) ≡ numberField at n
+    plain-number = plain-value ∙ field-number e s at t z h ∙ ap (numberField at) (sym q)
+
+    pub plain-none : n ≡ NoNumber → NoAttribute ≡ attributeAt e s at name form
+    plain-none k = direct-none e s at name form _ plain-form (sym plain-number) (sym (number-unread at n k))
+
+    pub plain-read : (v : ℕ) (next : Cursor) → n ≡ Value v next → Attribute′ (record { form = form; field = record { value = v; start = at; end = next .at } }) ≡ attributeAt e s at name form
+    plain-read v next k = direct-read e s at name form _ _ plain-form (sym plain-number) (sym (number-read at v next n k))
+
+  -- of so many bytes
+  pub plain-past : t ≤ 8 → (m : Moved) → m ≡ skipAt s at t → m ≡ attributeEnd (attributeAt e s at name form)
+  unfolding attributeEnd
+  plain-past w m q =
+      q
+      ∙ ⊎-elim
+      (λ u.
+      let k : t ≡ 0 = eqb-yes {a = t} {b = 0} u in
+      sym (skip-to s at t (omega arith)) ∙ ap (λ (n : ℕ). To (cursor n)) (let y : at + t ≡ at = omega arith in y) ∙ ap attributeEnd (plain-nothing k))
+      (λ u.
+      let k : t ≡ 0 → ⊥ = eqb-no {a = t} {b = 0} u in
+      ⊎-elim
+      (λ l.
+      let fits : t ≤ length s - at = leb-yes {a = t} {b = length s - at} l in
+      sym (skip-to s at t fits)
+      ∙ ap attributeEnd (plain-read (omega arith) (fixedAt (order e) t s at) (sym (number-fixed e s at t w)) _ (cursor (at + t)) (fixed-is (order e) t s at w fits)))
+      (λ l.
+      let over : length s - at < t = leb-no {a = t} {b = length s - at} l in
+      sym (skip-over s at t over) ∙ ap attributeEnd (plain-none (omega arith) (fixedAt (order e) t s at) (sym (number-fixed e s at t w)) (fixed-short (order e) t s at over)))
+      (either (leb t (length s - at))))
+      (either (eqb t 0))
+
+-- by its reader
+module _ (r : AttributeRead) where
+  pub end-read : (a : Valued) → r ≡ Attribute′ a → To (cursor (a .field .end)) ≡ attributeEnd r
+  unfolding attributeEnd
+  end-read a q = sym (ap attributeEnd q)
+
+  pub end-none : r ≡ NoAttribute → Nowhere ≡ attributeEnd r
+  unfolding attributeEnd
+  end-none q = sym (ap attributeEnd q)
+
 -- ---- one layout after another
 
 unfoldable pub joined : List Read → RunOf → Option RunOf
@@ -370,6 +432,24 @@ module _ (e : Encoding) (abbreviations : List ℕ) (p : ℕ) (unit : List ℕ) (
     pub values-none : r ≡ NoAttribute → Nowhere ≡ valuesAt e abbreviations p unit at
     unfolding afterValue
     values-none k = sym (one-value ∙ ap (λ v. afterValue v (valuesAt e abbreviations (a .next .at) unit)) k)
+
+    -- by where the value ends
+    module _ (m : Moved) (l : m ≡ attributeEnd r) where
+      pub values-past : (c : Cursor) → m ≡ To c → valuesAt e abbreviations p unit at ≡ valuesAt e abbreviations (a .next .at) unit (c .at)
+      unfolding attributeEnd
+      values-past c k = of r refl (sym l ∙ k)
+        where
+          of : (r′ : AttributeRead) → r ≡ r′ → attributeEnd r′ ≡ To c → valuesAt e abbreviations p unit at ≡ valuesAt e abbreviations (a .next .at) unit (c .at)
+          of (Attribute′ v) j d = values-step v j ∙ ap (λ (x : Cursor). valuesAt e abbreviations (a .next .at) unit (x .at)) (let z : cursor (v .field .end) ≡ c = cc in z)
+          of NoAttribute j d = let z : _≡_ {A = ℕ} 0 1 = cc in absurd (omega arith)
+
+      pub values-stuck : m ≡ Nowhere → Nowhere ≡ valuesAt e abbreviations p unit at
+      unfolding attributeEnd
+      values-stuck k = of r refl (sym l ∙ k)
+        where
+          of : (r′ : AttributeRead) → r ≡ r′ → attributeEnd r′ ≡ Nowhere → Nowhere ≡ valuesAt e abbreviations p unit at
+          of (Attribute′ v) j d = let z : _≡_ {A = ℕ} 0 1 = cc in absurd (omega arith)
+          of NoAttribute j d = values-none j
 
   pub values-last : (c : Cursor) → specAt abbreviations p ≡ LastSpec c → To (cursor at) ≡ valuesAt e abbreviations p unit at
   unfolding valuesAt specsLayout attributesLayout readIn asPast writeAll

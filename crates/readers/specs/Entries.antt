@@ -43,6 +43,11 @@ module _ (big : Bool) where
 unfoldable pub attributeAt : Encoding → List ℕ → ℕ → ℕ → ℕ → AttributeRead
 attributeAt e s at name form = asAttribute (e .«big_endian») form at (readIn (e .«big_endian») asBytes (attributeLayout e name form) (drop at s))
 
+-- where it ends
+unfoldable pub attributeEnd : AttributeRead → Moved
+attributeEnd (Attribute′ a) = To (cursor (a .field .end))
+attributeEnd NoAttribute = Nowhere
+
 -- ---- the attributes of an entry
 
 -- one layout after another

@@ -2,9 +2,10 @@
 ghost use mathlib.Core.Path.{_≡_};
 ghost use Rattle.readers.specs.Forms.{formToken, valueToken};
 ghost use Rattle.readers.specs.Fields.{tokenAt};
-ghost use Rattle.readers.specs.Entries.{attributeAt};
+ghost use Rattle.readers.specs.Entries.{attributeAt, attributeEnd};
 use crate::cursor::Cursor;
 use crate::cursor::Encoding;
+use crate::cursor::Moved;
 use crate::cursor::Number;
 use crate::fields::Field;
 use crate::fields::FieldRead;
@@ -101,8 +102,8 @@ impl Cursor {
         self.field(s, form_token(form), e)
     }
 
-    // The value of an attribute of a name and a declared form.
-    pub fn attribute(self, s: &[u8], name: u64, form: u64, e: Encoding) -> AttributeRead
+    // The value of an attribute of a name and a declared form, whatever the form.
+    fn any_attribute(self, s: &[u8], name: u64, form: u64, e: Encoding) -> AttributeRead
         ensures { λ r. ⌜ r ≡ attributeAt e (now (s .entry)) (self .at) name form ⌝ }
     {
         if form != 0x16 {
@@ -118,5 +119,67 @@ impl Cursor {
             return AttributeRead::Unreadable;
         };
         AttributeRead::Read(Attribute { form: found, field })
+    }
+
+    // The value of an attribute of a name and a declared form. Most are of a fixed width or ULEB128 numbers, which no name makes unreadable.
+    pub fn attribute(self, s: &[u8], name: u64, form: u64, e: Encoding) -> AttributeRead
+        ensures { λ r. ⌜ r ≡ attributeAt e (now (s .entry)) (self .at) name form ⌝ }
+    {
+        let start = self.at;
+        let token = form_token(form);
+        if token == 0 {
+            return AttributeRead::Read(Attribute {
+                form,
+                field: Field {
+                    value: 0,
+                    start,
+                    end: start,
+                },
+            });
+        }
+        if token <= 8 {
+            let Number::Value(value, next) = self.fixed(s, token as usize, e.big_endian) else {
+                return AttributeRead::Unreadable;
+            };
+            return AttributeRead::Read(Attribute {
+                form,
+                field: Field {
+                    value,
+                    start,
+                    end: next.at,
+                },
+            });
+        }
+        if token == 11 {
+            let Number::Value(value, next) = self.uleb(s) else {
+                return AttributeRead::Unreadable;
+            };
+            return AttributeRead::Read(Attribute {
+                form,
+                field: Field {
+                    value,
+                    start,
+                    end: next.at,
+                },
+            });
+        }
+        self.any_attribute(s, name, form, e)
+    }
+
+    // Past the value of an attribute of a name and a declared form.
+    pub fn past_attribute(self, s: &[u8], name: u64, form: u64, e: Encoding) -> Moved
+        ensures { λ r. ⌜ r ≡ attributeEnd (attributeAt e (now (s .entry)) (self .at) name form) ⌝ }
+    {
+        let token = form_token(form);
+        if token <= 8 {
+            return self.bytes(s, token as u64);
+        }
+        match self.attribute(s, name, form, e) {
+            AttributeRead::Read(a) => {
+                let field = a.field;
+                Moved::To(Cursor { at: field.end })
+            }
+            AttributeRead::Unreadable => Moved::Unreadable,
+        }
     }
 }

@@ -8,7 +8,6 @@ use crate::abbreviations::Declaration;
 use crate::abbreviations::Found;
 use crate::abbreviations::SpecStep;
 use crate::abbreviations::find_declaration;
-use crate::attributes::AttributeRead;
 use crate::cursor::Cursor;
 use crate::cursor::Encoding;
 use crate::cursor::Moved;
@@ -49,12 +48,11 @@ impl Cursor {
             match (Cursor { at: p }).attribute_spec(abbreviations) {
                 SpecStep::Attribute(a) => {
                     let next = a.next;
-                    let AttributeRead::Read(v) = (Cursor { at }).attribute(unit, a.name, a.form, e)
+                    let Moved::To(past) = (Cursor { at }).past_attribute(unit, a.name, a.form, e)
                     else {
                         return Moved::Unreadable;
                     };
-                    let field = v.field;
-                    at = field.end;
+                    at = past.at;
                     p = next.at;
                 }
                 SpecStep::Last(_) => {

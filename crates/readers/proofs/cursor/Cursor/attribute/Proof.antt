@@ -1,66 +1,74 @@
--- `Cursor::attribute` meets its contract, by what is read of its form and its value. Assumes nothing.
+-- `Cursor::attribute` meets its contract, by the token of its form. Assumes nothing.
+use mathlib.Core.Path.{sym, _∙_}
+use native.Mathlib.Omega.{arith}
+use Rattle.readers.proofs.Tokens.{number-fixed, number-leb}
+use Rattle.readers.proofs.Values.{plain-nothing, plain-none, plain-read}
 use borrow.Author.Needs.{needs}
-use Rattle.readers.proofs.Values.{direct-none, direct-read, forms-none, indirect-none, indirect-read}
 use Rattle.readers.proofs.cursor.Cursor.attribute.Statement.{statement}
 use Rattle.readers.proofs.cursor.Cursor.attribute.Tie as tie
+use Rattle.readers.proofs.cursor.Cursor.attribute.Reads as reads
 
-value-requires : tie.Need-value-requires
-value-requires c κs = search needs
+form-token-requires : tie.Need-form-token-requires
+form-token-requires c κs = search needs
 
-enum-known-field : tie.Need-enum-known-field
-enum-known-field c = search needs
+returns : tie.Need-returns
+returns c = plain-nothing _ _ _ _ _ _ (c .before .form-token .ensures) (omega arith) (c .if1 .taken)
+
+cast-fixed : tie.Need-cast-fixed
+cast-fixed c = search needs
+
+fixed-requires : tie.Need-fixed-requires
+fixed-requires c κs = search needs
+
+enum-known-value : tie.Need-enum-known-value
+enum-known-value c = search needs
 
 enum-told : tie.Need-enum-told
 enum-told c = search needs
 
-returns : tie.Need-returns
-returns c = search direct-none
-
 returns-2 : tie.Need-returns-2
-returns-2 c = search direct-read
+returns-2 c = plain-none _ _ _ _ _ _ (c .before .before .before .before .before .form-token .ensures) (omega arith) (omega arith) _ (c .before .before .fixed .ensures ∙ sym (number-fixed _ _ _ _ (c .before .before .before .if2 .taken))) (c .enum-told .given .1)
 
-forms-requires : tie.Need-forms-requires
-forms-requires c κs = search needs
+returns-3 : tie.Need-returns-3
+returns-3 c = plain-read _ _ _ _ _ _ (c .before .before .before .before .before .before .form-token .ensures) (omega arith) (omega arith) _ (c .before .before .before .fixed .ensures ∙ sym (number-fixed _ _ _ _ (c .before .before .before .before .if2 .taken))) _ _ (c .before .value .given .1)
 
-enum-known-found : tie.Need-enum-known-found
-enum-known-found c = search needs
+uleb-requires : tie.Need-uleb-requires
+uleb-requires c κs = search needs
+
+enum-known-value-2 : tie.Need-enum-known-value-2
+enum-known-value-2 c = search needs
 
 enum-told-2 : tie.Need-enum-told-2
 enum-told-2 c = search needs
 
-returns-3 : tie.Need-returns-3
-returns-3 c = search forms-none
-
-value-requires-2 : tie.Need-value-requires-2
-value-requires-2 c κs = search needs
-
-enum-known-field-2 : tie.Need-enum-known-field-2
-enum-known-field-2 c = search needs
-
-enum-told-3 : tie.Need-enum-told-3
-enum-told-3 c = search needs
-
 returns-4 : tie.Need-returns-4
-returns-4 c = search indirect-none
+returns-4 c = plain-none _ _ _ _ _ _ (c .before .before .before .before .before .before .form-token .ensures) (omega arith) (omega arith) _ (c .before .before .uleb .ensures ∙ sym (number-leb _ _ _ _ (omega arith))) (c .enum-told2 .given .1)
 
 returns-5 : tie.Need-returns-5
-returns-5 c = search indirect-read
+returns-5 c = plain-read _ _ _ _ _ _ (c .before .before .before .before .before .before .before .form-token .ensures) (omega arith) (omega arith) _ (c .before .before .before .uleb .ensures ∙ sym (number-leb _ _ _ _ (omega arith))) _ _ (c .before .value2 .given .1)
+
+any-attribute-requires : tie.Need-any-attribute-requires
+any-attribute-requires c κs = search needs
+
+returns-6 : tie.Need-returns-6
+returns-6 c = search needs
 
 pub attribute-spec : {M : Type 1} → statement M
 attribute-spec =
     tie.close
     (tie.spec
-    value-requires
-    enum-known-field
-    enum-told
+    form-token-requires
     returns
+    cast-fixed
+    fixed-requires
+    enum-known-value
+    enum-told
     returns-2
-    forms-requires
-    enum-known-found
-    enum-told-2
     returns-3
-    value-requires-2
-    enum-known-field-2
-    enum-told-3
+    uleb-requires
+    enum-known-value-2
+    enum-told-2
     returns-4
-    returns-5)
+    returns-5
+    any-attribute-requires
+    returns-6)

@@ -7,7 +7,7 @@ use borrow.Author.Needs.{needs}
 use lib.ListN.{length}
 use Rattle.readers.specs.Entries.{valuesAt}
 use Rattle.readers.proofs.Specs.{attribute-inside}
-use Rattle.readers.proofs.Values.{values-step, values-none, values-last, values-bad}
+use Rattle.readers.proofs.Values.{values-past, values-stuck, values-last, values-bad}
 use Rattle.readers.proofs.cursor.Cursor.past_values.Statement.{statement}
 use Rattle.readers.proofs.cursor.Cursor.past_values.Tie as tie
 
@@ -26,35 +26,35 @@ attribute-spec-requires c κs = search needs
 enum-known-a : tie.Need-enum-known-a Inv-loop μ-loop
 enum-known-a c = search needs
 
-attribute-requires : tie.Need-attribute-requires Inv-loop μ-loop
-attribute-requires c κs = search needs
+past-attribute-requires : tie.Need-past-attribute-requires Inv-loop μ-loop
+past-attribute-requires c κs = search needs
 
-enum-known-v : tie.Need-enum-known-v Inv-loop μ-loop
-enum-known-v c = search needs
+enum-known-past : tie.Need-enum-known-past Inv-loop μ-loop
+enum-known-past c = search needs
 
 enum-told : tie.Need-enum-told Inv-loop μ-loop
 enum-told c = search needs
 
 returns : tie.Need-returns Inv-loop μ-loop
 returns c =
-    values-none _ _ _ _ _ _
+    values-stuck _ _ _ _ _ _
     (sym (c .before .before .before .before .before .before .before .attribute-spec .ensures) ∙ c .before .before .before .before .before .a .given .1)
-    _ (c .before .before .attribute .ensures) (c .enum-told .given .1)
+    _ refl _ (c .before .before .past-attribute .ensures) (c .enum-told .given .1)
     ∙ sym (c .before .before .before .before .before .before .before .before .loop .inv)
 
 loop-less : tie.Need-loop-less Inv-loop μ-loop
 loop-less c = omega (
   arith,
   attribute-inside _ _ _
-      (sym (c .before .before .before .before .before .before .before .before .before .attribute-spec .ensures) ∙ c .before .before .before .before .before .before .before .a .given .1),
+      (sym (c .before .before .before .before .before .before .before .before .attribute-spec .ensures) ∙ c .before .before .before .before .before .before .a .given .1),
 )
 
 loop-again : tie.Need-loop-again Inv-loop μ-loop
 loop-again c =
-    c .before .before .before .before .before .before .before .before .before .before .loop .inv
-    ∙ values-step _ _ _ _ _ _
-    (sym (c .before .before .before .before .before .before .before .before .before .attribute-spec .ensures) ∙ c .before .before .before .before .before .before .before .a .given .1)
-    _ (c .before .before .before .before .attribute .ensures) _ (c .before .before .v .given .1)
+    c .before .before .before .before .before .before .before .before .before .loop .inv
+    ∙ values-past _ _ _ _ _ _
+    (sym (c .before .before .before .before .before .before .before .before .attribute-spec .ensures) ∙ c .before .before .before .before .before .before .a .given .1)
+    _ refl _ (c .before .before .before .past-attribute .ensures) _ (c .before .past .given .1)
 
 enum-told-2 : tie.Need-enum-told-2 Inv-loop μ-loop
 enum-told-2 c = search needs
@@ -77,8 +77,8 @@ past-values-spec =
     loop-holds
     attribute-spec-requires
     enum-known-a
-    attribute-requires
-    enum-known-v
+    past-attribute-requires
+    enum-known-past
     enum-told
     returns
     loop-less
