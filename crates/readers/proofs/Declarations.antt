@@ -15,7 +15,7 @@ use Rattle.readers.specs.Numbers.{uleb}
 use Rattle.readers.specs.Layout.{short}
 use Rattle.readers.specs.Scan.{Turn, more, stop, bad, Scanned, push, onTurn, scanWithin, scan, Goes, scan-stop, scan-bad, scan-more}
 use Rattle.readers.specs.Cursors.{lebAt, fixedAt}
-use Rattle.readers.specs.Slots.{codeOf, slotCode, slotOf, AscendingTo, Twice, Ordered}
+use Rattle.readers.specs.Slots.{codeOf, slotCode, slotOf, Twice, Ordered}
 use Rattle.readers.specs.Abbreviations.{pastAttributes, numberDeclaration, movedDeclaration, declarationAt, Placed, declarationTurn, declarationsFrom, declaredIn, isFound, distinct, checkDistinct, abbreviationsOf, asChecked, checkedOf, countOf, insertByCode, byCode, slotsOf, Gathered, indexed, indexFor, indexOf, searchTurn, foundBy, searchAt, declarationFound, throughIndex, orElse, findAt}
 use Rattle.readers.specs.declared.cursor.Cursor.{Cursor}
 use Rattle.readers.specs.declared.cursor.Number.{Number}
@@ -514,11 +514,6 @@ length-indexed index ds =
     (λ t. let h : length ds ≤ length index = leb-yes {a = length ds} {b = length index} t in
     omega (arith, length-append (slotsOf (byCode ds)) (drop (length ds) index), length-drop (length ds) index, slots-length (byCode ds), order-length ds))
     (λ _. refl)
-
-not-found : (f : Found) → T (not (isFound f)) → f ≡ Nothing
-unfolding isFound
-not-found (Found′ d) h = absurd h
-not-found Nothing h = refl
 
 -- each slot is empty or holds the place of a declaration
 index-slots : (n k : ℕ) (ds : List Placed) → (getD (indexed (zeros n) ds) k 0 ≡ 0) ⊎ In (getD (indexed (zeros n) ds) k 0) (slotsOf ds)

@@ -50,7 +50,7 @@ pub enum Checked {
 }
 
 // How many declarations there are.
-pub enum Count {
+enum Count {
     Of(usize),
     Unreadable,
 }
@@ -302,6 +302,7 @@ fn declaration_at(s: &[u8], index: &[u64], i: usize, code: u64) -> Found
     Found::Nothing
 }
 
+// The number before a number; before 0 there is none, and it stays.
 fn number_before(n: u64) -> usize
     ensures { λ r. ⌜ r ≡ n - 1 ⌝ }
 {

@@ -9,5 +9,5 @@ pub mod header;
 pub mod lists;
 pub mod offsets;
 pub mod operations;
-pub mod slots;
+mod slots;
 pub mod tables;
