@@ -63,8 +63,8 @@ uint64_t collector_collect(
     uint8_t *counts, size_t counts_length);
 
 /* With tables of the host's. They are scratch, and zeros after the call. The shortest of offsets, parents, roots, ends and marks is the number of entries that there is room for; the
- * shorter of targets and half of pairs that of references. index (of the declarations of the abbreviations; as long as their highest code + 1 is best) and work (twice the entries) bound
- * nothing: shorter ones only cost time. Lengths count elements. */
+ * shorter of targets and half of pairs that of references. index (one number a declaration: an abbreviations section of n bytes has fewer than n / 5 + 1 of them) and work (twice the
+ * entries) bound nothing: their lengths change no answer, only time. Lengths count elements. */
 uint64_t collector_collect_lent(
     const uint8_t *section, size_t section_length,
     const uint8_t *abbreviations, size_t abbreviations_length,

@@ -1,21 +1,22 @@
 -- Abbreviation declarations: each takes bytes that are there; the steps of the search and of the check; the index.
 use Prim.Native.Nat.{ℕ, zero, suc, _+_, _-_, _≤_, _<_}
 use mathlib.Core.Path.{_≡_, refl, ap, sym, _∙_, subst}
-use mathlib.Core.Logic.{⊎-elim}
+use mathlib.Core.Logic.{_⊎_, inl, inr, ⊎-elim}
 use mathlib.Core.Bool.{Bool, true, false, not}
 use mathlib.Core.Option.{Option, none, some}
 use mathlib.Core.List.{List, [], _∷_, _++_, append-nil}
 use native.Mathlib.Omega.{arith}
-use lib.ListN.{length, set, length-set, length-replicate, getD, getD-replicate}
-use lib.Seq.{ext-getD, getD-set-same, getD-set-other, set-out}
+use lib.ListN.{length, set, drop, take, length-set, length-append, length-drop, length-replicate, getD}
+use lib.Seq.{drop-cons, set-at, take-at, drop-at, append-snoc}
 use lib.Dec.{T, eqb, leb, ltb}
-use mir.Facts.{yes-eqb, no-eqb, eqb-yes, eqb-no, yes-leb, no-leb, yes-ltb, no-ltb, ltb-yes, ltb-no}
+use mir.Facts.{yes-eqb, no-eqb, eqb-yes, eqb-no, yes-leb, no-leb, leb-yes, yes-ltb, no-ltb, ltb-yes, ltb-no}
 use Rattle.readers.specs.Choice.{pick, pick-yes, pick-no, pick-either, either, check, check-yes, check-no, bind, bind-at, bind-none, _and_, zeros}
 use Rattle.readers.specs.Numbers.{uleb}
 use Rattle.readers.specs.Layout.{short}
 use Rattle.readers.specs.Scan.{Turn, more, stop, bad, Scanned, push, onTurn, scanWithin, scan, Goes, scan-stop, scan-bad, scan-more}
 use Rattle.readers.specs.Cursors.{lebAt, fixedAt}
-use Rattle.readers.specs.Abbreviations.{scannedTo, pastAttributes, numberDeclaration, movedDeclaration, headAt, wholeDeclaration, declarationAt, Placed, declarationTurn, declarationsFrom, declaredIn, isFound, distinct, checkDistinct, abbreviationsOf, asChecked, checkedOf, indexed, indexFor, indexOf, searchTurn, foundBy, searchAt, declarationFound, throughIndex, findAt, wholeFound}
+use Rattle.readers.specs.Slots.{codeOf, slotCode, slotOf, Twice, Ordered}
+use Rattle.readers.specs.Abbreviations.{scannedTo, pastAttributes, numberDeclaration, movedDeclaration, headAt, wholeDeclaration, declarationAt, Placed, declarationTurn, declarationsFrom, declaredIn, isFound, distinct, checkDistinct, abbreviationsOf, asChecked, checkedOf, countOf, insertByCode, byCode, slotsOf, Gathered, indexed, indexFor, indexOf, searchTurn, foundBy, searchAt, declarationFound, holdsCode, throughIndex, findAt, wholeFound}
 use Rattle.readers.specs.declared.cursor.Cursor.{Cursor}
 use Rattle.readers.specs.declared.cursor.Number.{Number}
 use Rattle.readers.specs.declared.cursor.Number.the-variants.{Value, Unreadable}
@@ -25,12 +26,16 @@ use Rattle.readers.specs.declared.abbreviations.AttributeSpec.{Attribute
 use Rattle.readers.specs.declared.abbreviations.Declaration.{Declaration}
 use Rattle.readers.specs.declared.abbreviations.DeclarationStep.{DeclarationStep}
 use Rattle.readers.specs.declared.abbreviations.DeclarationStep.the-variants.{Declaration as Declared, Last, Unreadable as NoDeclaration}
+use Rattle.readers.specs.declared.abbreviations.Checked.{Checked}
 use Rattle.readers.specs.declared.abbreviations.Checked.the-variants.{Accepted, Refused}
+use Rattle.readers.specs.declared.abbreviations.Count.{Count}
+use Rattle.readers.specs.declared.abbreviations.Count.the-variants.{Of, Unreadable as Uncounted}
 use Rattle.readers.specs.declared.abbreviations.Found.{Found}
 use Rattle.readers.specs.declared.abbreviations.Found.the-variants.{Declaration as Found′, Nothing}
 use Rattle.readers.proofs.Lebs.{uleb-inside, short-inside}
 use Rattle.readers.proofs.Widths.{fixed-inside}
 use Rattle.readers.proofs.Specs.{Past, past-read}
+use Rattle.readers.proofs.SlotOrders.{code-read, swaps-length, Drawn, drawn-of, In, in-at, each-in, padded-at, zeros-at, Up, Strict, strict-of, ordered-same}
 
 -- ---- one declaration, by what was read of it
 
@@ -153,6 +158,33 @@ declaration-ahead s at d c e =
     let h : d .attributes .at < c .at = q .past .ahead in
     let a : at < d .attributes .at = q .ahead in
     (omega arith, q .past .inside)
+
+-- its code is the number at its place
+unfoldable CodedStep : List ℕ → ℕ → DeclarationStep → Type 0
+CodedStep s at (Declared d c) = codeOf (lebAt uleb s at) ≡ d .code
+CodedStep s at (Last c) = Unit {0}
+CodedStep s at NoDeclaration = Unit {0}
+
+abbrev WhollyCoded : List ℕ → ℕ → DeclarationStep → Type 0
+WhollyCoded s at r = CodedStep s at (wholeDeclaration s r)
+
+step-coded : (s : List ℕ) (at : ℕ) → CodedStep s at (declarationAt s at)
+unfolding declarationAt headAt wholeDeclaration CodedStep codeOf
+step-coded s at =
+    number-inside (WhollyCoded s at) (lebAt uleb s at) _ tt (λ code c₁ e₁.
+    pick-either (WhollyCoded s at) (eqb code 0) _ _ (λ _. tt) (λ _.
+    number-inside (WhollyCoded s at) (lebAt short s (c₁ .at)) _ tt (λ tag c₂ e₂.
+    pick-either (WhollyCoded s at) (eqb tag 0) _ _ (λ _. tt) (λ _.
+    number-inside (WhollyCoded s at) (fixedAt false 1 s (c₂ .at)) _ tt (λ children c₃ e₃.
+    pick-either (WhollyCoded s at) (leb children 1) _ _ (λ _.
+    moved-inside (CodedStep s at) (pastAttributes s (c₃ .at)) _ tt (λ c₄ e₄. ap codeOf e₁))
+    (λ _. tt))))))
+
+declaration-code : (s : List ℕ) (at : ℕ) (d : Declaration) (c : Cursor) → declarationAt s at ≡ Declared d c → slotCode s (at + 1) ≡ d .code
+unfolding CodedStep
+declaration-code s at d c e =
+    let z : at + 1 - 1 ≡ at = omega arith in
+    sym (code-read s (at + 1) (λ f. omega arith) (lebAt uleb s at) (ap (lebAt uleb s) z)) ∙ subst (CodedStep s at) e (step-coded s at)
 
 -- ---- the search
 
@@ -371,69 +403,268 @@ distinct-more (d ∷ ds) p h k =
     (distinct-more ds p (second (not (isFound (declaredIn ds (d .1 .code)))) (distinct ds) h) (subst (λ f. T (not (isFound f))) (pick-no _ _ _ t) k)))
     (either (eqb (d .1 .code) (p .1 .code)))
 
+-- ---- the slots of declarations
+
+slots-length : (ds : List Placed) → length (slotsOf ds) ≡ length ds
+unfolding slotsOf
+slots-length [] = refl
+slots-length (d ∷ ds) = ap suc (slots-length ds)
+
+slots-more : (ds : List Placed) (p : Placed) → slotsOf (ds ++ (p ∷ [])) ≡ slotsOf ds ++ ((p .0 + 1) ∷ [])
+unfolding slotsOf
+slots-more [] p = refl
+slots-more (d ∷ ds) p = ap (λ (l : List ℕ). (d .0 + 1) ∷ l) (slots-more ds p)
+
+insert-length : (p : Placed) (ds : List Placed) → length (insertByCode p ds) ≡ suc (length ds)
+unfolding insertByCode
+insert-length p [] = refl
+insert-length p (d ∷ ds) = pick-either (λ (l : List Placed). length l ≡ suc (suc (length ds))) (ltb (d .1 .code) (p .1 .code)) _ _ (λ _. ap suc (insert-length p ds)) (λ _. refl)
+
+order-length : (ds : List Placed) → length (byCode ds) ≡ length ds
+unfolding byCode
+order-length [] = refl
+order-length (d ∷ ds) = insert-length d (byCode ds) ∙ ap suc (order-length ds)
+
+insert-in : (p : Placed) (ds : List Placed) (z : ℕ) → In z (slotsOf (p ∷ ds)) → In z (slotsOf (insertByCode p ds))
+unfolding insertByCode slotsOf In
+insert-in p [] z i = i
+insert-in p (d ∷ ds) z i =
+    pick-either (λ (l : List Placed). In z (slotsOf l)) (ltb (d .1 .code) (p .1 .code)) _ _
+    (λ _. ⊎-elim (λ e. inr (insert-in p ds z (inl e))) (λ j. ⊎-elim (λ e. inl e) (λ k. inr (insert-in p ds z (inr k))) j) i)
+    (λ _. i)
+
+insert-from : (p : Placed) (ds : List Placed) (z : ℕ) → In z (slotsOf (insertByCode p ds)) → In z (slotsOf (p ∷ ds))
+unfolding insertByCode slotsOf In
+insert-from p [] z = λ i. i
+insert-from p (d ∷ ds) z =
+    pick-either (λ (l : List Placed). In z (slotsOf l) → In z (slotsOf (p ∷ d ∷ ds))) (ltb (d .1 .code) (p .1 .code)) _ _
+    (λ _ i. ⊎-elim (λ e. inr (inl e)) (λ j. ⊎-elim (λ e. inl e) (λ k. inr (inr k)) (insert-from p ds z j)) i)
+    (λ _ i. i)
+
+order-in : (ds : List Placed) (z : ℕ) → In z (slotsOf ds) → In z (slotsOf (byCode ds))
+unfolding byCode slotsOf In
+order-in [] z i = i
+order-in (d ∷ ds) z i = insert-in d (byCode ds) z (⊎-elim (λ e. inl e) (λ j. inr (order-in ds z j)) i)
+
+order-from : (ds : List Placed) (z : ℕ) → In z (slotsOf (byCode ds)) → In z (slotsOf ds)
+unfolding byCode slotsOf In
+order-from [] z i = i
+order-from (d ∷ ds) z i = ⊎-elim (λ e. inl e) (λ j. inr (order-from ds z j)) (insert-from d (byCode ds) z i)
+
+-- the code at each place is that of its declaration
+unfoldable Coded : List ℕ → List Placed → Type 0
+Coded s [] = Unit {0}
+Coded s (d ∷ ds) = (slotCode s (d .0 + 1) ≡ d .1 .code) × Coded s ds
+
+chain-coded : {s : List ℕ} {a b : ℕ} {ds : List Placed} → Chain s a ds b → Coded s ds
+unfolding Coded
+chain-coded here = tt
+chain-coded {s} {a} (link {d = d} {c = c} e k) = (declaration-code s a d c e, chain-coded k)
+
+module _ (s : List ℕ) where
+  insert-coded : (p : Placed) (ds : List Placed) → slotCode s (p .0 + 1) ≡ p .1 .code → Coded s ds → Coded s (insertByCode p ds)
+  unfolding insertByCode Coded
+  insert-coded p [] e q = (e, tt)
+  insert-coded p (d ∷ ds) e q = pick-either (Coded s) (ltb (d .1 .code) (p .1 .code)) _ _ (λ _. (q .0, insert-coded p ds e (q .1))) (λ _. (e, q))
+
+  order-coded : (ds : List Placed) → Coded s ds → Coded s (byCode ds)
+  unfolding byCode Coded
+  order-coded [] q = tt
+  order-coded (d ∷ ds) q = insert-coded d (byCode ds) (q .0) (order-coded ds (q .1))
+
+  insert-up : (p : Placed) (ds : List Placed) → slotCode s (p .0 + 1) ≡ p .1 .code → Coded s ds → Up (slotCode s) (slotsOf ds) → Up (slotCode s) (slotsOf (insertByCode p ds))
+  unfolding insertByCode slotsOf Coded Up In
+  insert-up p [] e q u = (λ z i. absurd i, tt)
+  insert-up p (d ∷ ds) e q u =
+      pick-either (λ (l : List Placed). Up (slotCode s) (slotsOf l)) (ltb (d .1 .code) (p .1 .code)) _ _
+      (λ t. let h : d .1 .code < p .1 .code = ltb-yes {a = d .1 .code} {b = p .1 .code} t in (
+        λ z i. ⊎-elim (λ f. let g : slotCode s z ≡ slotCode s (p .0 + 1) = ap (slotCode s) f in omega (arith, q .0)) (λ j. u .0 z j) (insert-from p ds z i),
+        insert-up p ds e (q .1) (u .1),
+      ))
+      (λ t. let h : p .1 .code ≤ d .1 .code = ltb-no {a = d .1 .code} {b = p .1 .code} t in
+      (λ z i. ⊎-elim (λ f. let g : slotCode s z ≡ slotCode s (d .0 + 1) = ap (slotCode s) f in omega (arith, q .0)) (λ j. omega (arith, q .0, u .0 z j)) i, u))
+
+  order-up : (ds : List Placed) → Coded s ds → Up (slotCode s) (slotsOf (byCode ds))
+  unfolding byCode slotsOf Coded Up
+  order-up [] q = tt
+  order-up (d ∷ ds) q = insert-up d (byCode ds) (q .0) (order-coded ds (q .1)) (order-up ds (q .1))
+
+  -- ---- codes that are declared, by the slots
+
+  found-in : (ds : List Placed) (z code : ℕ) → Coded s ds → In z (slotsOf ds) → slotCode s z ≡ code → T (isFound (declaredIn ds code))
+  unfolding declaredIn isFound slotsOf Coded In
+  found-in [] z code q i e = absurd i
+  found-in (d ∷ ds) z code q i e =
+      pick-either (λ f. T (isFound f)) (eqb (d .1 .code) code) _ _ (λ _. tt)
+      (λ t. ⊎-elim (λ f. absurd (eqb-no t (sym (q .0) ∙ ap (slotCode s) (sym f) ∙ e))) (λ j. found-in ds z code (q .1) j e) i)
+
+  unfound-in : (ds : List Placed) (code : ℕ) → Coded s ds → ((z : ℕ) → In z (slotsOf ds) → slotCode s z ≡ code → ⊥) → T (not (isFound (declaredIn ds code)))
+  unfolding declaredIn isFound slotsOf Coded In
+  unfound-in [] code q h = tt
+  unfound-in (d ∷ ds) code q h =
+      pick-either (λ f. T (not (isFound f))) (eqb (d .1 .code) code) _ _
+      (λ t. absurd (h (d .0 + 1) (inl refl) (q .0 ∙ eqb-yes t)))
+      (λ _. unfound-in ds code (q .1) (λ z i. h z (inr i)))
+
+  -- codes in order, none twice: then so it was before the last was inserted, and it has another code than each
+  insert-strict : (p : Placed) (ds : List Placed) → slotCode s (p .0 + 1) ≡ p .1 .code → Coded s ds → Strict (slotCode s) (slotsOf (insertByCode p ds))
+      → Strict (slotCode s) (slotsOf ds) × ((z : ℕ) → In z (slotsOf ds) → slotCode s z ≡ p .1 .code → ⊥)
+  unfolding insertByCode slotsOf Coded Strict In
+  insert-strict p [] e q = λ u. (tt, λ z i. absurd i)
+  insert-strict p (d ∷ ds) e q =
+      pick-either (λ (l : List Placed). Strict (slotCode s) (slotsOf l) → Strict (slotCode s) (slotsOf (d ∷ ds)) × ((z : ℕ) → In z (slotsOf (d ∷ ds)) → slotCode s z ≡ p .1 .code → ⊥))
+      (ltb (d .1 .code) (p .1 .code)) _ _
+      (λ t u. let h : d .1 .code < p .1 .code = ltb-yes {a = d .1 .code} {b = p .1 .code} t in
+      let r : Strict (slotCode s) (slotsOf ds) × ((z : ℕ) → In z (slotsOf ds) → slotCode s z ≡ p .1 .code → ⊥) = insert-strict p ds e (q .1) (u .1) in (
+        (λ z i. u .0 z (insert-in p ds z (inr i)), r .0),
+        λ z i. ⊎-elim (λ f g. let k : slotCode s z ≡ slotCode s (d .0 + 1) = ap (slotCode s) f in omega (arith, q .0)) (λ j. r .1 z j) i,
+      ))
+      (λ t u. (u .1, λ z i f. omega (arith, u .0 z i, e)))
+
+  order-distinct : (ds : List Placed) → Coded s ds → Strict (slotCode s) (slotsOf (byCode ds)) → T (distinct ds)
+  unfolding byCode distinct Coded
+  order-distinct [] q u = tt
+  order-distinct (d ∷ ds) q u =
+      let r : Strict (slotCode s) (slotsOf (byCode ds)) × ((z : ℕ) → In z (slotsOf (byCode ds)) → slotCode s z ≡ d .1 .code → ⊥) =
+      insert-strict d (byCode ds) (q .0) (order-coded ds (q .1)) u in
+      both (not (isFound (declaredIn ds (d .1 .code)))) (distinct ds) (unfound-in ds (d .1 .code) (q .1) (λ z i. r .1 z (order-in ds z i))) (order-distinct ds (q .1) (r .0))
+
+  alike-twice : (ds : List Placed) (i j : ℕ) → Coded s ds → i < j → j < length (slotsOf ds) → slotCode s (getD (slotsOf ds) i 0) ≡ slotCode s (getD (slotsOf ds) j 0)
+      → T (not (distinct ds))
+  unfolding distinct slotsOf Coded
+  alike-twice ds i zero q h l e = absurd (omega arith)
+  alike-twice [] i (suc j) q h l e = absurd (omega arith)
+  alike-twice (d ∷ ds) zero (suc j) q h l e =
+      not-first (isFound (declaredIn ds (d .1 .code))) (distinct ds)
+      (found-in ds (getD (slotsOf ds) j 0) (d .1 .code) (q .1) (in-at (slotsOf ds) j (omega arith)) (sym e ∙ q .0))
+  alike-twice (d ∷ ds) (suc i) (suc j) q h l e =
+      not-second (not (isFound (declaredIn ds (d .1 .code)))) (distinct ds) (alike-twice ds i j (q .1) (omega arith) (omega arith) e)
+
 -- ---- the index
 
 pub length-indexed : (index : List ℕ) (ds : List Placed) → length (indexed index ds) ≡ length index
 unfolding indexed
-length-indexed index [] = refl
-length-indexed index (d ∷ ds) = length-indexed (set index (d .1 .code) (d .0 + 1)) ds ∙ length-set index (d .1 .code) (d .0 + 1)
+length-indexed index ds =
+    pick-either (λ (l : List ℕ). length l ≡ length index) (leb (length ds) (length index)) _ _
+    (λ t. let h : length ds ≤ length index = leb-yes {a = length ds} {b = length index} t in
+    omega (arith, length-append (slotsOf (byCode ds)) (drop (length ds) index), length-drop (length ds) index, slots-length (byCode ds), order-length ds))
+    (λ _. refl)
 
-indexed-more : (index : List ℕ) (ds : List Placed) (p : Placed) → indexed index (ds ++ (p ∷ [])) ≡ set (indexed index ds) (p .1 .code) (p .0 + 1)
+-- each slot is empty or holds the place of a declaration
+index-slots : (n k : ℕ) (ds : List Placed) → (getD (indexed (zeros n) ds) k 0 ≡ 0) ⊎ In (getD (indexed (zeros n) ds) k 0) (slotsOf ds)
 unfolding indexed
-indexed-more index [] p = refl
-indexed-more index (d ∷ ds) p = indexed-more (set index (d .1 .code) (d .0 + 1)) ds p
+index-slots n k ds =
+    pick-either (λ (l : List ℕ). (getD l k 0 ≡ 0) ⊎ In (getD l k 0) (slotsOf ds)) (leb (length ds) (length (zeros n))) _ _
+    (λ _. padded-at (λ z. (z ≡ 0) ⊎ In z (slotsOf ds)) (slotsOf (byCode ds)) (length ds) n k (inl refl) (λ z i. inr (order-from ds z i)))
+    (λ _. zeros-at (λ z. (z ≡ 0) ⊎ In z (slotsOf ds)) n k (inl refl))
 
-not-found : (f : Found) → T (not (isFound f)) → f ≡ Nothing
-unfolding isFound
-not-found (Found′ d) h = absurd h
-not-found Nothing h = refl
-
--- a code that is not declared stays as it was
-indexed-other : (index : List ℕ) (ds : List Placed) (code : ℕ) → T (not (isFound (declaredIn ds code))) → getD (indexed index ds) code 0 ≡ getD index code 0
-unfolding indexed declaredIn isFound
-indexed-other index [] code h = refl
-indexed-other index (d ∷ ds) code h =
+-- the declaration at the place that a slot holds
+chain-through : {s : List ℕ} {a b : ℕ} {ds : List Placed} (z code : ℕ) → Chain s a ds b → T (distinct ds) → In z (slotsOf ds) → slotCode s z ≡ code
+    → declarationFound (declarationAt s (z - 1)) ≡ declaredIn ds code
+unfolding declaredIn distinct slotsOf In declarationFound
+chain-through z code here t i e = absurd i
+chain-through {s} {a} z code (link {d = d} {c = c} {ds = ds} g k) t i e =
     ⊎-elim
-    (λ t. absurd (subst (λ f. T (not (isFound f))) (pick-yes _ _ _ t) h))
-    (λ t. indexed-other (set index (d .1 .code) (d .0 + 1)) ds code (subst (λ f. T (not (isFound f))) (pick-no _ _ _ t) h)
-    ∙ getD-set-other index (d .1 .code) code (d .0 + 1) 0 (λ e. eqb-no t (sym e)))
-    (either (eqb (d .1 .code) code))
-
-through-zero : (s : List ℕ) → throughIndex s 0 ≡ Nothing
-unfolding throughIndex pick
-through-zero s = refl
-
-through-place : (s : List ℕ) (at : ℕ) (d : Declaration) (c : Cursor) → declarationAt s at ≡ Declared d c → throughIndex s (at + 1) ≡ Found′ d
-unfolding throughIndex declarationFound
-through-place s at d c e =
-    pick-no _ _ _ (no-eqb {a = at + 1} {b = 0} (λ z. omega arith))
-    ∙ ap (λ n. declarationFound (declarationAt s n)) (let z : at + 1 - 1 ≡ at = omega arith in z) ∙ ap declarationFound e
-
--- through the index one comes to what is declared
-indexed-through : {s : List ℕ} {a b : ℕ} {ds : List Placed} (index : List ℕ) (code : ℕ) → Chain s a ds b → T (distinct ds) → code < length index
-    → throughIndex s (getD (indexed index ds) code 0) ≡ orElse (declaredIn ds code) (throughIndex s (getD index code 0))
-unfolding indexed declaredIn distinct orElse
-indexed-through index code here t h = refl
-indexed-through {s} {a} {b} index code (link {d = d} {c = c} {ds = ds} e k) t h =
-    indexed-through (set index (d .code) (a + 1)) code k (second _ _ t) (omega (arith, length-set index (d .code) (a + 1)))
+    (λ f. let x : z - 1 ≡ a = omega arith in
+    ap (λ n. declarationFound (declarationAt s n)) x ∙ ap declarationFound g
+    ∙ sym (pick-yes _ _ _ (yes-eqb (sym (declaration-code s a d c g) ∙ ap (slotCode s) (sym f) ∙ e))))
+    (λ j. chain-through z code k (second _ _ t) j e
     ∙ ⊎-elim
-    (λ y. let q : d .code ≡ code = eqb-yes y in
-    let n : declaredIn ds code ≡ Nothing = subst (λ x. declaredIn ds x ≡ Nothing) q (not-found (declaredIn ds (d .code)) (first _ _ t)) in
-    let g : getD (set index (d .code) (a + 1)) code 0 ≡ a + 1 = subst (λ x. getD (set index (d .code) (a + 1)) x 0 ≡ a + 1) q (getD-set-same index (d .code) (a + 1) 0 (omega arith)) in
-    ap (λ f. orElse f (throughIndex s (getD (set index (d .code) (a + 1)) code 0))) n
-    ∙ ap (throughIndex s) g ∙ through-place s a d c e
-    ∙ ap (λ f. orElse f (throughIndex s (getD index code 0))) (sym (pick-yes _ (Found′ d) (declaredIn ds code) y)))
-    (λ y. ap (λ x. orElse (declaredIn ds code) (throughIndex s x)) (getD-set-other index (d .code) code (a + 1) 0 (λ e. eqb-no y (sym e)))
-    ∙ ap (λ f. orElse f (throughIndex s (getD index code 0))) (sym (pick-no _ (Found′ d) (declaredIn ds code) y)))
-    (either (eqb (d .code) code))
+    (λ u. let x : T (isFound (declaredIn ds (d .code))) = found-in s ds z (d .code) (chain-coded k) j (e ∙ sym (eqb-yes u)) in
+    let y : T (not (isFound (declaredIn ds (d .code)))) = first _ _ t in absurd (contrary (isFound (declaredIn ds (d .code))) x y))
+    (λ u. sym (pick-no _ _ _ u))
+    (either (eqb (d .code) code)))
+    i
+  where
+    contrary : (b : Bool) → T b → T (not b) → ⊥
+    contrary true x y = y
+    contrary false x y = x
 
--- from zeros on
-zeros-through : {s : List ℕ} {a b : ℕ} {ds : List Placed} (n code : ℕ) → Chain s a ds b → T (distinct ds) → code < n
-    → throughIndex s (getD (indexed (zeros n) ds) code 0) ≡ declaredIn ds code
-zeros-through {s} {a} {b} {ds} n code k t h =
-    indexed-through (zeros n) code k t (omega (arith, length-replicate {A = ℕ} n 0))
-    ∙ ap (λ x. orElse (declaredIn ds code) (throughIndex s x)) (getD-replicate n code 0 0 h)
-    ∙ ap (orElse (declaredIn ds code)) (through-zero s) ∙ else-nothing (declaredIn ds code)
+through-else : {s : List ℕ} {a b : ℕ} {ds : List Placed} (z code : ℕ) (rest : Found) → Chain s a ds b → T (distinct ds) → (z ≡ 0) ⊎ In z (slotsOf ds)
+    → rest ≡ declaredIn ds code → pick (holdsCode s z code) (throughIndex s z) rest ≡ declaredIn ds code
+unfolding holdsCode throughIndex
+through-else {s} {a} {b} {ds} z code rest k t w e =
+    ⊎-elim
+    (λ y. pick-no _ _ _ (subst (λ (b : Bool). T (not b)) (sym (pick-yes _ _ _ y)) tt) ∙ e)
+    (λ y.
+    let n : z ≡ 0 → ⊥ = eqb-no {a = z} {b = 0} y in
+    ⊎-elim
+    (λ u.
+    let i : In z (slotsOf ds) = ⊎-elim (λ q. absurd (n q)) (λ i. i) w in
+    pick-yes _ _ _ (subst T (sym (pick-no _ _ _ y)) u) ∙ chain-through z code k t i (eqb-yes u))
+    (λ u. pick-no _ _ _ (subst (λ (b : Bool). T (not b)) (sym (pick-no _ _ _ y)) u) ∙ e)
+    (either (eqb (slotCode s z) code)))
+    (either (eqb z 0))
+
+-- ---- the declarations gathered
+
+-- the index and the place after some declarations
+pub record Gathering (s : List ℕ) (from : ℕ) (l m : List ℕ) (at count : ℕ) : Type 0 where
+  pub done : List Placed
+  pub chain : Chain s from done at
+  pub counted : count ≡ length done
+  pub same : length m ≡ length l
+  pub written : length done ≤ length l → m ≡ slotsOf done ++ drop (length done) l
+
+chain-count : {s : List ℕ} {a b : ℕ} {ds : List Placed} → Chain s a ds b → length ds + a ≤ b
+chain-count here = omega arith
+chain-count {s} {a} (link {d = d} {c = c} e k) = omega (arith, chain-count k, declaration-ahead s a d c e .0)
+
+pub gathering-none : (s : List ℕ) (from : ℕ) (l : List ℕ) → Gathering s from l l from 0
+unfolding slotsOf
+gathering-none s from l = record { done = []; chain = here; counted = refl; same = refl; written = λ _. refl }
+
+module _ (s : List ℕ) (from : ℕ) (l m : List ℕ) (at count : ℕ) (q : Gathering s from l m at count) where
+  pub gathering-count : count ≤ at
+  gathering-count = omega (arith, chain-count (q .chain), q .counted)
+
+  pub gathering-bad : declarationAt s at ≡ NoDeclaration → (Uncounted ≡ countOf (declarationsFrom s from)) × Gathered s from l m
+  unfolding countOf onto
+  gathering-bad e =
+      let n : declarationsFrom s from ≡ none = chain-onto (q .chain) ∙ ap (onto (q .done)) (declarations-bad s at e) in
+      (sym (ap countOf n), λ ds x g h. let z : _≡_ {A = ℕ} 0 1 = cc in absurd (omega arith))
+
+  pub gathering-last : (c : Cursor) → declarationAt s at ≡ Last c → (Of count ≡ countOf (declarationsFrom s from)) × Gathered s from l m
+  unfolding countOf onto
+  gathering-last c e =
+      let d : declarationsFrom s from ≡ some (q .done ++ [], c .at) = chain-onto (q .chain) ∙ ap (onto (q .done)) (declarations-last s at c e) in
+      let d′ : declarationsFrom s from ≡ some (q .done, c .at) = d ∙ ap (λ (l : List Placed). some (l, c .at)) (append-nil (q .done)) in (
+        ap Of (q .counted) ∙ sym (ap countOf d′),
+        λ ds x g h. let v : _≡_ {A = Scanned Placed ℕ} (q .done, c .at) (ds, x) = cc in
+            let w : q .done ≡ ds = ap (λ (y : Scanned Placed ℕ). y .0) v in subst (λ (y : List Placed). length y ≤ length l → m ≡ slotsOf y ++ drop (length y) l) w (q .written) h,
+      )
+
+  module _ (d : Declaration) (c : Cursor) (e : declarationAt s at ≡ Declared d c) where
+    grown : length (q .done ++ ((at, d) ∷ [])) ≡ count + 1
+    grown = omega (arith, length-append (q .done) ((at, d) ∷ []), q .counted)
+
+    pub gathering-more : count < length m → Gathering s from l (set m count (at + 1)) (c .at) (count + 1)
+    gathering-more h =
+        record {
+          done = q .done ++ ((at, d) ∷ []);
+          chain = chain-more (q .chain) e;
+          counted = sym grown;
+          same = length-set m count (at + 1) ∙ q .same;
+          written = λ _.
+              let i : count < length l = omega (arith, q .same) in
+              let w : m ≡ slotsOf (q .done) ++ (getD l count 0 ∷ drop (suc count) l) =
+              q .written (omega (arith, q .counted)) ∙ ap (λ (x : List ℕ). slotsOf (q .done) ++ x) (ap (λ n. drop n l) (sym (q .counted)) ∙ drop-cons l count 0 i) in
+              ap (λ (x : List ℕ). set x count (at + 1)) w
+              ∙ set-at (slotsOf (q .done)) (getD l count 0) (drop (suc count) l) (at + 1) count (slots-length (q .done) ∙ sym (q .counted))
+              ∙ sym (append-snoc (slotsOf (q .done)) (at + 1) (drop (suc count) l))
+              ∙ ap (λ (x : List ℕ). x ++ drop (suc count) l) (sym (slots-more (q .done) (at, d)))
+              ∙ ap (λ n. slotsOf (q .done ++ ((at, d) ∷ [])) ++ drop n l) (let z : suc count ≡ length (q .done ++ ((at, d) ∷ [])) = omega (arith, grown) in z);
+        }
+
+    pub gathering-over : length m ≤ count → Gathering s from l m (c .at) (count + 1)
+    gathering-over h =
+        record {
+          done = q .done ++ ((at, d) ∷ []);
+          chain = chain-more (q .chain) e;
+          counted = sym grown;
+          same = q .same;
+          written = λ g. absurd (omega (arith, q .same, grown));
+        }
 
 -- ---- the check
 
@@ -444,30 +675,27 @@ refused s from e = sym (ap asChecked e)
 pub refused-not : Refused ≡ Accepted → ⊥
 refused-not e = let z : _≡_ {A = ℕ} 0 1 = cc in omega arith
 
--- The index and the place after some declarations.
-pub record Filling (s : List ℕ) (from n : ℕ) (index : List ℕ) (at : ℕ) : Type 0 where
+-- the place after some declarations that have no code twice
+pub record Checking (s : List ℕ) (from at : ℕ) : Type 0 where
   pub done : List Placed
   pub chain : Chain s from done at
   pub once : T (distinct done)
-  pub filled : index ≡ indexed (zeros n) done
-  pub same : length index ≡ n
 
-pub filling-none : (s : List ℕ) (from : ℕ) (index : List ℕ) → index ≡ zeros (length index) → Filling s from (length index) index from
-unfolding indexed distinct
-filling-none s from index z = record { done = []; chain = here; once = tt; filled = z; same = refl }
+pub checking-none : (s : List ℕ) (from : ℕ) → Checking s from from
+unfolding distinct
+checking-none s from = record { done = []; chain = here; once = tt }
 
-module _ (s : List ℕ) (from n : ℕ) (index : List ℕ) (at : ℕ) (q : Filling s from n index at) where
-  pub filling-last : (c : Cursor) → declarationAt s at ≡ Last c → (Accepted ≡ checkedOf s from) × (index ≡ indexOf s from n)
-  unfolding abbreviationsOf checkedOf asChecked indexOf indexFor checkDistinct onto
-  filling-last c e =
+module _ (s : List ℕ) (from at : ℕ) (q : Checking s from at) where
+  pub checking-last : (c : Cursor) → declarationAt s at ≡ Last c → Accepted ≡ checkedOf s from
+  unfolding abbreviationsOf checkedOf asChecked checkDistinct onto
+  checking-last c e =
       let d : declarationsFrom s from ≡ some (q .done ++ [], c .at) = chain-onto (q .chain) ∙ ap (onto (q .done)) (declarations-last s at c e) in
       let d′ : declarationsFrom s from ≡ some (q .done, c .at) = d ∙ ap (λ (l : List Placed). some (l, c .at)) (append-nil (q .done)) in
-      let a : abbreviationsOf s from ≡ some (q .done) = bind-at checkDistinct d′ ∙ check-yes _ _ (q .once) in
-      (sym (ap asChecked a), q .filled ∙ sym (ap (indexFor n) a))
+      sym (ap asChecked (bind-at checkDistinct d′ ∙ check-yes _ _ (q .once)))
 
-  pub filling-bad : declarationAt s at ≡ NoDeclaration → Refused ≡ checkedOf s from
+  pub checking-bad : declarationAt s at ≡ NoDeclaration → Refused ≡ checkedOf s from
   unfolding abbreviationsOf onto
-  filling-bad e = refused s from (bind-none checkDistinct (chain-onto (q .chain) ∙ ap (onto (q .done)) (declarations-bad s at e)))
+  checking-bad e = refused s from (bind-none checkDistinct (chain-onto (q .chain) ∙ ap (onto (q .done)) (declarations-bad s at e)))
 
   twice-of : (p : Placed) (o : Option (Scanned Placed ℕ)) → T (isFound (declaredIn (q .done) (p .1 .code))) → bind (onto (q .done) (bind o (push p))) checkDistinct ≡ none
   unfolding bind push onto checkDistinct
@@ -475,45 +703,21 @@ module _ (s : List ℕ) (from n : ℕ) (index : List ℕ) (at : ℕ) (q : Fillin
   twice-of p (some r) h = check-no _ _ (distinct-twice (q .done) (r .0) p h)
 
   module _ (d : Declaration) (c : Cursor) (e : declarationAt s at ≡ Declared d c) where
-    twice : T (isFound (declaredIn (q .done) (d .code))) → Refused ≡ checkedOf s from
-    unfolding abbreviationsOf
-    twice h =
+    pub checking-found : (d′ : Declaration) → searchAt s at (d .code) from ≡ Found′ d′ → Refused ≡ checkedOf s from
+    unfolding isFound abbreviationsOf
+    checking-found d′ h =
+        let t : T (isFound (declaredIn (q .done) (d .code))) = subst (λ f. T (isFound f)) (sym h ∙ chain-searched (d .code) (q .chain)) tt in
         refused s from (ap (λ o. bind o checkDistinct) (chain-onto (q .chain) ∙ ap (onto (q .done)) (declarations-more s at d c e))
-        ∙ twice-of (at, d) (declarationsFrom s (c .at)) h)
+        ∙ twice-of (at, d) (declarationsFrom s (c .at)) t)
 
-    pub filling-twice : d .code < n → (getD index (d .code) 0 ≡ 0 → ⊥) → Refused ≡ checkedOf s from
-    filling-twice h k =
-        twice (⊎-elim (λ t. t)
-        (λ t. absurd (k (ap (λ l. getD l (d .code) 0) (q .filled) ∙ indexed-other (zeros n) (q .done) (d .code) t ∙ getD-replicate n (d .code) 0 0 h)))
-        (either (isFound (declaredIn (q .done) (d .code)))))
-
-    pub filling-found : (d′ : Declaration) → searchAt s at (d .code) from ≡ Found′ d′ → Refused ≡ checkedOf s from
+    pub checking-more : searchAt s at (d .code) from ≡ Nothing → Checking s from (c .at)
     unfolding isFound
-    filling-found d′ h = twice (subst (λ f. T (isFound f)) (sym h ∙ chain-searched (d .code) (q .chain)) tt)
-
-    pub filling-more : d .code < n → getD index (d .code) 0 ≡ 0 → Filling s from n (set index (d .code) (at + 1)) (c .at)
-    unfolding isFound
-    filling-more h z =
-        let f : declaredIn (q .done) (d .code) ≡ Nothing =
-        sym (zeros-through n (d .code) (q .chain) (q .once) h) ∙ ap (throughIndex s) (ap (λ l. getD l (d .code) 0) (sym (q .filled)) ∙ z) ∙ through-zero s in
-        record {
-          done = q .done ++ ((at, d) ∷ []);
-          chain = chain-more (q .chain) e;
-          once = distinct-more (q .done) (at, d) (q .once) (subst (λ f. T (not (isFound f))) (sym f) tt);
-          filled = ap (λ l. set l (d .code) (at + 1)) (q .filled) ∙ sym (indexed-more (zeros n) (q .done) (at, d));
-          same = length-set index (d .code) (at + 1) ∙ q .same;
-        }
-
-    pub filling-over : n ≤ d .code → searchAt s at (d .code) from ≡ Nothing → Filling s from n index (c .at)
-    unfolding isFound
-    filling-over h z =
+    checking-more z =
         let f : declaredIn (q .done) (d .code) ≡ Nothing = sym (chain-searched (d .code) (q .chain)) ∙ z in
         record {
           done = q .done ++ ((at, d) ∷ []);
           chain = chain-more (q .chain) e;
           once = distinct-more (q .done) (at, d) (q .once) (subst (λ f. T (not (isFound f))) (sym f) tt);
-          filled = sym (set-out index (d .code) (at + 1) (omega (arith, q .same))) ∙ ap (λ l. set l (d .code) (at + 1)) (q .filled) ∙ sym (indexed-more (zeros n) (q .done) (at, d));
-          same = q .same;
         }
 
 -- a list that is refused has an index of zeros
@@ -524,30 +728,6 @@ refused-index s from n h = of (abbreviationsOf s from) h
     of : (o : Option (List Placed)) → asChecked o ≡ Refused → zeros n ≡ indexFor n o
     of none e = refl
     of (some ds) e = let z : _≡_ {A = ℕ} 0 1 = cc in absurd (omega arith)
-
--- ---- lookup
-
-module _ (s : List ℕ) (from : ℕ) (index : List ℕ) (code : ℕ) where
-  pub find-search : length index ≤ code → searchAt s (length s) code from ≡ findAt s from index code
-  unfolding findAt
-  find-search h = sym (pick-no _ _ _ (no-ltb {a = code} {b = length index} h))
-
-  module _ (h : code < length index) where
-    find-through : findAt s from index code ≡ throughIndex s (getD index code 0)
-    unfolding findAt
-    find-through = pick-yes _ _ _ (yes-ltb {a = code} {b = length index} h)
-
-    pub find-zero : getD index code 0 ≡ 0 → Nothing ≡ findAt s from index code
-    find-zero z = sym (find-through ∙ ap (throughIndex s) z ∙ through-zero s)
-
-    -- by the head of a declaration
-    pub find-head : (r : DeclarationStep) → (getD index code 0 ≡ 0 → ⊥) → headAt s (getD index code 0 - 1) ≡ r → wholeFound s (declarationFound r) ≡ findAt s from index code
-    unfolding throughIndex declarationAt
-    find-head r z e = head-found s (getD index code 0 - 1) r e ∙ sym (find-through ∙ pick-no _ _ _ (no-eqb z))
-
-    pub find-there : (r : DeclarationStep) → (getD index code 0 ≡ 0 → ⊥) → declarationAt s (getD index code 0 - 1) ≡ r → declarationFound r ≡ findAt s from index code
-    unfolding throughIndex
-    find-there r z e = sym (find-through ∙ pick-no _ _ _ (no-eqb z) ∙ ap declarationFound e)
 
 -- a list that is accepted, up to the code that closes it
 record Closed (s : List ℕ) (from : ℕ) (ds : List Placed) : Type 0 where
@@ -601,25 +781,176 @@ accept-of s from ds h = of (declarationsFrom s from) refl h
         let z : _≡_ {A = ℕ} 0 1 = cc in absurd (omega arith))
         (either (distinct (r .0)))
 
--- the index, and past its length the search, find what the list declares
+-- ---- the index filled
+
+module _ (s : List ℕ) (from : ℕ) where
+  pub unreadable-refused : Uncounted ≡ countOf (declarationsFrom s from) → Refused ≡ checkedOf s from
+  unfolding abbreviationsOf countOf
+  unreadable-refused h = refused s from (bind-none checkDistinct (of (declarationsFrom s from) h))
+    where
+      of : (o : Option (Scanned Placed ℕ)) → Uncounted ≡ countOf o → o ≡ none
+      of none e = refl
+      of (some r) e = let z : _≡_ {A = ℕ} 0 1 = cc in absurd (omega arith)
+
+  -- too many for the index
+  over-index : (count n : ℕ) → Of count ≡ countOf (declarationsFrom s from) → n < count → zeros n ≡ indexOf s from n
+  unfolding abbreviationsOf countOf indexOf indexFor bind checkDistinct indexed
+  over-index count n h g = of (declarationsFrom s from) h
+    where
+      of : (o : Option (Scanned Placed ℕ)) → Of count ≡ countOf o → zeros n ≡ indexFor n (bind o checkDistinct)
+      of none e = refl
+      of (some r) e =
+          let z : count ≡ length (r .0) = cc in
+          ⊎-elim
+          (λ t. sym (ap (indexFor n) (check-yes (distinct (r .0)) (some (r .0)) t) ∙ pick-no _ _ _ (no-leb {a = length (r .0)} {b = length (zeros n)} (omega (arith, length-replicate {A = ℕ} n 0)))))
+          (λ t. sym (ap (indexFor n) (check-no (distinct (r .0)) (some (r .0)) t)))
+          (either (distinct (r .0)))
+
+  counted-list : (count : ℕ) (o : Option (Scanned Placed ℕ)) → Of count ≡ countOf o → (r : Scanned Placed ℕ) × (o ≡ some r) × (count ≡ length (r .0))
+  unfolding countOf
+  counted-list count none e = let z : _≡_ {A = ℕ} 0 1 = cc in absurd (omega arith)
+  counted-list count (some r) e = (r, refl, (cc))
+
+  module _ (ds : List Placed) (end : ℕ) (g : declarationsFrom s from ≡ some (ds, end)) where
+    listed-coded : Coded s ds
+    listed-coded = chain-coded (closed-of s ds from end g .chain)
+
+    module _ (m : List ℕ) (o : Ordered s (slotsOf ds) m Accepted) where
+      ordered-slots : m ≡ slotsOf (byCode ds)
+      ordered-slots =
+          let q : Drawn (slotsOf ds) m = drawn-of (o .swaps) in
+          let e : length m ≡ length (slotsOf ds) = swaps-length (o .swaps) in
+          ordered-same (slotCode s) m (slotsOf (byCode ds)) (strict-of (slotCode s) m (o .ascending refl)) (order-up s ds listed-coded)
+          (each-in (λ z. In z (slotsOf (byCode ds))) m
+          (λ k h. let i : k < length (slotsOf ds) = omega arith in
+          subst (λ z. In z (slotsOf (byCode ds))) (sym (q .is k i)) (order-in ds (getD (slotsOf ds) (q .from k) 0) (in-at (slotsOf ds) (q .from k) (q .inside k i)))))
+          (omega (arith, slots-length ds, slots-length (byCode ds), order-length ds))
+
+      ordered-accepted : abbreviationsOf s from ≡ some ds
+      unfolding abbreviationsOf checkDistinct
+      ordered-accepted =
+          bind-at checkDistinct g
+          ∙ check-yes _ _ (order-distinct s ds listed-coded (subst (Strict (slotCode s)) ordered-slots (strict-of (slotCode s) m (o .ascending refl))))
+
+    ordered-refused : (m : List ℕ) → Ordered s (slotsOf ds) m Refused → abbreviationsOf s from ≡ none
+    unfolding abbreviationsOf checkDistinct
+    ordered-refused m o =
+        let q : Drawn (slotsOf ds) m = drawn-of (o .swaps) in
+        let e : length m ≡ length (slotsOf ds) = swaps-length (o .swaps) in
+        let w : Twice s m = o .twice refl in
+        let k : ℕ = w .place in
+        let h′ : suc k < length m = w .inside in
+        let h : k < length (slotsOf ds) = omega arith in
+        let j : suc k < length (slotsOf ds) = omega arith in
+        let apart : q .from k ≡ q .from (suc k) → ⊥ = (λ f. let x : k ≡ suc k = sym (q .undone k h) ∙ ap (q .back) f ∙ q .undone (suc k) j in omega arith) in
+        let alike : slotCode s (getD (slotsOf ds) (q .from k) 0) ≡ slotCode s (getD (slotsOf ds) (q .from (suc k)) 0) =
+        ap (slotCode s) (sym (q .is k h)) ∙ w .alike ∙ ap (slotCode s) (q .is (suc k) j) in
+        bind-at checkDistinct g
+        ∙ check-no _ _ (⊎-elim
+        (λ t. alike-twice s ds (q .from k) (q .from (suc k)) listed-coded (ltb-yes {a = q .from k} {b = q .from (suc k)} t) (q .inside (suc k) j) alike)
+        (λ t. let u : q .from (suc k) ≤ q .from k = ltb-no {a = q .from k} {b = q .from (suc k)} t in
+        ⊎-elim (λ v. absurd (apart (eqb-yes v)))
+        (λ v. let x : q .from k ≡ q .from (suc k) → ⊥ = eqb-no v in
+        alike-twice s ds (q .from (suc k)) (q .from k) listed-coded (below (q .from (suc k)) (q .from k) u (λ y. x (sym y))) (q .inside k h) (sym alike))
+        (either (eqb (q .from k) (q .from (suc k)))))
+        (either (ltb (q .from k) (q .from (suc k)))))
+      where
+        below : (a b : ℕ) → a ≤ b → (a ≡ b → ⊥) → a < b
+        below a b h d = ⊎-elim (λ t. ltb-yes {a = a} {b = b} t) (λ t. let u : b ≤ a = ltb-no {a = a} {b = b} t in absurd (d (omega arith))) (either (ltb a b))
+
+    -- what the slots are in order, and the rest of the index
+    ordered-index : (m : List ℕ) (n : ℕ) (r : Checked) → Ordered s (slotsOf ds) m r → length ds ≤ n
+        → (r ≡ checkedOf s from) × (r ≡ Accepted → m ++ drop (length ds) (zeros n) ≡ indexOf s from n)
+    unfolding checkedOf asChecked indexOf indexFor indexed
+    ordered-index m n Accepted o h =
+        let a : abbreviationsOf s from ≡ some ds = ordered-accepted m o in (
+          sym (ap asChecked a),
+          λ _. ap (λ (l : List ℕ). l ++ drop (length ds) (zeros n)) (ordered-slots m o)
+              ∙ sym (ap (indexFor n) a ∙ pick-yes _ _ _ (yes-leb {a = length ds} {b = length (zeros n)} (omega (arith, length-replicate {A = ℕ} n 0)))),
+        )
+    ordered-index m n Refused o h = (sym (ap asChecked (ordered-refused m o)), λ e. absurd (refused-not e))
+
+module _ (s : List ℕ) (from count : ℕ) (l₀ l : List ℕ) (same : length l ≡ length l₀) (h : Of count ≡ countOf (declarationsFrom s from)) where
+  pub over-filled : (m : List ℕ) → length l < count → m ≡ zeros (length l) → m ≡ indexOf s from (length l₀)
+  over-filled m g e = e ∙ ap zeros same ∙ over-index s from count (length l₀) h (omega arith)
+
+  -- the slots ordered in their part of the index
+  pub filled-index : (m : List ℕ) (r : Checked) → l₀ ≡ zeros (length l₀) → Gathered s from l₀ l → count ≤ length l → Ordered s (take count l) m r
+      → (r ≡ checkedOf s from) × (r ≡ Accepted → m ++ drop count l ≡ indexOf s from (length l₀))
+  filled-index m r z w i o =
+      let n : ℕ = length l₀ in
+      let q : (r : Scanned Placed ℕ) × (declarationsFrom s from ≡ some r) × (count ≡ length (r .0)) = counted-list s from count (declarationsFrom s from) h in
+      let ds : List Placed = q .0 .0 in
+      let k : length ds ≡ count = sym (q .2) in
+      let e : l ≡ slotsOf ds ++ drop (length ds) (zeros n) = w ds (q .0 .1) (q .1) (omega arith) ∙ ap (λ (y : List ℕ). slotsOf ds ++ drop (length ds) y) z in
+      let c : length (slotsOf ds) ≡ count = slots-length ds ∙ k in
+      let t : take count l ≡ slotsOf ds = ap (take count) e ∙ take-at (slotsOf ds) (drop (length ds) (zeros n)) count c in
+      let d : drop count l ≡ drop (length ds) (zeros n) = ap (drop count) e ∙ drop-at (slotsOf ds) (drop (length ds) (zeros n)) count c in
+      let x : (r ≡ checkedOf s from) × (r ≡ Accepted → m ++ drop (length ds) (zeros n) ≡ indexOf s from n) =
+      ordered-index s from ds (q .0 .1) (q .1) m n r (subst (λ (y : List ℕ). Ordered s y m r) t o) (omega arith) in
+      (x .0, λ a. ap (λ (y : List ℕ). m ++ y) d ∙ x .1 a)
+
+-- ---- lookup
+
+module _ (s : List ℕ) (slot code : ℕ) where
+  pub holds-none : slot ≡ 0 → false ≡ holdsCode s slot code
+  unfolding holdsCode
+  holds-none z = sym (pick-yes _ _ _ (yes-eqb z))
+
+  pub holds-some : (slot ≡ 0 → ⊥) → (c : ℕ) → c ≡ slotCode s slot → eqb c code ≡ holdsCode s slot code
+  unfolding holdsCode
+  holds-some z c q = ap (λ (c : ℕ). eqb c code) q ∙ sym (pick-no _ _ _ (no-eqb z))
+
+-- by the head of a declaration
+pub through-head : (s : List ℕ) (slot at : ℕ) → at ≡ slot - 1 → (r : DeclarationStep) → headAt s at ≡ r → wholeFound s (declarationFound r) ≡ throughIndex s slot
+unfolding throughIndex
+through-head s slot at q r e = head-found s at r e ∙ ap (λ (n : ℕ). declarationFound (declarationAt s n)) q
+
+module _ (s : List ℕ) (from : ℕ) (index : List ℕ) (code i : ℕ) (i-is : i ≡ code - 1) (guess : ℕ) (guess-is : guess ≡ getD index i 0) (b : Bool) (p : b ≡ holdsCode s guess code) where
+  g : guess ≡ getD index (code - 1) 0
+  g = guess-is ∙ ap (λ (n : ℕ). getD index n 0) i-is
+
+  at-guess : b ≡ holdsCode s (getD index (code - 1) 0) code
+  at-guess = p ∙ ap (λ (n : ℕ). holdsCode s n code) g
+
+  pub find-first : b ≡ true → (f : Found) → wholeFound s f ≡ throughIndex s guess → wholeFound s f ≡ findAt s from index code
+  unfolding findAt
+  find-first t f e = e ∙ ap (throughIndex s) g ∙ sym (pick-yes _ _ _ (subst T (sym t ∙ at-guess) tt))
+
+  module _ (n : b ≡ false) (j : ℕ) (j-is : j ≡ slotOf s index code) (slot : ℕ) (slot-is : slot ≡ getD index j 0) (b′ : Bool) (p′ : b′ ≡ holdsCode s slot code) where
+    h : slot ≡ getD index (slotOf s index code) 0
+    h = slot-is ∙ ap (λ (n : ℕ). getD index n 0) j-is
+
+    at-slot : b′ ≡ holdsCode s (getD index (slotOf s index code) 0) code
+    at-slot = p′ ∙ ap (λ (n : ℕ). holdsCode s n code) h
+
+    past-first : findAt s from index code
+        ≡ pick (holdsCode s (getD index (slotOf s index code) 0) code) (throughIndex s (getD index (slotOf s index code) 0)) (searchAt s (length s) code from)
+    unfolding findAt
+    past-first = pick-no _ _ _ (subst (λ (b : Bool). T (not b)) (sym n ∙ at-guess) tt)
+
+    pub find-halved : b′ ≡ true → (f : Found) → wholeFound s f ≡ throughIndex s slot → wholeFound s f ≡ findAt s from index code
+    find-halved t f e = e ∙ ap (throughIndex s) h ∙ sym (past-first ∙ pick-yes _ _ _ (subst T (sym t ∙ at-slot) tt))
+
+    pub find-search : b′ ≡ false → searchAt s (length s) code from ≡ findAt s from index code
+    find-search t = sym (past-first ∙ pick-no _ _ _ (subst (λ (b : Bool). T (not b)) (sym t ∙ at-slot) tt))
+
+-- the index and the search find what the list declares
 pub find-plain : (s : List ℕ) (from n : ℕ) (ds : List Placed) → abbreviationsOf s from ≡ some ds → (code : ℕ) → findAt s from (indexOf s from n) code ≡ declaredIn ds code
-unfolding indexOf indexFor
+unfolding indexOf indexFor findAt
 find-plain s from n ds h code =
     let q : Accept s from ds = accept-of s from ds h in
     let k : Chain s from ds (q .closed .last) = q .closed .chain in
     let i : indexOf s from n ≡ indexed (zeros n) ds = ap (indexFor n) h in
-    let l : length (indexed (zeros n) ds) ≡ n = length-indexed (zeros n) ds ∙ length-replicate n 0 in
-    ap (λ x. findAt s from x code) i
-    ∙ ⊎-elim
-    (λ t. let u : code < n = ltb-yes {a = code} {b = n} t in find-through s from (indexed (zeros n) ds) code (omega arith) ∙ zeros-through n code k (q .once) u)
-    (λ t. let u : n ≤ code = ltb-no {a = code} {b = n} t in
     let v : (q .closed .last < q .closed .past .at) × (q .closed .past .at ≤ length s) = last-inside s (q .closed .last) (q .closed .past) (q .closed .closes) in
     let w : q .closed .last < length s = omega (arith, v .0, v .1) in
-    sym (find-search s from (indexed (zeros n) ds) code (omega arith))
-    ∙ chain-search (length s) code k (omega arith)
+    let f : searchAt s (length s) code from ≡ declaredIn ds code =
+    chain-search (length s) code k (omega arith)
     ∙ ap (orElse (declaredIn ds code)) (sym (search-last s (length s) code (q .closed .last) (q .closed .past) w (q .closed .closes)))
-    ∙ else-nothing (declaredIn ds code))
-    (either (ltb code n))
+    ∙ else-nothing (declaredIn ds code) in
+    ap (λ x. findAt s from x code) i
+    ∙ through-else (getD (indexed (zeros n) ds) (code - 1) 0) code _ k (q .once) (index-slots n (code - 1) ds)
+    (through-else (getD (indexed (zeros n) ds) (slotOf s (indexed (zeros n) ds) code) 0) code _ k (q .once) (index-slots n (slotOf s (indexed (zeros n) ds) code) ds) f)
 
 -- ---- what is found is declared somewhere, and its attributes are there
 
@@ -674,16 +1005,21 @@ unfolding FoundLaw wholeFound wholeDeclaration movedDeclaration declarationFound
 found-whole s (Found′ d) q = ap (λ (o : Option (Scanned AttributeSpec ℕ)). declarationFound (movedDeclaration (scannedTo o) (Declared d))) (declaration-inside s (q .place) d (q .next) (q .is) .past .read)
 found-whole s Nothing q = refl
 
-pub search-whole : (s : List ℕ) (from : ℕ) (index : List ℕ) (code : ℕ) → length index ≤ code → (f : Found) → f ≡ searchAt s (length s) code from → wholeFound s f ≡ findAt s from index code
-search-whole s from index code h f q =
-    found-whole s f (subst (FoundLaw s) (sym q) (search-found s (length s) code from)) ∙ q ∙ find-search s from index code h
+search-whole : (s : List ℕ) (to code at : ℕ) (f : Found) → f ≡ searchAt s to code at → wholeFound s f ≡ searchAt s to code at
+search-whole s to code at f q = found-whole s f (subst (FoundLaw s) (sym q) (search-found s to code at)) ∙ q
+
+pub searched : (s : List ℕ) (from : ℕ) (index : List ℕ) (code : ℕ) (f : Found) → f ≡ searchAt s (length s) code from → searchAt s (length s) code from ≡ findAt s from index code
+    → wholeFound s f ≡ findAt s from index code
+searched s from index code f q e = search-whole s (length s) code from f q ∙ e
 
 find-found : (s : List ℕ) (from : ℕ) (index : List ℕ) (code : ℕ) → FoundLaw s (findAt s from index code)
-unfolding findAt throughIndex FoundLaw
+unfolding findAt throughIndex
 find-found s from index code =
-    pick-either (FoundLaw s) (ltb code (length index)) _ _
-    (λ _. pick-either (FoundLaw s) (eqb (getD index code 0) 0) _ _ (λ _. tt) (λ _. step-found s (getD index code 0 - 1) (declarationAt s (getD index code 0 - 1)) refl))
-    (λ _. search-found s (length s) code from)
+    pick-either (FoundLaw s) (holdsCode s (getD index (code - 1) 0) code) _ _
+    (λ _. step-found s (getD index (code - 1) 0 - 1) (declarationAt s (getD index (code - 1) 0 - 1)) refl)
+    (λ _. pick-either (FoundLaw s) (holdsCode s (getD index (slotOf s index code) 0) code) _ _
+    (λ _. step-found s (getD index (slotOf s index code) 0 - 1) (declarationAt s (getD index (slotOf s index code) 0 - 1)) refl)
+    (λ _. search-found s (length s) code from))
 
 pub find-somewhere : (s : List ℕ) (from : ℕ) (index : List ℕ) (code : ℕ) (d : Declaration) → findAt s from index code ≡ Found′ d → Somewhere s d
 unfolding FoundLaw

@@ -6,6 +6,7 @@ pub mod Steps
 pub mod Headers
 pub mod ListStarts
 pub mod Specs
+pub mod SlotOrders
 pub mod Declarations
 pub mod Values
 pub mod Streams

@@ -1,16 +1,18 @@
 -- Abbreviation declarations (DWARF 5, 7.5.3; document 01, "Readers": tag, name and form nonzero, within 16 bits and at most three bytes each, children
 -- byte 0 or 1, no code twice, the list closed by code 0).
-use Prim.Native.Nat.{ℕ, suc, _+_, _-_}
+use Prim.Native.Nat.{ℕ, suc, _+_, _-_, _≤_}
 use mathlib.Core.Bool.{Bool, true, false, not}
-use mathlib.Core.List.{List, [], _∷_}
+use mathlib.Core.Path.{_≡_}
+use mathlib.Core.List.{List, [], _∷_, _++_}
 use mathlib.Core.Option.{Option, none, some}
-use lib.ListN.{length, set, getD}
+use lib.ListN.{length, drop, getD}
 use lib.Dec.{ltb, leb, eqb}
 use Rattle.readers.specs.Choice.{pick, check, bind, _and_, zeros}
 use Rattle.readers.specs.Numbers.{uleb, sleb}
 use Rattle.readers.specs.Layout.{short}
 use Rattle.readers.specs.Scan.{Turn, more, stop, bad, Scanned, scan}
 use Rattle.readers.specs.Cursors.{cursor, lebAt, fixedAt}
+use Rattle.readers.specs.Slots.{slotCode, slotOf}
 use Rattle.readers.specs.declared.cursor.Cursor.{Cursor}
 use Rattle.readers.specs.declared.cursor.Number.{Number}
 use Rattle.readers.specs.declared.cursor.Number.the-variants.{Value, Unreadable}
@@ -24,6 +26,8 @@ use Rattle.readers.specs.declared.abbreviations.DeclarationStep.{Declara
 use Rattle.readers.specs.declared.abbreviations.DeclarationStep.the-variants.{Declaration as Declared, Last, Unreadable as NoDeclaration}
 use Rattle.readers.specs.declared.abbreviations.Checked.{Checked}
 use Rattle.readers.specs.declared.abbreviations.Checked.the-variants.{Accepted, Refused}
+use Rattle.readers.specs.declared.abbreviations.Count.{Count}
+use Rattle.readers.specs.declared.abbreviations.Count.the-variants.{Of, Unreadable as Uncounted}
 use Rattle.readers.specs.declared.abbreviations.Found.{Found}
 use Rattle.readers.specs.declared.abbreviations.Found.the-variants.{Declaration as Found′, Nothing}
 
@@ -136,11 +140,32 @@ asChecked (some ds) = Accepted
 unfoldable pub checkedOf : List ℕ → ℕ → Checked
 checkedOf s from = asChecked (abbreviationsOf s from)
 
--- ---- the index: one more than the place of each code's declaration
+-- how many there are
+unfoldable pub countOf : Option (Scanned Placed ℕ) → Count
+countOf none = Uncounted
+countOf (some r) = Of (length (r .0))
 
+-- ---- the index: one more than the place of each declaration, in ascending order of their codes
+
+unfoldable pub insertByCode : Placed → List Placed → List Placed
+insertByCode p [] = p ∷ []
+insertByCode p (d ∷ ds) = pick (ltb (d .1 .code) (p .1 .code)) (d ∷ insertByCode p ds) (p ∷ d ∷ ds)
+
+unfoldable pub byCode : List Placed → List Placed
+byCode [] = []
+byCode (d ∷ ds) = insertByCode d (byCode ds)
+
+unfoldable pub slotsOf : List Placed → List ℕ
+slotsOf [] = []
+slotsOf (d ∷ ds) = (d .0 + 1) ∷ slotsOf ds
+
+-- from l to m the slots of the declarations are written, if there is room for them
+abbrev pub Gathered : List ℕ → ℕ → List ℕ → List ℕ → Type 0
+Gathered s at l m = (ds : List Placed) (e : ℕ) → declarationsFrom s at ≡ some (ds, e) → length ds ≤ length l → m ≡ slotsOf ds ++ drop (length ds) l
+
+-- an index that is too short for the declarations stays as it is
 unfoldable pub indexed : List ℕ → List Placed → List ℕ
-indexed index [] = index
-indexed index (d ∷ ds) = indexed (set index (d .1 .code) (d .0 + 1)) ds
+indexed index ds = pick (leb (length ds) (length index)) (slotsOf (byCode ds) ++ drop (length ds) index) index
 
 unfoldable pub indexFor : ℕ → Option (List Placed) → List ℕ
 indexFor n none = zeros n
@@ -174,8 +199,17 @@ unfoldable pub wholeFound : List ℕ → Found → Found
 wholeFound s (Found′ d) = declarationFound (wholeDeclaration s (Declared d (d .attributes)))
 wholeFound s Nothing = Nothing
 
-unfoldable pub throughIndex : List ℕ → ℕ → Found
-throughIndex s place = pick (eqb place 0) Nothing (declarationFound (declarationAt s (place - 1)))
+-- whether a slot holds the place of a declaration with this code
+unfoldable pub holdsCode : List ℕ → ℕ → ℕ → Bool
+holdsCode s slot code = pick (eqb slot 0) false (eqb (slotCode s slot) code)
 
+-- the declaration whose place a slot holds
+unfoldable pub throughIndex : List ℕ → ℕ → Found
+throughIndex s slot = declarationFound (declarationAt s (slot - 1))
+
+-- at the slot that a code has where they are numbered from 1 on; else at the one where it stands by halves; else by the plain search
 unfoldable pub findAt : List ℕ → ℕ → List ℕ → ℕ → Found
-findAt s from index code = pick (ltb code (length index)) (throughIndex s (getD index code 0)) (searchAt s (length s) code from)
+findAt s from index code =
+    pick (holdsCode s (getD index (code - 1) 0) code) (throughIndex s (getD index (code - 1) 0))
+    (pick (holdsCode s (getD index (slotOf s index code) 0) code) (throughIndex s (getD index (slotOf s index code) 0))
+    (searchAt s (length s) code from))

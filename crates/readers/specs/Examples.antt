@@ -8,7 +8,10 @@ use lib.ListN.{replicate}
 use Rattle.readers.specs.Choice.{pick, check, bind, _and_, _or_}
 use Rattle.readers.specs.Numbers.{groups, below, uleb, unsigned64, sleb, signed64, negative, ordered, littleValue, fixedValue, padded}
 use Rattle.readers.specs.Layout.{short, within16, numberIn, width}
-use Rattle.readers.specs.Cursors.{fixedAt, asFixed}
+use Rattle.readers.specs.Cursors.{fixedAt, asFixed, lebAt, asLebNumber}
+use Rattle.readers.specs.Scan.{push, onTurn, scanWithin, scan}
+use Rattle.readers.specs.Slots.{codeOf, slotCode, slotWithin, slotOf}
+use Rattle.readers.specs.Abbreviations.{numberSpec, implicitSpec, specAt, specTurn, attributesFrom, scannedTo, pastAttributes, numberDeclaration, movedDeclaration, headAt, wholeDeclaration, declarationAt, declarationTurn, declarationsFrom, declaredIn, isFound, distinct, checkDistinct, abbreviationsOf, insertByCode, byCode, slotsOf, indexed, indexFor, indexOf}
 use Rattle.readers.specs.Header.{present, right, encodingOf, headerMade, headerFields, headerOf}
 use Rattle.readers.specs.declared.header.HeaderRead.the-variants.{Empty, Refused}
 
@@ -75,3 +78,17 @@ headers :
     × (headerOf (0x08 ∷ 0 ∷ 0 ∷ 0 ∷ 5 ∷ 0 ∷ 5 ∷ 8 ∷ 0 ∷ 0 ∷ 0 ∷ 0 ∷ []) ≡ Refused 1)
 unfolding headerOf headerFields present right headerMade encodingOf fixedAt asFixed numberIn width fixedValue ordered littleValue pick check _or_
 headers = (refl, refl, refl, refl, refl, refl, refl, refl, refl)
+
+-- ---- the index: declarations with the codes 9, 2 and 5 at 0, 5 and 10 in the order of their codes; zeros where it has no room for them
+
+nine-two-five : List ℕ
+nine-two-five = 9 ∷ 0x34 ∷ 0 ∷ 0 ∷ 0 ∷ 2 ∷ 0x34 ∷ 0 ∷ 0 ∷ 0 ∷ 5 ∷ 0x34 ∷ 0 ∷ 0 ∷ 0 ∷ 0 ∷ []
+
+indices :
+    (indexOf nine-two-five 0 5 ≡ 6 ∷ 11 ∷ 1 ∷ 0 ∷ 0 ∷ [])
+    × (indexOf nine-two-five 0 2 ≡ 0 ∷ 0 ∷ [])
+    × (slotOf nine-two-five (6 ∷ 11 ∷ 1 ∷ 0 ∷ 0 ∷ []) 2 ≡ 0)
+    × (slotOf nine-two-five (6 ∷ 11 ∷ 1 ∷ 0 ∷ 0 ∷ []) 5 ≡ 1)
+    × (slotOf nine-two-five (6 ∷ 11 ∷ 1 ∷ 0 ∷ 0 ∷ []) 9 ≡ 2)
+unfolding nine-two-five indexOf indexFor indexed slotsOf byCode insertByCode abbreviationsOf checkDistinct distinct isFound declaredIn declarationsFrom declarationTurn declarationAt headAt wholeDeclaration movedDeclaration numberDeclaration pastAttributes scannedTo attributesFrom specTurn specAt implicitSpec numberSpec slotOf slotWithin slotCode codeOf scan scanWithin onTurn push lebAt asLebNumber short within16 uleb groups below unsigned64 fixedAt asFixed numberIn width fixedValue ordered littleValue pick check bind _and_ _or_
+indices = (refl, refl, refl, refl, refl)

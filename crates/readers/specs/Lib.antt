@@ -12,6 +12,7 @@ pub mod Steps
 pub mod References
 pub mod Header
 pub mod Lists
+pub mod Slots
 pub mod Abbreviations
 pub mod Entries
 pub mod Stream

@@ -1,12 +1,16 @@
 // Abbreviation declarations (DWARF 5, 7.5.3).
 ghost use mathlib.Core.Path.{_≡_};
-ghost use lib.ListN.{length};
+ghost use Prim.Native.Nat.{_-_};
+ghost use lib.ListN.{length, getD};
 ghost use Rattle.readers.specs.Choice.{zeros};
-ghost use Rattle.readers.specs.Abbreviations.{specAt, implicitSpec, pastAttributes, headAt, declarationAt, searchAt, checkedOf, indexOf, findAt, wholeFound};
+ghost use Rattle.readers.specs.Abbreviations.{specAt, implicitSpec, pastAttributes, headAt, declarationAt, declarationsFrom, searchAt, checkedOf, countOf, Gathered, indexOf, holdsCode, throughIndex, findAt, wholeFound};
 ghost use Rattle.readers.specs.declared.abbreviations.Checked.the-variants.{Accepted};
 use crate::cursor::Cursor;
 use crate::cursor::Moved;
 use crate::cursor::Number;
+use crate::slots::order;
+use crate::slots::slot_code;
+use crate::slots::slot_of;
 use crate::tables::clear;
 
 // An attribute specification: its name, its form, the value of an implicit_const (else 0), and the cursor past it.
@@ -43,6 +47,12 @@ pub enum DeclarationStep {
 pub enum Checked {
     Accepted,
     Refused,
+}
+
+// How many declarations there are.
+enum Count {
+    Of(usize),
+    Unreadable,
 }
 
 pub enum Found {
@@ -192,30 +202,48 @@ impl Cursor {
     }
 }
 
-// Fills an index that holds zeros, up to a declaration that is unreadable or has a code that was declared before.
-fn fill_index(s: &[u8], start: usize, index: &mut [u64]) -> Checked
-    requires { ⌜ now index ≡ zeros (length (now index)) ⌝ }
-    ensures answer { λ r. ⌜ r ≡ checkedOf (now (s .entry)) start ⌝ }
-    ensures filled { λ r. ⌜ (r ≡ Accepted → now (index .exit) ≡ indexOf (now (s .entry)) start (length (now (index .entry)))) ⌝ }
+// Writes one more than the place of each declaration into the slots of an index, in their order, as far as there is room, and counts them.
+fn gather(s: &[u8], start: usize, index: &mut [u64]) -> Count
+    ensures counted { λ r. ⌜ r ≡ countOf (declarationsFrom (now (s .entry)) start) ⌝ }
+    ensures gathered { λ r. ⌜ Gathered (now (s .entry)) start (now (index .entry)) (now (index .exit)) ⌝ }
+{
+    let mut at = start;
+    let mut count: usize = 0;
+    loop {
+        match (Cursor { at }).declaration(s) {
+            DeclarationStep::Declaration(_, next) => {
+                if count < index.len() {
+                    index[count] = (at as u64) + 1;
+                    count += 1;
+                    at = next.at;
+                } else {
+                    count += 1;
+                    at = next.at;
+                }
+            }
+            DeclarationStep::Last(_) => {
+                return Count::Of(count);
+            }
+            DeclarationStep::Unreadable => {
+                return Count::Unreadable;
+            }
+        }
+    }
+}
+
+// Whether the declarations can be read and no code is declared twice, by a search for each: as many steps as the square of their number. Only for an
+// index that is too short for them.
+fn check_plain(s: &[u8], start: usize) -> Checked
+    ensures { λ r. ⌜ r ≡ checkedOf (now (s .entry)) start ⌝ }
 {
     let mut at = start;
     loop {
         match (Cursor { at }).declaration(s) {
             DeclarationStep::Declaration(d, next) => {
-                let code = d.code;
-                if code < (index.len() as u64) {
-                    let i = code as usize;
-                    if index[i] != 0 {
-                        return Checked::Refused;
-                    }
-                    index[i] = (at as u64) + 1;
-                    at = next.at;
-                } else {
-                    if let Found::Declaration(_) = (Cursor { at: start }).search(s, at, code) {
-                        return Checked::Refused;
-                    }
-                    at = next.at;
+                if let Found::Declaration(_) = (Cursor { at: start }).search(s, at, d.code) {
+                    return Checked::Refused;
                 }
+                at = next.at;
             }
             DeclarationStep::Last(_) => {
                 return Checked::Accepted;
@@ -227,8 +255,24 @@ fn fill_index(s: &[u8], start: usize, index: &mut [u64]) -> Checked
     }
 }
 
-// Checks the whole list of declarations that starts at an offset, and fills an index of them: at each code below the index's length one more than the
-// place of its declaration, or 0. A list that is refused leaves zeros.
+// Fills an index that holds zeros, as far as the declarations are accepted.
+fn fill_index(s: &[u8], start: usize, index: &mut [u64]) -> Checked
+    requires { ⌜ now index ≡ zeros (length (now index)) ⌝ }
+    ensures answer { λ r. ⌜ r ≡ checkedOf (now (s .entry)) start ⌝ }
+    ensures filled { λ r. ⌜ (r ≡ Accepted → now (index .exit) ≡ indexOf (now (s .entry)) start (length (now (index .entry)))) ⌝ }
+{
+    let Count::Of(count) = gather(s, start, index) else {
+        return Checked::Refused;
+    };
+    if count > index.len() {
+        clear(index);
+        return check_plain(s, start);
+    }
+    order(s, &mut index[..count])
+}
+
+// Checks the whole list of declarations that starts at an offset, and fills an index of them: one more than the place of each, in ascending order of
+// their codes, then zeros. An index with fewer numbers than there are declarations holds zeros alone, and so does one of a list that is refused.
 pub fn check_abbreviations(s: &[u8], from: u64, index: &mut [u64]) -> Checked
     ensures answer { λ r. ⌜ r ≡ checkedOf (now (s .entry)) from ⌝ }
     ensures filled { λ r. ⌜ now (index .exit) ≡ indexOf (now (s .entry)) from (length (now (index .entry))) ⌝ }
@@ -243,24 +287,58 @@ pub fn check_abbreviations(s: &[u8], from: u64, index: &mut [u64]) -> Checked
     }
 }
 
-// The declaration with a code, through the index where the code is below its length, else by search. Its head alone is read: whoever reads an entry's values reads the attribute specifications, and
-// finds out whether that is possible.
+// Whether a slot holds the place of a declaration with this code.
+fn holds_code(s: &[u8], slot: u64, code: u64) -> bool
+    ensures { λ r. ⌜ r ≡ holdsCode (now (s .entry)) slot code ⌝ }
+{
+    if slot == 0 {
+        return false;
+    }
+    slot_code(s, slot) == code
+}
+
+// A slot of the index; an empty one past its end.
+fn slot_at(index: &[u64], i: usize) -> u64
+    ensures { λ r. ⌜ r ≡ getD (now (index .entry)) i 0 ⌝ }
+{
+    if i < index.len() {
+        return index[i];
+    }
+    0
+}
+
+// The number before a number; before 0 there is none, and it stays.
+fn number_before(n: u64) -> usize
+    ensures { λ r. ⌜ r ≡ n - 1 ⌝ }
+{
+    if n == 0 { 0 } else { (n - 1) as usize }
+}
+
+// The declaration whose place a slot holds, by its head.
+fn head_in(s: &[u8], slot: u64) -> Found
+    ensures { λ r. ⌜ wholeFound (now (s .entry)) r ≡ throughIndex (now (s .entry)) slot ⌝ }
+{
+    let at = number_before(slot);
+    match (Cursor { at }).head(s) {
+        DeclarationStep::Declaration(d, _) => Found::Declaration(d),
+        DeclarationStep::Last(_) => Found::Nothing,
+        DeclarationStep::Unreadable => Found::Nothing,
+    }
+}
+
+// The declaration with a code: through the slot that it has where compilers number from 1 on, else through the one that a search by halves ends at,
+// else by the plain search, which is left for a code that is not declared and for an index that is too short. Its head alone is read: whoever reads an
+// entry's values reads the attribute specifications, and finds out whether that is possible.
 pub fn find_declaration(s: &[u8], from: u64, index: &[u64], code: u64) -> Found
     ensures { λ r. ⌜ wholeFound (now (s .entry)) r ≡ findAt (now (s .entry)) from (now (index .entry)) code ⌝ }
 {
-    if code < (index.len() as u64) {
-        let i = code as usize;
-        let place = index[i];
-        if place == 0 {
-            return Found::Nothing;
-        }
-        return match (Cursor {
-            at: (place - 1) as usize,
-        }).head(s) {
-            DeclarationStep::Declaration(d, _) => Found::Declaration(d),
-            DeclarationStep::Last(_) => Found::Nothing,
-            DeclarationStep::Unreadable => Found::Nothing,
-        };
+    let guess = slot_at(index, number_before(code));
+    if holds_code(s, guess, code) {
+        return head_in(s, guess);
+    }
+    let slot = slot_at(index, slot_of(s, index, code));
+    if holds_code(s, slot, code) {
+        return head_in(s, slot);
     }
     (Cursor { at: from as usize }).search(s, s.len(), code)
 }

@@ -9,4 +9,5 @@ pub mod header;
 pub mod lists;
 pub mod offsets;
 pub mod operations;
+mod slots;
 pub mod tables;

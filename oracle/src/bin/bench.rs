@@ -30,8 +30,6 @@ extern "C" {
 /// Entries and references of the C call's own tables, and bytes of the counts.
 const OWN: (usize, usize) = (2048, 8192);
 const COUNTS: usize = 59;
-/// Declarations of an index that a host would lend where codes are too high for one of their length.
-const INDEX: usize = 1024;
 /// A call that would take longer is not made.
 const LONGEST: f64 = 10e9;
 /// A measurement repeats the call until it takes so long.
@@ -84,8 +82,6 @@ fn stack(call: &mut dyn FnMut()) -> usize {
 struct Sizes {
     entries: usize,
     items: usize,
-    /// The highest code in use.
-    code: u64,
     /// How many numbers the unit has for ranges, locations and strings.
     lists: [usize; 3],
 }
@@ -94,14 +90,13 @@ fn sizes_of(parts: &Parts) -> gimli::Result<Sizes> {
     let reader = |i: usize| gimli::EndianSlice::new(&parts[i], gimli::RunTimeEndian::Little);
     let header = gimli::DebugInfo::from(reader(0)).units().next()?.ok_or(gimli::Error::MissingUnitDie)?;
     let table = header.abbreviations(&gimli::DebugAbbrev::from(reader(1)))?;
-    let mut found = Sizes { entries: 0, items: 0, code: 0, lists: [0; 3] };
+    let mut found = Sizes { entries: 0, items: 0, lists: [0; 3] };
     let mut lists: [BTreeSet<usize>; 3] = Default::default();
     let mut entries = header.entries_raw(&table, None)?;
     while !entries.is_empty() {
         found.items += 1;
         let Some(abbreviation) = entries.read_abbreviation()? else { continue };
         found.entries += 1;
-        found.code = found.code.max(abbreviation.code());
         for spec in abbreviation.attributes() {
             match entries.read_attribute(*spec)?.raw_value() {
                 gimli::AttributeValue::DebugRngListsIndex(i) => lists[0].insert(i.0),
@@ -133,11 +128,12 @@ struct Lent {
 }
 
 impl Lent {
-    /// Tables of the unit's size; a map of all its items; an output as long as the section.
+    /// Tables of the unit's size; an index of as many declarations as its abbreviations have room for; a map of all its items; an output as long as
+    /// the section.
     fn new(parts: &Parts, sizes: &Sizes, references: usize) -> Self {
         let n = sizes.entries;
         Lent {
-            index: vec![0; if sizes.code < 1 << 30 { sizes.code as usize + 1 } else { INDEX }],
+            index: vec![0; parts[1].len() / 5 + 1],
             offsets: vec![0; n],
             parents: vec![0; n],
             roots: vec![0; n],
