@@ -51,6 +51,7 @@ pub mod Held
 pub mod EntryIndices
 pub mod IndexTurns
 pub mod Holdings
+pub mod SortedLists
 pub mod Declaring
 pub mod CollectTurns
 pub mod ListAnswers

@@ -1,7 +1,7 @@
 -- An index list is ascending and holds exactly the numbers that were put into it; a number's rank is its place.
 use Prim.Native.Nat.{ℕ, suc, _≤_, _<_}
 use mathlib.Core.Path.{_≡_, refl, sym}
-use mathlib.Core.List.{List, [], _∷_}
+use mathlib.Core.List.{List, [], _∷_, _++_}
 use mathlib.Core.Logic.{_⊎_, inl, inr, ⊎-elim, _↔_}
 use native.Mathlib.Omega.{arith}
 use lib.ListN.{length, getD}
@@ -135,3 +135,27 @@ module _ (xs : List ℕ) (v : ℕ) (f : Ascending xs) (m : Member v xs) where
 
   pub rank-place : getD xs (rankIn xs v) 0 ≡ v
   rank-place = ranked-from 0 v xs f m .placed
+
+-- ---- insertion, one number after the others
+
+pub insert-grows : (v : ℕ) (xs : List ℕ) → length xs ≤ length (insert v xs)
+unfolding insert
+insert-grows v [] = omega arith
+insert-grows v (x ∷ xs) =
+    pick-either (λ (l : List ℕ). length (x ∷ xs) ≤ length l) (ltb v x) (v ∷ x ∷ xs) (pick (eqb v x) (x ∷ xs) (x ∷ insert v xs))
+    (λ t. omega arith)
+    (λ t. pick-either (λ (l : List ℕ). length (x ∷ xs) ≤ length l) (eqb v x) (x ∷ xs) (x ∷ insert v xs) (λ u. omega arith) (λ u. omega (arith, insert-grows v xs)))
+
+pub all-grow : (vs xs : List ℕ) → length xs ≤ length (insertAll vs xs)
+unfolding insertAll
+all-grow [] xs = omega arith
+all-grow (v ∷ vs) xs = omega (arith, insert-grows v xs, all-grow vs (insert v xs))
+
+pub all-append : (vs ws xs : List ℕ) → insertAll (vs ++ ws) xs ≡ insertAll ws (insertAll vs xs)
+unfolding insertAll
+all-append [] ws xs = refl
+all-append (v ∷ vs) ws xs = all-append vs ws (insert v xs)
+
+pub all-more : (vs : List ℕ) (v : ℕ) → insertAll (vs ++ (v ∷ [])) [] ≡ insert v (insertAll vs [])
+unfolding insertAll
+all-more vs v = all-append vs (v ∷ []) []

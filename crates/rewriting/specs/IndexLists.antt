@@ -1,7 +1,7 @@
 -- What the functions of the index lists answer.
 use mathlib.Core.Path.{_≡_}
 use Prim.Native.Nat.{ℕ, _/_, _^_, _≤_, _<_}
-use mathlib.Core.Bool.{Bool, false}
+use mathlib.Core.Bool.{Bool, true, false}
 use mathlib.Core.List.{List, [], _∷_, _++_}
 use mathlib.Core.Option.{Option, none, some}
 use lib.ListN.{length, drop}
@@ -23,7 +23,13 @@ use Rattle.rewriting.specs.Places.{Standing, keptFrom, offsetOf}
 use Rattle.rewriting.specs.Parents.{parentsFrom, HoldsFrom}
 use Rattle.rewriting.specs.NextKept.{itemsBy}
 use Rattle.rewriting.specs.Written.{ListHeld}
+use Rattle.rewriting.specs.Gathering.{Gathered}
 use Rattle.rewriting.specs.declared.kept.Reading.{Reading}
+use Rattle.rewriting.specs.declared.indices.Lengths.{Lengths}
+use Rattle.rewriting.specs.declared.indices.ListFinished.{ListFinished}
+use Rattle.rewriting.specs.declared.indices.ListFinished.the-variants.{Length, Unsure}
+use Rattle.rewriting.specs.declared.indices.ListsFinished.{ListsFinished}
+use Rattle.rewriting.specs.declared.indices.ListsFinished.the-variants.{All, Unsure as Unsure′}
 use Rattle.rewriting.specs.declared.lists.ListCount.{ListCount}
 use Rattle.rewriting.specs.declared.lists.ListCount.the-variants.{Present, Absent}
 
@@ -65,13 +71,24 @@ pub record Filled (ys list : List ℕ) (count : ℕ) (after : List ℕ) : Type 0
   pub holds : length ys ≤ length list / 8 → ListHeld ys after
   pub short : length list / 8 < length ys → length list / 8 < count
 
--- a list that some values were put into, one after the other
-pub record Holding (vs : List ℕ) (count : ℕ) (list : List ℕ) : Type 0 where
-  pub filled : Filled (insertAll vs []) list count list
+-- a list that some values were put into, one after the other: each in its place, or gathered in any order
+pub record Holding (ordered : Bool) (vs : List ℕ) (count : ℕ) (list : List ℕ) : Type 0 where
+  pub filled : ordered ≡ true → Filled (insertAll vs []) list count list
+  pub gathered : ordered ≡ false → Gathered vs list count
 
 -- these values were put into it, after whatever was
-abbrev pub PutsOn : List ℕ → ℕ → List ℕ → ℕ → List ℕ → Type 0
-PutsOn ws count list count′ list′ = (vs : List ℕ) → Holding vs count list → Holding (vs ++ ws) count′ list′
+abbrev pub PutsOn : Bool → List ℕ → ℕ → List ℕ → ℕ → List ℕ → Type 0
+PutsOn ordered ws count list count′ list′ = (vs : List ℕ) → Holding ordered vs count list → Holding ordered (vs ++ ws) count′ list′
+
+-- a gathered list that was finished: how many numbers it has, and which; nothing is said where it is not certain
+unfoldable pub FinishedTo : List ℕ → List ℕ → ListFinished → List ℕ → Type 0
+FinishedTo ys list (Length n) after = Filled ys list n after
+FinishedTo ys list Unsure after = Unit {0}
+
+-- one of three
+unfoldable pub FinishedIn : (Lengths → ℕ) → List ℕ → List ℕ → ListsFinished → List ℕ → Type 0
+FinishedIn length-of ys list (All n) after = Filled ys list (length-of n) after
+FinishedIn length-of ys list Unsure′ after = Unit {0}
 
 -- ---- a unit as the code reads it
 
@@ -105,10 +122,22 @@ pub record Passable (x : Sections) (u : Unit′) (r : Reading) (abbreviations ta
 
 -- ---- one list
 
--- what a pass leaves in the list of a kind
+-- what a pass puts into the list of a kind
+abbrev pub Gathers : ℕ → Bool → Reading → List ℕ → List ℕ → List ℕ → List ℕ → List ℕ → ℕ → List ℕ → ℕ → List ℕ → Type 0
+Gathers k ordered r abbreviations table unit parents marks first list count after =
+    (x : Sections) (u : Unit′) → Passable x u r abbreviations table unit parents marks first → ListHeld [] list
+    → Holding ordered (indicesFrom x u k (keptFrom marks 0 [] (itemsBy r abbreviations table unit first))) count after
+
+-- what the list of a kind is at the end
 abbrev pub Listing : ℕ → Reading → List ℕ → List ℕ → List ℕ → List ℕ → List ℕ → ℕ → List ℕ → ℕ → List ℕ → Type 0
 Listing k r abbreviations table unit parents marks first list count after =
     (x : Sections) (u : Unit′) → Passable x u r abbreviations table unit parents marks first → ListHeld [] list
+    → Filled (insertAll (indicesFrom x u k (keptFrom marks 0 [] (itemsBy r abbreviations table unit first))) []) list count after
+
+-- the same of a list that may hold anything before
+abbrev pub Refilling : ℕ → Reading → List ℕ → List ℕ → List ℕ → List ℕ → List ℕ → ℕ → List ℕ → ℕ → List ℕ → Type 0
+Refilling k r abbreviations table unit parents marks first list count after =
+    (x : Sections) (u : Unit′) → Passable x u r abbreviations table unit parents marks first
     → Filled (insertAll (indicesFrom x u k (keptFrom marks 0 [] (itemsBy r abbreviations table unit first))) []) list count after
 
 -- where an entry declares the attribute of a name; a list without such an attribute has the name 0

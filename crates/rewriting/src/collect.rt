@@ -12,9 +12,9 @@ ghost use Rattle.rewriting.specs.Emission.{Lends};
 ghost use Rattle.rewriting.specs.Outputs.{roomBy, roomOf, listCount, answerFor, mapFor, listFor, outputFor, rangesIn, locationsIn, stringsIn};
 ghost use Rattle.rewriting.specs.Leaving.{Answers, ownUnit, Tabled, Blank, markedOf, ListsAnswer, Writable, WriteAnswer};
 use crate::emit::Emitted;
-use crate::indices::gather;
 use crate::indices::is_short;
 use crate::indices::settle;
+use crate::indices::sorted_lists;
 use crate::kept::Reading;
 use crate::lists::ListCount;
 use crate::passes::place_items;
@@ -132,7 +132,7 @@ fn index_lists(
             strings: ListCount::Absent,
         };
     }
-    let g = gather(
+    let g = sorted_lists(
         unit,
         abbreviations,
         r,

@@ -8,11 +8,15 @@ ghost use Rattle.readers.specs.Choice.{pick, zeros};
 ghost use Rattle.readers.specs.Abbreviations.{Placed, abbreviationsOf};
 ghost use Rattle.marking.specs.Roots.{specsFrom, entryValues};
 ghost use Rattle.marking.specs.Analysis.{Sections};
-ghost use Rattle.rewriting.specs.Indices.{declares, specsDeclare, tableDeclares};
+ghost use Rattle.rewriting.specs.Gathering.{Gathered};
+ghost use Rattle.rewriting.specs.Indices.{insertAll, declares, specsDeclare, tableDeclares};
 ghost use Rattle.rewriting.specs.Rewriting.{Unit as Unit′, anyDeclares};
 ghost use Rattle.rewriting.specs.NextKept.{itemsBy};
-ghost use Rattle.rewriting.specs.IndexLists.{kindIndex, valueIndices, Filled, PutsOn, ReadAs, Found, Listing, isAbsent, ListAnswer, isShort};
+ghost use Rattle.rewriting.specs.IndexLists.{kindIndex, valueIndices, Filled, PutsOn, FinishedTo, FinishedIn, ReadAs, Found, Gathers, Listing, Refilling, isAbsent, ListAnswer, isShort};
 use crate::emit::list_of;
+use crate::gathering::Finished;
+use crate::gathering::add;
+use crate::gathering::finish;
 use crate::kept::KeptStep;
 use crate::kept::Reading;
 use crate::kept::Stand;
@@ -109,57 +113,61 @@ fn any_declares(
 }
 
 // How many numbers each list has, more than it has room for where it is too short.
-pub struct Gathered {
+pub struct Lengths {
     pub ranges: usize,
     pub locations: usize,
     pub strings: usize,
 }
 
-// One value more in a list. One that is too short stays so.
-fn put_index(list: &mut [u8], count: usize, value: u64) -> usize
-    ensures { λ n. ⌜ PutsOn (value ∷ []) count (now (list .entry)) n (now (list .exit)) ⌝ }
+// One value more in a list: in its place where ordered, else at the end of what is gathered. A list that is too short stays so.
+fn put_index(list: &mut [u8], count: usize, value: u64, ordered: bool) -> usize
+    ensures { λ n. ⌜ PutsOn ordered (value ∷ []) count (now (list .entry)) n (now (list .exit)) ⌝ }
 {
-    if count > room(list) {
-        return count;
+    if ordered {
+        if count > room(list) {
+            return count;
+        }
+        return insert(list, count, value);
     }
-    insert(list, count, value)
+    add(list, count, value)
 }
 
 // One value more in the list of a kind: 0 ranges, 1 locations, 2 strings, 3 none.
 fn put_by_kind(
     kind: u8,
     value: u64,
+    ordered: bool,
     range_list: &mut [u8],
     location_list: &mut [u8],
     string_list: &mut [u8],
-    g: Gathered,
-) -> Gathered
-    ensures ranges { λ n. ⌜ PutsOn (kindIndex 0 kind value) (g .ranges) (now («range_list» .entry)) (n .ranges) (now («range_list» .exit)) ⌝ }
-    ensures locations { λ n. ⌜ PutsOn (kindIndex 1 kind value) (g .locations) (now («location_list» .entry)) (n .locations) (now («location_list» .exit)) ⌝ }
-    ensures strings { λ n. ⌜ PutsOn (kindIndex 2 kind value) (g .strings) (now («string_list» .entry)) (n .strings) (now («string_list» .exit)) ⌝ }
+    g: Lengths,
+) -> Lengths
+    ensures ranges { λ n. ⌜ PutsOn ordered (kindIndex 0 kind value) (g .ranges) (now («range_list» .entry)) (n .ranges) (now («range_list» .exit)) ⌝ }
+    ensures locations { λ n. ⌜ PutsOn ordered (kindIndex 1 kind value) (g .locations) (now («location_list» .entry)) (n .locations) (now («location_list» .exit)) ⌝ }
+    ensures strings { λ n. ⌜ PutsOn ordered (kindIndex 2 kind value) (g .strings) (now («string_list» .entry)) (n .strings) (now («string_list» .exit)) ⌝ }
 {
     let ranges = g.ranges;
     let locations = g.locations;
     let strings = g.strings;
     if kind == 0 {
-        return Gathered {
-            ranges: put_index(range_list, ranges, value),
+        return Lengths {
+            ranges: put_index(range_list, ranges, value, ordered),
             locations,
             strings,
         };
     }
     if kind == 1 {
-        return Gathered {
+        return Lengths {
             ranges,
-            locations: put_index(location_list, locations, value),
+            locations: put_index(location_list, locations, value, ordered),
             strings,
         };
     }
     if kind == 2 {
-        return Gathered {
+        return Lengths {
             ranges,
             locations,
-            strings: put_index(string_list, strings, value),
+            strings: put_index(string_list, strings, value, ordered),
         };
     }
     g
@@ -172,14 +180,15 @@ fn entry_gather(
     specs: Cursor,
     values: Cursor,
     e: Encoding,
+    ordered: bool,
     range_list: &mut [u8],
     location_list: &mut [u8],
     string_list: &mut [u8],
-    counts: Gathered,
-) -> Gathered
-    ensures ranges { λ n. ⌜ PutsOn (valueIndices 0 (entryValues e (now (abbreviations .entry)) (specs .at) (now (unit .entry)) (values .at))) (counts .ranges) (now («range_list» .entry)) (n .ranges) (now («range_list» .exit)) ⌝ }
-    ensures locations { λ n. ⌜ PutsOn (valueIndices 1 (entryValues e (now (abbreviations .entry)) (specs .at) (now (unit .entry)) (values .at))) (counts .locations) (now («location_list» .entry)) (n .locations) (now («location_list» .exit)) ⌝ }
-    ensures strings { λ n. ⌜ PutsOn (valueIndices 2 (entryValues e (now (abbreviations .entry)) (specs .at) (now (unit .entry)) (values .at))) (counts .strings) (now («string_list» .entry)) (n .strings) (now («string_list» .exit)) ⌝ }
+    counts: Lengths,
+) -> Lengths
+    ensures ranges { λ n. ⌜ PutsOn ordered (valueIndices 0 (entryValues e (now (abbreviations .entry)) (specs .at) (now (unit .entry)) (values .at))) (counts .ranges) (now («range_list» .entry)) (n .ranges) (now («range_list» .exit)) ⌝ }
+    ensures locations { λ n. ⌜ PutsOn ordered (valueIndices 1 (entryValues e (now (abbreviations .entry)) (specs .at) (now (unit .entry)) (values .at))) (counts .locations) (now («location_list» .entry)) (n .locations) (now («location_list» .exit)) ⌝ }
+    ensures strings { λ n. ⌜ PutsOn ordered (valueIndices 2 (entryValues e (now (abbreviations .entry)) (specs .at) (now (unit .entry)) (values .at))) (counts .strings) (now («string_list» .entry)) (n .strings) (now («string_list» .exit)) ⌝ }
 {
     let mut p = specs.at;
     let mut from = values.at;
@@ -200,6 +209,7 @@ fn entry_gather(
         g = put_by_kind(
             list_of(v.form),
             field.value,
+            ordered,
             range_list,
             location_list,
             string_list,
@@ -210,8 +220,8 @@ fn entry_gather(
     }
 }
 
-// The indices of the kept entries, each in its list.
-pub fn gather(
+// The indices of the kept entries, each put into its list.
+fn gather(
     unit: &[u8],
     abbreviations: &[u8],
     r: Reading,
@@ -219,20 +229,21 @@ pub fn gather(
     parents: &[u32],
     marks: &[u8],
     first: usize,
+    ordered: bool,
     range_list: &mut [u8],
     location_list: &mut [u8],
     string_list: &mut [u8],
-) -> Gathered
-    ensures ranges { λ n. ⌜ Listing 0 r (now (abbreviations .entry)) (now (index .entry)) (now (unit .entry)) (now (parents .entry)) (now (marks .entry)) first (now («range_list» .entry)) (n .ranges) (now («range_list» .exit)) ⌝ }
-    ensures locations { λ n. ⌜ Listing 1 r (now (abbreviations .entry)) (now (index .entry)) (now (unit .entry)) (now (parents .entry)) (now (marks .entry)) first (now («location_list» .entry)) (n .locations) (now («location_list» .exit)) ⌝ }
-    ensures strings { λ n. ⌜ Listing 2 r (now (abbreviations .entry)) (now (index .entry)) (now (unit .entry)) (now (parents .entry)) (now (marks .entry)) first (now («string_list» .entry)) (n .strings) (now («string_list» .exit)) ⌝ }
+) -> Lengths
+    ensures ranges { λ n. ⌜ Gathers 0 ordered r (now (abbreviations .entry)) (now (index .entry)) (now (unit .entry)) (now (parents .entry)) (now (marks .entry)) first (now («range_list» .entry)) (n .ranges) (now («range_list» .exit)) ⌝ }
+    ensures locations { λ n. ⌜ Gathers 1 ordered r (now (abbreviations .entry)) (now (index .entry)) (now (unit .entry)) (now (parents .entry)) (now (marks .entry)) first (now («location_list» .entry)) (n .locations) (now («location_list» .exit)) ⌝ }
+    ensures strings { λ n. ⌜ Gathers 2 ordered r (now (abbreviations .entry)) (now (index .entry)) (now (unit .entry)) (now (parents .entry)) (now (marks .entry)) first (now («string_list» .entry)) (n .strings) (now («string_list» .exit)) ⌝ }
 {
     let mut s = Stand {
         at: first,
         count: 0,
         nesting: Nesting::outside(),
     };
-    let mut g = Gathered {
+    let mut g = Lengths {
         ranges: 0,
         locations: 0,
         strings: 0,
@@ -250,12 +261,145 @@ pub fn gather(
                 x.specs,
                 x.values,
                 r.encoding,
+                ordered,
                 range_list,
                 location_list,
                 string_list,
                 g,
             );
         }
+    }
+}
+
+// The same, each value in its place, whatever the lists held.
+fn gather_in_order(
+    unit: &[u8],
+    abbreviations: &[u8],
+    r: Reading,
+    index: &[u64],
+    parents: &[u32],
+    marks: &[u8],
+    first: usize,
+    range_list: &mut [u8],
+    location_list: &mut [u8],
+    string_list: &mut [u8],
+) -> Lengths
+    ensures ranges { λ n. ⌜ Refilling 0 r (now (abbreviations .entry)) (now (index .entry)) (now (unit .entry)) (now (parents .entry)) (now (marks .entry)) first (now («range_list» .entry)) (n .ranges) (now («range_list» .exit)) ⌝ }
+    ensures locations { λ n. ⌜ Refilling 1 r (now (abbreviations .entry)) (now (index .entry)) (now (unit .entry)) (now (parents .entry)) (now (marks .entry)) first (now («location_list» .entry)) (n .locations) (now («location_list» .exit)) ⌝ }
+    ensures strings { λ n. ⌜ Refilling 2 r (now (abbreviations .entry)) (now (index .entry)) (now (unit .entry)) (now (parents .entry)) (now (marks .entry)) first (now («string_list» .entry)) (n .strings) (now («string_list» .exit)) ⌝ }
+{
+    clear_bytes(range_list);
+    clear_bytes(location_list);
+    clear_bytes(string_list);
+    gather(
+        unit,
+        abbreviations,
+        r,
+        index,
+        parents,
+        marks,
+        first,
+        true,
+        range_list,
+        location_list,
+        string_list,
+    )
+}
+
+// How many numbers a gathered list has, as above. Unsure: it was not in order.
+pub enum ListFinished {
+    Length(usize),
+    Unsure,
+}
+
+// How many each of the three has.
+pub enum ListsFinished {
+    All(Lengths),
+    Unsure,
+}
+
+// A gathered list as an index list.
+fn finish_list(list: &mut [u8], count: usize) -> ListFinished
+    ensures { λ r. ⌜ ((vs : List ℕ) → Gathered vs (now (list .entry)) count → FinishedTo (insertAll vs []) (now (list .entry)) r (now (list .exit))) ⌝ }
+{
+    match finish(list, count) {
+        Finished::Done(n) => ListFinished::Length(n),
+        Finished::Short => ListFinished::Length(room(list) + 1),
+        Finished::Unsure => ListFinished::Unsure,
+    }
+}
+
+// The three.
+fn finish_lists(
+    range_list: &mut [u8],
+    location_list: &mut [u8],
+    string_list: &mut [u8],
+    g: Lengths,
+) -> ListsFinished
+    ensures ranges { λ r. ⌜ ((vs : List ℕ) → Gathered vs (now («range_list» .entry)) (g .ranges) → FinishedIn (λ n. n .ranges) (insertAll vs []) (now («range_list» .entry)) r (now («range_list» .exit))) ⌝ }
+    ensures locations { λ r. ⌜ ((vs : List ℕ) → Gathered vs (now («location_list» .entry)) (g .locations) → FinishedIn (λ n. n .locations) (insertAll vs []) (now («location_list» .entry)) r (now («location_list» .exit))) ⌝ }
+    ensures strings { λ r. ⌜ ((vs : List ℕ) → Gathered vs (now («string_list» .entry)) (g .strings) → FinishedIn (λ n. n .strings) (insertAll vs []) (now («string_list» .entry)) r (now («string_list» .exit))) ⌝ }
+{
+    let ListFinished::Length(ranges) = finish_list(range_list, g.ranges) else {
+        return ListsFinished::Unsure;
+    };
+    let ListFinished::Length(locations) = finish_list(location_list, g.locations) else {
+        return ListsFinished::Unsure;
+    };
+    let ListFinished::Length(strings) = finish_list(string_list, g.strings) else {
+        return ListsFinished::Unsure;
+    };
+    ListsFinished::All(Lengths {
+        ranges,
+        locations,
+        strings,
+    })
+}
+
+// The indices of the kept entries as index lists: gathered in any order and sorted, and in order from the start where the sorted lists turn out not to be.
+pub fn sorted_lists(
+    unit: &[u8],
+    abbreviations: &[u8],
+    r: Reading,
+    index: &[u64],
+    parents: &[u32],
+    marks: &[u8],
+    first: usize,
+    range_list: &mut [u8],
+    location_list: &mut [u8],
+    string_list: &mut [u8],
+) -> Lengths
+    ensures ranges { λ n. ⌜ Listing 0 r (now (abbreviations .entry)) (now (index .entry)) (now (unit .entry)) (now (parents .entry)) (now (marks .entry)) first (now («range_list» .entry)) (n .ranges) (now («range_list» .exit)) ⌝ }
+    ensures locations { λ n. ⌜ Listing 1 r (now (abbreviations .entry)) (now (index .entry)) (now (unit .entry)) (now (parents .entry)) (now (marks .entry)) first (now («location_list» .entry)) (n .locations) (now («location_list» .exit)) ⌝ }
+    ensures strings { λ n. ⌜ Listing 2 r (now (abbreviations .entry)) (now (index .entry)) (now (unit .entry)) (now (parents .entry)) (now (marks .entry)) first (now («string_list» .entry)) (n .strings) (now («string_list» .exit)) ⌝ }
+{
+    let g = gather(
+        unit,
+        abbreviations,
+        r,
+        index,
+        parents,
+        marks,
+        first,
+        false,
+        range_list,
+        location_list,
+        string_list,
+    );
+    match finish_lists(range_list, location_list, string_list, g) {
+        ListsFinished::All(n) => n,
+        ListsFinished::Unsure => gather_in_order(
+            unit,
+            abbreviations,
+            r,
+            index,
+            parents,
+            marks,
+            first,
+            range_list,
+            location_list,
+            string_list,
+        ),
     }
 }
 
