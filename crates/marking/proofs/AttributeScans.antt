@@ -8,7 +8,10 @@ use lib.ListN.{length, set}
 use lib.Dec.{leb}
 use borrow.Author.Tests.{eq-eqb, ne-eqb, le-leb, lt-leb}
 use Rattle.readers.specs.Choice.{pick, _and_}
+use Rattle.readers.specs.Abbreviations.{specAt}
+use Rattle.readers.specs.Entries.{valuesAt}
 use Rattle.readers.specs.Lists.{listOffset, listStart}
+use Rattle.readers.specs.declared.cursor.Moved.{Moved}
 use Rattle.readers.specs.declared.cursor.Encoding.{Encoding}
 use Rattle.readers.specs.declared.lists.ListOffset.{ListOffset}
 use Rattle.marking.specs.Roots.{Valued, entryValues, nextAttribute}
@@ -16,10 +19,12 @@ use Rattle.marking.specs.EntryReferences.{Found, found, refused, after, 
 use Rattle.marking.specs.declared.root_test.EntryAttribute.{EntryAttribute}
 use Rattle.marking.specs.declared.root_test.NextAttribute.{NextAttribute}
 use Rattle.marking.specs.declared.root_test.NextAttribute.the-variants.{More, NoMore}
-use Rattle.marking.proofs.Attributes.{stepped, no-more}
-use Rattle.marking.specs.ReferenceTable.{nextPlace, written, valuedBy}
+use Rattle.marking.proofs.Attributes.{stepped, no-more, stop-end}
+use Rattle.marking.specs.ReferenceTable.{nextPlace, written, tableAfter, scannedTo, entryScanned, endBy, valuedBy}
 use Rattle.marking.specs.declared.references.Scanned.{Scanned}
 use Rattle.marking.specs.declared.references.Scanned.the-variants.{To, Refused}
+use Rattle.marking.specs.declared.references.EntryScan.{EntryScan}
+use Rattle.marking.specs.declared.references.EntryScan.the-variants.{Through, Refused as Refused′}
 use Rattle.marking.proofs.Placing.{Put, put-none, put-one, put-size}
 use Rattle.marking.proofs.Founds.{Scans, scans-same, scans-none, scans-no, scans-put, scans-refused, Onto, onto, Broken, broken, after-none, after-after}
 
@@ -113,31 +118,46 @@ module _ (e : Encoding) (l : Locations) (a : Valued) (table : List ℕ) (at : �
 
 -- ---- the loop over the attributes: what is in the table, and what is found from here on
 
+-- a scan whose values end there
+abbrev EntryScans : List ℕ → ℕ → Found → Moved → EntryScan → List ℕ → Type 0
+EntryScans table at f end w table′ = (w ≡ entryScanned (scannedTo (length table) at f) end) × (table′ ≡ tableAfter table at f)
+
 pub record Scanning (e : Encoding) (l : Locations) (s table₀ : List ℕ) (p₀ from₀ at : ℕ) (table : List ℕ) (p from to : ℕ) : Type 0 where
   pub sofar : List ℕ
   pub put : Put table₀ at sofar table to
   pub whole : attributesFound e l (entryValues e s p₀ (l .unit) from₀) ≡ after sofar (attributesFound e l (entryValues e s p (l .unit) from))
+  pub ends : valuesAt e s p₀ (l .unit) from₀ ≡ valuesAt e s p (l .unit) from
 
 module _ (e : Encoding) (l : Locations) (s table₀ : List ℕ) (p₀ from₀ at : ℕ) where
   abbrev all : Found
   all = attributesFound e l (entryValues e s p₀ (l .unit) from₀)
 
+  abbrev past : Moved
+  past = valuesAt e s p₀ (l .unit) from₀
+
   pub scanning-start : Scanning e l s table₀ p₀ from₀ at table₀ p₀ from₀ at
-  scanning-start = record { sofar = []; put = put-none table₀ at; whole = sym (after-none all) }
+  scanning-start = record { sofar = []; put = put-none table₀ at; whole = sym (after-none all); ends = refl }
 
   module _ (table : List ℕ) (p from to : ℕ) (h : Scanning e l s table₀ p₀ from₀ at table p from to) where
     pub scanning-size : length table ≡ length table₀
     scanning-size = put-size table₀ at (h .sofar) table to (h .put)
 
     module _ (n : NextAttribute) (q : n ≡ nextAttribute e s p (l .unit) from) where
-      pub scanning-end : n ≡ NoMore → Scans table₀ at all (To to) table
+      scanned-all : n ≡ NoMore → Scans table₀ at all (To to) table
       unfolding after attributesFound
-      scanning-end r =
+      scanned-all r =
           scans-put table₀ at all (h .sofar) table to
           (h .whole
           ∙ ap (λ v. after (h .sofar) (attributesFound e l v)) (no-more e s p (l .unit) from (sym q ∙ r))
           ∙ ap found (append-nil (h .sofar)))
           (h .put)
+
+      pub scanning-end : n ≡ NoMore → (end : Moved) → end ≡ endBy from (specAt s p) → EntryScans table₀ at all past (Through to end) table
+      unfolding entryScanned
+      scanning-end r end k = (
+        ap (Through to) (k ∙ stop-end e s p (l .unit) from (sym q ∙ r) ∙ sym (h .ends)) ∙ ap (λ w. entryScanned w past) (scanned-all r .0),
+        scanned-all r .1,
+      )
 
       module _ (x : EntryAttribute) (r : n ≡ More x) where
         pub scanning-less : length s - x .next .at < length s - p
@@ -154,12 +174,16 @@ module _ (e : Encoding) (l : Locations) (s table₀ : List ℕ) (p₀ from₀ at
             ∙ ap (λ g. after (h .sofar) (andThen g rest)) k
 
         module _ (w : Scanned) (table′ : List ℕ) (k : Scans table to (attributeFound e l (valuedBy x)) w table′) where
-          pub scanning-refused : (m : ℕ) → w ≡ Refused m → Scans table₀ at all (Refused m) table′
+          refused-all : (m : ℕ) → w ≡ Refused m → Scans table₀ at all (Refused m) table′
           unfolding Broken andThen after
-          scanning-refused m g =
+          refused-all m g =
               let b : (ys : List ℕ) × (attributeFound e l (valuedBy x) ≡ refused ys m) × (table′ ≡ written table₀ at (h .sofar ++ ys)) =
               broken table₀ at (h .sofar) table to (h .put) w table′ (attributeFound e l (valuedBy x)) k m g in
               scans-refused table₀ at all (h .sofar ++ b .0) table′ m (whole-turn (refused (b .0) m) (b .1)) (b .2)
+
+          pub scanning-refused : (m : ℕ) → w ≡ Refused m → EntryScans table₀ at all past (Refused′ m) table′
+          unfolding entryScanned
+          scanning-refused m g = (ap (λ w. entryScanned w past) (refused-all m g .0), refused-all m g .1)
 
           pub scanning-on : (to′ : ℕ) → w ≡ To to′ → Scanning e l s table₀ p₀ from₀ at table′ (x .next .at) (x .value .field .end) to′
           unfolding Onto andThen
@@ -170,4 +194,5 @@ module _ (e : Encoding) (l : Locations) (s table₀ : List ℕ) (p₀ from₀ at
                 sofar = h .sofar ++ b .0;
                 put = b .2;
                 whole = whole-turn (found (b .0)) (b .1) ∙ after-after (h .sofar) (b .0) rest;
+                ends = h .ends ∙ stepped e s p (l .unit) from x (sym q ∙ r) .onward;
               }

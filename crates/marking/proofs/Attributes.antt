@@ -9,7 +9,7 @@ use lib.ListN.{length}
 use lib.Dec.{eqb}
 use mir.Facts.{eqb-yes, eqb-no}
 use Rattle.readers.specs.Choice.{either, bind}
-use Rattle.readers.specs.Cursors.{formsAt}
+use Rattle.readers.specs.Cursors.{cursor, formsAt}
 use Rattle.readers.proofs.Lebs.{forms-inside}
 use Rattle.readers.proofs.Tokens.{Inside, token-inside}
 use Rattle.readers.proofs.Values as Values
@@ -19,12 +19,13 @@ use Rattle.readers.specs.declared.cursor.Number.the-variants.{Value, Unreadable
 use Rattle.readers.specs.declared.fields.Field.{Field}
 use Rattle.readers.specs.declared.fields.FieldRead.{FieldRead}
 use Rattle.readers.specs.declared.fields.FieldRead.the-variants.{Read as Field′, Unreadable as NoField}
-use Rattle.readers.specs.Entries.{attributeAt}
+use Rattle.readers.specs.Entries.{attributeAt, valuesAt}
 use Rattle.readers.specs.Abbreviations.{specAt, attributesFrom}
 use Rattle.readers.specs.Scan.{Scanned, push}
 use Rattle.readers.proofs.Specs.{attribute-inside, attributes-more, attributes-last, attributes-bad}
 use Rattle.readers.specs.declared.cursor.Encoding.{Encoding}
 use Rattle.readers.specs.declared.cursor.Cursor.{Cursor}
+use Rattle.readers.specs.declared.cursor.Moved.the-variants.{To as EndsAt, Unreadable as Nowhere}
 use Rattle.readers.specs.declared.abbreviations.AttributeSpec.{AttributeSpec}
 use Rattle.readers.specs.declared.abbreviations.SpecStep.{SpecStep}
 use Rattle.readers.specs.declared.abbreviations.SpecStep.the-variants.{Attribute as Spec, Last as LastSpec, Unreadable as NoSpec}
@@ -32,6 +33,7 @@ use Rattle.readers.specs.declared.attributes.Attribute.{Attribute}
 use Rattle.readers.specs.declared.attributes.AttributeRead.{AttributeRead}
 use Rattle.readers.specs.declared.attributes.AttributeRead.the-variants.{Read as Attribute′, Unreadable as NoAttribute}
 use Rattle.marking.specs.Roots.{Valued, onSpec, specsWithin, specsFrom, onAttribute, valuesOf, entryValues, taken, takenBy, nextAttribute}
+use Rattle.marking.specs.ReferenceTable.{endBy}
 use Rattle.marking.specs.declared.root_test.EntryAttribute.{EntryAttribute}
 use Rattle.marking.specs.declared.root_test.NextAttribute.{NextAttribute}
 use Rattle.marking.specs.declared.root_test.NextAttribute.the-variants.{More, NoMore}
@@ -166,6 +168,20 @@ module _ (e : Encoding) (s : List ℕ) (p : ℕ) (unit : List ℕ) (at : ℕ) (r
     unfolding nextAttribute takenBy taken
     taken-more v h = rw (sym q ∙ k, sym l ∙ h)
 
+-- where the values end, if none is read there
+module _ (s : List ℕ) (p at : ℕ) (r : SpecStep) (q : r ≡ specAt s p) where
+  pub end-more : (a : AttributeSpec) → r ≡ Spec a → Nowhere ≡ endBy at (specAt s p)
+  unfolding endBy
+  end-more a k = sym (ap (endBy at) (sym q ∙ k))
+
+  pub end-last : (c : Cursor) → r ≡ LastSpec c → EndsAt (cursor at) ≡ endBy at (specAt s p)
+  unfolding endBy
+  end-last c k = sym (ap (endBy at) (sym q ∙ k))
+
+  pub end-bad : r ≡ NoSpec → Nowhere ≡ endBy at (specAt s p)
+  unfolding endBy
+  end-bad k = sym (ap (endBy at) (sym q ∙ k))
+
 -- ---- what it says of the attributes from there on
 
 abbrev pub valued : EntryAttribute → Valued
@@ -178,6 +194,7 @@ module _ (e : Encoding) (s : List ℕ) (p : ℕ) (unit : List ℕ) (at : ℕ) wh
     pub ahead : p < x .next .at
     pub inside : x .next .at ≤ length s
     pub within : Inside unit at (x .value .field)
+    pub onward : valuesAt e s p unit at ≡ valuesAt e s (x .next .at) unit (x .value .field .end)
 
   by-value : (x : EntryAttribute) (a : AttributeSpec) → specAt s p ≡ Spec a → (o : AttributeRead) → attributeAt e unit at (a .name) (a .form) ≡ o
       → taken a o ≡ More x → Stepped x
@@ -190,6 +207,7 @@ module _ (e : Encoding) (s : List ℕ) (p : ℕ) (unit : List ℕ) (at : ℕ) wh
         ahead = attribute-inside s p a q .0;
         inside = attribute-inside s p a q .1;
         within = value-inside e unit at (a .name) (a .form) v k;
+        onward = Values.values-step e s p unit at a q (attributeAt e unit at (a .name) (a .form)) refl v k;
       })
   by-value x a q NoAttribute k g = let z : _≡_ {A = ℕ} 0 1 = cc in absurd (omega arith)
 
@@ -217,3 +235,19 @@ module _ (e : Encoding) (s : List ℕ) (p : ℕ) (unit : List ℕ) (at : ℕ) wh
   pub no-more : nextAttribute e s p unit at ≡ NoMore → entryValues e s p unit at ≡ []
   unfolding nextAttribute
   no-more g = none-spec (specAt s p) refl g
+
+  -- where the values end, by the place that none was read at
+  stop-value : (a : AttributeSpec) → specAt s p ≡ Spec a → (o : AttributeRead) → attributeAt e unit at (a .name) (a .form) ≡ o → taken a o ≡ NoMore → endBy at (Spec a) ≡ valuesAt e s p unit at
+  unfolding taken endBy
+  stop-value a q (Attribute′ v) k g = let z : _≡_ {A = ℕ} 0 1 = cc in absurd (omega arith)
+  stop-value a q NoAttribute k g = Values.values-none e s p unit at a q (attributeAt e unit at (a .name) (a .form)) refl k
+
+  stop-spec : (r : SpecStep) → specAt s p ≡ r → takenBy e unit at r ≡ NoMore → endBy at r ≡ valuesAt e s p unit at
+  unfolding takenBy endBy
+  stop-spec (Spec a) q g = stop-value a q (attributeAt e unit at (a .name) (a .form)) refl g
+  stop-spec (LastSpec c) q g = Values.values-last e s p unit at c q
+  stop-spec NoSpec q g = Values.values-bad e s p unit at q
+
+  pub stop-end : nextAttribute e s p unit at ≡ NoMore → endBy at (specAt s p) ≡ valuesAt e s p unit at
+  unfolding nextAttribute
+  stop-end g = stop-spec (specAt s p) refl g

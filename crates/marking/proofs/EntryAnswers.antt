@@ -1,16 +1,22 @@
 -- One entry: what its root test and its scan answer together. Assumes nothing.
-use mathlib.Core.Path.{_≡_, refl, ap}
+use mathlib.Core.Path.{_≡_, refl, ap, sym, _∙_}
 use Prim.Native.Nat.{ℕ}
 use mathlib.Core.List.{List}
 use native.Mathlib.Omega.{arith}
 use lib.ListN.{length}
+use Rattle.readers.specs.declared.cursor.Cursor.{Cursor}
+use Rattle.readers.specs.declared.cursor.Moved.{Moved}
+use Rattle.readers.specs.declared.cursor.Moved.the-variants.{To as EndsAt, Unreadable as Nowhere}
 use Rattle.marking.specs.EntryReferences.{Found, found, refused as refusedAfter}
 use Rattle.marking.specs.declared.roots.Verdict.{Verdict}
 use Rattle.marking.specs.declared.roots.Verdict.the-variants.{Live, Dead, Refused as Failed}
-use Rattle.marking.specs.ReferenceTable.{placed, written, scannedTo, tableAfter}
+use Rattle.marking.specs.ReferenceTable.{placed, written, scannedTo, tableAfter, entryScanned}
 use Rattle.marking.specs.Analysis.{Analysed, refused, onVerdict, onFound}
-use Rattle.marking.specs.Columns.{rootFound, entryAnswer, entryTable}
+use Rattle.marking.specs.Columns.{rootFound, entryAnswer, entryTable, refusalOf}
+use Rattle.marking.specs.declared.references.Scanned.{Scanned}
 use Rattle.marking.specs.declared.references.Scanned.the-variants.{To, Refused}
+use Rattle.marking.specs.declared.references.EntryScan.the-variants.{Through, Refused as Refused″}
+use Rattle.marking.specs.declared.analysis.EntryAnalysis.{EntryAnalysis}
 use Rattle.marking.specs.declared.analysis.EntryAnalysis.the-variants.{Found as RowFound, Refused as NoRow}
 use Rattle.marking.proofs.Places.{length-table}
 
@@ -20,51 +26,96 @@ length-entry-table table at Live f = length-table table at f
 length-entry-table table at Dead f = length-table table at f
 length-entry-table table at (Failed n) f = refl
 
-found-row : (room at root to : ℕ) (f : Found) → To to ≡ scannedTo room at f → RowFound root to ≡ rootFound room at root f
-unfolding scannedTo rootFound
-found-row room at root to (found xs) e = let h : to ≡ placed room at xs = cc in ap (RowFound root) h
-found-row room at root to (refusedAfter xs n) e = let z : _≡_ {A = ℕ} 0 1 = cc in absurd (omega arith)
+-- ---- by the verdict and the scan
 
-refused-row : (room at root n : ℕ) (f : Found) → Refused n ≡ scannedTo room at f → NoRow n ≡ rootFound room at root f
-unfolding scannedTo rootFound
-refused-row room at root n (found xs) e = let z : _≡_ {A = ℕ} 0 1 = cc in absurd (omega arith)
-refused-row room at root n (refusedAfter xs m) e = let h : n ≡ m = cc in ap NoRow h
+module _ (room at : ℕ) (f : Found) where
+  found-row : (root to : ℕ) (next : Cursor) → To to ≡ scannedTo room at f → RowFound root to next ≡ rootFound room at next root f
+  unfolding scannedTo rootFound
+  found-row root to next e = of f e
+    where
+      of : (f′ : Found) → To to ≡ scannedTo room at f′ → RowFound root to next ≡ rootFound room at next root f′
+      of (found xs) e = let h : to ≡ placed room at xs = cc in ap (λ (n : ℕ). RowFound root n next) h
+      of (refusedAfter xs n) e = let z : _≡_ {A = ℕ} 0 1 = cc in absurd (omega arith)
 
-module _ (table : List ℕ) (at : ℕ) (v : Verdict) (f : Found) where
-  pub no-root : (n : ℕ) → v ≡ Failed n → (NoRow n ≡ entryAnswer (length table) at v f) × (table ≡ entryTable table at v f)
-  unfolding entryAnswer entryTable
-  no-root n e = rw e (refl, refl)
+  refused-row : (root n : ℕ) (next : Cursor) → Refused n ≡ scannedTo room at f → NoRow n ≡ rootFound room at next root f
+  unfolding scannedTo rootFound
+  refused-row root n next e = of f e
+    where
+      of : (f′ : Found) → Refused n ≡ scannedTo room at f′ → NoRow n ≡ rootFound room at next root f′
+      of (found xs) e = let z : _≡_ {A = ℕ} 0 1 = cc in absurd (omega arith)
+      of (refusedAfter xs m) e = let h : n ≡ m = cc in ap NoRow h
 
-  module _ (left : List ℕ) (t : left ≡ tableAfter table at f) where
-    pub live-found : (root to : ℕ) → v ≡ Live → root ≡ 1 → To to ≡ scannedTo (length table) at f → (RowFound root to ≡ entryAnswer (length table) at v f) × (left ≡ entryTable table at v f)
-    unfolding entryAnswer entryTable
-    live-found root to e q s = rw (e, q) (found-row (length table) at 1 to f s, t)
+-- a verdict that goes on to the references
+pub record Judged (v : Verdict) (root : ℕ) : Type 0 where
+  pub answer : (room at : ℕ) (next : Cursor) (f : Found) → entryAnswer room at (EndsAt next) v f ≡ rootFound room at next root f
+  pub table : (t : List ℕ) (at : ℕ) (f : Found) → entryTable t at v f ≡ tableAfter t at f
 
-    pub dead-found : (root to : ℕ) → v ≡ Dead → root ≡ 0 → To to ≡ scannedTo (length table) at f → (RowFound root to ≡ entryAnswer (length table) at v f) × (left ≡ entryTable table at v f)
-    unfolding entryAnswer entryTable
-    dead-found root to e q s = rw (e, q) (found-row (length table) at 0 to f s, t)
+pub judged-live : (v : Verdict) (root : ℕ) → v ≡ Live → root ≡ 1 → Judged v root
+unfolding entryAnswer entryTable
+judged-live v root e q = rw (e, q) (record { answer = λ room at next f. refl; table = λ t at f. refl })
 
-    pub live-refused : (n : ℕ) → v ≡ Live → Refused n ≡ scannedTo (length table) at f → (NoRow n ≡ entryAnswer (length table) at v f) × (left ≡ entryTable table at v f)
-    unfolding entryAnswer entryTable
-    live-refused n e s = rw e (refused-row (length table) at 1 n f s, t)
+pub judged-dead : (v : Verdict) (root : ℕ) → v ≡ Dead → root ≡ 0 → Judged v root
+unfolding entryAnswer entryTable
+judged-dead v root e q = rw (e, q) (record { answer = λ room at next f. refl; table = λ t at f. refl })
 
-    pub dead-refused : (n : ℕ) → v ≡ Dead → Refused n ≡ scannedTo (length table) at f → (NoRow n ≡ entryAnswer (length table) at v f) × (left ≡ entryTable table at v f)
-    unfolding entryAnswer entryTable
-    dead-refused n e s = rw e (refused-row (length table) at 0 n f s, t)
+module _ (table : List ℕ) (at : ℕ) (end : Moved) (v : Verdict) (f : Found) where
+  -- an answer with the table that it leaves
+  abbrev Gives : EntryAnalysis → List ℕ → Type 0
+  Gives r left = (r ≡ entryAnswer (length table) at end v f) × (left ≡ entryTable table at v f)
+
+  pub no-root : (n m : ℕ) → v ≡ Failed n → m ≡ refusalOf end n → Gives (NoRow m) table
+  unfolding entryAnswer entryTable refusalOf
+  no-root n m e r = rw (e, r) (of end, refl)
+    where
+      of : (end′ : Moved) → NoRow (refusalOf end′ n) ≡ entryAnswer (length table) at end′ (Failed n) f
+      of (EndsAt next) = refl
+      of Nowhere = refl
+
+  module _ (root : ℕ) (j : Judged v root) (left : List ℕ) (t : left ≡ tableAfter table at f) where
+    module _ (place : ℕ) (past : Moved) (s : Through place past ≡ entryScanned (scannedTo (length table) at f) end) where
+      through : (w : Scanned) → Through place past ≡ entryScanned w end → (To place ≡ w) × (past ≡ end)
+      unfolding entryScanned
+      through (To p) q = let h : place ≡ p = cc in let k : past ≡ end = cc in (ap To h, k)
+      through (Refused n) q = let z : _≡_ {A = ℕ} 0 1 = cc in absurd (omega arith)
+
+      pub row-found : (next : Cursor) → past ≡ EndsAt next → Gives (RowFound root place next) left
+      row-found next q =
+          let h : (To place ≡ scannedTo (length table) at f) × (past ≡ end) = through (scannedTo (length table) at f) s in (
+            found-row (length table) at f root place next (h .0) ∙ sym (j .answer (length table) at next f) ∙ ap (λ (m : Moved). entryAnswer (length table) at m v f) (sym q ∙ h .1),
+            t ∙ sym (j .table table at f),
+          )
+
+      pub row-unread : past ≡ Nowhere → Gives (NoRow 4) left
+      unfolding entryAnswer
+      row-unread q =
+          let h : (To place ≡ scannedTo (length table) at f) × (past ≡ end) = through (scannedTo (length table) at f) s in
+          (ap (λ (m : Moved). entryAnswer (length table) at m v f) (sym q ∙ h .1), t ∙ sym (j .table table at f))
+
+    pub row-refused : (n m : ℕ) → Refused″ n ≡ entryScanned (scannedTo (length table) at f) end → m ≡ refusalOf end n → Gives (NoRow m) left
+    unfolding entryAnswer refusalOf entryScanned
+    row-refused n m s r = (ap NoRow r ∙ of end, t ∙ sym (j .table table at f))
+      where
+        stopped : (w : Scanned) (end′ : Moved) → Refused″ n ≡ entryScanned w end′ → Refused n ≡ w
+        stopped (To p) end′ q = let z : _≡_ {A = ℕ} 0 1 = cc in absurd (omega arith)
+        stopped (Refused k) end′ q = let h : n ≡ k = cc in ap Refused h
+
+        of : (end′ : Moved) → NoRow (refusalOf end′ n) ≡ entryAnswer (length table) at end′ v f
+        of (EndsAt next) = refused-row (length table) at f root n next (stopped (scannedTo (length table) at f) end s) ∙ sym (j .answer (length table) at next f)
+        of Nowhere = refl
 
 -- ---- by what is answered
 
-refused-after : (room at root n : ℕ) (f : Found) (k : List ℕ → Analysed) → NoRow n ≡ rootFound room at root f → onFound f k ≡ refused n
+refused-after : (room at root n : ℕ) (next : Cursor) (f : Found) (k : List ℕ → Analysed) → NoRow n ≡ rootFound room at next root f → onFound f k ≡ refused n
 unfolding rootFound onFound
-refused-after room at root n (found xs) k e = let z : _≡_ {A = ℕ} 0 1 = cc in absurd (omega arith)
-refused-after room at root n (refusedAfter xs m) k e = let h : m ≡ n = cc in ap refused h
+refused-after room at root n next (found xs) k e = let z : _≡_ {A = ℕ} 0 1 = cc in absurd (omega arith)
+refused-after room at root n next (refusedAfter xs m) k e = let h : m ≡ n = cc in ap refused h
 
-pub entry-refused : (room at n : ℕ) (v : Verdict) (f : Found) (k : ℕ → List ℕ → Analysed) → NoRow n ≡ entryAnswer room at v f
+pub entry-refused : (room at n : ℕ) (next : Cursor) (v : Verdict) (f : Found) (k : ℕ → List ℕ → Analysed) → NoRow n ≡ entryAnswer room at (EndsAt next) v f
     → onVerdict v (λ root. onFound f (k root)) ≡ refused n
 unfolding entryAnswer onVerdict
-entry-refused room at n Live f k e = refused-after room at 1 n f (k 1) e
-entry-refused room at n Dead f k e = refused-after room at 0 n f (k 0) e
-entry-refused room at n (Failed m) f k e = let h : m ≡ n = cc in ap refused h
+entry-refused room at n next Live f k e = refused-after room at 1 n next f (k 1) e
+entry-refused room at n next Dead f k e = refused-after room at 0 n next f (k 0) e
+entry-refused room at n next (Failed m) f k e = let h : m ≡ n = cc in ap refused h
 
 -- a row: the numbers that were found
 pub record RowOf (table : List ℕ) (at : ℕ) (v : Verdict) (f : Found) (root to : ℕ) : Type 0 where
@@ -73,16 +124,40 @@ pub record RowOf (table : List ℕ) (at : ℕ) (v : Verdict) (f : Found) (root t
   pub left : entryTable table at v f ≡ written table at names
   pub goes : (k : ℕ → List ℕ → Analysed) → onVerdict v (λ n. onFound f (k n)) ≡ k root names
 
-pub entry-found : (table : List ℕ) (at root to : ℕ) (v : Verdict) (f : Found) → RowFound root to ≡ entryAnswer (length table) at v f → RowOf table at v f root to
+pub entry-found : (table : List ℕ) (at root to : ℕ) (next : Cursor) (v : Verdict) (f : Found) → RowFound root to next ≡ entryAnswer (length table) at (EndsAt next) v f → RowOf table at v f root to
 unfolding entryAnswer rootFound onVerdict onFound entryTable tableAfter
-entry-found table at root to Live (found xs) e =
+entry-found table at root to next Live (found xs) e =
     let r : 1 ≡ root = cc in
     let p : to ≡ placed (length table) at xs = cc in
     record { names = xs; place = p; left = refl; goes = λ k. ap (λ n. k n xs) r }
-entry-found table at root to Dead (found xs) e =
+entry-found table at root to next Dead (found xs) e =
     let r : 0 ≡ root = cc in
     let p : to ≡ placed (length table) at xs = cc in
     record { names = xs; place = p; left = refl; goes = λ k. ap (λ n. k n xs) r }
-entry-found table at root to Live (refusedAfter xs n) e = let z : _≡_ {A = ℕ} 0 1 = cc in absurd (omega arith)
-entry-found table at root to Dead (refusedAfter xs n) e = let z : _≡_ {A = ℕ} 0 1 = cc in absurd (omega arith)
-entry-found table at root to (Failed n) f e = let z : _≡_ {A = ℕ} 0 1 = cc in absurd (omega arith)
+entry-found table at root to next Live (refusedAfter xs n) e = let z : _≡_ {A = ℕ} 0 1 = cc in absurd (omega arith)
+entry-found table at root to next Dead (refusedAfter xs n) e = let z : _≡_ {A = ℕ} 0 1 = cc in absurd (omega arith)
+entry-found table at root to next (Failed n) f e = let z : _≡_ {A = ℕ} 0 1 = cc in absurd (omega arith)
+
+-- ---- by where the values end
+
+pub answered-end : (room at root to : ℕ) (next : Cursor) (end : Moved) (v : Verdict) (f : Found) → RowFound root to next ≡ entryAnswer room at end v f → end ≡ EndsAt next
+unfolding entryAnswer rootFound
+answered-end room at root to next Nowhere v f e = let z : _≡_ {A = ℕ} 0 1 = cc in absurd (omega arith)
+answered-end room at root to next (EndsAt c) Live (found xs) e = let h : c ≡ next = cc in ap EndsAt h
+answered-end room at root to next (EndsAt c) Dead (found xs) e = let h : c ≡ next = cc in ap EndsAt h
+answered-end room at root to next (EndsAt c) Live (refusedAfter xs n) e = let z : _≡_ {A = ℕ} 0 1 = cc in absurd (omega arith)
+answered-end room at root to next (EndsAt c) Dead (refusedAfter xs n) e = let z : _≡_ {A = ℕ} 0 1 = cc in absurd (omega arith)
+answered-end room at root to next (EndsAt c) (Failed n) f e = let z : _≡_ {A = ℕ} 0 1 = cc in absurd (omega arith)
+
+pub unread-four : (room at n : ℕ) (v : Verdict) (f : Found) → NoRow n ≡ entryAnswer room at Nowhere v f → n ≡ 4
+unfolding entryAnswer
+unread-four room at n v f e = let h : n ≡ 4 = cc in h
+
+module _ (end m : Moved) (n : ℕ) (q : m ≡ end) where
+  pub refusal-same : (next : Cursor) → m ≡ EndsAt next → n ≡ refusalOf end n
+  unfolding refusalOf
+  refusal-same next k = sym (ap (λ (c : Moved). refusalOf c n) (sym q ∙ k))
+
+  pub refusal-four : m ≡ Nowhere → 4 ≡ refusalOf end n
+  unfolding refusalOf
+  refusal-four k = sym (ap (λ (c : Moved). refusalOf c n) (sym q ∙ k))

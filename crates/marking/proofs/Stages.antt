@@ -11,13 +11,16 @@ use lib.Dec.{ltb, leb}
 use mir.Facts.{yes-ltb, no-ltb, yes-leb, no-leb}
 use Rattle.readers.specs.Choice.{pick, pick-yes, pick-no, zeros}
 use Rattle.readers.specs.Abbreviations.{Placed, declaredIn, abbreviationsOf, asChecked, checkedOf, indexOf, findAt}
-use Rattle.readers.specs.Entries.{stepAt}
+use Rattle.readers.specs.Entries.{stepAt, entryOf, entryTo}
 use Rattle.readers.specs.Nesting.{open′, close, top, nestingOf, opened, closed}
 use Rattle.readers.specs.declared.abbreviations.Found.{Found}
 use Rattle.readers.specs.declared.abbreviations.Checked.the-variants.{Accepted}
 use Rattle.readers.specs.declared.cursor.Cursor.{Cursor}
 use Rattle.readers.specs.declared.cursor.Encoding.{Encoding}
+use Rattle.readers.specs.declared.cursor.Moved.{Moved}
+use Rattle.readers.specs.declared.cursor.Moved.the-variants.{To as EndsAt, Unreadable as Nowhere}
 use Rattle.readers.specs.declared.entries.Entry.{Entry}
+use Rattle.readers.specs.declared.entries.EntryHead.{EntryHead}
 use Rattle.readers.specs.declared.entries.Nesting.{Nesting}
 use Rattle.readers.specs.declared.entries.Step.{Step}
 use Rattle.readers.specs.declared.entries.Step.the-variants.{Entry as Entry′, Terminator, End, Unreadable}
@@ -25,13 +28,14 @@ use Rattle.readers.proofs.Declarations.{find-plain}
 use Rattle.readers.proofs.Nesting.{Chain, opened-is, closed-is}
 use Rattle.marking.specs.ReferenceTable.{written}
 use Rattle.readers.specs.Stream.{Items, push, onStep, itemsFrom}
-use Rattle.marking.specs.Analysis.{Sections, Rooms, Row, Analysed, analysed, refused, onto, onVerdict, onFound, Reached, reached, startOf, rootOf, namesOf, baseOf, analyseItems, onDeclared, unitAnalysed}
-use Rattle.marking.specs.Columns.{offsetsIn, parentsIn, rootsIn, namesIn, endsIn, padTo, Left, Outcome, Ready, answerOf, entryAnswer, entryTable}
+use Rattle.marking.specs.Analysis.{Sections, Rooms, Row, Analysed, analysed, refused, onto, onVerdict, onFound, Reached, reached, startOf, valuesOfEntry, rootOf, namesOf, baseOf, analyseItems, onDeclared, unitAnalysed}
+use Rattle.marking.specs.Columns.{offsetsIn, parentsIn, rootsIn, namesIn, endsIn, padTo, Left, Outcome, Ready, answerOf, headed, refusalOf, entryAnswer, entryTable}
+use Rattle.marking.specs.declared.analysis.EntryAnalysis.{EntryAnalysis}
 use Rattle.marking.specs.declared.analysis.EntryAnalysis.the-variants.{Found as RowFound, Refused as NoRow}
 use Rattle.marking.specs.declared.analysis.Analysis.{Analysis}
 use Rattle.marking.specs.declared.analysis.Analysis.the-variants.{Entries, Refused as Refused′}
 use Rattle.marking.proofs.Places.{placed-fits, fits-placed, not-placed, written-onto}
-use Rattle.marking.proofs.EntryAnswers.{length-entry-table, entry-refused, RowOf, entry-found}
+use Rattle.marking.proofs.EntryAnswers.{length-entry-table, entry-refused, RowOf, entry-found, answered-end, unread-four}
 use Rattle.readers.proofs.Streams.{EntryInside, step-inside, terminator-inside, items-step, items-look}
 
 -- ---- rows in front of an analysis
@@ -378,12 +382,12 @@ module _ {e : Encoding} {x : Sections} {unit : List ℕ} {room : Rooms} {look : 
       pub targets-size : length targets′ ≡ length targets
       targets-size = ap length t ∙ length-entry-table targets to (rootOf e x unit rb′ y) (namesOf e x unit lb′ y)
 
-      pub stage-refused : (n : ℕ) → NoRow n ≡ entryAnswer (length targets) to (rootOf e x unit rb′ y) (namesOf e x unit lb′ y) → Ends (Refused′ n) targets′
-      stage-refused n q = refuses n (from-row ∙ entry-refused (length targets) to n _ _ (rowBy e x unit room look here at y rb′ lb′) q) targets′ targets-size
+      pub stage-refused : (n : ℕ) → NoRow n ≡ entryAnswer (length targets) to (EndsAt (y .next)) (rootOf e x unit rb′ y) (namesOf e x unit lb′ y) → Ends (Refused′ n) targets′
+      stage-refused n q = refuses n (from-row ∙ entry-refused (length targets) to n (y .next) _ _ (rowBy e x unit room look here at y rb′ lb′) q) targets′ targets-size
 
-      module _ (root place : ℕ) (q : RowFound root place ≡ entryAnswer (length targets) to (rootOf e x unit rb′ y) (namesOf e x unit lb′ y)) where
+      module _ (root place : ℕ) (q : RowFound root place (y .next) ≡ entryAnswer (length targets) to (EndsAt (y .next)) (rootOf e x unit rb′ y) (namesOf e x unit lb′ y)) where
         row : RowOf targets to (rootOf e x unit rb′ y) (namesOf e x unit lb′ y) root place
-        row = entry-found targets to root place _ _ q
+        row = entry-found targets to root place (y .next) _ _ q
 
         pub stage-over : room .references < place → Ends (Refused′ 11) targets′
         stage-over o =
@@ -451,6 +455,55 @@ module _ {e : Encoding} {x : Sections} {unit : List ℕ} {room : Rooms} {look : 
               ends-room = re;
               targets-room = m;
             }
+
+  -- an entry by its head and where its values end
+  module _ (g : EntryHead) (end : Moved) (s : entryTo g end ≡ stepAt e (x .abbreviations) look unit at) where
+    pub head-full : (n : ℕ) → n ≡ refusalOf end 10 → room .entries ≤ count → Ends (Refused′ n) targets
+    unfolding entryTo refusalOf
+    head-full n q f = of end s q
+      where
+        of : (end′ : Moved) → entryTo g end′ ≡ stepAt e (x .abbreviations) look unit at → n ≡ refusalOf end′ 10 → Ends (Refused′ n) targets
+        of (EndsAt next) s′ q′ = subst (λ (k : ℕ). Ends (Refused′ k) targets) (sym q′) (stage-full (entryOf g next) s′ f)
+        of Nowhere s′ q′ = subst (λ (k : ℕ). Ends (Refused′ k) targets) (sym q′) (stage-unreadable s′)
+
+    module _ (l : count < room .entries) (rb′ lb′ : ℕ) (r : rb′ ≡ baseOf e x unit 0x74 rb (headed g)) (b : lb′ ≡ baseOf e x unit 0x8c lb (headed g))
+        (targets′ : List ℕ) (t : targets′ ≡ entryTable targets to (rootOf e x unit rb′ (headed g)) (namesOf e x unit lb′ (headed g))) where
+      abbrev answerTo : Moved → EntryAnalysis
+      answerTo m = entryAnswer (length targets) to m (rootOf e x unit rb′ (headed g)) (namesOf e x unit lb′ (headed g))
+
+      pub head-size : length targets′ ≡ length targets
+      head-size = ap length t ∙ length-entry-table targets to (rootOf e x unit rb′ (headed g)) (namesOf e x unit lb′ (headed g))
+
+      pub head-refused : (n : ℕ) → NoRow n ≡ answerTo end → Ends (Refused′ n) targets′
+      unfolding entryTo valuesOfEntry rootOf namesOf baseOf
+      head-refused n q = of end s q
+        where
+          of : (end′ : Moved) → entryTo g end′ ≡ stepAt e (x .abbreviations) look unit at → NoRow n ≡ answerTo end′ → Ends (Refused′ n) targets′
+          of (EndsAt next) s′ q′ = stage-refused (entryOf g next) s′ l rb′ lb′ r b targets′ t n q′
+          of Nowhere s′ q′ =
+              subst (λ (k : ℕ). Ends (Refused′ k) targets′)
+              (sym (unread-four (length targets) to n (rootOf e x unit rb′ (headed g)) (namesOf e x unit lb′ (headed g)) q′))
+              (refuses 4 (from-unreadable e x unit room look here at s′) targets′ head-size)
+
+      module _ (root place : ℕ) (next : Cursor) (q : RowFound root place next ≡ answerTo end) where
+        there : end ≡ EndsAt next
+        there = answered-end (length targets) to root place next end (rootOf e x unit rb′ (headed g)) (namesOf e x unit lb′ (headed g)) q
+
+        entered : Entry′ (entryOf g next) ≡ stepAt e (x .abbreviations) look unit at
+        unfolding entryTo
+        entered = sym (ap (entryTo g) there) ∙ s
+
+        pub head-ahead : (at < next .at) × (next .at ≤ length unit) × (count < 0xfffffffe)
+        head-ahead = stage-ahead (entryOf g next) entered
+
+        pub head-over : room .references < place → Ends (Refused′ 11) targets′
+        unfolding valuesOfEntry rootOf namesOf baseOf
+        head-over o = stage-over (entryOf g next) entered l rb′ lb′ r b targets′ t root place (q ∙ ap answerTo there) o
+
+        pub head-entry : place ≤ room .references → (nesting′ : Nesting) → nesting′ ≡ opened (g .declaration .children) count nesting
+            → Stage e x unit room look whole offsets₀ parents₀ roots₀ ends₀ targets₀ (set offsets count (g .offset .0)) (set parents count (nesting .parent .0)) (set roots count root) (set ends count place) targets′ (next .at) (count + 1) place nesting′ rb′ lb′
+        unfolding valuesOfEntry rootOf namesOf baseOf
+        head-entry f nesting′ n = stage-entry (entryOf g next) entered l rb′ lb′ r b targets′ t root place (q ∙ ap answerTo there) f nesting′ n
 
 -- ---- the start
 

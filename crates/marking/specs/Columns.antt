@@ -6,7 +6,13 @@ use lib.ListN.{length}
 use lib.Dec.{leb}
 use Rattle.readers.specs.Choice.{pick, zeros}
 use Rattle.readers.specs.Abbreviations.{checkedOf, indexOf}
+use Rattle.readers.specs.Entries.{entryOf}
 use Rattle.readers.specs.declared.abbreviations.Checked.the-variants.{Accepted}
+use Rattle.readers.specs.declared.cursor.Cursor.{Cursor}
+use Rattle.readers.specs.declared.cursor.Moved.{Moved}
+use Rattle.readers.specs.declared.cursor.Moved.the-variants.{To, Unreadable as Nowhere}
+use Rattle.readers.specs.declared.entries.Entry.{Entry}
+use Rattle.readers.specs.declared.entries.EntryHead.{EntryHead}
 use Rattle.readers.specs.declared.header.HeaderRead.{HeaderRead}
 use Rattle.readers.specs.declared.header.HeaderRead.the-variants.{Unit as Unit′, Empty, Refused}
 use Rattle.marking.specs.EntryReferences.{Found, found, refused as refusedAfter}
@@ -100,15 +106,25 @@ unfoldable pub answerOf : Analysed → Analysis
 answerOf (analysed rows) = Entries (length rows) (length (namesIn rows))
 answerOf (refused n) = Refused′ n
 
--- one entry: the root test, then the references
-unfoldable pub rootFound : ℕ → ℕ → ℕ → Found → EntryAnalysis
-rootFound room at root (found xs) = RowFound root (placed room at xs)
-rootFound room at root (refusedAfter xs n) = NoRow n
+-- an entry by its head alone: where it ends is not asked by its root test, nor by its references
+abbrev pub headed : EntryHead → Entry
+headed h = entryOf h (h .values)
 
-unfoldable pub entryAnswer : ℕ → ℕ → Verdict → Found → EntryAnalysis
-entryAnswer room at Live f = rootFound room at 1 f
-entryAnswer room at Dead f = rootFound room at 0 f
-entryAnswer room at (Failed n) f = NoRow n
+-- one entry whose values end there, or nowhere, which is 4 before anything else: the root test, then the references
+unfoldable pub rootFound : ℕ → ℕ → Cursor → ℕ → Found → EntryAnalysis
+rootFound room at next root (found xs) = RowFound root (placed room at xs) next
+rootFound room at next root (refusedAfter xs n) = NoRow n
+
+unfoldable pub entryAnswer : ℕ → ℕ → Moved → Verdict → Found → EntryAnalysis
+entryAnswer room at Nowhere v f = NoRow 4
+entryAnswer room at (To next) Live f = rootFound room at next 1 f
+entryAnswer room at (To next) Dead f = rootFound room at next 0 f
+entryAnswer room at (To next) (Failed n) f = NoRow n
+
+-- any other refusal of it
+unfoldable pub refusalOf : Moved → ℕ → ℕ
+refusalOf Nowhere n = 4
+refusalOf (To next) n = n
 
 unfoldable pub entryTable : List ℕ → ℕ → Verdict → Found → List ℕ
 entryTable table at Live f = tableAfter table at f

@@ -2,12 +2,13 @@
 ghost use mathlib.Core.Path.{_≡_};
 ghost use lib.ListN.{length, take};
 ghost use Rattle.readers.specs.Choice.{zeros};
+ghost use Rattle.readers.specs.Entries.{headEnd};
 ghost use Rattle.readers.specs.Header.{headerOf};
 ghost use Rattle.marking.specs.Analysis.{sections, rooms, rootOf, namesOf, unitAnalysed, analysisOf};
-ghost use Rattle.marking.specs.Columns.{offsetsIn, parentsIn, rootsIn, endsIn, namesIn, column, least, roomsOf, indexAfter, Ready, Outcome, answerOf, entryAnswer, entryTable};
+ghost use Rattle.marking.specs.Columns.{offsetsIn, parentsIn, rootsIn, endsIn, namesIn, column, least, roomsOf, indexAfter, Ready, Outcome, answerOf, headed, refusalOf, entryAnswer, entryTable};
 use crate::columns::clear_bytes;
 use crate::columns::clear_indexes;
-use crate::references::Scanned;
+use crate::references::EntryScan;
 use crate::references::scan;
 use crate::root_test::base_after;
 use crate::root_test::is_root;
@@ -16,9 +17,10 @@ use readers::abbreviations::Checked;
 use readers::abbreviations::check_abbreviations;
 use readers::cursor::Cursor;
 use readers::cursor::Encoding;
-use readers::entries::Entry;
+use readers::cursor::Moved;
+use readers::entries::EntryHead;
+use readers::entries::HeadStep;
 use readers::entries::Nesting;
-use readers::entries::Step;
 use readers::header::HeaderRead;
 use readers::header::UnitHeader;
 use readers::header::unit_header;
@@ -26,9 +28,9 @@ use readers::header::unit_part;
 use readers::offsets::EntryIndex;
 use readers::tables::clear;
 
-// What is found of an entry: 1 for a root, else 0, and the place past its references in the table; or the number of a refusal.
+// What is found of an entry: 1 for a root, else 0, the place past its references in the table, and the cursor past it; or the number of a refusal.
 pub enum EntryAnalysis {
-    Found { root: u8, to: usize },
+    Found { root: u8, to: usize, next: Cursor },
     Refused(u8),
 }
 
@@ -38,11 +40,23 @@ pub enum Analysis {
     Refused(u8),
 }
 
-// The root test of an entry, then its references.
-pub fn analyse_entry(
+// The number of a refusal of an entry: 4 where its values can't be read, which comes before any other.
+fn refusal(unit: &[u8], abbreviations: &[u8], x: EntryHead, e: Encoding, n: u8) -> u8
+    ensures { λ r. ⌜ r ≡ refusalOf (headEnd e (now (abbreviations .entry)) (now (unit .entry)) x) n ⌝ }
+{
+    let declaration = x.declaration;
+    let values = x.values;
+    match values.past_values(unit, abbreviations, declaration.attributes, e) {
+        Moved::To(_) => n,
+        Moved::Unreadable => 4,
+    }
+}
+
+// The root test of an entry, then its references. The scan also finds where the entry ends.
+fn analyse_entry(
     unit: &[u8],
     abbreviations: &[u8],
-    x: Entry,
+    x: EntryHead,
     locations: &[u8],
     ranges: &[u8],
     addresses: &[u8],
@@ -53,8 +67,8 @@ pub fn analyse_entry(
     targets: &mut [u64],
     at: usize,
 ) -> EntryAnalysis
-    ensures answer { λ r. ⌜ r ≡ entryAnswer (length (now (targets .entry))) at (rootOf e (sections (now (abbreviations .entry)) (now (locations .entry)) (now (ranges .entry)) (now (addresses .entry)) «ranges_base») (now (unit .entry)) «rnglists_base» x) (namesOf e (sections (now (abbreviations .entry)) (now (locations .entry)) (now (ranges .entry)) (now (addresses .entry)) «ranges_base») (now (unit .entry)) «loclists_base» x) ⌝ }
-    ensures table { λ _. ⌜ now (targets .exit) ≡ entryTable (now (targets .entry)) at (rootOf e (sections (now (abbreviations .entry)) (now (locations .entry)) (now (ranges .entry)) (now (addresses .entry)) «ranges_base») (now (unit .entry)) «rnglists_base» x) (namesOf e (sections (now (abbreviations .entry)) (now (locations .entry)) (now (ranges .entry)) (now (addresses .entry)) «ranges_base») (now (unit .entry)) «loclists_base» x) ⌝ }
+    ensures answer { λ r. ⌜ r ≡ entryAnswer (length (now (targets .entry))) at (headEnd e (now (abbreviations .entry)) (now (unit .entry)) x) (rootOf e (sections (now (abbreviations .entry)) (now (locations .entry)) (now (ranges .entry)) (now (addresses .entry)) «ranges_base») (now (unit .entry)) «rnglists_base» (headed x)) (namesOf e (sections (now (abbreviations .entry)) (now (locations .entry)) (now (ranges .entry)) (now (addresses .entry)) «ranges_base») (now (unit .entry)) «loclists_base» (headed x)) ⌝ }
+    ensures table { λ _. ⌜ now (targets .exit) ≡ entryTable (now (targets .entry)) at (rootOf e (sections (now (abbreviations .entry)) (now (locations .entry)) (now (ranges .entry)) (now (addresses .entry)) «ranges_base») (now (unit .entry)) «rnglists_base» (headed x)) (namesOf e (sections (now (abbreviations .entry)) (now (locations .entry)) (now (ranges .entry)) (now (addresses .entry)) «ranges_base») (now (unit .entry)) «loclists_base» (headed x)) ⌝ }
 {
     let declaration = x.declaration;
     let specs = declaration.attributes;
@@ -77,7 +91,7 @@ pub fn analyse_entry(
         }
         Verdict::Dead => {}
         Verdict::Refused(n) => {
-            return EntryAnalysis::Refused(n);
+            return EntryAnalysis::Refused(refusal(unit, abbreviations, x, e, n));
         }
     }
     match scan(
@@ -91,8 +105,17 @@ pub fn analyse_entry(
         targets,
         at,
     ) {
-        Scanned::To(to) => EntryAnalysis::Found { root, to },
-        Scanned::Refused(n) => EntryAnalysis::Refused(n),
+        EntryScan::Through { place, end } => {
+            match end {
+                Moved::To(next) => EntryAnalysis::Found {
+                    root,
+                    to: place,
+                    next,
+                },
+                Moved::Unreadable => EntryAnalysis::Refused(4),
+            }
+        }
+        EntryScan::Refused(n) => { EntryAnalysis::Refused(refusal(unit, abbreviations, x, e, n)) }
     }
 }
 
@@ -127,15 +150,14 @@ fn analyse_entries(
     let mut rnglists_base: u64 = 12;
     let mut loclists_base: u64 = 12;
     loop {
-        match (Cursor { at }).step(unit, abbreviations, from, index, e) {
-            Step::Entry(x) => {
+        match (Cursor { at }).entry_head(unit, abbreviations, from, index) {
+            HeadStep::Entry(x) => {
                 if count >= entry_room {
-                    return Analysis::Refused(10);
+                    return Analysis::Refused(refusal(unit, abbreviations, x, e, 10));
                 }
                 let declaration = x.declaration;
                 let specs = declaration.attributes;
                 let offset = x.offset;
-                let next = x.next;
                 let parent = nesting.parent;
                 rnglists_base = base_after(
                     unit,
@@ -174,7 +196,11 @@ fn analyse_entries(
                     EntryAnalysis::Refused(n) => {
                         return Analysis::Refused(n);
                     }
-                    EntryAnalysis::Found { root, to: place } => {
+                    EntryAnalysis::Found {
+                        root,
+                        to: place,
+                        next,
+                    } => {
                         if place > reference_room {
                             return Analysis::Refused(11);
                         }
@@ -192,17 +218,17 @@ fn analyse_entries(
                     }
                 }
             }
-            Step::Terminator(next) => {
+            HeadStep::Terminator(next) => {
                 nesting = nesting.after_terminator(parents);
                 at = next.at;
             }
-            Step::End => {
+            HeadStep::End => {
                 return Analysis::Entries {
                     entries: count,
                     references: to,
                 };
             }
-            Step::Unreadable => {
+            HeadStep::Unreadable => {
                 return Analysis::Refused(4);
             }
         }

@@ -2,16 +2,20 @@
 ghost use mathlib.Core.Path.{_≡_};
 ghost use mathlib.Core.List.{[], _∷_};
 ghost use lib.ListN.{length, set};
+ghost use Rattle.readers.specs.Abbreviations.{specAt};
+ghost use Rattle.readers.specs.Entries.{valuesAt};
 ghost use Rattle.readers.specs.References.{flatFrom};
 ghost use Rattle.marking.specs.EntryReferences.{targets as offsetsOf, partOf, expressionFound, locationFound, listFound, locationsBy, attributeFound, attributesFound};
-ghost use Rattle.marking.specs.ReferenceTable.{nextPlace, placed, written, scannedTo, tableAfter, valuedBy};
+ghost use Rattle.marking.specs.ReferenceTable.{nextPlace, placed, written, scannedTo, tableAfter, valuedBy, endBy, entryScanned};
 ghost use Rattle.marking.specs.Roots.{entryValues};
 ghost use Rattle.readers.specs.declared.lists.ListOffset.the-variants.{At};
 use crate::root_test::EntryAttribute;
 use crate::root_test::NextAttribute;
 use crate::root_test::next_attribute;
+use readers::abbreviations::SpecStep;
 use readers::cursor::Cursor;
 use readers::cursor::Encoding;
+use readers::cursor::Moved;
 use readers::expressions::Walk;
 use readers::expressions::Yield;
 use readers::expressions::walk_expression;
@@ -26,6 +30,12 @@ use readers::operations::ListStep;
 // What a scan finds: the place past its last reference in the table, past the table's end where it has no room for all; or the number of a refusal.
 pub enum Scanned {
     To(usize),
+    Refused(u8),
+}
+
+// What the scan of an entry finds: that place, and where the values of its attributes end; or the number of a refusal.
+pub enum EntryScan {
+    Through { place: usize, end: Moved },
     Refused(u8),
 }
 
@@ -208,6 +218,17 @@ fn scan_attribute(
     Scanned::To(at)
 }
 
+// Where the values of an entry end, by the place that no attribute was read at: there, if its specifications end there too; else it is unreadable.
+fn values_end(abbreviations: &[u8], specs: Cursor, values: Cursor) -> Moved
+    ensures { λ r. ⌜ r ≡ endBy (values .at) (specAt (now (abbreviations .entry)) (specs .at)) ⌝ }
+{
+    match specs.attribute_spec(abbreviations) {
+        SpecStep::Attribute(_) => Moved::Unreadable,
+        SpecStep::Last(_) => Moved::To(values),
+        SpecStep::Unreadable => Moved::Unreadable,
+    }
+}
+
 // The references of an entry, in attribute order: each as a 64-bit offset, repeats and dangling ones included. 5 and 7 as they are met.
 pub fn scan(
     unit: &[u8],
@@ -219,8 +240,8 @@ pub fn scan(
     e: Encoding,
     targets: &mut [u64],
     at: usize,
-) -> Scanned
-    ensures answer { λ r. ⌜ r ≡ scannedTo (length (now (targets .entry))) at (attributesFound e (locationsBy (now (unit .entry)) (now (locations .entry)) «loclists_base») (entryValues e (now (abbreviations .entry)) (specs .at) (now (unit .entry)) (values .at))) ⌝ }
+) -> EntryScan
+    ensures answer { λ r. ⌜ r ≡ entryScanned (scannedTo (length (now (targets .entry))) at (attributesFound e (locationsBy (now (unit .entry)) (now (locations .entry)) «loclists_base») (entryValues e (now (abbreviations .entry)) (specs .at) (now (unit .entry)) (values .at)))) (valuesAt e (now (abbreviations .entry)) (specs .at) (now (unit .entry)) (values .at)) ⌝ }
     ensures table { λ _. ⌜ now (targets .exit) ≡ tableAfter (now (targets .entry)) at (attributesFound e (locationsBy (now (unit .entry)) (now (locations .entry)) «loclists_base») (entryValues e (now (abbreviations .entry)) (specs .at) (now (unit .entry)) (values .at))) ⌝ }
 {
     let mut p = specs.at;
@@ -234,7 +255,10 @@ pub fn scan(
             Cursor { at: from },
             e,
         ) else {
-            return Scanned::To(to);
+            return EntryScan::Through {
+                place: to,
+                end: values_end(abbreviations, Cursor { at: p }, Cursor { at: from }),
+            };
         };
         let v = a.value;
         let field = v.field;
@@ -244,7 +268,7 @@ pub fn scan(
                 to = place;
             }
             Scanned::Refused(n) => {
-                return Scanned::Refused(n);
+                return EntryScan::Refused(n);
             }
         }
         from = field.end;

@@ -19,7 +19,7 @@ use Rattle.readers.specs.Cursors.{cursor, asLebNumber, lebAt, fixedAt, s
 use Rattle.readers.specs.Fields.{size, fieldOf, asField, tokenAt, fieldAt, numberField, numberAt}
 use Rattle.readers.specs.Scan.{Scanned, push}
 use Rattle.readers.specs.Abbreviations.{specAt, attributesFrom, scannedTo, pastAttributes, movedDeclaration, wholeDeclaration, declarationFound, wholeFound}
-use Rattle.readers.specs.Entries.{attributeOfReads, asAttribute, attributeAt, attributeEnd, then, attributesLayout, specsLayout, asPast, valuesAt, foundLayout, entryLayout, entryFound, stepOfReads, asStep, stepAt}
+use Rattle.readers.specs.Entries.{attributeOfReads, asAttribute, attributeAt, attributeEnd, then, attributesLayout, specsLayout, asPast, valuesAt, foundLayout, entryLayout, entryFound, stepOfReads, asStep, stepAt, entryOf, entryTo, headEnd, headStep}
 use Rattle.readers.specs.declared.cursor.Encoding.{Encoding}
 use Rattle.readers.specs.declared.cursor.Cursor.{Cursor}
 use Rattle.readers.specs.declared.cursor.Number.{Number}
@@ -38,6 +38,9 @@ use Rattle.readers.specs.declared.abbreviations.Found.the-variants.{Decl
 use Rattle.readers.specs.declared.attributes.Attribute.{Attribute as Valued}
 use Rattle.readers.specs.declared.attributes.AttributeRead.{AttributeRead}
 use Rattle.readers.specs.declared.attributes.AttributeRead.the-variants.{Read as Attribute′, Unreadable as NoAttribute}
+use Rattle.readers.specs.declared.entries.EntryHead.{EntryHead}
+use Rattle.readers.specs.declared.entries.HeadStep.{HeadStep}
+use Rattle.readers.specs.declared.entries.HeadStep.the-variants.{Entry as Head, Terminator as TerminatorHead, End as EndHead, Unreadable as NoHead}
 use Rattle.readers.specs.declared.entries.Step.{Step}
 use Rattle.readers.specs.declared.entries.Step.the-variants.{Entry as Entry′, Terminator, End, Unreadable}
 use Rattle.readers.proofs.Specs.{attributes-more, attributes-last, attributes-bad}
@@ -563,15 +566,65 @@ module _ (e : Encoding) (abbreviations : List ℕ) (look : ℕ → Found) (unit 
         unfolding foundStep wholeFound
         step-unknown q′ = sym (ap (λ (f : Found). foundStep values (wholeFound abbreviations f)) q′) ∙ step-code
 
-        module _ (d : Declaration) (q′ : f ≡ Found′ d) (m : Moved) (p″ : m ≡ valuesAt e abbreviations (d .attributes .at) unit (values .at)) where
-          step-found : entryStep values d m ≡ stepAt e abbreviations look unit at
-          step-found = ap (entryStep values d) p″ ∙ whole-step values d ∙ sym (ap (λ (f : Found). foundStep values (wholeFound abbreviations f)) q′) ∙ step-code
+        step-found : (d : Declaration) → f ≡ Found′ d → entryStep values d (valuesAt e abbreviations (d .attributes .at) unit (values .at)) ≡ stepAt e abbreviations look unit at
+        step-found d q′ = whole-step values d ∙ sym (ap (λ (f : Found). foundStep values (wholeFound abbreviations f)) q′) ∙ step-code
 
-          pub step-unread : m ≡ Nowhere → Unreadable ≡ stepAt e abbreviations look unit at
-          unfolding entryStep
-          step-unread k = sym (ap (entryStep values d) k) ∙ step-found
+-- ---- heads of entries, however their values are encoded
 
-          pub step-entry : (next : Cursor) → m ≡ To next
-              → Entry′ (record { offset = record { 0 = at }; declaration = d; values = values; next = next }) ≡ stepAt e abbreviations look unit at
-          unfolding entryStep
-          step-entry next k = sym (ap (entryStep values d) k) ∙ step-found
+module _ (abbreviations : List ℕ) (look : ℕ → Found) (unit : List ℕ) (at : ℕ) where
+  abbrev HeadAt : HeadStep → Type 0
+  HeadAt r = (e : Encoding) → headStep e abbreviations unit r ≡ stepAt e abbreviations look unit at
+
+  pub head-end : length unit ≤ at → HeadAt EndHead
+  unfolding headStep
+  head-end h e = step-end e abbreviations look unit at h
+
+  module _ (h : at < length unit) (n : Number) (p : n ≡ lebAt uleb unit at) where
+    pub head-none : n ≡ NoNumber → HeadAt NoHead
+    unfolding headStep
+    head-none q e = step-none e abbreviations look unit at h n p q
+
+    module _ (code : ℕ) (values : Cursor) (q : n ≡ Value code values) where
+      pub head-terminator : code ≡ 0 → HeadAt (TerminatorHead values)
+      unfolding headStep
+      head-terminator z e = step-terminator e abbreviations look unit at h n p code values q z
+
+      module _ (z : code ≡ 0 → ⊥) (f : Found) (p′ : wholeFound abbreviations f ≡ look code) where
+        pub head-unknown : f ≡ Nothing → HeadAt NoHead
+        unfolding headStep
+        head-unknown q′ e = step-unknown e abbreviations look unit at h n p code values q z f p′ q′
+
+        pub head-entry : (d : Declaration) → f ≡ Found′ d → HeadAt (Head (record { offset = record { 0 = at }; declaration = d; values = values }))
+        unfolding headStep entryTo entryStep
+        head-entry d q′ e = same (valuesAt e abbreviations (d .attributes .at) unit (values .at)) ∙ step-found e abbreviations look unit at h n p code values q z f p′ d q′
+          where
+            same : (m : Moved) → entryTo (record { offset = record { 0 = at }; declaration = d; values = values }) m ≡ entryStep e abbreviations look unit at values d m
+            same (To next) = refl
+            same Nowhere = refl
+
+-- a step by its head
+module _ (e : Encoding) (abbreviations : List ℕ) (look : ℕ → Found) (unit : List ℕ) (at : ℕ) (r : HeadStep) (p : headStep e abbreviations unit r ≡ stepAt e abbreviations look unit at) where
+  pub headed-end : r ≡ EndHead → End ≡ stepAt e abbreviations look unit at
+  unfolding headStep
+  headed-end q = sym (ap (headStep e abbreviations unit) q) ∙ p
+
+  pub headed-none : r ≡ NoHead → Unreadable ≡ stepAt e abbreviations look unit at
+  unfolding headStep
+  headed-none q = sym (ap (headStep e abbreviations unit) q) ∙ p
+
+  pub headed-terminator : (next : Cursor) → r ≡ TerminatorHead next → Terminator next ≡ stepAt e abbreviations look unit at
+  unfolding headStep
+  headed-terminator next q = sym (ap (headStep e abbreviations unit) q) ∙ p
+
+  module _ (h : EntryHead) (q : r ≡ Head h) (m : Moved) (k : m ≡ headEnd e abbreviations unit h) where
+    pub headed : entryTo h m ≡ stepAt e abbreviations look unit at
+    unfolding headStep
+    headed = ap (entryTo h) k ∙ sym (ap (headStep e abbreviations unit) q) ∙ p
+
+    pub headed-unread : m ≡ Nowhere → Unreadable ≡ stepAt e abbreviations look unit at
+    unfolding entryTo
+    headed-unread l = sym (ap (entryTo h) l) ∙ headed
+
+    pub headed-entry : (next : Cursor) → m ≡ To next → Entry′ (entryOf h next) ≡ stepAt e abbreviations look unit at
+    unfolding entryTo
+    headed-entry next l = sym (ap (entryTo h) l) ∙ headed

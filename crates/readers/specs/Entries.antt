@@ -24,6 +24,9 @@ use Rattle.readers.specs.declared.attributes.Attribute.{Attribute}
 use Rattle.readers.specs.declared.attributes.AttributeRead.{AttributeRead}
 use Rattle.readers.specs.declared.attributes.AttributeRead.the-variants.{Read as Attribute′, Unreadable as NoAttribute}
 use Rattle.readers.specs.declared.entries.Entry.{Entry}
+use Rattle.readers.specs.declared.entries.EntryHead.{EntryHead}
+use Rattle.readers.specs.declared.entries.HeadStep.{HeadStep}
+use Rattle.readers.specs.declared.entries.HeadStep.the-variants.{Entry as Head, Terminator as TerminatorHead, End as EndHead, Unreadable as NoHead}
 use Rattle.readers.specs.declared.entries.Step.{Step}
 use Rattle.readers.specs.declared.entries.Step.the-variants.{Entry as Entry′, Terminator, End, Unreadable}
 
@@ -101,3 +104,22 @@ module _ (e : Encoding) (abbreviations : List ℕ) (look : ℕ → Found) where
   -- the entry or terminator at a place of the unit; its end ends the stream
   unfoldable pub stepAt : List ℕ → ℕ → Step
   stepAt unit at = pick (ltb at (length unit)) (asStep at (readIn (e .«big_endian») asBytes entryLayout (drop at unit))) End
+
+-- ---- an entry by its head
+
+abbrev pub entryOf : EntryHead → Cursor → Entry
+entryOf h next = record { offset = h .offset; declaration = h .declaration; values = h .values; next = next }
+
+-- and where its values end
+unfoldable pub entryTo : EntryHead → Moved → Step
+entryTo h (To next) = Entry′ (entryOf h next)
+entryTo h Nowhere = Unreadable
+
+abbrev pub headEnd : Encoding → List ℕ → List ℕ → EntryHead → Moved
+headEnd e abbreviations unit h = valuesAt e abbreviations (h .declaration .attributes .at) unit (h .values .at)
+
+unfoldable pub headStep : Encoding → List ℕ → List ℕ → HeadStep → Step
+headStep e abbreviations unit (Head h) = entryTo h (headEnd e abbreviations unit h)
+headStep e abbreviations unit (TerminatorHead next) = Terminator next
+headStep e abbreviations unit EndHead = End
+headStep e abbreviations unit NoHead = Unreadable

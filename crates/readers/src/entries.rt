@@ -1,9 +1,10 @@
 // The entries and terminators of a unit, one after the other (DWARF 5, 7.5.2 and 2.3), and how they nest.
 ghost use mathlib.Core.Path.{_≡_};
 ghost use mathlib.Core.List.{[]};
-ghost use Rattle.readers.specs.Entries.{valuesAt, stepAt};
+ghost use Rattle.readers.specs.Entries.{valuesAt, stepAt, headStep};
 ghost use Rattle.readers.specs.Abbreviations.{findAt};
 ghost use Rattle.readers.specs.Nesting.{nestingOf, opened, closed};
+ghost use Rattle.readers.specs.declared.cursor.Encoding.{Encoding as Encoded};
 use crate::abbreviations::Declaration;
 use crate::abbreviations::Found;
 use crate::abbreviations::SpecStep;
@@ -26,6 +27,21 @@ pub struct Entry {
 // One step through a unit. A terminator closes a list of children, or none.
 pub enum Step {
     Entry(Entry),
+    Terminator(Cursor),
+    End,
+    Unreadable,
+}
+
+// The head of an entry: where it starts, its declaration, and where the values of its attributes start.
+pub struct EntryHead {
+    pub offset: UnitOffset,
+    pub declaration: Declaration,
+    pub values: Cursor,
+}
+
+// One step through a unit that leaves the values of an entry unread.
+pub enum HeadStep {
+    Entry(EntryHead),
     Terminator(Cursor),
     End,
     Unreadable,
@@ -65,6 +81,32 @@ impl Cursor {
         }
     }
 
+    // The head of the entry, or the terminator, at a place of a unit, by the abbreviations from an offset on and their index. With where its values end it is the step
+    // there, however they are encoded.
+    pub fn entry_head(self, unit: &[u8], abbreviations: &[u8], from: u64, index: &[u64]) -> HeadStep
+        ensures { λ r. ⌜ ((e : Encoded) → headStep e (now (abbreviations .entry)) (now (unit .entry)) r ≡ stepAt e (now (abbreviations .entry)) (findAt (now (abbreviations .entry)) from (now (index .entry))) (now (unit .entry)) (self .at)) ⌝ }
+    {
+        let at = self.at;
+        if at >= unit.len() {
+            return HeadStep::End;
+        }
+        let Number::Value(code, values) = self.uleb(unit) else {
+            return HeadStep::Unreadable;
+        };
+        if code == 0 {
+            return HeadStep::Terminator(values);
+        }
+        let Found::Declaration(declaration) = find_declaration(abbreviations, from, index, code)
+        else {
+            return HeadStep::Unreadable;
+        };
+        HeadStep::Entry(EntryHead {
+            offset: UnitOffset(at as u64),
+            declaration,
+            values,
+        })
+    }
+
     // The entry or terminator at a place of a unit, by the abbreviations from an offset on and their index.
     pub fn step(
         self,
@@ -76,30 +118,30 @@ impl Cursor {
     ) -> Step
         ensures { λ r. ⌜ r ≡ stepAt e (now (abbreviations .entry)) (findAt (now (abbreviations .entry)) from (now (index .entry))) (now (unit .entry)) (self .at) ⌝ }
     {
-        let at = self.at;
-        if at >= unit.len() {
-            return Step::End;
+        match self.entry_head(unit, abbreviations, from, index) {
+            HeadStep::Entry(h) => {
+                let offset = h.offset;
+                let declaration = h.declaration;
+                let values = h.values;
+                let Moved::To(next) = values.past_values(
+                    unit,
+                    abbreviations,
+                    declaration.attributes,
+                    e,
+                ) else {
+                    return Step::Unreadable;
+                };
+                Step::Entry(Entry {
+                    offset,
+                    declaration,
+                    values,
+                    next,
+                })
+            }
+            HeadStep::Terminator(next) => Step::Terminator(next),
+            HeadStep::End => Step::End,
+            HeadStep::Unreadable => Step::Unreadable,
         }
-        let Number::Value(code, values) = self.uleb(unit) else {
-            return Step::Unreadable;
-        };
-        if code == 0 {
-            return Step::Terminator(values);
-        }
-        let Found::Declaration(declaration) = find_declaration(abbreviations, from, index, code)
-        else {
-            return Step::Unreadable;
-        };
-        let specs = declaration.attributes;
-        let Moved::To(next) = values.past_values(unit, abbreviations, specs, e) else {
-            return Step::Unreadable;
-        };
-        Step::Entry(Entry {
-            offset: UnitOffset(at as u64),
-            declaration,
-            values,
-            next,
-        })
     }
 }
 

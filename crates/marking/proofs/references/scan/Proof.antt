@@ -28,11 +28,14 @@ enum-known-a c = search needs
 enum-told : tie.Need-enum-told Inv-loop μ-loop
 enum-told c = search needs
 
+values-end-requires : tie.Need-values-end-requires Inv-loop μ-loop
+values-end-requires c κs = search needs
+
 same-length : tie.Need-same-length Inv-loop μ-loop
-same-length c = scanning-size _ _ _ _ _ _ _ _ _ _ _ (c .before .before .before .loop .inv)
+same-length c = scanning-size _ _ _ _ _ _ _ _ _ _ _ (c .before .before .before .before .loop .inv)
 
 returns : tie.Need-returns Inv-loop μ-loop
-returns c = scanning-end _ _ _ _ _ _ _ _ _ _ _ (c .before .before .before .loop .inv) _ (c .before .before .next-attribute .ensures) (c .enum-told .given .1)
+returns c = scanning-end _ _ _ _ _ _ _ _ _ _ _ (c .before .before .before .before .loop .inv) _ (c .before .before .before .next-attribute .ensures) (c .before .enum-told .given .1) _ (c .values-end .ensures)
 
 scan-attribute-requires : tie.Need-scan-attribute-requires Inv-loop μ-loop
 scan-attribute-requires c κs = search needs
@@ -65,6 +68,7 @@ scan-spec =
     next-attribute-requires
     enum-known-a
     enum-told
+    values-end-requires
     same-length
     returns
     scan-attribute-requires
