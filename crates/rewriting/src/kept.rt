@@ -1,6 +1,10 @@
 // The kept entries and terminators of a unit, one after the other.
 ghost use mathlib.Core.Path.{_≡_};
+ghost use Prim.Native.Nat.{_^_, _≤_, _<_};
+ghost use lib.ListN.{length};
 ghost use Rattle.marking.specs.Marks.{isKept};
+ghost use Rattle.rewriting.specs.Parents.{entriesIn, HoldsFrom};
+ghost use Rattle.rewriting.specs.Ends.{endNumber, endsFrom};
 ghost use Rattle.rewriting.specs.NextKept.{closesKept, itemsBy, Answers};
 use readers::cursor::Cursor;
 use readers::cursor::Encoding;
@@ -56,6 +60,57 @@ fn closes_kept(marks: &[u8], nesting: Nesting) -> bool
     }
     let parent = nesting.parent;
     is_kept(marks, parent.0 as usize)
+}
+
+// The number of an entry that ends at a place below 4 GiB: twice the place, and one more where it has children.
+fn end_number(end: u64, children: bool) -> u64
+    ensures { λ r. ⌜ (end < 2 ^ 32 → r ≡ endNumber end children) ⌝ }
+{
+    if end > 0xffff_ffff {
+        return 0;
+    }
+    if children {
+        return 2 * end + 1;
+    }
+    2 * end
+}
+
+// Fills a column with the ends of a unit's entries, so that a pass need not step over their values again.
+pub fn fill_ends(
+    unit: &[u8],
+    abbreviations: &[u8],
+    r: Reading,
+    index: &[u64],
+    first: usize,
+    ends: &mut [u64],
+)
+    ensures { λ _. ⌜ (length (now (unit .entry)) < 2 ^ 32 → entriesIn (itemsBy r (now (abbreviations .entry)) (now (index .entry)) (now (unit .entry)) first) ≤ length (now (ends .entry)) → HoldsFrom (now (ends .exit)) 0 (endsFrom (itemsBy r (now (abbreviations .entry)) (now (index .entry)) (now (unit .entry)) first))) ⌝ }
+{
+    let mut at = first;
+    let mut count: usize = 0;
+    loop {
+        match (Cursor { at }).step(unit, abbreviations, r.from, index, r.encoding) {
+            Step::Entry(x) => {
+                if count >= ends.len() {
+                    return;
+                }
+                let declaration = x.declaration;
+                let next = x.next;
+                ends[count] = end_number(next.at as u64, declaration.children);
+                count += 1;
+                at = next.at;
+            }
+            Step::Terminator(next) => {
+                at = next.at;
+            }
+            Step::End => {
+                return;
+            }
+            Step::Unreadable => {
+                return;
+            }
+        }
+    }
 }
 
 // The next kept item. A unit below 4 GiB has fewer entries than a u32 can count.
