@@ -5,7 +5,7 @@ use native.Mathlib.Omega.{arith}
 use native.Mathlib.Numerals.{add-one}
 use mathlib.Core.Bool.{Bool, true, false}
 use mathlib.Core.List.{List, [], _∷_}
-use lib.ListN.{length, getD, set, length-set}
+use lib.ListN.{length, getD, set, length-set, List·getD-eq-default}
 use lib.Seq.{getD-set-same, getD-set-other}
 use Rattle.readers.specs.Abbreviations.{findAt}
 use Rattle.readers.specs.Choice.{pick}
@@ -16,8 +16,8 @@ use Rattle.readers.specs.declared.cursor.Cursor.{Cursor}
 use Rattle.readers.specs.declared.entries.Entry.{Entry}
 use Rattle.readers.specs.declared.entries.Step.{Step}
 use Rattle.readers.specs.declared.entries.Step.the-variants.{Entry as Entry′, Terminator, End, Unreadable}
-use Rattle.rewriting.specs.Parents.{entriesIn, HoldsFrom}
-use Rattle.rewriting.specs.Ends.{endNumber, endsFrom}
+use Rattle.rewriting.specs.Parents.{entriesIn}
+use Rattle.rewriting.specs.Ends.{endNumber, EndsHeld}
 use Rattle.rewriting.specs.NextKept.{itemsBy}
 use Rattle.rewriting.specs.declared.kept.Reading.{Reading}
 use Rattle.rewriting.proofs.KeptSteps.{items-entry, items-terminator, items-end, items-bad}
@@ -30,6 +30,10 @@ pub number-no : (end : ℕ) (children : Bool) → children ≡ false → end < 2
 unfolding endNumber pick
 number-no end children q h = sym (ap (endNumber end) q)
 
+-- a column that has ended
+pub ended-out : (ends : List ℕ) (count : ℕ) → length ends ≤ count → getD ends count 0 ≡ 0
+ended-out ends count h = List·getD-eq-default ends 0 h
+
 module _ (r : Reading) (abbreviations index unit : List ℕ) (first : ℕ) (ends₀ : List ℕ) where
   abbrev items : ℕ → List Item
   items = itemsBy r abbreviations index unit
@@ -41,38 +45,39 @@ module _ (r : Reading) (abbreviations index unit : List ℕ) (first : ℕ) (ends
   pub record Ending (ends : List ℕ) (at count : ℕ) : Type 0 where
     pub size : length ends ≡ length ends₀
     pub many : entriesIn (items first) ≡ count + entriesIn (items at)
-    pub onward : length unit < 2 ^ 32 → (final : List ℕ) → ((i : ℕ) → i < count → getD final i 4294967295 ≡ getD ends i 4294967295)
-        → HoldsFrom final count (endsFrom (items at)) → HoldsFrom final 0 (endsFrom (items first))
+    pub onward : length unit < 2 ^ 32 → (final : List ℕ) → ((i : ℕ) → i < count → getD final i 0 ≡ getD ends i 0)
+        → EndsHeld final count (items at) → EndsHeld final 0 (items first)
 
   abbrev pub Ended : List ℕ → Type 0
-  Ended ends = length unit < 2 ^ 32 → entriesIn (items first) ≤ length ends₀ → HoldsFrom ends 0 (endsFrom (items first))
+  Ended ends = length unit < 2 ^ 32 → entriesIn (items first) ≤ length ends₀ → EndsHeld ends 0 (items first)
 
   pub ending-start : ends₀ ≡ ends₀ → Ending ends₀ first 0
   ending-start _ = record { size = refl; many = (let z : entriesIn (items first) ≡ 0 + entriesIn (items first) = omega arith in z); onward = λ u final a h. h }
 
   module _ (ends : List ℕ) (at count : ℕ) (g : Ending ends at count) (o : Step) (p : o ≡ step at) where
-    last : items at ≡ [] → Ended ends
-    unfolding endsFrom HoldsFrom
-    last q u _ = g .onward u ends (λ i l. refl) (subst (λ (is : List Item). HoldsFrom ends count (endsFrom is)) (sym q) tt)
+    module _ (final : List ℕ) (z : getD final count 0 ≡ 0) (a : (i : ℕ) → i < count → getD final i 0 ≡ getD ends i 0) where
+      last : items at ≡ [] → Ended final
+      unfolding EndsHeld
+      last q u _ = g .onward u final a (subst (λ (is : List Item). EndsHeld final count is) (sym q) z)
 
-    pub ending-end : o ≡ End → Ended ends
-    ending-end q = last (items-end (r .encoding) abbreviations (findAt abbreviations (r .from) index) unit at (sym p ∙ q))
+      pub ending-end : o ≡ End → Ended final
+      ending-end q = last (items-end (r .encoding) abbreviations (findAt abbreviations (r .from) index) unit at (sym p ∙ q))
 
-    pub ending-bad : o ≡ Unreadable → Ended ends
-    ending-bad q = last (items-bad (r .encoding) abbreviations (findAt abbreviations (r .from) index) unit at (sym p ∙ q))
+      pub ending-bad : o ≡ Unreadable → Ended final
+      ending-bad q = last (items-bad (r .encoding) abbreviations (findAt abbreviations (r .from) index) unit at (sym p ∙ q))
 
     module _ (c : Cursor) (q : o ≡ Terminator c) where
       pub ending-terminator-less : length unit - c .at < length unit - at
       ending-terminator-less = let i = terminator-inside (r .encoding) abbreviations (findAt abbreviations (r .from) index) unit at c (sym p ∙ q) in omega (arith, i .0, i .1)
 
       pub ending-terminator : Ending ends (c .at) count
-      unfolding entriesIn endsFrom
+      unfolding entriesIn EndsHeld
       ending-terminator =
           let e : items at ≡ terminator at (c .at) ∷ items (c .at) = items-terminator (r .encoding) abbreviations (findAt abbreviations (r .from) index) unit at c (sym p ∙ q) in
           record {
             size = g .size;
             many = g .many ∙ ap (λ (is : List Item). count + entriesIn is) e;
-            onward = λ u final a h. g .onward u final a (subst (λ (is : List Item). HoldsFrom final count (endsFrom is)) (sym e) h);
+            onward = λ u final a h. g .onward u final a (subst (λ (is : List Item). EndsHeld final count is) (sym e) h);
           }
 
     module _ (x : Entry) (q : o ≡ Entry′ x) where
@@ -93,17 +98,17 @@ module _ (r : Reading) (abbreviations index unit : List ℕ) (first : ℕ) (ends
       ending-entry-less = omega (arith, inside .coded, inside .ahead, inside .within)
 
       module _ (h : count < length ends) (v : ℕ) (w : x .next .at < 2 ^ 32 → v ≡ endNumber (x .next .at) (x .declaration .children)) where
-        put-onward : length unit < 2 ^ 32 → (final : List ℕ) → ((i : ℕ) → i < count + 1 → getD final i 4294967295 ≡ getD (set ends count v) i 4294967295)
-            → HoldsFrom final (count + 1) (endsFrom (items (x .next .at))) → HoldsFrom final 0 (endsFrom (items first))
-        unfolding endsFrom HoldsFrom
+        put-onward : length unit < 2 ^ 32 → (final : List ℕ) → ((i : ℕ) → i < count + 1 → getD final i 0 ≡ getD (set ends count v) i 0)
+            → EndsHeld final (count + 1) (items (x .next .at)) → EndsHeld final 0 (items first)
+        unfolding EndsHeld
         put-onward u final a k =
             let b : x .next .at < 2 ^ 32 = omega (arith, inside .within) in
-            let f : getD final count 4294967295 ≡ endNumber (x .next .at) (x .declaration .children) =
-            a count (omega arith) ∙ getD-set-same ends count v 4294967295 h ∙ w b in
-            let t : HoldsFrom final (suc count) (endsFrom (items (x .next .at))) = subst (λ (n : ℕ). HoldsFrom final n (endsFrom (items (x .next .at)))) (add-one count) k in
+            let f : getD final count 0 ≡ endNumber (x .next .at) (x .declaration .children) =
+            a count (omega arith) ∙ getD-set-same ends count v 0 h ∙ w b in
+            let t : EndsHeld final (suc count) (items (x .next .at)) = subst (λ (n : ℕ). EndsHeld final n (items (x .next .at))) (add-one count) k in
             g .onward u final
-            (λ i l. a i (omega arith) ∙ getD-set-other ends count i v 4294967295 (λ z. omega arith))
-            (subst (λ (is : List Item). HoldsFrom final count (endsFrom is)) (sym here) (f, t))
+            (λ i l. a i (omega arith) ∙ getD-set-other ends count i v 0 (λ z. omega arith))
+            (subst (λ (is : List Item). EndsHeld final count is) (sym here) (f, t))
 
         pub ending-entry : Ending (set ends count v) (x .next .at) (count + 1)
         ending-entry = record { size = length-set ends count v ∙ g .size; many = (let z : entriesIn (items first) ≡ count + 1 + entriesIn (items (x .next .at)) = omega (arith, more) in z); onward = put-onward }

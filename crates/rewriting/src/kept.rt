@@ -1,10 +1,10 @@
 // The kept entries and terminators of a unit, one after the other.
 ghost use mathlib.Core.Path.{_≡_};
-ghost use Prim.Native.Nat.{_^_, _≤_, _<_};
-ghost use lib.ListN.{length};
+ghost use Prim.Native.Nat.{ℕ, _^_, _≤_, _<_};
+ghost use lib.ListN.{length, getD};
 ghost use Rattle.marking.specs.Marks.{isKept};
-ghost use Rattle.rewriting.specs.Parents.{entriesIn, HoldsFrom};
-ghost use Rattle.rewriting.specs.Ends.{endNumber, endsFrom};
+ghost use Rattle.rewriting.specs.Parents.{entriesIn};
+ghost use Rattle.rewriting.specs.Ends.{endNumber, EndsHeld};
 ghost use Rattle.rewriting.specs.NextKept.{closesKept, itemsBy, Answers};
 use readers::cursor::Cursor;
 use readers::cursor::Encoding;
@@ -75,6 +75,16 @@ fn end_number(end: u64, children: bool) -> u64
     2 * end
 }
 
+// Puts a 0 after the numbers of a column, if it goes on.
+fn end_column(ends: &mut [u64], count: usize)
+    ensures ends { λ _. ⌜ getD (now (ends .exit)) count 0 ≡ 0 ⌝ }
+    ensures others { λ _. ⌜ ((i : ℕ) → i < count → getD (now (ends .exit)) i 0 ≡ getD (now (ends .entry)) i 0) ⌝ }
+{
+    if count < ends.len() {
+        ends[count] = 0;
+    }
+}
+
 // Fills a column with the ends of a unit's entries, so that a pass need not step over their values again.
 pub fn fill_ends(
     unit: &[u8],
@@ -84,7 +94,7 @@ pub fn fill_ends(
     first: usize,
     ends: &mut [u64],
 )
-    ensures { λ _. ⌜ (length (now (unit .entry)) < 2 ^ 32 → entriesIn (itemsBy r (now (abbreviations .entry)) (now (index .entry)) (now (unit .entry)) first) ≤ length (now (ends .entry)) → HoldsFrom (now (ends .exit)) 0 (endsFrom (itemsBy r (now (abbreviations .entry)) (now (index .entry)) (now (unit .entry)) first))) ⌝ }
+    ensures { λ _. ⌜ (length (now (unit .entry)) < 2 ^ 32 → entriesIn (itemsBy r (now (abbreviations .entry)) (now (index .entry)) (now (unit .entry)) first) ≤ length (now (ends .entry)) → EndsHeld (now (ends .exit)) 0 (itemsBy r (now (abbreviations .entry)) (now (index .entry)) (now (unit .entry)) first)) ⌝ }
 {
     let mut at = first;
     let mut count: usize = 0;
@@ -104,9 +114,11 @@ pub fn fill_ends(
                 at = next.at;
             }
             Step::End => {
+                end_column(ends, count);
                 return;
             }
             Step::Unreadable => {
+                end_column(ends, count);
                 return;
             }
         }

@@ -59,6 +59,9 @@ loop-again-2 c = search ending-terminator
 enum-told : tie.Need-enum-told Inv-loop μ-loop
 enum-told c = search needs
 
+end-column-requires : tie.Need-end-column-requires Inv-loop μ-loop
+end-column-requires c κs = search needs
+
 same-length-2 : tie.Need-same-length-2 Inv-loop μ-loop
 same-length-2 c = search needs
 
@@ -67,6 +70,9 @@ returns-2 c = search ending-end
 
 enum-told-2 : tie.Need-enum-told-2 Inv-loop μ-loop
 enum-told-2 c = search needs
+
+end-column-requires-2 : tie.Need-end-column-requires-2 Inv-loop μ-loop
+end-column-requires-2 c κs = search needs
 
 same-length-3 : tie.Need-same-length-3 Inv-loop μ-loop
 same-length-3 c = search needs
@@ -95,8 +101,10 @@ fill-ends-spec =
     loop-less-2
     loop-again-2
     enum-told
+    end-column-requires
     same-length-2
     returns-2
     enum-told-2
+    end-column-requires-2
     same-length-3
     returns-3)
