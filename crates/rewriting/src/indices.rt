@@ -217,15 +217,16 @@ pub fn gather(
     r: Reading,
     index: &[u64],
     parents: &[u32],
+    ends: &[u64],
     marks: &[u8],
     first: usize,
     range_list: &mut [u8],
     location_list: &mut [u8],
     string_list: &mut [u8],
 ) -> Gathered
-    ensures ranges { λ n. ⌜ Listing 0 r (now (abbreviations .entry)) (now (index .entry)) (now (unit .entry)) (now (parents .entry)) (now (marks .entry)) first (now («range_list» .entry)) (n .ranges) (now («range_list» .exit)) ⌝ }
-    ensures locations { λ n. ⌜ Listing 1 r (now (abbreviations .entry)) (now (index .entry)) (now (unit .entry)) (now (parents .entry)) (now (marks .entry)) first (now («location_list» .entry)) (n .locations) (now («location_list» .exit)) ⌝ }
-    ensures strings { λ n. ⌜ Listing 2 r (now (abbreviations .entry)) (now (index .entry)) (now (unit .entry)) (now (parents .entry)) (now (marks .entry)) first (now («string_list» .entry)) (n .strings) (now («string_list» .exit)) ⌝ }
+    ensures ranges { λ n. ⌜ Listing 0 r (now (abbreviations .entry)) (now (index .entry)) (now (unit .entry)) (now (parents .entry)) (now (ends .entry)) (now (marks .entry)) first (now («range_list» .entry)) (n .ranges) (now («range_list» .exit)) ⌝ }
+    ensures locations { λ n. ⌜ Listing 1 r (now (abbreviations .entry)) (now (index .entry)) (now (unit .entry)) (now (parents .entry)) (now (ends .entry)) (now (marks .entry)) first (now («location_list» .entry)) (n .locations) (now («location_list» .exit)) ⌝ }
+    ensures strings { λ n. ⌜ Listing 2 r (now (abbreviations .entry)) (now (index .entry)) (now (unit .entry)) (now (parents .entry)) (now (ends .entry)) (now (marks .entry)) first (now («string_list» .entry)) (n .strings) (now («string_list» .exit)) ⌝ }
 {
     let mut s = Stand {
         at: first,
@@ -238,7 +239,8 @@ pub fn gather(
         strings: 0,
     };
     loop {
-        let KeptStep::Item(x) = next_kept(unit, abbreviations, r, index, parents, marks, s) else {
+        let KeptStep::Item(x) = next_kept(unit, abbreviations, r, index, parents, ends, marks, s)
+        else {
             return g;
         };
         let next = x.next;
