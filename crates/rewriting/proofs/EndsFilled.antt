@@ -51,8 +51,8 @@ module _ (r : Reading) (abbreviations index unit : List ℕ) (first : ℕ) (ends
   abbrev pub Ended : List ℕ → Type 0
   Ended ends = length unit < 2 ^ 32 → entriesIn (items first) ≤ length ends₀ → EndsHeld ends 0 (items first)
 
-  pub ending-start : ends₀ ≡ ends₀ → Ending ends₀ first 0
-  ending-start _ = record { size = refl; many = (let z : entriesIn (items first) ≡ 0 + entriesIn (items first) = omega arith in z); onward = λ u final a h. h }
+  pub ending-start : Ending ends₀ first 0
+  ending-start = record { size = refl; many = (let z : entriesIn (items first) ≡ 0 + entriesIn (items first) = omega arith in z); onward = λ u final a h. h }
 
   module _ (ends : List ℕ) (at count : ℕ) (g : Ending ends at count) (o : Step) (p : o ≡ step at) where
     module _ (final : List ℕ) (z : getD final count 0 ≡ 0) (a : (i : ℕ) → i < count → getD final i 0 ≡ getD ends i 0) where

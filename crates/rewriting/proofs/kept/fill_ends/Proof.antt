@@ -2,7 +2,6 @@
 use Prim.Native.Nat.{_-_}
 use native.Mathlib.Omega.{arith}
 use lib.ListN.{length}
-use mathlib.Core.Path.{refl}
 use borrow.Author.Needs.{needs}
 use Rattle.rewriting.proofs.EndsFilled.{Ending, ending-start, ending-end, ending-bad, ending-terminator-less, ending-terminator, ending-full, ending-entry-less, ending-entry}
 use Rattle.rewriting.proofs.kept.fill_ends.Statement.{statement}
@@ -15,7 +14,7 @@ abbrev μ-loop : tie.MeasureT-loop
 μ-loop unit abbreviations r index first ends₀ at₀ count₀ ends at count = length unit - at
 
 loop-holds : tie.Need-loop-holds Inv-loop μ-loop
-loop-holds c = ending-start _ _ _ _ _ _ refl
+loop-holds c = ending-start _ _ _ _ _ _
 
 step-requires : tie.Need-step-requires Inv-loop μ-loop
 step-requires c κs = search needs
