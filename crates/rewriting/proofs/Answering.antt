@@ -1,19 +1,21 @@
 -- The answers of collect and of its parts: what follows of a refusal, of nothing to do, of an accepted answer. Assumes nothing.
 use mathlib.Core.Path.{_≡_, refl, ap, sym, _∙_, subst}
-use Prim.Native.Nat.{ℕ}
+use Prim.Native.Nat.{ℕ, _≤_, _<_}
 use native.Mathlib.Omega.{arith}
 use mathlib.Core.Bool.{Bool}
 use mathlib.Core.List.{List, [], _∷_}
 use mathlib.Core.Option.{Option, none, some}
 use lib.ListN.{length}
-use Rattle.readers.specs.Choice.{zeros}
+use lib.Dec.{leb}
+use mir.Facts.{leb-yes, leb-no}
+use Rattle.readers.specs.Choice.{pick, pick-either, zeros}
 use Rattle.readers.specs.Abbreviations.{Placed, abbreviationsOf, indexOf}
 use Rattle.readers.specs.Header.{headerOf}
 use Rattle.readers.specs.declared.header.UnitHeader.{UnitHeader}
 use Rattle.readers.specs.declared.header.HeaderRead.{HeaderRead}
 use Rattle.readers.specs.declared.header.HeaderRead.the-variants.{Unit as Header′, Empty, Refused as NoHeader}
 use Rattle.marking.specs.Analysis.{Sections, Rooms, Row, Analysed, analysed, refused as notAnalysed, onDeclared, unitAnalysed, headerAnalysed, analysisOf}
-use Rattle.marking.specs.Columns.{padTo, column, parentsIn, indexAfter}
+use Rattle.marking.specs.Columns.{padTo, column, parentsIn, indexAfter, least, roomsOf, unitRooms}
 use Rattle.marking.specs.Marks.{keptCount}
 use Rattle.marking.specs.Resolution.{marksIn, unitMarks}
 use Rattle.marking.specs.declared.units.UnitMarks.{UnitMarks}
@@ -223,6 +225,22 @@ module _ (x : Sections) (room : Room) (t : Bool) (section : List ℕ) where
   marking h q entries kept m n =
       marking-declared h q entries kept (marks-counted (analysisOf x section tables) entries kept m) n (abbreviationsOf (x .abbreviations) (h .abbreviations)) refl
 
+-- there is room for no more entries than a column has numbers
+least-two : (a b : ℕ) → (least a b ≤ a) × (least a b ≤ b)
+unfolding least
+least-two a b =
+    pick-either (λ (z : ℕ). (z ≤ a) × (z ≤ b)) (leb a b) a b (λ t. (let y : a ≤ a = omega arith in y, leb-yes {a = a} {b = b} t))
+    (λ t. (let z : b < a = leb-no {a = a} {b = b} t in let y : b ≤ a = omega arith in y, let y : b ≤ b = omega arith in y))
+
+pub ends-enough : (marks pairs offsets parents roots ends targets : ℕ) → unitRooms marks pairs offsets parents roots ends targets .entries ≤ ends
+unfolding unitRooms roomsOf
+ends-enough marks pairs offsets parents roots ends targets =
+    let h : least marks (least (least offsets parents) (least roots ends)) ≤ least (least offsets parents) (least roots ends) = least-two marks (least (least offsets parents) (least roots ends)) .1 in
+    let k : least (least offsets parents) (least roots ends) ≤ least roots ends = least-two (least offsets parents) (least roots ends) .1 in
+    let l : least roots ends ≤ ends = least-two roots ends .1 in
+    let z : least marks (least (least offsets parents) (least roots ends)) ≤ ends = omega arith in
+    z
+
 -- the tables that marking leaves
 module _ (x : Sections) (tables : Rooms) (section : List ℕ) (h : UnitHeader) (ds : List Placed) (rows : List Row) (q : headerOf section ≡ Header′ h)
     (d : abbreviationsOf (x .abbreviations) (h .abbreviations) ≡ some ds) (a : analysisOf x section tables ≡ analysed rows) where
@@ -230,9 +248,9 @@ module _ (x : Sections) (tables : Rooms) (section : List ℕ) (h : UnitHeader) (
       → (m parents : _) → parents ≡ column parentsIn m (analysisOf x section tables) → length parents ≡ m
       → (k marks : _) → marks ≡ column marksIn k (analysisOf x section tables) → length marks ≡ k
       → (entries kept : ℕ) → entries ≡ length (marksIn rows) → kept ≡ keptCount (marksIn rows)
-      → Tabled x tables section h ds rows (x .abbreviations) index parents marks entries kept
+      → (ends : List ℕ) → tables .entries ≤ length ends → Tabled x tables section h ds rows (x .abbreviations) index parents ends marks entries kept
   unfolding indexAfter column
-  tabled n index i il m parents p pl k marks w wl entries kept e f =
+  tabled n index i il m parents p pl k marks w wl entries kept e f ends g =
       record {
         abbreviations-are = refl;
         header-is = q;
@@ -241,6 +259,7 @@ module _ (x : Sections) (tables : Rooms) (section : List ℕ) (h : UnitHeader) (
         index-is = i ∙ ap (λ (o : HeaderRead). indexAfter (x .abbreviations) o n) q ∙ ap (indexOf (x .abbreviations) (h .abbreviations)) (sym il);
         parents-are = p ∙ ap (column parentsIn m) a ∙ ap (λ (z : ℕ). padTo z (parentsIn rows)) (sym pl);
         marks-are = w ∙ ap (column marksIn k) a ∙ ap (λ (z : ℕ). padTo z (marksIn rows)) (sym wl);
+        ends-room = g;
         entries-are = e;
         kept-are = f;
       }
@@ -269,20 +288,21 @@ by-lengths f c a map′ ranges′ locations′ strings′ out′ m m₀ r r₀ l
     (subst (λ (z : ℕ). Answers (f z r l s o) a z r l s o map′ ranges′ locations′ strings′ out′) em h)))))
 
 -- a unit that has entries
-pub unit-answers : (x : Sections) (tables : Rooms) (t : Bool) (section : List ℕ) (h : UnitHeader) (entries kept n k p m₀ r₀ l₀ s₀ o₀ : ℕ) (index parents marks map ranges locations strings out map′ ranges′ locations′ strings′ out′ : List ℕ) (a : Answer)
+pub unit-answers : (x : Sections) (tables : Rooms) (t : Bool) (section : List ℕ) (h : UnitHeader) (entries kept n k p e₀ m₀ r₀ l₀ s₀ o₀ : ℕ) (index parents ends marks map ranges locations strings out map′ ranges′ locations′ strings′ out′ : List ℕ) (a : Answer)
     → headerOf section ≡ Header′ h → unitMarks (analysisOf x section tables) ≡ Marked entries kept → (entries ≡ 0 → ⊥)
     → index ≡ indexAfter (x .abbreviations) (headerOf section) n → length index ≡ n
     → parents ≡ column parentsIn p (analysisOf x section tables) → length parents ≡ p
+    → length ends ≡ e₀ → tables .entries ≤ e₀
     → marks ≡ column marksIn k (analysisOf x section tables) → length marks ≡ k
     → map ≡ zeros m₀ → length map ≡ m₀ → ranges ≡ zeros r₀ → length ranges ≡ r₀ → locations ≡ zeros l₀ → length locations ≡ l₀
     → strings ≡ zeros s₀ → length strings ≡ s₀ → out ≡ zeros o₀ → length out ≡ o₀
-    → ((x′ : Sections) (tables′ : Rooms) (ds : List Placed) (rows : List Row) → Tabled x′ tables′ section h ds rows (x .abbreviations) index parents marks entries kept → Blank map ranges locations strings out
+    → ((x′ : Sections) (tables′ : Rooms) (ds : List Placed) (rows : List Row) → Tabled x′ tables′ section h ds rows (x .abbreviations) index parents ends marks entries kept → Blank map ranges locations strings out
     → Answers (markedOf x′ (roomBy tables′ (length map) (length ranges) (length locations) (length strings) (length out)) t (ownUnit h section ds) rows) a (length map) (length ranges) (length locations) (length strings) (length out) map′ ranges′ locations′ strings′ out′)
     → Answers (collectOf x (roomBy tables m₀ r₀ l₀ s₀ o₀) t section) a m₀ r₀ l₀ s₀ o₀ map′ ranges′ locations′ strings′ out′
-unit-answers x tables t section h entries kept n k p m₀ r₀ l₀ s₀ o₀ index parents marks map ranges locations strings out map′ ranges′ locations′ strings′ out′ a q u z i il ps pl ms ml em m er r el l es s eo o f =
+unit-answers x tables t section h entries kept n k p e₀ m₀ r₀ l₀ s₀ o₀ index parents ends marks map ranges locations strings out map′ ranges′ locations′ strings′ out′ a q u z i il ps pl le en ms ml em m er r el l es s eo o f =
     let w : Marking x (roomBy tables m₀ r₀ l₀ s₀ o₀) t section h entries kept = marking x (roomBy tables m₀ r₀ l₀ s₀ o₀) t section h q entries kept u z in
     by-lengths (λ m r l s o. markedOf x (roomBy tables m r l s o) t (ownUnit h section (w .declared)) (w .rows)) (collectOf x (roomBy tables m₀ r₀ l₀ s₀ o₀) t section) a map′ ranges′ locations′ strings′ out′
     (length map) m₀ (length ranges) r₀ (length locations) l₀ (length strings) s₀ (length out) o₀ m r l s o (w .collected)
     (f x tables (w .declared) (w .rows)
-    (tabled x tables section h (w .declared) (w .rows) q (w .declared-are) (w .analysis-is) n index i il p parents ps pl k marks ms ml entries kept (w .entries-are) (w .kept-are))
+    (tabled x tables section h (w .declared) (w .rows) q (w .declared-are) (w .analysis-is) n index i il p parents ps pl k marks ms ml entries kept (w .entries-are) (w .kept-are) ends (let g : tables .entries ≤ length ends = omega (arith, en) in g))
     (blank m₀ r₀ l₀ s₀ o₀ map ranges locations strings out em m er r el l es s eo o))

@@ -91,7 +91,7 @@ module _ (r : Reading) (s table unit : List ℕ) (k : ℕ) where
 
   -- ---- the loop
 
-  module _ (ordered : Bool) (parents marks : List ℕ) (first : ℕ) where
+  module _ (ordered : Bool) (parents ends marks : List ℕ) (first : ℕ) where
     abbrev items : ℕ → List Item
     items at = itemsBy r s table unit at
 
@@ -101,13 +101,13 @@ module _ (r : Reading) (s table unit : List ℕ) (k : ℕ) where
     -- a pass that puts the indices of what it has met into a list
     pub record Passing (x : Sections) (u : Unit′) (list₀ : List ℕ) (t : Stand) (list : List ℕ) (n : ℕ) : Type 0 where
       pub stack : List ℕ
-      pub stood : Stood items parents t stack
-      pub deep : AllRead x u (keptAt items parents marks t stack)
-      pub onward : Onward ordered (indicesFrom x u k all-kept) 0 list₀ (indicesFrom x u k (keptAt items parents marks t stack)) n list
+      pub stood : Stood items parents ends t stack
+      pub deep : AllRead x u (keptAt items parents ends marks t stack)
+      pub onward : Onward ordered (indicesFrom x u k all-kept) 0 list₀ (indicesFrom x u k (keptAt items parents ends marks t stack)) n list
 
     abbrev pub Collecting : List ℕ → Stand → List ℕ → ℕ → Type 0
     Collecting list₀ t list n =
-        (length list ≡ length list₀) × ((x : Sections) (u : Unit′) → Passable x u r s table unit parents marks first → k < 3 → Passing x u list₀ t list n)
+        (length list ≡ length list₀) × ((x : Sections) (u : Unit′) → Passable x u r s table unit parents ends marks first → k < 3 → Passing x u list₀ t list n)
 
     pub collecting-start : (list₀ : List ℕ) (n : Nesting) → n ≡ nestingOf [] → Collecting list₀ (record { at = first; count = 0; nesting = n }) list₀ 0
     unfolding openKept Chained
@@ -115,13 +115,13 @@ module _ (r : Reading) (s table unit : List ℕ) (k : ℕ) where
       refl,
       λ x u p l. record {
         stack = [];
-        stood = record { nested = m; chained = tt; counted = omega arith; passed = omega arith; holds = p .holds };
+        stood = record { nested = m; chained = tt; counted = omega arith; passed = omega arith; holds = p .holds; ends-hold = p .ends-hold };
         deep = p .deep;
         onward = onward-start _ _ _ _;
       },
     )
 
-    module _ (t : Stand) (o : KeptStep) (a : Answers items parents marks unit t o) where
+    module _ (t : Stand) (o : KeptStep) (a : Answers items parents ends marks unit t o) where
       pub collect-less : (y : Kept) → o ≡ Item′ y → length unit - y .next .at < length unit - t .at
       unfolding Forward
       collect-less y q =
@@ -129,33 +129,33 @@ module _ (r : Reading) (s table unit : List ℕ) (k : ℕ) where
           omega (arith, i .0, i .1, i .2, i .3)
 
       module _ (list₀ list : List ℕ) (n : ℕ) (g : Collecting list₀ t list n) where
-        pub collect-end : o ≡ End → k < 3 → Gathers k ordered r s table unit parents marks first list₀ n list
+        pub collect-end : o ≡ End → k < 3 → Gathers k ordered r s table unit parents ends marks first list₀ n list
         unfolding Next indicesFrom
         collect-end q l x u p h =
             let v : Passing x u list₀ t list n = g .1 x u p l in
-            let e : keptAt items parents marks t (v .stack) ≡ [] = subst (Next items parents marks t (v .stack)) q (a .next (v .stack) (p .small) (v .stood)) in
+            let e : keptAt items parents ends marks t (v .stack) ≡ [] = subst (Next items parents ends marks t (v .stack)) q (a .next (v .stack) (p .small) (v .stood)) in
             onward-end _ _ _ _ _ _ _ (v .onward) (ap (indicesFrom x u k) e) [] (holding-none ordered list₀ h)
 
         module _ (y : Kept) (q : o ≡ Item′ y) where
-          module _ (x : Sections) (u : Unit′) (p : Passable x u r s table unit parents marks first) (l : k < 3) where
+          module _ (x : Sections) (u : Unit′) (p : Passable x u r s table unit parents ends marks first) (l : k < 3) where
             abbrev now : Passing x u list₀ t list n
             now = g .1 x u p l
 
-            next-item : NextItem items parents marks t (now .stack) y
+            next-item : NextItem items parents ends marks t (now .stack) y
             unfolding Next
-            next-item = subst (Next items parents marks t (now .stack)) q (a .next (now .stack) (p .small) (now .stood))
+            next-item = subst (Next items parents ends marks t (now .stack)) q (a .next (now .stack) (p .small) (now .stood))
 
-            deep-here : AllRead x u (next-item .standing ∷ keptAt items parents marks (y .next) (next-item .after))
+            deep-here : AllRead x u (next-item .standing ∷ keptAt items parents ends marks (y .next) (next-item .after))
             deep-here = subst (AllRead x u) (next-item .whole) (now .deep)
 
-            deep-after : AllRead x u (keptAt items parents marks (y .next) (next-item .after))
+            deep-after : AllRead x u (keptAt items parents ends marks (y .next) (next-item .after))
             unfolding AllRead
             deep-after = deep-here .1
 
             stands-here : Stands (r .encoding) s look unit (next-item .standing .item)
             unfolding Every
             stands-here =
-                let h : Every (λ (z : Standing). Stands (r .encoding) s look unit (z .item)) (next-item .standing ∷ keptAt items parents marks (y .next) (next-item .after)) =
+                let h : Every (λ (z : Standing). Stands (r .encoding) s look unit (z .item)) (next-item .standing ∷ keptAt items parents ends marks (y .next) (next-item .after)) =
                 subst (Every (λ (z : Standing). Stands (r .encoding) s look unit (z .item))) (next-item .whole)
                 (kept-stand (r .encoding) s look unit marks (t .count) (openKept marks (now .stack)) (t .at)) in
                 h .0
@@ -165,11 +165,11 @@ module _ (r : Reading) (s table unit : List ℕ) (k : ℕ) where
             indices-here = item-indices x u (p .read) (p .found) l (next-item .standing .item) stands-here (deep-here .0)
 
             turn : (is : List ℕ) → readIndices k (readsAt x u (offsetOf (next-item .standing .item))) ≡ is
-                → indicesFrom x u k (keptAt items parents marks t (now .stack)) ≡ is ++ indicesFrom x u k (keptAt items parents marks (y .next) (next-item .after))
+                → indicesFrom x u k (keptAt items parents ends marks t (now .stack)) ≡ is ++ indicesFrom x u k (keptAt items parents ends marks (y .next) (next-item .after))
             unfolding indicesFrom
             turn is e =
                 ap (indicesFrom x u k) (next-item .whole)
-                ∙ ap (λ (js : List ℕ). js ++ indicesFrom x u k (keptAt items parents marks (y .next) (next-item .after))) e
+                ∙ ap (λ (js : List ℕ). js ++ indicesFrom x u k (keptAt items parents ends marks (y .next) (next-item .after))) e
 
           -- a terminator
           pub collect-terminator : y .«is_entry» ≡ false → Collecting list₀ (y .next) list n

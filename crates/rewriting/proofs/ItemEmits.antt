@@ -126,7 +126,7 @@ module _ (e : Encoding) (l : e .«big_endian» ≡ false) (abbreviations : List 
 
 -- ---- the loop
 
-module _ (r : Reading) (s table unit parents marks : List ℕ) (first : ℕ) where
+module _ (r : Reading) (s table unit parents ends marks : List ℕ) (first : ℕ) where
   abbrev look : ℕ → Found
   look = findAt s (r .from) table
 
@@ -143,35 +143,35 @@ module _ (r : Reading) (s table unit parents marks : List ℕ) (first : ℕ) whe
     -- a pass that has written what it met: what is said of the items from here on is said of all
     pub record Writing (out₀ : List ℕ) (t : Stand) (out : List ℕ) (to : ℕ) : Type 0 where
       pub stack : List ℕ
-      pub stood : Stood items parents t stack
-      pub deep : AllRead x u (keptAt items parents marks t stack)
-      pub onward : (z : Emitted) (out′ : List ℕ) → From (keptAt items parents marks t stack) out to z out′ → Whole out₀ z out′
+      pub stood : Stood items parents ends t stack
+      pub deep : AllRead x u (keptAt items parents ends marks t stack)
+      pub onward : (z : Emitted) (out′ : List ℕ) → From (keptAt items parents ends marks t stack) out to z out′ → Whole out₀ z out′
 
-    module _ (p : Passable x u r s table unit parents marks first) (l : r .encoding .«big_endian» ≡ false) where
+    module _ (p : Passable x u r s table unit parents ends marks first) (l : r .encoding .«big_endian» ≡ false) where
       pub writing-start : first ≡ u .header .first .0 → (out₀ : List ℕ) (n : Nesting) → n ≡ nestingOf [] → Writing out₀ (stand first 0 n) out₀ first
       unfolding openKept
       writing-start q out₀ n m =
           record {
             stack = [];
-            stood = stood-start items parents marks unit first n m (p .holds);
+            stood = stood-start items parents ends marks unit first n m (p .holds, p .ends-hold);
             deep = p .deep;
             onward = λ z out′ h.
                 subst (λ (is : List Item). From (keptFrom marks 0 [] is) out₀ first z out′) (ap items q ∙ items-are x u r s table unit (p .read) (p .found)) h;
           }
 
-      module _ (out₀ : List ℕ) (t : Stand) (out : List ℕ) (to : ℕ) (g : Writing out₀ t out to) (o : KeptStep) (a : Answers items parents marks unit t o) where
+      module _ (out₀ : List ℕ) (t : Stand) (out : List ℕ) (to : ℕ) (g : Writing out₀ t out to) (o : KeptStep) (a : Answers items parents ends marks unit t o) where
         pub writing-end : o ≡ End → Whole out₀ (To to) out
         unfolding refusalFrom bytesFrom
         writing-end q =
-            let e : keptAt items parents marks t (g .stack) ≡ [] = next-end items parents marks unit t o a q (g .stack) (p .small) (g .stood) in
+            let e : keptAt items parents ends marks t (g .stack) ≡ [] = next-end items parents ends marks unit t o a q (g .stack) (p .small) (g .stood) in
             g .onward (To to) out (subst (λ (kept : List Standing). From kept out to (To to) out) (sym e) (emits-none out to))
 
         module _ (y : Kept) (q : o ≡ Item′ y) where
-          next : NextItem items parents marks t (g .stack) y
-          next = next-item items parents marks unit t o a y q (g .stack) (p .small) (g .stood)
+          next : NextItem items parents ends marks t (g .stack) y
+          next = next-item items parents ends marks unit t o a y q (g .stack) (p .small) (g .stood)
 
           abbrev others : List Standing
-          others = keptAt items parents marks (y .next) (next .after)
+          others = keptAt items parents ends marks (y .next) (next .after)
 
           read-here : ReadDeep x u (offsetOf (next .standing .item)) × AllRead x u others
           unfolding AllRead
@@ -241,7 +241,7 @@ module _ (r : Reading) (s table unit parents marks : List ℕ) (first : ℕ) whe
               → Emits (readsRefusal lists ps (y .depth) rs) (writeAll false (patchAll (newValue lists ps (y .depth)) rs)) out to b out₁) where
             entry-here : Here b out₁
             entry-here =
-                let w = next-entry (r .encoding) s look unit parents marks t (g .stack) y next i in
+                let w = next-entry (r .encoding) s look unit parents ends marks t (g .stack) y next i in
                 f (declaredIn (u .declared)) (w .it) reads (read-here .0 .run .1) (step-here (Entry′ (w .it)) (w .here)) (w .specs) (w .values) deep-here
 
             pub writing-refused : (k : ℕ) → b ≡ Refused k → Whole out₀ (Refused k) out₁
@@ -254,8 +254,8 @@ module _ (r : Reading) (s table unit parents marks : List ℕ) (first : ℕ) whe
           pub writing-terminator : y .«is_entry» ≡ false → (to₁ : ℕ) (out₁ : List ℕ) → (y .start ≤ y .end → y .end ≤ length unit → Emits 0 (between unit (y .start) (y .end)) out to (To to₁) out₁)
               → Writing out₀ (y .next) out₁ to₁
           writing-terminator i to₁ out₁ f =
-              let w = next-terminator (r .encoding) s look unit parents marks t (g .stack) y next i in
-              let d = next-forward items parents marks unit t o a y q in
+              let w = next-terminator (r .encoding) s look unit parents ends marks t (g .stack) y next i in
+              let d = next-forward items parents ends marks unit t o a y q in
               let d1 : y .start < y .end = d .1 in
               on-here (To to₁) out₁
               (terminator-emits (r .encoding) l s (declaredIn (u .declared)) unit (y .start) (y .end) (step-here (Terminator (cursor (y .end))) (w .here)) reads (read-here .0 .run .1) deep-here

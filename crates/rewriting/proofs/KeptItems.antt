@@ -46,7 +46,7 @@ module _ (e : Encoding) (abbreviations : List ℕ) (look : ℕ → Found) (unit 
         here = ap (stepAt e abbreviations look unit) (h .1) ∙ s ∙ ap (λ (n : ℕ). Terminator (cursor n)) (sym (h .2));
       }
 
-  module _ (parents marks : List ℕ) (s : Stand) (stack : List ℕ) (x : Kept) (y : NextItem (items e abbreviations look unit) parents marks s stack x) where
+  module _ (parents ends marks : List ℕ) (s : Stand) (stack : List ℕ) (x : Kept) (y : NextItem (items e abbreviations look unit) parents ends marks s stack x) where
     pub next-stands : Stands e abbreviations look unit (y .standing .item)
     unfolding Every
     next-stands = subst (Every (λ t. Stands e abbreviations look unit (t .item))) (y .whole) (kept-stand e abbreviations look unit marks (s .count) (openKept marks stack) (s .at)) .0

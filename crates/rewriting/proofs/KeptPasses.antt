@@ -10,7 +10,7 @@ use Rattle.readers.specs.declared.entries.Nesting.{Nesting}
 use Rattle.rewriting.specs.Places.{Standing, offsetOf, sizeOf, sizeFrom}
 use Rattle.rewriting.specs.Parents.{Chained}
 use Rattle.rewriting.specs.NextKept.{openKept, ShowsItem, Forward, Stood, keptAt, NextItem, Next, Answers}
-use Rattle.rewriting.specs.Measures.{ParentsHeld, keptOfUnit, Measures}
+use Rattle.rewriting.specs.Measures.{ColumnsHeld, keptOfUnit, Measures}
 use Rattle.rewriting.specs.declared.kept.Stand.{Stand}
 use Rattle.rewriting.specs.declared.kept.Kept.{Kept}
 use Rattle.rewriting.specs.declared.kept.KeptStep.{KeptStep}
@@ -33,21 +33,21 @@ unfolding ShowsItem offsetOf
 shown-offset x (entry y) h = sym (h .1)
 shown-offset x (terminator a b) h = sym (h .1)
 
-module _ (items : ℕ → List Item) (parents marks unit : List ℕ) where
+module _ (items : ℕ → List Item) (parents ends marks unit : List ℕ) where
   -- ---- an answer, by its cases
 
-  module _ (s : Stand) (r : KeptStep) (a : Answers items parents marks unit s r) where
+  module _ (s : Stand) (r : KeptStep) (a : Answers items parents ends marks unit s r) where
     pub next-forward : (x : Kept) → r ≡ Item′ x → (s .at ≤ x .start) × (x .start < x .end) × (x .end ≤ length unit) × (x .next .at ≡ x .end)
     unfolding Forward
     next-forward x q = subst (Forward unit (s .at)) q (a .forward)
 
-    pub next-item : (x : Kept) → r ≡ Item′ x → (stack : List ℕ) → length unit < 2 ^ 32 → Stood items parents s stack → NextItem items parents marks s stack x
+    pub next-item : (x : Kept) → r ≡ Item′ x → (stack : List ℕ) → length unit < 2 ^ 32 → Stood items parents ends s stack → NextItem items parents ends marks s stack x
     unfolding Next
-    next-item x q stack u h = subst (Next items parents marks s stack) q (a .next stack u h)
+    next-item x q stack u h = subst (Next items parents ends marks s stack) q (a .next stack u h)
 
-    pub next-end : r ≡ End → (stack : List ℕ) → length unit < 2 ^ 32 → Stood items parents s stack → keptAt items parents marks s stack ≡ []
+    pub next-end : r ≡ End → (stack : List ℕ) → length unit < 2 ^ 32 → Stood items parents ends s stack → keptAt items parents ends marks s stack ≡ []
     unfolding Next
-    next-end q stack u h = subst (Next items parents marks s stack) q (a .next stack u h)
+    next-end q stack u h = subst (Next items parents ends marks s stack) q (a .next stack u h)
 
     pub next-less : (x : Kept) → r ≡ Item′ x → length unit - x .next .at < length unit - s .at
     next-less x q =
@@ -60,12 +60,12 @@ module _ (items : ℕ → List Item) (parents marks unit : List ℕ) where
 
   -- ---- the start
 
-  pub stood-start : (first : ℕ) (n : Nesting) → n ≡ nestingOf [] → ParentsHeld items parents first → Stood items parents (stand first 0 n) []
+  pub stood-start : (first : ℕ) (n : Nesting) → n ≡ nestingOf [] → ColumnsHeld items parents ends first → Stood items parents ends (stand first 0 n) []
   unfolding Chained
   stood-start first n m h =
-      record { nested = m; chained = tt; counted = (let z : 0 ≤ 0 = omega arith in z); passed = omega arith; holds = h }
+      record { nested = m; chained = tt; counted = (let z : 0 ≤ 0 = omega arith in z); passed = omega arith; holds = h .0; ends-hold = h .1 }
 
-  pub kept-start : (first : ℕ) (n : Nesting) → keptOfUnit items marks first ≡ keptAt items parents marks (stand first 0 n) []
+  pub kept-start : (first : ℕ) (n : Nesting) → keptOfUnit items marks first ≡ keptAt items parents ends marks (stand first 0 n) []
   unfolding openKept
   kept-start first n = refl
 
@@ -73,15 +73,15 @@ module _ (items : ℕ → List Item) (parents marks unit : List ℕ) where
 
   pub record Counted (first : ℕ) (s : Stand) (places bytes : ℕ) : Type 0 where
     pub stack : List ℕ
-    pub stood : Stood items parents s stack
-    pub many : length (keptOfUnit items marks first) ≡ places + length (keptAt items parents marks s stack)
-    pub size : first + sizeFrom (keptOfUnit items marks first) ≡ bytes + sizeFrom (keptAt items parents marks s stack)
+    pub stood : Stood items parents ends s stack
+    pub many : length (keptOfUnit items marks first) ≡ places + length (keptAt items parents ends marks s stack)
+    pub size : first + sizeFrom (keptOfUnit items marks first) ≡ bytes + sizeFrom (keptAt items parents ends marks s stack)
 
   pub record Measuring (first : ℕ) (s : Stand) (places bytes : ℕ) : Type 0 where
     pub room : first + places ≤ bytes
     pub passed : bytes ≤ s .at
     pub inside : first ≤ length unit → s .at ≤ length unit
-    pub counted : length unit < 2 ^ 32 → ParentsHeld items parents first → Counted first s places bytes
+    pub counted : length unit < 2 ^ 32 → ColumnsHeld items parents ends first → Counted first s places bytes
 
   pub measuring-start : (first : ℕ) (n : Nesting) → n ≡ nestingOf [] → Measuring first (stand first 0 n) 0 first
   measuring-start first n m =
@@ -94,13 +94,13 @@ module _ (items : ℕ → List Item) (parents marks unit : List ℕ) where
               stack = [];
               stood = stood-start first n m h;
               many =
-                  (let l : length (keptOfUnit items marks first) ≡ length (keptAt items parents marks (stand first 0 n) []) = ap length (kept-start first n) in omega arith);
+                  (let l : length (keptOfUnit items marks first) ≡ length (keptAt items parents ends marks (stand first 0 n) []) = ap length (kept-start first n) in omega arith);
               size = ap (λ (k : List Standing). first + sizeFrom k) (kept-start first n);
             };
       }
 
-  module _ (first : ℕ) (s : Stand) (places bytes : ℕ) (m : Measuring first s places bytes) (r : KeptStep) (a : Answers items parents marks unit s r) where
-    pub measuring-end : r ≡ End → Measures items unit parents marks first (record { places = places; bytes = bytes })
+  module _ (first : ℕ) (s : Stand) (places bytes : ℕ) (m : Measuring first s places bytes) (r : KeptStep) (a : Answers items parents ends marks unit s r) where
+    pub measuring-end : r ≡ End → Measures items unit parents ends marks first (record { places = places; bytes = bytes })
     unfolding sizeFrom
     measuring-end q =
         record {
@@ -108,9 +108,9 @@ module _ (items : ℕ → List Item) (parents marks unit : List ℕ) where
           inside = λ h. let g : s .at ≤ length unit = m .inside h in omega (arith, m .passed);
           found = λ u h.
               let d = m .counted u h in
-              let e : keptAt items parents marks s (d .stack) ≡ [] = next-end s r a q (d .stack) u (d .stood) in
-              let l : length (keptAt items parents marks s (d .stack)) ≡ 0 = ap length e in
-              let z : sizeFrom (keptAt items parents marks s (d .stack)) ≡ 0 = ap sizeFrom e in
+              let e : keptAt items parents ends marks s (d .stack) ≡ [] = next-end s r a q (d .stack) u (d .stood) in
+              let l : length (keptAt items parents ends marks s (d .stack)) ≡ 0 = ap length e in
+              let z : sizeFrom (keptAt items parents ends marks s (d .stack)) ≡ 0 = ap sizeFrom e in
               (omega (arith, d .many), omega (arith, d .size));
         }
 
@@ -138,8 +138,8 @@ module _ (items : ℕ → List Item) (parents marks unit : List ℕ) where
             counted = λ u h.
                 let d = m .counted u h in
                 let y = next-item s r a x q (d .stack) u (d .stood) in
-                let l : length (keptAt items parents marks s (d .stack)) ≡ suc (length (keptAt items parents marks (x .next) (y .after))) = ap length (y .whole) in
-                let z : sizeFrom (keptAt items parents marks s (d .stack)) ≡ sizeOf (y .standing .item) + sizeFrom (keptAt items parents marks (x .next) (y .after)) = ap sizeFrom (y .whole) in
+                let l : length (keptAt items parents ends marks s (d .stack)) ≡ suc (length (keptAt items parents ends marks (x .next) (y .after))) = ap length (y .whole) in
+                let z : sizeFrom (keptAt items parents ends marks s (d .stack)) ≡ sizeOf (y .standing .item) + sizeFrom (keptAt items parents ends marks (x .next) (y .after)) = ap sizeFrom (y .whole) in
                 record {
                   stack = y .after;
                   stood = y .stood;

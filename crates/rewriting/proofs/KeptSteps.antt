@@ -1,14 +1,22 @@
 -- A pass through the kept items, item by item: where it stands after an entry and after a terminator, and what it answers. Assumes nothing.
 use mathlib.Core.Path.{_≡_, refl, ap, ap₂, sym, _∙_, subst}
-use Prim.Native.Nat.{ℕ, suc, _+_, _-_, _^_, _≤_, _<_}
+use Prim.Native.Nat.{ℕ, suc, _+_, _*_, _-_, _^_, _/_, _%_, _≤_, _<_}
 use native.Mathlib.Omega.{arith}
 use native.Mathlib.Numerals.{add-one}
 use mathlib.Core.Bool.{Bool, true, false}
 use mathlib.Core.List.{List, [], _∷_}
+use mathlib.Core.Logic.{_⊎_, inl, inr, ⊎-elim}
 use lib.ListN.{length, getD, List·getD-eq-default}
+use lib.Dec.{eqb}
+use borrow.Author.Tests.{eq-eqb, ne-eqb}
 use mir.Facts.{yes-eqb, no-eqb}
 use Rattle.readers.specs.Choice.{pick, pick-yes, pick-no}
-use Rattle.readers.specs.Entries.{stepAt}
+use Rattle.readers.specs.Numbers.{uleb}
+use Rattle.readers.specs.Cursors.{lebAt}
+use Rattle.readers.specs.Abbreviations.{pastAttributes, movedDeclaration, wholeDeclaration, declarationFound, wholeFound}
+use Rattle.readers.specs.Entries.{valuesAt, stepAt}
+use Rattle.readers.proofs.Lebs.{uleb-inside}
+use Rattle.readers.proofs.Values.{entryStep, foundStep, codeStep, step-by, step-end, step-none, step-terminator, step-unknown}
 use Rattle.readers.specs.Nesting.{open′, close, top, nestingOf}
 use Rattle.readers.specs.Nesting.{opened as openedBy, closed as closedBy}
 use Rattle.readers.proofs.Nesting.{Chain, opened-is, closed-is}
@@ -16,7 +24,14 @@ use Rattle.readers.specs.Stream.{Item, entry, terminator, Items, push, onStep, 
 use Rattle.readers.proofs.Streams.{EntryInside, step-inside, terminator-inside, items-step}
 use Rattle.readers.specs.declared.cursor.Encoding.{Encoding}
 use Rattle.readers.specs.declared.cursor.Cursor.{Cursor}
+use Rattle.readers.specs.declared.cursor.Number.{Number}
+use Rattle.readers.specs.declared.cursor.Number.the-variants.{Value, Unreadable as NoNumber}
+use Rattle.readers.specs.declared.cursor.Moved.{Moved}
+use Rattle.readers.specs.declared.cursor.Moved.the-variants.{To, Unreadable as Nowhere}
+use Rattle.readers.specs.declared.abbreviations.Declaration.{Declaration}
+use Rattle.readers.specs.declared.abbreviations.DeclarationStep.the-variants.{Declaration as Declared}
 use Rattle.readers.specs.declared.abbreviations.Found.{Found}
+use Rattle.readers.specs.declared.abbreviations.Found.the-variants.{Declaration as Found′, Nothing}
 use Rattle.readers.specs.declared.entries.Entry.{Entry}
 use Rattle.readers.specs.declared.entries.Nesting.{Nesting}
 use Rattle.readers.specs.declared.entries.Step.{Step}
@@ -24,6 +39,7 @@ use Rattle.readers.specs.declared.entries.Step.the-variants.{Entry as Entry′,
 use Rattle.marking.specs.Marks.{isKept}
 use Rattle.rewriting.specs.Places.{Standing, opened, closed, innermost, withIf, keptFrom}
 use Rattle.rewriting.specs.Parents.{parentsFrom, HoldsFrom, Chained}
+use Rattle.rewriting.specs.Ends.{endNumber, EndsHeld}
 use Rattle.rewriting.specs.NextKept.{openKept, closesKept, ShowsItem, Forward, Stood, keptAt, Next, Answers}
 use Rattle.rewriting.specs.declared.kept.Stand.{Stand}
 use Rattle.rewriting.specs.declared.kept.KeptStep.the-variants.{Item as Item′, End}
@@ -100,6 +116,27 @@ with-no : (b : Bool) (x : Standing) (xs : List Standing) → b ≡ false → wit
 unfolding withIf
 with-no b x xs e = ap (λ (b : Bool). withIf b x xs) e
 
+-- ---- the number of an end
+
+half : (n : ℕ) (children : Bool) → endNumber n children / 2 ≡ n
+unfolding endNumber pick
+half n true = let z : (2 * n + 1) / 2 ≡ n = omega arith in z
+half n false = let z : 2 * n / 2 ≡ n = omega arith in z
+
+odd : (n : ℕ) (children : Bool) → eqb (endNumber n children % 2) 1 ≡ children
+unfolding endNumber pick
+odd n true = eq-eqb ((2 * n + 1) % 2) 1 (let z : (2 * n + 1) % 2 ≡ 1 = omega arith in z)
+odd n false = ne-eqb (2 * n % 2) 1 (λ q. let z : 2 * n % 2 ≡ 0 = omega arith in let y : 2 * n % 2 ≡ 1 = q in absurd (omega arith))
+
+-- what is found by its head is the declaration that is found
+whole-same : (s : List ℕ) (d d′ : Declaration) → wholeFound s (Found′ d) ≡ Found′ d′ → d ≡ d′
+unfolding wholeFound wholeDeclaration movedDeclaration declarationFound
+whole-same s d d′ q = of (pastAttributes s (d .attributes .at)) q
+  where
+    of : (m : Moved) → declarationFound (movedDeclaration m (Declared d)) ≡ Found′ d′ → d ≡ d′
+    of (To c) k = cc
+    of Nowhere k = let z : _≡_ {A = ℕ} 0 1 = cc in absurd (omega arith)
+
 -- ---- one step
 
 abbrev pub stand : ℕ → ℕ → Nesting → Stand
@@ -129,10 +166,38 @@ module _ (e : Encoding) (abbreviations : List ℕ) (look : ℕ → Found) (unit 
   unfolding onStep
   items-bad at q = items-by at Unreadable q
 
-  module _ (parents marks : List ℕ) where
+  -- ---- a code that is not 0: an entry, or nothing can be read
+
+  pub record CodedEntry (at code : ℕ) (values : Cursor) : Type 0 where
+    pub of : Entry
+    pub is : stepAt e abbreviations look unit at ≡ Entry′ of
+    pub from : of .values ≡ values
+    pub declared : look code ≡ Found′ (of .declaration)
+
+  module _ (at code : ℕ) (values : Cursor) where
+    abbrev Coded : Type 0
+    Coded = CodedEntry at code values ⊎ (stepAt e abbreviations look unit at ≡ Unreadable)
+
+    coded-values : (d : Declaration) → look code ≡ Found′ d → (m : Moved) → stepAt e abbreviations look unit at ≡ entryStep e abbreviations look unit at values d m → Coded
+    unfolding entryStep
+    coded-values d k (To next) q = inl (record { of = record { offset = record { 0 = at }; declaration = d; values = values; next = next }; is = q; from = refl; declared = k })
+    coded-values d k Nowhere q = inr q
+
+    coded-found : (f : Found) → look code ≡ f → stepAt e abbreviations look unit at ≡ foundStep e abbreviations look unit at values f → Coded
+    unfolding foundStep
+    coded-found (Found′ d) k q = coded-values d k (valuesAt e abbreviations (d .attributes .at) unit (values .at)) q
+    coded-found Nothing k q = inr q
+
+    coded : at < length unit → (n : Number) → n ≡ lebAt uleb unit at → n ≡ Value code values → (code ≡ 0 → ⊥) → Coded
+    unfolding codeStep
+    coded h n p q z =
+        coded-found (look code) refl
+        (step-by e abbreviations look unit at h ∙ ap (codeStep e abbreviations look unit at) (sym p ∙ q) ∙ pick-no _ _ _ (no-eqb {a = code} {b = 0} z))
+
+  module _ (parents ends marks : List ℕ) where
     -- ---- after an entry
 
-    entry-holds : (t : Stand) (stack : List ℕ) (x : Entry) → stepAt e abbreviations look unit (t .at) ≡ Entry′ x → Stood items parents t stack
+    entry-holds : (t : Stand) (stack : List ℕ) (x : Entry) → stepAt e abbreviations look unit (t .at) ≡ Entry′ x → Stood items parents ends t stack
         → (getD parents (t .count) 4294967295 ≡ top stack)
         × HoldsFrom parents (t .count + 1) (parentsFrom (t .count + 1) (open′ (x .declaration .children) (t .count) stack) (items (x .next .at)))
     unfolding parentsFrom HoldsFrom
@@ -144,9 +209,14 @@ module _ (e : Encoding) (abbreviations : List ℕ) (look : ℕ → Found) (unit 
               (sym (add-one (t .count))) (h .1),
         )
 
+    entry-ends : (t : Stand) (x : Entry) → stepAt e abbreviations look unit (t .at) ≡ Entry′ x → EndsHeld ends (t .count) (items (t .at))
+        → (getD ends (t .count) 0 ≡ endNumber (x .next .at) (x .declaration .children)) × EndsHeld ends (suc (t .count)) (items (x .next .at))
+    unfolding EndsHeld
+    entry-ends t x q h = subst (EndsHeld ends (t .count)) (items-entry (t .at) x q) h
+
     entry-stood : (t : Stand) (stack : List ℕ) (x : Entry) (n : Nesting) → stepAt e abbreviations look unit (t .at) ≡ Entry′ x
-        → n ≡ openedBy (x .declaration .children) (t .count) (t .nesting) → length unit < 2 ^ 32 → Stood items parents t stack
-        → Stood items parents (stand (x .next .at) (t .count + 1) n) (open′ (x .declaration .children) (t .count) stack)
+        → n ≡ openedBy (x .declaration .children) (t .count) (t .nesting) → length unit < 2 ^ 32 → Stood items parents ends t stack
+        → Stood items parents ends (stand (x .next .at) (t .count + 1) n) (open′ (x .declaration .children) (t .count) stack)
     entry-stood t stack x n q m u s =
         let i : EntryInside unit (t .at) x = step-inside e abbreviations look unit (t .at) x q in
         let h = entry-holds t stack x q s in
@@ -157,10 +227,11 @@ module _ (e : Encoding) (abbreviations : List ℕ) (look : ℕ → Found) (unit 
           counted = omega (arith, length-open (x .declaration .children) (t .count) stack, s .counted);
           passed = omega (arith, s .passed, i .coded, i .ahead);
           holds = h .1;
+          ends-hold = subst (λ (k : ℕ). EndsHeld ends k (items (x .next .at))) (sym (add-one (t .count))) (entry-ends t x q (s .ends-hold) .1);
         }
 
     entry-kept : (t : Stand) (stack : List ℕ) (x : Entry) → stepAt e abbreviations look unit (t .at) ≡ Entry′ x
-        → keptAt items parents marks t stack
+        → keptAt items parents ends marks t stack
         ≡ withIf (isKept marks (t .count)) (record { item = entry x; depth = length stack })
         (keptFrom marks (t .count + 1) (openKept marks (open′ (x .declaration .children) (t .count) stack)) (items (x .next .at)))
     unfolding keptFrom
@@ -173,8 +244,12 @@ module _ (e : Encoding) (abbreviations : List ℕ) (look : ℕ → Found) (unit 
 
     -- ---- after a terminator
 
+    terminator-ends : (t : Stand) (c : Cursor) → stepAt e abbreviations look unit (t .at) ≡ Terminator c → EndsHeld ends (t .count) (items (t .at)) → EndsHeld ends (t .count) (items (c .at))
+    unfolding EndsHeld
+    terminator-ends t c q h = subst (EndsHeld ends (t .count)) (items-terminator (t .at) c q) h
+
     terminator-stood : (t : Stand) (stack : List ℕ) (c : Cursor) (n : Nesting) → stepAt e abbreviations look unit (t .at) ≡ Terminator c
-        → n ≡ closedBy parents (t .nesting) → Stood items parents t stack → Stood items parents (stand (c .at) (t .count) n) (close stack)
+        → n ≡ closedBy parents (t .nesting) → Stood items parents ends t stack → Stood items parents ends (stand (c .at) (t .count) n) (close stack)
     unfolding parentsFrom
     terminator-stood t stack c n q m s =
         let i = terminator-inside e abbreviations look unit (t .at) c q in
@@ -184,10 +259,11 @@ module _ (e : Encoding) (abbreviations : List ℕ) (look : ℕ → Found) (unit 
           counted = omega (arith, length-close stack, s .counted);
           passed = omega (arith, s .passed, i .0);
           holds = subst (λ (is : List Item). HoldsFrom parents (t .count) (parentsFrom (t .count) stack is)) (items-terminator (t .at) c q) (s .holds);
+          ends-hold = terminator-ends t c q (s .ends-hold);
         }
 
     terminator-kept : (t : Stand) (stack : List ℕ) (c : Cursor) → stepAt e abbreviations look unit (t .at) ≡ Terminator c → t .nesting ≡ nestingOf stack
-        → keptAt items parents marks t stack
+        → keptAt items parents ends marks t stack
         ≡ withIf (closesKept marks (t .nesting)) (record { item = terminator (t .at) (c .at); depth = length stack })
         (keptFrom marks (t .count) (openKept marks (close stack)) (items (c .at)))
     unfolding keptFrom
@@ -202,11 +278,11 @@ module _ (e : Encoding) (abbreviations : List ℕ) (look : ℕ → Found) (unit 
 
     pub record Walked (s : Stand) (stack : List ℕ) (t : Stand) : Type 0 where
       pub now : List ℕ
-      pub stood : Stood items parents t now
-      pub same : keptAt items parents marks s stack ≡ keptAt items parents marks t now
+      pub stood : Stood items parents ends t now
+      pub same : keptAt items parents ends marks s stack ≡ keptAt items parents ends marks t now
 
     abbrev pub Walking : Stand → Stand → Type 0
-    Walking s t = (s .at ≤ t .at) × ((stack : List ℕ) → length unit < 2 ^ 32 → Stood items parents s stack → Walked s stack t)
+    Walking s t = (s .at ≤ t .at) × ((stack : List ℕ) → length unit < 2 ^ 32 → Stood items parents ends s stack → Walked s stack t)
 
     pub walking-start : (s : Stand) → Walking s s
     walking-start s = (omega arith, λ stack u h. record { now = stack; stood = h; same = refl })
@@ -216,18 +292,7 @@ module _ (e : Encoding) (abbreviations : List ℕ) (look : ℕ → Found) (unit 
     depth-of t stack m = ap (λ (n : Nesting). n .depth) m
 
     module _ (s t : Stand) (w : Walking s t) where
-      pub end-over : (x : Entry) → stepAt e abbreviations look unit (t .at) ≡ Entry′ x → 4294967295 < t .count → Answers items parents marks unit s End
-      unfolding Forward Next
-      end-over x q h =
-          record {
-            forward = tt;
-            next = λ stack u g.
-                let i : EntryInside unit (t .at) x = step-inside e abbreviations look unit (t .at) x q in
-                let v = w .1 stack u g in
-                absurd (omega (arith, v .stood .passed, i .coded, i .ahead, i .within));
-          }
-
-      pub end-end : stepAt e abbreviations look unit (t .at) ≡ StepEnd → Answers items parents marks unit s End
+      pub end-end : stepAt e abbreviations look unit (t .at) ≡ StepEnd → Answers items parents ends marks unit s End
       unfolding Forward Next keptFrom
       end-end q =
           record {
@@ -237,7 +302,7 @@ module _ (e : Encoding) (abbreviations : List ℕ) (look : ℕ → Found) (unit 
                 v .same ∙ ap (keptFrom marks (t .count) (openKept marks (v .now))) (items-end (t .at) q);
           }
 
-      pub end-bad : stepAt e abbreviations look unit (t .at) ≡ Unreadable → Answers items parents marks unit s End
+      pub end-bad : stepAt e abbreviations look unit (t .at) ≡ Unreadable → Answers items parents ends marks unit s End
       unfolding Forward Next keptFrom
       end-bad q =
           record {
@@ -255,7 +320,7 @@ module _ (e : Encoding) (abbreviations : List ℕ) (look : ℕ → Found) (unit 
 
         module _ (n : Nesting) (m : n ≡ openedBy (x .declaration .children) (t .count) (t .nesting)) where
           pub entry-item : isKept marks (t .count) ≡ true
-              → Answers items parents marks unit s (Item′ (record {
+              → Answers items parents ends marks unit s (Item′ (record {
                 start = t .at;
                 end = x .next .at;
                 depth = t .nesting .depth;
@@ -301,7 +366,7 @@ module _ (e : Encoding) (abbreviations : List ℕ) (look : ℕ → Found) (unit 
 
         module _ (n : Nesting) (m : n ≡ closedBy parents (t .nesting)) where
           pub terminator-item : closesKept marks (t .nesting) ≡ true
-              → Answers items parents marks unit s (Item′ (record {
+              → Answers items parents ends marks unit s (Item′ (record {
                 start = t .at;
                 end = c .at;
                 depth = t .nesting .depth;
@@ -340,3 +405,105 @@ module _ (e : Encoding) (abbreviations : List ℕ) (look : ℕ → Found) (unit 
                       same = v .same ∙ terminator-kept t (v .now) c q (v .stood .nested) ∙ with-no _ _ _ k;
                     },
               )
+
+      -- ---- an entry, by the column of ends
+
+      module _ (h : t .at < length unit) (b : Number) (p : b ≡ lebAt uleb unit (t .at)) where
+        pub stop-none : b ≡ NoNumber → Answers items parents ends marks unit s End
+        stop-none q = end-bad (sym (step-none e abbreviations look unit (t .at) h b p q))
+
+        module _ (code : ℕ) (values : Cursor) (q : b ≡ Value code values) where
+          pub at-terminator : code ≡ 0 → stepAt e abbreviations look unit (t .at) ≡ Terminator values
+          at-terminator z = sym (step-terminator e abbreviations look unit (t .at) h b p code values q z)
+
+          past-code : (t .at < values .at) × (values .at ≤ length unit)
+          past-code = uleb-inside unit (t .at) code values (sym p ∙ q)
+
+          module _ (z : code ≡ 0 → ⊥) where
+            pub stop-unknown : (f : Found) → wholeFound abbreviations f ≡ look code → f ≡ Nothing → Answers items parents ends marks unit s End
+            stop-unknown f k l = end-bad (sym (step-unknown e abbreviations look unit (t .at) h b p code values q z f k l))
+
+            stop-unless : ((x : CodedEntry (t .at) code values) (stack : List ℕ) → Stood items parents ends t stack → length unit < 2 ^ 32 → ⊥) → Answers items parents ends marks unit s End
+            unfolding Forward
+            stop-unless f =
+                record {
+                  forward = tt;
+                  next = λ stack u g.
+                      ⊎-elim (λ x. let v = w .1 stack u g in absurd (f x (v .now) (v .stood) u)) (λ k. end-bad k .next stack u g)
+                      (coded (t .at) code values h b p q z);
+                }
+
+            pub stop-over : 4294967295 < t .count → Answers items parents ends marks unit s End
+            stop-over l = stop-unless (λ x stack g u. let i = step-inside e abbreviations look unit (t .at) (x .of) (x .is) in omega (arith, g .passed, i .coded, i .ahead, i .within))
+
+            module _ (n : ℕ) (is : n ≡ getD ends (t .count) 0) where
+              ends-at : (x : CodedEntry (t .at) code values) (stack : List ℕ) → Stood items parents ends t stack → n / 2 ≡ x .of .next .at
+              ends-at x stack g = ap (λ (m : ℕ). m / 2) (is ∙ entry-ends t (x .of) (x .is) (g .ends-hold) .0) ∙ half (x .of .next .at) (x .of .declaration .children)
+
+              opens : (x : CodedEntry (t .at) code values) (stack : List ℕ) → Stood items parents ends t stack → eqb (n % 2) 1 ≡ x .of .declaration .children
+              opens x stack g = ap (λ (m : ℕ). eqb (m % 2) 1) (is ∙ entry-ends t (x .of) (x .is) (g .ends-hold) .0) ∙ odd (x .of .next .at) (x .of .declaration .children)
+
+              pub stop-low : n / 2 < values .at → Answers items parents ends marks unit s End
+              stop-low l = stop-unless (λ x stack g u.
+                  let i = step-inside e abbreviations look unit (t .at) (x .of) (x .is) in
+                  let k : x .of .values .at ≡ values .at = ap (λ (c : Cursor). c .at) (x .from) in
+                  omega (arith, i .ahead, ends-at x stack g))
+
+              pub stop-high : length unit < n / 2 → Answers items parents ends marks unit s End
+              stop-high l = stop-unless (λ x stack g u.
+                  let i = step-inside e abbreviations look unit (t .at) (x .of) (x .is) in
+                  omega (arith, i .within, ends-at x stack g))
+
+              module _ (low : values .at ≤ n / 2) (high : n / 2 ≤ length unit) where
+                -- the column says of nothing that can't be read where it ends
+                there : (stack : List ℕ) → Stood items parents ends t stack → CodedEntry (t .at) code values
+                unfolding EndsHeld
+                there stack g =
+                    ⊎-elim (λ x. x)
+                    (λ k.
+                    let y : getD ends (t .count) 0 ≡ 0 = subst (EndsHeld ends (t .count)) (items-bad (t .at) k) (g .ends-hold) in
+                    let o : n ≡ 0 = is ∙ y in
+                    let a : t .at < values .at = past-code .0 in
+                    absurd (omega arith))
+                    (coded (t .at) code values h b p q z)
+
+                pub ends-less : length unit - n / 2 < length unit - t .at
+                ends-less = let a : t .at < values .at = past-code .0 in omega arith
+
+                module _ (m : Nesting) (o : m ≡ openedBy (eqb (n % 2) 1) (t .count) (t .nesting)) where
+                  pub ends-on : isKept marks (t .count) ≡ false → Walking s (stand (n / 2) (t .count + 1) m)
+                  ends-on k = (
+                    let a : t .at < values .at = past-code .0 in omega (arith, w .0),
+                    λ stack u g.
+                        let v = w .1 stack u g in
+                        let x : CodedEntry (t .at) code values = there (v .now) (v .stood) in
+                        subst (λ (end : ℕ). Walked s stack (stand end (t .count + 1) m)) (sym (ends-at x (v .now) (v .stood)))
+                        (entry-on (x .of) (x .is) m (o ∙ ap (λ (c : Bool). openedBy c (t .count) (t .nesting)) (opens x (v .now) (v .stood))) k .1 stack u g),
+                  )
+
+                  pub ends-item : (f : Found) → wholeFound abbreviations f ≡ look code → (d : Declaration) → f ≡ Found′ d → isKept marks (t .count) ≡ true
+                      → Answers items parents ends marks unit s (Item′ (record {
+                        start = t .at;
+                        end = n / 2;
+                        depth = t .nesting .depth;
+                        «is_entry» = true;
+                        specs = d .attributes;
+                        values = values;
+                        next = stand (n / 2) (t .count + 1) m;
+                      }))
+                  unfolding Forward
+                  ends-item f k d l y =
+                      record {
+                        forward = (w .0, (let a : t .at < values .at = past-code .0 in omega arith), high, refl);
+                        next = λ stack u g.
+                            let v = w .1 stack u g in
+                            let x : CodedEntry (t .at) code values = there (v .now) (v .stood) in
+                            let same : d ≡ x .of .declaration = whole-same abbreviations d (x .of .declaration) (ap (wholeFound abbreviations) (sym l) ∙ k ∙ x .declared) in
+                            subst (λ (end : ℕ). Next items parents ends marks s stack (Item′ (record { start = t .at; end = end; depth = t .nesting .depth; «is_entry» = true; specs = d .attributes; values = values; next = stand end (t .count + 1) m })))
+                            (sym (ends-at x (v .now) (v .stood)))
+                            (subst (λ (c : Cursor). Next items parents ends marks s stack (Item′ (record { start = t .at; end = x .of .next .at; depth = t .nesting .depth; «is_entry» = true; specs = d .attributes; values = c; next = stand (x .of .next .at) (t .count + 1) m })))
+                            (x .from)
+                            (subst (λ (c : Declaration). Next items parents ends marks s stack (Item′ (record { start = t .at; end = x .of .next .at; depth = t .nesting .depth; «is_entry» = true; specs = c .attributes; values = x .of .values; next = stand (x .of .next .at) (t .count + 1) m })))
+                            (sym same)
+                            (entry-item (x .of) (x .is) m (o ∙ ap (λ (c : Bool). openedBy c (t .count) (t .nesting)) (opens x (v .now) (v .stood))) y .next stack u g)));
+                      }

@@ -14,6 +14,7 @@ pub mod Depths
 pub mod Fitting
 pub mod UnitAgain
 pub mod KeptSteps
+pub mod EndsFilled
 pub mod KeptPasses
 pub mod ParentsOf
 pub mod Emissions

@@ -17,6 +17,7 @@ use Rattle.readers.specs.declared.cursor.Encoding.{Encoding}
 use Rattle.marking.specs.Analysis.{Sections}
 use Rattle.rewriting.specs.Places.{Standing, keptFrom}
 use Rattle.rewriting.specs.Parents.{parentsFrom, HoldsFrom}
+use Rattle.rewriting.specs.Ends.{EndsHeld}
 use Rattle.rewriting.specs.Indices.{countOf}
 use Rattle.rewriting.specs.Rewriting.{Unit as Unit′, itemsIn, listOf, listsOf}
 use Rattle.rewriting.specs.NextKept.{itemsBy}
@@ -49,14 +50,15 @@ module _ (x : Sections) (u : Unit′) where
         ∙ ap (λ (l : List ℕ). itemsFrom (u .header .encoding) (x .abbreviations) (declaredIn (u .declared)) l first .0) (sym (w .bytes-are))
 
     -- what a pass asks for, of the unit's own items
-    pub passable : (parents marks : List ℕ) → length unit < 2 ^ 32 → HoldsFrom parents 0 (parentsFrom 0 [] (itemsIn x u))
-        → Every (Readable x u) (keptFrom marks 0 [] (itemsIn x u)) → Passable x u r s table unit parents marks (u .header .first .0)
-    passable parents marks l h d =
+    pub passable : (parents ends marks : List ℕ) → length unit < 2 ^ 32 → HoldsFrom parents 0 (parentsFrom 0 [] (itemsIn x u)) → EndsHeld ends 0 (itemsIn x u)
+        → Every (Readable x u) (keptFrom marks 0 [] (itemsIn x u)) → Passable x u r s table unit parents ends marks (u .header .first .0)
+    passable parents ends marks l h k d =
         record {
           small = l;
           read = w;
           found = f;
           holds = subst (λ (is : List Item). HoldsFrom parents 0 (parentsFrom 0 [] is)) (sym items-are) h;
+          ends-hold = subst (EndsHeld ends 0) (sym items-are) k;
           deep = subst (λ (is : List Item). AllRead x u (keptFrom marks 0 [] is)) (sym items-are) (all-read (keptFrom marks 0 [] (itemsIn x u)) d);
         }
 

@@ -11,7 +11,7 @@ use Rattle.readers.specs.declared.entries.Nesting.{Nesting}
 use Rattle.rewriting.specs.Places.{Standing, Place, sizeOf, placesFrom}
 use Rattle.rewriting.specs.Written.{runBytes, Held, columns, mapBytes, place, withPlace}
 use Rattle.rewriting.specs.NextKept.{Stood, keptAt, Answers}
-use Rattle.rewriting.specs.Measures.{ParentsHeld, keptOfUnit}
+use Rattle.rewriting.specs.Measures.{ColumnsHeld, keptOfUnit}
 use Rattle.rewriting.specs.MapFilled.{Fills}
 use Rattle.rewriting.specs.declared.kept.Stand.{Stand}
 use Rattle.rewriting.specs.declared.kept.Kept.{Kept}
@@ -56,34 +56,34 @@ Puts map i old new depth map′ =
     (ps : List Place) → Held 4 (columns ps) map → i ≡ length ps → i < length map / 12 → old < 4294967296 → new < 4294967296 → depth < 4294967296
     → Held 4 (columns (withPlace ps (place old new depth))) map′
 
-module _ (items : ℕ → List Item) (parents marks unit : List ℕ) (first : ℕ) (map₀ : List ℕ) where
+module _ (items : ℕ → List Item) (parents ends marks unit : List ℕ) (first : ℕ) (map₀ : List ℕ) where
   pub record Filled (map : List ℕ) (s : Stand) (i new : ℕ) : Type 0 where
     pub stack : List ℕ
-    pub stood : Stood items parents s stack
+    pub stood : Stood items parents ends s stack
     pub done : List Place
     pub held : Held 4 (columns done) map
     pub counted : i ≡ length done
-    pub many : length (keptOfUnit items marks first) ≡ i + length (keptAt items parents marks s stack)
-    pub whole : placesFrom first (keptOfUnit items marks first) ≡ done ++ placesFrom new (keptAt items parents marks s stack)
+    pub many : length (keptOfUnit items marks first) ≡ i + length (keptAt items parents ends marks s stack)
+    pub whole : placesFrom first (keptOfUnit items marks first) ≡ done ++ placesFrom new (keptAt items parents ends marks s stack)
 
   -- measured up to here, and filled so far
   pub record Placing (map : List ℕ) (s : Stand) (i new : ℕ) : Type 0 where
-    pub measuring : Measuring items parents marks unit first s i new
+    pub measuring : Measuring items parents ends marks unit first s i new
     pub same : length map ≡ length map₀
-    pub filled : length unit < 2 ^ 32 → ParentsHeld items parents first → 12 * length (keptOfUnit items marks first) ≤ length map₀ → map₀ ≡ zeros (length map₀)
+    pub filled : length unit < 2 ^ 32 → ColumnsHeld items parents ends first → 12 * length (keptOfUnit items marks first) ≤ length map₀ → map₀ ≡ zeros (length map₀)
         → Filled map s i new
 
   pub placing-start : (n : Nesting) → n ≡ nestingOf [] → Placing map₀ (stand first 0 n) 0 first
   placing-start n m =
       record {
-        measuring = measuring-start items parents marks unit first n m;
+        measuring = measuring-start items parents ends marks unit first n m;
         same = refl;
         filled = λ u h r z.
-            let k : keptOfUnit items marks first ≡ keptAt items parents marks (stand first 0 n) [] = kept-start items parents marks unit first n in
-            let l : length (keptOfUnit items marks first) ≡ length (keptAt items parents marks (stand first 0 n) []) = ap length k in
+            let k : keptOfUnit items marks first ≡ keptAt items parents ends marks (stand first 0 n) [] = kept-start items parents ends marks unit first n in
+            let l : length (keptOfUnit items marks first) ≡ length (keptAt items parents ends marks (stand first 0 n) []) = ap length k in
             record {
               stack = [];
-              stood = stood-start items parents marks unit first n m h;
+              stood = stood-start items parents ends marks unit first n m h;
               done = [];
               held = held-none map₀ z;
               counted = refl;
@@ -96,18 +96,18 @@ module _ (items : ℕ → List Item) (parents marks unit : List ℕ) (first : �
     pub placing-size : length map ≡ length map₀
     placing-size = f .same
 
-    module _ (r : KeptStep) (a : Answers items parents marks unit s r) where
-      end-held : r ≡ End → length unit < 2 ^ 32 → ParentsHeld items parents first → 12 * length (keptOfUnit items marks first) ≤ length map₀ → map₀ ≡ zeros (length map₀)
+    module _ (r : KeptStep) (a : Answers items parents ends marks unit s r) where
+      end-held : r ≡ End → length unit < 2 ^ 32 → ColumnsHeld items parents ends first → 12 * length (keptOfUnit items marks first) ≤ length map₀ → map₀ ≡ zeros (length map₀)
           → Held 4 (columns (placesFrom first (keptOfUnit items marks first))) map
       unfolding placesFrom
       end-held q u h m z =
           let d = f .filled u h m z in
-          let e : keptAt items parents marks s (d .stack) ≡ [] = next-end items parents marks unit s r a q (d .stack) u (d .stood) in
+          let e : keptAt items parents ends marks s (d .stack) ≡ [] = next-end items parents ends marks unit s r a q (d .stack) u (d .stood) in
           subst (λ (ps : List Place). Held 4 (columns ps) map)
           (sym (d .whole ∙ ap (λ (k : List Standing). d .done ++ placesFrom new k) e ∙ append-nil (d .done)))
           (d .held)
 
-      pub placing-end : r ≡ End → Fills items unit parents marks first map₀ map
+      pub placing-end : r ≡ End → Fills items unit parents ends marks first map₀ map
       placing-end q =
           record {
             holds = λ u h m z. end-held q u h m z;
@@ -120,18 +120,18 @@ module _ (items : ℕ → List Item) (parents marks unit : List ℕ) (first : �
         pub placing-more : (map′ : List ℕ) → length map′ ≡ length map → Puts map i (x .start) new (x .depth) map′ → Placing map′ (x .next) (i + 1) (new + (x .end - x .start))
         unfolding placesFrom
         placing-more map′ l p =
-            let g = next-forward items parents marks unit s r a x q in
+            let g = next-forward items parents ends marks unit s r a x q in
             let g0 : s .at ≤ x .start = g .0 in
             let g1 : x .start < x .end = g .1 in
             let g2 : x .end ≤ length unit = g .2 in
             let g3 : x .next .at ≡ x .end = g .3 in
             record {
-              measuring = measuring-more items parents marks unit first s i new (f .measuring) r a x q;
+              measuring = measuring-more items parents ends marks unit first s i new (f .measuring) r a x q;
               same = l ∙ f .same;
               filled = λ u h m z.
                   let d = f .filled u h m z in
-                  let y = next-item items parents marks unit s r a x q (d .stack) u (d .stood) in
-                  let k : length (keptAt items parents marks s (d .stack)) ≡ suc (length (keptAt items parents marks (x .next) (y .after))) = ap length (y .whole) in
+                  let y = next-item items parents ends marks unit s r a x q (d .stack) u (d .stood) in
+                  let k : length (keptAt items parents ends marks s (d .stack)) ≡ suc (length (keptAt items parents ends marks (x .next) (y .after))) = ap length (y .whole) in
                   let w : i < length map / 12 = omega (arith, d .many, f .same) in
                   record {
                     stack = y .after;
@@ -143,9 +143,9 @@ module _ (items : ℕ → List Item) (parents marks unit : List ℕ) (first : �
                     whole =
                         d .whole
                         ∙ ap (λ (k : List Standing). d .done ++ placesFrom new k) (y .whole)
-                        ∙ ap₂ (λ (p : Place) (n : ℕ). d .done ++ (p ∷ placesFrom n (keptAt items parents marks (x .next) (y .after))))
+                        ∙ ap₂ (λ (p : Place) (n : ℕ). d .done ++ (p ∷ placesFrom n (keptAt items parents ends marks (x .next) (y .after))))
                         (ap₂ (λ (o v : ℕ). place o new v) (shown-offset x (y .standing .item) (y .shows)) (sym (y .deep)))
                         (ap (λ (n : ℕ). new + n) (shown-size x (y .standing .item) (y .shows)))
-                        ∙ sym (append-assoc (d .done) (place (x .start) new (x .depth) ∷ []) (placesFrom (new + (x .end - x .start)) (keptAt items parents marks (x .next) (y .after))));
+                        ∙ sym (append-assoc (d .done) (place (x .start) new (x .depth) ∷ []) (placesFrom (new + (x .end - x .start)) (keptAt items parents ends marks (x .next) (y .after))));
                   };
             }

@@ -65,21 +65,21 @@ module _ (length-of : Lengths → ℕ) (list : List ℕ) (count : ℕ) (after : 
 
 -- ---- the list of a kind
 
-module _ (k : ℕ) (r : Reading) (s table unit parents marks : List ℕ) (first : ℕ) (list : List ℕ) where
+module _ (k : ℕ) (r : Reading) (s table unit parents ends marks : List ℕ) (first : ℕ) (list : List ℕ) where
   abbrev indices : Sections → Unit′ → List ℕ
   indices x u = indicesFrom x u k (keptFrom marks 0 [] (itemsBy r s table unit first))
 
   pub refilled : (list₁ : List ℕ) → list₁ ≡ zeros (length list) → (n : ℕ) (after : List ℕ) → length after ≡ length list
-      → Gathers k true r s table unit parents marks first list₁ n after → Refilling k r s table unit parents marks first list n after
+      → Gathers k true r s table unit parents ends marks first list₁ n after → Refilling k r s table unit parents ends marks first list n after
   refilled list₁ z n after l g x u p = filled-along _ after list n after (g x u p (subst (ListHeld []) (sym z) (list-none (length list))) .filled refl) l
 
-  pub listed-again : (list₁ : List ℕ) → length list₁ ≡ length list → (n : ℕ) (after : List ℕ) → Refilling k r s table unit parents marks first list₁ n after
-      → Listing k r s table unit parents marks first list n after
+  pub listed-again : (list₁ : List ℕ) → length list₁ ≡ length list → (n : ℕ) (after : List ℕ) → Refilling k r s table unit parents ends marks first list₁ n after
+      → Listing k r s table unit parents ends marks first list n after
   listed-again list₁ l n after g x u p h = filled-along _ list₁ list n after (g x u p) l
 
-  pub listed : (length-of : Lengths → ℕ) (n : ℕ) (list₁ : List ℕ) → length list₁ ≡ length list → Gathers k false r s table unit parents marks first list n list₁
+  pub listed : (length-of : Lengths → ℕ) (n : ℕ) (list₁ : List ℕ) → length list₁ ≡ length list → Gathers k false r s table unit parents ends marks first list n list₁
       → (o : ListsFinished) (after : List ℕ) → ((vs : List ℕ) → Gathered vs list₁ n → FinishedIn length-of (insertAll vs []) list₁ o after)
-      → (m : Lengths) → o ≡ All m → Listing k r s table unit parents marks first list (length-of m) after
+      → (m : Lengths) → o ≡ All m → Listing k r s table unit parents ends marks first list (length-of m) after
   unfolding FinishedIn
   listed length-of n list₁ l g o after f m q x u p h =
       let v : Gathered (indices x u) list₁ n = g x u p h .gathered refl in

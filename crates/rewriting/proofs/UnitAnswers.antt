@@ -16,10 +16,13 @@ use Rattle.readers.specs.declared.header.UnitHeader.{UnitHeader}
 use Rattle.readers.proofs.Declarations.{find-plain}
 use Rattle.marking.specs.Analysis.{Sections, Rooms, Row, analysed, unitAnalysed, headerAnalysed, analysisOf}
 use Rattle.marking.specs.Columns.{padTo, parentsIn}
+use Rattle.marking.proofs.Rows.{unit-rows}
 use Rattle.marking.specs.Marks.{isKept, keptCount}
 use Rattle.marking.specs.Resolution.{marksIn}
 use Rattle.rewriting.specs.Places.{Standing, withIf, opened, closed, innermost, keptFrom}
-use Rattle.rewriting.specs.Parents.{parentsFrom, HoldsFrom}
+use Rattle.rewriting.specs.Parents.{parentsFrom, entriesIn, HoldsFrom}
+use Rattle.rewriting.specs.Ends.{EndsHeld}
+use Rattle.rewriting.specs.NextKept.{itemsBy}
 use Rattle.rewriting.specs.Rewriting.{Unit as Unit′, Lists, Room, Collected, untouched, rewritten, refused, itemsIn, listsOf, listsFit, orRefused, rewriteOf, marksCollected}
 use Rattle.rewriting.specs.IndexLists.{ReadAs, Found, Passable}
 use Rattle.rewriting.specs.Emission.{Lends}
@@ -35,9 +38,9 @@ use Rattle.rewriting.specs.declared.collect.Collected.the-variants.{Unto
 use Rattle.rewriting.proofs.HeaderAgain.{HeaderLaw, header-laws}
 use Rattle.rewriting.proofs.Accepted.{Accepted}
 use Rattle.rewriting.proofs.ReadableItems.{accepted-readable}
-use Rattle.rewriting.proofs.ParentsOf.{parents-held}
+use Rattle.rewriting.proofs.ParentsOf.{parents-held, parents-of}
 use Rattle.rewriting.proofs.UnitKept.{reading, items-read}
-use Rattle.rewriting.proofs.ListAnswers.{passable}
+use Rattle.rewriting.proofs.ListAnswers.{items-are, passable}
 use Rattle.rewriting.proofs.Answering.{refused-answers}
 
 -- ---- marks with zeros after them
@@ -84,8 +87,8 @@ true-or-false false P f g = g refl
 
 -- ---- what is asked for
 
-module _ (x : Sections) (tables : Rooms) (section : List ℕ) (h : UnitHeader) (ds : List Placed) (rows : List Row) (s index parents marks : List ℕ) (entries kept : ℕ)
-    (w : Tabled x tables section h ds rows s index parents marks entries kept) (unit : List ℕ) (is : unit ≡ take (h .end) section) where
+module _ (x : Sections) (tables : Rooms) (section : List ℕ) (h : UnitHeader) (ds : List Placed) (rows : List Row) (s index parents ends marks : List ℕ) (entries kept : ℕ)
+    (w : Tabled x tables section h ds rows s index parents ends marks entries kept) (unit : List ℕ) (is : unit ≡ take (h .end) section) where
   abbrev own : Unit′
   own = ownUnit h section ds
 
@@ -129,9 +132,26 @@ module _ (x : Sections) (tables : Rooms) (section : List ℕ) (h : UnitHeader) (
   length-unit : length unit ≡ length (take (h .end) section)
   length-unit = ap length is
 
-  pub unit-passes : Passable x own how s index unit parents marks (h .first .0)
-  unit-passes =
-      passable x own how s index unit read-as found parents marks (let l : length (take (h .end) section) < 0xfffffff4 = law .short in let z : length unit < 2 ^ 32 = omega (arith, length-unit) in z) parents-there
+  below : length unit < 2 ^ 32
+  below = let l : length (take (h .end) section) < 0xfffffff4 = law .short in let z : length unit < 2 ^ 32 = omega (arith, length-unit) in z
+
+  -- the column of ends has room for all entries
+  entries-fit : entriesIn (itemsBy how s index unit (h .first .0)) ≤ length ends
+  unfolding itemsIn
+  entries-fit =
+      let many : length rows ≡ entriesIn (itemsIn x own) =
+      parents-of (h .encoding) x (take (h .end) section) tables (h .abbreviations) (h .first .0) rows unit-analysed ds (w .declared-are) .many in
+      let few : length rows ≤ tables .entries = unit-rows (h .encoding) x (take (h .end) section) tables (h .abbreviations) (h .first .0) rows unit-analysed .entries in
+      let same : entriesIn (itemsBy how s index unit (h .first .0)) ≡ entriesIn (itemsIn x own) = ap entriesIn (items-are x own how s index unit read-as found) in
+      omega (arith, w .ends-room)
+
+  abbrev pub FilledBy : List ℕ → Type 0
+  FilledBy ends′ = length unit < 2 ^ 32 → entriesIn (itemsBy how s index unit (h .first .0)) ≤ length ends → EndsHeld ends′ 0 (itemsBy how s index unit (h .first .0))
+
+  pub unit-passes : (ends′ : List ℕ) → FilledBy ends′ → Passable x own how s index unit parents ends′ marks (h .first .0)
+  unit-passes ends′ fe =
+      passable x own how s index unit read-as found parents ends′ marks below parents-there
+      (subst (EndsHeld ends′ 0) (items-are x own how s index unit read-as found) (fe below entries-fit))
       (accepted-readable x (roomBy tables 0 0 0 0 0) section h ds rows (accepted (roomBy tables 0 0 0 0 0) refl) marks)
 
   pub unit-writable : (map ranges locations strings out : List ℕ) → Blank map ranges locations strings out
@@ -163,17 +183,19 @@ rewrite-lists x room u entries kept l items f n =
 
 -- ---- the answers
 
-module _ (t : Bool) (section : List ℕ) (h : UnitHeader) (s index parents marks : List ℕ) (entries kept : ℕ) (map ranges locations strings out unit : List ℕ) (is : unit ≡ take (h .end) section)
+module _ (t : Bool) (section : List ℕ) (h : UnitHeader) (s index parents ends marks : List ℕ) (entries kept : ℕ) (map ranges locations strings out unit : List ℕ) (is : unit ≡ take (h .end) section)
+    (ends′ : List ℕ)
+    (fe : length unit < 2 ^ 32 → entriesIn (itemsBy (reading (h .abbreviations) (h .encoding)) s index unit (h .first .0)) ≤ length ends → EndsHeld ends′ 0 (itemsBy (reading (h .abbreviations) (h .encoding)) s index unit (h .first .0)))
     (listed : Listed) (ranges′ locations′ strings′ : List ℕ)
-    (il : (x : Sections) (u : Unit′) → Passable x u (reading (h .abbreviations) (h .encoding)) s index unit parents marks (h .first .0) → h .first .0 ≡ u .header .first .0
+    (il : (x : Sections) (u : Unit′) → Passable x u (reading (h .abbreviations) (h .encoding)) s index unit parents ends′ marks (h .first .0) → h .first .0 ≡ u .header .first .0
     → ranges ≡ zeros (length ranges) → locations ≡ zeros (length locations) → strings ≡ zeros (length strings)
     → ListsAnswer (listsOf x u t (keptFrom marks 0 [] (itemsIn x u))) (length ranges) (length locations) (length strings) listed ranges′ locations′ strings′) where
   abbrev Goal : Answer → List ℕ → List ℕ → Type 0
-  Goal a map′ out′ = (x : Sections) (tables : Rooms) (ds : List Placed) (rows : List Row) → Tabled x tables section h ds rows s index parents marks entries kept → Blank map ranges locations strings out
+  Goal a map′ out′ = (x : Sections) (tables : Rooms) (ds : List Placed) (rows : List Row) → Tabled x tables section h ds rows s index parents ends marks entries kept → Blank map ranges locations strings out
       → Answers (markedOf x (roomBy tables (length map) (length ranges) (length locations) (length strings) (length out)) t (ownUnit h section ds) rows) a
       (length map) (length ranges) (length locations) (length strings) (length out) map′ ranges′ locations′ strings′ out′
 
-  module _ (x : Sections) (tables : Rooms) (ds : List Placed) (rows : List Row) (w : Tabled x tables section h ds rows s index parents marks entries kept) (b : Blank map ranges locations strings out) where
+  module _ (x : Sections) (tables : Rooms) (ds : List Placed) (rows : List Row) (w : Tabled x tables section h ds rows s index parents ends marks entries kept) (b : Blank map ranges locations strings out) where
     abbrev room : Room
     room = roomBy tables (length map) (length ranges) (length locations) (length strings) (length out)
 
@@ -189,8 +211,8 @@ module _ (t : Bool) (section : List ℕ) (h : UnitHeader) (s index parents marks
     those : ListsAnswer l (length ranges) (length locations) (length strings) listed ranges′ locations′ strings′
     those =
         subst (λ (k : List Standing). ListsAnswer (listsOf x u t k) (length ranges) (length locations) (length strings) listed ranges′ locations′ strings′)
-        (kept-here x tables section h ds rows s index parents marks entries kept w unit is)
-        (il x u (unit-passes x tables section h ds rows s index parents marks entries kept w unit is) refl (b .ranges-blank) (b .locations-blank) (b .strings-blank))
+        (kept-here x tables section h ds rows s index parents ends marks entries kept w unit is)
+        (il x u (unit-passes x tables section h ds rows s index parents ends marks entries kept w unit is ends′ fe) refl (b .ranges-blank) (b .locations-blank) (b .strings-blank))
 
     abbrev fit : Bool
     fit = haveRoom l (length ranges) (length locations) (length strings)
@@ -249,7 +271,7 @@ module _ (t : Bool) (section : List ℕ) (h : UnitHeader) (s index parents marks
         }
 
     module _ (p q r : ListCount) (e : listed ≡ Made p q r) (dead : kept ≡ entries → ⊥) (a : Answer) (map′ out′ : List ℕ)
-        (k : (x : Sections) (u : Unit′) (lists : Lists) (room : Room) → Passable x u (reading (h .abbreviations) (h .encoding)) s index unit parents marks (h .first .0)
+        (k : (x : Sections) (u : Unit′) (lists : Lists) (room : Room) → Passable x u (reading (h .abbreviations) (h .encoding)) s index unit parents ends′ marks (h .first .0)
         → Lends lists ranges′ p locations′ q strings′ r → Writable u room unit (h .first .0) map out
         → WriteAnswer (rewriteOf x room u entries kept lists (keptFrom marks 0 [] (itemsIn x u))) a (length map) (length out) map′ out′) where
       abbrev wanted : Collected
@@ -267,9 +289,9 @@ module _ (t : Bool) (section : List ℕ) (h : UnitHeader) (s index parents marks
           subst (λ (v : ℕ). WriteAnswer (rewriteOf x room u v (keptCount (marksIn rows)) l items) a (length map) (length out) map′ out′) (w .entries-are)
           (subst (λ (v : ℕ). WriteAnswer (rewriteOf x room u entries v l items) a (length map) (length out) map′ out′) (w .kept-are)
           (subst (λ (v : List Standing). WriteAnswer (rewriteOf x room u entries kept l v) a (length map) (length out) map′ out′)
-          (kept-here x tables section h ds rows s index parents marks entries kept w unit is)
-          (k x u l room (unit-passes x tables section h ds rows s index parents marks entries kept w unit is) lent-here
-          (unit-writable x tables section h ds rows s index parents marks entries kept w unit is map ranges locations strings out b))))
+          (kept-here x tables section h ds rows s index parents ends marks entries kept w unit is)
+          (k x u l room (unit-passes x tables section h ds rows s index parents ends marks entries kept w unit is ends′ fe) lent-here
+          (unit-writable x tables section h ds rows s index parents ends marks entries kept w unit is map ranges locations strings out b))))
 
       written-one : Answers (markedOf x room t u rows) a (length map) (length ranges) (length locations) (length strings) (length out) map′ ranges′ locations′ strings′ out′
       written-one =
@@ -293,7 +315,7 @@ module _ (t : Bool) (section : List ℕ) (h : UnitHeader) (s index parents marks
   untouched-unit p q r e k x tables ds rows w b = untouched-one x tables ds rows w b p q r e k
 
   pub written-unit : (p q r : ListCount) → listed ≡ Made p q r → (kept ≡ entries → ⊥) → (a : Answer) (map′ out′ : List ℕ)
-      → ((x : Sections) (u : Unit′) (lists : Lists) (room : Room) → Passable x u (reading (h .abbreviations) (h .encoding)) s index unit parents marks (h .first .0)
+      → ((x : Sections) (u : Unit′) (lists : Lists) (room : Room) → Passable x u (reading (h .abbreviations) (h .encoding)) s index unit parents ends′ marks (h .first .0)
       → Lends lists ranges′ p locations′ q strings′ r → Writable u room unit (h .first .0) map out
       → WriteAnswer (rewriteOf x room u entries kept lists (keptFrom marks 0 [] (itemsIn x u))) a (length map) (length out) map′ out′)
       → Goal a map′ out′

@@ -16,7 +16,8 @@ use Rattle.rewriting.specs.Places.{keptFrom, placesFrom}
 use Rattle.rewriting.specs.Written.{MapHeld}
 use Rattle.rewriting.specs.Rewriting.{Unit as Unit′, itemsIn}
 use Rattle.rewriting.specs.NextKept.{itemsBy}
-use Rattle.rewriting.specs.Measures.{ParentsHeld, keptOfUnit}
+use Rattle.rewriting.specs.Parents.{parentsFrom, HoldsFrom}
+use Rattle.rewriting.specs.Measures.{ColumnsHeld, keptOfUnit}
 use Rattle.rewriting.specs.MapFilled.{Fills}
 use Rattle.rewriting.specs.declared.kept.Reading.{Reading}
 use Rattle.rewriting.proofs.Maps.{olds-ascending}
@@ -44,15 +45,15 @@ module _ (x : Sections) (u : Unit′) (from n : ℕ) (h : abbreviationsOf (x .ab
 
 -- the parents column after an analysis
 pub column-held : (e : Encoding) (x : Sections) (unit : List ℕ) (room : Rooms) (from first : ℕ) (rows : List Row) → unitAnalysed e x unit room from first ≡ analysed rows → (n m : ℕ)
-    → ParentsHeld (itemsBy (reading from e) (x .abbreviations) (indexOf (x .abbreviations) from n) unit) (padTo m (parentsIn rows)) first
+    → HoldsFrom (padTo m (parentsIn rows)) 0 (parentsFrom 0 [] (itemsBy (reading from e) (x .abbreviations) (indexOf (x .abbreviations) from n) unit first))
 column-held e x unit room from first rows q n m = parents-held e x unit room from first rows q n m
 
 -- a map that was filled can be searched
-pub map-held : (r : Reading) (abbreviations index unit parents marks : List ℕ) (first : ℕ) (before after : List ℕ)
-    → Fills (itemsBy r abbreviations index unit) unit parents marks first before after → length unit < 2 ^ 32 → ParentsHeld (itemsBy r abbreviations index unit) parents first
+pub map-held : (r : Reading) (abbreviations index unit parents ends marks : List ℕ) (first : ℕ) (before after : List ℕ)
+    → Fills (itemsBy r abbreviations index unit) unit parents ends marks first before after → length unit < 2 ^ 32 → ColumnsHeld (itemsBy r abbreviations index unit) parents ends first
     → 12 * length (keptOfUnit (itemsBy r abbreviations index unit) marks first) ≤ length before → before ≡ zeros (length before)
     → MapHeld (placesFrom first (keptOfUnit (itemsBy r abbreviations index unit) marks first)) after
-map-held r abbreviations index unit parents marks first before after f u h m z =
+map-held r abbreviations index unit parents ends marks first before after f u h m z =
     record {
       held = f .holds u h m z;
       ascending = olds-ascending marks 0 first [] (itemsBy r abbreviations index unit first) (items-ascending (r .encoding) abbreviations (findAt abbreviations (r .from) index) unit first);

@@ -146,28 +146,28 @@ module _ (x : Sections) (u : Unit′) (lists : Lists) (room : Room) (entries kep
 
 -- ---- the returns
 
-module _ (r : Reading) (s table unit parents marks : List ℕ) (first entries kept : ℕ) (rl : List ℕ) (rc : ListCount) (ll : List ℕ) (lc : ListCount) (sl : List ℕ) (sc : ListCount) (map out : List ℕ)
-    (z : Size) (m : Measures (itemsBy r s table unit) unit parents marks first z) (map′ : List ℕ) (fills : Fills (itemsBy r s table unit) unit parents marks first map map′) (as-long : length map′ ≡ length map) where
+module _ (r : Reading) (s table unit parents ends marks : List ℕ) (first entries kept : ℕ) (rl : List ℕ) (rc : ListCount) (ll : List ℕ) (lc : ListCount) (sl : List ℕ) (sc : ListCount) (map out : List ℕ)
+    (z : Size) (m : Measures (itemsBy r s table unit) unit parents ends marks first z) (map′ : List ℕ) (fills : Fills (itemsBy r s table unit) unit parents ends marks first map map′) (as-long : length map′ ≡ length map) where
   abbrev Goal : Answer → List ℕ → Type 0
-  Goal a out′ = (x : Sections) (u : Unit′) (lists : Lists) (room : Room) → Passable x u r s table unit parents marks first → Lends lists rl rc ll lc sl sc → Writable u room unit first map out
+  Goal a out′ = (x : Sections) (u : Unit′) (lists : Lists) (room : Room) → Passable x u r s table unit parents ends marks first → Lends lists rl rc ll lc sl sc → Writable u room unit first map out
       → WriteAnswer (rewriteOf x room u entries kept lists (keptFrom marks 0 [] (itemsIn x u))) a (length map) (length out) map′ out′
 
   abbrev items : List Standing
   items = keptFrom marks 0 [] (itemsBy r s table unit first)
 
-  module _ (x : Sections) (u : Unit′) (lists : Lists) (room : Room) (p : Passable x u r s table unit parents marks first) (l : Lends lists rl rc ll lc sl sc) (w : Writable u room unit first map out) where
+  module _ (x : Sections) (u : Unit′) (lists : Lists) (room : Room) (p : Passable x u r s table unit parents ends marks first) (l : Lends lists rl rc ll lc sl sc) (w : Writable u room unit first map out) where
     places-are : z .places ≡ length items
-    places-are = m .found (p .small) (p .holds) .0
+    places-are = m .found (p .small) (p .holds, p .ends-hold) .0
 
     bytes-are : z .bytes ≡ first + sizeFrom items
-    bytes-are = m .found (p .small) (p .holds) .1
+    bytes-are = m .found (p .small) (p .holds, p .ends-hold) .1
 
     -- of the unit's own items
     by-items : (a : Answer) (out′ : List ℕ) → WriteAnswer (rewriteOf x room u entries kept lists items) a (length map) (length out) map′ out′
         → WriteAnswer (rewriteOf x room u entries kept lists (keptFrom marks 0 [] (itemsIn x u))) a (length map) (length out) map′ out′
     by-items a out′ h =
         subst (λ (is : List Item). WriteAnswer (rewriteOf x room u entries kept lists (keptFrom marks 0 [] is)) a (length map) (length out) map′ out′)
-        (items-here true r s table unit parents marks first x u p (w .first-is)) h
+        (items-here true r s table unit parents ends marks first x u p (w .first-is)) h
 
     no-map : length map′ / 12 < z .places → WriteAnswer (rewriteOf x room u entries kept lists items) (Refused 13) (length map) (length out) map′ out
     no-map k =
@@ -185,7 +185,7 @@ module _ (r : Reading) (s table unit parents marks : List ℕ) (first entries ke
         (same : length out₁ ≡ length out)
         (headed : 4 ≤ first → first ≤ length unit → first ≤ length out → 4 ≤ z .bytes → z .bytes - 4 < 2 ^ 32 → out₁ ≡ put out 0 (fixedBytes false 4 (z .bytes - 4) ++ drop 4 (take first unit)))
         (emitted : Emitted)
-        (emits : (x : Sections) (u : Unit′) (lists : Lists) (ps : List Place) → Passable x u r s table unit parents marks first → first ≡ u .header .first .0 → r .encoding .«big_endian» ≡ false
+        (emits : (x : Sections) (u : Unit′) (lists : Lists) (ps : List Place) → Passable x u r s table unit parents ends marks first → first ≡ u .header .first .0 → r .encoding .«big_endian» ≡ false
         → MapHeld ps map′ → z .places ≡ length ps → Bounds ps bounds → Lends lists rl rc ll lc sl sc
         → Emits (refusalFrom x u lists ps (keptFrom marks 0 [] (itemsIn x u))) (bytesFrom x u lists ps (keptFrom marks 0 [] (itemsIn x u))) out₁ first emitted out₂) where
       abbrev ps : List Place
@@ -201,7 +201,7 @@ module _ (r : Reading) (s table unit parents marks : List ℕ) (first entries ke
       room-map = omega (arith, places-are, as-long)
 
       held : MapHeld ps map′
-      held = map-held r s table unit parents marks first map map′ fills (p .small) (p .holds) room-map (w .map-blank)
+      held = map-held r s table unit parents ends marks first map map′ fills (p .small) (p .holds, p .ends-hold) room-map (w .map-blank)
 
       places : z .places ≡ length ps
       places = places-are ∙ sym (length-places first items)
@@ -209,14 +209,14 @@ module _ (r : Reading) (s table unit parents marks : List ℕ) (first entries ke
       it : Emits (refusalFrom x u lists ps items) body out₁ first emitted out₂
       it =
           subst (λ (is : List Item). Emits (refusalFrom x u lists ps (keptFrom marks 0 [] is)) (bytesFrom x u lists ps (keptFrom marks 0 [] is)) out₁ first emitted out₂)
-          (sym (items-here true r s table unit parents marks first x u p (w .first-is)))
+          (sym (items-here true r s table unit parents ends marks first x u p (w .first-is)))
           (emits x u lists ps p (w .first-is) (sym (ap (λ (y : Encoding). y .«big_endian») (p .read .encoding-is)) ∙ w .little)
           held places (bounded ps held places) l)
 
       stand : Every (StandsThere x u) items
       unfolding itemsIn
       stand =
-          subst (λ (is : List Item). Every (StandsThere x u) (keptFrom marks 0 [] is)) (sym (items-here true r s table unit parents marks first x u p (w .first-is)))
+          subst (λ (is : List Item). Every (StandsThere x u) (keptFrom marks 0 [] is)) (sym (items-here true r s table unit parents ends marks first x u p (w .first-is)))
           (every-kept (Stands (u .header .encoding) (x .abbreviations) (declaredIn (u .declared)) (u .bytes)) marks 0 [] (itemsIn x u)
           (items-stand (u .header .encoding) (x .abbreviations) (declaredIn (u .declared)) (u .bytes) (u .header .first .0)))
 
@@ -273,7 +273,7 @@ module _ (r : Reading) (s table unit parents marks : List ℕ) (first entries ke
       map-there : map′ ≡ mapBytes ps ++ zeros (length map - length (mapBytes ps))
       unfolding mapBytes
       map-there =
-          fills .bytes (p .small) (p .holds) room-map (w .map-blank)
+          fills .bytes (p .small) (p .holds, p .ends-hold) room-map (w .map-blank)
           ∙ ap (λ (n : ℕ). mapBytes ps ++ zeros n)
           (let q : length map - 12 * length items ≡ length map - length (runBytes 4 (columns ps)) = omega (arith, length-run 4 (columns ps), length-columns ps, length-places first items) in q)
 
@@ -317,7 +317,7 @@ module _ (r : Reading) (s table unit parents marks : List ℕ) (first entries ke
       (same : length out₁ ≡ length out)
       (headed : 4 ≤ first → first ≤ length unit → first ≤ length out → 4 ≤ z .bytes → z .bytes - 4 < 2 ^ 32 → out₁ ≡ put out 0 (fixedBytes false 4 (z .bytes - 4) ++ drop 4 (take first unit)))
       (emitted : Emitted)
-      (emits : (x : Sections) (u : Unit′) (lists : Lists) (ps : List Place) → Passable x u r s table unit parents marks first → first ≡ u .header .first .0 → r .encoding .«big_endian» ≡ false
+      (emits : (x : Sections) (u : Unit′) (lists : Lists) (ps : List Place) → Passable x u r s table unit parents ends marks first → first ≡ u .header .first .0 → r .encoding .«big_endian» ≡ false
       → MapHeld ps map′ → z .places ≡ length ps → Bounds ps bounds → Lends lists rl rc ll lc sl sc
       → Emits (refusalFrom x u lists ps (keptFrom marks 0 [] (itemsIn x u))) (bytesFrom x u lists ps (keptFrom marks 0 [] (itemsIn x u))) out₁ first emitted out₂) where
     pub unit-written : (to : ℕ) → emitted ≡ To to → Goal (Rewritten (record { entries = entries; kept = kept; places = z .places; bytes = z .bytes; ranges = rc; locations = lc; strings = sc })) out₂

@@ -21,6 +21,7 @@ use Rattle.rewriting.specs.Indices.{insertAll}
 use Rattle.rewriting.specs.Rewriting.{Unit as Unit′, anyDeclares, indicesFrom}
 use Rattle.rewriting.specs.Places.{Standing, keptFrom, offsetOf}
 use Rattle.rewriting.specs.Parents.{parentsFrom, HoldsFrom}
+use Rattle.rewriting.specs.Ends.{EndsHeld}
 use Rattle.rewriting.specs.NextKept.{itemsBy}
 use Rattle.rewriting.specs.Written.{ListHeld}
 use Rattle.rewriting.specs.Gathering.{Gathered}
@@ -112,32 +113,33 @@ module _ (x : Sections) (u : Unit′) where
   AllRead [] = Unit {0}
   AllRead (s ∷ rest) = ReadDeep (offsetOf (s .item)) × AllRead rest
 
--- what a pass through the kept items of a unit asks for: a unit below 4 GiB, its parents, each kept item readable
-pub record Passable (x : Sections) (u : Unit′) (r : Reading) (abbreviations table unit parents marks : List ℕ) (first : ℕ) : Type 0 where
+-- what a pass through the kept items of a unit asks for: a unit below 4 GiB, its parents and ends, each kept item readable
+pub record Passable (x : Sections) (u : Unit′) (r : Reading) (abbreviations table unit parents ends marks : List ℕ) (first : ℕ) : Type 0 where
   pub small : length unit < 2 ^ 32
   pub read : ReadAs x u r abbreviations unit
   pub found : Found u r abbreviations table
   pub holds : HoldsFrom parents 0 (parentsFrom 0 [] (itemsBy r abbreviations table unit first))
+  pub ends-hold : EndsHeld ends 0 (itemsBy r abbreviations table unit first)
   pub deep : AllRead x u (keptFrom marks 0 [] (itemsBy r abbreviations table unit first))
 
 -- ---- one list
 
 -- what a pass puts into the list of a kind
-abbrev pub Gathers : ℕ → Bool → Reading → List ℕ → List ℕ → List ℕ → List ℕ → List ℕ → ℕ → List ℕ → ℕ → List ℕ → Type 0
-Gathers k ordered r abbreviations table unit parents marks first list count after =
-    (x : Sections) (u : Unit′) → Passable x u r abbreviations table unit parents marks first → ListHeld [] list
+abbrev pub Gathers : ℕ → Bool → Reading → List ℕ → List ℕ → List ℕ → List ℕ → List ℕ → List ℕ → ℕ → List ℕ → ℕ → List ℕ → Type 0
+Gathers k ordered r abbreviations table unit parents ends marks first list count after =
+    (x : Sections) (u : Unit′) → Passable x u r abbreviations table unit parents ends marks first → ListHeld [] list
     → Holding ordered (indicesFrom x u k (keptFrom marks 0 [] (itemsBy r abbreviations table unit first))) count after
 
 -- what the list of a kind is at the end
-abbrev pub Listing : ℕ → Reading → List ℕ → List ℕ → List ℕ → List ℕ → List ℕ → ℕ → List ℕ → ℕ → List ℕ → Type 0
-Listing k r abbreviations table unit parents marks first list count after =
-    (x : Sections) (u : Unit′) → Passable x u r abbreviations table unit parents marks first → ListHeld [] list
+abbrev pub Listing : ℕ → Reading → List ℕ → List ℕ → List ℕ → List ℕ → List ℕ → List ℕ → ℕ → List ℕ → ℕ → List ℕ → Type 0
+Listing k r abbreviations table unit parents ends marks first list count after =
+    (x : Sections) (u : Unit′) → Passable x u r abbreviations table unit parents ends marks first → ListHeld [] list
     → Filled (insertAll (indicesFrom x u k (keptFrom marks 0 [] (itemsBy r abbreviations table unit first))) []) list count after
 
 -- the same of a list that may hold anything before
-abbrev pub Refilling : ℕ → Reading → List ℕ → List ℕ → List ℕ → List ℕ → List ℕ → ℕ → List ℕ → ℕ → List ℕ → Type 0
-Refilling k r abbreviations table unit parents marks first list count after =
-    (x : Sections) (u : Unit′) → Passable x u r abbreviations table unit parents marks first
+abbrev pub Refilling : ℕ → Reading → List ℕ → List ℕ → List ℕ → List ℕ → List ℕ → List ℕ → ℕ → List ℕ → ℕ → List ℕ → Type 0
+Refilling k r abbreviations table unit parents ends marks first list count after =
+    (x : Sections) (u : Unit′) → Passable x u r abbreviations table unit parents ends marks first
     → Filled (insertAll (indicesFrom x u k (keptFrom marks 0 [] (itemsBy r abbreviations table unit first))) []) list count after
 
 -- where an entry declares the attribute of a name; a list without such an attribute has the name 0

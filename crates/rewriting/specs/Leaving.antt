@@ -48,7 +48,7 @@ abbrev pub ownUnit : UnitHeader → List ℕ → List Placed → Unit′
 ownUnit h section ds = record { header = h; bytes = take (h .end) section; declared = ds }
 
 -- the tables that marking leaves, and its counts
-pub record Tabled (x : Sections) (tables : Rooms) (section : List ℕ) (h : UnitHeader) (ds : List Placed) (rows : List Row) (abbreviations index parents marks : List ℕ) (entries kept : ℕ) : Type 0 where
+pub record Tabled (x : Sections) (tables : Rooms) (section : List ℕ) (h : UnitHeader) (ds : List Placed) (rows : List Row) (abbreviations index parents ends marks : List ℕ) (entries kept : ℕ) : Type 0 where
   pub abbreviations-are : x .abbreviations ≡ abbreviations
   pub header-is : headerOf section ≡ Header′ h
   pub declared-are : abbreviationsOf (x .abbreviations) (h .abbreviations) ≡ some ds
@@ -56,6 +56,7 @@ pub record Tabled (x : Sections) (tables : Rooms) (section : List ℕ) (h : Unit
   pub index-is : index ≡ indexOf (x .abbreviations) (h .abbreviations) (length index)
   pub parents-are : parents ≡ padTo (length parents) (parentsIn rows)
   pub marks-are : marks ≡ padTo (length marks) (marksIn rows)
+  pub ends-room : tables .entries ≤ length ends
   pub entries-are : entries ≡ length (marksIn rows)
   pub kept-are : kept ≡ keptCount (marksIn rows)
 

@@ -13,6 +13,7 @@ pub mod LeftOut
 pub mod Rewriting
 pub mod Landing
 pub mod Parents
+pub mod Ends
 pub mod NextKept
 pub mod Measures
 pub mod MapFilled

@@ -6,20 +6,21 @@ use lib.ListN.{length}
 use Rattle.readers.specs.Stream.{Item}
 use Rattle.rewriting.specs.Places.{Standing, keptFrom, sizeFrom}
 use Rattle.rewriting.specs.Parents.{parentsFrom, HoldsFrom}
+use Rattle.rewriting.specs.Ends.{EndsHeld}
 use Rattle.rewriting.specs.declared.passes.Size.{Size}
 
 module _ (items : ℕ → List Item) where
-  -- the column holds the parents of the entries, from the first on
-  abbrev pub ParentsHeld : List ℕ → ℕ → Type 0
-  ParentsHeld parents first = HoldsFrom parents 0 (parentsFrom 0 [] (items first))
+  -- the columns hold the parents and the ends of the entries, from the first on
+  abbrev pub ColumnsHeld : List ℕ → List ℕ → ℕ → Type 0
+  ColumnsHeld parents ends first = HoldsFrom parents 0 (parentsFrom 0 [] (items first)) × EndsHeld ends 0 (items first)
 
   -- what is kept of a unit whose first entry stands at a place
   abbrev pub keptOfUnit : List ℕ → ℕ → List Standing
   keptOfUnit marks first = keptFrom marks 0 [] (items first)
 
   -- each place takes a byte at least, and what is written is no longer than the unit
-  pub record Measures (unit parents marks : List ℕ) (first : ℕ) (z : Size) : Type 0 where
+  pub record Measures (unit parents ends marks : List ℕ) (first : ℕ) (z : Size) : Type 0 where
     pub room : first + z .places ≤ z .bytes
     pub inside : first ≤ length unit → z .bytes ≤ length unit
-    pub found : length unit < 2 ^ 32 → ParentsHeld parents first
+    pub found : length unit < 2 ^ 32 → ColumnsHeld parents ends first
         → (z .places ≡ length (keptOfUnit marks first)) × (z .bytes ≡ first + sizeFrom (keptOfUnit marks first))

@@ -13,6 +13,7 @@ use Rattle.readers.specs.declared.entries.Nesting.{Nesting}
 use Rattle.marking.specs.Marks.{isKept}
 use Rattle.rewriting.specs.Places.{Standing, keptFrom}
 use Rattle.rewriting.specs.Parents.{parentsFrom, HoldsFrom, Chained}
+use Rattle.rewriting.specs.Ends.{EndsHeld}
 use Rattle.rewriting.specs.declared.kept.Reading.{Reading}
 use Rattle.rewriting.specs.declared.kept.Stand.{Stand}
 use Rattle.rewriting.specs.declared.kept.Kept.{Kept}
@@ -42,14 +43,15 @@ unfoldable pub Forward : List ℕ → ℕ → KeptStep → Type 0
 Forward unit at (Item′ x) = (at ≤ x .start) × (x .start < x .end) × (x .end ≤ length unit) × (x .next .at ≡ x .end)
 Forward unit at End = Unit {0}
 
-module _ (items : ℕ → List Item) (parents : List ℕ) where
-  -- a pass stands where these entries are open, the innermost first, and the column holds the parents from here on
+module _ (items : ℕ → List Item) (parents ends : List ℕ) where
+  -- a pass stands where these entries are open, the innermost first, and the columns hold the parents and the ends from here on
   pub record Stood (s : Stand) (stack : List ℕ) : Type 0 where
     pub nested : s .nesting ≡ nestingOf stack
     pub chained : Chained parents stack
     pub counted : length stack ≤ s .count
     pub passed : s .count ≤ s .at
     pub holds : HoldsFrom parents (s .count) (parentsFrom (s .count) stack (items (s .at)))
+    pub ends-hold : EndsHeld ends (s .count) (items (s .at))
 
   module _ (marks : List ℕ) where
     -- what is kept from here on

@@ -16,6 +16,7 @@ use crate::indices::is_short;
 use crate::indices::settle;
 use crate::indices::sorted_lists;
 use crate::kept::Reading;
+use crate::kept::fill_ends;
 use crate::lists::ListCount;
 use crate::passes::place_items;
 use crate::siblings::fill_bounds;
@@ -116,6 +117,7 @@ fn index_lists(
     r: Reading,
     index: &[u64],
     parents: &[u32],
+    ends: &[u64],
     marks: &[u8],
     first: usize,
     type_units: bool,
@@ -123,7 +125,7 @@ fn index_lists(
     location_list: &mut [u8],
     string_list: &mut [u8],
 ) -> Listed
-    ensures { λ c. ⌜ ((x : Sections) (u : Unit′) → Passable x u r (now (abbreviations .entry)) (now (index .entry)) (now (unit .entry)) (now (parents .entry)) (now (marks .entry)) first → first ≡ u .header .first .0 → now («range_list» .entry) ≡ zeros (length (now («range_list» .entry))) → now («location_list» .entry) ≡ zeros (length (now («location_list» .entry))) → now («string_list» .entry) ≡ zeros (length (now («string_list» .entry))) → ListsAnswer (listsOf x u «type_units» (keptFrom (now (marks .entry)) 0 [] (itemsIn x u))) (length (now («range_list» .entry))) (length (now («location_list» .entry))) (length (now («string_list» .entry))) c (now («range_list» .exit)) (now («location_list» .exit)) (now («string_list» .exit))) ⌝ }
+    ensures { λ c. ⌜ ((x : Sections) (u : Unit′) → Passable x u r (now (abbreviations .entry)) (now (index .entry)) (now (unit .entry)) (now (parents .entry)) (now (ends .entry)) (now (marks .entry)) first → first ≡ u .header .first .0 → now («range_list» .entry) ≡ zeros (length (now («range_list» .entry))) → now («location_list» .entry) ≡ zeros (length (now («location_list» .entry))) → now («string_list» .entry) ≡ zeros (length (now («string_list» .entry))) → ListsAnswer (listsOf x u «type_units» (keptFrom (now (marks .entry)) 0 [] (itemsIn x u))) (length (now («range_list» .entry))) (length (now («location_list» .entry))) (length (now («string_list» .entry))) c (now («range_list» .exit)) (now («location_list» .exit)) (now («string_list» .exit))) ⌝ }
 {
     if type_units {
         return Listed::Made {
@@ -138,6 +140,7 @@ fn index_lists(
         r,
         index,
         parents,
+        ends,
         marks,
         first,
         range_list,
@@ -197,6 +200,7 @@ fn write_unit(
     r: Reading,
     index: &[u64],
     parents: &[u32],
+    ends: &[u64],
     marks: &[u8],
     first: usize,
     entries: usize,
@@ -211,9 +215,19 @@ fn write_unit(
     map: &mut [u8],
     out: &mut [u8],
 ) -> Collected
-    ensures { λ c. ⌜ ((x : Sections) (u : Unit′) (lists : Lists) (room : Room) → Passable x u r (now (abbreviations .entry)) (now (index .entry)) (now (unit .entry)) (now (parents .entry)) (now (marks .entry)) first → Lends lists (now («range_list» .entry)) ranges (now («location_list» .entry)) locations (now («string_list» .entry)) strings → Writable u room (now (unit .entry)) first (now (map .entry)) (now (out .entry)) → WriteAnswer (rewriteOf x room u entries kept lists (keptFrom (now (marks .entry)) 0 [] (itemsIn x u))) c (length (now (map .entry))) (length (now (out .entry))) (now (map .exit)) (now (out .exit))) ⌝ }
+    ensures { λ c. ⌜ ((x : Sections) (u : Unit′) (lists : Lists) (room : Room) → Passable x u r (now (abbreviations .entry)) (now (index .entry)) (now (unit .entry)) (now (parents .entry)) (now (ends .entry)) (now (marks .entry)) first → Lends lists (now («range_list» .entry)) ranges (now («location_list» .entry)) locations (now («string_list» .entry)) strings → Writable u room (now (unit .entry)) first (now (map .entry)) (now (out .entry)) → WriteAnswer (rewriteOf x room u entries kept lists (keptFrom (now (marks .entry)) 0 [] (itemsIn x u))) c (length (now (map .entry))) (length (now (out .entry))) (now (map .exit)) (now (out .exit))) ⌝ }
 {
-    let size = place_items(unit, abbreviations, r, index, parents, marks, first, map);
+    let size = place_items(
+        unit,
+        abbreviations,
+        r,
+        index,
+        parents,
+        ends,
+        marks,
+        first,
+        map,
+    );
     if size.places > map.len() / 12 {
         return Collected::Refused(13);
     }
@@ -228,6 +242,7 @@ fn write_unit(
         r,
         index,
         parents,
+        ends,
         marks,
         first,
         map,
@@ -256,13 +271,14 @@ fn write_unit(
     }
 }
 
-// The unit of marked tables: lists, then map and output where something is dead.
+// The unit of marked tables: the ends of its entries, lists, then map and output where something is dead.
 fn rewrite_unit(
     section: &[u8],
     h: UnitHeader,
     abbreviations: &[u8],
     index: &[u64],
     parents: &[u32],
+    ends: &mut [u64],
     marks: &[u8],
     entries: usize,
     kept: usize,
@@ -274,7 +290,7 @@ fn rewrite_unit(
     string_list: &mut [u8],
     out: &mut [u8],
 ) -> Collected
-    ensures { λ c. ⌜ ((x : Sections) (tables : Rooms) (ds : List Placed) (rows : List Row) → Tabled x tables (now (section .entry)) h ds rows (now (abbreviations .entry)) (now (index .entry)) (now (parents .entry)) (now (marks .entry)) entries kept → Blank (now (map .entry)) (now («range_list» .entry)) (now («location_list» .entry)) (now («string_list» .entry)) (now (out .entry)) → Answers (markedOf x (roomBy tables (length (now (map .entry))) (length (now («range_list» .entry))) (length (now («location_list» .entry))) (length (now («string_list» .entry))) (length (now (out .entry)))) «type_units» (ownUnit h (now (section .entry)) ds) rows) c (length (now (map .entry))) (length (now («range_list» .entry))) (length (now («location_list» .entry))) (length (now («string_list» .entry))) (length (now (out .entry))) (now (map .exit)) (now («range_list» .exit)) (now («location_list» .exit)) (now («string_list» .exit)) (now (out .exit))) ⌝ }
+    ensures { λ c. ⌜ ((x : Sections) (tables : Rooms) (ds : List Placed) (rows : List Row) → Tabled x tables (now (section .entry)) h ds rows (now (abbreviations .entry)) (now (index .entry)) (now (parents .entry)) (now (ends .entry)) (now (marks .entry)) entries kept → Blank (now (map .entry)) (now («range_list» .entry)) (now («location_list» .entry)) (now («string_list» .entry)) (now (out .entry)) → Answers (markedOf x (roomBy tables (length (now (map .entry))) (length (now («range_list» .entry))) (length (now («location_list» .entry))) (length (now («string_list» .entry))) (length (now (out .entry)))) «type_units» (ownUnit h (now (section .entry)) ds) rows) c (length (now (map .entry))) (length (now («range_list» .entry))) (length (now («location_list» .entry))) (length (now («string_list» .entry))) (length (now (out .entry))) (now (map .exit)) (now («range_list» .exit)) (now («location_list» .exit)) (now («string_list» .exit)) (now (out .exit))) ⌝ }
 {
     let encoding = h.encoding;
     let r = Reading {
@@ -284,12 +300,14 @@ fn rewrite_unit(
     let unit = unit_part(section, h);
     let start = h.first;
     let first = start.0 as usize;
+    fill_ends(unit, abbreviations, r, index, first, ends);
     match index_lists(
         unit,
         abbreviations,
         r,
         index,
         parents,
+        ends,
         marks,
         first,
         type_units,
@@ -320,6 +338,7 @@ fn rewrite_unit(
                 r,
                 index,
                 parents,
+                ends,
                 marks,
                 first,
                 entries,
@@ -409,6 +428,7 @@ fn collect_unit(
                     abbreviations,
                     index,
                     parents,
+                    ends,
                     marks,
                     entries,
                     kept,

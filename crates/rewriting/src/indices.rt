@@ -227,6 +227,7 @@ fn gather(
     r: Reading,
     index: &[u64],
     parents: &[u32],
+    ends: &[u64],
     marks: &[u8],
     first: usize,
     ordered: bool,
@@ -234,9 +235,9 @@ fn gather(
     location_list: &mut [u8],
     string_list: &mut [u8],
 ) -> Lengths
-    ensures ranges { λ n. ⌜ Gathers 0 ordered r (now (abbreviations .entry)) (now (index .entry)) (now (unit .entry)) (now (parents .entry)) (now (marks .entry)) first (now («range_list» .entry)) (n .ranges) (now («range_list» .exit)) ⌝ }
-    ensures locations { λ n. ⌜ Gathers 1 ordered r (now (abbreviations .entry)) (now (index .entry)) (now (unit .entry)) (now (parents .entry)) (now (marks .entry)) first (now («location_list» .entry)) (n .locations) (now («location_list» .exit)) ⌝ }
-    ensures strings { λ n. ⌜ Gathers 2 ordered r (now (abbreviations .entry)) (now (index .entry)) (now (unit .entry)) (now (parents .entry)) (now (marks .entry)) first (now («string_list» .entry)) (n .strings) (now («string_list» .exit)) ⌝ }
+    ensures ranges { λ n. ⌜ Gathers 0 ordered r (now (abbreviations .entry)) (now (index .entry)) (now (unit .entry)) (now (parents .entry)) (now (ends .entry)) (now (marks .entry)) first (now («range_list» .entry)) (n .ranges) (now («range_list» .exit)) ⌝ }
+    ensures locations { λ n. ⌜ Gathers 1 ordered r (now (abbreviations .entry)) (now (index .entry)) (now (unit .entry)) (now (parents .entry)) (now (ends .entry)) (now (marks .entry)) first (now («location_list» .entry)) (n .locations) (now («location_list» .exit)) ⌝ }
+    ensures strings { λ n. ⌜ Gathers 2 ordered r (now (abbreviations .entry)) (now (index .entry)) (now (unit .entry)) (now (parents .entry)) (now (ends .entry)) (now (marks .entry)) first (now («string_list» .entry)) (n .strings) (now («string_list» .exit)) ⌝ }
 {
     let mut s = Stand {
         at: first,
@@ -249,7 +250,8 @@ fn gather(
         strings: 0,
     };
     loop {
-        let KeptStep::Item(x) = next_kept(unit, abbreviations, r, index, parents, marks, s) else {
+        let KeptStep::Item(x) = next_kept(unit, abbreviations, r, index, parents, ends, marks, s)
+        else {
             return g;
         };
         let next = x.next;
@@ -278,15 +280,16 @@ fn gather_in_order(
     r: Reading,
     index: &[u64],
     parents: &[u32],
+    ends: &[u64],
     marks: &[u8],
     first: usize,
     range_list: &mut [u8],
     location_list: &mut [u8],
     string_list: &mut [u8],
 ) -> Lengths
-    ensures ranges { λ n. ⌜ Refilling 0 r (now (abbreviations .entry)) (now (index .entry)) (now (unit .entry)) (now (parents .entry)) (now (marks .entry)) first (now («range_list» .entry)) (n .ranges) (now («range_list» .exit)) ⌝ }
-    ensures locations { λ n. ⌜ Refilling 1 r (now (abbreviations .entry)) (now (index .entry)) (now (unit .entry)) (now (parents .entry)) (now (marks .entry)) first (now («location_list» .entry)) (n .locations) (now («location_list» .exit)) ⌝ }
-    ensures strings { λ n. ⌜ Refilling 2 r (now (abbreviations .entry)) (now (index .entry)) (now (unit .entry)) (now (parents .entry)) (now (marks .entry)) first (now («string_list» .entry)) (n .strings) (now («string_list» .exit)) ⌝ }
+    ensures ranges { λ n. ⌜ Refilling 0 r (now (abbreviations .entry)) (now (index .entry)) (now (unit .entry)) (now (parents .entry)) (now (ends .entry)) (now (marks .entry)) first (now («range_list» .entry)) (n .ranges) (now («range_list» .exit)) ⌝ }
+    ensures locations { λ n. ⌜ Refilling 1 r (now (abbreviations .entry)) (now (index .entry)) (now (unit .entry)) (now (parents .entry)) (now (ends .entry)) (now (marks .entry)) first (now («location_list» .entry)) (n .locations) (now («location_list» .exit)) ⌝ }
+    ensures strings { λ n. ⌜ Refilling 2 r (now (abbreviations .entry)) (now (index .entry)) (now (unit .entry)) (now (parents .entry)) (now (ends .entry)) (now (marks .entry)) first (now («string_list» .entry)) (n .strings) (now («string_list» .exit)) ⌝ }
 {
     clear_bytes(range_list);
     clear_bytes(location_list);
@@ -297,6 +300,7 @@ fn gather_in_order(
         r,
         index,
         parents,
+        ends,
         marks,
         first,
         true,
@@ -363,15 +367,16 @@ pub fn sorted_lists(
     r: Reading,
     index: &[u64],
     parents: &[u32],
+    ends: &[u64],
     marks: &[u8],
     first: usize,
     range_list: &mut [u8],
     location_list: &mut [u8],
     string_list: &mut [u8],
 ) -> Lengths
-    ensures ranges { λ n. ⌜ Listing 0 r (now (abbreviations .entry)) (now (index .entry)) (now (unit .entry)) (now (parents .entry)) (now (marks .entry)) first (now («range_list» .entry)) (n .ranges) (now («range_list» .exit)) ⌝ }
-    ensures locations { λ n. ⌜ Listing 1 r (now (abbreviations .entry)) (now (index .entry)) (now (unit .entry)) (now (parents .entry)) (now (marks .entry)) first (now («location_list» .entry)) (n .locations) (now («location_list» .exit)) ⌝ }
-    ensures strings { λ n. ⌜ Listing 2 r (now (abbreviations .entry)) (now (index .entry)) (now (unit .entry)) (now (parents .entry)) (now (marks .entry)) first (now («string_list» .entry)) (n .strings) (now («string_list» .exit)) ⌝ }
+    ensures ranges { λ n. ⌜ Listing 0 r (now (abbreviations .entry)) (now (index .entry)) (now (unit .entry)) (now (parents .entry)) (now (ends .entry)) (now (marks .entry)) first (now («range_list» .entry)) (n .ranges) (now («range_list» .exit)) ⌝ }
+    ensures locations { λ n. ⌜ Listing 1 r (now (abbreviations .entry)) (now (index .entry)) (now (unit .entry)) (now (parents .entry)) (now (ends .entry)) (now (marks .entry)) first (now («location_list» .entry)) (n .locations) (now («location_list» .exit)) ⌝ }
+    ensures strings { λ n. ⌜ Listing 2 r (now (abbreviations .entry)) (now (index .entry)) (now (unit .entry)) (now (parents .entry)) (now (ends .entry)) (now (marks .entry)) first (now («string_list» .entry)) (n .strings) (now («string_list» .exit)) ⌝ }
 {
     let g = gather(
         unit,
@@ -379,6 +384,7 @@ pub fn sorted_lists(
         r,
         index,
         parents,
+        ends,
         marks,
         first,
         false,
@@ -394,6 +400,7 @@ pub fn sorted_lists(
             r,
             index,
             parents,
+            ends,
             marks,
             first,
             range_list,

@@ -1,9 +1,16 @@
 // The kept entries and terminators of a unit, one after the other.
 ghost use mathlib.Core.Path.{_≡_};
+ghost use Prim.Native.Nat.{ℕ, _^_, _≤_, _<_};
+ghost use lib.ListN.{length, getD};
 ghost use Rattle.marking.specs.Marks.{isKept};
+ghost use Rattle.rewriting.specs.Parents.{entriesIn};
+ghost use Rattle.rewriting.specs.Ends.{endNumber, EndsHeld};
 ghost use Rattle.rewriting.specs.NextKept.{closesKept, itemsBy, Answers};
+use readers::abbreviations::Found;
+use readers::abbreviations::find_declaration;
 use readers::cursor::Cursor;
 use readers::cursor::Encoding;
+use readers::cursor::Number;
 use readers::entries::Nesting;
 use readers::entries::Step;
 use readers::offsets::EntryIndex;
@@ -58,74 +65,150 @@ fn closes_kept(marks: &[u8], nesting: Nesting) -> bool
     is_kept(marks, parent.0 as usize)
 }
 
-// The next kept item. A unit below 4 GiB has fewer entries than a u32 can count.
+// The number of an entry that ends at a place below 4 GiB: twice the place, and one more where it has children.
+fn end_number(end: u64, children: bool) -> u64
+    ensures { λ r. ⌜ (end < 2 ^ 32 → r ≡ endNumber end children) ⌝ }
+{
+    if end > 0xffff_ffff {
+        return 0;
+    }
+    if children {
+        return 2 * end + 1;
+    }
+    2 * end
+}
+
+// Puts a 0 after the numbers of a column, if it goes on.
+fn end_column(ends: &mut [u64], count: usize)
+    ensures ends { λ _. ⌜ getD (now (ends .exit)) count 0 ≡ 0 ⌝ }
+    ensures others { λ _. ⌜ ((i : ℕ) → i < count → getD (now (ends .exit)) i 0 ≡ getD (now (ends .entry)) i 0) ⌝ }
+{
+    if count < ends.len() {
+        ends[count] = 0;
+    }
+}
+
+// Fills a column with the ends of a unit's entries, so that a pass need not step over their values again.
+pub fn fill_ends(
+    unit: &[u8],
+    abbreviations: &[u8],
+    r: Reading,
+    index: &[u64],
+    first: usize,
+    ends: &mut [u64],
+)
+    ensures { λ _. ⌜ (length (now (unit .entry)) < 2 ^ 32 → entriesIn (itemsBy r (now (abbreviations .entry)) (now (index .entry)) (now (unit .entry)) first) ≤ length (now (ends .entry)) → EndsHeld (now (ends .exit)) 0 (itemsBy r (now (abbreviations .entry)) (now (index .entry)) (now (unit .entry)) first)) ⌝ }
+{
+    let mut at = first;
+    let mut count: usize = 0;
+    loop {
+        match (Cursor { at }).step(unit, abbreviations, r.from, index, r.encoding) {
+            Step::Entry(x) => {
+                if count >= ends.len() {
+                    return;
+                }
+                let declaration = x.declaration;
+                let next = x.next;
+                ends[count] = end_number(next.at as u64, declaration.children);
+                count += 1;
+                at = next.at;
+            }
+            Step::Terminator(next) => {
+                at = next.at;
+            }
+            Step::End => {
+                end_column(ends, count);
+                return;
+            }
+            Step::Unreadable => {
+                end_column(ends, count);
+                return;
+            }
+        }
+    }
+}
+
+// The number of an entry in the column of ends; 0 where there is none.
+fn end_at(ends: &[u64], count: usize) -> u64
+    ensures { λ r. ⌜ r ≡ getD (now (ends .entry)) count 0 ⌝ }
+{
+    if count >= ends.len() {
+        return 0;
+    }
+    ends[count]
+}
+
+// The next kept item, by the column of ends: of a dead entry the code alone is read. A unit below 4 GiB has fewer entries than a u32 can count.
 pub fn next_kept(
     unit: &[u8],
     abbreviations: &[u8],
     r: Reading,
     index: &[u64],
     parents: &[u32],
+    ends: &[u64],
     marks: &[u8],
     s: Stand,
 ) -> KeptStep
-    ensures { λ x. ⌜ Answers (itemsBy r (now (abbreviations .entry)) (now (index .entry)) (now (unit .entry))) (now (parents .entry)) (now (marks .entry)) (now (unit .entry)) s x ⌝ }
+    ensures { λ x. ⌜ Answers (itemsBy r (now (abbreviations .entry)) (now (index .entry)) (now (unit .entry))) (now (parents .entry)) (now (ends .entry)) (now (marks .entry)) (now (unit .entry)) s x ⌝ }
 {
-    let from = r.from;
-    let encoding = r.encoding;
     let mut at = s.at;
     let mut count = s.count;
     let mut nesting = s.nesting;
     loop {
-        match (Cursor { at }).step(unit, abbreviations, from, index, encoding) {
-            Step::Entry(x) => {
-                if count > 0xffff_ffff {
+        if at >= unit.len() {
+            return KeptStep::End;
+        }
+        let Number::Value(code, values) = (Cursor { at }).uleb(unit) else {
+            return KeptStep::End;
+        };
+        let start = at;
+        let depth = nesting.depth;
+        if code == 0 {
+            let kept = closes_kept(marks, nesting);
+            nesting = nesting.after_terminator(parents);
+            at = values.at;
+            if kept {
+                return KeptStep::Item(Kept {
+                    start,
+                    end: at,
+                    depth,
+                    is_entry: false,
+                    specs: values,
+                    values,
+                    next: Stand { at, count, nesting },
+                });
+            }
+        } else {
+            if count > 0xffff_ffff {
+                return KeptStep::End;
+            }
+            let n = end_at(ends, count);
+            let end = (n / 2) as usize;
+            if end < values.at {
+                return KeptStep::End;
+            }
+            if end > unit.len() {
+                return KeptStep::End;
+            }
+            let kept = is_kept(marks, count);
+            nesting = nesting.after_entry(EntryIndex(count as u32), n % 2 == 1);
+            count += 1;
+            at = end;
+            if kept {
+                let Found::Declaration(d) = find_declaration(abbreviations, r.from, index, code)
+                else {
                     return KeptStep::End;
-                }
-                let declaration = x.declaration;
-                let specs = declaration.attributes;
-                let values = x.values;
-                let next = x.next;
-                let start = at;
-                let depth = nesting.depth;
-                let kept = is_kept(marks, count);
-                nesting = nesting.after_entry(EntryIndex(count as u32), declaration.children);
-                count += 1;
-                at = next.at;
-                if kept {
-                    return KeptStep::Item(Kept {
-                        start,
-                        end: at,
-                        depth,
-                        is_entry: true,
-                        specs,
-                        values,
-                        next: Stand { at, count, nesting },
-                    });
-                }
-            }
-            Step::Terminator(next) => {
-                let start = at;
-                let depth = nesting.depth;
-                let kept = closes_kept(marks, nesting);
-                nesting = nesting.after_terminator(parents);
-                at = next.at;
-                if kept {
-                    return KeptStep::Item(Kept {
-                        start,
-                        end: at,
-                        depth,
-                        is_entry: false,
-                        specs: next,
-                        values: next,
-                        next: Stand { at, count, nesting },
-                    });
-                }
-            }
-            Step::End => {
-                return KeptStep::End;
-            }
-            Step::Unreadable => {
-                return KeptStep::End;
+                };
+                let specs = d.attributes;
+                return KeptStep::Item(Kept {
+                    start,
+                    end,
+                    depth,
+                    is_entry: true,
+                    specs,
+                    values,
+                    next: Stand { at, count, nesting },
+                });
             }
         }
     }

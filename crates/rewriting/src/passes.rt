@@ -21,12 +21,13 @@ pub fn place_items(
     r: Reading,
     index: &[u64],
     parents: &[u32],
+    ends: &[u64],
     marks: &[u8],
     first: usize,
     map: &mut [u8],
 ) -> Size
-    ensures size { λ z. ⌜ Measures (itemsBy r (now (abbreviations .entry)) (now (index .entry)) (now (unit .entry))) (now (unit .entry)) (now (parents .entry)) (now (marks .entry)) first z ⌝ }
-    ensures map { λ _. ⌜ Fills (itemsBy r (now (abbreviations .entry)) (now (index .entry)) (now (unit .entry))) (now (unit .entry)) (now (parents .entry)) (now (marks .entry)) first (now (map .entry)) (now (map .exit)) ⌝ }
+    ensures size { λ z. ⌜ Measures (itemsBy r (now (abbreviations .entry)) (now (index .entry)) (now (unit .entry))) (now (unit .entry)) (now (parents .entry)) (now (ends .entry)) (now (marks .entry)) first z ⌝ }
+    ensures map { λ _. ⌜ Fills (itemsBy r (now (abbreviations .entry)) (now (index .entry)) (now (unit .entry))) (now (unit .entry)) (now (parents .entry)) (now (ends .entry)) (now (marks .entry)) first (now (map .entry)) (now (map .exit)) ⌝ }
 {
     let mut s = Stand {
         at: first,
@@ -36,7 +37,8 @@ pub fn place_items(
     let mut places: usize = 0;
     let mut bytes = first;
     loop {
-        let KeptStep::Item(x) = next_kept(unit, abbreviations, r, index, parents, marks, s) else {
+        let KeptStep::Item(x) = next_kept(unit, abbreviations, r, index, parents, ends, marks, s)
+        else {
             return Size { places, bytes };
         };
         put_place(map, places, x.start as u64, bytes as u64, x.depth);

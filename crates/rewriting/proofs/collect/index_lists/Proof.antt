@@ -6,7 +6,7 @@ use Rattle.rewriting.proofs.collect.index_lists.Statement.{statement}
 use Rattle.rewriting.proofs.collect.index_lists.Tie as tie
 
 returns : tie.Need-returns
-returns c = type-lists _ _ _ _ _ _ _ _ (c .if1 .taken) _ _ _
+returns c = type-lists _ _ _ _ _ _ _ _ _ (c .if1 .taken) _ _ _
 
 sorted-lists-requires : tie.Need-sorted-lists-requires
 sorted-lists-requires c κs = search needs
@@ -31,7 +31,7 @@ returns-2 c =
     let o = c .before .before .before .before .before .before .before .before .before .before .before .before .before .before .before .before .before .if1 .left in
     let g = c .before .before .before .before .before .before .before .before .before .before .before .before .before in
     let s = c .before .before .before .before .before in
-    ranges-short _ _ _ _ _ _ _ _ _ _ _ _ _ _ _ (settled-ranges _ _ _ _ _ _ _ _ o _ _ _ (g .sorted-lists .kept .1 .1 .1 .1 .1 .1 .1 .0) _ _ (g .sorted-lists .ensures .0) (s .settle .ensures)) (s .settle .kept .1 .1 .1 .1 .1 .1 .1 .0 ∙ g .sorted-lists .kept .1 .1 .1 .1 .1 .1 .1 .0) _ (c .before .is-short .ensures) (c .if2 .taken)
+    ranges-short _ _ _ _ _ _ _ _ _ _ _ _ _ _ _ _ (settled-ranges _ _ _ _ _ _ _ _ _ o _ _ _ (g .sorted-lists .kept .1 .1 .1 .1 .1 .1 .1 .1 .0) _ _ (g .sorted-lists .ensures .0) (s .settle .ensures)) (s .settle .kept .1 .1 .1 .1 .1 .1 .1 .0 ∙ g .sorted-lists .kept .1 .1 .1 .1 .1 .1 .1 .1 .0) _ (c .before .is-short .ensures) (c .if2 .taken)
 
 settle-requires-2 : tie.Need-settle-requires-2
 settle-requires-2 c κs = search needs
@@ -53,7 +53,7 @@ returns-3 c =
     let o = c .before .before .before .before .before .before .before .before .before .before .before .before .before .before .before .before .before .before .before .before .before .before .before .before .if1 .left in
     let g = c .before .before .before .before .before .before .before .before .before .before .before .before .before .before .before .before .before .before .before .before in
     let s₂ = c .before .before .before .before .before in
-    locations-short _ _ _ _ _ _ _ _ _ _ _ _ _ _ _ (settled-locations _ _ _ _ _ _ _ _ o _ _ _ (g .sorted-lists .kept .1 .1 .1 .1 .1 .1 .1 .1 .0) _ _ (g .sorted-lists .ensures .1 .0) (s₂ .settle2 .ensures)) (s₂ .settle2 .kept .1 .1 .1 .1 .1 .1 .1 .0 ∙ g .sorted-lists .kept .1 .1 .1 .1 .1 .1 .1 .1 .0) _ (c .before .is-short2 .ensures) (c .if3 .taken)
+    locations-short _ _ _ _ _ _ _ _ _ _ _ _ _ _ _ _ (settled-locations _ _ _ _ _ _ _ _ _ o _ _ _ (g .sorted-lists .kept .1 .1 .1 .1 .1 .1 .1 .1 .1 .0) _ _ (g .sorted-lists .ensures .1 .0) (s₂ .settle2 .ensures)) (s₂ .settle2 .kept .1 .1 .1 .1 .1 .1 .1 .0 ∙ g .sorted-lists .kept .1 .1 .1 .1 .1 .1 .1 .1 .1 .0) _ (c .before .is-short2 .ensures) (c .if3 .taken)
 
 settle-requires-3 : tie.Need-settle-requires-3
 settle-requires-3 c κs = search needs
@@ -62,7 +62,7 @@ is-short-requires-3 : tie.Need-is-short-requires-3
 is-short-requires-3 c κs = search needs
 
 same-length-7 : tie.Need-same-length-7
-same-length-7 c = c .before .before .before .before .before .before .before .before .before .before .before .before .before .before .before .before .before .before .before .settle .kept .1 .1 .1 .1 .1 .1 .1 .0 ∙ c .before .before .before .before .before .before .before .before .before .before .before .before .before .before .before .before .before .before .before .before .before .before .before .before .before .before .before .sorted-lists .kept .1 .1 .1 .1 .1 .1 .1 .0
+same-length-7 c = c .before .before .before .before .before .before .before .before .before .before .before .before .before .before .before .before .before .before .before .settle .kept .1 .1 .1 .1 .1 .1 .1 .0 ∙ c .before .before .before .before .before .before .before .before .before .before .before .before .before .before .before .before .before .before .before .before .before .before .before .before .before .before .before .sorted-lists .kept .1 .1 .1 .1 .1 .1 .1 .1 .0
 
 same-length-8 : tie.Need-same-length-8
 same-length-8 c = search needs
@@ -75,10 +75,10 @@ returns-4 c =
     let o = c .before .before .before .before .before .before .before .before .before .before .before .before .before .before .before .before .before .before .before .before .before .before .before .before .before .before .before .before .before .before .before .if1 .left in
     let g = c .before .before .before .before .before .before .before .before .before .before .before .before .before .before .before .before .before .before .before .before .before .before .before .before .before .before .before in
     let s₃ = c .before .before .before .before .before in
-    strings-short _ _ _ _ _ _ _ _ _ _ _ _ _ _ _ (settled-strings _ _ _ _ _ _ _ _ o _ _ _ (g .sorted-lists .kept .1 .1 .1 .1 .1 .1 .1 .1 .1 .0) _ _ (g .sorted-lists .ensures .1 .1) (s₃ .settle3 .ensures)) (s₃ .settle3 .kept .1 .1 .1 .1 .1 .1 .1 .0 ∙ g .sorted-lists .kept .1 .1 .1 .1 .1 .1 .1 .1 .1 .0) _ (c .before .is-short3 .ensures) (c .if4 .taken)
+    strings-short _ _ _ _ _ _ _ _ _ _ _ _ _ _ _ _ (settled-strings _ _ _ _ _ _ _ _ _ o _ _ _ (g .sorted-lists .kept .1 .1 .1 .1 .1 .1 .1 .1 .1 .1 .0) _ _ (g .sorted-lists .ensures .1 .1) (s₃ .settle3 .ensures)) (s₃ .settle3 .kept .1 .1 .1 .1 .1 .1 .1 .0 ∙ g .sorted-lists .kept .1 .1 .1 .1 .1 .1 .1 .1 .1 .1 .0) _ (c .before .is-short3 .ensures) (c .if4 .taken)
 
 same-length-10 : tie.Need-same-length-10
-same-length-10 c = c .before .before .before .before .before .before .before .before .before .before .before .before .before .before .before .before .before .before .before .settle .kept .1 .1 .1 .1 .1 .1 .1 .0 ∙ c .before .before .before .before .before .before .before .before .before .before .before .before .before .before .before .before .before .before .before .before .before .before .before .before .before .before .before .sorted-lists .kept .1 .1 .1 .1 .1 .1 .1 .0
+same-length-10 c = c .before .before .before .before .before .before .before .before .before .before .before .before .before .before .before .before .before .before .before .settle .kept .1 .1 .1 .1 .1 .1 .1 .0 ∙ c .before .before .before .before .before .before .before .before .before .before .before .before .before .before .before .before .before .before .before .before .before .before .before .before .before .before .before .sorted-lists .kept .1 .1 .1 .1 .1 .1 .1 .1 .0
 
 same-length-11 : tie.Need-same-length-11
 same-length-11 c = search needs
@@ -93,11 +93,11 @@ returns-5 c =
     let s = c .before .before .before .before .before .before .before .before .before .before .before .before .before .before .before .before .before .before .before in
     let s₂ = c .before .before .before .before .before .before .before .before .before .before .before .before in
     let s₃ = c .before .before .before .before .before in
-    lists-made _ _ _ _ _ _ _ _ _ _ _ _ _ _ _ _ _
-    (settled-ranges _ _ _ _ _ _ _ _ o _ _ _ (g .sorted-lists .kept .1 .1 .1 .1 .1 .1 .1 .0) _ _ (g .sorted-lists .ensures .0) (s .settle .ensures))
-    (settled-locations _ _ _ _ _ _ _ _ o _ _ _ (g .sorted-lists .kept .1 .1 .1 .1 .1 .1 .1 .1 .0) _ _ (g .sorted-lists .ensures .1 .0) (s₂ .settle2 .ensures))
-    (settled-strings _ _ _ _ _ _ _ _ o _ _ _ (g .sorted-lists .kept .1 .1 .1 .1 .1 .1 .1 .1 .1 .0) _ _ (g .sorted-lists .ensures .1 .1) (s₃ .settle3 .ensures))
-    (s .settle .kept .1 .1 .1 .1 .1 .1 .1 .0 ∙ g .sorted-lists .kept .1 .1 .1 .1 .1 .1 .1 .0) (s₂ .settle2 .kept .1 .1 .1 .1 .1 .1 .1 .0 ∙ g .sorted-lists .kept .1 .1 .1 .1 .1 .1 .1 .1 .0) (s₃ .settle3 .kept .1 .1 .1 .1 .1 .1 .1 .0 ∙ g .sorted-lists .kept .1 .1 .1 .1 .1 .1 .1 .1 .1 .0)
+    lists-made _ _ _ _ _ _ _ _ _ _ _ _ _ _ _ _ _ _
+    (settled-ranges _ _ _ _ _ _ _ _ _ o _ _ _ (g .sorted-lists .kept .1 .1 .1 .1 .1 .1 .1 .1 .0) _ _ (g .sorted-lists .ensures .0) (s .settle .ensures))
+    (settled-locations _ _ _ _ _ _ _ _ _ o _ _ _ (g .sorted-lists .kept .1 .1 .1 .1 .1 .1 .1 .1 .1 .0) _ _ (g .sorted-lists .ensures .1 .0) (s₂ .settle2 .ensures))
+    (settled-strings _ _ _ _ _ _ _ _ _ o _ _ _ (g .sorted-lists .kept .1 .1 .1 .1 .1 .1 .1 .1 .1 .1 .0) _ _ (g .sorted-lists .ensures .1 .1) (s₃ .settle3 .ensures))
+    (s .settle .kept .1 .1 .1 .1 .1 .1 .1 .0 ∙ g .sorted-lists .kept .1 .1 .1 .1 .1 .1 .1 .1 .0) (s₂ .settle2 .kept .1 .1 .1 .1 .1 .1 .1 .0 ∙ g .sorted-lists .kept .1 .1 .1 .1 .1 .1 .1 .1 .1 .0) (s₃ .settle3 .kept .1 .1 .1 .1 .1 .1 .1 .0 ∙ g .sorted-lists .kept .1 .1 .1 .1 .1 .1 .1 .1 .1 .1 .0)
     (sym (c .before .before .before .before .before .before .before .before .before .before .before .before .before .before .if2 .left) ∙ c .before .before .before .before .before .before .before .before .before .before .before .before .before .before .before .is-short .ensures) (sym (c .before .before .before .before .before .before .before .if3 .left) ∙ c .before .before .before .before .before .before .before .before .is-short2 .ensures) (sym (c .if4 .left) ∙ c .before .is-short3 .ensures)
 
 pub index-lists-spec : {M : Type 1} → statement M

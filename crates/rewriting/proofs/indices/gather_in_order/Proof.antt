@@ -32,10 +32,10 @@ returns c =
     let y = c .before .before .before .before .before .before .before .before .before .before .before .before .before .before .before .before in
     let z = c .before .before .before .before .before .before .before .before .before .before .before .before in
     let g = c .before .before .before .before .before .before in (
-      refilled 0 _ _ _ _ _ _ _ _ _ (x .clear-bytes .ensures) _ _ (g .gather .kept .1 .1 .1 .1 .1 .1 .1 .1 .0 ∙ x .clear-bytes .kept .0) (g .gather .ensures .0),
+      refilled 0 _ _ _ _ _ _ _ _ _ _ (x .clear-bytes .ensures) _ _ (g .gather .kept .1 .1 .1 .1 .1 .1 .1 .1 .1 .0 ∙ x .clear-bytes .kept .0) (g .gather .ensures .0),
       (
-        refilled 1 _ _ _ _ _ _ _ _ _ (y .clear-bytes2 .ensures) _ _ (g .gather .kept .1 .1 .1 .1 .1 .1 .1 .1 .1 .0 ∙ y .clear-bytes2 .kept .0) (g .gather .ensures .1 .0),
-        refilled 2 _ _ _ _ _ _ _ _ _ (z .clear-bytes3 .ensures) _ _ (g .gather .kept .1 .1 .1 .1 .1 .1 .1 .1 .1 .1 .0 ∙ z .clear-bytes3 .kept .0) (g .gather .ensures .1 .1),
+        refilled 1 _ _ _ _ _ _ _ _ _ _ (y .clear-bytes2 .ensures) _ _ (g .gather .kept .1 .1 .1 .1 .1 .1 .1 .1 .1 .1 .0 ∙ y .clear-bytes2 .kept .0) (g .gather .ensures .1 .0),
+        refilled 2 _ _ _ _ _ _ _ _ _ _ (z .clear-bytes3 .ensures) _ _ (g .gather .kept .1 .1 .1 .1 .1 .1 .1 .1 .1 .1 .1 .0 ∙ z .clear-bytes3 .kept .0) (g .gather .ensures .1 .1),
       ),
     )
 

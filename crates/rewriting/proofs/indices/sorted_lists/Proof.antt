@@ -33,10 +33,10 @@ returns : tie.Need-returns
 returns c =
     let g = c .before .before .before .before .before .before .before .before .before .before .before .before .before .before .before .before .before .before .before in
     let f = c .before .before .before .before .before .before .before .before .before in (
-      listed 0 _ _ _ _ _ _ _ _ (λ n. n .ranges) _ _ (g .gather .kept .1 .1 .1 .1 .1 .1 .1 .1 .0) (g .gather .ensures .0) _ _ (f .finish-lists .ensures .0) _ (c .before .n .given .1),
+      listed 0 _ _ _ _ _ _ _ _ _ (λ n. n .ranges) _ _ (g .gather .kept .1 .1 .1 .1 .1 .1 .1 .1 .1 .0) (g .gather .ensures .0) _ _ (f .finish-lists .ensures .0) _ (c .before .n .given .1),
       (
-        listed 1 _ _ _ _ _ _ _ _ (λ n. n .locations) _ _ (g .gather .kept .1 .1 .1 .1 .1 .1 .1 .1 .1 .0) (g .gather .ensures .1 .0) _ _ (f .finish-lists .ensures .1 .0) _ (c .before .n .given .1),
-        listed 2 _ _ _ _ _ _ _ _ (λ n. n .strings) _ _ (g .gather .kept .1 .1 .1 .1 .1 .1 .1 .1 .1 .1 .0) (g .gather .ensures .1 .1) _ _ (f .finish-lists .ensures .1 .1) _ (c .before .n .given .1),
+        listed 1 _ _ _ _ _ _ _ _ _ (λ n. n .locations) _ _ (g .gather .kept .1 .1 .1 .1 .1 .1 .1 .1 .1 .1 .0) (g .gather .ensures .1 .0) _ _ (f .finish-lists .ensures .1 .0) _ (c .before .n .given .1),
+        listed 2 _ _ _ _ _ _ _ _ _ (λ n. n .strings) _ _ (g .gather .kept .1 .1 .1 .1 .1 .1 .1 .1 .1 .1 .1 .0) (g .gather .ensures .1 .1) _ _ (f .finish-lists .ensures .1 .1) _ (c .before .n .given .1),
       ),
     )
 
@@ -54,10 +54,10 @@ returns-2 c =
     let g = c .before .before .before .before .before .before .before .before .before .before .before .before .before .before .before .before .before .before .before .before .before .before .before .before .before .before .before .before in
     let f = c .before .before .before .before .before .before .before .before .before .before .before .before .before .before .before .before .before .before in
     let o = c .before .before .before .before .before .before in (
-      listed-again 0 _ _ _ _ _ _ _ _ _ (f .finish-lists .kept .0 ∙ g .gather .kept .1 .1 .1 .1 .1 .1 .1 .1 .0) _ _ (o .gather-in-order .ensures .0),
+      listed-again 0 _ _ _ _ _ _ _ _ _ _ (f .finish-lists .kept .0 ∙ g .gather .kept .1 .1 .1 .1 .1 .1 .1 .1 .1 .0) _ _ (o .gather-in-order .ensures .0),
       (
-        listed-again 1 _ _ _ _ _ _ _ _ _ (f .finish-lists .kept .1 .0 ∙ g .gather .kept .1 .1 .1 .1 .1 .1 .1 .1 .1 .0) _ _ (o .gather-in-order .ensures .1 .0),
-        listed-again 2 _ _ _ _ _ _ _ _ _ (f .finish-lists .kept .1 .1 .0 ∙ g .gather .kept .1 .1 .1 .1 .1 .1 .1 .1 .1 .1 .0) _ _ (o .gather-in-order .ensures .1 .1),
+        listed-again 1 _ _ _ _ _ _ _ _ _ _ (f .finish-lists .kept .1 .0 ∙ g .gather .kept .1 .1 .1 .1 .1 .1 .1 .1 .1 .1 .0) _ _ (o .gather-in-order .ensures .1 .0),
+        listed-again 2 _ _ _ _ _ _ _ _ _ _ (f .finish-lists .kept .1 .1 .0 ∙ g .gather .kept .1 .1 .1 .1 .1 .1 .1 .1 .1 .1 .1 .0) _ _ (o .gather-in-order .ensures .1 .1),
       ),
     )
 

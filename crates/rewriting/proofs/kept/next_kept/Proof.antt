@@ -4,56 +4,37 @@ use Prim.Native.Nat.{_-_}
 use borrow.Author.Needs.{needs}
 use lib.ListN.{length}
 use Rattle.readers.specs.Abbreviations.{findAt}
-use Rattle.rewriting.proofs.KeptSteps.{stand, Walking, walking-start, end-over, end-end, end-bad, entry-less, entry-item, entry-on, terminator-less, terminator-item, terminator-on}
+use Rattle.readers.proofs.Values.{step-end}
+use Rattle.rewriting.proofs.KeptSteps.{stand, Walking, walking-start, end-end, stop-none, at-terminator, stop-unknown, stop-over, stop-low, stop-high, ends-less, ends-on, ends-item, terminator-less, terminator-item, terminator-on}
 use Rattle.rewriting.proofs.kept.next_kept.Statement.{statement}
 use Rattle.rewriting.proofs.kept.next_kept.Tie as tie
 
 abbrev Inv-loop : tie.InvT-loop
-Inv-loop unit abbreviations index parents marks from encoding at₀ count₀ nesting₀ at count nesting =
-    Walking encoding abbreviations (findAt abbreviations from index) unit parents marks (stand at₀ count₀ nesting₀) (stand at count nesting)
+Inv-loop unit abbreviations r index parents ends marks at₀ count₀ nesting₀ at count nesting =
+    Walking (r .encoding) abbreviations (findAt abbreviations (r .from) index) unit parents ends marks (stand at₀ count₀ nesting₀) (stand at count nesting)
 
 abbrev μ-loop : tie.MeasureT-loop
-μ-loop unit abbreviations index parents marks from encoding at₀ count₀ nesting₀ at count nesting = length unit - at
+μ-loop unit abbreviations r index parents ends marks at₀ count₀ nesting₀ at count nesting = length unit - at
 
 loop-holds : tie.Need-loop-holds Inv-loop μ-loop
-loop-holds c = walking-start _ _ _ _ _ _ _
-
-step-requires : tie.Need-step-requires Inv-loop μ-loop
-step-requires c κs = search needs
-
-enum-known-x : tie.Need-enum-known-x Inv-loop μ-loop
-enum-known-x c = search needs
+loop-holds c = walking-start _ _ _ _ _ _ _ _
 
 returns : tie.Need-returns Inv-loop μ-loop
 returns c =
-    end-over _ _ _ _ _ _ (c .before .before .before .before .before .before .before .before .before .before .before .before .before .args .s) (stand (c .before .before .before .before .before .loop .at) (c .before .before .before .before .before .loop .count) (c .before .before .before .before .before .loop .nesting)) (c .before .before .before .before .before .loop .inv) _ (sym (c .before .before .before .before .step .ensures) ∙ c .before .before .x .given .1) (c .if1 .taken)
+    end-end _ _ _ _ _ _ _ (c .before .before .before .before .before .before .before .before .before .args .s) (stand (c .before .loop .at) (c .before .loop .count) (c .before .loop .nesting)) (c .before .loop .inv) (sym (step-end _ _ _ _ _ (c .if1 .taken)))
 
-is-kept-requires : tie.Need-is-kept-requires Inv-loop μ-loop
-is-kept-requires c κs = search needs
+uleb-requires : tie.Need-uleb-requires Inv-loop μ-loop
+uleb-requires c κs = search needs
 
-cast-t28 : tie.Need-cast-t28 Inv-loop μ-loop
-cast-t28 c = search needs
+enum-known-code : tie.Need-enum-known-code Inv-loop μ-loop
+enum-known-code c = search needs
 
-after-entry-requires : tie.Need-after-entry-requires Inv-loop μ-loop
-after-entry-requires c κs = search needs
-
-add-count : tie.Need-add-count Inv-loop μ-loop
-add-count c = search needs
+enum-told : tie.Need-enum-told Inv-loop μ-loop
+enum-told c = search needs
 
 returns-2 : tie.Need-returns-2 Inv-loop μ-loop
 returns-2 c =
-    entry-item _ _ _ _ _ _ (c .before .before .before .before .before .before .before .before .before .before .before .before .before .before .before .before .before .before .before .before .args .s) (stand (c .before .before .before .before .before .before .before .before .before .before .before .before .loop .at) (c .before .before .before .before .before .before .before .before .before .before .before .before .loop .count) (c .before .before .before .before .before .before .before .before .before .before .before .before .loop .nesting)) (c .before .before .before .before .before .before .before .before .before .before .before .before .loop .inv) _ (sym (c .before .before .before .before .before .before .before .before .before .before .before .step .ensures) ∙ c .before .before .before .before .before .before .before .before .before .x .given .1) _ (c .before .after-entry .ensures) (sym (c .before .before .is-kept .ensures) ∙ c .if2 .taken)
-
-loop-less : tie.Need-loop-less Inv-loop μ-loop
-loop-less c =
-    entry-less _ _ _ _ _ _ (c .before .before .before .before .before .before .before .before .before .before .before .before .before .before .before .before .before .before .before .before .args .s) (stand (c .before .before .before .before .before .before .before .before .before .before .before .before .loop .at) (c .before .before .before .before .before .before .before .before .before .before .before .before .loop .count) (c .before .before .before .before .before .before .before .before .before .before .before .before .loop .nesting)) (c .before .before .before .before .before .before .before .before .before .before .before .before .loop .inv) _ (sym (c .before .before .before .before .before .before .before .before .before .before .before .step .ensures) ∙ c .before .before .before .before .before .before .before .before .before .x .given .1)
-
-loop-again : tie.Need-loop-again Inv-loop μ-loop
-loop-again c =
-    entry-on _ _ _ _ _ _ (c .before .before .before .before .before .before .before .before .before .before .before .before .before .before .before .before .before .before .before .before .args .s) (stand (c .before .before .before .before .before .before .before .before .before .before .before .before .loop .at) (c .before .before .before .before .before .before .before .before .before .before .before .before .loop .count) (c .before .before .before .before .before .before .before .before .before .before .before .before .loop .nesting)) (c .before .before .before .before .before .before .before .before .before .before .before .before .loop .inv) _ (sym (c .before .before .before .before .before .before .before .before .before .before .before .step .ensures) ∙ c .before .before .before .before .before .before .before .before .before .x .given .1) _ (c .before .after-entry .ensures) (sym (c .before .before .is-kept .ensures) ∙ c .if2 .left)
-
-enum-known-next : tie.Need-enum-known-next Inv-loop μ-loop
-enum-known-next c = search needs
+    stop-none _ _ _ _ _ _ _ (c .before .before .before .before .before .before .before .before .before .before .before .before .args .s) (stand (c .before .before .before .before .loop .at) (c .before .before .before .before .loop .count) (c .before .before .before .before .loop .nesting)) (c .before .before .before .before .loop .inv) (c .before .before .before .if1 .left) _ (c .before .before .uleb .ensures) (c .enum-told .given .1)
 
 closes-kept-requires : tie.Need-closes-kept-requires Inv-loop μ-loop
 closes-kept-requires c κs = search needs
@@ -63,29 +44,67 @@ after-terminator-requires c κs = search needs
 
 returns-3 : tie.Need-returns-3 Inv-loop μ-loop
 returns-3 c =
-    terminator-item _ _ _ _ _ _ (c .before .before .before .before .before .before .before .before .before .before .before .before .before .before .before .args .s) (stand (c .before .before .before .before .before .before .before .loop .at) (c .before .before .before .before .before .before .before .loop .count) (c .before .before .before .before .before .before .before .loop .nesting)) (c .before .before .before .before .before .before .before .loop .inv) _ (sym (c .before .before .before .before .before .before .step .ensures) ∙ c .before .before .before .before .next2 .given .1) _ (c .before .after-terminator .ensures) (sym (c .before .before .closes-kept .ensures) ∙ c .if3 .taken)
+    terminator-item _ _ _ _ _ _ _ (c .before .before .before .before .before .before .before .before .before .before .before .before .before .before .before .before .before .args .s) (stand (c .before .before .before .before .before .before .before .before .before .loop .at) (c .before .before .before .before .before .before .before .before .before .loop .count) (c .before .before .before .before .before .before .before .before .before .loop .nesting)) (c .before .before .before .before .before .before .before .before .before .loop .inv) _ (at-terminator _ _ _ _ _ _ _ (c .before .before .before .before .before .before .before .before .before .before .before .before .before .before .before .before .before .args .s) (stand (c .before .before .before .before .before .before .before .before .before .loop .at) (c .before .before .before .before .before .before .before .before .before .loop .count) (c .before .before .before .before .before .before .before .before .before .loop .nesting)) (c .before .before .before .before .before .before .before .before .before .loop .inv) (c .before .before .before .before .before .before .before .before .if1 .left) _ (c .before .before .before .before .before .before .before .uleb .ensures) _ _ (c .before .before .before .before .before .code .given .1) (c .before .before .before .if2 .taken)) _ (c .before .after-terminator .ensures) (sym (c .before .before .closes-kept .ensures) ∙ c .if3 .taken)
 
-loop-less-2 : tie.Need-loop-less-2 Inv-loop μ-loop
-loop-less-2 c =
-    terminator-less _ _ _ _ _ _ (c .before .before .before .before .before .before .before .before .before .before .before .before .before .before .before .args .s) (stand (c .before .before .before .before .before .before .before .loop .at) (c .before .before .before .before .before .before .before .loop .count) (c .before .before .before .before .before .before .before .loop .nesting)) (c .before .before .before .before .before .before .before .loop .inv) _ (sym (c .before .before .before .before .before .before .step .ensures) ∙ c .before .before .before .before .next2 .given .1)
+loop-less : tie.Need-loop-less Inv-loop μ-loop
+loop-less c =
+    terminator-less _ _ _ _ _ _ _ (c .before .before .before .before .before .before .before .before .before .before .before .before .before .before .before .before .before .args .s) (stand (c .before .before .before .before .before .before .before .before .before .loop .at) (c .before .before .before .before .before .before .before .before .before .loop .count) (c .before .before .before .before .before .before .before .before .before .loop .nesting)) (c .before .before .before .before .before .before .before .before .before .loop .inv) _ (at-terminator _ _ _ _ _ _ _ (c .before .before .before .before .before .before .before .before .before .before .before .before .before .before .before .before .before .args .s) (stand (c .before .before .before .before .before .before .before .before .before .loop .at) (c .before .before .before .before .before .before .before .before .before .loop .count) (c .before .before .before .before .before .before .before .before .before .loop .nesting)) (c .before .before .before .before .before .before .before .before .before .loop .inv) (c .before .before .before .before .before .before .before .before .if1 .left) _ (c .before .before .before .before .before .before .before .uleb .ensures) _ _ (c .before .before .before .before .before .code .given .1) (c .before .before .before .if2 .taken))
 
-loop-again-2 : tie.Need-loop-again-2 Inv-loop μ-loop
-loop-again-2 c =
-    terminator-on _ _ _ _ _ _ (c .before .before .before .before .before .before .before .before .before .before .before .before .before .before .before .args .s) (stand (c .before .before .before .before .before .before .before .loop .at) (c .before .before .before .before .before .before .before .loop .count) (c .before .before .before .before .before .before .before .loop .nesting)) (c .before .before .before .before .before .before .before .loop .inv) _ (sym (c .before .before .before .before .before .before .step .ensures) ∙ c .before .before .before .before .next2 .given .1) _ (c .before .after-terminator .ensures) (sym (c .before .before .closes-kept .ensures) ∙ c .if3 .left)
-
-enum-told : tie.Need-enum-told Inv-loop μ-loop
-enum-told c = search needs
+loop-again : tie.Need-loop-again Inv-loop μ-loop
+loop-again c =
+    terminator-on _ _ _ _ _ _ _ (c .before .before .before .before .before .before .before .before .before .before .before .before .before .before .before .before .before .args .s) (stand (c .before .before .before .before .before .before .before .before .before .loop .at) (c .before .before .before .before .before .before .before .before .before .loop .count) (c .before .before .before .before .before .before .before .before .before .loop .nesting)) (c .before .before .before .before .before .before .before .before .before .loop .inv) _ (at-terminator _ _ _ _ _ _ _ (c .before .before .before .before .before .before .before .before .before .before .before .before .before .before .before .before .before .args .s) (stand (c .before .before .before .before .before .before .before .before .before .loop .at) (c .before .before .before .before .before .before .before .before .before .loop .count) (c .before .before .before .before .before .before .before .before .before .loop .nesting)) (c .before .before .before .before .before .before .before .before .before .loop .inv) (c .before .before .before .before .before .before .before .before .if1 .left) _ (c .before .before .before .before .before .before .before .uleb .ensures) _ _ (c .before .before .before .before .before .code .given .1) (c .before .before .before .if2 .taken)) _ (c .before .after-terminator .ensures) (sym (c .before .before .closes-kept .ensures) ∙ c .if3 .left)
 
 returns-4 : tie.Need-returns-4 Inv-loop μ-loop
 returns-4 c =
-    end-end _ _ _ _ _ _ (c .before .before .before .before .before .before .before .before .before .before .before .args .s) (stand (c .before .before .before .loop .at) (c .before .before .before .loop .count) (c .before .before .before .loop .nesting)) (c .before .before .before .loop .inv) (sym (c .before .before .step .ensures) ∙ c .enum-told .given .1)
+    stop-over _ _ _ _ _ _ _ (c .before .before .before .before .before .before .before .before .before .before .before .before .before .before .before .args .s) (stand (c .before .before .before .before .before .before .before .loop .at) (c .before .before .before .before .before .before .before .loop .count) (c .before .before .before .before .before .before .before .loop .nesting)) (c .before .before .before .before .before .before .before .loop .inv) (c .before .before .before .before .before .before .if1 .left) _ (c .before .before .before .before .before .uleb .ensures) _ _ (c .before .before .before .code .given .1) (c .before .if2 .left) (c .if4 .taken)
+
+end-at-requires : tie.Need-end-at-requires Inv-loop μ-loop
+end-at-requires c κs = search needs
+
+returns-5 : tie.Need-returns-5 Inv-loop μ-loop
+returns-5 c =
+    stop-low _ _ _ _ _ _ _ (c .before .before .before .before .before .before .before .before .before .before .before .before .before .before .before .before .before .before .args .s) (stand (c .before .before .before .before .before .before .before .before .before .before .loop .at) (c .before .before .before .before .before .before .before .before .before .before .loop .count) (c .before .before .before .before .before .before .before .before .before .before .loop .nesting)) (c .before .before .before .before .before .before .before .before .before .before .loop .inv) (c .before .before .before .before .before .before .before .before .before .if1 .left) _ (c .before .before .before .before .before .before .before .before .uleb .ensures) _ _ (c .before .before .before .before .before .before .code .given .1) (c .before .before .before .before .if2 .left) _ (c .before .before .end-at .ensures) (c .if5 .taken)
+
+returns-6 : tie.Need-returns-6 Inv-loop μ-loop
+returns-6 c =
+    stop-high _ _ _ _ _ _ _ (c .before .before .before .before .before .before .before .before .before .before .before .before .before .before .before .before .before .before .before .args .s) (stand (c .before .before .before .before .before .before .before .before .before .before .before .loop .at) (c .before .before .before .before .before .before .before .before .before .before .before .loop .count) (c .before .before .before .before .before .before .before .before .before .before .before .loop .nesting)) (c .before .before .before .before .before .before .before .before .before .before .before .loop .inv) (c .before .before .before .before .before .before .before .before .before .before .if1 .left) _ (c .before .before .before .before .before .before .before .before .before .uleb .ensures) _ _ (c .before .before .before .before .before .before .before .code .given .1) (c .before .before .before .before .before .if2 .left) _ (c .before .before .before .end-at .ensures) (c .if6 .taken)
+
+is-kept-requires : tie.Need-is-kept-requires Inv-loop μ-loop
+is-kept-requires c κs = search needs
+
+cast-t32 : tie.Need-cast-t32 Inv-loop μ-loop
+cast-t32 c = search needs
+
+after-entry-requires : tie.Need-after-entry-requires Inv-loop μ-loop
+after-entry-requires c κs = search needs
+
+add-count : tie.Need-add-count Inv-loop μ-loop
+add-count c = search needs
+
+find-declaration-requires : tie.Need-find-declaration-requires Inv-loop μ-loop
+find-declaration-requires c κs = search needs
+
+enum-known-d : tie.Need-enum-known-d Inv-loop μ-loop
+enum-known-d c = search needs
 
 enum-told-2 : tie.Need-enum-told-2 Inv-loop μ-loop
 enum-told-2 c = search needs
 
-returns-5 : tie.Need-returns-5 Inv-loop μ-loop
-returns-5 c =
-    end-bad _ _ _ _ _ _ (c .before .before .before .before .before .before .before .before .before .before .before .args .s) (stand (c .before .before .before .loop .at) (c .before .before .before .loop .count) (c .before .before .before .loop .nesting)) (c .before .before .before .loop .inv) (sym (c .before .before .step .ensures) ∙ c .enum-told2 .given .1)
+returns-7 : tie.Need-returns-7 Inv-loop μ-loop
+returns-7 c =
+    stop-unknown _ _ _ _ _ _ _ (c .before .before .before .before .before .before .before .before .before .before .before .before .before .before .before .before .before .before .before .before .before .before .before .before .before .args .s) (stand (c .before .before .before .before .before .before .before .before .before .before .before .before .before .before .before .before .before .loop .at) (c .before .before .before .before .before .before .before .before .before .before .before .before .before .before .before .before .before .loop .count) (c .before .before .before .before .before .before .before .before .before .before .before .before .before .before .before .before .before .loop .nesting)) (c .before .before .before .before .before .before .before .before .before .before .before .before .before .before .before .before .before .loop .inv) (c .before .before .before .before .before .before .before .before .before .before .before .before .before .before .before .before .if1 .left) _ (c .before .before .before .before .before .before .before .before .before .before .before .before .before .before .before .uleb .ensures) _ _ (c .before .before .before .before .before .before .before .before .before .before .before .before .before .code .given .1) (c .before .before .before .before .before .before .before .before .before .before .before .if2 .left) _ (c .before .before .find-declaration .ensures) (c .enum-told2 .given .1)
+
+returns-8 : tie.Need-returns-8 Inv-loop μ-loop
+returns-8 c =
+    ends-item _ _ _ _ _ _ _ (c .before .before .before .before .before .before .before .before .before .before .before .before .before .before .before .before .before .before .before .before .before .before .before .before .before .before .before .args .s) (stand (c .before .before .before .before .before .before .before .before .before .before .before .before .before .before .before .before .before .before .before .loop .at) (c .before .before .before .before .before .before .before .before .before .before .before .before .before .before .before .before .before .before .before .loop .count) (c .before .before .before .before .before .before .before .before .before .before .before .before .before .before .before .before .before .before .before .loop .nesting)) (c .before .before .before .before .before .before .before .before .before .before .before .before .before .before .before .before .before .before .before .loop .inv) (c .before .before .before .before .before .before .before .before .before .before .before .before .before .before .before .before .before .before .if1 .left) _ (c .before .before .before .before .before .before .before .before .before .before .before .before .before .before .before .before .before .uleb .ensures) _ _ (c .before .before .before .before .before .before .before .before .before .before .before .before .before .before .before .code .given .1) (c .before .before .before .before .before .before .before .before .before .before .before .before .before .if2 .left) _ (c .before .before .before .before .before .before .before .before .before .before .before .end-at .ensures) (c .before .before .before .before .before .before .before .before .before .if5 .left) (c .before .before .before .before .before .before .before .before .if6 .left) _ (c .before .before .before .before .before .before .after-entry .ensures) _ (c .before .before .before .before .find-declaration .ensures) _ (c .before .before .d .given .1) (sym (c .before .before .before .before .before .before .before .is-kept .ensures) ∙ c .before .before .before .before .before .if7 .taken)
+
+loop-less-2 : tie.Need-loop-less-2 Inv-loop μ-loop
+loop-less-2 c =
+    ends-less _ _ _ _ _ _ _ (c .before .before .before .before .before .before .before .before .before .before .before .before .before .before .before .before .before .before .before .before .before .before .args .s) (stand (c .before .before .before .before .before .before .before .before .before .before .before .before .before .before .loop .at) (c .before .before .before .before .before .before .before .before .before .before .before .before .before .before .loop .count) (c .before .before .before .before .before .before .before .before .before .before .before .before .before .before .loop .nesting)) (c .before .before .before .before .before .before .before .before .before .before .before .before .before .before .loop .inv) (c .before .before .before .before .before .before .before .before .before .before .before .before .before .if1 .left) _ (c .before .before .before .before .before .before .before .before .before .before .before .before .uleb .ensures) _ _ (c .before .before .before .before .before .before .before .before .before .before .code .given .1) (c .before .before .before .before .before .before .before .before .if2 .left) _ (c .before .before .before .before .before .before .end-at .ensures) (c .before .before .before .before .if5 .left) (c .before .before .before .if6 .left)
+
+loop-again-2 : tie.Need-loop-again-2 Inv-loop μ-loop
+loop-again-2 c =
+    ends-on _ _ _ _ _ _ _ (c .before .before .before .before .before .before .before .before .before .before .before .before .before .before .before .before .before .before .before .before .before .before .args .s) (stand (c .before .before .before .before .before .before .before .before .before .before .before .before .before .before .loop .at) (c .before .before .before .before .before .before .before .before .before .before .before .before .before .before .loop .count) (c .before .before .before .before .before .before .before .before .before .before .before .before .before .before .loop .nesting)) (c .before .before .before .before .before .before .before .before .before .before .before .before .before .before .loop .inv) (c .before .before .before .before .before .before .before .before .before .before .before .before .before .if1 .left) _ (c .before .before .before .before .before .before .before .before .before .before .before .before .uleb .ensures) _ _ (c .before .before .before .before .before .before .before .before .before .before .code .given .1) (c .before .before .before .before .before .before .before .before .if2 .left) _ (c .before .before .before .before .before .before .end-at .ensures) (c .before .before .before .before .if5 .left) (c .before .before .before .if6 .left) _ (c .before .after-entry .ensures) (sym (c .before .before .is-kept .ensures) ∙ c .if7 .left)
 
 pub next-kept-spec : {M : Type 1} → statement M
 next-kept-spec =
@@ -94,23 +113,28 @@ next-kept-spec =
     Inv-loop
     μ-loop
     loop-holds
-    step-requires
-    enum-known-x
     returns
-    is-kept-requires
-    cast-t28
-    after-entry-requires
-    add-count
+    uleb-requires
+    enum-known-code
+    enum-told
     returns-2
-    loop-less
-    loop-again
-    enum-known-next
     closes-kept-requires
     after-terminator-requires
     returns-3
-    loop-less-2
-    loop-again-2
-    enum-told
+    loop-less
+    loop-again
     returns-4
+    end-at-requires
+    returns-5
+    returns-6
+    is-kept-requires
+    cast-t32
+    after-entry-requires
+    add-count
+    find-declaration-requires
+    enum-known-d
     enum-told-2
-    returns-5)
+    returns-7
+    returns-8
+    loop-less-2
+    loop-again-2)

@@ -10,11 +10,11 @@ use Rattle.rewriting.proofs.passes.place_items.Statement.{statement}
 use Rattle.rewriting.proofs.passes.place_items.Tie as tie
 
 abbrev Inv-loop : tie.InvT-loop
-Inv-loop unit abbreviations r index parents marks first map₀ s₀ places₀ bytes₀ map s places bytes =
-    Placing (itemsBy r abbreviations index unit) parents marks unit first map₀ map s places bytes
+Inv-loop unit abbreviations r index parents ends marks first map₀ s₀ places₀ bytes₀ map s places bytes =
+    Placing (itemsBy r abbreviations index unit) parents ends marks unit first map₀ map s places bytes
 
 abbrev μ-loop : tie.MeasureT-loop
-μ-loop unit abbreviations r index parents marks first map₀ s₀ places₀ bytes₀ map s places bytes = length unit - s .at
+μ-loop unit abbreviations r index parents ends marks first map₀ s₀ places₀ bytes₀ map s places bytes = length unit - s .at
 
 outside-requires : tie.Need-outside-requires Inv-loop μ-loop
 outside-requires c κs = search needs
@@ -41,17 +41,17 @@ put-place-requires : tie.Need-put-place-requires Inv-loop μ-loop
 put-place-requires c κs = search needs
 
 sub-bytes : tie.Need-sub-bytes Inv-loop μ-loop
-sub-bytes c = measuring-fits _ _ _ _ _ _ _ _ (c .before .before .before .before .before .before .before .before .before .loop .inv .measuring) _ (c .before .before .before .before .before .before .before .before .next-kept .ensures) _ (c .before .before .before .before .before .before .x .given .1) .1
+sub-bytes c = measuring-fits _ _ _ _ _ _ _ _ _ (c .before .before .before .before .before .before .before .before .before .loop .inv .measuring) _ (c .before .before .before .before .before .before .before .before .next-kept .ensures) _ (c .before .before .before .before .before .before .x .given .1) .1
 
 add-bytes : tie.Need-add-bytes Inv-loop μ-loop
 add-bytes c =
-    let f = measuring-fits _ _ _ _ _ _ _ _ (c .before .before .before .before .before .before .before .before .before .loop .inv .measuring) _ (c .before .before .before .before .before .before .before .before .next-kept .ensures) _ (c .before .before .before .before .before .before .x .given .1) in
+    let f = measuring-fits _ _ _ _ _ _ _ _ _ (c .before .before .before .before .before .before .before .before .before .loop .inv .measuring) _ (c .before .before .before .before .before .before .before .before .next-kept .ensures) _ (c .before .before .before .before .before .before .x .given .1) in
     let g : c .before .before .before .before .before .before .before .before .before .loop .bytes + (c .before .before .before .before .before .before .x .given .0 .0 .end - c .before .before .before .before .before .before .x .given .0 .0 .start) ≤ c .before .before .before .before .before .before .x .given .0 .0 .end = f .2 in
     omega (arith, g, c .struct-known .given)
 
 add-places : tie.Need-add-places Inv-loop μ-loop
 add-places c =
-    let f = measuring-fits _ _ _ _ _ _ _ _ (c .before .before .before .before .before .before .before .before .before .loop .inv .measuring) _ (c .before .before .before .before .before .before .before .before .next-kept .ensures) _ (c .before .before .before .before .before .before .x .given .1) in
+    let f = measuring-fits _ _ _ _ _ _ _ _ _ (c .before .before .before .before .before .before .before .before .before .loop .inv .measuring) _ (c .before .before .before .before .before .before .before .before .next-kept .ensures) _ (c .before .before .before .before .before .before .x .given .1) in
     let g : c .before .before .before .before .before .before .before .before .before .loop .places < c .before .before .before .before .before .before .x .given .0 .0 .end = f .0 in
     omega (arith, g, c .struct-known .given)
 
@@ -60,7 +60,7 @@ loop-less c = search next-less
 
 loop-again : tie.Need-loop-again Inv-loop μ-loop
 loop-again c =
-    placing-more _ _ _ _ _ _ _ _ _ _ (c .before .before .before .before .before .before .before .before .before .before .loop .inv) _ (c .before .before .before .before .before .before .before .before .before .next-kept .ensures) _ (c .before .before .before .before .before .before .before .x .given .1) _ (search needs) (c .before .before .before .before .put-place .ensures)
+    placing-more _ _ _ _ _ _ _ _ _ _ _ (c .before .before .before .before .before .before .before .before .before .before .loop .inv) _ (c .before .before .before .before .before .before .before .before .before .next-kept .ensures) _ (c .before .before .before .before .before .before .before .x .given .1) _ (search needs) (c .before .before .before .before .put-place .ensures)
 
 pub place-items-spec : {M : Type 1} → statement M
 place-items-spec =
