@@ -1,6 +1,6 @@
 -- Abbreviation declarations: each takes bytes that are there; the steps of the search and of the check; the index.
 use Prim.Native.Nat.{ℕ, zero, suc, _+_, _-_, _≤_, _<_}
-use mathlib.Core.Path.{_≡_, refl, ap, sym, _∙_, subst}
+use mathlib.Core.Path.{_≡_, refl, ap, ap₂, sym, _∙_, subst}
 use mathlib.Core.Logic.{_⊎_, inl, inr, ⊎-elim}
 use mathlib.Core.Bool.{Bool, true, false, not}
 use mathlib.Core.Option.{Option, none, some}
@@ -16,7 +16,7 @@ use Rattle.readers.specs.Layout.{short}
 use Rattle.readers.specs.Scan.{Turn, more, stop, bad, Scanned, push, onTurn, scanWithin, scan, Goes, scan-stop, scan-bad, scan-more}
 use Rattle.readers.specs.Cursors.{lebAt, fixedAt}
 use Rattle.readers.specs.Slots.{codeOf, slotCode, slotOf, Twice, Ordered}
-use Rattle.readers.specs.Abbreviations.{scannedTo, pastAttributes, numberDeclaration, movedDeclaration, headAt, wholeDeclaration, declarationAt, Placed, declarationTurn, declarationsFrom, declaredIn, isFound, distinct, checkDistinct, abbreviationsOf, asChecked, checkedOf, countOf, insertByCode, byCode, slotsOf, Gathered, indexed, indexFor, indexOf, searchTurn, foundBy, searchAt, declarationFound, holdsCode, throughIndex, findAt, wholeFound}
+use Rattle.readers.specs.Abbreviations.{scannedTo, pastAttributes, numberDeclaration, movedDeclaration, headAt, wholeDeclaration, declarationAt, Placed, declarationTurn, declarationsFrom, declaredIn, isFound, distinct, checkDistinct, abbreviationsOf, asChecked, checkedOf, countOf, insertByCode, byCode, slotsOf, Gathered, indexed, indexFor, indexOf, searchTurn, foundBy, searchAt, declarationFound, holdsCode, headIn, findHead, findAt, wholeFound}
 use Rattle.readers.specs.declared.cursor.Cursor.{Cursor}
 use Rattle.readers.specs.declared.cursor.Number.{Number}
 use Rattle.readers.specs.declared.cursor.Number.the-variants.{Value, Unreadable}
@@ -580,9 +580,13 @@ chain-through {s} {a} z code (link {d = d} {c = c} {ds = ds} g k) t i e =
     contrary true x y = y
     contrary false x y = x
 
+-- the whole declaration whose place a slot holds
+unfoldable through : List ℕ → ℕ → Found
+through s slot = declarationFound (declarationAt s (slot - 1))
+
 through-else : {s : List ℕ} {a b : ℕ} {ds : List Placed} (z code : ℕ) (rest : Found) → Chain s a ds b → T (distinct ds) → (z ≡ 0) ⊎ In z (slotsOf ds)
-    → rest ≡ declaredIn ds code → pick (holdsCode s z code) (throughIndex s z) rest ≡ declaredIn ds code
-unfolding holdsCode throughIndex
+    → rest ≡ declaredIn ds code → pick (holdsCode s z code) (through s z) rest ≡ declaredIn ds code
+unfolding holdsCode through
 through-else {s} {a} {b} {ds} z code rest k t w e =
     ⊎-elim
     (λ y. pick-no _ _ _ (subst (λ (b : Bool). T (not b)) (sym (pick-yes _ _ _ y)) tt) ∙ e)
@@ -901,10 +905,9 @@ module _ (s : List ℕ) (slot code : ℕ) where
   unfolding holdsCode
   holds-some z c q = ap (λ (c : ℕ). eqb c code) q ∙ sym (pick-no _ _ _ (no-eqb z))
 
--- by the head of a declaration
-pub through-head : (s : List ℕ) (slot at : ℕ) → at ≡ slot - 1 → (r : DeclarationStep) → headAt s at ≡ r → wholeFound s (declarationFound r) ≡ throughIndex s slot
-unfolding throughIndex
-through-head s slot at q r e = head-found s at r e ∙ ap (λ (n : ℕ). declarationFound (declarationAt s n)) q
+pub head-in : (s : List ℕ) (slot at : ℕ) → at ≡ slot - 1 → (r : DeclarationStep) → headAt s at ≡ r → declarationFound r ≡ headIn s slot
+unfolding headIn
+head-in s slot at q r e = sym (ap declarationFound e) ∙ ap (λ (n : ℕ). declarationFound (headAt s n)) q
 
 module _ (s : List ℕ) (from : ℕ) (index : List ℕ) (code i : ℕ) (i-is : i ≡ code - 1) (guess : ℕ) (guess-is : guess ≡ getD index i 0) (b : Bool) (p : b ≡ holdsCode s guess code) where
   g : guess ≡ getD index (code - 1) 0
@@ -913,9 +916,9 @@ module _ (s : List ℕ) (from : ℕ) (index : List ℕ) (code i : ℕ) (i-is : i
   at-guess : b ≡ holdsCode s (getD index (code - 1) 0) code
   at-guess = p ∙ ap (λ (n : ℕ). holdsCode s n code) g
 
-  pub find-first : b ≡ true → (f : Found) → wholeFound s f ≡ throughIndex s guess → wholeFound s f ≡ findAt s from index code
-  unfolding findAt
-  find-first t f e = e ∙ ap (throughIndex s) g ∙ sym (pick-yes _ _ _ (subst T (sym t ∙ at-guess) tt))
+  pub find-first : b ≡ true → (f : Found) → f ≡ headIn s guess → f ≡ findHead s from index code
+  unfolding findHead
+  find-first t f e = e ∙ ap (headIn s) g ∙ sym (pick-yes _ _ _ (subst T (sym t ∙ at-guess) tt))
 
   module _ (n : b ≡ false) (j : ℕ) (j-is : j ≡ slotOf s index code) (slot : ℕ) (slot-is : slot ≡ getD index j 0) (b′ : Bool) (p′ : b′ ≡ holdsCode s slot code) where
     h : slot ≡ getD index (slotOf s index code) 0
@@ -924,33 +927,16 @@ module _ (s : List ℕ) (from : ℕ) (index : List ℕ) (code i : ℕ) (i-is : i
     at-slot : b′ ≡ holdsCode s (getD index (slotOf s index code) 0) code
     at-slot = p′ ∙ ap (λ (n : ℕ). holdsCode s n code) h
 
-    past-first : findAt s from index code
-        ≡ pick (holdsCode s (getD index (slotOf s index code) 0) code) (throughIndex s (getD index (slotOf s index code) 0)) (searchAt s (length s) code from)
-    unfolding findAt
+    past-first : findHead s from index code
+        ≡ pick (holdsCode s (getD index (slotOf s index code) 0) code) (headIn s (getD index (slotOf s index code) 0)) (searchAt s (length s) code from)
+    unfolding findHead
     past-first = pick-no _ _ _ (subst (λ (b : Bool). T (not b)) (sym n ∙ at-guess) tt)
 
-    pub find-halved : b′ ≡ true → (f : Found) → wholeFound s f ≡ throughIndex s slot → wholeFound s f ≡ findAt s from index code
-    find-halved t f e = e ∙ ap (throughIndex s) h ∙ sym (past-first ∙ pick-yes _ _ _ (subst T (sym t ∙ at-slot) tt))
+    pub find-halved : b′ ≡ true → (f : Found) → f ≡ headIn s slot → f ≡ findHead s from index code
+    find-halved t f e = e ∙ ap (headIn s) h ∙ sym (past-first ∙ pick-yes _ _ _ (subst T (sym t ∙ at-slot) tt))
 
-    pub find-search : b′ ≡ false → searchAt s (length s) code from ≡ findAt s from index code
+    pub find-search : b′ ≡ false → searchAt s (length s) code from ≡ findHead s from index code
     find-search t = sym (past-first ∙ pick-no _ _ _ (subst (λ (b : Bool). T (not b)) (sym t ∙ at-slot) tt))
-
--- the index and the search find what the list declares
-pub find-plain : (s : List ℕ) (from n : ℕ) (ds : List Placed) → abbreviationsOf s from ≡ some ds → (code : ℕ) → findAt s from (indexOf s from n) code ≡ declaredIn ds code
-unfolding indexOf indexFor findAt
-find-plain s from n ds h code =
-    let q : Accept s from ds = accept-of s from ds h in
-    let k : Chain s from ds (q .closed .last) = q .closed .chain in
-    let i : indexOf s from n ≡ indexed (zeros n) ds = ap (indexFor n) h in
-    let v : (q .closed .last < q .closed .past .at) × (q .closed .past .at ≤ length s) = last-inside s (q .closed .last) (q .closed .past) (q .closed .closes) in
-    let w : q .closed .last < length s = omega (arith, v .0, v .1) in
-    let f : searchAt s (length s) code from ≡ declaredIn ds code =
-    chain-search (length s) code k (omega arith)
-    ∙ ap (orElse (declaredIn ds code)) (sym (search-last s (length s) code (q .closed .last) (q .closed .past) w (q .closed .closes)))
-    ∙ else-nothing (declaredIn ds code) in
-    ap (λ x. findAt s from x code) i
-    ∙ through-else (getD (indexed (zeros n) ds) (code - 1) 0) code _ k (q .once) (index-slots n (code - 1) ds)
-    (through-else (getD (indexed (zeros n) ds) (slotOf s (indexed (zeros n) ds) code) 0) code _ k (q .once) (index-slots n (slotOf s (indexed (zeros n) ds) code) ds) f)
 
 -- ---- what is found is declared somewhere, and its attributes are there
 
@@ -1005,21 +991,57 @@ unfolding FoundLaw wholeFound wholeDeclaration movedDeclaration declarationFound
 found-whole s (Found′ d) q = ap (λ (o : Option (Scanned AttributeSpec ℕ)). declarationFound (movedDeclaration (scannedTo o) (Declared d))) (declaration-inside s (q .place) d (q .next) (q .is) .past .read)
 found-whole s Nothing q = refl
 
-search-whole : (s : List ℕ) (to code at : ℕ) (f : Found) → f ≡ searchAt s to code at → wholeFound s f ≡ searchAt s to code at
-search-whole s to code at f q = found-whole s f (subst (FoundLaw s) (sym q) (search-found s to code at)) ∙ q
+search-whole : (s : List ℕ) (to code at : ℕ) → wholeFound s (searchAt s to code at) ≡ searchAt s to code at
+search-whole s to code at = found-whole s (searchAt s to code at) (search-found s to code at)
 
-pub searched : (s : List ℕ) (from : ℕ) (index : List ℕ) (code : ℕ) (f : Found) → f ≡ searchAt s (length s) code from → searchAt s (length s) code from ≡ findAt s from index code
-    → wholeFound s f ≡ findAt s from index code
-searched s from index code f q e = search-whole s (length s) code from f q ∙ e
+whole-pick : (s : List ℕ) (b : Bool) (f g : Found) → wholeFound s (pick b f g) ≡ pick b (wholeFound s f) (wholeFound s g)
+unfolding pick
+whole-pick s true f g = refl
+whole-pick s false f g = refl
+
+-- by whole declarations
+find-whole : (s : List ℕ) (from : ℕ) (index : List ℕ) (code : ℕ) → findAt s from index code
+    ≡ pick (holdsCode s (getD index (code - 1) 0) code) (through s (getD index (code - 1) 0))
+    (pick (holdsCode s (getD index (slotOf s index code) 0) code) (through s (getD index (slotOf s index code) 0)) (searchAt s (length s) code from))
+unfolding findAt findHead headIn through
+find-whole s from index code =
+    whole-pick s (holdsCode s (getD index (code - 1) 0) code) _ _
+    ∙ ap₂ (pick (holdsCode s (getD index (code - 1) 0) code)) (head-found s (getD index (code - 1) 0 - 1) _ refl)
+    (whole-pick s (holdsCode s (getD index (slotOf s index code) 0) code) _ _
+    ∙ ap₂ (pick (holdsCode s (getD index (slotOf s index code) 0) code)) (head-found s (getD index (slotOf s index code) 0 - 1) _ refl) (search-whole s (length s) code from))
+
+-- the index and the search find what the list declares
+pub find-plain : (s : List ℕ) (from n : ℕ) (ds : List Placed) → abbreviationsOf s from ≡ some ds → (code : ℕ) → findAt s from (indexOf s from n) code ≡ declaredIn ds code
+unfolding indexOf indexFor
+find-plain s from n ds h code =
+    let q : Accept s from ds = accept-of s from ds h in
+    let k : Chain s from ds (q .closed .last) = q .closed .chain in
+    let i : indexOf s from n ≡ indexed (zeros n) ds = ap (indexFor n) h in
+    let v : (q .closed .last < q .closed .past .at) × (q .closed .past .at ≤ length s) = last-inside s (q .closed .last) (q .closed .past) (q .closed .closes) in
+    let w : q .closed .last < length s = omega (arith, v .0, v .1) in
+    let f : searchAt s (length s) code from ≡ declaredIn ds code =
+    chain-search (length s) code k (omega arith)
+    ∙ ap (orElse (declaredIn ds code)) (sym (search-last s (length s) code (q .closed .last) (q .closed .past) w (q .closed .closes)))
+    ∙ else-nothing (declaredIn ds code) in
+    ap (λ x. findAt s from x code) i
+    ∙ find-whole s from (indexed (zeros n) ds) code
+    ∙ through-else (getD (indexed (zeros n) ds) (code - 1) 0) code _ k (q .once) (index-slots n (code - 1) ds)
+    (through-else (getD (indexed (zeros n) ds) (slotOf s (indexed (zeros n) ds) code) 0) code _ k (q .once) (index-slots n (slotOf s (indexed (zeros n) ds) code) ds) f)
 
 find-found : (s : List ℕ) (from : ℕ) (index : List ℕ) (code : ℕ) → FoundLaw s (findAt s from index code)
-unfolding findAt throughIndex
+unfolding through
 find-found s from index code =
-    pick-either (FoundLaw s) (holdsCode s (getD index (code - 1) 0) code) _ _
+    subst (FoundLaw s) (sym (find-whole s from index code))
+    (pick-either (FoundLaw s) (holdsCode s (getD index (code - 1) 0) code) _ _
     (λ _. step-found s (getD index (code - 1) 0 - 1) (declarationAt s (getD index (code - 1) 0 - 1)) refl)
     (λ _. pick-either (FoundLaw s) (holdsCode s (getD index (slotOf s index code) 0) code) _ _
     (λ _. step-found s (getD index (slotOf s index code) 0 - 1) (declarationAt s (getD index (slotOf s index code) 0 - 1)) refl)
-    (λ _. search-found s (length s) code from))
+    (λ _. search-found s (length s) code from)))
+
+-- what the reader of a head finds is, where it is whole, what is found
+pub found-at : (s : List ℕ) (from : ℕ) (index : List ℕ) (code : ℕ) (f : Found) → f ≡ findHead s from index code → wholeFound s f ≡ findAt s from index code
+unfolding findAt
+found-at s from index code f q = ap (wholeFound s) q
 
 pub find-somewhere : (s : List ℕ) (from : ℕ) (index : List ℕ) (code : ℕ) (d : Declaration) → findAt s from index code ≡ Found′ d → Somewhere s d
 unfolding FoundLaw

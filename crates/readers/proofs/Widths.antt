@@ -199,37 +199,44 @@ module _ (s : List ℕ) (at : ℕ) where
   abbrev here : ℕ → ℕ
   here k = getD s (at + k) 0
 
+  -- a number of n bytes that were read one by one
+  by-bytes : (big big′ : Bool) → big′ ≡ big → (n : ℕ) → n ≤ 8 → n ≤ length s - at → (l : List ℕ) → take n (drop at s) ≡ l → (v : ℕ) → v ≡ fixedValue big l
+      → Value v (cursor (at + n)) ≡ fixedAt big′ n s at
+  by-bytes big big′ b n e h l q v w =
+      ap (λ (v : ℕ). Value v (cursor (at + n)))
+      (w ∙ sym (ap (fixedValue big) q))
+      ∙ sym (fixed-is big n s at e h) ∙ ap (λ (b : Bool). fixedAt b n s at) (sym b)
+
   -- four bytes of which the lowest comes first, or last
   module _ (h : 4 ≤ length s - at) (v : ℕ) where
     pub four-little : v ≡ getD s at 0 + 256 * (here 1 + 256 * (here 2 + 256 * here 3)) → (big : Bool) → big ≡ false → Value v (cursor (at + 4)) ≡ fixedAt big 4 s at
     unfolding fixedValue ordered
     four-little q big b =
-        ap (λ (w : ℕ). Value w (cursor (at + 4))) (q ∙ sym (four-value (getD s at 0) (here 1) (here 2) (here 3)) ∙ sym (ap (λ (t : List ℕ). fixedValue false (take 4 t)) (four-there s at (omega arith))))
-        ∙ sym (fixed-is false 4 s at (omega arith) h) ∙ ap (λ (b : Bool). fixedAt b 4 s at) (sym b)
+        by-bytes false big b 4 (omega arith) h (getD s at 0 ∷ here 1 ∷ here 2 ∷ here 3 ∷ []) (ap (take 4) (four-there s at (omega arith))) v (q ∙ sym (four-value (getD s at 0) (here 1) (here 2) (here 3)))
 
     pub four-big : v ≡ here 3 + 256 * (here 2 + 256 * (here 1 + 256 * getD s at 0)) → (big : Bool) → big ≡ true → Value v (cursor (at + 4)) ≡ fixedAt big 4 s at
     unfolding fixedValue ordered
     four-big q big b =
-        ap (λ (w : ℕ). Value w (cursor (at + 4))) (q ∙ sym (four-value (here 3) (here 2) (here 1) (getD s at 0)) ∙ sym (ap (λ (t : List ℕ). fixedValue true (take 4 t)) (four-there s at (omega arith))))
-        ∙ sym (fixed-is true 4 s at (omega arith) h) ∙ ap (λ (b : Bool). fixedAt b 4 s at) (sym b)
+        by-bytes true big b 4 (omega arith) h (getD s at 0 ∷ here 1 ∷ here 2 ∷ here 3 ∷ []) (ap (take 4) (four-there s at (omega arith))) v (q ∙ sym (four-value (here 3) (here 2) (here 1) (getD s at 0)))
 
   -- eight
   module _ (h : 8 ≤ length s - at) (low high : ℕ) where
+    abbrev eight : List ℕ
+    eight = getD s at 0 ∷ here 1 ∷ here 2 ∷ here 3 ∷ here 4 ∷ here 5 ∷ here 6 ∷ here 7 ∷ []
+
     pub eight-little : low ≡ getD s at 0 + 256 * (here 1 + 256 * (here 2 + 256 * here 3)) → high ≡ here 4 + 256 * (here 5 + 256 * (here 6 + 256 * here 7))
         → (big : Bool) → big ≡ false → Value (low + 4294967296 * high) (cursor (at + 8)) ≡ fixedAt big 8 s at
     unfolding fixedValue ordered
     eight-little p q big b =
-        ap (λ (w : ℕ). Value w (cursor (at + 8)))
-        (ap₂ (λ (x y : ℕ). x + 4294967296 * y) p q ∙ sym (eight-value (getD s at 0) (here 1) (here 2) (here 3) (here 4) (here 5) (here 6) (here 7)) ∙ sym (ap (λ (t : List ℕ). fixedValue false (take 8 t)) (eight-there s at (omega arith))))
-        ∙ sym (fixed-is false 8 s at (omega arith) h) ∙ ap (λ (b : Bool). fixedAt b 8 s at) (sym b)
+        by-bytes false big b 8 (omega arith) h eight (ap (take 8) (eight-there s at (omega arith))) _
+        (ap₂ (λ (x y : ℕ). x + 4294967296 * y) p q ∙ sym (eight-value (getD s at 0) (here 1) (here 2) (here 3) (here 4) (here 5) (here 6) (here 7)))
 
     pub eight-big : low ≡ here 7 + 256 * (here 6 + 256 * (here 5 + 256 * here 4)) → high ≡ here 3 + 256 * (here 2 + 256 * (here 1 + 256 * getD s at 0))
         → (big : Bool) → big ≡ true → Value (low + 4294967296 * high) (cursor (at + 8)) ≡ fixedAt big 8 s at
     unfolding fixedValue ordered
     eight-big p q big b =
-        ap (λ (w : ℕ). Value w (cursor (at + 8)))
-        (ap₂ (λ (x y : ℕ). x + 4294967296 * y) p q ∙ sym (eight-value (here 7) (here 6) (here 5) (here 4) (here 3) (here 2) (here 1) (getD s at 0)) ∙ sym (ap (λ (t : List ℕ). fixedValue true (take 8 t)) (eight-there s at (omega arith))))
-        ∙ sym (fixed-is true 8 s at (omega arith) h) ∙ ap (λ (b : Bool). fixedAt b 8 s at) (sym b)
+        by-bytes true big b 8 (omega arith) h eight (ap (take 8) (eight-there s at (omega arith))) _
+        (ap₂ (λ (x y : ℕ). x + 4294967296 * y) p q ∙ sym (eight-value (here 7) (here 6) (here 5) (here 4) (here 3) (here 2) (here 1) (getD s at 0)))
 
 -- the answer of a width that was looked at
 module _ (big : Bool) (w : ℕ) (s : List ℕ) (at : ℕ) (r : Number) where

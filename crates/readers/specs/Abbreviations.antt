@@ -203,13 +203,17 @@ wholeFound s Nothing = Nothing
 unfoldable pub holdsCode : List ℕ → ℕ → ℕ → Bool
 holdsCode s slot code = pick (eqb slot 0) false (eqb (slotCode s slot) code)
 
--- the declaration whose place a slot holds
-unfoldable pub throughIndex : List ℕ → ℕ → Found
-throughIndex s slot = declarationFound (declarationAt s (slot - 1))
+-- the head of the declaration whose place a slot holds
+unfoldable pub headIn : List ℕ → ℕ → Found
+headIn s slot = declarationFound (headAt s (slot - 1))
 
--- at the slot that a code has where they are numbered from 1 on; else at the one where it stands by halves; else by the plain search
-unfoldable pub findAt : List ℕ → ℕ → List ℕ → ℕ → Found
-findAt s from index code =
-    pick (holdsCode s (getD index (code - 1) 0) code) (throughIndex s (getD index (code - 1) 0))
-    (pick (holdsCode s (getD index (slotOf s index code) 0) code) (throughIndex s (getD index (slotOf s index code) 0))
+-- the head of a code's declaration: at the slot that a code has where they are numbered from 1 on; else at the one where it stands by halves; else by the plain search
+unfoldable pub findHead : List ℕ → ℕ → List ℕ → ℕ → Found
+findHead s from index code =
+    pick (holdsCode s (getD index (code - 1) 0) code) (headIn s (getD index (code - 1) 0))
+    (pick (holdsCode s (getD index (slotOf s index code) 0) code) (headIn s (getD index (slotOf s index code) 0))
     (searchAt s (length s) code from))
+
+-- and the whole declaration
+unfoldable pub findAt : List ℕ → ℕ → List ℕ → ℕ → Found
+findAt s from index code = wholeFound s (findHead s from index code)

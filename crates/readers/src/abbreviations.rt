@@ -3,7 +3,7 @@ ghost use mathlib.Core.Path.{_≡_};
 ghost use Prim.Native.Nat.{_-_};
 ghost use lib.ListN.{length, getD};
 ghost use Rattle.readers.specs.Choice.{zeros};
-ghost use Rattle.readers.specs.Abbreviations.{specAt, implicitSpec, pastAttributes, headAt, declarationAt, declarationsFrom, searchAt, checkedOf, countOf, Gathered, indexOf, holdsCode, throughIndex, findAt, wholeFound};
+ghost use Rattle.readers.specs.Abbreviations.{specAt, implicitSpec, pastAttributes, headAt, declarationAt, declarationsFrom, searchAt, checkedOf, countOf, Gathered, indexOf, holdsCode, headIn, findHead};
 ghost use Rattle.readers.specs.declared.abbreviations.Checked.the-variants.{Accepted};
 use crate::cursor::Cursor;
 use crate::cursor::Moved;
@@ -316,7 +316,7 @@ fn number_before(n: u64) -> usize
 
 // The declaration whose place a slot holds, by its head.
 fn head_in(s: &[u8], slot: u64) -> Found
-    ensures { λ r. ⌜ wholeFound (now (s .entry)) r ≡ throughIndex (now (s .entry)) slot ⌝ }
+    ensures { λ r. ⌜ r ≡ headIn (now (s .entry)) slot ⌝ }
 {
     let at = number_before(slot);
     match (Cursor { at }).head(s) {
@@ -330,7 +330,7 @@ fn head_in(s: &[u8], slot: u64) -> Found
 // else by the plain search, which is left for a code that is not declared and for an index that is too short. Its head alone is read: whoever reads an
 // entry's values reads the attribute specifications, and finds out whether that is possible.
 pub fn find_declaration(s: &[u8], from: u64, index: &[u64], code: u64) -> Found
-    ensures { λ r. ⌜ wholeFound (now (s .entry)) r ≡ findAt (now (s .entry)) from (now (index .entry)) code ⌝ }
+    ensures { λ r. ⌜ r ≡ findHead (now (s .entry)) from (now (index .entry)) code ⌝ }
 {
     let guess = slot_at(index, number_before(code));
     if holds_code(s, guess, code) {

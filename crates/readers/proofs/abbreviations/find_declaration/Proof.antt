@@ -1,5 +1,6 @@
 -- `find_declaration` meets its contract. Assumes nothing.
-use Rattle.readers.proofs.Declarations.{find-first, find-halved, find-search, searched}
+use mathlib.Core.Path.{_∙_}
+use Rattle.readers.proofs.Declarations.{find-first, find-halved, find-search}
 use borrow.Author.Needs.{needs}
 use Rattle.readers.proofs.abbreviations.find_declaration.Statement.{statement}
 use Rattle.readers.proofs.abbreviations.find_declaration.Tie as tie
@@ -39,7 +40,7 @@ search-requires : tie.Need-search-requires
 search-requires c κs = search needs
 
 returns-3 : tie.Need-returns-3
-returns-3 c = searched _ _ _ _ _ (c .search .ensures) (find-search _ _ _ _ _ (c .before .before .before .before .before .before .before .before .number-before .ensures) _ (c .before .before .before .before .before .before .before .slot-at .ensures) _ (c .before .before .before .before .before .before .holds-code .ensures) (c .before .before .before .before .before .if1 .left) _ (c .before .before .before .before .slot-of .ensures) _ (c .before .before .before .slot-at2 .ensures) _ (c .before .before .holds-code2 .ensures) (c .before .if2 .left))
+returns-3 c = c .search .ensures ∙ find-search _ _ _ _ _ (c .before .before .before .before .before .before .before .before .number-before .ensures) _ (c .before .before .before .before .before .before .before .slot-at .ensures) _ (c .before .before .before .before .before .before .holds-code .ensures) (c .before .before .before .before .before .if1 .left) _ (c .before .before .before .before .slot-of .ensures) _ (c .before .before .before .slot-at2 .ensures) _ (c .before .before .holds-code2 .ensures) (c .before .if2 .left)
 
 pub find-declaration-spec : {M : Type 1} → statement M
 find-declaration-spec =
