@@ -5,7 +5,7 @@ use mathlib.Core.Bool.{Bool}
 use mathlib.Core.List.{List, [], _∷_}
 use mathlib.Core.Option.{Option, none, some}
 use native.Mathlib.Omega.{arith}
-use lib.ListN.{length, take}
+use lib.ListN.{length}
 use lib.Dec.{leb, eqb}
 use mir.Facts.{eqb-yes, eqb-no}
 use Rattle.readers.specs.Choice.{pick, pick-either}
@@ -21,6 +21,7 @@ use Rattle.marking.proofs.Laws.{marks-length}
 use Rattle.marking.specs.Resolution.{graphOf, marksIn}
 use Rattle.marking.proofs.Rows.{length-parents}
 use Rattle.rewriting.specs.Places.{Standing, keptFrom, Place, placesFrom, sizeFrom}
+pub use Rattle.rewriting.specs.Thinned.{unitOf}
 use Rattle.rewriting.specs.Rewriting.{Unit as Unit′, itemsIn, Lists, listsOf, refusalFrom, unitBytes, Room, Rewrite, Collected, untouched, rewritten, refused, listsFit, orRefused, rewriteOf, marksCollected, rowsCollected, analysedCollected, declaredCollected, headerCollected, collectOf}
 
 -- ---- at most as many are kept as there are
@@ -40,10 +41,6 @@ unfolding marksIn graphOf
 marks-each rows = marks-length (graphOf rows) ∙ length-parents rows
 
 -- ---- what is accepted
-
--- the unit as it is read: its header, its own bytes, its declarations
-abbrev pub unitOf : UnitHeader → List ℕ → List Placed → Unit′
-unitOf h section ds = record { header = h; bytes = take (h .end) section; declared = ds }
 
 pub record Accepted (x : Sections) (room : Room) (section : List ℕ) (h : UnitHeader) (ds : List Placed) (rows : List Row) : Type 0 where
   pub header : headerOf section ≡ Header′ h

@@ -4,24 +4,19 @@ use Prim.Native.Nat.{ℕ, _≤_, _<_}
 use native.Mathlib.Omega.{arith}
 use mathlib.Core.Logic.{⊎-elim}
 use Rattle.marking.specs.Below.{Number, no-more, one-more, not-this}
+pub use Rattle.rewriting.specs.Thinned.{Without}
 use Rattle.marking.proofs.Tests.{split}
 
 module _ (P : ℕ → Type 0) where
-  -- one of the numbers below n that has it not
-  pub record Without (n : ℕ) : Type 0 where
-    pub at : ℕ
-    pub inside : at < n
-    pub not-there : P at → ⊥
-
   number-most : (n k : ℕ) → Number P n k → k ≤ n
   number-most n k no-more = omega arith
   number-most n k (one-more p q) = let h = number-most _ _ q in omega arith
   number-most n k (not-this p q) = let h = number-most _ _ q in omega arith
 
-  pub some-without : (n k : ℕ) → Number P n k → k < n → Without n
+  pub some-without : (n k : ℕ) → Number P n k → k < n → Without P n
   some-without n k no-more h = absurd (omega arith)
   some-without n k (one-more {n = m} {k = j} p q) h =
-      let w : Without m = some-without m j q (omega arith) in
+      let w : Without P m = some-without m j q (omega arith) in
       record { at = w .at; inside = omega (arith, w .inside); not-there = w .not-there }
   some-without n k (not-this {n = m} p q) h = record { at = m; inside = omega arith; not-there = p }
 

@@ -21,16 +21,13 @@ use Rattle.readers.specs.declared.cursor.Number.the-variants.{Value, Unreadable
 use Rattle.readers.specs.declared.header.UnitHeader.{UnitHeader}
 use Rattle.readers.specs.declared.header.HeaderRead.{HeaderRead}
 use Rattle.readers.specs.declared.header.HeaderRead.the-variants.{Unit as Unit′, Empty, Refused}
+pub use Rattle.rewriting.specs.Thinned.{withEnd}
 
 -- a header, where there is one
 unfoldable pub Reads : (UnitHeader → Type 0) → HeaderRead → Type 0
 Reads P (Unit′ h) = P h
 Reads P Empty = Unit {0}
 Reads P (Refused n) = Unit {0}
-
--- the same header of a unit of another length
-abbrev pub withEnd : UnitHeader → ℕ → UnitHeader
-withEnd h n = record { encoding = h .encoding; «unit_type» = h .«unit_type»; abbreviations = h .abbreviations; first = h .first; end = n }
 
 -- ---- a header by its fields
 

@@ -47,7 +47,9 @@ pub mod IndexMembers
 pub mod Counting
 pub mod GraphLaws
 pub mod UnitSurvivors
+pub mod ThinnedItems
 pub mod CollectLaws
+pub mod ThinnedLaw
 pub mod Held
 pub mod EntryIndices
 pub mod IndexTurns

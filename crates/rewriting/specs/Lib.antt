@@ -20,5 +20,6 @@ pub mod MapFilled
 pub mod IndexLists
 pub mod Emission
 pub mod Outputs
+pub mod Thinned
 pub mod Leaving
 pub mod FiveEntries
