@@ -47,6 +47,7 @@ pub mod IndexMembers
 pub mod Counting
 pub mod GraphLaws
 pub mod UnitSurvivors
+pub mod Roles
 pub mod ThinnedItems
 pub mod CollectLaws
 pub mod ThinnedLaw

@@ -27,6 +27,8 @@ use Rattle.rewriting.specs.Thinned.{Pairwise, Parted, Beside, LandsOn, F
 use Rattle.rewriting.proofs.HeaderAgain.{HeaderLaw}
 use Rattle.rewriting.proofs.Accepted.{marks-each}
 use Rattle.rewriting.proofs.Following.{accepted-header}
+use Rattle.rewriting.proofs.Sorted.{nothing-in}
+use Rattle.rewriting.proofs.Roles.{index-kind}
 use Rattle.rewriting.proofs.Maps.{has-new}
 use Rattle.rewriting.proofs.Landing.{item-reference, item-type, item-sibling, no-type}
 use Rattle.rewriting.proofs.ItemsStand.{Every}
@@ -44,15 +46,6 @@ nth-getD : (xs : List ℕ) (v n : ℕ) → n < length xs → getD xs n 0 ≡ v �
 nth-getD [] v n h q = absurd (omega arith)
 nth-getD (x ∷ xs) v zero h q = now (sym q)
 nth-getD (x ∷ xs) v (suc n) h q = later (nth-getD xs v n (omega arith) q)
-
-pub record NthOf {A : Type 0} (a : A) (xs : List A) : Type 0 where
-  pub at : ℕ
-  pub there : Nth a at xs
-
-member-nth : {A : Type 0} (a : A) (xs : List A) → Member a xs → NthOf a xs
-member-nth a [] m = elim m [ ]
-member-nth a (x ∷ xs) (here e) = record { at = 0; there = now e }
-member-nth a (x ∷ xs) (there m) = let r : NthOf a xs = member-nth a xs m in record { at = suc (r .at); there = later (r .there) }
 
 moved-length : (n : ℕ) (kept : List Standing) → length (movedFrom n kept) ≡ length kept
 unfolding movedFrom
@@ -147,6 +140,20 @@ module _ (x : Sections) (room : Room) (typeUnits : Bool) (section : List ℕ) (w
 
   -- ---- what a number becomes
 
+  every-member : (P : Standing → Type 0) (ss : List Standing) (s : Standing) → Every P ss → Member s ss → P s
+  unfolding Every
+  every-member P [] s h m = absurd (nothing-in s m)
+  every-member P (t ∷ ss) s h (here q) = subst P (sym q) (h .0)
+  every-member P (t ∷ ss) s h (there m) = every-member P ss s (h .1) m
+
+  -- what was read of a kept item
+  was-read : (s : Standing) → Member s items → Readable x was s
+  was-read s m = every-member (Readable x was) items s (readable-law x room typeUnits section w answer) m
+
+  reads-of : (at : ℕ) (run : RunOf) → readAt x was new (w .lists) (w .map) items was at ≡ some run → readsAt x was at ≡ run .0
+  unfolding readsAt readsOr
+  reads-of at run q = ap (readsOr x was) q
+
   abbrev Rule : ℕ → Role → ℕ → ℕ → Type 0
   Rule = Becomes x was new (w .lists) (w .map) items
 
@@ -164,12 +171,18 @@ module _ (x : Sections) (room : Room) (typeUnits : Bool) (section : List ℕ) (w
       λ n. lands v (value typeReference v) (item-type x was (w .lists) (w .map) items clean s m r i e v n p),
     )
 
+    kind : (k v : ℕ) → Member (linked e (index k) v) (r .pieces) → k < 3
+    kind k v p =
+        let o : Readable x was s = was-read s m in
+        index-kind (was .header .encoding) (x .abbreviations) (declaredIn (was .declared)) (drop (offsetOf (s .item)) (was .bytes)) (o .run) (o .is) r
+        (subst (Member r) (reads-of (offsetOf (s .item)) (o .run) (o .is)) i) e k v p
+
     index-becomes : (k v : ℕ) → Member (linked e (index k) v) (r .pieces) → Rule (s .depth) (index k) v (value (index k) v)
     unfolding Becomes newValue rankOr
     index-becomes k v p = (
       λ q. ap (λ (o : Option (List ℕ)). rankOr o v) q,
-      λ h xs q.
-          let l : ListLaw x was items k xs = list-law x room typeUnits section w answer k h xs q in
+      λ xs q.
+          let l : ListLaw x was items k xs = list-law x room typeUnits section w answer k (kind k v p) xs q in
           let n : Member v xs = l .members v .1 (record { standing = s; among = m; operand = record { read = r; among = i; operand = record { encoded = e; within = p } } }) in
           subst (λ (j : ℕ). Nth v j xs) (sym (ap (λ (o : Option (List ℕ)). rankOr o v) q)) (nth-getD xs v (rankIn xs v) (l .ranks v n .inside) (l .ranks v n .placed)),
     )
@@ -212,22 +225,12 @@ module _ (x : Sections) (room : Room) (typeUnits : Bool) (section : List ℕ) (w
 
   -- ---- side by side
 
-  every-nth : (P : Standing → Type 0) (ss : List Standing) (m : ℕ) (s : Standing) → Every P ss → Nth s m ss → P s
-  unfolding Every
-  every-nth P [] m s h n = elim n [ ]
-  every-nth P (t ∷ ss) m s h (now q) = subst P (sym q) (h .0)
-  every-nth P (t ∷ ss) m s h (later n) = every-nth P ss _ s (h .1) n
-
   all-land : (vs ns : List ℕ) → Leading (w .map) vs ns → Pairwise Lands vs ns
   unfolding Leading Pairwise
   all-land [] [] h = tt
   all-land [] (n ∷ ns) h = h
   all-land (v ∷ vs) [] h = h
   all-land (v ∷ vs) (n ∷ ns) h = (lands v n (h .0), all-land vs ns (h .1))
-
-  reads-of : (at : ℕ) (run : RunOf) → readAt x was new (w .lists) (w .map) items was at ≡ some run → readsAt x was at ≡ run .0
-  unfolding readsAt readsOr
-  reads-of at run q = ap (readsOr x was) q
 
   new-depths : depthsFrom 0 [] (itemsIn x new) ≡ depthsOf items
   new-depths = ap (depthsFrom 0 []) new-items ∙ again-law x room typeUnits section w answer .depths ∙ depths-placed first items
@@ -237,7 +240,7 @@ module _ (x : Sections) (room : Room) (typeUnits : Bool) (section : List ℕ) (w
       let t : Stands first items m s = stands first items m s n in
       let i : Item = movedItem (t .new) (s .item) in
       let o : offsetOf i ≡ t .new = moved-offset (t .new) (s .item) in
-      let old : Readable x was s = every-nth (Readable x was) items m s (readable-law x room typeUnits section w answer) n in
+      let old : Readable x was s = was-read s (nth-member s m items n) in
       let rs : readsAt x was (offsetOf (s .item)) ≡ old .run .0 = reads-of (offsetOf (s .item)) (old .run) (old .is) in
       let olds : List (List ℕ) = keptAround (marks x room typeUnits section w answer) 0 [] [] (itemsIn x was) in
       let a : Around (itemsIn x was) [] olds m s =
@@ -270,8 +273,7 @@ module _ (x : Sections) (room : Room) (typeUnits : Bool) (section : List ℕ) (w
   index-held k v = (
     λ h.
         let at : ℕ = offsetOf (h .standing .item) in
-        let n : NthOf (h .standing) items = member-nth (h .standing) items (h .among) in
-        let old : Readable x was (h .standing) = every-nth (Readable x was) items (n .at) (h .standing) (readable-law x room typeUnits section w answer) (n .there) in
+        let old : Readable x was (h .standing) = was-read (h .standing) (h .among) in
         record {
           s = h .standing;
           e = h .operand .operand .encoded;

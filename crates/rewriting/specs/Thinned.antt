@@ -96,7 +96,7 @@ module _ (x : Sections) (u new : Unit′) (lists : Lists) (map : List Place) (ke
   Becomes depth reference v n = LandsOn v n
   Becomes depth typeReference v n = (v ≡ 0 → n ≡ 0) × ((v ≡ 0 → ⊥) → LandsOn v n)
   Becomes depth sibling v n = LandsOn v n ⊎ FirstFrom depth v n
-  Becomes depth (index k) v n = (listAt lists k ≡ none → n ≡ v) × (k < 3 → (xs : List ℕ) → listAt lists k ≡ some xs → Nth v n xs)
+  Becomes depth (index k) v n = (listAt lists k ≡ none → n ≡ v) × ((xs : List ℕ) → listAt lists k ≡ some xs → Nth v n xs)
   Becomes depth absolute v n = n ≡ v
 
   -- what was read and what is read again: bytes are the same; a number is written in the same way and stands for the same
