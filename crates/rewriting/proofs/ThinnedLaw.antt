@@ -150,7 +150,7 @@ module _ (x : Sections) (room : Room) (typeUnits : Bool) (section : List ℕ) (w
   was-read : (s : Standing) → Member s items → Readable x was s
   was-read s m = every-member (Readable x was) items s (readable-law x room typeUnits section w answer) m
 
-  reads-of : (at : ℕ) (run : RunOf) → readAt x was new (w .lists) (w .map) items was at ≡ some run → readsAt x was at ≡ run .0
+  reads-of : (at : ℕ) (run : RunOf) → readAt x was at ≡ some run → readsAt x was at ≡ run .0
   unfolding readsAt readsOr
   reads-of at run q = ap (readsOr x was) q
 
@@ -269,7 +269,7 @@ module _ (x : Sections) (room : Room) (typeUnits : Bool) (section : List ℕ) (w
         same-open = all-land (a .opens) (l .opens-again) (l .leading);
       }
 
-  index-held : (k v : ℕ) → IndexHeld x was k v items ↔ IndexKept x was new (w .lists) (w .map) items k v
+  index-held : (k v : ℕ) → IndexHeld x was k v items ↔ IndexKept x was items k v
   index-held k v = (
     λ h.
         let at : ℕ = offsetOf (h .standing .item) in
@@ -295,7 +295,7 @@ module _ (x : Sections) (room : Room) (typeUnits : Bool) (section : List ℕ) (w
     },
   )
 
-  lists-law : (k : ℕ) → k < 3 → (xs : List ℕ) → listAt (w .lists) k ≡ some xs → IndexList x was new (w .lists) (w .map) items k xs
+  lists-law : (k : ℕ) → k < 3 → (xs : List ℕ) → listAt (w .lists) k ≡ some xs → IndexList x was items k xs
   lists-law k h xs q =
       let l : ListLaw x was items k xs = list-law x room typeUnits section w answer k h xs q in
       record {
@@ -325,6 +325,8 @@ module _ (x : Sections) (room : Room) (typeUnits : Bool) (section : List ℕ) (w
         whole = ap (λ (z : Items). z .1) (again-law x room typeUnits section w answer .items);
         as-many = ap length new-items ∙ moved-length first items;
         places = map-law x room typeUnits section w answer .each;
+        olds = map-law x room typeUnits section w answer .olds;
+        news = map-law x room typeUnits section w answer .news;
         each = each-law;
         bytes = header-law .end-is ∙ bytes-law x room typeUnits section w answer;
         lists-are = it x room typeUnits section w answer .lists-is;

@@ -23,6 +23,7 @@ use Rattle.marking.specs.Resolution.{graphOf}
 use Rattle.marking.specs.Survivors.{Kept}
 use Rattle.rewriting.specs.Places.{Standing, offsetOf, Place, sizeFrom}
 use Rattle.rewriting.specs.Ascending.{Ascending, Member}
+use Rattle.rewriting.specs.Maps.{oldOffsets, newOffsets}
 use Rattle.rewriting.specs.Nth.{Nth}
 use Rattle.rewriting.specs.Around.{aroundFrom}
 use Rattle.rewriting.specs.Moved.{movedItem, depthsFrom}
@@ -56,6 +57,32 @@ module _ (S : ℕ → Type 0) where
         → Parted k stack rest kept left → Parted k (p ∷ stack) (terminator a b ∷ rest) kept (inside (p ∷ stack) (terminator a b) ∷ left)
     surplus : {k a b : ℕ} {rest : List Item} {kept left : List Standing}
         → Parted k [] rest kept left → Parted k [] (terminator a b ∷ rest) kept (inside [] (terminator a b) ∷ left)
+
+-- ---- what is read of a unit
+
+module _ (x : Sections) (u : Unit′) where
+  -- an entry or terminator at an offset: the values that it has, expressions operation by operation, and the bytes behind them
+  abbrev pub readAt : ℕ → Option RunOf
+  readAt at =
+      readIn (u .header .encoding .«big_endian») (expressionIn (u .header .encoding))
+      (entryLayout (u .header .encoding) (x .abbreviations) (declaredIn (u .declared))) (drop at (u .bytes))
+
+  module _ (kept : List Standing) where
+    -- v is an index of list k that a kept item holds
+    pub record IndexKept (k v : ℕ) : Type 0 where
+      pub s : Standing
+      pub e : Encoded
+      pub r : Read
+      pub run : RunOf
+      pub is-kept : Member s kept
+      pub reads : readAt (offsetOf (s .item)) ≡ some run
+      pub among : Member r (run .0)
+      pub operand : Member (linked e (index k) v) (r .pieces)
+
+    -- an index list: ascending, without repeats, exactly the indices of what is kept
+    pub record IndexList (k : ℕ) (xs : List ℕ) : Type 0 where
+      pub ascending : Ascending xs
+      pub members : (v : ℕ) → Member v xs ↔ IndexKept k v
 
 -- ---- the old unit u and the new one, read by the same abbreviations
 
@@ -111,12 +138,6 @@ module _ (x : Sections) (u new : Unit′) (lists : Lists) (map : List Place) (ke
     pub start-is : r .start ≡ again .start
     pub pieces-are : Pairwise (PieceAgain depth) (r .pieces) (again .pieces)
 
-  -- an entry or terminator at an offset: the values that it has, expressions operation by operation, and the bytes behind them
-  abbrev pub readAt : Unit′ → ℕ → Option RunOf
-  readAt z at =
-      readIn (z .header .encoding .«big_endian») (expressionIn (z .header .encoding))
-      (entryLayout (z .header .encoding) (x .abbreviations) (declaredIn (z .declared))) (drop at (z .bytes))
-
   -- the m-th kept item, side by side with what stands for it in the new unit
   pub record SideBySide (m : ℕ) (s : Standing) : Type 0 where
     pub place : Place
@@ -128,8 +149,8 @@ module _ (x : Sections) (u new : Unit′) (lists : Lists) (map : List Place) (ke
     -- the values
     pub values : RunOf
     pub values-again : RunOf
-    pub were : readAt u (offsetOf (s .item)) ≡ some values
-    pub are : readAt new (offsetOf item) ≡ some values-again
+    pub were : readAt x u (offsetOf (s .item)) ≡ some values
+    pub are : readAt x new (offsetOf item) ≡ some values-again
     pub again : Pairwise (ReadAgain (s .depth)) (values .0) (values-again .0)
     -- the entries open around it, the innermost first, which is its parent
     pub at : ℕ
@@ -139,22 +160,6 @@ module _ (x : Sections) (u new : Unit′) (lists : Lists) (map : List Place) (ke
     pub were-open : Nth around at (aroundFrom [] (itemsIn x u))
     pub are-open : Nth around-again m (aroundFrom [] (itemsIn x new))
     pub same-open : Pairwise LandsOn around around-again
-
-  -- v is an index of list k that a kept item holds
-  pub record IndexKept (k v : ℕ) : Type 0 where
-    pub s : Standing
-    pub e : Encoded
-    pub r : Read
-    pub run : RunOf
-    pub is-kept : Member s kept
-    pub reads : readAt u (offsetOf (s .item)) ≡ some run
-    pub among : Member r (run .0)
-    pub operand : Member (linked e (index k) v) (r .pieces)
-
-  -- an index list: ascending, without repeats, exactly the indices of what is kept
-  pub record IndexList (k : ℕ) (xs : List ℕ) : Type 0 where
-    pub ascending : Ascending xs
-    pub members : (v : ℕ) → Member v xs ↔ IndexKept k v
 
 -- ---- the thinned unit
 
@@ -196,6 +201,8 @@ pub record Thinned (x : Sections) (typeUnits : Bool) (section : List ℕ) (w : R
   -- "a rewritten unit is the old tree less its dead entries, with order, nesting and, as document 01 has it, values kept"; "lands on the new place"
   pub as-many : length (itemsIn x (thinnedOf header (w .output) declared)) ≡ length kept
   pub places : length (w .map) ≡ length kept
+  pub olds : Ascending (oldOffsets (w .map))
+  pub news : Ascending (newOffsets (w .map))
   pub each : (m : ℕ) (s : Standing) → Nth s m kept
       → SideBySide x (unitOf header section declared) (thinnedOf header (w .output) declared) (w .lists) (w .map) kept m s
   -- "The rewritten unit's old bytes, counted, equal its new bytes plus those of the entries and terminators left out."
@@ -203,4 +210,4 @@ pub record Thinned (x : Sections) (typeUnits : Bool) (section : List ℕ) (w : R
   -- which lists are absent is in `listsOf`
   pub lists-are : w .lists ≡ listsOf x (unitOf header section declared) typeUnits kept
   pub lists : (k : ℕ) → k < 3 → (xs : List ℕ) → listAt (w .lists) k ≡ some xs
-      → IndexList x (unitOf header section declared) (thinnedOf header (w .output) declared) (w .lists) (w .map) kept k xs
+      → IndexList x (unitOf header section declared) kept k xs
