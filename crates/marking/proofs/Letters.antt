@@ -41,26 +41,26 @@ says g i false l ko ki lo li = record {
   dead = (λ h k. false≢true (ki k), λ n. refl);
 }
 
-two-in : (a l : Bool) → a ≡ true → 2 ≤ pick a (pick l 3 2) 1
+pub two-in : (a l : Bool) → a ≡ true → 2 ≤ pick a (pick l 3 2) 1
 unfolding pick
 two-in true true e = omega arith
 two-in true false e = omega arith
 two-in false l e = absurd (false≢true e)
 
-two-out : (a l : Bool) → 2 ≤ pick a (pick l 3 2) 1 → a ≡ true
+pub two-out : (a l : Bool) → 2 ≤ pick a (pick l 3 2) 1 → a ≡ true
 unfolding pick
 two-out true l h = refl
 two-out false l h = absurd (omega arith)
 
 -- whether an entry is marked live
-isMarkedLive : Graph → ℕ → Bool
+pub isMarkedLive : Graph → ℕ → Bool
 isMarkedLive g i = pick (eqb i 0) (namedBy g (has (keptOf g)) 0) (isLive g (has (keptOf g)) i)
 
 pub length-marks : (g : Graph) → length (marksOf g) ≡ size g
 unfolding marksOf
 length-marks g = length-tab (size g) (markOf g (keptOf g))
 
-mark-at : (g : Graph) (i : ℕ) → i < size g → getD (marksOf g) i 0 ≡ pick (has (keptOf g) i) (pick (isMarkedLive g i) 3 2) 1
+pub mark-at : (g : Graph) (i : ℕ) → i < size g → getD (marksOf g) i 0 ≡ pick (has (keptOf g) i) (pick (isMarkedLive g i) 3 2) 1
 unfolding marksOf markOf isMarkedLive
 mark-at g i h = getD-tab (size g) (markOf g (keptOf g)) i h
 

@@ -30,3 +30,9 @@ pub mod Searches
 pub mod Pairs
 pub mod Columned
 pub mod UnitMarkings
+pub mod Members
+pub mod GraphLaws
+pub mod UnitSurvivors
+pub mod KeptMarks
+pub mod EachRow
+pub mod UnitLaws

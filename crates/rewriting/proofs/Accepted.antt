@@ -17,9 +17,8 @@ use Rattle.readers.specs.declared.header.HeaderRead.the-variants.{Unit as Heade
 use Rattle.marking.specs.Below.{count}
 use Rattle.marking.specs.Marks.{isKept, keptCount}
 use Rattle.marking.specs.Analysis.{Sections, Row, Analysed, analysed, refused as notAnalysed, headerAnalysed, analysisOf}
-use Rattle.marking.proofs.Laws.{marks-length}
-use Rattle.marking.specs.Resolution.{graphOf, marksIn}
-use Rattle.marking.proofs.Rows.{length-parents}
+use Rattle.marking.specs.Resolution.{marksIn}
+use Rattle.marking.proofs.UnitLaws.{marks-each}
 use Rattle.rewriting.specs.Places.{Standing, keptFrom, Place, placesFrom, sizeFrom}
 pub use Rattle.rewriting.specs.Thinned.{unitOf}
 use Rattle.rewriting.specs.Rewriting.{Unit as Unit′, itemsIn, Lists, listsOf, refusalFrom, unitBytes, Room, Rewrite, Collected, untouched, rewritten, refused, listsFit, orRefused, rewriteOf, marksCollected, rowsCollected, analysedCollected, declaredCollected, headerCollected, collectOf}
@@ -34,11 +33,6 @@ count-most (suc n) f = let l : pick (f n) 1 0 ≤ 1 = pick-either (λ (k : ℕ).
 pub kept-most : (marks : List ℕ) → keptCount marks ≤ length marks
 unfolding keptCount
 kept-most marks = count-most (length marks) (isKept marks)
-
--- a mark for each row
-pub marks-each : (rows : List Row) → length (marksIn rows) ≡ length rows
-unfolding marksIn graphOf
-marks-each rows = marks-length (graphOf rows) ∙ length-parents rows
 
 -- ---- what is accepted
 

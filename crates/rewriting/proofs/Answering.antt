@@ -26,7 +26,7 @@ use Rattle.rewriting.specs.Leaving.{Accepts, Answers, ownUnit, Tabled, B
 use Rattle.rewriting.specs.declared.collect.Counts.{Counts}
 use Rattle.rewriting.specs.declared.collect.Collected.{Collected as Answer}
 use Rattle.rewriting.specs.declared.collect.Collected.the-variants.{Untouched, Rewritten, Refused}
-use Rattle.rewriting.proofs.Accepted.{marks-each}
+use Rattle.marking.proofs.UnitLaws.{marks-each}
 
 -- ---- the answer says what there is
 

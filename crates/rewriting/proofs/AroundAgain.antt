@@ -12,7 +12,8 @@ use Rattle.readers.specs.Stream.{Item, entry, terminator}
 use Rattle.readers.specs.declared.entries.Entry.{Entry}
 use Rattle.marking.specs.Marks.{isKept}
 use Rattle.rewriting.specs.Places.{Standing, opened, closed, innermost, withIf, keptFrom, offsetOf, sizeOf, Place, placesFrom, newOf}
-use Rattle.rewriting.specs.Ascending.{Ascending, here}
+use Rattle.marking.specs.Members.{here}
+use Rattle.rewriting.specs.Ascending.{Ascending}
 use Rattle.rewriting.specs.Maps.{oldOffsets, Leads}
 use Rattle.rewriting.specs.Moved.{movedEntry, movedItem, movedFrom, Closed}
 use Rattle.rewriting.specs.Around.{aroundFrom, keptAround, Leading, AllLeading}

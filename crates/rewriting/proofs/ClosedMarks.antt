@@ -1,14 +1,13 @@
 -- The marks of an accepted unit keep exactly the survivors, and with each entry its parent: the innermost open entry around it. Assumes nothing.
-use mathlib.Core.Path.{_≡_, refl, ap, sym, _∙_, subst}
+use mathlib.Core.Path.{_≡_, refl, ap, _∙_, subst}
 use Prim.Native.Nat.{ℕ, suc, _+_, _≤_, _<_}
 use native.Mathlib.Omega.{arith}
 use mathlib.Core.Bool.{Bool, true, false}
 use mathlib.Core.List.{List, [], _∷_, map}
-use mathlib.Core.Logic.{_↔_, ⊎-elim}
-use lib.ListN.{length, getD, take, List·getD-eq-default}
-use lib.Dec.{T, ltb}
-use mir.Facts.{leb-yes, yes-leb, ltb-yes, ltb-no}
-use Rattle.readers.specs.Choice.{pick, either}
+use mathlib.Core.Logic.{_↔_}
+use lib.ListN.{length, getD, take}
+use lib.Dec.{T}
+use Rattle.readers.specs.Choice.{pick}
 use Rattle.readers.specs.Nesting.{open′, close, top}
 use Rattle.readers.specs.Abbreviations.{Placed}
 use Rattle.readers.specs.Stream.{Item, entry, terminator}
@@ -17,60 +16,19 @@ use Rattle.readers.specs.declared.header.UnitHeader.{UnitHeader}
 use Rattle.marking.specs.Below.{Number}
 use Rattle.marking.specs.Graph.{Graph, size, noParent, isParent, wellFormed}
 use Rattle.marking.specs.Survivors.{Kept, parent}
-use Rattle.marking.specs.Marks.{has, keptOf, markOf, marksOf, isKept, keptCount}
-use Rattle.marking.proofs.Tables.{getD-tab}
-use Rattle.marking.proofs.Graphs.{WellFormed, well-formed, parent-in}
-use Rattle.marking.proofs.Rounds.{kept-out, kept-in}
-use Rattle.marking.proofs.Survivors.{kept-inside}
-use Rattle.marking.proofs.Laws.{taken-law, marks-length, kept-count-law}
+use Rattle.marking.specs.Marks.{marksOf, isKept, keptCount}
 use Rattle.marking.specs.Analysis.{Sections, Row, baseOf}
 use Rattle.marking.specs.Columns.{parentsIn}
 use Rattle.marking.specs.Resolution.{graphOf, marksIn}
+use Rattle.marking.specs.UnitSurvivors.{RowsOf, SurvivorsOf}
+use Rattle.marking.proofs.Graphs.{WellFormed, well-formed, parent-in}
+use Rattle.marking.proofs.KeptMarks.{marked-kept, kept-marked}
+use Rattle.marking.proofs.UnitLaws.{graph-size, marks-each, formed, unit-survivors}
 use Rattle.rewriting.specs.Places.{opened, closed, innermost}
 use Rattle.rewriting.specs.Moved.{Closed}
 use Rattle.rewriting.specs.Rewriting.{Room, itemsIn}
-use Rattle.marking.proofs.Rows.{length-parents, graph-takes}
 use Rattle.rewriting.proofs.Accepted.{unitOf, Accepted}
-use Rattle.rewriting.proofs.Following.{Follow, accepted-follow, accepted-header, accepted-rows}
-
--- ---- a mark keeps exactly a survivor
-
-two-when : (a : Bool) (n : ℕ) → 2 ≤ pick a n 1 → a ≡ true
-unfolding pick
-two-when true n h = refl
-two-when false n h = absurd (omega arith)
-
-two-least : (a l : Bool) → a ≡ true → 2 ≤ pick a (pick l 3 2) 1
-unfolding pick
-two-least true true e = omega arith
-two-least true false e = omega arith
-two-least false l e = let z : _≡_ {A = ℕ} 0 1 = cc in absurd (omega arith)
-
-module _ (g : Graph) (w : WellFormed g) where
-  marked-inside : (i : ℕ) → i < size g → T (isKept (marksOf g) i) → Kept g i
-  unfolding isKept marksOf markOf
-  marked-inside i h t =
-      kept-out g i (two-when (has (keptOf g) i) _ (subst (λ (n : ℕ). 2 ≤ n) (getD-tab (size g) (markOf g (keptOf g)) i h) (leb-yes {a = 2} {b = getD (marksOf g) i 0} t)))
-
-  marked-outside : (i : ℕ) → size g ≤ i → T (isKept (marksOf g) i) → ⊥
-  unfolding isKept
-  marked-outside i h t =
-      let z : getD (marksOf g) i 0 ≡ 0 = List·getD-eq-default (marksOf g) 0 (subst (λ (n : ℕ). n ≤ i) (sym (marks-length g)) h) in
-      omega (arith, leb-yes {a = 2} {b = getD (marksOf g) i 0} t)
-
-  pub marked-kept : (i : ℕ) → T (isKept (marksOf g) i) → Kept g i
-  marked-kept i t =
-      ⊎-elim
-      (λ l. marked-inside i (ltb-yes {a = i} {b = size g} l) t)
-      (λ l. absurd (marked-outside i (ltb-no {a = i} {b = size g} l) t))
-      (either (ltb i (size g)))
-
-  pub kept-marked : (i : ℕ) → Kept g i → T (isKept (marksOf g) i)
-  unfolding isKept marksOf markOf
-  kept-marked i k =
-      let h : i < size g = kept-inside g w i k in
-      yes-leb {a = 2} {b = getD (marksOf g) i 0}
-      (subst (λ (n : ℕ). 2 ≤ n) (sym (getD-tab (size g) (markOf g (keptOf g)) i h)) (two-least (has (keptOf g) i) _ (kept-in g w i k)))
+use Rattle.rewriting.proofs.Following.{accepted-follow}
 
 -- ---- whether the open entries are kept
 
@@ -131,9 +89,9 @@ module _ (g : Graph) (w : WellFormed g) (few : size g ≤ noParent) where
     unfolding parentsIn
     tail-next k r rows t j l = ap (λ (n : ℕ). getD (g .parents) n 0) (let q : suc k + j ≡ k + suc j = omega arith in q) ∙ t (suc j) (omega arith)
 
-    closed-from : (k : ℕ) (stack : List ℕ) (rb lb : ℕ) (items : List Item) (rows : List Row) → Follow e x unit k stack rb lb items rows → Before k stack
+    closed-from : (k : ℕ) (stack : List ℕ) (rb lb : ℕ) (items : List Item) (rows : List Row) → RowsOf e x unit k stack rb lb items rows → Before k stack
         → k + length rows ≤ size g → Tail k rows → Closed marks k (map (isKept marks) stack) items
-    unfolding Follow Closed
+    unfolding RowsOf Closed
     closed-from k stack rb lb [] rows f b l t = tt
     closed-from k stack rb lb (terminator a c ∷ rest) rows f b l t =
         subst (λ (bs : List Bool). Closed marks k bs rest) (close-same (isKept marks) stack) (closed-from k (close stack) rb lb rest rows f (before-close k stack b) l t)
@@ -147,29 +105,29 @@ module _ (g : Graph) (w : WellFormed g) (few : size g ≤ noParent) where
 -- ---- of an accepted unit
 
 module _ (x : Sections) (room : Room) (section : List ℕ) (h : UnitHeader) (ds : List Placed) (rows : List Row) (a : Accepted x room section h ds rows) where
-  -- its graph is one that marking takes, with an entry for each row
+  -- what is so of every unit that is analysed
+  pub accepted-survivors : SurvivorsOf x section rows
+  accepted-survivors = unit-survivors x section (room .tables) rows (a .analysis)
+
+  -- its graph is one that marking takes, with an entry and a mark for each row
   pub accepted-formed : wellFormed (graphOf rows) ≡ true
-  accepted-formed = taken-law (graphOf rows) (length rows) (graph-takes (length (take (h .end) section)) (h .first .0) rows (accepted-rows x room section h ds rows a .rowed)) .1
+  accepted-formed = formed x section (room .tables) rows (a .analysis)
 
   pub accepted-size : size (graphOf rows) ≡ length rows
-  unfolding graphOf
-  accepted-size = length-parents rows
+  accepted-size = graph-size rows
 
   pub accepted-marks : length (marksIn rows) ≡ length rows
-  unfolding marksIn
-  accepted-marks = marks-length (graphOf rows) ∙ accepted-size
+  accepted-marks = marks-each rows
 
   -- it keeps exactly the survivors
   pub accepted-kept : (i : ℕ) → T (isKept (marksIn rows) i) ↔ Kept (graphOf rows) i
-  unfolding marksIn
-  accepted-kept i = (marked-kept (graphOf rows) (well-formed (graphOf rows) accepted-formed) i, kept-marked (graphOf rows) (well-formed (graphOf rows) accepted-formed) i)
+  accepted-kept = accepted-survivors .kept
 
   pub accepted-count : Number (Kept (graphOf rows)) (length rows) (keptCount (marksIn rows))
-  unfolding marksIn
-  accepted-count = subst (λ (n : ℕ). Number (Kept (graphOf rows)) n (keptCount (marksOf (graphOf rows)))) accepted-size (kept-count-law (graphOf rows) accepted-formed)
+  accepted-count = accepted-survivors .count
 
   few-entries : size (graphOf rows) ≤ noParent
-  few-entries = omega (arith, accepted-size, accepted-rows x room section h ds rows a .few, accepted-header x room section h ds rows a .short)
+  few-entries = omega (arith, accepted-size, accepted-survivors .few)
 
   -- and with each entry its parent
   pub accepted-closed : Closed (marksIn rows) 0 [] (itemsIn x (unitOf h section ds))

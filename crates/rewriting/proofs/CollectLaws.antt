@@ -23,8 +23,8 @@ use Rattle.marking.specs.Analysis.{Sections, Row, analysed, analysisOf}
 use Rattle.marking.specs.Resolution.{graphOf, marksIn}
 use Rattle.rewriting.specs.Places.{Standing, offsetOf, Place, placesFrom, sizeFrom, newOf, siblingOf}
 use Rattle.rewriting.specs.Indices.{insertAll, rankIn, rankOr}
-use Rattle.rewriting.specs.Ascending.{Ascending, Member}
-use Rattle.rewriting.specs.Nth.{Nth}
+use Rattle.marking.specs.Members.{Member, Nth}
+use Rattle.rewriting.specs.Ascending.{Ascending}
 use Rattle.rewriting.specs.Maps.{oldOffsets, newOffsets}
 use Rattle.rewriting.specs.LeftOut.{leftFrom}
 use Rattle.rewriting.specs.Moved.{movedFrom}
@@ -39,11 +39,12 @@ use Rattle.rewriting.proofs.Rereading.{Readable}
 use Rattle.rewriting.proofs.ReadsAgain.{withBytes}
 use Rattle.rewriting.proofs.UnitAgain.{ReadAgain, unit-again}
 use Rattle.rewriting.proofs.HeaderAgain.{HeaderLaw, withEnd}
-use Rattle.rewriting.proofs.Accepted.{unitOf, survivorsIn, Accepted, marks-each, WasRewritten, WasUntouched, was-rewritten, was-untouched, was-empty}
-use Rattle.rewriting.proofs.Following.{Follow, accepted-whole, accepted-follow, accepted-header, accepted-rows}
+use Rattle.marking.proofs.UnitLaws.{marks-each}
+use Rattle.rewriting.proofs.Accepted.{unitOf, survivorsIn, Accepted, WasRewritten, WasUntouched, was-rewritten, was-untouched, was-empty}
+use Rattle.marking.specs.UnitSurvivors.{RowsOf, LeastRows}
+use Rattle.rewriting.proofs.Following.{accepted-whole, accepted-follow, accepted-header, accepted-rows}
 use Rattle.marking.proofs.Rows.{offsets-ascend}
-use Rattle.rewriting.proofs.UnitSurvivors.{rows-least}
-use Rattle.rewriting.specs.UnitSurvivors.{LeastRows}
+use Rattle.marking.proofs.UnitSurvivors.{rows-least}
 use Rattle.rewriting.proofs.ClosedMarks.{accepted-kept, accepted-count, accepted-marks, accepted-closed}
 use Rattle.rewriting.proofs.ReadableItems.{accepted-readable}
 use Rattle.rewriting.proofs.AroundAgain.{around-again}
@@ -148,7 +149,7 @@ module _ (x : Sections) (room : Room) (typeUnits : Bool) (section : List ℕ) (w
   least-law = rows-least (it .rows) start (offsets-ascend (length (unit .bytes)) start 0 (it .rows) (accepted-rows x room section (it .header) (it .declared) (it .rows) accepted .rowed))
 
   -- each row is that of its entry: offset, innermost open entry, root test, references
-  pub rows-law : Follow (it .header .encoding) x (unit .bytes) 0 [] 12 12 (itemsIn x unit) (it .rows)
+  pub rows-law : RowsOf (it .header .encoding) x (unit .bytes) 0 [] 12 12 (itemsIn x unit) (it .rows)
   rows-law = accepted-follow x room section (it .header) (it .declared) (it .rows) accepted
 
   -- the survivors are what is kept

@@ -17,7 +17,7 @@ use Rattle.rewriting.specs.Places.{Place}
 use Rattle.rewriting.specs.Maps.{oldOffsets}
 use Rattle.rewriting.specs.Rewriting.{Lists, fits}
 use Rattle.rewriting.specs.Written.{groupsFit, bytesFit, numberFits, runBytes, Held, ListHeld, columns, mapBytes, MapHeld}
-use Rattle.rewriting.proofs.Sorted.{nothing-in}
+use Rattle.marking.proofs.Members.{nothing-in}
 use Rattle.rewriting.proofs.Places.{length-columns}
 
 held-none : (width n : ℕ) → Held width [] (zeros n)

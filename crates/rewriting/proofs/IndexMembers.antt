@@ -9,10 +9,10 @@ use Rattle.readers.specs.Choice.{pick-yes, pick-either}
 use Rattle.readers.specs.Layout.{Encoded, reference, typeReference, sibling, index, absolute, Piece, copied, linked, Read}
 use Rattle.marking.specs.Analysis.{Sections}
 use Rattle.rewriting.specs.Places.{Standing, offsetOf}
-use Rattle.rewriting.specs.Ascending.{Member, here, there}
+use Rattle.marking.specs.Members.{Member, here, there}
 use Rattle.rewriting.specs.Indices.{indexIn, indicesIn, readIndices}
 use Rattle.rewriting.specs.Rewriting.{Unit as Unit′, readsAt, indicesFrom}
-use Rattle.rewriting.proofs.Sorted.{nothing-in}
+use Rattle.marking.proofs.Members.{nothing-in}
 
 -- ---- members of two lists
 

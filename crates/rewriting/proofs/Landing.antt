@@ -14,9 +14,9 @@ use Rattle.marking.proofs.Tests.{and-out}
 use Rattle.marking.specs.Analysis.{Sections}
 use Rattle.rewriting.specs.Places.{Standing, offsetOf, Place, newOf, siblingOf}
 use Rattle.rewriting.specs.Rewriting.{Unit as Unit′, readsAt, Lists, orSelf, isSome, newValue, hasPlace, fits, pieceRefusal, orNext, piecesRefusal, readsRefusal, refusalFrom}
-use Rattle.rewriting.specs.Ascending.{Member, here, there}
+use Rattle.marking.specs.Members.{Member, here, there}
 use Rattle.rewriting.specs.Landing.{Lands}
-use Rattle.rewriting.proofs.Sorted.{nothing-in}
+use Rattle.marking.proofs.Members.{nothing-in}
 
 -- ---- one number
 

@@ -45,8 +45,6 @@ pub mod AroundAgain
 pub mod Targets
 pub mod IndexMembers
 pub mod Counting
-pub mod GraphLaws
-pub mod UnitSurvivors
 pub mod Roles
 pub mod ThinnedItems
 pub mod CollectLaws

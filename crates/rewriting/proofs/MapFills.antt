@@ -17,7 +17,7 @@ use Rattle.rewriting.specs.declared.kept.Stand.{Stand}
 use Rattle.rewriting.specs.declared.kept.Kept.{Kept}
 use Rattle.rewriting.specs.declared.kept.KeptStep.{KeptStep}
 use Rattle.rewriting.specs.declared.kept.KeptStep.the-variants.{Item as Item′, End}
-use Rattle.rewriting.proofs.Sorted.{nothing-in}
+use Rattle.marking.proofs.Members.{nothing-in}
 use Rattle.rewriting.proofs.KeptSteps.{stand}
 use Rattle.rewriting.proofs.KeptPasses.{shown-size, shown-offset, next-forward, next-item, next-end, stood-start, kept-start, Measuring, measuring-start, measuring-more}
 

@@ -16,9 +16,11 @@ use Rattle.readers.specs.Stream.{Item, entry, terminator}
 use Rattle.rewriting.specs.Places.{Standing, Place, opened, closed, innermost, withIf, keptFrom, offsetOf, sizeOf, placesFrom, sizeFrom, newOf}
 use Rattle.rewriting.specs.Rewriting.{isSome}
 use Rattle.marking.specs.Resolution.{Ascending as From}
-use Rattle.rewriting.specs.Ascending.{Ascending, Member, here, there}
+use Rattle.marking.specs.Members.{Member, here, there}
+use Rattle.rewriting.specs.Ascending.{Ascending}
 use Rattle.rewriting.specs.Maps.{offsetsOf, oldOffsets, newOffsets, Leads, Sized, KeptSized, Split, NewPlace}
-use Rattle.rewriting.proofs.Sorted.{nothing-in, in-cases, from-less, from-member}
+use Rattle.marking.proofs.Members.{nothing-in, in-cases, from-member}
+use Rattle.rewriting.proofs.Sorted.{from-less}
 
 -- ---- one place for each item
 

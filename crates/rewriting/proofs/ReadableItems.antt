@@ -45,7 +45,8 @@ use Rattle.rewriting.specs.Rewriting.{Unit as Unit′, itemsIn, Room}
 use Rattle.rewriting.proofs.ItemsStand.{EveryItem, Every, every-kept, Stands, items-stand}
 use Rattle.rewriting.proofs.Rereading.{deepAt, Readable}
 use Rattle.rewriting.proofs.Accepted.{unitOf, Accepted}
-use Rattle.rewriting.proofs.Following.{RowOf, Follow, accepted-follow}
+use Rattle.marking.specs.UnitSurvivors.{RowOf, RowsOf}
+use Rattle.rewriting.proofs.Following.{accepted-follow}
 use Rattle.rewriting.proofs.Expressions.{isExpression, value-exprloc}
 
 -- something was read
@@ -396,8 +397,8 @@ module _ (e : Encoding) (x : Sections) (look : ℕ → Declared) (unit : List �
   unfolding Stands offsetOf JudgedStep
   terminator-deep a b s = step-deep a (subst JudgedStep (sym s) tt)
 
-  items-deep : (k : ℕ) (stack : List ℕ) (rb lb : ℕ) (items : List Item) (rows : List Row) → Follow e x unit k stack rb lb items rows → EveryItem (Stands e (x .abbreviations) look unit) items → EveryItem ReadDeep items
-  unfolding Follow EveryItem
+  items-deep : (k : ℕ) (stack : List ℕ) (rb lb : ℕ) (items : List Item) (rows : List Row) → RowsOf e x unit k stack rb lb items rows → EveryItem (Stands e (x .abbreviations) look unit) items → EveryItem ReadDeep items
+  unfolding RowsOf EveryItem
   items-deep k stack rb lb [] rows f s = tt
   items-deep k stack rb lb (terminator a b ∷ rest) rows f s = (terminator-deep a b (s .0), items-deep k (close stack) rb lb rest rows f (s .1))
   items-deep k stack rb lb (entry y ∷ rest) [] f s = absurd f

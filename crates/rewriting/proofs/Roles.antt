@@ -22,7 +22,7 @@ use Rattle.readers.specs.declared.abbreviations.AttributeSpec.{AttributeSpec}
 use Rattle.readers.specs.declared.abbreviations.Found.{Found}
 use Rattle.readers.specs.declared.abbreviations.Found.the-variants.{Declaration as Found′, Nothing}
 use Rattle.readers.specs.declared.cursor.Encoding.{Encoding}
-use Rattle.rewriting.specs.Ascending.{Member, here, there}
+use Rattle.marking.specs.Members.{Member, here, there}
 use Rattle.rewriting.proofs.Sorted.{nothing-in}
 
 -- ---- a role, a token, a layout

@@ -15,10 +15,12 @@ use Rattle.readers.specs.declared.entries.Step.the-variants.{Entry as Entry′,
 use Rattle.readers.specs.Stream.{Item, entry, terminator, Items, push, itemsFrom}
 use Rattle.rewriting.specs.Places.{Standing, opened, closed, innermost, withIf, keptFrom, offsetOf, sizeOf, sizeFrom}
 use Rattle.marking.specs.Resolution.{Ascending as From}
-use Rattle.rewriting.specs.Ascending.{Ascending, Member, here, there}
+use Rattle.marking.specs.Members.{Member, here, there}
+use Rattle.rewriting.specs.Ascending.{Ascending}
 use Rattle.rewriting.specs.Maps.{offsetsOf, Sized}
 use Rattle.rewriting.specs.LeftOut.{leftFrom, sizesOf}
-use Rattle.rewriting.proofs.Sorted.{nothing-in, from-less}
+use Rattle.marking.proofs.Members.{nothing-in}
+use Rattle.rewriting.proofs.Sorted.{from-less}
 use Rattle.readers.proofs.Streams.{EntryInside}
 use Rattle.rewriting.proofs.Items.{items-by}
 

@@ -9,18 +9,10 @@ use lib.Dec.{ltb, eqb}
 use mir.Facts.{ltb-yes, ltb-no, eqb-yes, eqb-no}
 use Rattle.readers.specs.Choice.{pick, pick-either}
 use Rattle.marking.specs.Resolution.{Ascending as From}
-use Rattle.rewriting.specs.Ascending.{Ascending, Member, here, there}
+use Rattle.marking.specs.Members.{Member, here, there}
+use Rattle.marking.proofs.Members.{nothing-in, in-cases, from-member}
+use Rattle.rewriting.specs.Ascending.{Ascending}
 use Rattle.rewriting.specs.Indices.{insert, insertAll, rankIn}
-
--- ---- what is in a list
-
-module _ {A : Type 0} where
-  pub nothing-in : (a : A) → Member a [] → ⊥
-  nothing-in a m = elim m [ ]
-
-  pub in-cases : {a x : A} {xs : List A} → Member a (x ∷ xs) → (a ≡ x) ⊎ Member a xs
-  in-cases (here e) = inl e
-  in-cases (there m) = inr m
 
 -- ---- ascending lists
 
@@ -28,12 +20,6 @@ pub from-less : (a b : ℕ) (xs : List ℕ) → a ≤ b → From b xs → From a
 unfolding From
 from-less a b [] h f = tt
 from-less a b (x ∷ xs) h f = let k : b ≤ x = f .0 in (omega arith, f .1)
-
-pub from-member : (low v : ℕ) (xs : List ℕ) → From low xs → Member v xs → low ≤ v
-unfolding From
-from-member low v [] f m = absurd (nothing-in v m)
-from-member low v (x ∷ xs) f (here e) = let k : low ≤ x = f .0 in omega arith
-from-member low v (x ∷ xs) f (there m) = let k : low ≤ x = f .0 in let l : suc x ≤ v = from-member (suc x) v xs (f .1) m in omega arith
 
 -- ---- insertion
 

@@ -11,9 +11,9 @@ use lib.ListN.{length, getD, take, drop, length-append, length-drop, length-repl
 use lib.Seq.{take-at, drop-at, drop-append-add, length-take-le}
 use Rattle.readers.specs.Choice.{zeros}
 use Rattle.readers.specs.Numbers.{fixedBytes, fixedValue, length-fixed, fixed-value}
-use Rattle.rewriting.specs.Ascending.{Member, here, there}
+use Rattle.marking.specs.Members.{Member, here, there}
 use Rattle.rewriting.specs.Written.{put, numberAt, runBytes, Held}
-use Rattle.rewriting.proofs.Sorted.{nothing-in}
+use Rattle.marking.proofs.Members.{nothing-in}
 use Rattle.rewriting.proofs.Putting.{drop-zeros}
 
 -- every number of a list is below a bound

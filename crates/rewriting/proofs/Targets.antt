@@ -6,12 +6,12 @@ use mathlib.Core.Option.{some}
 use Rattle.readers.specs.Layout.{Encoded, Role, Piece, linked, Read, Patch, patchPiece, patchPieces, patchRead, patchAll}
 use Rattle.marking.specs.Analysis.{Sections}
 use Rattle.rewriting.specs.Places.{Standing, offsetOf, sizeOf, Place, placesFrom, newOf}
-use Rattle.rewriting.specs.Ascending.{Ascending, Member, here, there}
-use Rattle.rewriting.specs.Nth.{Nth, now, later}
+use Rattle.marking.specs.Members.{Member, here, there, Nth, now, later}
+use Rattle.rewriting.specs.Ascending.{Ascending}
 use Rattle.rewriting.specs.Maps.{oldOffsets, Leads}
 use Rattle.rewriting.specs.Moved.{movedItem, movedFrom}
 use Rattle.rewriting.specs.Rewriting.{Unit as Unit′, readsAt, Lists}
-use Rattle.rewriting.proofs.Sorted.{nothing-in}
+use Rattle.marking.proofs.Members.{nothing-in}
 use Rattle.rewriting.proofs.Maps.{leads-in, leads-out}
 use Rattle.rewriting.proofs.ReadsAgain.{withBytes, patched, PatchedFrom, reads-at}
 

@@ -18,7 +18,7 @@ use Rattle.marking.specs.Analysis.{Sections}
 use Rattle.marking.specs.Marks.{isKept}
 use Rattle.rewriting.specs.Places.{Standing, opened, closed, innermost, withIf, keptFrom, offsetOf, sizeOf, Place, placesFrom, newOf, firstFrom}
 use Rattle.rewriting.specs.LeftOut.{leftFrom}
-use Rattle.rewriting.specs.Nth.{Nth, now, later}
+use Rattle.marking.specs.Members.{Nth, now, later}
 use Rattle.rewriting.specs.Moved.{movedEntry, movedItem, movedFrom}
 use Rattle.rewriting.specs.Around.{aroundFrom, keptAround, Leading, AllLeading}
 use Rattle.rewriting.specs.Rewriting.{Unit as Unit′, Lists}

@@ -18,8 +18,8 @@ use Rattle.marking.specs.Survivors.{Kept}
 use Rattle.rewriting.specs.Places.{Standing, offsetOf, sizeOf, sizeFrom, Place, placesFrom, newOf, firstFrom, siblingOf, orElse}
 use Rattle.rewriting.specs.Indices.{rankIn, rankOr}
 use Rattle.rewriting.specs.LeftOut.{leftFrom}
-use Rattle.rewriting.specs.Ascending.{Ascending, Member, here, there}
-use Rattle.rewriting.specs.Nth.{Nth, now, later}
+use Rattle.rewriting.specs.Ascending.{Ascending}
+use Rattle.marking.specs.Members.{Member, here, there, Nth, now, later}
 use Rattle.rewriting.specs.Around.{aroundFrom, keptAround, Leading, AllLeading}
 use Rattle.rewriting.specs.Moved.{movedItem, movedFrom, depthsFrom}
 use Rattle.rewriting.specs.Rewriting.{Unit as Unit′, itemsIn, readsOr, readsAt, Lists, listAt, newValue, isSome, refusalFrom, Room, Rewrite, rewritten, collectOf}

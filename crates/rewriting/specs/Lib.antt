@@ -3,8 +3,6 @@ pub mod Moved
 pub mod Around
 pub mod Indices
 pub mod Ascending
-pub mod Nth
-pub mod UnitSurvivors
 pub mod Maps
 pub mod Written
 pub mod Bounds

@@ -5,7 +5,7 @@ use mathlib.Core.List.{List, [], _∷_, _++_}
 use mathlib.Core.Option.{some}
 use Rattle.readers.specs.Stream.{Item}
 use Rattle.rewriting.specs.Places.{Standing, Place, offsetOf, sizeOf, placesFrom, sizeFrom, newOf}
-use Rattle.rewriting.specs.Ascending.{Member}
+use Rattle.marking.specs.Members.{Member}
 
 unfoldable pub offsetsOf : List Item → List ℕ
 offsetsOf [] = []

@@ -22,9 +22,9 @@ use Rattle.marking.specs.Below.{Number}
 use Rattle.marking.specs.Resolution.{graphOf}
 use Rattle.marking.specs.Survivors.{Kept}
 use Rattle.rewriting.specs.Places.{Standing, offsetOf, Place, sizeFrom}
-use Rattle.rewriting.specs.Ascending.{Ascending, Member}
+use Rattle.rewriting.specs.Ascending.{Ascending}
+use Rattle.marking.specs.Members.{Member, Nth}
 use Rattle.rewriting.specs.Maps.{oldOffsets, newOffsets}
-use Rattle.rewriting.specs.Nth.{Nth}
 use Rattle.rewriting.specs.Around.{aroundFrom}
 use Rattle.rewriting.specs.Moved.{movedItem, depthsFrom}
 use Rattle.rewriting.specs.Rewriting.{Unit as Unit′, itemsIn, Lists, listsOf, listAt, Rewrite}

@@ -8,7 +8,8 @@ use lib.ListN.{length, take, drop}
 use lib.Dec.{ltb, leb}
 use Rattle.readers.specs.Choice.{pick, _and_, zeros}
 use Rattle.readers.specs.Numbers.{padded, fixedBytes, fixedValue}
-use Rattle.rewriting.specs.Ascending.{Ascending, Member}
+use Rattle.marking.specs.Members.{Member}
+use Rattle.rewriting.specs.Ascending.{Ascending}
 use Rattle.rewriting.specs.Indices.{insert}
 use Rattle.rewriting.specs.Places.{Place}
 use Rattle.rewriting.specs.Maps.{oldOffsets}

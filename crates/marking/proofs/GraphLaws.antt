@@ -11,16 +11,15 @@ use lib.Dec.{eqb}
 use mir.Facts.{eqb-yes, yes-eqb, no-eqb}
 use borrow.Author.Tests.{eqb-true, eq-eqb}
 use Rattle.readers.specs.Choice.{pick-yes, pick-no, pick-either}
 use Rattle.marking.specs.Graph.{isParent, isRoot, references, names}
 use Rattle.marking.proofs.Graphs.{IsParent, parent-out, parent-in, root-out, root-in, Names, names-out, names-in}
 use Rattle.marking.specs.Analysis.{Row}
 use Rattle.marking.specs.Columns.{offsetsIn, parentsIn, rootsIn}
 use Rattle.marking.specs.Resolution.{entryFrom, pairFor, pairsOfEntry, pairsFrom, pairsIn, graphOf, Ascending}
-use Rattle.rewriting.specs.Ascending.{Member, here, there}
-use Rattle.rewriting.specs.Nth.{Nth, now, later}
-use Rattle.rewriting.specs.UnitSurvivors.{ParentIn, RootIn, NamesIn}
-use Rattle.rewriting.proofs.Sorted.{nothing-in, from-member}
+use Rattle.marking.specs.Members.{Member, here, there, Nth, now, later}
+use Rattle.marking.specs.UnitSurvivors.{ParentIn, RootIn, NamesIn}
+use Rattle.marking.proofs.Members.{nothing-in, from-member}
 use Rattle.marking.proofs.Rows.{length-parents}
 
 -- ---- the row of an entry
 

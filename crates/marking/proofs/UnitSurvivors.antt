@@ -2,14 +2,14 @@
 use Prim.Native.Nat.{ℕ}
 use native.Mathlib.Omega.{arith}
 use mathlib.Core.List.{List}
 use Rattle.marking.specs.Survivors.{Descendant, child as child′, deeper as deeper′, Kept, Closed, Least}
 use Rattle.marking.proofs.Laws.{survivors-law}
 use Rattle.marking.specs.Analysis.{Row}
 use Rattle.marking.specs.Columns.{offsetsIn}
 use Rattle.marking.specs.Resolution.{graphOf, Ascending}
-use Rattle.rewriting.specs.UnitSurvivors.{Below, child, deeper, ClosedRows, LeastRows}
+use Rattle.marking.specs.UnitSurvivors.{Below, child, deeper, ClosedRows, LeastRows}
 use Rattle.marking.proofs.Rows.{length-parents}
-use Rattle.rewriting.proofs.GraphLaws.{parent-law, root-law, names-law}
+use Rattle.marking.proofs.GraphLaws.{parent-law, root-law, names-law}
 
 module _ (rows : List Row) (low : ℕ) (ascending : Ascending low (offsetsIn rows)) where
   below-out : {r d : ℕ} → Descendant (graphOf rows) r d → Below rows r d
