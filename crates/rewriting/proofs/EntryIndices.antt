@@ -11,9 +11,8 @@ use lib.Seq.{drop-drop}
 use lib.Dec.{T, eqb, leb}
 use mir.Facts.{leb-yes, leb-no, eqb-yes, eqb-no, no-eqb}
 use Rattle.readers.specs.Choice.{pick, pick-yes, pick-no, pick-either, either, _and_, _or_, bind, bind-at, bind-bind, check-yes, All, all-some, all-none, all-of, all-bind, all-check, all-triv}
-use Rattle.readers.specs.Numbers.{uleb}
+use Rattle.readers.specs.Numbers.{uleb, sleb}
 use Rattle.readers.specs.Layout.{Kind, leb128, Role, reference, typeReference, sibling, index, absolute, Token, nothing, number, bounded, forms, signed, link, string, run, block, expression, unknown, Layout, done, fail, field, Piece, copied, linked, Read, ReadOf, RunOf, ExpressionReader, asBytes, copy, asNumber, asBounded, asForms, asSigned, asLink, asString, asBlock, asExpression, numberIn, formsIn, stringIn, tokenIn, readIn, before, TokenLaw, token-law, as-bytes-law}
-use Rattle.readers.specs.Numbers.{sleb}
 use Rattle.readers.specs.Expression.{allPieces, andRest, expressionWithin, expressionIn, expression-law}
 use Rattle.readers.specs.Operations.{Row, unreadableRow, rows, rowOf, rowLayout, operationRow, operation}
 use Rattle.readers.specs.Tokens.{Use, plain, as′, numberAs, tokenOf}

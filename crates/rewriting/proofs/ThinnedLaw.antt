@@ -25,9 +25,9 @@ use Rattle.rewriting.specs.Moved.{movedItem, movedFrom, depthsFrom}
 use Rattle.rewriting.specs.Rewriting.{Unit as Unit′, itemsIn, readsOr, readsAt, Lists, listAt, newValue, isSome, refusalFrom, Room, Rewrite, rewritten, collectOf}
 use Rattle.rewriting.specs.Thinned.{Pairwise, Parted, Beside, LandsOn, FirstFrom, Becomes, PieceAgain, ReadAgain, readAt, SideBySide, IndexKept, IndexList, unitOf, withEnd, thinnedOf, Without, Thinned}
 use Rattle.rewriting.proofs.HeaderAgain.{HeaderLaw}
-use Rattle.rewriting.proofs.Accepted.{marks-each}
+use Rattle.marking.proofs.UnitLaws.{marks-each}
 use Rattle.rewriting.proofs.Following.{accepted-header}
-use Rattle.rewriting.proofs.Sorted.{nothing-in}
+use Rattle.marking.proofs.Members.{nothing-in}
 use Rattle.rewriting.proofs.Roles.{index-kind}
 use Rattle.rewriting.proofs.Maps.{has-new}
 use Rattle.rewriting.proofs.Landing.{item-reference, item-type, item-sibling, no-type}

@@ -30,17 +30,14 @@ use Rattle.marking.specs.Graph.{isParent, isRoot, references, names, parentFits
 use Rattle.marking.specs.Markings.{climbs, isDescendant, namedBy, isTop, isLive, justified, accepts, step, run, nothing}
 use Rattle.marking.specs.Marks.{has, round, rounds, keptOf, markOf, marksOf, isKept, keptCount, answerOf, endMarks}
 use Rattle.readers.specs.Stream.{push as push′Stream, onStep, itemsWithin, itemsFrom}
-use Rattle.marking.specs.Analysis.{onto, onVerdict, onFound as onFound′Analysis, valuesOfEntry, rootOf, namesOf as namesOf′Analysis, baseOf, analyseItems, onDeclared, unitAnalysed, headerAnalysed, analysisOf}
+use Rattle.marking.specs.Analysis.{onto, onVerdict, onFound as onFound′Analysis, valuesOfEntry, rootOf, namesOf as namesOf′Analysis, baseOf, analyseItems, onDeclared, unitAnalysed, headerAnalysed, analysisOf, Sections, sections, rooms}
 use Rattle.marking.specs.Columns.{offsetsIn, parentsIn, rootsIn, namesIn as namesIn′Columns, endsIn, padTo, column}
 use Rattle.marking.specs.Resolution.{entryFrom, pairFor, pairsOfEntry, pairsFrom, pairsIn, graphOf, marksIn, unitMarks, asEntry, Ascending}
-use Rattle.rewriting.specs.Places.{opened as opened′Places, closed as closed′Places, innermost, withIf, keptFrom, offsetOf, sizeOf, placesFrom, sizeFrom, newOf, firstFrom, orElse as orElse′Places, siblingOf}
+use Rattle.rewriting.specs.Places.{opened as opened′Places, closed as closed′Places, innermost, withIf, keptFrom, offsetOf, sizeOf, placesFrom, sizeFrom, newOf, firstFrom, orElse as orElse′Places, siblingOf, Place}
 use Rattle.rewriting.specs.Indices.{insert, insertAll, rankIn, indexIn, indicesIn, readIndices, declares, rankOr, countOf}
-use Rattle.rewriting.specs.Rewriting.{itemsIn, readsOr, readsAt, indicesFrom, itemDeclares, anyDeclares, listOf, listsOf, orSelf, isSome, listAt, newValue, hasPlace, fits, pieceRefusal, orNext, piecesRefusal, readsRefusal, refusalFrom, bytesFrom, unitBytes, listsFit, orRefused, rewriteOf, marksCollected, rowsCollected, analysedCollected, declaredCollected, headerCollected, collectOf}
-use Rattle.marking.specs.Analysis.{Sections, sections, rooms}
-use Rattle.rewriting.specs.Places.{Place}
+use Rattle.rewriting.specs.Rewriting.{itemsIn, readsOr, readsAt, indicesFrom, itemDeclares, anyDeclares, listOf, listsOf, orSelf, isSome, listAt, newValue, hasPlace, fits, pieceRefusal, orNext, piecesRefusal, readsRefusal, refusalFrom, bytesFrom, unitBytes, listsFit, orRefused, rewriteOf, marksCollected, rowsCollected, analysedCollected, declaredCollected, headerCollected, collectOf, Collected, Room, Lists, noLists, untouched, rewritten, refused as refused″}
 use Rattle.rewriting.specs.Written.{groupsFit, paddedAnswer, paddedOut}
 use Rattle.rewriting.specs.declared.numbers.Padded.the-variants.{Written, Refused as Padded′}
-use Rattle.rewriting.specs.Rewriting.{Collected, Room, Lists, noLists, untouched, rewritten, refused as refused″}
 
 -- 01 11 01 00 00 02 2e 00 11 1b 49 11 00 00 03 24 00 00 00 00
 abbrev pub abbreviations5 : List ℕ
