@@ -48,6 +48,8 @@ pub mod Counting
 pub mod GraphLaws
 pub mod UnitSurvivors
 pub mod CollectLaws
+pub mod HeaderBytes
+pub mod HostReads
 pub mod Held
 pub mod EntryIndices
 pub mod IndexTurns

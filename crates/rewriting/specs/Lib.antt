@@ -20,5 +20,7 @@ pub mod MapFilled
 pub mod IndexLists
 pub mod Emission
 pub mod Outputs
+pub mod HeaderBytes
+pub mod HostReads
 pub mod Leaving
 pub mod FiveEntries
