@@ -50,6 +50,8 @@ pub mod UnitSurvivors
 pub mod CollectLaws
 pub mod HeaderBytes
 pub mod HostReads
+pub mod ValuesAgain
+pub mod AttributesAgain
 pub mod Held
 pub mod EntryIndices
 pub mod IndexTurns

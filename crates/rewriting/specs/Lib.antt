@@ -22,5 +22,6 @@ pub mod Emission
 pub mod Outputs
 pub mod HeaderBytes
 pub mod HostReads
+pub mod AttributesAgain
 pub mod Leaving
 pub mod FiveEntries
