@@ -1,4 +1,4 @@
--- The attributes of a kept entry, read at its new place: an attribute, those of a list of specifications, those of an entry, and THE LAW for a rewritten unit. Assumes nothing but the answer.
+-- Attributes that were read, one by one and in a row, and the same patched and read at another place. Assumes nothing.
 use mathlib.Core.Path.{_≡_, refl, ap, ap₂, sym, _∙_, subst}
 use Prim.Native.Nat.{ℕ, suc, _+_, _-_, _≤_}
 use native.Mathlib.Omega.{arith}
@@ -251,7 +251,7 @@ module _ (e : Encoding) (f : Patch) (unit output : List ℕ) where
   divided : (g h : Layout) (s : List ℕ) (rs : List Read) (rest : List ℕ) → readIn big ex (then g h) s ≡ some (rs, rest) → Divided g h s (rs, rest)
   divided g h s rs rest q = all-of (Divided g h s) (divided-all g h s) (sym (read-then big ex g h s) ∙ q)
 
-  record ValuesTwice (specs : List AttributeSpec) (at at′ : ℕ) : Type 0 where
+  pub record ValuesTwice (specs : List AttributeSpec) (at at′ : ℕ) : Type 0 where
     pub each : length (valuesOf e unit specs at) ≡ length specs
     pub same : (old new : ℕ) → at′ + old ≡ at + new → SameAttributes f e old new unit output (valuesOf e unit specs at) (valuesOf e output specs at′)
 
@@ -279,7 +279,7 @@ module _ (e : Encoding) (f : Patch) (unit output : List ℕ) where
             (t .same old new z, n .same old new (let y : at′ + w + old ≡ at + w + new = omega arith in y))));
       }
 
-  values-twice : (specs : List AttributeSpec) (at at′ : ℕ) (rs : List Read) (rest back : List ℕ) → readIn big ex (attributesLayout e specs) (drop at unit) ≡ some (rs, rest)
+  pub values-twice : (specs : List AttributeSpec) (at at′ : ℕ) (rs : List Read) (rest back : List ℕ) → readIn big ex (attributesLayout e specs) (drop at unit) ≡ some (rs, rest)
       → FitAll f rs → drop at′ output ≡ writeAll big (patchAll f rs) ++ back → ValuesTwice specs at at′
   unfolding attributesLayout
   values-twice [] at at′ rs rest back q fit h = none-twice at at′

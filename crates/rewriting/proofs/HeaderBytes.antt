@@ -99,7 +99,10 @@ module _ (x : Sections) (room : Room) (typeUnits : Bool) (section : List ℕ) (w
   law : HeaderLaw (u .bytes) h
   law = accepted-header x room section _ _ _ (it x room typeUnits section w answer .accepted)
 
-  output-is : w .output ≡ (field ++ middle) ++ entries
+  abbrev pub header-part : List ℕ
+  header-part = field ++ middle
+
+  pub output-is : w .output ≡ header-part ++ entries
   unfolding unitBytes
   output-is = it x room typeUnits section w answer .output-is
 
@@ -115,11 +118,12 @@ module _ (x : Sections) (room : Room) (typeUnits : Bool) (section : List ℕ) (w
       ∙ take-at field (middle ++ entries) 4 four
       ∙ ap₂ (λ (b : Bool) (k : ℕ). fixedBytes b 4 (k - 4)) (law .little) (sym size-is)
 
+  pub header-size : length header-part ≡ n
+  header-size = omega (arith, length-append field middle, four, length-drop 4 (take n (u .bytes)), length-take-le n (u .bytes) (law .inside), law .twelve)
+
   others-are : drop 4 (take n (w .output)) ≡ middle
   others-are =
-      let l : length (field ++ middle) ≡ n =
-      omega (arith, length-append field middle, four, length-drop 4 (take n (u .bytes)), length-take-le n (u .bytes) (law .inside), law .twelve) in
-      ap (λ (z : List ℕ). drop 4 (take n z)) output-is ∙ ap (drop 4) (take-at (field ++ middle) entries n l) ∙ drop-at field middle 4 four
+      ap (λ (z : List ℕ). drop 4 (take n z)) output-is ∙ ap (drop 4) (take-at header-part entries n header-size) ∙ drop-at field middle 4 four
 
   -- "The length field is the new size less 4.", and all else of the header is the old one's, the unit id of unit type 0x05 included
   pub header-bytes-law : HeaderBytes h (u .bytes) (w .output)

@@ -52,6 +52,7 @@ pub mod HeaderBytes
 pub mod HostReads
 pub mod ValuesAgain
 pub mod AttributesAgain
+pub mod AttributeLaws
 pub mod Held
 pub mod EntryIndices
 pub mod IndexTurns

@@ -10,11 +10,15 @@ use Rattle.readers.specs.Layout.{Piece, Patch, patchPieces}
 use Rattle.readers.specs.Tokens.{Use, plain, as′}
 use Rattle.readers.specs.Forms.{useOf}
 use Rattle.readers.specs.Expression.{expressionIn}
+use Rattle.readers.specs.Stream.{Item, entry}
 use Rattle.readers.specs.declared.cursor.Encoding.{Encoding}
 use Rattle.readers.specs.declared.entries.Entry.{Entry}
 use Rattle.marking.specs.Roots.{Valued, specsFrom}
 use Rattle.marking.specs.Analysis.{Sections, valuesOfEntry}
+use Rattle.rewriting.specs.Places.{Standing, Place}
+use Rattle.rewriting.specs.Nth.{Nth}
 use Rattle.rewriting.specs.Moved.{movedEntry}
+use Rattle.rewriting.specs.Rewriting.{Lists, newValue}
 use Rattle.rewriting.specs.Emission.{between}
 
 -- the payload of an attribute: a block or an expression after its length
@@ -66,3 +70,11 @@ module _ (f : Patch) where
       -- every attribute that its declaration has is read
       pub each : length (valuesOfEntry e x unit y) ≡ length (specsFrom (x .abbreviations) (y .declaration .attributes .at))
       pub same : SameAttributes (y .offset .0) new unit output (valuesOfEntry e x unit y) (valuesOfEntry e x output (movedEntry new y))
+
+-- the m-th kept item, an entry: its place in the map, the item that stands there in the output, and its attributes there
+pub record EntryAgain (lists : Lists) (map : List Place) (e : Encoding) (x : Sections) (unit output : List ℕ) (items : List Item)
+    (m : ℕ) (s : Standing) (y : Entry) : Type 0 where
+  pub new : ℕ
+  pub place : Nth (record { old = y .offset .0; new = new; depth = s .depth }) m map
+  pub item : Nth (entry (movedEntry new y)) m items
+  pub attributes : AttributesAgain (newValue lists map (s .depth)) e x unit output new y
