@@ -24,7 +24,7 @@ use Rattle.readers.specs.declared.attributes.Attribute.{Attribute}
 use Rattle.readers.specs.declared.attributes.AttributeRead.the-variants.{Read as Attribute′}
 use Rattle.rewriting.specs.Emission.{between, listForm}
 use Rattle.rewriting.specs.AttributesAgain.{newNumber, SameOperations}
-use Rattle.rewriting.proofs.Exact.{tokenOk, token-ok}
+use Rattle.rewriting.proofs.Exact.{useOk, tokenOk, token-ok, Exactly, inExpression, expression-exactly}
 use Rattle.rewriting.proofs.Expressions.{isExpression, value-exprloc}
 use Rattle.rewriting.proofs.ValueForms.{formIs, own, LinkForm, and-both, expression-form, reference-form, ranges-form, locations-form, strings-form}
 
@@ -96,7 +96,7 @@ module _ (f : Patch) where
     linked-use role l q v = ap (λ (t : Token). tokenNumber f t v) (l .token) ∙ sym (ap (λ (u : Use). newNumber f u v) q)
 
     pub plain-use : useOf name form ≡ plain → T (tokenOk noRole (formIs e name form))
-    unfolding Rattle.rewriting.proofs.Exact.useOk
+    unfolding useOk
     plain-use q = subst (λ (u : Use). T (tokenOk noRole (tokenOf e u (formToken form)))) (sym q) (token-ok noRole e plain (formToken form) tt)
 
     unlinked-use : useOf name form ≡ plain → Same
@@ -192,6 +192,7 @@ module _ (e : Encoding) (f : Patch) where
     pub it : Read
     pub is : tokenIn big asBytes expression s ≡ some (it, r .1)
     pub length-bytes : List ℕ
+    pub length-width : length length-bytes ≡ it .start
     pub pieces : List Piece
     pub shape : r .0 ≡ record { seen = 0; start = it .start; pieces = copied length-bytes ∷ pieces }
     pub value : linkedValue (it .pieces) (it .seen) ≡ 0
@@ -215,6 +216,7 @@ module _ (e : Encoding) (f : Patch) where
         it = record { seen = 0; start = suc (t .0); pieces = copied a ∷ copied b ∷ [] };
         is = bind-at _ q ∙ check-yes _ _ u;
         length-bytes = a;
+        length-width = la;
         pieces = ps;
         shape = refl;
         value = refl;
@@ -287,12 +289,21 @@ module _ (e : Encoding) (f : Patch) where
         }
 
     expression-twice : tokenIn big ex expression s ≡ some (v, rest) → TokenTwice expression s s′ v rest back
-    unfolding patchRead patchPieces patchPiece tokenNumber isExpression tail-of
+    unfolding patchRead patchPieces patchPiece tokenNumber isExpression tail-of bytesOf pieceBytes size
     expression-twice q =
         let c : ExpressionRead s (v, rest) = all-of (ExpressionRead s) (expression-read s) q in
         let d : ExpressionRead s′ (patchRead f v, back) = all-of (ExpressionRead s′) (expression-read s′) (again expression q) in
         let ps : d .pieces ≡ patchPieces f (c .pieces) =
         sym (ap (λ (r : Read). tail-of (r .pieces)) (d .shape)) ∙ ap (λ (r : Read). tail-of (patchPieces f (r .pieces))) (c .shape) in
+        let st : d .it .start ≡ c .it .start = sym (ap (λ (r : Read). r .start) (d .shape)) ∙ ap (λ (r : Read). r .start) (c .shape) in
+        let b : List ℕ = bytesOf big (patchPieces f (c .pieces)) in
+        let whole : bytesOf big (patchPieces f (v .pieces)) ≡ c .length-bytes ++ b = ap (λ (r : Read). bytesOf big (patchPieces f (r .pieces))) (c .shape) in
+        let wide : size big (d .it) ≡ length (c .length-bytes ++ b) = d .wide ∙ ap length whole in
+        let part : partOf big s′ (d .it) ≡ b =
+        ap (λ (n : ℕ). take (n - d .it .start) (drop (d .it .start) s′)) wide
+        ∙ ap₂ (λ (n : ℕ) (z : List ℕ). take (length (c .length-bytes ++ b) - n) (drop n z)) st (after ∙ ap (λ (z : List ℕ). z ++ back) whole)
+        ∙ prefix-part (c .length-bytes ++ b) back (c .it .start)
+        ∙ drop-at (c .length-bytes) b (c .it .start) (c .length-width) in
         record {
           it = c .it;
           is = c .is;
@@ -300,10 +311,16 @@ module _ (e : Encoding) (f : Patch) where
           it′ = d .it;
           is′ = d .is;
           wide′ = d .wide ∙ patched-size;
-          start = sym (ap (λ (r : Read). r .start) (d .shape)) ∙ ap (λ (r : Read). r .start) (c .shape);
+          start = st;
           number = d .value ∙ sym (c .value);
           bytes = (λ _ x. absurd x);
-          operations = (λ _. record { pieces = c .pieces; were = c .inner; are = d .inner ∙ ap (λ (l : List Piece). some l) ps });
+          operations = (λ _. record {
+            pieces = c .pieces;
+            were = c .inner;
+            are = d .inner ∙ ap (λ (l : List Piece). some l) ps;
+            old-bytes = (λ h. sym (all-of (Exactly big inExpression (partOf big s (c .it))) (expression-exactly e (partOf big s (c .it)) h) (c .inner) .0));
+            new-bytes = part;
+          });
         }
 
     pub token-twice : (t : Token) → tokenIn big ex t s ≡ some (v, rest) → TokenTwice t s s′ v rest back

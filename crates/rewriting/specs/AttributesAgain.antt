@@ -6,7 +6,9 @@ use Prim.Native.Nat.{ℕ, _+_}
 use mathlib.Core.List.{List, [], _∷_}
 use mathlib.Core.Option.{some}
 use lib.ListN.{length}
-use Rattle.readers.specs.Layout.{Piece, Patch, patchPieces}
+use lib.Dec.{T}
+use lib.Pow.{areBytes}
+use Rattle.readers.specs.Layout.{Piece, Patch, bytesOf, patchPieces}
 use Rattle.readers.specs.Tokens.{Use, plain, as′}
 use Rattle.readers.specs.Forms.{useOf}
 use Rattle.readers.specs.Expression.{expressionIn}
@@ -37,11 +39,14 @@ module _ (f : Patch) where
   newNumber (as′ r) v = f r v
 
   module _ (e : Encoding) where
-    -- an expression: its operations one by one, nested ones too, are the old ones with their references and type operands changed
+    -- an expression: its operations one by one, nested ones too, are the old ones but for references and type operands, each
+    -- written at its own width; all other bytes are copied
     pub record SameOperations (old new : List ℕ) : Type 0 where
       pub pieces : List Piece
       pub were : expressionIn e old ≡ some pieces
       pub are : expressionIn e new ≡ some (patchPieces f pieces)
+      pub old-bytes : T (areBytes old) → old ≡ bytesOf (e .«big_endian») pieces
+      pub new-bytes : new ≡ bytesOf (e .«big_endian») (patchPieces f pieces)
 
     -- an attribute a of an entry that stood at `old`, and b in its place where the entry now stands, at `new`
     pub record SameAttribute (old new : ℕ) (unit output : List ℕ) (a b : Valued) : Type 0 where
