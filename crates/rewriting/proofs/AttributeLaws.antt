@@ -1,16 +1,16 @@
 -- THE LAW of attributes: a kept entry's, read at its new place by the public reader, are the same but for the numbers that rewriting changes. Assumes nothing but the answer.
 use mathlib.Core.Path.{_≡_, refl, ap, ap₂, sym, _∙_, subst}
-use Prim.Native.Nat.{ℕ, _+_, _-_}
+use Prim.Native.Nat.{ℕ, suc, _+_, _-_}
 use native.Mathlib.Omega.{arith}
-use mathlib.Core.Bool.{Bool, not}
+use mathlib.Core.Bool.{Bool}
 use mathlib.Core.Option.{Option, none, some}
 use mathlib.Core.List.{List, [], _∷_, _++_, append-assoc}
 use mathlib.Core.Logic.{⊎-elim}
 use lib.ListN.{length, drop, length-append}
 use lib.Seq.{drop-at, drop-drop}
-use lib.Dec.{T, eqb}
+use lib.Dec.{eqb}
 use Rattle.readers.specs.Choice.{pick, pick-yes, pick-no, either, All, all-some, all-of, all-bind, all-triv}
-use Rattle.readers.specs.Layout.{leb128, number, Layout, done, field, Read, ReadOf, RunOf, ExpressionReader, tokenIn, readIn, before, TokenLaw, token-law, bytesOf, writeAll, Patch, patchPieces, patchRead, patchAll, FitAll, same-size}
+use Rattle.readers.specs.Layout.{leb128, number, Layout, done, Read, RunOf, ExpressionReader, tokenIn, readIn, before, TokenLaw, token-law, bytesOf, writeAll, Patch, patchPieces, patchRead, patchAll, FitAll, same-size}
 use Rattle.readers.specs.Expression.{expressionIn, expression-law}
 use Rattle.readers.specs.Fields.{size}
 use Rattle.readers.specs.Cursors.{cursor}
@@ -34,7 +34,7 @@ use Rattle.rewriting.specs.Rewriting.{Unit as Unit′, itemsIn, readsAt,
 use Rattle.rewriting.specs.AttributesAgain.{SameAttributes, AttributesAgain, EntryAgain}
 use Rattle.rewriting.proofs.DeepReads.{deep-step}
 use Rattle.rewriting.proofs.ItemsStand.{Every, Stands, kept-stand}
-use Rattle.rewriting.proofs.Rereading.{Readable, Rewritable, rewritable, deep-read, length-written}
+use Rattle.rewriting.proofs.Rereading.{Rewritable, rewritable, deep-read, length-written}
 use Rattle.rewriting.proofs.ReadsAgain.{patched}
 use Rattle.rewriting.proofs.Fitting.{none-refused}
 use Rattle.rewriting.proofs.Accepted.{WasRewritten}
@@ -154,7 +154,7 @@ module _ (x : Sections) (u : Unit′) (lists : Lists) (places : List Place) (uni
     pub item : Nth (movedItem new (s .item)) m (movedFrom n kept)
     pub could : Rewritable x u lists places s
 
-  placed-next : (n : ℕ) (t : Standing) (kept : List Standing) (m : ℕ) (s : Standing) → PlacedItem (n + sizeOf (t .item)) kept m s → PlacedItem n (t ∷ kept) (Prim.Native.Nat.suc m) s
+  placed-next : (n : ℕ) (t : Standing) (kept : List Standing) (m : ℕ) (s : Standing) → PlacedItem (n + sizeOf (t .item)) kept m s → PlacedItem n (t ∷ kept) (suc m) s
   unfolding placesFrom movedFrom
   placed-next n t kept m s p =
       record { new = p .new; front = p .front; back = p .back; long = p .long; bytes = p .bytes; place = later (p .place); item = later (p .item); could = p .could }

@@ -1,48 +1,34 @@
 -- Attributes that were read, one by one and in a row, and the same patched and read at another place. Assumes nothing.
-use mathlib.Core.Path.{_≡_, refl, ap, ap₂, sym, _∙_, subst}
-use Prim.Native.Nat.{ℕ, suc, _+_, _-_, _≤_}
+use mathlib.Core.Path.{_≡_, refl, ap, sym, _∙_, subst}
+use Prim.Native.Nat.{ℕ, suc, _+_}
 use native.Mathlib.Omega.{arith}
 use mathlib.Core.Bool.{Bool, true, false, not}
-use mathlib.Core.Option.{Option, none, some}
+use mathlib.Core.Option.{Option, some}
 use mathlib.Core.List.{List, [], _∷_, _++_, append-assoc, append-nil}
 use mathlib.Core.Logic.{⊎-elim}
-use lib.ListN.{length, take, drop, length-append}
+use lib.ListN.{length, drop, length-append}
 use lib.Seq.{drop-at, drop-drop}
 use lib.Dec.{T, eqb}
-use mir.Facts.{eqb-yes, eqb-no}
-use Rattle.readers.specs.Choice.{pick, pick-yes, pick-no, either, bind, bind-at, All, all-some, all-of, all-bind, all-triv}
-use Rattle.readers.specs.Layout.{leb128, Token, number, forms, expression, Layout, done, fail, field, Read, ReadOf, RunOf, ExpressionReader, asBytes, tokenIn, readIn, before, TokenLaw, token-law, ReadLaw, read-law, bytesOf, writeAll, Patch, patchPieces, patchRead, patchAll, FitPieces, FitAll, same-size}
+use Rattle.readers.specs.Choice.{pick-yes, pick-no, either, bind, bind-at, All, all-some, all-of, all-bind, all-triv}
+use Rattle.readers.specs.Layout.{Token, number, forms, expression, Layout, done, field, Read, RunOf, ExpressionReader, asBytes, tokenIn, readIn, before, TokenLaw, token-law, ReadLaw, read-law, bytesOf, writeAll, Patch, patchPieces, patchRead, patchAll, FitAll, same-size}
 use Rattle.readers.specs.Expression.{expressionIn, expression-law}
-use Rattle.readers.specs.Tokens.{plain}
-use Rattle.readers.specs.Forms.{useOf, valueToken, attributeLayout}
+use Rattle.readers.specs.Forms.{valueToken, attributeLayout}
 use Rattle.readers.specs.Fields.{size, linkedValue, fieldOf}
-use Rattle.readers.specs.Cursors.{cursor}
-use Rattle.readers.specs.Scan.{Scanned}
-use Rattle.readers.specs.Abbreviations.{declaredIn, attributesFrom}
-use Rattle.readers.specs.Entries.{attributeOfReads, asAttribute, attributeAt, then, attributesLayout, specsLayout, foundLayout, entryLayout, entryFound, stepOfReads, stepAt}
-use Rattle.readers.specs.Stream.{Item, entry, Items}
+use Rattle.readers.specs.Entries.{attributeOfReads, asAttribute, attributeAt, then, attributesLayout}
 use Rattle.readers.specs.declared.cursor.Encoding.{Encoding}
 use Rattle.readers.specs.declared.abbreviations.AttributeSpec.{AttributeSpec}
-use Rattle.readers.specs.declared.abbreviations.Found.{Found}
-use Rattle.readers.specs.declared.abbreviations.Found.the-variants.{Declaration as Found′, Nothing}
 use Rattle.readers.specs.declared.attributes.Attribute.{Attribute}
 use Rattle.readers.specs.declared.attributes.AttributeRead.{AttributeRead}
 use Rattle.readers.specs.declared.attributes.AttributeRead.the-variants.{Read as Attribute′}
-use Rattle.readers.specs.declared.entries.Entry.{Entry}
-use Rattle.readers.specs.declared.entries.Step.{Step}
-use Rattle.readers.specs.declared.entries.Step.the-variants.{Entry as Entry′, Terminator, Unreadable}
 use Rattle.readers.proofs.Values.{joined, read-then}
-use Rattle.marking.specs.Roots.{Valued, onAttribute, valuesOf, specsFrom, entryValues}
-use Rattle.marking.specs.Analysis.{Sections, valuesOfEntry}
-use Rattle.marking.proofs.Attributes.{specs-all}
+use Rattle.marking.specs.Roots.{Valued, onAttribute, valuesOf}
 use Rattle.rewriting.specs.Emission.{between}
-use Rattle.rewriting.specs.Moved.{movedEntry}
-use Rattle.rewriting.specs.AttributesAgain.{payload, newNumber, SameOperations, SameAttribute, SameAttributes, AttributesAgain}
+use Rattle.rewriting.specs.AttributesAgain.{payload, SameOperations, SameAttribute, SameAttributes}
 use Rattle.rewriting.proofs.Exact.{tokenOk}
 use Rattle.rewriting.proofs.Expressions.{isExpression, value-exprloc}
 use Rattle.rewriting.proofs.ValueForms.{formIs, expression-form}
-use Rattle.rewriting.proofs.DeepReads.{like-width, like-patched, deep-step}
-use Rattle.rewriting.proofs.ValuesAgain.{partOf, between-part, noRole, tokenNumber, use-number, plain-use, same-reader, TokenTwice, again, patched-size, token-twice, token-known}
+use Rattle.rewriting.proofs.DeepReads.{like-width, like-patched}
+use Rattle.rewriting.proofs.ValuesAgain.{partOf, between-part, noRole, tokenNumber, use-number, plain-use, same-reader, TokenTwice, again, token-twice, token-known}
 
 -- ---- reads in a row, written and patched
 

@@ -1,19 +1,19 @@
 -- The lent bytes of an accepted unit, read back: the map's places, the lists' numbers, the output. Assumes nothing but the answer; of the lists that the section is bytes, as a slice of
 -- u8 is.
-use mathlib.Core.Path.{_≡_, refl, ap, ap₂, sym, _∙_, subst}
+use mathlib.Core.Path.{_≡_, refl, ap, sym, _∙_, subst}
 use Prim.Native.Nat.{ℕ, zero, suc, _+_, _*_, _-_, _^_, _/_, _≤_, _<_}
 use native.Mathlib.Omega.{arith}
 use mathlib.Core.Bool.{Bool, true, false}
 use mathlib.Core.List.{List, [], _∷_, _++_}
 use mathlib.Core.Option.{Option, none, some}
-use mathlib.Core.Logic.{_⊎_, inl, inr, ⊎-elim}
+use mathlib.Core.Logic.{_⊎_, inr, ⊎-elim}
 use lib.ListN.{length, getD, take, drop, length-append, length-replicate}
 use lib.Seq.{take-at, drop-at}
 use lib.Dec.{T, leb, eqb}
 use lib.Pow.{areBytes}
 use mir.Facts.{leb-yes, yes-leb}
-use Rattle.readers.specs.Choice.{pick, pick-either, _and_, zeros, All, all-map, all-of}
-use Rattle.readers.specs.Layout.{Encoded, infixed, inleb, Role, reference, typeReference, sibling, index, absolute, Token, nothing, number, bounded, forms, signed, link, string, run, block, expression, unknown, Layout, done, fail, field, Piece, copied, linked, Read, RunOf, readIn, Fit}
+use Rattle.readers.specs.Choice.{pick, pick-either, _and_, zeros, All, all-map}
+use Rattle.readers.specs.Layout.{Encoded, infixed, inleb, Role, index, Token, nothing, number, bounded, forms, signed, link, string, run, block, expression, unknown, Layout, done, fail, field, Piece, copied, linked, Read, RunOf, Fit}
 use Rattle.readers.specs.Expression.{expressionIn}
 use Rattle.readers.specs.Entries.{entryLayout}
 use Rattle.readers.specs.Abbreviations.{Placed, declaredIn}
@@ -25,7 +25,7 @@ use Rattle.readers.specs.declared.header.HeaderRead.the-variants.{Unit as Heade
 use Rattle.readers.specs.Header.{headerOf}
 use Rattle.readers.specs.Abbreviations.{abbreviationsOf}
 use Rattle.marking.specs.Marks.{isKept, keptCount}
-use Rattle.marking.specs.Analysis.{Sections, Row, Analysed, analysed, refused as notAnalysed, analysisOf}
+use Rattle.marking.specs.Analysis.{Sections, Rooms, Row, Analysed, analysed, refused as notAnalysed, analysisOf}
 use Rattle.marking.specs.Resolution.{marksIn, Ascending as From}
 use Rattle.marking.specs.Columns.{padTo}
 use Rattle.rewriting.specs.Places.{Standing, opened, closed, innermost, withIf, keptFrom, offsetOf, sizeOf, Place, placesFrom, sizeFrom}
@@ -34,11 +34,11 @@ use Rattle.rewriting.specs.Ascending.{Ascending, Member, here, there}
 use Rattle.rewriting.specs.Nth.{Nth, now, later}
 use Rattle.rewriting.specs.Maps.{offsetsOf, oldOffsets}
 use Rattle.rewriting.specs.Written.{numberAt, runBytes, listBytes, columns, mapBytes, place, MapHeld}
-use Rattle.rewriting.specs.Rewriting.{Unit as Unit′, itemsIn, readsOr, readsAt, Lists, noLists, listAt, listsOf, listsFit, Room, Rewrite, Collected, untouched, rewritten, refused, orRefused, rewriteOf, refusalFrom, unitBytes, marksCollected, rowsCollected, analysedCollected, declaredCollected, headerCollected, collectOf}
-use Rattle.rewriting.specs.Outputs.{mapFor, outputFor, listOr, listFor, rangesIn, locationsIn, stringsIn}
-use Rattle.rewriting.specs.HostReads.{placeAt, listNumberAt, MapReads, ListReads, PresentReads, OutputReads}
+use Rattle.rewriting.specs.Rewriting.{Unit as Unit′, itemsIn, readsOr, readsAt, Lists, noLists, listAt, listsOf, listsFit, Room, Rewrite, Collected, untouched, rewritten, refused, orRefused, rewriteOf, marksCollected, rowsCollected, analysedCollected, declaredCollected, headerCollected, collectOf}
+use Rattle.rewriting.specs.Outputs.{roomBy, mapFor, outputFor, listOr, listFor}
+use Rattle.rewriting.specs.HostReads.{placeAt, listNumberAt, MapReads, ListReads, PresentReads, OutputReads, RewrittenReads, UntouchedReads, RefusedReads, AnswerReads}
 use Rattle.rewriting.proofs.Sorted.{nothing-in, in-cases}
-use Rattle.rewriting.proofs.Maps.{places-length, kept-member, kept-sized}
+use Rattle.rewriting.proofs.Maps.{places-length, kept-member}
 use Rattle.rewriting.proofs.Sizes.{items-ascending, items-inside}
 use Rattle.rewriting.proofs.Tables.{Small, length-run, run-at}
 use Rattle.rewriting.proofs.Places.{nowhere, length-columns, old-held, new-held, depth-held}
@@ -47,7 +47,7 @@ use Rattle.rewriting.proofs.HeaderAgain.{HeaderLaw}
 use Rattle.rewriting.proofs.Following.{accepted-header}
 use Rattle.rewriting.proofs.Accepted.{unitOf, survivorsIn, Accepted, WasRewritten, marks-each}
 use Rattle.rewriting.proofs.IndexMembers.{IndexKept}
-use Rattle.rewriting.proofs.CollectLaws.{it, unit, marks, kept, start, again-law, bytes-law, map-law, ListLaw, list-law, whole, whole-list-law}
+use Rattle.rewriting.proofs.CollectLaws.{it, unit, marks, kept, start, again-law, bytes-law, map-law, list-law, whole, whole-list-law}
 
 -- ---- what is at a place of a list
 
@@ -521,3 +521,48 @@ module _ (x : Sections) (room : Room) (typeUnits : Bool) (section : List ℕ) (l
   unfolding listFor
   untouched-list-law n answer b k size h r =
       present-reads size (listAt l k) (omega (arith, lists-fit room l (untouched-fit x room typeUnits section n l answer .0) k)) (λ xs q. untouched-small n answer b k h xs q)
+
+-- ---- every answer, by the lengths of the slices
+
+module _ (x : Sections) (tables : Rooms) (typeUnits : Bool) (section : List ℕ) (b : T (areBytes section)) (map ranges locations strings out : ℕ) where
+  abbrev lent : Room
+  lent = roomBy tables map ranges locations strings out
+
+  abbrev Reads : Collected → Type 0
+  Reads c = AnswerReads map ranges locations strings out c
+
+  rewritten-reads : (w : Rewrite) → collectOf x lent typeUnits section ≡ rewritten w → RewrittenReads map ranges locations strings out w
+  unfolding listAt roomAt pick
+  rewritten-reads w q =
+      record {
+        map-read = map-bytes-law x lent typeUnits section w q map refl;
+        ranges-read = list-bytes-law x lent typeUnits section w q b 0 ranges (omega arith) refl;
+        locations-read = list-bytes-law x lent typeUnits section w q b 1 locations (omega arith) refl;
+        strings-read = list-bytes-law x lent typeUnits section w q b 2 strings (omega arith) refl;
+        output-read = output-bytes-law x lent typeUnits section w q;
+      }
+
+  untouched-reads : (n : ℕ) (l : Lists) → collectOf x lent typeUnits section ≡ untouched n l → UntouchedReads map ranges locations strings out n l
+  unfolding listAt roomAt pick
+  untouched-reads n l q =
+      record {
+        map-read = untouched-map-law x lent typeUnits section l n map;
+        ranges-read = untouched-list-law x lent typeUnits section l n q b 0 ranges (omega arith) refl;
+        locations-read = untouched-list-law x lent typeUnits section l n q b 1 locations (omega arith) refl;
+        strings-read = untouched-list-law x lent typeUnits section l n q b 2 strings (omega arith) refl;
+        output-read = untouched-output-law x lent typeUnits section l n out;
+      }
+
+  refused-reads : (n : ℕ) → RefusedReads map ranges locations strings out n
+  unfolding mapFor outputFor listFor
+  refused-reads n = record { map-read = refl; ranges-read = refl; locations-read = refl; strings-read = refl; output-read = refl }
+
+  by-answer : (c : Collected) → collectOf x lent typeUnits section ≡ c → Reads c
+  unfolding AnswerReads
+  by-answer (rewritten w) q = rewritten-reads w q
+  by-answer (untouched n l) q = untouched-reads n l q
+  by-answer (refused n) q = refused-reads n
+
+  -- "Output, map and index lists hold the answer, and zeros everywhere else, for every input": as a host reads them
+  pub host-law : Reads (collectOf x lent typeUnits section)
+  host-law = by-answer (collectOf x lent typeUnits section) refl

@@ -3,30 +3,27 @@
 use mathlib.Core.Path.{_≡_, refl, ap, ap₂, sym, _∙_, subst}
 use Prim.Native.Nat.{ℕ, suc, _+_, _-_, _≤_}
 use native.Mathlib.Omega.{arith}
-use mathlib.Core.Bool.{Bool, true, false, not}
-use mathlib.Core.Option.{Option, none, some}
-use mathlib.Core.List.{List, [], _∷_, _++_, append-assoc, append-nil}
+use mathlib.Core.Bool.{Bool, false, not}
+use mathlib.Core.Option.{none, some}
+use mathlib.Core.List.{List, [], _∷_, _++_, append-nil}
 use mathlib.Core.Logic.{⊎-elim}
 use lib.ListN.{length, take, drop, length-append, length-drop, take-append-drop, drop-of-length-le}
 use lib.Seq.{length-take-le, take-at, drop-at, drop-append-le, drop-drop}
 use lib.Dec.{T, eqb, leb}
-use mir.Facts.{leb-yes, leb-no, eqb-yes, eqb-no}
+use mir.Facts.{leb-yes, leb-no, eqb-yes}
 use Rattle.readers.specs.Choice.{pick, pick-yes, pick-no, either, _and_, _or_, bind, bind-at, check-yes, All, all-some, all-none, all-of, all-bind, all-check, all-triv}
 use Rattle.readers.specs.Numbers.{uleb, sleb}
-use Rattle.readers.specs.Layout.{Kind, fixed, Encoded, Role, reference, sibling, index, absolute, Token, nothing, number, bounded, forms, signed, link, string, run, block, expression, unknown, Layout, done, field, Piece, copied, linked, Read, ReadOf, RunOf, ExpressionReader, asBytes, copy, asNumber, asBounded, asForms, asSigned, asLink, asString, asBlock, asExpression, LebLaw, uleb-law, numberIn, formsIn, stringIn, tokenIn, readIn, before, TokenLaw, token-law, WholeLaw, bytesOf, pieceBytes, writeAll, Patch, patchPiece, patchPieces, patchRead, patchAll, FitPieces, FitAll, same-size}
+use Rattle.readers.specs.Layout.{Kind, Encoded, Role, index, Token, nothing, number, bounded, forms, signed, link, string, run, block, expression, unknown, Piece, copied, linked, Read, ReadOf, ExpressionReader, asBytes, copy, asNumber, asBounded, asForms, asSigned, asLink, asString, asBlock, asExpression, LebLaw, uleb-law, numberIn, formsIn, stringIn, tokenIn, TokenLaw, token-law, WholeLaw, bytesOf, pieceBytes, Patch, patchPiece, patchPieces, patchRead, FitPieces, same-size}
 use Rattle.readers.specs.Expression.{expressionIn, expression-law}
 use Rattle.readers.specs.Tokens.{Use, plain, as′, numberAs, tokenOf}
-use Rattle.readers.specs.Forms.{formToken, formTokens, tokenAmong, useOf, valueToken, attributeLayout}
-use Rattle.readers.specs.Fields.{size, linkedValue, fieldOf}
-use Rattle.readers.specs.Entries.{attributeOfReads, asAttribute, attributeAt}
+use Rattle.readers.specs.Forms.{formToken, formTokens, tokenAmong, useOf, valueToken}
+use Rattle.readers.specs.Fields.{size, linkedValue}
 use Rattle.readers.specs.declared.cursor.Encoding.{Encoding}
-use Rattle.readers.specs.declared.attributes.Attribute.{Attribute}
-use Rattle.readers.specs.declared.attributes.AttributeRead.the-variants.{Read as Attribute′}
 use Rattle.rewriting.specs.Emission.{between, listForm}
 use Rattle.rewriting.specs.AttributesAgain.{newNumber, SameOperations}
 use Rattle.rewriting.proofs.Exact.{useOk, tokenOk, token-ok, Exactly, inExpression, expression-exactly}
-use Rattle.rewriting.proofs.Expressions.{isExpression, value-exprloc}
-use Rattle.rewriting.proofs.ValueForms.{formIs, own, LinkForm, and-both, expression-form, reference-form, ranges-form, locations-form, strings-form}
+use Rattle.rewriting.proofs.Expressions.{isExpression}
+use Rattle.rewriting.proofs.ValueForms.{formIs, own, LinkForm, and-both, reference-form, ranges-form, locations-form, strings-form}
 
 -- ---- parts of bytes
 

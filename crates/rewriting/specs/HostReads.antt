@@ -10,6 +10,8 @@ use Rattle.rewriting.specs.Places.{Place}
 use Rattle.rewriting.specs.Ascending.{Member}
 use Rattle.rewriting.specs.Nth.{Nth}
 use Rattle.rewriting.specs.Written.{numberAt}
+use Rattle.rewriting.specs.Rewriting.{Lists, Rewrite, Collected, untouched, rewritten, refused}
+use Rattle.rewriting.specs.Outputs.{mapFor, outputFor, listFor, rangesIn, locationsIn, stringsIn}
 
 -- the k-th place of a map
 unfoldable pub placeAt : List ℕ → ℕ → Place
@@ -45,3 +47,34 @@ pub record OutputReads (size : ℕ) (output out : List ℕ) : Type 0 where
   pub sized : length out ≡ size
   pub starts : take (length output) out ≡ output
   pub after : drop (length output) out ≡ zeros (size - length output)
+
+-- ---- all five slices, of these lengths
+
+module _ (map ranges locations strings out : ℕ) where
+  pub record RewrittenReads (w : Rewrite) : Type 0 where
+    pub map-read : MapReads map (w .map) (mapFor map (rewritten w))
+    pub ranges-read : PresentReads ranges (w .lists .ranges) (listFor rangesIn ranges (rewritten w))
+    pub locations-read : PresentReads locations (w .lists .locations) (listFor locationsIn locations (rewritten w))
+    pub strings-read : PresentReads strings (w .lists .strings) (listFor stringsIn strings (rewritten w))
+    pub output-read : OutputReads out (w .output) (outputFor out (rewritten w))
+
+  -- no map and no output
+  pub record UntouchedReads (n : ℕ) (l : Lists) : Type 0 where
+    pub map-read : mapFor map (untouched n l) ≡ zeros map
+    pub ranges-read : PresentReads ranges (l .ranges) (listFor rangesIn ranges (untouched n l))
+    pub locations-read : PresentReads locations (l .locations) (listFor locationsIn locations (untouched n l))
+    pub strings-read : PresentReads strings (l .strings) (listFor stringsIn strings (untouched n l))
+    pub output-read : outputFor out (untouched n l) ≡ zeros out
+
+  -- zeros everywhere
+  pub record RefusedReads (n : ℕ) : Type 0 where
+    pub map-read : mapFor map (refused n) ≡ zeros map
+    pub ranges-read : listFor rangesIn ranges (refused n) ≡ zeros ranges
+    pub locations-read : listFor locationsIn locations (refused n) ≡ zeros locations
+    pub strings-read : listFor stringsIn strings (refused n) ≡ zeros strings
+    pub output-read : outputFor out (refused n) ≡ zeros out
+
+  unfoldable pub AnswerReads : Collected → Type 0
+  AnswerReads (rewritten w) = RewrittenReads w
+  AnswerReads (untouched n l) = UntouchedReads n l
+  AnswerReads (refused n) = RefusedReads n
