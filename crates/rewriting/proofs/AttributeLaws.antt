@@ -144,7 +144,7 @@ module _ (e : Encoding) (x : Sections) (look : ℕ → Found) (unit : List ℕ) 
 -- ---- where a kept item comes to stand, by its number
 
 module _ (x : Sections) (u : Unit′) (lists : Lists) (places : List Place) (unit : List ℕ) where
-  record PlacedItem (n : ℕ) (kept : List Standing) (m : ℕ) (s : Standing) : Type 0 where
+  pub record PlacedItem (n : ℕ) (kept : List Standing) (m : ℕ) (s : Standing) : Type 0 where
     pub new : ℕ
     pub front : List ℕ
     pub back : List ℕ
@@ -159,7 +159,7 @@ module _ (x : Sections) (u : Unit′) (lists : Lists) (places : List Place) (uni
   placed-next n t kept m s p =
       record { new = p .new; front = p .front; back = p .back; long = p .long; bytes = p .bytes; place = later (p .place); item = later (p .item); could = p .could }
 
-  placed-at : (kept : List Standing) → Every (Rewritable x u lists places) kept → (front : List ℕ) (n : ℕ) → length front ≡ n → unit ≡ front ++ bytesFrom x u lists places kept
+  pub placed-at : (kept : List Standing) → Every (Rewritable x u lists places) kept → (front : List ℕ) (n : ℕ) → length front ≡ n → unit ≡ front ++ bytesFrom x u lists places kept
       → (m : ℕ) (s : Standing) → Nth s m kept → PlacedItem n kept m s
   unfolding Every bytesFrom placesFrom movedFrom
   placed-at [] h front n l q m s i = elim i [ ]
@@ -195,7 +195,8 @@ module _ (x : Sections) (room : Room) (typeUnits : Bool) (section : List ℕ) (w
       (Laws.readable-law x room typeUnits section w answer)
       (none-refused x u (w .lists) (w .map) ks (o .none-refused))
 
-  placed : (m : ℕ) (s : Standing) → Nth s m ks → PlacedItem x u (w .lists) (w .map) (w .output) first ks m s
+  -- the m-th kept item, the m-th place, the m-th item read again, and the bytes that are written of it
+  pub placed : (m : ℕ) (s : Standing) → Nth s m ks → PlacedItem x u (w .lists) (w .map) (w .output) first ks m s
   placed =
       placed-at x u (w .lists) (w .map) (w .output) ks every (header-part x room typeUnits section w answer) first (header-size x room typeUnits section w answer)
       (output-is x room typeUnits section w answer)
