@@ -49,6 +49,11 @@ pub mod Roles
 pub mod ThinnedItems
 pub mod CollectLaws
 pub mod ThinnedLaw
+pub mod HeaderBytes
+pub mod HostReads
+pub mod ValuesAgain
+pub mod AttributesAgain
+pub mod AttributeLaws
 pub mod Held
 pub mod EntryIndices
 pub mod IndexTurns

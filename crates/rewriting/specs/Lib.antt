@@ -19,5 +19,8 @@ pub mod IndexLists
 pub mod Emission
 pub mod Outputs
 pub mod Thinned
+pub mod HeaderBytes
+pub mod HostReads
+pub mod AttributesAgain
 pub mod Leaving
 pub mod FiveEntries
