@@ -50,6 +50,10 @@ pub mod UnitSurvivors
 pub mod CollectLaws
 pub mod Held
 pub mod EntryIndices
+pub mod NamedPieces
+pub mod EntryNames
+pub mod ListedNames
+pub mod SameReferences
 pub mod IndexTurns
 pub mod Holdings
 pub mod SortedLists

@@ -22,3 +22,4 @@ pub mod Emission
 pub mod Outputs
 pub mod Leaving
 pub mod FiveEntries
+pub mod SameReferences
