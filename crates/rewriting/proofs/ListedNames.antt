@@ -8,10 +8,11 @@ use mathlib.Core.Option.{Option, none, some}
 use mathlib.Core.Logic.{_⊎_, inl, inr, ⊎-elim, _↔_}
 use lib.ListN.{length}
 use lib.Dec.{T, eqb, leb}
-use mir.Facts.{leb-yes, eqb-yes, eqb-no, yes-eqb, no-eqb}
+use mir.Facts.{leb-yes, yes-leb, eqb-yes, eqb-no, yes-eqb, no-eqb}
 use Rattle.readers.specs.Choice.{pick, pick-yes, pick-no, pick-either, _and_, _or_}
 use Rattle.readers.specs.Layout.{Piece}
 use Rattle.readers.specs.Expression.{expressionIn}
+use Rattle.readers.specs.References.{flatFrom}
 use Rattle.readers.specs.Lists.{listOffset, listStart}
 use Rattle.readers.specs.Steps.{listEntryAt}
 use Rattle.readers.proofs.Steps.{entry-inside}
@@ -25,13 +26,13 @@ use Rattle.readers.specs.declared.operations.ListStep.{ListStep}
 use Rattle.readers.specs.declared.operations.ListStep.the-variants.{Entry, End, Unreadable as NoEntry}
 use Rattle.marking.specs.Walking.{Next, go, stop, onNext, walk, Forward, walk-step}
 use Rattle.marking.specs.Roots.{Valued}
-use Rattle.marking.specs.EntryReferences.{Found, found, refused, after, andThen, expressionFound, partOf, Reached, reachedAt, locationFound, onFound, locationStep, listFound, Locations, locationsBy, attributeFound, attributesFound}
+use Rattle.marking.specs.EntryReferences.{Found, found, refused, after, andThen, targets, expressionFound, partOf, Reached, reachedAt, locationFound, onFound, locationStep, listFound, Locations, locationsBy, attributeFound, attributesFound}
 use Rattle.marking.proofs.LocationLists.{listFrom, list-start}
 use Rattle.rewriting.specs.Ascending.{Member, here, there}
-use Rattle.rewriting.specs.SameReferences.{NamedIn, InExpression, InEntry, InList, this, later, locationList, ListedBy, ListedReference}
+use Rattle.rewriting.specs.SameReferences.{NamedIn, FormNames, ExprlocNames, FormReference, InExpression, InEntry, InList, this, later, locationList, ListedBy, ListReference}
 use Rattle.rewriting.proofs.Sorted.{nothing-in}
 use Rattle.rewriting.proofs.IndexMembers.{in-left, in-right, in-either}
-use Rattle.rewriting.proofs.NamedPieces.{namesOf, expression-names, pieces-members}
+use Rattle.rewriting.proofs.NamedPieces.{namesOf, expression-names, expression-operations, only, pieces-members}
 use Rattle.rewriting.proofs.EntryNames.{ownNames, valuesNames}
 
 found-same : (xs ys : List ℕ) → found xs ≡ found ys → ys ≡ xs
@@ -240,6 +241,55 @@ module _ (e : Encoding) (unit locations : List ℕ) (base v : ℕ) where
         (λ t q. listed-only ys none (listStart locations (a .value .field .value)) n (pick-no _ _ _ t6 ∙ pick-yes _ _ _ t) q)
         (λ t7 q. own-only ys [] (found-same [] ys q) none (not-list (eqb-no {a = form} {b = 0x22} t6) (eqb-no {a = form} {b = 0x17} t7)))))))))
 
+    -- ---- what its value names, by its form
+
+    abbrev Named : Type 0
+    Named = (a .name ≡ 0x01 → ⊥) × (FormNames e unit v (a .value) ⊎ ExprlocNames e unit v (a .value))
+
+    abbrev ByForm : Found → Type 0
+    ByForm f = (ys : List ℕ) → f ≡ found ys → Member v own ↔ Named
+
+    none-named : own ≡ [] → (Named → ⊥) → Member v own ↔ Named
+    none-named p n = (λ m. absurd (nothing-in v (subst (Member v) p m)), λ i. absurd (n i))
+
+    not-both : (a b : Bool) → T (not (a and b)) → T a → T b → ⊥
+    unfolding _and_
+    not-both true true t u w = t
+    not-both true false t u w = w
+    not-both false b t u w = u
+
+    by-form : ByForm (attributeFound e l a)
+    unfolding attributeFound ownNames
+    by-form =
+        pick-either ByForm (eqb (a .name) 0x01) (found []) _
+        (λ t ys q. none-named (pick-yes _ _ _ t) (λ i. i .0 (eqb-yes {a = a .name} {b = 0x01} t)))
+        (λ t1.
+        let n : a .name ≡ 0x01 → ⊥ = eqb-no {a = a .name} {b = 0x01} t1 in
+        pick-either ByForm (eqb (a .declared) 0x10) (refused [] 7) _
+        (λ t ys q. absurd (not-found [] ys 7 q))
+        (λ t2. pick-either ByForm (leb 0x11 form and leb form 0x15) (found (a .value .field .value ∷ [])) _
+        (λ t ys q.
+        let p : own ≡ a .value .field .value ∷ [] = pick-no _ _ _ t1 ∙ pick-yes _ _ _ t in
+        let b = both (leb 0x11 form) (leb form 0x15) t in
+        let lo : 0x11 ≤ form = leb-yes {a = 0x11} {b = form} (b .0) in
+        let hi : form ≤ 0x15 = leb-yes {a = form} {b = 0x15} (b .1) in (
+          λ m. (n, inl (record { from = lo; upto = hi; is = only v _ (subst (Member v) p m) })),
+          λ i. subst (Member v) (sym p) (⊎-elim (λ k. here (k .is)) (λ k. let z : form ≡ 0x18 = k .exprloc in absurd (omega arith)) (i .1)),
+        ))
+        (λ t3. pick-either ByForm (eqb form 0x18) (expressionFound e part) _
+        (λ t ys q.
+        let p : own ≡ namesOf (expressionIn e part) = pick-no _ _ _ t1 ∙ pick-no _ _ _ t3 ∙ pick-yes _ _ _ t in
+        let z : form ≡ 0x18 = eqb-yes {a = form} {b = 0x18} t in
+        let same : targets (flatFrom e part 0) ≡ namesOf (expressionIn e part) = expression-operations e part ys q in (
+          λ m. (n, inr (record { exprloc = z; among = subst (Member v) (p ∙ sym same) m })),
+          λ i. ⊎-elim (λ k. let w : form ≤ 0x15 = k .upto in absurd (omega arith)) (λ k. subst (Member v) (same ∙ sym p) (k .among)) (i .1),
+        ))
+        (λ t4 ys q. none-named (pick-no _ _ _ t1 ∙ pick-no _ _ _ t3 ∙ pick-no _ _ _ t4)
+        (λ i. ⊎-elim
+        (λ k. not-both (leb 0x11 form) (leb form 0x15) t3 (yes-leb {a = 0x11} {b = form} (k .from)) (yes-leb {a = form} {b = 0x15} (k .upto)))
+        (λ k. eqb-no {a = form} {b = 0x18} t4 (k .exprloc))
+        (i .1))))))
+
   -- ---- the attributes of an entry
 
   record Both (f g : Found) (names : List ℕ) : Type 0 where
@@ -256,7 +306,7 @@ module _ (e : Encoding) (unit locations : List ℕ) (base v : ℕ) where
   both-found (refused ys n) g names q = absurd (not-found ys names n q)
 
   abbrev Listed′ : List Valued → Type 0
-  Listed′ values = ListedReference e locations v base values
+  Listed′ values = ListReference e locations v base values
 
   listed-here : (a : Valued) (rest : List Valued) → Listed′ (a ∷ rest) → ListedBy e locations v base a ⊎ Listed′ rest
   listed-here a rest i = by-place (i .attribute) (i .among) (i .listed)
@@ -267,7 +317,7 @@ module _ (e : Encoding) (unit locations : List ℕ) (base v : ℕ) where
 
   -- THE names of an entry's attributes: those of their values, and those in location lists
   pub in-attributes : (values : List Valued) (names : List ℕ) → attributesFound e l values ≡ found names
-      → Member v names ↔ (Member v (valuesNames e unit values) ⊎ ListedReference e locations v base values)
+      → Member v names ↔ (Member v (valuesNames e unit values) ⊎ ListReference e locations v base values)
   unfolding attributesFound valuesNames
   in-attributes [] names q = (
     λ m. absurd (nothing-in v (subst (Member v) (found-same [] names q) m)),
@@ -286,4 +336,30 @@ module _ (e : Encoding) (unit locations : List ℕ) (base v : ℕ) where
         λ m. ⊎-elim
             (λ n. ⊎-elim (λ k. left (one .1 (inl k))) (λ k. right (more .1 (inl k))) (in-either v (own a) (valuesNames e unit rest) n))
             (λ i. ⊎-elim (λ k. left (one .1 (inr k))) (λ k. right (more .1 (inr k))) (listed-here a rest i)) m,
+      )
+
+  -- and those of their values, by their forms
+  named-here : (a : Valued) (rest : List Valued) → FormReference e unit v (a ∷ rest) → Named a ⊎ FormReference e unit v rest
+  named-here a rest i = by-place (i .attribute) (i .among) (i .no-sibling, i .named)
+    where
+      by-place : (b : Valued) → Member b (a ∷ rest) → Named b → Named a ⊎ FormReference e unit v rest
+      by-place b (here q) k = inl (subst Named q k)
+      by-place b (there m) k = inr (record { attribute = b; among = m; no-sibling = k .0; named = k .1 })
+
+  pub in-values : (values : List Valued) (names : List ℕ) → attributesFound e l values ≡ found names
+      → Member v (valuesNames e unit values) ↔ FormReference e unit v values
+  unfolding attributesFound valuesNames
+  in-values [] names q = (λ m. absurd (nothing-in v m), λ i. absurd (nothing-in (i .attribute) (i .among)))
+  in-values (a ∷ rest) names q =
+      let b : Both (attributeFound e l a) (attributesFound e l rest) names = both-found (attributeFound e l a) (attributesFound e l rest) names q in
+      let one : Member v (own a) ↔ Named a = by-form a (b .ys) (b .first) in
+      let more : Member v (valuesNames e unit rest) ↔ FormReference e unit v rest = in-values rest (b .zs) (b .next) in (
+        λ m. ⊎-elim
+            (λ k. let i = one .0 k in record { attribute = a; among = here refl; no-sibling = i .0; named = i .1 })
+            (λ k. let i = more .0 k in record { attribute = i .attribute; among = there (i .among); no-sibling = i .no-sibling; named = i .named })
+            (in-either v (own a) (valuesNames e unit rest) m),
+        λ i. ⊎-elim
+            (λ k. in-left v (own a) (valuesNames e unit rest) (one .1 k))
+            (λ k. in-right v (own a) (valuesNames e unit rest) (more .1 k))
+            (named-here a rest i),
       )

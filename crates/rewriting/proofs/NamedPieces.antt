@@ -12,13 +12,14 @@ use mir.Facts.{eqb-no, no-eqb}
 use Rattle.readers.specs.Choice.{pick, pick-no, pick-either}
 use Rattle.readers.specs.Layout.{Encoded, Role, reference, typeReference, sibling, index, absolute, Piece, copied, linked, pieceBytes, Read}
 use Rattle.readers.specs.Expression.{expressionIn}
-use Rattle.readers.specs.References.{Named, nameIn, namesIn, namesOr, referencesIn, walkOf}
+use Rattle.readers.specs.References.{Named, nameIn, namesIn, namesOr, referencesIn, walkOf, flatFrom}
+use Rattle.readers.proofs.Answers.{walked-flat}
 use Rattle.readers.specs.declared.cursor.Encoding.{Encoding}
 use Rattle.readers.specs.declared.expressions.Walk.{Walk}
 use Rattle.readers.specs.declared.expressions.Walk.the-variants.{Walked, Unreadable}
 use Rattle.marking.specs.EntryReferences.{Found, found, refused, targets, walkFound, expressionFound}
 use Rattle.rewriting.specs.Ascending.{Member, here, there}
-use Rattle.rewriting.specs.SameReferences.{Names, NamedIn, ReadReference}
+use Rattle.rewriting.specs.SameReferences.{Names, NamedIn, RoleReference}
 use Rattle.rewriting.proofs.Sorted.{nothing-in}
 use Rattle.rewriting.proofs.IndexMembers.{in-left, in-right, in-either}
 
@@ -85,21 +86,28 @@ unfolding targets namesOr namesOf
 or-targets big none = refl
 or-targets big (some ps) = pieces-targets big 0 ps
 
-walk-found : (xs ys : List ℕ) (w : Walk) → walkFound xs w ≡ found ys → ys ≡ xs
-unfolding walkFound
-walk-found xs ys Unreadable q = let z : _≡_ {A = ℕ} 0 1 = cc in absurd (omega arith)
-walk-found xs ys (Walked n true) q = let z : _≡_ {A = ℕ} 0 1 = cc in absurd (omega arith)
-walk-found xs ys (Walked n false) q = cc
+module _ (e : Encoding) (s : List ℕ) where
+  walk-found : (ys : List ℕ) (w : Walk) → walkOf e s ≡ w → walkFound (targets (referencesIn e s)) w ≡ found ys
+      → (ys ≡ targets (referencesIn e s)) × (flatFrom e s 0 ≡ referencesIn e s)
+  unfolding walkFound
+  walk-found ys Unreadable w q = let z : _≡_ {A = ℕ} 0 1 = cc in absurd (omega arith)
+  walk-found ys (Walked n true) w q = let z : _≡_ {A = ℕ} 0 1 = cc in absurd (omega arith)
+  walk-found ys (Walked n false) w q = (cc, walked-flat e s n false w .0)
 
--- what an expression's scan finds is what its pieces hold
-pub expression-names : (e : Encoding) (s ys : List ℕ) → expressionFound e s ≡ found ys → ys ≡ namesOf (expressionIn e s)
-unfolding expressionFound referencesIn
-expression-names e s ys q = walk-found (targets (referencesIn e s)) ys (walkOf e s) q ∙ or-targets (e .«big_endian») (expressionIn e s)
+  -- what an expression's scan finds is what its pieces hold
+  pub expression-names : (ys : List ℕ) → expressionFound e s ≡ found ys → ys ≡ namesOf (expressionIn e s)
+  unfolding expressionFound referencesIn
+  expression-names ys q = walk-found ys (walkOf e s) refl q .0 ∙ or-targets (e .«big_endian») (expressionIn e s)
+
+  -- and what its operations name one after the other
+  pub expression-operations : (ys : List ℕ) → expressionFound e s ≡ found ys → targets (flatFrom e s 0) ≡ namesOf (expressionIn e s)
+  unfolding expressionFound referencesIn
+  expression-operations ys q = ap targets (walk-found ys (walkOf e s) refl q .1) ∙ or-targets (e .«big_endian») (expressionIn e s)
 
 -- ---- those that have the role
 
 module _ (v : ℕ) where
-  only : (w : ℕ) → Member v (w ∷ []) → v ≡ w
+  pub only : (w : ℕ) → Member v (w ∷ []) → v ≡ w
   only w (here q) = q
   only w (there m) = absurd (nothing-in v m)
 
@@ -148,13 +156,13 @@ module _ (v : ℕ) where
   pub pieces-members : (ps : List Piece) → Member v (piecesNames ps) ↔ NamedIn ps v
   pieces-members ps = (pieces-out ps, λ q. pieces-in ps (q .encoded) (q .role) (q .names) (q .within))
 
-  reads-out : (rs : List Read) → Member v (readsNames rs) → ReadReference rs v
+  reads-out : (rs : List Read) → Member v (readsNames rs) → RoleReference rs v
   unfolding readsNames
   reads-out [] m = absurd (nothing-in v m)
   reads-out (r ∷ rs) m =
       ⊎-elim
       (λ n. record { read = r; among = here refl; held = pieces-out (r .pieces) n })
-      (λ n. let q : ReadReference rs v = reads-out rs n in record { read = q .read; among = there (q .among); held = q .held })
+      (λ n. let q : RoleReference rs v = reads-out rs n in record { read = q .read; among = there (q .among); held = q .held })
       (in-either v (piecesNames (r .pieces)) (readsNames rs) m)
 
   reads-in : (rs : List Read) (r : Read) → Member r rs → Member v (piecesNames (r .pieces)) → Member v (readsNames rs)
@@ -163,5 +171,5 @@ module _ (v : ℕ) where
   reads-in (q ∷ rs) r (here e) n = in-left v (piecesNames (q .pieces)) (readsNames rs) (subst (λ (z : Read). Member v (piecesNames (z .pieces))) e n)
   reads-in (q ∷ rs) r (there m) n = in-right v (piecesNames (q .pieces)) (readsNames rs) (reads-in rs r m n)
 
-  pub reads-members : (rs : List Read) → Member v (readsNames rs) ↔ ReadReference rs v
+  pub reads-members : (rs : List Read) → Member v (readsNames rs) ↔ RoleReference rs v
   reads-members rs = (reads-out rs, λ q. reads-in rs (q .read) (q .among) (pieces-members (q .read .pieces) .1 (q .held)))
