@@ -8,7 +8,7 @@ use mathlib.Core.Option.{Option, none, some}
 use mathlib.Core.Logic.{_⊎_, inl, inr, ⊎-elim, _↔_}
 use lib.ListN.{length}
 use lib.Dec.{T, eqb, leb}
-use mir.Facts.{leb-yes, yes-leb, eqb-yes, eqb-no, yes-eqb, no-eqb}
+use mir.Facts.{leb-yes, yes-leb, eqb-yes, eqb-no, no-eqb}
 use Rattle.readers.specs.Choice.{pick, pick-yes, pick-no, pick-either, _and_, _or_}
 use Rattle.readers.specs.Layout.{Piece}
 use Rattle.readers.specs.Expression.{expressionIn}
@@ -24,7 +24,7 @@ use Rattle.readers.specs.declared.lists.ListOffset.the-variants.{At, Unresolved
 use Rattle.readers.specs.declared.operations.ListEntry.{ListEntry}
 use Rattle.readers.specs.declared.operations.ListStep.{ListStep}
 use Rattle.readers.specs.declared.operations.ListStep.the-variants.{Entry, End, Unreadable as NoEntry}
-use Rattle.marking.specs.Walking.{Next, go, stop, onNext, walk, Forward, walk-step}
+use Rattle.marking.specs.Walking.{Next, onNext, walk, Forward, walk-step}
 use Rattle.marking.specs.Roots.{Valued}
 use Rattle.marking.specs.EntryReferences.{Found, found, refused, after, andThen, targets, expressionFound, partOf, Reached, reachedAt, locationFound, onFound, locationStep, listFound, Locations, locationsBy, attributeFound, attributesFound}
 use Rattle.marking.proofs.LocationLists.{listFrom, list-start}

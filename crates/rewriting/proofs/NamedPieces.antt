@@ -2,12 +2,12 @@
 use mathlib.Core.Path.{_≡_, refl, ap, ap₂, sym, _∙_, subst}
 use Prim.Native.Nat.{ℕ, _+_}
 use native.Mathlib.Omega.{arith}
-use mathlib.Core.Bool.{Bool, true, false, not}
+use mathlib.Core.Bool.{Bool, true, false}
 use mathlib.Core.List.{List, [], _∷_, _++_, append-assoc}
 use mathlib.Core.Logic.{⊎-elim, _↔_}
 use mathlib.Core.Option.{Option, none, some}
 use lib.ListN.{length}
-use lib.Dec.{T, eqb}
+use lib.Dec.{eqb}
 use mir.Facts.{eqb-no, no-eqb}
 use Rattle.readers.specs.Choice.{pick, pick-no, pick-either}
 use Rattle.readers.specs.Layout.{Encoded, Role, reference, typeReference, sibling, index, absolute, Piece, copied, linked, pieceBytes, Read}
@@ -17,7 +17,7 @@ use Rattle.readers.proofs.Answers.{walked-flat}
 use Rattle.readers.specs.declared.cursor.Encoding.{Encoding}
 use Rattle.readers.specs.declared.expressions.Walk.{Walk}
 use Rattle.readers.specs.declared.expressions.Walk.the-variants.{Walked, Unreadable}
-use Rattle.marking.specs.EntryReferences.{Found, found, refused, targets, walkFound, expressionFound}
+use Rattle.marking.specs.EntryReferences.{found, targets, walkFound, expressionFound}
 use Rattle.rewriting.specs.Ascending.{Member, here, there}
 use Rattle.rewriting.specs.SameReferences.{Names, NamedIn, RoleReference}
 use Rattle.rewriting.proofs.Sorted.{nothing-in}

@@ -6,7 +6,7 @@ use mathlib.Core.Option.{Option, none, some}
 use mathlib.Core.Logic.{_⊎_, inl, inr, ⊎-elim, _↔_}
 use native.Mathlib.Omega.{arith}
 use lib.ListN.{take, drop}
-use Rattle.readers.specs.Layout.{Read, RunOf, readIn}
+use Rattle.readers.specs.Layout.{RunOf, readIn}
 use Rattle.readers.specs.Expression.{expressionIn}
 use Rattle.readers.specs.Entries.{entryLayout, stepAt}
 use Rattle.readers.specs.Abbreviations.{Placed, declaredIn, abbreviationsOf}
@@ -23,15 +23,15 @@ use Rattle.marking.specs.EntryReferences.{found}
 use Rattle.marking.specs.Analysis.{Sections, Rooms, Row, analysed, refused as notAnalysed, startOf, analyseItems, onDeclared, unitAnalysed, headerAnalysed, analysisOf, valuesOfEntry, namesOf, baseOf}
 use Rattle.rewriting.specs.Ascending.{Member, here, there}
 use Rattle.rewriting.specs.Rewriting.{Unit as Unit′, itemsIn, readsOr, readsAt, Room}
-use Rattle.rewriting.specs.SameReferences.{RoleReference, FormReference, ListReference, valuesIn, baseAt, SameReferences, RowsReferences, RowReferences, UnitReferences}
+use Rattle.rewriting.specs.SameReferences.{RoleReference, valuesIn, baseAt, SameReferences, RowsReferences, RowReferences, UnitReferences}
 use Rattle.rewriting.proofs.Sorted.{nothing-in}
 use Rattle.rewriting.proofs.NamedPieces.{readsNames, reads-members}
 use Rattle.rewriting.proofs.EntryNames.{valuesNames, StepNames, deep-names}
 use Rattle.rewriting.proofs.ListedNames.{in-attributes, in-values}
 use Rattle.rewriting.proofs.ItemsStand.{EveryItem, Stands, items-stand}
-use Rattle.rewriting.proofs.ReadableItems.{Is, JudgedEntry, JudgedStep, step-deep}
+use Rattle.rewriting.proofs.ReadableItems.{Is, JudgedStep, step-deep}
 use Rattle.rewriting.proofs.Accepted.{unitOf, Accepted}
-use Rattle.rewriting.proofs.Following.{RowOf, Follow, accepted-follow}
+use Rattle.rewriting.proofs.Following.{Follow, accepted-follow}
 
 module _ (x : Sections) (u : Unit′) where
   abbrev deepAt : ℕ → Option RunOf

@@ -6,7 +6,7 @@ use mathlib.Core.Path.{_≡_}
 use mathlib.Core.Bool.{true}
 use mathlib.Core.List.{List, [], _∷_}
 use mathlib.Core.Logic.{_⊎_, _↔_}
-use mathlib.Core.Option.{Option, some}
+use mathlib.Core.Option.{some}
 use lib.ListN.{take}
 use lib.Dec.{eqb}
 use Rattle.readers.specs.Abbreviations.{Placed, abbreviationsOf}
@@ -127,16 +127,19 @@ module _ (x : Sections) (u : Unit′) where
   abbrev pub valuesIn : Entry → List Valued
   valuesIn y = valuesOfEntry (u .header .encoding) x (u .bytes) y
 
+  abbrev pub readsIn : Entry → List Read
+  readsIn y = readsAt x u (y .offset .0)
+
+  -- DW_AT_loclists_base (0x8c): from this entry on
   abbrev pub baseAt : ℕ → Entry → ℕ
   baseAt base y = baseOf (u .header .encoding) x (u .bytes) 0x8c base y
 
   -- the names of an entry's row, which keep entries, given the base of location lists that holds at it
   pub record SameReferences (base : ℕ) (y : Entry) (names : List ℕ) (v : ℕ) : Type 0 where
     -- are the numbers of its reads that are patched as references, and those in its location lists
-    pub kept : Member v names
-        ↔ (RoleReference (readsAt x u (y .offset .0)) v ⊎ ListReference (u .header .encoding) (x .locations) v base (valuesIn y))
-    -- what is patched is what its attributes name by their forms and operations
-    pub patched : RoleReference (readsAt x u (y .offset .0)) v ↔ FormReference (u .header .encoding) (u .bytes) v (valuesIn y)
+    pub kept : Member v names ↔ (RoleReference (readsIn y) v ⊎ ListReference (u .header .encoding) (x .locations) v base (valuesIn y))
+    -- and what is patched is what its attributes name by their forms and operations
+    pub patched : RoleReference (readsIn y) v ↔ FormReference (u .header .encoding) (u .bytes) v (valuesIn y)
 
   -- each row and its entry, given the base of location lists that was reached
   unfoldable pub RowsReferences : ℕ → List Item → List Row → Type 0
@@ -146,7 +149,7 @@ module _ (x : Sections) (u : Unit′) where
   RowsReferences base (entry y ∷ rest) (r ∷ rows) =
       ((v : ℕ) → SameReferences (baseAt base y) y (r .names) v) × RowsReferences (baseAt base y) rest rows
 
-  -- the row of an entry
+  -- an entry has a row that names its references; RowsReferences says by which base
   pub record RowReferences (rows : List Row) (y : Entry) : Type 0 where
     pub row : Row
     pub among : Member row rows
@@ -154,7 +157,8 @@ module _ (x : Sections) (u : Unit′) where
     pub base : ℕ
     pub same : (v : ℕ) → SameReferences base y (row .names) v
 
--- the first unit of a section, by the header and the declarations that are found: the rows of its analysis name the references of its entries
+-- the first unit of a section, by the header and the declarations that are found: the rows of its analysis name the
+-- references of its entries
 pub record UnitReferences (x : Sections) (section : List ℕ) (rows : List Row) : Type 0 where
   pub header : UnitHeader
   pub declared : List Placed
@@ -163,4 +167,5 @@ pub record UnitReferences (x : Sections) (section : List ℕ) (rows : List Row) 
   -- row by row: list bases default to 12
   pub rows-are : RowsReferences x (unitIn section header declared) 12 (itemsIn x (unitIn section header declared)) rows
   -- and of every entry
-  pub each : (y : Entry) → Member (entry y) (itemsIn x (unitIn section header declared)) → RowReferences x (unitIn section header declared) rows y
+  pub each : (y : Entry) → Member (entry y) (itemsIn x (unitIn section header declared))
+      → RowReferences x (unitIn section header declared) rows y
