@@ -56,6 +56,10 @@ pub mod AttributesAgain
 pub mod AttributeLaws
 pub mod Held
 pub mod EntryIndices
+pub mod NamedPieces
+pub mod EntryNames
+pub mod ListedNames
+pub mod SameReferences
 pub mod IndexTurns
 pub mod Holdings
 pub mod SortedLists

@@ -24,3 +24,4 @@ pub mod HostReads
 pub mod AttributesAgain
 pub mod Leaving
 pub mod FiveEntries
+pub mod SameReferences
