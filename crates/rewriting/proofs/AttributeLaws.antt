@@ -28,7 +28,7 @@ use Rattle.marking.specs.Roots.{Valued, valuesOf, specsFrom, entryValues}
 use Rattle.marking.specs.Analysis.{Sections, valuesOfEntry}
 use Rattle.marking.proofs.Attributes.{specs-all}
 use Rattle.rewriting.specs.Places.{Standing, offsetOf, sizeOf, Place, placesFrom}
-use Rattle.rewriting.specs.Nth.{Nth, now, later}
+use Rattle.marking.specs.Members.{Nth, now, later}
 use Rattle.rewriting.specs.Moved.{movedEntry, movedItem, movedFrom}
 use Rattle.rewriting.specs.Rewriting.{Unit as Unit′, itemsIn, readsAt, Lists, newValue, bytesFrom, Room, Rewrite, rewritten, collectOf}
 use Rattle.rewriting.specs.AttributesAgain.{SameAttributes, AttributesAgain, EntryAgain}

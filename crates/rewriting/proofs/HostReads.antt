@@ -16,28 +16,27 @@ use Rattle.readers.specs.Choice.{pick, pick-either, _and_, zeros, All, all-map}
 use Rattle.readers.specs.Layout.{Encoded, infixed, inleb, Role, index, Token, nothing, number, bounded, forms, signed, link, string, run, block, expression, unknown, Layout, done, fail, field, Piece, copied, linked, Read, RunOf, Fit}
 use Rattle.readers.specs.Expression.{expressionIn}
 use Rattle.readers.specs.Entries.{entryLayout}
-use Rattle.readers.specs.Abbreviations.{Placed, declaredIn}
+use Rattle.readers.specs.Abbreviations.{Placed, declaredIn, abbreviationsOf}
 use Rattle.readers.specs.Stream.{Item, entry, terminator}
 use Rattle.readers.specs.declared.cursor.Encoding.{Encoding}
 use Rattle.readers.specs.declared.header.UnitHeader.{UnitHeader}
 use Rattle.readers.specs.declared.header.HeaderRead.{HeaderRead}
 use Rattle.readers.specs.declared.header.HeaderRead.the-variants.{Unit as Header′, Empty, Refused}
 use Rattle.readers.specs.Header.{headerOf}
-use Rattle.readers.specs.Abbreviations.{abbreviationsOf}
 use Rattle.marking.specs.Marks.{isKept, keptCount}
 use Rattle.marking.specs.Analysis.{Sections, Rooms, Row, Analysed, analysed, refused as notAnalysed, analysisOf}
 use Rattle.marking.specs.Resolution.{marksIn, Ascending as From}
 use Rattle.marking.specs.Columns.{padTo}
 use Rattle.rewriting.specs.Places.{Standing, opened, closed, innermost, withIf, keptFrom, offsetOf, sizeOf, Place, placesFrom, sizeFrom}
 use Rattle.rewriting.specs.Indices.{countOf}
-use Rattle.rewriting.specs.Ascending.{Ascending, Member, here, there}
-use Rattle.rewriting.specs.Nth.{Nth, now, later}
+use Rattle.rewriting.specs.Ascending.{Ascending}
+use Rattle.marking.specs.Members.{Member, here, there, Nth, now, later}
 use Rattle.rewriting.specs.Maps.{offsetsOf, oldOffsets}
 use Rattle.rewriting.specs.Written.{numberAt, runBytes, listBytes, columns, mapBytes, place, MapHeld}
 use Rattle.rewriting.specs.Rewriting.{Unit as Unit′, itemsIn, readsOr, readsAt, Lists, noLists, listAt, listsOf, listsFit, Room, Rewrite, Collected, untouched, rewritten, refused, orRefused, rewriteOf, marksCollected, rowsCollected, analysedCollected, declaredCollected, headerCollected, collectOf}
 use Rattle.rewriting.specs.Outputs.{roomBy, mapFor, outputFor, listOr, listFor}
 use Rattle.rewriting.specs.HostReads.{placeAt, listNumberAt, MapReads, ListReads, PresentReads, OutputReads, RewrittenReads, UntouchedReads, RefusedReads, AnswerReads}
-use Rattle.rewriting.proofs.Sorted.{nothing-in, in-cases}
+use Rattle.marking.proofs.Members.{nothing-in, in-cases}
 use Rattle.rewriting.proofs.Maps.{places-length, kept-member}
 use Rattle.rewriting.proofs.Sizes.{items-ascending, items-inside}
 use Rattle.rewriting.proofs.Tables.{Small, length-run, run-at}
@@ -45,7 +44,8 @@ use Rattle.rewriting.proofs.Places.{nowhere, length-columns, old-held, 
 use Rattle.rewriting.proofs.Exact.{are-take, are-drop, tokenOk, LayoutOk, Right, Rights, AllRights, Exactly, ExactReader, RunExact, read-exact, inExpression, expression-exactly}
 use Rattle.rewriting.proofs.HeaderAgain.{HeaderLaw}
 use Rattle.rewriting.proofs.Following.{accepted-header}
-use Rattle.rewriting.proofs.Accepted.{unitOf, survivorsIn, Accepted, WasRewritten, marks-each}
+use Rattle.rewriting.proofs.Accepted.{unitOf, survivorsIn, Accepted, WasRewritten}
+use Rattle.marking.proofs.UnitLaws.{marks-each}
 use Rattle.rewriting.proofs.IndexMembers.{IndexKept}
 use Rattle.rewriting.proofs.CollectLaws.{it, unit, marks, kept, start, again-law, bytes-law, map-law, list-law, whole, whole-list-law}
 

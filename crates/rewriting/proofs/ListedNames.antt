@@ -28,9 +28,9 @@ use Rattle.marking.specs.Walking.{Next, onNext, walk, Forward, walk-step}
 use Rattle.marking.specs.Roots.{Valued}
 use Rattle.marking.specs.EntryReferences.{Found, found, refused, after, andThen, targets, expressionFound, partOf, Reached, reachedAt, locationFound, onFound, locationStep, listFound, Locations, locationsBy, attributeFound, attributesFound}
 use Rattle.marking.proofs.LocationLists.{listFrom, list-start}
-use Rattle.rewriting.specs.Ascending.{Member, here, there}
+use Rattle.marking.specs.Members.{Member, here, there}
 use Rattle.rewriting.specs.SameReferences.{NamedIn, FormNames, ExprlocNames, FormReference, InExpression, InEntry, InList, this, later, locationList, ListedBy, ListReference}
-use Rattle.rewriting.proofs.Sorted.{nothing-in}
+use Rattle.marking.proofs.Members.{nothing-in}
 use Rattle.rewriting.proofs.IndexMembers.{in-left, in-right, in-either}
 use Rattle.rewriting.proofs.NamedPieces.{namesOf, expression-names, expression-operations, only, pieces-members}
 use Rattle.rewriting.proofs.EntryNames.{ownNames, valuesNames}

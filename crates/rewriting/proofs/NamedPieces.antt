@@ -18,9 +18,9 @@ use Rattle.readers.specs.declared.cursor.Encoding.{Encoding}
 use Rattle.readers.specs.declared.expressions.Walk.{Walk}
 use Rattle.readers.specs.declared.expressions.Walk.the-variants.{Walked, Unreadable}
 use Rattle.marking.specs.EntryReferences.{found, targets, walkFound, expressionFound}
-use Rattle.rewriting.specs.Ascending.{Member, here, there}
+use Rattle.marking.specs.Members.{Member, here, there}
 use Rattle.rewriting.specs.SameReferences.{Names, NamedIn, RoleReference}
-use Rattle.rewriting.proofs.Sorted.{nothing-in}
+use Rattle.marking.proofs.Members.{nothing-in}
 use Rattle.rewriting.proofs.IndexMembers.{in-left, in-right, in-either}
 
 -- ---- the references, as a list

@@ -21,17 +21,18 @@ use Rattle.readers.specs.declared.header.HeaderRead.the-variants.{Unit as Heade
 use Rattle.readers.specs.declared.header.UnitHeader.{UnitHeader}
 use Rattle.marking.specs.EntryReferences.{found}
 use Rattle.marking.specs.Analysis.{Sections, Rooms, Row, analysed, refused as notAnalysed, startOf, analyseItems, onDeclared, unitAnalysed, headerAnalysed, analysisOf, valuesOfEntry, namesOf, baseOf}
-use Rattle.rewriting.specs.Ascending.{Member, here, there}
+use Rattle.marking.specs.Members.{Member, here, there}
 use Rattle.rewriting.specs.Rewriting.{Unit as Unit′, itemsIn, readsOr, readsAt, Room}
 use Rattle.rewriting.specs.SameReferences.{RoleReference, valuesIn, baseAt, SameReferences, RowsReferences, RowReferences, UnitReferences}
-use Rattle.rewriting.proofs.Sorted.{nothing-in}
+use Rattle.marking.proofs.Members.{nothing-in}
 use Rattle.rewriting.proofs.NamedPieces.{readsNames, reads-members}
 use Rattle.rewriting.proofs.EntryNames.{valuesNames, StepNames, deep-names}
 use Rattle.rewriting.proofs.ListedNames.{in-attributes, in-values}
 use Rattle.rewriting.proofs.ItemsStand.{EveryItem, Stands, items-stand}
 use Rattle.rewriting.proofs.ReadableItems.{Is, JudgedStep, step-deep}
 use Rattle.rewriting.proofs.Accepted.{unitOf, Accepted}
-use Rattle.rewriting.proofs.Following.{Follow, accepted-follow}
+use Rattle.marking.specs.UnitSurvivors.{RowsOf}
+use Rattle.rewriting.proofs.Following.{accepted-follow}
 
 module _ (x : Sections) (u : Unit′) where
   abbrev deepAt : ℕ → Option RunOf
@@ -90,14 +91,14 @@ module _ (x : Sections) (u : Unit′) where
   StandAll items = EveryItem (Stands (u .header .encoding) (x .abbreviations) (declaredIn (u .declared)) (u .bytes)) items
 
   abbrev FollowAll : ℕ → List ℕ → ℕ → ℕ → List Item → List Row → Type 0
-  FollowAll k stack rb lb items rows = Follow (u .header .encoding) x (u .bytes) k stack rb lb items rows
+  FollowAll k stack rb lb items rows = RowsOf (u .header .encoding) x (u .bytes) k stack rb lb items rows
 
   abbrev rangeBase : ℕ → Entry → ℕ
   rangeBase rb y = baseOf (u .header .encoding) x (u .bytes) 0x74 rb y
 
   rows-references : (k : ℕ) (stack : List ℕ) (rb lb : ℕ) (items : List Item) (rows : List Row)
       → FollowAll k stack rb lb items rows → StandAll items → RowsReferences x u lb items rows
-  unfolding Follow EveryItem Stands RowsReferences
+  unfolding RowsOf EveryItem Stands RowsReferences
   rows-references k stack rb lb [] rows f s = f
   rows-references k stack rb lb (terminator a b ∷ rest) rows f s = rows-references k (close stack) rb lb rest rows f (s .1)
   rows-references k stack rb lb (entry y ∷ rest) [] f s = f
@@ -111,7 +112,7 @@ module _ (x : Sections) (u : Unit′) where
 
   row-references : (k : ℕ) (stack : List ℕ) (rb lb : ℕ) (items : List Item) (rows : List Row)
       → FollowAll k stack rb lb items rows → StandAll items → (y : Entry) → Member (entry y) items → RowReferences x u rows y
-  unfolding Follow EveryItem Stands
+  unfolding RowsOf EveryItem Stands
   row-references k stack rb lb [] rows f s y m = absurd (nothing-in (entry y) m)
   row-references k stack rb lb (terminator a b ∷ rest) rows f s y (here q) = let z : _≡_ {A = ℕ} 0 1 = cc in absurd (omega arith)
   row-references k stack rb lb (terminator a b ∷ rest) rows f s y (there m) = row-references k (close stack) rb lb rest rows f (s .1) y m

@@ -18,7 +18,7 @@ use Rattle.readers.specs.declared.entries.Entry.{Entry}
 use Rattle.marking.specs.Roots.{Valued, specsFrom}
 use Rattle.marking.specs.Analysis.{Sections, valuesOfEntry}
 use Rattle.rewriting.specs.Places.{Standing, Place}
-use Rattle.rewriting.specs.Nth.{Nth}
+use Rattle.marking.specs.Members.{Nth}
 use Rattle.rewriting.specs.Moved.{movedEntry}
 use Rattle.rewriting.specs.Rewriting.{Lists, newValue}
 use Rattle.rewriting.specs.Emission.{between}

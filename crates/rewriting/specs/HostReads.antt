@@ -7,8 +7,7 @@ use mathlib.Core.Option.{Option, none, some}
 use lib.ListN.{length, take, drop}
 use Rattle.readers.specs.Choice.{zeros}
 use Rattle.rewriting.specs.Places.{Place}
-use Rattle.rewriting.specs.Ascending.{Member}
-use Rattle.rewriting.specs.Nth.{Nth}
+use Rattle.marking.specs.Members.{Member, Nth}
 use Rattle.rewriting.specs.Written.{numberAt}
 use Rattle.rewriting.specs.Rewriting.{Lists, Rewrite, Collected, untouched, rewritten, refused}
 use Rattle.rewriting.specs.Outputs.{mapFor, outputFor, listFor, rangesIn, locationsIn, stringsIn}

@@ -32,7 +32,7 @@ use Rattle.readers.specs.declared.operations.ListStep.the-variants.{Entry as En
 use Rattle.marking.specs.Roots.{Valued}
 use Rattle.marking.specs.EntryReferences.{targets, partOf}
 use Rattle.marking.specs.Analysis.{Sections, Row, valuesOfEntry, baseOf}
-use Rattle.rewriting.specs.Ascending.{Member}
+use Rattle.marking.specs.Members.{Member}
 use Rattle.rewriting.specs.Rewriting.{Unit as Unit′, itemsIn, readsAt}
 
 -- ---- by roles: what is patched
