@@ -20,8 +20,8 @@ use Rattle.marking.specs.Analysis.{Sections, Row, Analysed, analysed, refused a
 use Rattle.marking.specs.Resolution.{marksIn}
 use Rattle.marking.proofs.UnitLaws.{marks-each}
 use Rattle.rewriting.specs.Places.{Standing, keptFrom, Place, placesFrom, sizeFrom}
-pub use Rattle.rewriting.specs.Thinned.{unitOf}
-use Rattle.rewriting.specs.Rewriting.{Unit as Unit′, itemsIn, Lists, listsOf, refusalFrom, unitBytes, Room, Rewrite, Collected, untouched, rewritten, refused, listsFit, orRefused, rewriteOf, marksCollected, rowsCollected, analysedCollected, declaredCollected, headerCollected, collectOf}
+pub use Rattle.rewriting.specs.Rewriting.{unitOf}
+use Rattle.rewriting.specs.Rewriting.{Unit as Unit′, itemsIn, Lists, noLists, listsOf, refusalFrom, unitBytes, Room, Rewrite, Collected, untouched, rewritten, refused, listsFit, orRefused, rewriteOf, marksCollected, rowsCollected, analysedCollected, declaredCollected, headerCollected, collectOf}
 
 -- ---- at most as many are kept as there are
 
@@ -71,7 +71,7 @@ module _ (x : Sections) (room : Room) (typeUnits : Bool) (section : List ℕ) wh
     pub lists-is : l ≡ listsOf x (unitOf header section declared) typeUnits (survivorsIn x (unitOf header section declared) rows)
 
   unfoldable Told : Collected → Type 0
-  Told (untouched n l) = (0 < n → WasUntouched n l) × (n ≡ 0 → analysisOf x section (room .tables) ≡ analysed [])
+  Told (untouched n l) = (0 < n → WasUntouched n l) × (n ≡ 0 → (analysisOf x section (room .tables) ≡ analysed []) × (l ≡ noLists))
   Told (rewritten w) = WasRewritten w
   Told (refused n) = Unit {0}
 
@@ -142,7 +142,7 @@ module _ (x : Sections) (room : Room) (typeUnits : Bool) (section : List ℕ) wh
 
   rows-told : (h : UnitHeader) (ds : List Placed) (rows : List Row) → Accepted x room section h ds rows → Told (rowsCollected x room typeUnits (unitOf h section ds) rows)
   unfolding rowsCollected Told
-  rows-told h ds [] a = (λ n. absurd (omega arith), λ z. a .analysis)
+  rows-told h ds [] a = (λ n. absurd (omega arith), λ z. (a .analysis, refl))
   rows-told h ds (r ∷ rows) a = marks-told h ds (r ∷ rows) a (omega (arith, marks-each (r ∷ rows)))
 
   analysed-told : (h : UnitHeader) (ds : List Placed) → headerOf section ≡ Header′ h → abbreviationsOf (x .abbreviations) (h .abbreviations) ≡ some ds
@@ -159,7 +159,7 @@ module _ (x : Sections) (room : Room) (typeUnits : Bool) (section : List ℕ) wh
 
   header-told : (o : HeaderRead) → headerOf section ≡ o → Told (headerCollected x room typeUnits section o)
   unfolding headerCollected Told analysisOf headerAnalysed
-  header-told Empty q = (λ n. absurd (omega arith), λ z. ap (headerAnalysed x section (room .tables)) q)
+  header-told Empty q = (λ n. absurd (omega arith), λ z. (ap (headerAnalysed x section (room .tables)) q, refl))
   header-told (Refused n) q = tt
   header-told (Header′ h) q = declared-told h q (abbreviationsOf (x .abbreviations) (h .abbreviations)) refl
 
@@ -177,6 +177,6 @@ module _ (x : Sections) (room : Room) (typeUnits : Bool) (section : List ℕ) wh
   was-untouched n l q = subst Told q told .0
 
   -- untouched without entries: the unit has none
-  pub was-empty : (l : Lists) → collectOf x room typeUnits section ≡ untouched 0 l → analysisOf x section (room .tables) ≡ analysed []
+  pub was-empty : (l : Lists) → collectOf x room typeUnits section ≡ untouched 0 l → (analysisOf x section (room .tables) ≡ analysed []) × (l ≡ noLists)
   unfolding Told
   was-empty l q = subst Told q told .1 refl

@@ -8,7 +8,7 @@ use mathlib.Core.Option.{Option, none, some}
 use lib.ListN.{length}
 use lib.Dec.{leb}
 use mir.Facts.{leb-yes, leb-no}
-use Rattle.readers.specs.Choice.{pick, pick-either, zeros}
+use Rattle.readers.specs.Choice.{pick-either, zeros}
 use Rattle.readers.specs.Abbreviations.{Placed, abbreviationsOf, indexOf}
 use Rattle.readers.specs.Header.{headerOf}
 use Rattle.readers.specs.declared.header.UnitHeader.{UnitHeader}
@@ -18,10 +18,9 @@ use Rattle.marking.specs.Analysis.{Sections, Rooms, Row, Analysed, analysed, re
 use Rattle.marking.specs.Columns.{padTo, column, parentsIn, indexAfter, least, roomsOf, unitRooms}
 use Rattle.marking.specs.Marks.{keptCount}
 use Rattle.marking.specs.Resolution.{marksIn, unitMarks}
-use Rattle.marking.specs.declared.units.UnitMarks.{UnitMarks}
 use Rattle.marking.specs.declared.units.UnitMarks.the-variants.{Marked, Refused as NotMarked}
 use Rattle.rewriting.specs.Rewriting.{Room, Collected, untouched, rewritten, refused, noLists, rowsCollected, analysedCollected, declaredCollected, headerCollected, collectOf}
-use Rattle.rewriting.specs.Outputs.{roomBy, listCount, countsOf, answerFor, mapFor, outputFor, listOr, listFor, rangesIn, locationsIn, stringsIn}
+use Rattle.rewriting.specs.Outputs.{roomBy, answerFor, mapFor, outputFor, listOr, listFor, rangesIn, locationsIn, stringsIn}
 use Rattle.rewriting.specs.Leaving.{Accepts, Answers, ownUnit, Tabled, Blank, markedOf}
 use Rattle.rewriting.specs.declared.collect.Counts.{Counts}
 use Rattle.rewriting.specs.declared.collect.Collected.{Collected as Answer}

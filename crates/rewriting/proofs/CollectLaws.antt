@@ -1,4 +1,5 @@
--- THE LAWS OF DEMAND 3 about units: of what `collect` answers, for every input. Each assumes that the answer is a rewritten unit, or an untouched one, and nothing else.
+-- What an answer of collect says of its unit, for every input: the parts of the law of thinned units (ThinnedLaw.antt). Each assumes that the answer is a rewritten unit, or an
+-- untouched one, and nothing else.
 use mathlib.Core.Path.{_≡_, ap, ap₂, sym, _∙_, subst}
 use Prim.Native.Nat.{ℕ, zero, suc, _+_, _-_, _<_}
 use native.Mathlib.Omega.{arith}
@@ -7,33 +8,30 @@ use mathlib.Core.List.{List, [], _++_, append-assoc}
 use mathlib.Core.Option.{Option, none, some}
 use mathlib.Core.Logic.{_↔_}
 use lib.ListN.{length, take, drop}
-use lib.Seq.{take-length}
 use lib.Dec.{T}
 use Rattle.readers.specs.Choice.{pick, pick-either}
 use Rattle.readers.specs.Numbers.{fixedBytes}
-use Rattle.readers.specs.Layout.{Encoded, Role, reference, typeReference, sibling, index, absolute, linked, Read, Patch, patchRead}
-use Rattle.readers.specs.Abbreviations.{declaredIn, abbreviationsOf}
+use Rattle.readers.specs.Abbreviations.{declaredIn}
 use Rattle.readers.specs.Header.{headerOf}
-use Rattle.readers.specs.Stream.{Item, Items, itemsFrom}
+use Rattle.readers.specs.Stream.{Item, Items}
 use Rattle.readers.specs.declared.header.HeaderRead.the-variants.{Unit as Header′}
 use Rattle.marking.specs.Below.{Number}
 use Rattle.marking.specs.Survivors.{Kept}
 use Rattle.marking.specs.Marks.{isKept, keptCount}
 use Rattle.marking.specs.Analysis.{Sections, Row, analysed, analysisOf}
 use Rattle.marking.specs.Resolution.{graphOf, marksIn}
-use Rattle.rewriting.specs.Places.{Standing, offsetOf, Place, placesFrom, sizeFrom, newOf, siblingOf}
-use Rattle.rewriting.specs.Indices.{insertAll, rankIn, rankOr}
-use Rattle.marking.specs.Members.{Member, Nth}
+use Rattle.rewriting.specs.Places.{Standing, Place, placesFrom, sizeFrom}
+use Rattle.rewriting.specs.Indices.{insertAll, rankIn}
+use Rattle.marking.specs.Members.{Member}
 use Rattle.rewriting.specs.Ascending.{Ascending}
 use Rattle.rewriting.specs.Maps.{oldOffsets, newOffsets}
 use Rattle.rewriting.specs.LeftOut.{leftFrom}
 use Rattle.rewriting.specs.Moved.{movedFrom}
 use Rattle.rewriting.specs.Around.{aroundFrom, keptAround, AllLeading}
-use Rattle.rewriting.specs.Rewriting.{Unit as Unit′, itemsIn, readsAt, Lists, indicesFrom, listOf, listsOf, listAt, newValue, bytesFrom, unitBytes, Room, Rewrite, untouched, rewritten, collectOf}
+use Rattle.rewriting.specs.Rewriting.{Unit as Unit′, itemsIn, Lists, indicesFrom, listOf, listsOf, listAt, bytesFrom, unitBytes, Room, Rewrite, untouched, rewritten, collectOf}
 use Rattle.rewriting.proofs.Sorted.{sorted-ascending, sorted-member, rank-inside, rank-place, Ranked}
 use Rattle.rewriting.proofs.Maps.{places-length, kept-sized, olds-ascending, news-ascending}
 use Rattle.rewriting.proofs.Sizes.{kept-and-left, items-ascending, items-sized}
-use Rattle.rewriting.proofs.Landing.{item-reference, item-type, item-sibling, no-type}
 use Rattle.rewriting.proofs.ItemsStand.{Every}
 use Rattle.rewriting.proofs.Rereading.{Readable}
 use Rattle.rewriting.proofs.ReadsAgain.{withBytes}
@@ -48,7 +46,6 @@ use Rattle.marking.proofs.UnitSurvivors.{rows-least}
 use Rattle.rewriting.proofs.ClosedMarks.{accepted-kept, accepted-count, accepted-marks, accepted-closed}
 use Rattle.rewriting.proofs.ReadableItems.{accepted-readable}
 use Rattle.rewriting.proofs.AroundAgain.{around-again}
-use Rattle.rewriting.proofs.Targets.{Target, leads-target, Moves, moves, nth-member, piece-patched, read-patched}
 use Rattle.rewriting.proofs.IndexMembers.{IndexKept, index-members}
 use Rattle.rewriting.proofs.Counting.{Without, some-without, all-with}
 
@@ -92,20 +89,6 @@ module _ (x : Sections) (u : Unit′) (typeUnits : Bool) (kept : List Standing) 
 
   listed-law : (lists : Lists) → lists ≡ listsOf x u typeUnits kept → (k : ℕ) → k < 3 → listAt lists k ≡ some xs → ListLaw x u kept k xs
   listed-law lists q k h p = sorted-law k (list-is k h (sym (ap (λ (z : Lists). listAt z k) q) ∙ p))
-
-patched-piece : (f : Patch) (r : Read) (e : Encoded) (role : Role) (v n : ℕ) → Nth (linked e role v) n (r .pieces) → Nth (linked e role (f role v)) n (patchRead f r .pieces)
-unfolding patchRead
-patched-piece f r e role v n p = piece-patched f e role v n (r .pieces) p
-
--- an index by its list
-module _ (lists : Lists) (places : List Place) (depth k : ℕ) where
-  index-new : (xs : List ℕ) → listAt lists k ≡ some xs → (v : ℕ) → newValue lists places depth (index k) v ≡ rankIn xs v
-  unfolding newValue rankOr
-  index-new xs q v = ap (λ (o : Option (List ℕ)). rankOr o v) q
-
-  index-old : listAt lists k ≡ none → (v : ℕ) → newValue lists places depth (index k) v ≡ v
-  unfolding newValue rankOr
-  index-old q v = ap (λ (o : Option (List ℕ)). rankOr o v) q
 
 -- ---- a rewritten unit
 
@@ -197,23 +180,6 @@ module _ (x : Sections) (room : Room) (typeUnits : Bool) (section : List ℕ) (w
       (header-law .little) (let q : start + sizeFrom kept - 4 ≡ length (w .output) - 4 = omega (arith, again-law .size) in q))
       (omega (arith, bytes-law, header-law .short))
 
-  -- read from its first byte on: the header, the same abbreviations, and all its bytes are the unit's
-  pub record ReadBack : Type 0 where
-    pub header : headerOf (w .output) ≡ Header′ (withEnd (it .header) (length (w .output)))
-    pub declared : abbreviationsOf (x .abbreviations) (it .header .abbreviations) ≡ some (it .declared)
-    pub bytes : take (length (w .output)) (w .output) ≡ w .output
-    pub items : itemsIn x (unitOf (withEnd (it .header) (length (w .output))) (w .output) (it .declared)) ≡ movedFrom start kept
-
-  pub back-law : ReadBack
-  unfolding itemsIn
-  back-law =
-      record {
-        header = again-header;
-        declared = accepted .declared;
-        bytes = take-length (w .output);
-        items = ap (λ (z : List ℕ). itemsFrom (it .header .encoding) (x .abbreviations) (declaredIn (it .declared)) z start .0) (take-length (w .output)) ∙ items-are;
-      }
-
   -- ---- the map
 
   olds-law : Ascending (oldOffsets (placesFrom start kept))
@@ -228,17 +194,11 @@ module _ (x : Sections) (room : Room) (typeUnits : Bool) (section : List ℕ) (w
       news-ascending start kept (kept-sized marks 0 [] (itemsIn x unit)
       (items-sized (it .header .encoding) (x .abbreviations) (declaredIn (it .declared)) (unit .bytes) start))
 
-  -- a kept item: its new place by the map, that it stands there in the new stream, and that it is read there as it was, patched
-  pub item-law : (s : Standing) → Member s kept → Moves x unit (w .lists) (w .map) (w .output) start kept s
-  item-law s m = moves x unit (w .lists) (w .map) (w .output) start kept olds-law (again-law .reads) s m
-
-  -- the map is in ascending order, by old offsets and by new ones; it has one place for each kept item, in their order, and no other
+  -- the map is in ascending order, by old offsets and by new ones; it has as many places as there are kept items
   pub record MapLaw : Type 0 where
     pub olds : Ascending (oldOffsets (w .map))
     pub news : Ascending (newOffsets (w .map))
     pub each : length (w .map) ≡ length kept
-    pub complete : (s : Standing) → Member s kept → Moves x unit (w .lists) (w .map) (w .output) start kept s
-    pub only : (v n : ℕ) → newOf (w .map) v ≡ some n → Target start kept v n
 
   pub map-law : MapLaw
   map-law =
@@ -246,8 +206,6 @@ module _ (x : Sections) (room : Room) (typeUnits : Bool) (section : List ℕ) (w
         olds = subst (λ (z : List Place). Ascending (oldOffsets z)) (sym (it .map-is)) olds-law;
         news = subst (λ (z : List Place). Ascending (newOffsets z)) (sym (it .map-is)) news-law;
         each = ap length (it .map-is) ∙ places-length start kept;
-        complete = item-law;
-        only = (λ v n q. leads-target start kept v n (sym (ap (λ (z : List Place). newOf z v) (it .map-is)) ∙ q));
       }
 
   -- ---- nesting
@@ -259,96 +217,6 @@ module _ (x : Sections) (room : Room) (typeUnits : Bool) (section : List ℕ) (w
       subst (λ (z : List Item). AllLeading (w .map) (keptAround marks 0 [] [] (itemsIn x unit)) (aroundFrom [] z)) (sym items-are)
       (subst (λ (z : List Place). AllLeading z (keptAround marks 0 [] [] (itemsIn x unit)) (aroundFrom [] (movedFrom start kept))) (sym (it .map-is))
       (around-again marks (itemsIn x unit) (accepted-closed x room section (it .header) (it .declared) (it .rows) accepted) start olds-law))
-
-  -- ---- references
-
-  -- at the new place of a kept item a number is read, in the same operand as the old one, as wide and in the same role
-  pub record Written (s : Standing) (m : Member s kept) (j k : ℕ) (e : Encoded) (role : Role) (n : ℕ) : Type 0 where
-    pub read : Read
-    pub among : Nth read j (readsAt x again (item-law s m .new))
-    pub written : Nth (linked e role n) k (read .pieces)
-
-  -- a number v of a kept item was the offset of a kept entry or terminator, and what is read in its place is where that stands in the new stream
-  pub record Lands (s : Standing) (m : Member s kept) (j k : ℕ) (e : Encoded) (role : Role) (v : ℕ) : Type 0 where
-    pub new : ℕ
-    pub target : Target start kept v new
-    pub again-there : Written s m j k e role new
-
-  -- an index v of a kept item is in its list, and what is read in its place is its place in the list
-  pub record Ranks (s : Standing) (m : Member s kept) (j k : ℕ) (e : Encoded) (kind : ℕ) (xs : List ℕ) (v : ℕ) : Type 0 where
-    pub listed : Member v xs
-    pub ranked : Ranked xs v (rankIn xs v)
-    pub again-there : Written s m j k e (index kind) (rankIn xs v)
-
-  -- a number of a kept item: the k-th piece of the j-th value that is read of it, expressions operation by operation
-  module _ (s : Standing) (m : Member s kept) (j k : ℕ) (r : Read) (i : Nth r j (readsAt x unit (offsetOf (s .item)))) (e : Encoded) where
-    written-again : (role : Role) (v : ℕ) → Nth (linked e role v) k (r .pieces) → Written s m j k e role (newValue (w .lists) (w .map) (s .depth) role v)
-    written-again role v p =
-        record {
-          read = patchRead (newValue (w .lists) (w .map) (s .depth)) r;
-          among =
-              subst (Nth (patchRead (newValue (w .lists) (w .map) (s .depth)) r) j) (sym (item-law s m .reads))
-              (read-patched (newValue (w .lists) (w .map) (s .depth)) r j (readsAt x unit (offsetOf (s .item))) i);
-          written = patched-piece (newValue (w .lists) (w .map) (s .depth)) r e role v k p;
-        }
-
-    among : Member r (readsAt x unit (offsetOf (s .item)))
-    among = nth-member r j (readsAt x unit (offsetOf (s .item))) i
-
-    lands : (role : Role) (v : ℕ) → Nth (linked e role v) k (r .pieces) → newOf (w .map) v ≡ some (newValue (w .lists) (w .map) (s .depth) role v) → Lands s m j k e role v
-    lands role v p q =
-        record {
-          new = newValue (w .lists) (w .map) (s .depth) role v;
-          target = map-law .only v (newValue (w .lists) (w .map) (s .depth) role v) q;
-          again-there = written-again role v p;
-        }
-
-    -- "Each unit-relative reference of its survivors in a reference form or exprloc, siblings apart, lands on the new place of the entry or terminator it named."
-    pub reference-law : (v : ℕ) → Nth (linked e reference v) k (r .pieces) → Lands s m j k e reference v
-    reference-law v p = lands reference v p (item-reference x unit (w .lists) (w .map) kept (it .none-refused) s m r among e v (nth-member _ k (r .pieces) p))
-
-    -- the type operands of 2.5.1.4 too, where they are not 0
-    pub type-law : (v : ℕ) → (v ≡ 0 → ⊥) → Nth (linked e typeReference v) k (r .pieces) → Lands s m j k e typeReference v
-    type-law v n p = lands typeReference v p (item-type x unit (w .lists) (w .map) kept (it .none-refused) s m r among e v n (nth-member _ k (r .pieces) p))
-
-    -- a sibling becomes that place of the map, or the first at or after it that is no deeper
-    pub record Siblings (v : ℕ) : Type 0 where
-      pub new : ℕ
-      pub is : siblingOf (w .map) (s .depth) v ≡ some new
-      pub again-there : Written s m j k e sibling new
-
-    pub sibling-law : (v : ℕ) → Nth (linked e sibling v) k (r .pieces) → Siblings v
-    sibling-law v p =
-        record {
-          new = newValue (w .lists) (w .map) (s .depth) sibling v;
-          is = item-sibling x unit (w .lists) (w .map) kept (it .none-refused) s m r among e v (nth-member _ k (r .pieces) p);
-          again-there = written-again sibling v p;
-        }
-
-    -- a type operand of 0, for none, and an offset in the section stay as they are
-    pub no-type-law : Nth (linked e typeReference 0) k (r .pieces) → Written s m j k e typeReference 0
-    no-type-law p = subst (Written s m j k e typeReference) (no-type (w .lists) (w .map) (s .depth)) (written-again typeReference 0 p)
-
-    pub absolute-law : (v : ℕ) → Nth (linked e absolute v) k (r .pieces) → Written s m j k e absolute v
-    unfolding newValue
-    absolute-law v p = written-again absolute v p
-
-    -- "Where present, indices become their rank."
-    pub rank-law : (kind : ℕ) → kind < 3 → (xs : List ℕ) → listAt (w .lists) kind ≡ some xs → (v : ℕ) → Nth (linked e (index kind) v) k (r .pieces) → Ranks s m j k e kind xs v
-    rank-law kind h xs q v p =
-        let l : ListLaw x unit kept kind xs = listed-law x unit typeUnits kept xs (w .lists) (it .lists-is) kind h q in
-        let o : IndexKept x unit kind v kept =
-        record { standing = s; among = m; operand = record { read = r; among = among; operand = record { encoded = e; within = nth-member _ k (r .pieces) p } } } in
-        let n : Member v xs = l .members v .1 o in
-        record {
-          listed = n;
-          ranked = l .ranks v n;
-          again-there = subst (Written s m j k e (index kind)) (index-new (w .lists) (w .map) (s .depth) kind xs q v) (written-again (index kind) v p);
-        }
-
-    -- of an absent list they stay
-    pub unranked-law : (kind : ℕ) → listAt (w .lists) kind ≡ none → (v : ℕ) → Nth (linked e (index kind) v) k (r .pieces) → Written s m j k e (index kind) v
-    unranked-law kind q v p = subst (Written s m j k e (index kind)) (index-old (w .lists) (w .map) (s .depth) kind q v) (written-again (index kind) v p)
 
   -- ---- index lists
 
@@ -418,6 +286,6 @@ module _ (x : Sections) (room : Room) (typeUnits : Bool) (section : List ℕ) wh
   -- and an untouched one has none
   pub untouched-none : (n : ℕ) (l : Lists) → collectOf x room typeUnits section ≡ untouched n l → DeadEntry x room section → ⊥
   untouched-none zero l q d =
-      let e : d .rows ≡ [] = same-rows (d .rows) [] (d .analysis) (was-empty x room typeUnits section l q) in
+      let e : d .rows ≡ [] = same-rows (d .rows) [] (d .analysis) (was-empty x room typeUnits section l q .0) in
       omega (arith, d .dead .inside, ap length e)
   untouched-none (suc n) l q d = none-dead (suc n) l q (omega arith) d

@@ -16,7 +16,7 @@ use Rattle.readers.specs.Cursors.{lebAt}
 use Rattle.readers.specs.Abbreviations.{pastAttributes, movedDeclaration, wholeDeclaration, declarationFound, wholeFound}
 use Rattle.readers.specs.Entries.{valuesAt, stepAt}
 use Rattle.readers.proofs.Lebs.{uleb-inside}
-use Rattle.readers.proofs.Values.{entryStep, foundStep, codeStep, step-by, step-end, step-none, step-terminator, step-unknown}
+use Rattle.readers.proofs.Values.{entryStep, foundStep, codeStep, step-by, step-none, step-terminator, step-unknown}
 use Rattle.readers.specs.Nesting.{open′, close, top, nestingOf, opened as openedBy, closed as closedBy}
 use Rattle.readers.proofs.Nesting.{Chain, opened-is, closed-is}
 use Rattle.readers.specs.Stream.{Item, entry, terminator, Items, push, onStep, itemsFrom}

@@ -42,7 +42,6 @@ pub mod ClosedMarks
 pub mod Expressions
 pub mod ReadableItems
 pub mod AroundAgain
-pub mod Targets
 pub mod IndexMembers
 pub mod Counting
 pub mod Roles

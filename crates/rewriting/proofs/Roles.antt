@@ -8,7 +8,7 @@ use mathlib.Core.Option.{Option, none, some}
 use lib.ListN.{length, getD, take}
 use lib.Dec.{T, ltb, eqb, leb}
 use mir.Facts.{ltb-yes}
-use Rattle.readers.specs.Choice.{pick-either, _and_, _or_, All, all-some, all-none, all-of, all-check, all-bind, all-triv}
+use Rattle.readers.specs.Choice.{pick-either, _and_, All, all-some, all-none, all-of, all-check, all-bind, all-triv}
 use Rattle.readers.specs.Numbers.{uleb, sleb}
 use Rattle.readers.specs.Layout.{Encoded, Role, reference, typeReference, sibling, index, absolute, Token, nothing, number, bounded, forms, signed, link, string, run, block, expression, unknown, Layout, done, fail, field, Piece, copied, linked, Read, ReadOf, RunOf, ExpressionReader, stringIn, formsIn, asNumber, asBounded, asForms, asSigned, asLink, asString, asBlock, asExpression, copy, before, numberIn, tokenIn, readIn}
 use Rattle.readers.specs.Tokens.{Use, plain, as′, numberAs, tokenOf}

@@ -1,12 +1,12 @@
 -- Kept items by their positions: the m-th kept item, the m-th place of the map and the m-th item of the new stream; which items are kept; what is open around each.
 -- Assumes nothing.
-use mathlib.Core.Path.{_≡_, refl, ap, sym, _∙_, subst}
-use Prim.Native.Nat.{ℕ, zero, suc, _+_, _≤_, _<_}
+use mathlib.Core.Path.{_≡_, refl, ap, sym, subst}
+use Prim.Native.Nat.{ℕ, suc, _+_, _≤_, _<_}
 use native.Mathlib.Omega.{arith}
 use mathlib.Core.Bool.{Bool, true, false, not}
 use mathlib.Core.List.{List, [], _∷_, map}
-use mathlib.Core.Logic.{_⊎_, inl, inr, ⊎-elim, _↔_}
-use mathlib.Core.Option.{Option, none, some}
+use mathlib.Core.Logic.{_↔_}
+use mathlib.Core.Option.{Option, some}
 use lib.ListN.{length, drop}
 use lib.Dec.{T, eqb, leb}
 use mir.Facts.{eqb-yes, leb-yes, leb-no, yes-leb}
@@ -18,7 +18,7 @@ use Rattle.marking.specs.Analysis.{Sections}
 use Rattle.marking.specs.Marks.{isKept}
 use Rattle.rewriting.specs.Places.{Standing, opened, closed, innermost, withIf, keptFrom, offsetOf, sizeOf, Place, placesFrom, newOf, firstFrom}
 use Rattle.rewriting.specs.LeftOut.{leftFrom}
-use Rattle.marking.specs.Members.{Nth, now, later}
+use Rattle.marking.specs.Members.{Member, here, there, Nth, now, later}
 use Rattle.rewriting.specs.Moved.{movedEntry, movedItem, movedFrom}
 use Rattle.rewriting.specs.Around.{aroundFrom, keptAround, Leading, AllLeading}
 use Rattle.rewriting.specs.Rewriting.{Unit as Unit′, Lists}
@@ -33,6 +33,11 @@ module _ {A B : Type 0} (f : A → B) where
   nth-map a m [] n = elim n [ ]
   nth-map a m (x ∷ xs) (now e) = now (ap f e)
   nth-map a m (x ∷ xs) (later n) = later (nth-map a _ xs n)
+
+pub nth-member : {A : Type 0} (a : A) (n : ℕ) (xs : List A) → Nth a n xs → Member a xs
+nth-member a n [] m = elim m [ ]
+nth-member a n (x ∷ xs) (now e) = here e
+nth-member a n (x ∷ xs) (later m) = there (nth-member a _ xs m)
 
 length-map : {A B : Type 0} (f : A → B) (xs : List A) → length (map f xs) ≡ length xs
 length-map f [] = refl

@@ -1,31 +1,34 @@
 -- EVERY REWRITTEN UNIT IS THINNED as specs/Thinned.antt claims. Assumes nothing but the answer.
-use mathlib.Core.Path.{_≡_, refl, ap, ap₂, sym, _∙_, subst}
-use Prim.Native.Nat.{ℕ, zero, suc, _+_, _≤_, _<_}
+use mathlib.Core.Path.{_≡_, refl, ap, sym, _∙_, subst}
+use Prim.Native.Nat.{ℕ, zero, suc, _+_, _<_}
 use native.Mathlib.Omega.{arith}
-use mathlib.Core.Bool.{Bool, true, false}
+use mathlib.Core.Bool.{Bool, true}
 use mathlib.Core.List.{List, [], _∷_, map}
-use mathlib.Core.Logic.{_⊎_, inl, inr, ⊎-elim, _↔_}
+use mathlib.Core.Logic.{_⊎_, inl, inr, _↔_}
 use mathlib.Core.Option.{Option, none, some}
-use lib.ListN.{length, take, drop, getD}
-use lib.Seq.{length-take-le}
-use lib.Dec.{T, eqb}
+use lib.ListN.{length, drop, getD}
 use Rattle.readers.specs.Layout.{Encoded, Role, reference, typeReference, sibling, index, absolute, Piece, copied, linked, Read, RunOf, Patch, patchPiece, patchPieces, patchRead, patchAll}
 use Rattle.readers.specs.Abbreviations.{declaredIn}
-use Rattle.readers.specs.Stream.{Item, Items, itemsFrom}
+use Rattle.readers.specs.Stream.{Item, Items}
 use Rattle.marking.specs.Analysis.{Sections}
 use Rattle.marking.specs.Resolution.{graphOf, marksIn}
 use Rattle.marking.specs.Survivors.{Kept}
-use Rattle.rewriting.specs.Places.{Standing, offsetOf, sizeOf, sizeFrom, Place, placesFrom, newOf, firstFrom, siblingOf, orElse}
+use Rattle.rewriting.specs.Places.{Standing, offsetOf, sizeOf, Place, placesFrom, newOf, firstFrom, siblingOf, orElse}
 use Rattle.rewriting.specs.Indices.{rankIn, rankOr}
 use Rattle.rewriting.specs.LeftOut.{leftFrom}
-use Rattle.rewriting.specs.Ascending.{Ascending}
 use Rattle.marking.specs.Members.{Member, here, there, Nth, now, later}
 use Rattle.rewriting.specs.Around.{aroundFrom, keptAround, Leading, AllLeading}
 use Rattle.rewriting.specs.Moved.{movedItem, movedFrom, depthsFrom}
-use Rattle.rewriting.specs.Rewriting.{Unit as Unit′, itemsIn, readsOr, readsAt, Lists, listAt, newValue, isSome, refusalFrom, Room, Rewrite, rewritten, collectOf}
-use Rattle.rewriting.specs.Thinned.{Pairwise, Parted, Beside, LandsOn, FirstFrom, Becomes, PieceAgain, ReadAgain, readAt, SideBySide, IndexKept, IndexList, unitOf, withEnd, thinnedOf, Without, Thinned}
+use Rattle.rewriting.specs.Rewriting.{Unit as Unit′, unitOf, itemsIn, readsOr, readsAt, Lists, listAt, newValue, isSome, refusalFrom, Room, Rewrite, untouched, rewritten, collectOf}
+use Rattle.rewriting.specs.Thinned.{Pairwise, Beside, LandsOn, FirstFrom, Becomes, PieceAgain, ReadAgain, readAt, SideBySide, IndexKept, IndexList, thinnedOf, Thinned, UntouchedLists, Untouched}
+use Rattle.rewriting.specs.SameReferences.{UnitReferences}
 use Rattle.rewriting.proofs.HeaderAgain.{HeaderLaw}
-use Rattle.marking.proofs.UnitLaws.{marks-each}
+use Rattle.marking.proofs.UnitLaws.{marks-each, unit-survivors}
+use Rattle.rewriting.proofs.Accepted.{survivorsIn, WasRewritten, WasUntouched, was-empty}
+use Rattle.rewriting.proofs.ClosedMarks.{accepted-kept}
+use Rattle.rewriting.proofs.ReadableItems.{accepted-readable}
+use Rattle.rewriting.proofs.SameReferences.{accepted-references, each-references}
+use Rattle.rewriting.proofs.HeaderBytes.{header-bytes-law}
 use Rattle.rewriting.proofs.Following.{accepted-header}
 use Rattle.marking.proofs.Members.{nothing-in}
 use Rattle.rewriting.proofs.Roles.{index-kind}
@@ -34,11 +37,10 @@ use Rattle.rewriting.proofs.Landing.{item-reference, item-type, item-si
 use Rattle.rewriting.proofs.ItemsStand.{Every}
 use Rattle.rewriting.proofs.Rereading.{deepAt, Readable}
 use Rattle.rewriting.proofs.ReadsAgain.{withBytes, patched}
-use Rattle.rewriting.proofs.Targets.{nth-member}
 use Rattle.rewriting.proofs.Depths.{depthsOf, depths-placed}
-use Rattle.rewriting.proofs.ThinnedItems.{nth-map, parted, moved-offset, placeOf, Stands, stands, deep-at, Found, found-by, FirstFound, first-by, Around, around-by, Led, led}
+use Rattle.rewriting.proofs.ThinnedItems.{nth-member, nth-map, parted, moved-offset, placeOf, Stands, stands, deep-at, Found, found-by, FirstFound, first-by, Around, around-by, Led, led}
 use Rattle.rewriting.proofs.IndexMembers.{IndexKept as IndexHeld}
-use Rattle.rewriting.proofs.CollectLaws.{it, unit, marks, kept, start, again, count-law, dead-law, survivors-law, again-law, readable-law, bytes-law, again-header, map-law, nesting-law, ListLaw, list-law}
+use Rattle.rewriting.proofs.CollectLaws.{it, unit, marks, kept, start, again, count-law, dead-law, survivors-law, again-law, readable-law, bytes-law, again-header, map-law, nesting-law, ListLaw, list-law, whole, alive-law, whole-list-law}
 
 -- ---- a number by its place in a list
 
@@ -51,6 +53,52 @@ moved-length : (n : ℕ) (kept : List Standing) → length (movedFrom n kept) �
 unfolding movedFrom
 moved-length n [] = refl
 moved-length n (s ∷ kept) = ap suc (moved-length (n + sizeOf (s .item)) kept)
+
+every-member : (P : Standing → Type 0) (ss : List Standing) (s : Standing) → Every P ss → Member s ss → P s
+unfolding Every
+every-member P [] s h m = absurd (nothing-in s m)
+every-member P (t ∷ ss) s h (here q) = subst P (sym q) (h .0)
+every-member P (t ∷ ss) s h (there m) = every-member P ss s (h .1) m
+
+-- ---- the index lists of a unit whose kept items can be read
+
+module _ (x : Sections) (u : Unit′) where
+  reads-of : (at : ℕ) (run : RunOf) → readAt x u at ≡ some run → readsAt x u at ≡ run .0
+  unfolding readsAt readsOr
+  reads-of at run q = ap (readsOr x u) q
+
+  module _ (items : List Standing) (readable : Every (Readable x u) items) where
+    index-held : (k v : ℕ) → IndexHeld x u k v items ↔ IndexKept x u items k v
+    index-held k v = (
+      λ h.
+          let old : Readable x u (h .standing) = every-member (Readable x u) items (h .standing) readable (h .among) in
+          record {
+            s = h .standing;
+            e = h .operand .operand .encoded;
+            r = h .operand .read;
+            run = old .run;
+            is-kept = h .among;
+            reads = old .is;
+            among = subst (Member (h .operand .read)) (reads-of (offsetOf (h .standing .item)) (old .run) (old .is)) (h .operand .among);
+            operand = h .operand .operand .within;
+          },
+      λ h. record {
+        standing = h .s;
+        among = h .is-kept;
+        operand = record {
+          read = h .r;
+          among = subst (Member (h .r)) (sym (reads-of (offsetOf (h .s .item)) (h .run) (h .reads))) (h .among);
+          operand = record { encoded = h .e; within = h .operand };
+        };
+      },
+    )
+
+    index-list : (k : ℕ) (xs : List ℕ) → ListLaw x u items k xs → IndexList x u items k xs
+    index-list k xs l =
+        record {
+          ascending = l .ascending;
+          members = (λ v. (λ m. index-held k v .0 (l .members v .0 m), λ m. l .members v .1 (index-held k v .1 m)));
+        }
 
 -- ---- the new unit, by positions
 
@@ -140,19 +188,9 @@ module _ (x : Sections) (room : Room) (typeUnits : Bool) (section : List ℕ) (w
 
   -- ---- what a number becomes
 
-  every-member : (P : Standing → Type 0) (ss : List Standing) (s : Standing) → Every P ss → Member s ss → P s
-  unfolding Every
-  every-member P [] s h m = absurd (nothing-in s m)
-  every-member P (t ∷ ss) s h (here q) = subst P (sym q) (h .0)
-  every-member P (t ∷ ss) s h (there m) = every-member P ss s (h .1) m
-
   -- what was read of a kept item
   was-read : (s : Standing) → Member s items → Readable x was s
   was-read s m = every-member (Readable x was) items s (readable-law x room typeUnits section w answer) m
-
-  reads-of : (at : ℕ) (run : RunOf) → readAt x was at ≡ some run → readsAt x was at ≡ run .0
-  unfolding readsAt readsOr
-  reads-of at run q = ap (readsOr x was) q
 
   abbrev Rule : ℕ → Role → ℕ → ℕ → Type 0
   Rule = Becomes x was new (w .lists) (w .map) items
@@ -175,7 +213,7 @@ module _ (x : Sections) (room : Room) (typeUnits : Bool) (section : List ℕ) (w
     kind k v p =
         let o : Readable x was s = was-read s m in
         index-kind (was .header .encoding) (x .abbreviations) (declaredIn (was .declared)) (drop (offsetOf (s .item)) (was .bytes)) (o .run) (o .is) r
-        (subst (Member r) (reads-of (offsetOf (s .item)) (o .run) (o .is)) i) e k v p
+        (subst (Member r) (reads-of x was (offsetOf (s .item)) (o .run) (o .is)) i) e k v p
 
     index-becomes : (k v : ℕ) → Member (linked e (index k) v) (r .pieces) → Rule (s .depth) (index k) v (value (index k) v)
     unfolding Becomes newValue rankOr
@@ -241,7 +279,7 @@ module _ (x : Sections) (room : Room) (typeUnits : Bool) (section : List ℕ) (w
       let i : Item = movedItem (t .new) (s .item) in
       let o : offsetOf i ≡ t .new = moved-offset (t .new) (s .item) in
       let old : Readable x was s = was-read s (nth-member s m items n) in
-      let rs : readsAt x was (offsetOf (s .item)) ≡ old .run .0 = reads-of (offsetOf (s .item)) (old .run) (old .is) in
+      let rs : readsAt x was (offsetOf (s .item)) ≡ old .run .0 = reads-of x was (offsetOf (s .item)) (old .run) (old .is) in
       let olds : List (List ℕ) = keptAround (marks x room typeUnits section w answer) 0 [] [] (itemsIn x was) in
       let a : Around (itemsIn x was) [] olds m s =
       around-by (marks x room typeUnits section w answer) 0 [] [] (itemsIn x was) m s n in
@@ -269,44 +307,25 @@ module _ (x : Sections) (room : Room) (typeUnits : Bool) (section : List ℕ) (w
         same-open = all-land (a .opens) (l .opens-again) (l .leading);
       }
 
-  index-held : (k v : ℕ) → IndexHeld x was k v items ↔ IndexKept x was items k v
-  index-held k v = (
-    λ h.
-        let at : ℕ = offsetOf (h .standing .item) in
-        let old : Readable x was (h .standing) = was-read (h .standing) (h .among) in
-        record {
-          s = h .standing;
-          e = h .operand .operand .encoded;
-          r = h .operand .read;
-          run = old .run;
-          is-kept = h .among;
-          reads = old .is;
-          among = subst (Member (h .operand .read)) (reads-of at (old .run) (old .is)) (h .operand .among);
-          operand = h .operand .operand .within;
-        },
-    λ h. record {
-      standing = h .s;
-      among = h .is-kept;
-      operand = record {
-        read = h .r;
-        among = subst (Member (h .r)) (sym (reads-of (offsetOf (h .s .item)) (h .run) (h .reads))) (h .among);
-        operand = record { encoded = h .e; within = h .operand };
-      };
-    },
-  )
-
   lists-law : (k : ℕ) → k < 3 → (xs : List ℕ) → listAt (w .lists) k ≡ some xs → IndexList x was items k xs
-  lists-law k h xs q =
-      let l : ListLaw x was items k xs = list-law x room typeUnits section w answer k h xs q in
-      record {
-        ascending = l .ascending;
-        members = (λ v. (λ m. index-held k v .0 (l .members v .0 m), λ m. l .members v .1 (index-held k v .1 m)));
-      }
+  lists-law k h xs q = index-list x was items (readable-law x room typeUnits section w answer) k xs (list-law x room typeUnits section w answer k h xs q)
 
   header-law : HeaderLaw (was .bytes) (it x room typeUnits section w answer .header)
   header-law = accepted-header x room section (it x room typeUnits section w answer .header) (it x room typeUnits section w answer .declared) (it x room typeUnits section w answer .rows) (it x room typeUnits section w answer .accepted)
 
-  -- THE LAW
+  same-references : UnitReferences x section (it x room typeUnits section w answer .rows)
+  same-references =
+      let o : WasRewritten x room typeUnits section w = it x room typeUnits section w answer in
+      record {
+        header = o .header;
+        declared = o .declared;
+        header-is = o .accepted .header;
+        declared-is = o .accepted .declared;
+        rows-are = accepted-references x room section (o .header) (o .declared) (o .rows) (o .accepted);
+        each = each-references x room section (o .header) (o .declared) (o .rows) (o .accepted);
+      }
+
+  -- THE LAW OF THINNED UNITS
   pub thinned-law : Thinned x typeUnits section w
   thinned-law =
       record {
@@ -315,6 +334,8 @@ module _ (x : Sections) (room : Room) (typeUnits : Bool) (section : List ℕ) (w
         rows = it x room typeUnits section w answer .rows;
         kept = items;
         left = leftFrom (marks x room typeUnits section w answer) 0 [] (itemsIn x was);
+        survivors = unit-survivors x section (room .tables) (it x room typeUnits section w answer .rows) (it x room typeUnits section w answer .accepted .analysis);
+        references = same-references;
         header-is = it x room typeUnits section w answer .accepted .header;
         declared-are = it x room typeUnits section w answer .accepted .declared;
         parted = parted (Kept (graphOf (it x room typeUnits section w answer .rows))) (marks x room typeUnits section w answer) (survivors-law x room typeUnits section w answer) 0 [] (itemsIn x was);
@@ -322,6 +343,7 @@ module _ (x : Sections) (room : Room) (typeUnits : Bool) (section : List ℕ) (w
         count = count-law x room typeUnits section w answer;
         dead = dead-law x room typeUnits section w answer;
         header-again = again-header x room typeUnits section w answer;
+        header-bytes = header-bytes-law x room typeUnits section w answer;
         whole = ap (λ (z : Items). z .1) (again-law x room typeUnits section w answer .items);
         as-many = ap length new-items ∙ moved-length first items;
         places = map-law x room typeUnits section w answer .each;
@@ -332,3 +354,56 @@ module _ (x : Sections) (room : Room) (typeUnits : Bool) (section : List ℕ) (w
         lists-are = it x room typeUnits section w answer .lists-is;
         lists = lists-law;
       }
+
+-- ---- an untouched unit
+
+module _ (x : Sections) (room : Room) (typeUnits : Bool) (section : List ℕ) where
+  module _ (n : ℕ) (lists : Lists) (answer : collectOf x room typeUnits section ≡ untouched n lists) (some-entry : 0 < n) where
+    abbrev o : WasUntouched x room typeUnits section n lists
+    o = whole x room typeUnits section n lists answer some-entry
+
+    abbrev whole-unit : Unit′
+    whole-unit = unitOf (o .header) section (o .declared)
+
+    abbrev all-kept : List Standing
+    all-kept = survivorsIn x whole-unit (o .rows)
+
+    untouched-lists : UntouchedLists x typeUnits section (o .rows) lists
+    untouched-lists =
+        record {
+          header = o .header;
+          declared = o .declared;
+          kept = all-kept;
+          left = leftFrom (marksIn (o .rows)) 0 [] (itemsIn x whole-unit);
+          header-is = o .accepted .header;
+          declared-are = o .accepted .declared;
+          parted = parted (Kept (graphOf (o .rows))) (marksIn (o .rows)) (accepted-kept x room section (o .header) (o .declared) (o .rows) (o .accepted)) 0 [] (itemsIn x whole-unit);
+          lists-are = o .lists-is;
+          each = (λ k h xs q. index-list x whole-unit all-kept
+              (accepted-readable x room section (o .header) (o .declared) (o .rows) (o .accepted) (marksIn (o .rows))) k xs
+              (whole-list-law x room typeUnits section n lists answer some-entry k h xs q));
+        }
+
+    with-entries : Untouched x typeUnits section n lists
+    with-entries =
+        record {
+          rows = o .rows;
+          survivors = unit-survivors x section (room .tables) (o .rows) (o .accepted .analysis);
+          entries-are = o .entries-is ∙ marks-each (o .rows);
+          alive = alive-law x room typeUnits section n lists answer some-entry;
+          no-lists = (λ z. absurd (omega arith));
+          with-lists = (λ _. untouched-lists);
+        }
+
+  -- THE LAW OF UNTOUCHED UNITS
+  pub untouched-law : (n : ℕ) (lists : Lists) → collectOf x room typeUnits section ≡ untouched n lists → Untouched x typeUnits section n lists
+  untouched-law zero lists answer =
+      record {
+        rows = [];
+        survivors = unit-survivors x section (room .tables) [] (was-empty x room typeUnits section lists answer .0);
+        entries-are = refl;
+        alive = (λ i h. absurd (omega arith));
+        no-lists = (λ _. was-empty x room typeUnits section lists answer .1);
+        with-lists = (λ h. absurd (omega arith));
+      }
+  untouched-law (suc n) lists answer = with-entries (suc n) lists answer (omega arith)

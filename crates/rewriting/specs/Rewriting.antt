@@ -1,6 +1,6 @@
 -- What collect answers (document 01, "collect" and "Rewriting").
 use Prim.Native.Nat.{ℕ, suc, _+_, _-_, _^_}
-use mathlib.Core.Bool.{Bool, true, false, not}
+use mathlib.Core.Bool.{Bool, true, false}
 use mathlib.Core.List.{List, [], _∷_, _++_}
 use mathlib.Core.Option.{Option, none, some}
 use lib.ListN.{length, take, drop}
@@ -12,9 +12,7 @@ use Rattle.readers.specs.Expression.{expressionIn}
 use Rattle.readers.specs.Entries.{entryLayout}
 use Rattle.readers.specs.Header.{headerOf}
 use Rattle.readers.specs.Abbreviations.{Placed, declaredIn, abbreviationsOf}
-use Rattle.readers.specs.declared.abbreviations.Found.{Found}
 use Rattle.readers.specs.declared.cursor.Encoding.{Encoding}
-use Rattle.readers.specs.declared.entries.Entry.{Entry}
 use Rattle.readers.specs.declared.header.UnitHeader.{UnitHeader}
 use Rattle.readers.specs.declared.header.HeaderRead.{HeaderRead}
 use Rattle.readers.specs.declared.header.HeaderRead.the-variants.{Unit as Unit′, Empty, Refused}
@@ -31,6 +29,10 @@ pub record Unit : Type 0 where
   pub header : UnitHeader
   pub bytes : List ℕ  -- of the unit alone
   pub declared : List Placed
+
+-- the first unit of a section, by its header and declarations
+abbrev pub unitOf : UnitHeader → List ℕ → List Placed → Unit
+unitOf h section ds = record { header = h; bytes = take (h .end) section; declared = ds }
 
 module _ (x : Sections) (u : Unit) where
   abbrev pub encoding : Encoding
@@ -218,7 +220,7 @@ module _ (x : Sections) (room : Room) where
   unfoldable pub declaredCollected : Bool → List ℕ → UnitHeader → Option (List Placed) → Collected
   declaredCollected typeUnits section h none = refused 3
   declaredCollected typeUnits section h (some ds) =
-      analysedCollected typeUnits (record { header = h; bytes = take (h .end) section; declared = ds }) (analysisOf x section (room .tables))
+      analysedCollected typeUnits (unitOf h section ds) (analysisOf x section (room .tables))
 
   unfoldable pub headerCollected : Bool → List ℕ → HeaderRead → Collected
   headerCollected typeUnits section Empty = untouched 0 noLists

@@ -7,7 +7,6 @@ use mathlib.Core.Bool.{true}
 use mathlib.Core.List.{List, [], _∷_}
 use mathlib.Core.Logic.{_⊎_, _↔_}
 use mathlib.Core.Option.{some}
-use lib.ListN.{take}
 use lib.Dec.{eqb}
 use Rattle.readers.specs.Abbreviations.{Placed, abbreviationsOf}
 use Rattle.readers.specs.Choice.{pick}
@@ -33,7 +32,7 @@ use Rattle.marking.specs.Roots.{Valued}
 use Rattle.marking.specs.EntryReferences.{targets, partOf}
 use Rattle.marking.specs.Analysis.{Sections, Row, valuesOfEntry, baseOf}
 use Rattle.marking.specs.Members.{Member}
-use Rattle.rewriting.specs.Rewriting.{Unit as Unit′, itemsIn, readsAt}
+use Rattle.rewriting.specs.Rewriting.{Unit as Unit′, unitOf, itemsIn, readsAt}
 
 -- ---- by roles: what is patched
 
@@ -119,10 +118,6 @@ module _ (e : Encoding) (s : List ℕ) (v : ℕ) where
 
 -- ---- an entry, a unit
 
--- a unit as it is read
-abbrev pub unitIn : List ℕ → UnitHeader → List Placed → Unit′
-unitIn section h ds = record { header = h; bytes = take (h .end) section; declared = ds }
-
 module _ (x : Sections) (u : Unit′) where
   abbrev pub valuesIn : Entry → List Valued
   valuesIn y = valuesOfEntry (u .header .encoding) x (u .bytes) y
@@ -165,7 +160,7 @@ pub record UnitReferences (x : Sections) (section : List ℕ) (rows : List Row) 
   pub header-is : headerOf section ≡ Header′ header
   pub declared-is : abbreviationsOf (x .abbreviations) (header .abbreviations) ≡ some declared
   -- row by row: list bases default to 12
-  pub rows-are : RowsReferences x (unitIn section header declared) 12 (itemsIn x (unitIn section header declared)) rows
+  pub rows-are : RowsReferences x (unitOf header section declared) 12 (itemsIn x (unitOf header section declared)) rows
   -- and of every entry
-  pub each : (y : Entry) → Member (entry y) (itemsIn x (unitIn section header declared))
-      → RowReferences x (unitIn section header declared) rows y
+  pub each : (y : Entry) → Member (entry y) (itemsIn x (unitOf header section declared))
+      → RowReferences x (unitOf header section declared) rows y

@@ -21,13 +21,16 @@ use Rattle.marking.specs.Analysis.{Sections, Row}
 use Rattle.marking.specs.Below.{Number}
 use Rattle.marking.specs.Resolution.{graphOf}
 use Rattle.marking.specs.Survivors.{Kept}
+use Rattle.marking.specs.UnitSurvivors.{SurvivorsOf}
 use Rattle.rewriting.specs.Places.{Standing, offsetOf, Place, sizeFrom}
 use Rattle.rewriting.specs.Ascending.{Ascending}
 use Rattle.marking.specs.Members.{Member, Nth}
 use Rattle.rewriting.specs.Maps.{oldOffsets, newOffsets}
 use Rattle.rewriting.specs.Around.{aroundFrom}
 use Rattle.rewriting.specs.Moved.{movedItem, depthsFrom}
-use Rattle.rewriting.specs.Rewriting.{Unit as Unit′, itemsIn, Lists, listsOf, listAt, Rewrite}
+use Rattle.rewriting.specs.Rewriting.{Unit as Unit′, unitOf, itemsIn, Lists, listsOf, noLists, listAt, Rewrite}
+use Rattle.rewriting.specs.HeaderBytes.{HeaderBytes}
+use Rattle.rewriting.specs.SameReferences.{UnitReferences}
 
 -- two lists, one by one
 unfoldable pub Pairwise : {A B : Type 0} → (A → B → Type 0) → List A → List B → Type 0
@@ -163,10 +166,6 @@ module _ (x : Sections) (u new : Unit′) (lists : Lists) (map : List Place) (ke
 
 -- ---- the thinned unit
 
--- the first unit of a section, by its header and declarations
-abbrev pub unitOf : UnitHeader → List ℕ → List Placed → Unit′
-unitOf h section ds = record { header = h; bytes = take (h .end) section; declared = ds }
-
 -- the same header of a unit of another length
 abbrev pub withEnd : UnitHeader → ℕ → UnitHeader
 withEnd h n = record { encoding = h .encoding; «unit_type» = h .«unit_type»; abbreviations = h .abbreviations; first = h .first; end = n }
@@ -181,8 +180,8 @@ pub record Without (S : ℕ → Type 0) (n : ℕ) : Type 0 where
   pub inside : at < n
   pub not-there : S at → ⊥
 
-pub record Thinned (x : Sections) (typeUnits : Bool) (section : List ℕ) (w : Rewrite) : Type 0 where
-  -- the unit as it was read, its entries' rows, and its items, each kept or left out by the survivors
+pub record Thinned (x : Sections) (typeUnits : Bool) (section : List ℕ) (w : Rewrite) : Type 1 where
+  -- the unit as it was read, the rows of its entries, and its items, each kept or left out
   pub header : UnitHeader
   pub declared : List Placed
   pub rows : List Row
@@ -190,6 +189,9 @@ pub record Thinned (x : Sections) (typeUnits : Bool) (section : List ℕ) (w : R
   pub left : List Standing
   pub header-is : headerOf section ≡ Header′ header
   pub declared-are : abbreviationsOf (x .abbreviations) (header .abbreviations) ≡ some declared
+  -- the least set (marking, specs/UnitSurvivors.antt), by the references that are patched below (specs/SameReferences.antt)
+  pub survivors : SurvivorsOf x section rows
+  pub references : UnitReferences x section rows
   pub parted : Parted (Kept (graphOf rows)) 0 [] (itemsIn x (unitOf header section declared)) kept left
   -- "The kept count is the number of survivors." "An accepted unit is rewritten exactly when it has a dead entry."
   pub entries-are : w .entries ≡ length rows
@@ -197,6 +199,7 @@ pub record Thinned (x : Sections) (typeUnits : Bool) (section : List ℕ) (w : R
   pub dead : Without (Kept (graphOf rows)) (w .entries)
   -- "Read again": by its own header, which is the old one but for the unit's length, and the same abbreviations, up to its end
   pub header-again : headerOf (w .output) ≡ Header′ (withEnd header (length (w .output)))
+  pub header-bytes : HeaderBytes header (take (header .end) section) (w .output)
   pub whole : itemsFrom (header .encoding) (x .abbreviations) (declaredIn declared) (w .output) (header .first .0) .1 ≡ true
   -- "a rewritten unit is the old tree less its dead entries, with order, nesting and, as document 01 has it, values kept"; "lands on the new place"
   pub as-many : length (itemsIn x (thinnedOf header (w .output) declared)) ≡ length kept
@@ -211,3 +214,26 @@ pub record Thinned (x : Sections) (typeUnits : Bool) (section : List ℕ) (w : R
   pub lists-are : w .lists ≡ listsOf x (unitOf header section declared) typeUnits kept
   pub lists : (k : ℕ) → k < 3 → (xs : List ℕ) → listAt (w .lists) k ≡ some xs
       → IndexList x (unitOf header section declared) kept k xs
+
+-- ---- an untouched unit
+
+-- the lists of a unit with entries
+pub record UntouchedLists (x : Sections) (typeUnits : Bool) (section : List ℕ) (rows : List Row) (lists : Lists) : Type 0 where
+  pub header : UnitHeader
+  pub declared : List Placed
+  pub kept : List Standing
+  pub left : List Standing
+  pub header-is : headerOf section ≡ Header′ header
+  pub declared-are : abbreviationsOf (x .abbreviations) (header .abbreviations) ≡ some declared
+  pub parted : Parted (Kept (graphOf rows)) 0 [] (itemsIn x (unitOf header section declared)) kept left
+  pub lists-are : lists ≡ listsOf x (unitOf header section declared) typeUnits kept
+  pub each : (k : ℕ) → k < 3 → (xs : List ℕ) → listAt lists k ≡ some xs → IndexList x (unitOf header section declared) kept k xs
+
+-- "An accepted unit is rewritten exactly when it has a dead entry.": every entry of an untouched one is a survivor; "without entries the lists are absent too"
+pub record Untouched (x : Sections) (typeUnits : Bool) (section : List ℕ) (n : ℕ) (lists : Lists) : Type 1 where
+  pub rows : List Row
+  pub survivors : SurvivorsOf x section rows
+  pub entries-are : n ≡ length rows
+  pub alive : (i : ℕ) → i < n → Kept (graphOf rows) i
+  pub no-lists : n ≡ 0 → lists ≡ noLists
+  pub with-lists : 0 < n → UntouchedLists x typeUnits section rows lists
