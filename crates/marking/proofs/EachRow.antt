@@ -86,7 +86,8 @@ module _ (e : Encoding) (x : Sections) (unit : List ℕ) where
 -- ---- of the first unit of a section, with its header and its declarations
 
 module _ (x : Sections) (section : List ℕ) (room : Rooms) (h : UnitHeader) (ds : List Placed) (rows : List Row)
-    (header : headerOf section ≡ Unit′ h) (declared : abbreviationsOf (x .abbreviations) (h .abbreviations) ≡ some ds) (analysis : analysisOf x section room ≡ analysed rows) where
+    (header : headerOf section ≡ Unit′ h) (declared : abbreviationsOf (x .abbreviations) (h .abbreviations) ≡ some ds)
+    (analysis : analysisOf x section room ≡ analysed rows) where
   abbrev own : List ℕ
   own = take (h .end) section
 
@@ -97,8 +98,8 @@ module _ (x : Sections) (section : List ℕ) (room : Rooms) (h : UnitHeader) (ds
   items-analysed : analyseItems (h .encoding) x own room startOf (unitItems x section h ds .0) (unitItems x section h ds .1) ≡ analysed rows
   unfolding unitAnalysed onDeclared
   items-analysed =
-      sym (ap (λ (o : Option (List Placed)). onDeclared o (λ ds. analyseItems (h .encoding) x own room startOf (unitItems x section h ds .0) (unitItems x section h ds .1)))
-      declared) ∙ unit-analysed
+      sym (ap (λ (o : Option (List Placed)). onDeclared o (λ ds.
+      analyseItems (h .encoding) x own room startOf (unitItems x section h ds .0) (unitItems x section h ds .1))) declared) ∙ unit-analysed
 
   right : Right (h .encoding) x own (unitItems x section h ds .1) 0 [] 12 12 (unitItems x section h ds .0) rows
   right = gives-of _ _ rows (follows (h .encoding) x own room startOf _ _) items-analysed

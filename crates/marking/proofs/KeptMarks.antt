@@ -2,16 +2,14 @@
 use mathlib.Core.Path.{_≡_, sym, subst}
 use Prim.Native.Nat.{ℕ, _≤_, _<_}
 use native.Mathlib.Omega.{arith}
-use mathlib.Core.Bool.{Bool, true, false}
 use mathlib.Core.Logic.{⊎-elim}
-use lib.ListN.{length, getD, List·getD-eq-default}
+use lib.ListN.{getD, List·getD-eq-default}
 use lib.Dec.{T, ltb}
 use mir.Facts.{leb-yes, yes-leb, ltb-yes, ltb-no}
-use Rattle.readers.specs.Choice.{pick, either}
+use Rattle.readers.specs.Choice.{either}
 use Rattle.marking.specs.Graph.{Graph, size}
 use Rattle.marking.specs.Survivors.{Kept}
-use Rattle.marking.specs.Marks.{has, keptOf, markOf, marksOf, isKept}
-use Rattle.marking.proofs.Tables.{getD-tab}
+use Rattle.marking.specs.Marks.{has, keptOf, marksOf, isKept}
 use Rattle.marking.proofs.Graphs.{WellFormed}
 use Rattle.marking.proofs.Survivors.{kept-inside}
 use Rattle.marking.proofs.Rounds.{kept-out, kept-in}

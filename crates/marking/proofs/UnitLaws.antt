@@ -36,7 +36,7 @@ use Rattle.marking.specs.UnitSurvivors.{Tested, RowOf, RowsOf, unitItems
 use Rattle.marking.specs.declared.roots.Verdict.{Verdict}
 use Rattle.marking.specs.declared.roots.Verdict.the-variants.{Live, Dead}
 use Rattle.marking.specs.declared.units.UnitMarks.the-variants.{Marked}
-use Rattle.marking.proofs.Graphs.{well-formed}
+use Rattle.marking.proofs.Graphs.{WellFormed, well-formed}
 use Rattle.marking.proofs.KeptMarks.{marked-kept, kept-marked}
 use Rattle.marking.proofs.Laws.{taken-law, markings-law, marks-length, marks-law, kept-count-law}
 use Rattle.marking.proofs.Rows.{UnitRows, analysis-rows, offsets-ascend, length-parents, graph-takes}
@@ -113,6 +113,9 @@ module _ (x : Sections) (section : List ℕ) (room : Rooms) (rows : List Row) (a
   pub formed : wellFormed (graphOf rows) ≡ true
   formed = taken-law (graphOf rows) (length rows) (graph-takes (length section) 0 rows (placed .rowed)) .1
 
+  well : WellFormed (graphOf rows)
+  well = well-formed (graphOf rows) formed
+
   says-rows : GraphSays rows (graphOf rows)
   says-rows = record { entries = graph-size rows; parents = parent-law rows; roots = root-law rows; references = names-law rows 0 ascending }
 
@@ -132,7 +135,8 @@ module _ (x : Sections) (section : List ℕ) (room : Rooms) (rows : List Row) (a
       let p = sym (ap (headerAnalysed x section room) q) ∙ analysis in
       let z : _≡_ {A = ℕ} 0 1 = cc in omega arith
 
-  declared-unit : (h : UnitHeader) → headerOf section ≡ Unit′ h → (o : Option (List Placed)) → abbreviationsOf (x .abbreviations) (h .abbreviations) ≡ o → FirstUnit x section rows
+  declared-unit : (h : UnitHeader) → headerOf section ≡ Unit′ h
+      → (o : Option (List Placed)) → abbreviationsOf (x .abbreviations) (h .abbreviations) ≡ o → FirstUnit x section rows
   declared-unit h q none d = absurd (undeclared h q d)
   declared-unit h q (some ds) d =
       record {
@@ -144,7 +148,8 @@ module _ (x : Sections) (section : List ℕ) (room : Rooms) (rows : List Row) (a
         each = items-rows x section room h ds rows q d analysis;
       }
 
-  header-unit : (o : HeaderRead) → headerOf section ≡ o → headerAnalysed x section room o ≡ analysed rows → ((section ≡ []) × (rows ≡ [])) ⊎ FirstUnit x section rows
+  header-unit : (o : HeaderRead) → headerOf section ≡ o → headerAnalysed x section room o ≡ analysed rows
+      → ((section ≡ []) × (rows ≡ [])) ⊎ FirstUnit x section rows
   unfolding headerAnalysed
   header-unit Empty q a = inl (empty-section section q, (let z : rows ≡ [] = cc in z))
   header-unit (Refused n) q a = let z : _≡_ {A = ℕ} 0 1 = cc in absurd (omega arith)
@@ -159,7 +164,9 @@ module _ (x : Sections) (section : List ℕ) (room : Rooms) (rows : List Row) (a
       ⊎-elim
       (λ (e : (section ≡ []) × (rows ≡ [])). let l : length rows ≡ 0 = ap length (e .1) in omega arith)
       (λ (u : FirstUnit x section rows).
-      omega (arith, own-rows x section room (u .header) (u .declared) rows (u .header-is) (u .declared-is) analysis .few, small-unit section (u .header) (u .header-is)))
+      let l : UnitRows (take (u .header .end) section) room (u .header .first .0) rows =
+      own-rows x section room (u .header) (u .declared) rows (u .header-is) (u .declared-is) analysis in
+      omega (arith, l .few, small-unit section (u .header) (u .header-is)))
       first-unit
 
   -- THE survivors of a unit
@@ -172,7 +179,7 @@ module _ (x : Sections) (section : List ℕ) (room : Rooms) (rows : List Row) (a
         few = few-rows;
         graph = says-rows;
         marks = marks-each rows;
-        kept = (λ i. (marked-kept (graphOf rows) (well-formed (graphOf rows) formed) i, kept-marked (graphOf rows) (well-formed (graphOf rows) formed) i));
+        kept = (λ i. (marked-kept (graphOf rows) well i, kept-marked (graphOf rows) well i));
         says = marks-say;
         count = counted;
         markings = markings-law (graphOf rows) formed;
@@ -218,6 +225,9 @@ module _ (e : Encoding) (x : Sections) (unit : List ℕ) where
       (same-rows (suc k) (open′ (y .declaration .children) k stack) (baseOf e x unit 0x74 rb y) (baseOf e x unit 0x8c lb y) rest a b (p .1) (q .1))
 
 module _ (x : Sections) (section : List ℕ) (a b : List Row) where
+  abbrev Each : UnitHeader → List Placed → Type 0
+  Each h ds = RowsOf (h .encoding) x (take (h .end) section) 0 [] 12 12 (unitItems x section h ds .0) a
+
   same-units : FirstUnit x section a → FirstUnit x section b → a ≡ b
   same-units u v =
       let h : u .header ≡ v .header = (let z : Unit′ (u .header) ≡ Unit′ (v .header) = sym (u .header-is) ∙ v .header-is in cc) in
@@ -225,8 +235,7 @@ module _ (x : Sections) (section : List ℕ) (a b : List Row) where
       (let z : some (u .declared) ≡ some (v .declared) =
       sym (u .declared-is) ∙ ap (λ (n : UnitHeader). abbreviationsOf (x .abbreviations) (n .abbreviations)) h ∙ v .declared-is in cc) in
       same-rows (v .header .encoding) x (take (v .header .end) section) 0 [] 12 12 (unitItems x section (v .header) (v .declared) .0) a b
-      (subst (λ (n : UnitHeader). RowsOf (n .encoding) x (take (n .end) section) 0 [] 12 12 (unitItems x section n (v .declared) .0) a) h
-      (subst (λ (ds : List Placed). RowsOf (u .header .encoding) x (take (u .header .end) section) 0 [] 12 12 (unitItems x section (u .header) ds .0) a) d (u .each)))
+      (subst (λ (n : UnitHeader). Each n (v .declared)) h (subst (Each (u .header)) d (u .each)))
       (v .each)
 
   no-first : section ≡ [] → (rows : List Row) → FirstUnit x section rows → ⊥

@@ -78,7 +78,7 @@ Tested v root = ((v ≡ Live) × (root ≡ 1)) ⊎ ((v ≡ Dead) × (root ≡ 0)
 module _ (e : Encoding) (x : Sections) (unit : List ℕ) where
   -- the row of an entry inside these open ones, rb and lb being the list bases before it: where it starts, the
   -- innermost open entry as its parent, what the root test finds by table and lists, and all references that it
-  -- holds; the bases are those that stand after the entry's own attributes
+  -- holds; by the list bases as its own DW_AT_rnglists_base (0x74) and DW_AT_loclists_base (0x8c) leave them
   pub record RowOf (stack : List ℕ) (rb lb : ℕ) (y : Entry) (r : Row) : Type 0 where
     pub offset-is : r .offset ≡ y .offset .0
     pub parent-is : r .parent ≡ top stack
@@ -93,7 +93,8 @@ module _ (e : Encoding) (x : Sections) (unit : List ℕ) where
   RowsOf k stack rb lb (entry y ∷ rest) [] = ⊥
   RowsOf k stack rb lb (entry y ∷ rest) (r ∷ rows) =
       RowOf stack rb lb y r
-      × RowsOf (suc k) (open′ (y .declaration .children) k stack) (baseOf e x unit 0x74 rb y) (baseOf e x unit 0x8c lb y) rest rows
+      × RowsOf (suc k) (open′ (y .declaration .children) k stack) (baseOf e x unit 0x74 rb y) (baseOf e x unit 0x8c lb y)
+      rest rows
 
 -- the items of a unit: from its first entry on, inside its own bytes, by its declarations; and whether the unit's end
 -- is what follows them
