@@ -30,3 +30,5 @@ pub mod Searches
 pub mod Pairs
 pub mod Columned
 pub mod UnitMarkings
+pub mod Refusals
+pub mod TableRoom

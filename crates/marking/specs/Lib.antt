@@ -15,3 +15,5 @@ pub mod Examples
 pub mod Analysis
 pub mod Columns
 pub mod Resolution
+pub mod Refusals
+pub mod TableRoom
