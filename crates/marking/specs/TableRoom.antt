@@ -1,4 +1,5 @@
--- What an analysis asks of the lent tables (document 01, "collect"): "each "full", that the count up to and including the present entry does" exceed the lent length.
+-- What an analysis asks of the lent tables (document 01, "collect"): each "full" means that the count up to and including
+-- the present entry exceeds the lent length.
 use mathlib.Core.Path.{_≡_}
 use Prim.Native.Nat.{ℕ, suc, _+_, _≤_, _<_}
 use mathlib.Core.List.{List, [], _∷_}
@@ -23,11 +24,14 @@ pub record TablesWithin (need lent : Rooms) : Type 0 where
 abbrev pub tablesFor : List Row → Rooms
 tablesFor rows = rooms (length rows) (length (namesIn rows))
 
--- what an analysis that gave these rows answers with other tables: the same with those that the rows need, 10 where entries alone are too few, 11 where references alone are
+-- what an analysis that gave these rows answers with other tables: the same with those that the rows need,
+-- 10 where entries alone are too few, 11 where references alone are
 pub record TableLaw (x : Sections) (section : List ℕ) (rows : List Row) : Type 0 where
   pub enough : (lent : Rooms) → TablesWithin (tablesFor rows) lent → analysisOf x section lent ≡ analysed rows
-  pub few-entries : (lent : Rooms) → lent .entries < length rows → length (namesIn rows) ≤ lent .references → analysisOf x section lent ≡ refused 10
-  pub few-references : (lent : Rooms) → length rows ≤ lent .entries → lent .references < length (namesIn rows) → analysisOf x section lent ≡ refused 11
+  pub few-entries : (lent : Rooms) → lent .entries < length rows → length (namesIn rows) ≤ lent .references
+      → analysisOf x section lent ≡ refused 10
+  pub few-references : (lent : Rooms) → length rows ≤ lent .entries → lent .references < length (namesIn rows)
+      → analysisOf x section lent ≡ refused 11
 
 -- ---- tables that are long enough, by the input alone
 
@@ -46,7 +50,8 @@ module _ (e : Encoding) (x : Sections) (unit : List ℕ) where
   unfoldable pub referenceCount : ℕ → List Item → ℕ
   referenceCount base [] = 0
   referenceCount base (terminator a b ∷ rest) = referenceCount base rest
-  referenceCount base (entry y ∷ rest) = foundCount (namesOf e x unit (baseOf e x unit 0x8c base y) y) + referenceCount (baseOf e x unit 0x8c base y) rest
+  referenceCount base (entry y ∷ rest) =
+      foundCount (namesOf e x unit (baseOf e x unit 0x8c base y) y) + referenceCount (baseOf e x unit 0x8c base y) rest
 
   abbrev pub itemTables : List Item → Rooms
   itemTables items = rooms (entryCount items) (referenceCount 12 items)
@@ -58,7 +63,8 @@ module _ (e : Encoding) (x : Sections) (unit : List ℕ) where
 unfoldable pub headerTables : Sections → List ℕ → HeaderRead → Rooms
 headerTables x section Empty = rooms 0 0
 headerTables x section (Refused n) = rooms 0 0
-headerTables x section (Unit′ h) = declaredTables (h .encoding) x (take (h .end) section) (h .first .0) (abbreviationsOf (x .abbreviations) (h .abbreviations))
+headerTables x section (Unit′ h) =
+    declaredTables (h .encoding) x (take (h .end) section) (h .first .0) (abbreviationsOf (x .abbreviations) (h .abbreviations))
 
 -- THE tables that are enough for the first unit of a section
 unfoldable pub enoughTables : Sections → List ℕ → Rooms
