@@ -255,11 +255,8 @@ room-same e e′ references l l′ p p′ b b′ q r s t =
 module _ (x : Sections) (room : Room) (typeUnits : Bool) (section : List ℕ) where
   -- rewritten
   module _ (w : Rewrite) (answer : collectOf x room typeUnits section ≡ rewritten w) where
-    was : WasRewritten x room typeUnits section w
+    abbrev was : WasRewritten x room typeUnits section w
     was = it x room typeUnits section w answer
-
-    its-rows : List Row
-    its-rows = was .rows
 
     some-row-in : 0 < length (was .rows)
     some-row-in = omega (arith, was .dead, marks-each (was .rows))

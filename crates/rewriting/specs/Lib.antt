@@ -22,3 +22,5 @@ pub mod Emission
 pub mod Outputs
 pub mod Leaving
 pub mod FiveEntries
+pub mod Refusals
+pub mod RoomLaws

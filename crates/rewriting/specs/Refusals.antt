@@ -1,4 +1,5 @@
--- The numbers that the calls of this crate refuse with (document 01, "Operations and their numbers"), and for collect where each comes from.
+-- The numbers that the calls of this crate refuse with (document 01, "Operations and their numbers"), and for collect
+-- where each comes from.
 use mathlib.Core.Path.{_≡_}
 use Prim.Native.Nat.{ℕ, _+_, _≤_, _<_}
 use mathlib.Core.Bool.{Bool, true, false}
@@ -34,7 +35,7 @@ PaddedRefusal n = OneOf (15 ∷ []) n
 
 -- ---- collect, step by step
 
--- a unit whose entries are analysed: what it is read as, and its rows, of which there are some
+-- a unit that is analysed: its header and declarations, and the rows of its entries
 pub record UnitRead (x : Sections) (room : Room) (section : List ℕ) : Type 0 where
   pub header : UnitHeader
   pub declared : List Placed
@@ -59,15 +60,20 @@ module _ (x : Sections) (room : Room) (typeUnits : Bool) (section : List ℕ) wh
     pub dead : keptCount (marksIn (u .rows)) < length (marksIn (u .rows))
     pub listed : listsFit room (listsIn u) ≡ true
 
-  -- where a refusal comes from: "Header .. 1 .., 2 .. . 3 abbreviations. Then entry by entry .. . Then 12 an index list too short .. . If something is dead: 13 map, 14 output
-  -- too short, then in stream order 8 .. or 9". Each with what was passed before it.
+  -- where a refusal comes from, and what was passed before it: "Header .. 1 .., 2 .. . 3 abbreviations. Then entry by entry
+  -- .. . Then 12 an index list too short .. . If something is dead: 13 map, 14 output too short, then in stream order 8 .. or 9"
   pub data RefusedAt : ℕ → Type 0 where
     at-header : {n : ℕ} → headerOf section ≡ Refused n → HeaderRefusal n → RefusedAt n
-    at-abbreviations : {h : UnitHeader} → headerOf section ≡ Header′ h → abbreviationsOf (x .abbreviations) (h .abbreviations) ≡ none → RefusedAt 3
-    at-entries : {h : UnitHeader} {ds : List Placed} {n : ℕ} → headerOf section ≡ Header′ h → abbreviationsOf (x .abbreviations) (h .abbreviations) ≡ some ds
+    at-abbreviations : {h : UnitHeader} → headerOf section ≡ Header′ h
+        → abbreviationsOf (x .abbreviations) (h .abbreviations) ≡ none → RefusedAt 3
+    at-entries : {h : UnitHeader} {ds : List Placed} {n : ℕ} → headerOf section ≡ Header′ h
+        → abbreviationsOf (x .abbreviations) (h .abbreviations) ≡ some ds
         → analysisOf x section (room .tables) ≡ notAnalysed n → EntriesRefusal n → RefusedAt n
     at-lists : (u : UnitRead x room section) → listsFit room (listsIn u) ≡ false → RefusedAt 12
     at-map : (u : UnitRead x room section) → Thinned u → room .places < length (keptIn u) → RefusedAt 13
-    at-output : (u : UnitRead x room section) → Thinned u → length (keptIn u) ≤ room .places → room .bytes < u .header .first .0 + sizeFrom (keptIn u) → RefusedAt 14
-    at-values : (u : UnitRead x room section) → Thinned u → length (keptIn u) ≤ room .places → u .header .first .0 + sizeFrom (keptIn u) ≤ room .bytes → {n : ℕ}
-        → refusalFrom x (unitRead u) (listsIn u) (placesFrom (u .header .first .0) (keptIn u)) (keptIn u) ≡ n → ValueRefusal n → RefusedAt n
+    at-output : (u : UnitRead x room section) → Thinned u → length (keptIn u) ≤ room .places
+        → room .bytes < u .header .first .0 + sizeFrom (keptIn u) → RefusedAt 14
+    at-values : (u : UnitRead x room section) → Thinned u → length (keptIn u) ≤ room .places
+        → u .header .first .0 + sizeFrom (keptIn u) ≤ room .bytes → {n : ℕ}
+        → refusalFrom x (unitRead u) (listsIn u) (placesFrom (u .header .first .0) (keptIn u)) (keptIn u) ≡ n
+        → ValueRefusal n → RefusedAt n

@@ -1,4 +1,5 @@
--- What collect asks of lent room (document 01, "collect"): "Each "short" means exactly that the finished count exceeds the lent length". The laws are in proofs/RoomLaws.antt.
+-- What collect asks of lent room (document 01, "collect"): each "short" means exactly that the finished count exceeds the
+-- lent length. The laws are in proofs/RoomLaws.antt: `needs-law`, `larger-law`, `enough-law`.
 use mathlib.Core.Path.{_≡_}
 use Prim.Native.Nat.{ℕ, _+_, _≤_, _<_}
 use mathlib.Core.Bool.{Bool}
@@ -35,7 +36,8 @@ pub record Within (need lent : Room) : Type 0 where
 
 -- a list is too short
 abbrev pub ListShort : Room → Room → Type 0
-ListShort need lent = (lent .ranges < need .ranges) ⊎ (lent .locations < need .locations) ⊎ (lent .strings < need .strings)
+ListShort need lent =
+    (lent .ranges < need .ranges) ⊎ (lent .locations < need .locations) ⊎ (lent .strings < need .strings)
 
 -- ---- what an accepted answer needs: its finished counts, and the references of its unit
 
@@ -64,17 +66,23 @@ IsAccepted (untouched n l) = Unit {0}
 IsAccepted (rewritten w) = Unit {0}
 IsAccepted (refused n) = ⊥
 
--- what is answered with any room for an input that was once accepted: the same where there is what it needs; else, in this order, the number of what is too short
+-- what is answered with other room for an input that was accepted: the same where there is what it needs; else the number of
+-- what is too short, the tables before the lists, these before the map, and this before the output
 pub record RoomLaw (x : Sections) (typeUnits : Bool) (section : List ℕ) (c : Collected) (need : Room) : Type 0 where
   pub enough : (lent : Room) → Within need lent → collectOf x lent typeUnits section ≡ c
-  pub few-entries : (lent : Room) → lent .tables .entries < need .tables .entries → need .tables .references ≤ lent .tables .references
+  pub few-entries : (lent : Room) → lent .tables .entries < need .tables .entries
+      → need .tables .references ≤ lent .tables .references
       → collectOf x lent typeUnits section ≡ refused 10
-  pub few-references : (lent : Room) → need .tables .entries ≤ lent .tables .entries → lent .tables .references < need .tables .references
+  pub few-references : (lent : Room) → need .tables .entries ≤ lent .tables .entries
+      → lent .tables .references < need .tables .references
       → collectOf x lent typeUnits section ≡ refused 11
-  pub short-list : (lent : Room) → TablesWithin (need .tables) (lent .tables) → ListShort need lent → collectOf x lent typeUnits section ≡ refused 12
-  pub short-map : (lent : Room) → TablesWithin (need .tables) (lent .tables) → ListsWithin need lent → lent .places < need .places
+  pub short-list : (lent : Room) → TablesWithin (need .tables) (lent .tables) → ListShort need lent
+      → collectOf x lent typeUnits section ≡ refused 12
+  pub short-map : (lent : Room) → TablesWithin (need .tables) (lent .tables) → ListsWithin need lent
+      → lent .places < need .places
       → collectOf x lent typeUnits section ≡ refused 13
-  pub short-output : (lent : Room) → TablesWithin (need .tables) (lent .tables) → ListsWithin need lent → need .places ≤ lent .places → lent .bytes < need .bytes
+  pub short-output : (lent : Room) → TablesWithin (need .tables) (lent .tables) → ListsWithin need lent
+      → need .places ≤ lent .places → lent .bytes < need .bytes
       → collectOf x lent typeUnits section ≡ refused 14
 
 -- an accepted answer, the rows of its unit, and that it was lent what it needs
@@ -84,7 +92,8 @@ pub record Needs (x : Sections) (room : Room) (typeUnits : Bool) (section : List
   pub lent : Within (needOf (length (namesIn rows)) c) room
   pub law : RoomLaw x typeUnits section c (needOf (length (namesIn rows)) c)
 
--- ---- room that is enough, by the input alone: for all entries and terminators of the unit, for all their indices and references, and for as many bytes as it has
+-- ---- room that is enough, by the input alone: for all entries and terminators of the unit, for all their indices and
+-- references, and for all their bytes
 
 module _ (x : Sections) (u : Unit′) where
   unfoldable pub indexCount : ℕ → List Item → ℕ
@@ -105,7 +114,8 @@ module _ (x : Sections) (u : Unit′) where
 module _ (x : Sections) (section : List ℕ) where
   unfoldable pub declaredRoom : UnitHeader → Option (List Placed) → Room
   declaredRoom h none = noRoom (enoughTables x section)
-  declaredRoom h (some ds) = unitRoom x (record { header = h; bytes = take (h .end) section; declared = ds }) (enoughTables x section)
+  declaredRoom h (some ds) =
+      unitRoom x (record { header = h; bytes = take (h .end) section; declared = ds }) (enoughTables x section)
 
   unfoldable pub headerRoom : HeaderRead → Room
   headerRoom Empty = noRoom (enoughTables x section)
