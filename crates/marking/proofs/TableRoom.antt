@@ -1,13 +1,14 @@
 -- An analysis that was accepted with some tables, with others: as long as they must be it is the same; one too short in entries alone is 10, in references alone 11.
 -- With tables that are enough for the input it is neither. Assumes nothing.
 use mathlib.Core.Path.{_≡_, refl, ap, sym, _∙_, subst}
-use Prim.Native.Nat.{ℕ, zero, suc, _+_, _≤_, _<_}
+use Prim.Native.Nat.{ℕ, zero, suc, _+_, _-_, _≤_, _<_}
 use native.Mathlib.Omega.{arith}
 use mathlib.Core.Bool.{Bool, true, false}
 use mathlib.Core.List.{List, [], _∷_, _++_}
 use mathlib.Core.Logic.{_⊎_, inl, inr, ⊎-elim}
 use mathlib.Core.Option.{Option, none, some}
 use lib.ListN.{length, take, length-append}
+use lib.Seq.{take-all}
 use lib.Dec.{ltb, leb}
 use mir.Facts.{ltb-yes, ltb-no, leb-yes, leb-no, yes-ltb, yes-leb}
 use Rattle.readers.specs.Choice.{pick, pick-either, pick-yes, pick-no, either, _and_, _or_}
@@ -31,31 +32,71 @@ use Rattle.marking.specs.TableRoom.{TablesWithin, tablesFor, TableLaw, e
 use Rattle.marking.proofs.Rows.{Gives, gives-of, gives-onto, gives-map, gives-refused, UnitRows, analysis-rows}
 use Rattle.marking.proofs.Refusals.{AnalysedOf, analysed-of, none-of, rows-of, onto-of, verdict-of, names-of, root-of, references-of}
 
+-- the references of the first entries
+abbrev pub namesOfFirst : ℕ → List Row → ℕ
+namesOfFirst n rows = length (namesIn (take n rows))
+
+first-none : (n m : ℕ) (rows : List Row) → n ≤ m → namesOfFirst (n - m) rows ≡ 0
+unfolding namesIn
+first-none n m rows h =
+    let e : n - m ≡ 0 = omega arith in
+    ap (λ (k : ℕ). namesOfFirst k rows) e
+
+first-all : (n : ℕ) (rows : List Row) → namesOfFirst (n - 0) rows ≡ namesOfFirst n rows
+first-all n rows =
+    let e : n - 0 ≡ n = omega arith in
+    ap (λ (k : ℕ). namesOfFirst k rows) e
+
+first-end : (n : ℕ) → namesOfFirst n [] ≡ 0
+unfolding namesIn
+first-end zero = refl
+first-end (suc n) = refl
+
+first-more : (n m : ℕ) (row : Row) (rows : List Row) → m < n → namesOfFirst (n - m) (row ∷ rows) ≡ length (row .names) + namesOfFirst (n - suc m) rows
+unfolding namesIn
+first-more n m row rows h =
+    let e : n - m ≡ suc (n - suc m) = omega arith in
+    ap (λ (k : ℕ). namesOfFirst k (row ∷ rows)) e ∙ length-append (row .names) (namesIn (take (n - suc m) rows))
+
+pub first-most : (n : ℕ) (rows : List Row) → namesOfFirst n rows ≤ length (namesIn rows)
+unfolding namesIn
+first-most zero rows = omega arith
+first-most (suc n) [] = omega arith
+first-most (suc n) (row ∷ rows) =
+    omega (arith, length-append (row .names) (namesIn (take n rows)), length-append (row .names) (namesIn rows), first-most n rows)
+
 -- what an analysis with the tables r answers where one with others gave these rows, after so many entries and references
 record Told (count refs : ℕ) (rows : List Row) (r : Rooms) (a : Analysed) : Type 0 where
   pub enough : count + length rows ≤ r .entries → refs + length (namesIn rows) ≤ r .references → a ≡ analysed rows
-  pub few-entries : count ≤ r .entries → r .entries < count + length rows → refs + length (namesIn rows) ≤ r .references → a ≡ refused 10
-  pub few-references : refs ≤ r .references → count + length rows ≤ r .entries → r .references < refs + length (namesIn rows) → a ≡ refused 11
+  pub full-entries : count ≤ r .entries → r .entries < count + length rows → refs + namesOfFirst (r .entries - count) rows ≤ r .references → a ≡ refused 10
+  pub full-references : refs ≤ r .references → r .references < refs + namesOfFirst (r .entries - count) rows → a ≡ refused 11
 
 -- the same of an entry for which there is room
 record Inner (count refs : ℕ) (rows : List Row) (r : Rooms) (a : Analysed) : Type 0 where
   pub some-row : 0 < length rows
   pub enough : count + length rows ≤ r .entries → refs + length (namesIn rows) ≤ r .references → a ≡ analysed rows
-  pub few-entries : count < r .entries → r .entries < count + length rows → refs + length (namesIn rows) ≤ r .references → a ≡ refused 10
-  pub few-references : refs ≤ r .references → count + length rows ≤ r .entries → r .references < refs + length (namesIn rows) → a ≡ refused 11
+  pub full-entries : count < r .entries → r .entries < count + length rows → refs + namesOfFirst (r .entries - count) rows ≤ r .references → a ≡ refused 10
+  pub full-references : count < r .entries → refs ≤ r .references → r .references < refs + namesOfFirst (r .entries - count) rows → a ≡ refused 11
 
 module _ (r : Rooms) (count refs : ℕ) where
   told-end : Told count refs [] r (analysed [])
-  unfolding namesIn
-  told-end = record { enough = λ h k. refl; few-entries = λ l h k. absurd (omega arith); few-references = λ l h k. absurd (omega arith) }
+  told-end =
+      record {
+        enough = λ h k. refl;
+        full-entries = λ l h k. absurd (omega arith);
+        full-references = λ l h. absurd (omega (arith, first-end (r .entries - count)));
+      }
 
   outer : (rows : List Row) (a : Analysed) → Inner count refs rows r a → Told count refs rows r (pick (ltb count (r .entries)) a (refused 10))
   outer rows a i =
       record {
         enough = λ h k. pick-yes _ _ _ (yes-ltb (let l : count < r .entries = omega (arith, i .some-row) in l)) ∙ i .enough h k;
-        few-entries = λ l h k.
-            ⊎-elim (λ t. pick-yes _ _ _ t ∙ i .few-entries (ltb-yes t) h k) (λ t. pick-no _ _ _ t) (either (ltb count (r .entries)));
-        few-references = λ l h k. pick-yes _ _ _ (yes-ltb (let m : count < r .entries = omega (arith, i .some-row) in m)) ∙ i .few-references l h k;
+        full-entries = λ l h k.
+            ⊎-elim (λ t. pick-yes _ _ _ t ∙ i .full-entries (ltb-yes t) h k) (λ t. pick-no _ _ _ t) (either (ltb count (r .entries)));
+        full-references = λ l h.
+            ⊎-elim (λ t. pick-yes _ _ _ t ∙ i .full-references (ltb-yes t) l h)
+            (λ t. absurd (omega (arith, first-none (r .entries) count rows (ltb-no {a = count} {b = r .entries} t))))
+            (either (ltb count (r .entries)));
       }
 
   more : (row : Row) (rows : List Row) (a : Analysed) → Told (suc count) (refs + length (row .names)) rows r a
@@ -69,15 +110,19 @@ module _ (r : Rooms) (count refs : ℕ) where
             let h′ : count + suc (length rows) ≤ r .entries = h in
             let k′ : refs + length (row .names ++ namesIn rows) ≤ r .references = k in
             pick-yes _ _ _ (yes-leb (let l : refs + length (row .names) ≤ r .references = omega arith in l)) ∙ ap (onto row) (t .enough (omega arith) (omega arith));
-        few-entries = λ l h k.
+        full-entries = λ l h k.
             let h′ : r .entries < count + suc (length rows) = h in
-            let k′ : refs + length (row .names ++ namesIn rows) ≤ r .references = k in
-            pick-yes _ _ _ (yes-leb (let l : refs + length (row .names) ≤ r .references = omega arith in l)) ∙ ap (onto row) (t .few-entries (omega arith) (omega arith) (omega arith));
-        few-references = λ l h k.
-            let h′ : count + suc (length rows) ≤ r .entries = h in
-            let k′ : r .references < refs + length (row .names ++ namesIn rows) = k in
+            let f : namesOfFirst (r .entries - count) (row ∷ rows) ≡ length (row .names) + namesOfFirst (r .entries - suc count) rows =
+            first-more (r .entries) count row rows l in
+            let k′ : refs + namesOfFirst (r .entries - count) (row ∷ rows) ≤ r .references = k in
+            pick-yes _ _ _ (yes-leb (let l : refs + length (row .names) ≤ r .references = omega arith in l))
+            ∙ ap (onto row) (t .full-entries (omega arith) (omega arith) (omega arith));
+        full-references = λ c l h.
+            let f : namesOfFirst (r .entries - count) (row ∷ rows) ≡ length (row .names) + namesOfFirst (r .entries - suc count) rows =
+            first-more (r .entries) count row rows c in
+            let h′ : r .references < refs + namesOfFirst (r .entries - count) (row ∷ rows) = h in
             ⊎-elim
-            (λ y. pick-yes _ _ _ y ∙ ap (onto row) (t .few-references (leb-yes y) (omega arith) (omega arith)))
+            (λ y. pick-yes _ _ _ y ∙ ap (onto row) (t .full-references (leb-yes y) (omega arith)))
             (λ y. pick-no _ _ _ y) (either (leb (refs + length (row .names)) (r .references)));
       }
 
@@ -160,14 +205,22 @@ module _ (x : Sections) (w r : Rooms) where
   unfolding analysisOf
   rooms-told section rows q = gives-of _ _ rows (header-told section (headerOf section)) q
 
--- THE law of lent tables: with those that an accepted analysis needs nothing else is answered, with fewer entries 10, with fewer references 11
+-- THE law of lent tables
 pub table-law : (x : Sections) (w : Rooms) (section : List ℕ) (rows : List Row) → analysisOf x section w ≡ analysed rows → TableLaw x section rows
 table-law x w section rows q =
     record {
       enough = λ r t. rooms-told x w r section rows q .enough (omega (arith, t .entries)) (omega (arith, t .references));
-      few-entries = λ r h k. rooms-told x w r section rows q .few-entries (omega arith) (omega arith) (omega arith);
-      few-references = λ r h k. rooms-told x w r section rows q .few-references (omega arith) (omega arith) (omega arith);
+      full-entries = λ r h k. rooms-told x w r section rows q .full-entries (omega arith) (omega arith) (omega (arith, first-all (r .entries) rows));
+      full-references = λ r h. rooms-told x w r section rows q .full-references (omega arith) (omega (arith, first-all (r .entries) rows));
     }
+
+-- where all but one is enough: too few entries are 10, too few references 11
+module _ (x : Sections) (section : List ℕ) (rows : List Row) (law : TableLaw x section rows) (lent : Rooms) where
+  pub few-entries : lent .entries < length rows → length (namesIn rows) ≤ lent .references → analysisOf x section lent ≡ refused 10
+  few-entries h k = law .full-entries lent h (omega (arith, first-most (lent .entries) rows))
+
+  pub few-references : length rows ≤ lent .entries → lent .references < length (namesIn rows) → analysisOf x section lent ≡ refused 11
+  few-references h k = law .full-references lent (subst (λ (l : List Row). lent .references < length (namesIn l)) (sym (take-all (lent .entries) rows h)) k)
 
 -- those that it was lent are long enough
 pub tables-lent : (x : Sections) (w : Rooms) (section : List ℕ) (rows : List Row) → analysisOf x section w ≡ analysed rows → TablesWithin (tablesFor rows) w

@@ -24,13 +24,13 @@ pub record TablesWithin (need lent : Rooms) : Type 0 where
 abbrev pub tablesFor : List Row → Rooms
 tablesFor rows = rooms (length rows) (length (namesIn rows))
 
--- what an analysis that gave these rows answers with other tables: the same with those that the rows need,
--- 10 where entries alone are too few, 11 where references alone are
+-- what an analysis that gave these rows answers with other tables: the same with those that the rows need; 10 at the first
+-- entry that the table has no room for, where the references of those before it fit; 11 where these do not
 pub record TableLaw (x : Sections) (section : List ℕ) (rows : List Row) : Type 0 where
   pub enough : (lent : Rooms) → TablesWithin (tablesFor rows) lent → analysisOf x section lent ≡ analysed rows
-  pub few-entries : (lent : Rooms) → lent .entries < length rows → length (namesIn rows) ≤ lent .references
-      → analysisOf x section lent ≡ refused 10
-  pub few-references : (lent : Rooms) → length rows ≤ lent .entries → lent .references < length (namesIn rows)
+  pub full-entries : (lent : Rooms) → lent .entries < length rows
+      → length (namesIn (take (lent .entries) rows)) ≤ lent .references → analysisOf x section lent ≡ refused 10
+  pub full-references : (lent : Rooms) → lent .references < length (namesIn (take (lent .entries) rows))
       → analysisOf x section lent ≡ refused 11
 
 -- ---- tables that are long enough, by the input alone

@@ -8,6 +8,7 @@ use mathlib.Core.List.{List, [], _∷_, _++_}
 use mathlib.Core.Logic.{_⊎_, inl, inr, ⊎-elim}
 use mathlib.Core.Option.{Option, none, some}
 use lib.ListN.{length, take, length-append}
+use lib.Seq.{take-all}
 use lib.Dec.{T, leb, ltb, eqb}
 use mir.Facts.{leb-yes, leb-no, yes-leb, no-leb, eqb-yes, eqb-no, yes-eqb, no-eqb}
 use Rattle.readers.specs.Choice.{pick, pick-either, pick-yes, pick-no, _and_, _or_}
@@ -24,7 +25,7 @@ use Rattle.marking.specs.Columns.{namesIn}
 use Rattle.marking.specs.Marks.{isKept, keptCount}
 use Rattle.marking.specs.Resolution.{marksIn}
 use Rattle.marking.specs.TableRoom.{TablesWithin, tablesFor, TableLaw, enoughTables}
-use Rattle.marking.proofs.TableRoom.{table-law, tables-lent, enough-tables}
+use Rattle.marking.proofs.TableRoom.{table-law, first-most, tables-lent, enough-tables}
 use Rattle.rewriting.specs.Places.{Standing, keptFrom, opened, closed, innermost, withIf, offsetOf, Place, placesFrom, sizeFrom}
 use Rattle.rewriting.specs.Indices.{insert, insertAll, readIndices, countOf}
 use Rattle.rewriting.specs.LeftOut.{leftFrom, sizesOf}
@@ -152,12 +153,12 @@ module _ (x : Sections) (typeUnits : Bool) (section : List ℕ) (h : UnitHeader)
     unfolding marksCollected
     by-whole lent t l = by-marks lent t ∙ pick-yes _ _ _ l ∙ pick-yes _ _ _ (yes-eqb whole)
 
-    whole-law : RoomLaw x typeUnits section (untouched (length marks) lists) (needed 0 0)
+    whole-law : RoomLaw x typeUnits section (untouched (length marks) lists) rows (needed 0 0)
     whole-law =
         record {
           enough = λ lent w. by-whole lent (w .tables) (lists-fit lent lists _ _ _ _ (w .lists));
-          few-entries = λ lent e r. by-refusal lent 10 (tables .few-entries (lent .tables) e r);
-          few-references = λ lent e r. by-refusal lent 11 (tables .few-references (lent .tables) e r);
+          full-entries = λ lent e r. by-refusal lent 10 (tables .full-entries (lent .tables) e r);
+          full-references = λ lent r. by-refusal lent 11 (tables .full-references (lent .tables) r);
           short-list = λ lent t s. by-short lent t (lists-short lent lists 0 0 0 0 s);
           short-map = λ lent t l p. absurd (omega arith);
           short-output = λ lent t l p b. absurd (omega arith);
@@ -172,13 +173,13 @@ module _ (x : Sections) (typeUnits : Bool) (section : List ℕ) (h : UnitHeader)
         by-marks lent t ∙ pick-yes _ _ _ l
         ∙ pick-no _ _ _ (no-eqb (λ e. let z : keptCount marks ≡ length marks = e in absurd (omega arith)))
 
-    dead-law : (c : Collected) → finished ≡ c → RoomLaw x typeUnits section c (needed (length kept) size)
+    dead-law : (c : Collected) → finished ≡ c → RoomLaw x typeUnits section c rows (needed (length kept) size)
     dead-law c q =
         record {
           enough = λ lent w.
               by-dead lent (w .tables) (lists-fit lent lists _ _ _ _ (w .lists)) ∙ pick-yes _ _ _ (yes-leb (w .places)) ∙ pick-yes _ _ _ (yes-leb (w .bytes)) ∙ q;
-          few-entries = λ lent e r. by-refusal lent 10 (tables .few-entries (lent .tables) e r);
-          few-references = λ lent e r. by-refusal lent 11 (tables .few-references (lent .tables) e r);
+          full-entries = λ lent e r. by-refusal lent 10 (tables .full-entries (lent .tables) e r);
+          full-references = λ lent r. by-refusal lent 11 (tables .full-references (lent .tables) r);
           short-list = λ lent t s. by-short lent t (lists-short lent lists 0 0 0 0 s);
           short-map = λ lent t l p. by-dead lent t (lists-fit lent lists _ _ _ _ l) ∙ pick-no _ _ _ (no-leb p);
           short-output = λ lent t l p b. by-dead lent t (lists-fit lent lists _ _ _ _ l) ∙ pick-yes _ _ _ (yes-leb p) ∙ pick-no _ _ _ (no-leb b);
@@ -231,13 +232,19 @@ module _ (x : Sections) (typeUnits : Bool) (section : List ℕ) (lent : Room) wh
   unfolding collectOf
   collected-empty a = header-empty (headerOf section) refl a
 
-empty-law : (x : Sections) (typeUnits : Bool) (section : List ℕ) → TableLaw x section [] → RoomLaw x typeUnits section (untouched 0 noLists) (needOf 0 (untouched 0 noLists))
+no-names : (n m : ℕ) → m < length (namesIn (take n [])) → ⊥
+unfolding namesIn
+no-names zero m h = absurd (omega arith)
+no-names (suc n) m h = absurd (omega arith)
+
+empty-law : (x : Sections) (typeUnits : Bool) (section : List ℕ) → TableLaw x section []
+    → RoomLaw x typeUnits section (untouched 0 noLists) [] (needOf 0 (untouched 0 noLists))
 unfolding needOf countOf namesIn
 empty-law x typeUnits section t =
     record {
       enough = λ lent w. collected-empty x typeUnits section lent (t .enough (lent .tables) (w .tables));
-      few-entries = λ lent e r. absurd (omega arith);
-      few-references = λ lent e r. absurd (omega arith);
+      full-entries = λ lent e r. absurd (omega arith);
+      full-references = λ lent r. absurd (no-names (lent .tables .entries) (lent .tables .references) r);
       short-list = λ lent w s. absurd (⊎-elim (λ z. omega arith) (λ o. ⊎-elim (λ z. omega arith) (λ z. omega arith) o) s);
       short-map = λ lent w l p. absurd (omega arith);
       short-output = λ lent w l p b. absurd (omega arith);
@@ -299,7 +306,7 @@ module _ (x : Sections) (room : Room) (typeUnits : Bool) (section : List ℕ) wh
               subst (λ (n : Room). Within n room) need-is
               (record { tables = its-lent; lists = lists-lent room _ _ _ _ _ (p .0); places = p .1; bytes = p .2 });
           law =
-              subst (RoomLaw x typeUnits section (rewritten w)) need-is
+              subst (RoomLaw x typeUnits section (rewritten w) (was .rows)) need-is
               (dead-law x typeUnits section (was .header) (was .declared) (was .accepted .header) (was .accepted .declared) (was .rows) some-row-in its-tables
               (was .dead) (rewritten w) (p .3));
         }
@@ -344,8 +351,8 @@ module _ (x : Sections) (room : Room) (typeUnits : Bool) (section : List ℕ) wh
               subst (λ (m : Room). Within m room) whole-need
               (record { tables = whole-lent; lists = lists-lent room wholeLists _ _ _ _ whole-fit; places = omega arith; bytes = omega arith });
           law =
-              subst (RoomLaw x typeUnits section (untouched n l)) whole-need
-              (subst (λ (c : Collected). RoomLaw x typeUnits section c (roomFor (length (u .rows)) (length (namesIn (u .rows))) wholeLists 0 0)) whole-answer
+              subst (RoomLaw x typeUnits section (untouched n l) (u .rows)) whole-need
+              (subst (λ (c : Collected). RoomLaw x typeUnits section c (u .rows) (roomFor (length (u .rows)) (length (namesIn (u .rows))) wholeLists 0 0)) whole-answer
               (whole-law x typeUnits section (u .header) (u .declared) (u .accepted .header) (u .accepted .declared) (u .rows) whole-row whole-tables (u .none-dead)));
         }
 
@@ -380,6 +387,15 @@ module _ (x : Sections) (room : Room) (typeUnits : Bool) (section : List ℕ) wh
   needs-law (untouched (suc n) l) q a = needs-whole (suc n) l q (was-untouched x room typeUnits section (suc n) l q (omega arith)) (omega arith)
   needs-law (rewritten w) q a = needs-rewritten w q
   needs-law (refused n) q a = absurd a
+
+-- too few entries alone are 10, too few references alone 11
+module _ (x : Sections) (typeUnits : Bool) (section : List ℕ) (c : Collected) (rows : List Row) (need lent : Room) (law : RoomLaw x typeUnits section c rows need) where
+  pub few-entries : lent .tables .entries < need .tables .entries → length (namesIn rows) ≤ lent .tables .references → collectOf x lent typeUnits section ≡ refused 10
+  few-entries h k = law .full-entries lent h (omega (arith, first-most (lent .tables .entries) rows))
+
+  pub few-references : length rows ≤ lent .tables .entries → lent .tables .references < length (namesIn rows) → collectOf x lent typeUnits section ≡ refused 11
+  few-references h k =
+      law .full-references lent (subst (λ (l : List Row). lent .tables .references < length (namesIn l)) (sym (take-all (lent .tables .entries) rows h)) k)
 
 -- ---- a larger room
 

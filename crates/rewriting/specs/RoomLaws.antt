@@ -66,15 +66,14 @@ IsAccepted (untouched n l) = Unit {0}
 IsAccepted (rewritten w) = Unit {0}
 IsAccepted (refused n) = ⊥
 
--- what is answered with other room for an input that was accepted: the same where there is what it needs; else the number of
--- what is too short, the tables before the lists, these before the map, and this before the output
-pub record RoomLaw (x : Sections) (typeUnits : Bool) (section : List ℕ) (c : Collected) (need : Room) : Type 0 where
+-- what is answered with other room for an input that was accepted, for every room: the same where there is what it needs; else
+-- the number of what is too short, the tables (`TableLaw`) before the lists, these before the map, and this before the output
+pub record RoomLaw (x : Sections) (typeUnits : Bool) (section : List ℕ) (c : Collected) (rows : List Row) (need : Room) : Type 0 where
   pub enough : (lent : Room) → Within need lent → collectOf x lent typeUnits section ≡ c
-  pub few-entries : (lent : Room) → lent .tables .entries < need .tables .entries
-      → need .tables .references ≤ lent .tables .references
+  pub full-entries : (lent : Room) → lent .tables .entries < need .tables .entries
+      → length (namesIn (take (lent .tables .entries) rows)) ≤ lent .tables .references
       → collectOf x lent typeUnits section ≡ refused 10
-  pub few-references : (lent : Room) → need .tables .entries ≤ lent .tables .entries
-      → lent .tables .references < need .tables .references
+  pub full-references : (lent : Room) → lent .tables .references < length (namesIn (take (lent .tables .entries) rows))
       → collectOf x lent typeUnits section ≡ refused 11
   pub short-list : (lent : Room) → TablesWithin (need .tables) (lent .tables) → ListShort need lent
       → collectOf x lent typeUnits section ≡ refused 12
@@ -90,7 +89,7 @@ pub record Needs (x : Sections) (room : Room) (typeUnits : Bool) (section : List
   pub rows : List Row
   pub rows-are : analysisOf x section (room .tables) ≡ analysed rows
   pub lent : Within (needOf (length (namesIn rows)) c) room
-  pub law : RoomLaw x typeUnits section c (needOf (length (namesIn rows)) c)
+  pub law : RoomLaw x typeUnits section c rows (needOf (length (namesIn rows)) c)
 
 -- ---- room that is enough, by the input alone: for all entries and terminators of the unit, for all their indices and
 -- references, and for all their bytes
