@@ -1,4 +1,5 @@
--- "A refusal carries a number of document 01": where each refusal of collect comes from, and with which number; a padded number is refused with 15. Assumes nothing.
+-- "A refusal carries a number of document 01": where each refusal of collect comes from, and with which number; a padded number is
+-- refused with 15. Assumes nothing.
 use mathlib.Core.Path.{_≡_, refl, subst}
 use Prim.Native.Nat.{ℕ, _+_, _≤_, _<_}
 use native.Mathlib.Omega.{arith}

@@ -1,5 +1,5 @@
--- THE LAWS OF ROOM: a larger room never changes an accepted answer; with enough room 10 to 14 never come; with less than what is needed exactly that number does.
--- Assumes nothing but the answer named.
+-- THE LAWS OF ROOM: a larger room never changes an accepted answer; with enough room 10 to 14 never come; with less than what is
+-- needed exactly that number does. Assumes nothing but the answer named.
 use mathlib.Core.Path.{_≡_, refl, ap, sym, _∙_, subst}
 use Prim.Native.Nat.{ℕ, zero, suc, _+_, _≤_, _<_}
 use native.Mathlib.Omega.{arith}
@@ -11,7 +11,7 @@ use lib.ListN.{length, take, length-append}
 use lib.Seq.{take-all}
 use lib.Dec.{T, leb, ltb, eqb}
 use mir.Facts.{leb-yes, leb-no, yes-leb, no-leb, eqb-yes, eqb-no, yes-eqb, no-eqb}
-use Rattle.readers.specs.Choice.{pick, pick-either, pick-yes, pick-no, _and_, _or_}
+use Rattle.readers.specs.Choice.{pick, pick-either, pick-yes, pick-no, either, _and_, _or_}
 use Rattle.readers.specs.Refusals.{OneOf}
 use Rattle.readers.specs.Abbreviations.{Placed, abbreviationsOf}
 use Rattle.readers.specs.Header.{headerOf}
@@ -31,7 +31,7 @@ use Rattle.rewriting.specs.Indices.{insert, insertAll, readIndices, coun
 use Rattle.rewriting.specs.LeftOut.{leftFrom, sizesOf}
 use Rattle.rewriting.specs.Rewriting.{Unit as Unit′, itemsIn, readsAt, Lists, noLists, indicesFrom, anyDeclares, listOf, listsOf, refusalFrom, unitBytes, Room, Rewrite, Collected, untouched, rewritten, refused, listsFit, orRefused, rewriteOf, marksCollected, rowsCollected, analysedCollected, declaredCollected, headerCollected, collectOf}
 use Rattle.rewriting.specs.Refusals.{RoomyRefusal}
-use Rattle.rewriting.specs.RoomLaws.{ListsWithin, Within, ListShort, roomFor, noRoom, needOf, IsAccepted, RoomLaw, Needs, indexCount, unitRoom, declaredRoom, headerRoom, enoughRoom}
+use Rattle.rewriting.specs.RoomLaws.{ListsWithin, Within, ListShort, roomFor, noRoom, needOf, IsAccepted, RoomLaw, Needs, TooShort, indexCount, unitRoom, declaredRoom, headerRoom, enoughRoom}
 use Rattle.rewriting.proofs.Maps.{places-length}
 use Rattle.rewriting.proofs.Sizes.{sizes-divided}
 use Rattle.rewriting.proofs.Accepted.{unitOf, survivorsIn, Accepted, marks-each, kept-most, WasRewritten, WasUntouched, was-untouched, was-empty}
@@ -296,12 +296,13 @@ module _ (x : Sections) (room : Room) (typeUnits : Bool) (section : List ℕ) wh
         collected-lent x typeUnits section (was .header) (was .declared) (was .accepted .header) (was .accepted .declared) (was .rows) some-row-in its-tables room (rewritten w) its-lent answer
 
     needs-rewritten : Needs x room typeUnits section (rewritten w)
-    unfolding Lent
+    unfolding Lent needOf
     needs-rewritten =
         let p = lent-parts in
         record {
           rows = was .rows;
           rows-are = was .accepted .analysis;
+          counted = was .entries-is ∙ marks-each (was .rows);
           lent =
               subst (λ (n : Room). Within n room) need-is
               (record { tables = its-lent; lists = lists-lent room _ _ _ _ _ (p .0); places = p .1; bytes = p .2 });
@@ -343,10 +344,12 @@ module _ (x : Sections) (room : Room) (typeUnits : Bool) (section : List ℕ) wh
         room (untouched n l) whole-lent answer
 
     needs-whole : Needs x room typeUnits section (untouched n l)
+    unfolding needOf
     needs-whole =
         record {
           rows = u .rows;
           rows-are = u .accepted .analysis;
+          counted = u .entries-is ∙ marks-each (u .rows);
           lent =
               subst (λ (m : Room). Within m room) whole-need
               (record { tables = whole-lent; lists = lists-lent room wholeLists _ _ _ _ whole-fit; places = omega arith; bytes = omega arith });
@@ -371,6 +374,7 @@ module _ (x : Sections) (room : Room) (typeUnits : Bool) (section : List ℕ) wh
       (record {
         rows = [];
         rows-are = a;
+        counted = refl;
         lent = record {
           tables = record { entries = omega arith; references = omega arith };
           lists = record { ranges = omega arith; locations = omega arith; strings = omega arith };
@@ -536,3 +540,96 @@ module _ (x : Sections) (lent : Room) (typeUnits : Bool) (section : List ℕ) wh
   pub enough-law : Within (enoughRoom x section) lent → (n : ℕ) → collectOf x lent typeUnits section ≡ refused n → RoomyRefusal n
   unfolding collectOf enoughRoom Roomy
   enough-law w n q = subst Roomy q (header-roomy (headerOf section) refl w)
+
+-- ---- every room: an accepted answer stays, or something is too short
+
+-- what holds of each of some numbers holds of one of them
+unfoldable EachOf : (ℕ → Type 0) → List ℕ → Type 0
+EachOf P [] = Unit {0}
+EachOf P (m ∷ ms) = P m × EachOf P ms
+
+one-by : (P : ℕ → Type 0) (ms : List ℕ) (n : ℕ) → EachOf P ms → OneOf ms n → P n
+unfolding EachOf OneOf
+one-by P [] n e o = absurd o
+one-by P (m ∷ ms) n e (inl q) = subst P (sym q) (e .0)
+one-by P (m ∷ ms) n e (inr o) = one-by P ms n (e .1) o
+
+roomy-most : (n : ℕ) → RoomyRefusal n → n ≤ 9
+unfolding EachOf
+roomy-most n o =
+    one-by (λ (m : ℕ). m ≤ 9) roomyNumbers n
+    (omega arith, (omega arith, (omega arith, (omega arith, (omega arith, (omega arith, (omega arith, (omega arith, (omega arith, tt))))))))) o
+
+short-least : (n : ℕ) → OneOf (10 ∷ 11 ∷ 12 ∷ 13 ∷ 14 ∷ []) n → 10 ≤ n
+unfolding EachOf
+short-least n o =
+    one-by (λ (m : ℕ). 10 ≤ m) (10 ∷ 11 ∷ 12 ∷ 13 ∷ 14 ∷ []) n (omega arith, (omega arith, (omega arith, (omega arith, (omega arith, tt))))) o
+
+module _ (x : Sections) (typeUnits : Bool) (section : List ℕ) (c : Collected) (rows : List Row) (need lent : Room) (law : RoomLaw x typeUnits section c rows need)
+    (entries-are : need .tables .entries ≡ length rows) (references-are : need .tables .references ≡ length (namesIn rows)) where
+  abbrev Either : Type 0
+  Either = (collectOf x lent typeUnits section ≡ c) ⊎ TooShort x lent typeUnits section
+
+  short-by : (n : ℕ) → T (isOneOf (10 ∷ 11 ∷ 12 ∷ 13 ∷ 14 ∷ []) n) → collectOf x lent typeUnits section ≡ refused n → Either
+  short-by n t q = inr (record { number = n; one = one-of (10 ∷ 11 ∷ 12 ∷ 13 ∷ 14 ∷ []) n t; answer = q })
+
+  by-bytes : TablesWithin (need .tables) (lent .tables) → ListsWithin need lent → need .places ≤ lent .places → Either
+  unfolding isOneOf _or_
+  by-bytes t l p =
+      ⊎-elim (λ b. inl (law .enough lent (record { tables = t; lists = l; places = p; bytes = leb-yes b })))
+      (λ b. short-by 14 tt (law .short-output lent t l p (leb-no b))) (either (leb (need .bytes) (lent .bytes)))
+
+  by-places : TablesWithin (need .tables) (lent .tables) → ListsWithin need lent → Either
+  unfolding isOneOf _or_
+  by-places t l =
+      ⊎-elim (λ p. by-bytes t l (leb-yes p)) (λ p. short-by 13 tt (law .short-map lent t l (leb-no p))) (either (leb (need .places) (lent .places)))
+
+  by-lists : TablesWithin (need .tables) (lent .tables) → Either
+  unfolding isOneOf _or_
+  by-lists t =
+      ⊎-elim
+      (λ a. ⊎-elim
+      (λ b. ⊎-elim (λ s. by-places t (record { ranges = leb-yes a; locations = leb-yes b; strings = leb-yes s }))
+      (λ s. short-by 12 tt (law .short-list lent t (inr (inr (leb-no s))))) (either (leb (need .strings) (lent .strings))))
+      (λ b. short-by 12 tt (law .short-list lent t (inr (inl (leb-no b))))) (either (leb (need .locations) (lent .locations))))
+      (λ a. short-by 12 tt (law .short-list lent t (inl (leb-no a)))) (either (leb (need .ranges) (lent .ranges)))
+
+  by-tables : Either
+  unfolding isOneOf _or_
+  by-tables =
+      ⊎-elim
+      (λ r. ⊎-elim
+      (λ e. by-lists (record {
+        entries = omega (arith, leb-yes {a = length rows} {b = lent .tables .entries} e);
+        references =
+            omega (
+              arith,
+              leb-yes {a = length (namesIn (take (lent .tables .entries) rows))} {b = lent .tables .references} r,
+              ap (λ (l : List Row). length (namesIn l)) (take-all (lent .tables .entries) rows (leb-yes e)),
+            );
+      }))
+      (λ e. short-by 10 tt (law .full-entries lent (omega (arith, leb-no {a = length rows} {b = lent .tables .entries} e)) (leb-yes r)))
+      (either (leb (length rows) (lent .tables .entries))))
+      (λ r. short-by 11 tt (law .full-references lent (leb-no r)))
+      (either (leb (length (namesIn (take (lent .tables .entries) rows))) (lent .tables .references)))
+
+references-needed : (n : ℕ) (c : Collected) → IsAccepted c → needOf n c .tables .references ≡ n
+unfolding needOf IsAccepted
+references-needed n (untouched k l) a = refl
+references-needed n (rewritten w) a = refl
+references-needed n (refused k) a = absurd a
+
+module _ (x : Sections) (room : Room) (typeUnits : Bool) (section : List ℕ) (c : Collected) (answer : collectOf x room typeUnits section ≡ c) (accepted : IsAccepted c) where
+  -- what is accepted with some room is accepted with any other, and the same, or that is too short
+  pub every-room-law : (lent : Room) → (collectOf x lent typeUnits section ≡ c) ⊎ TooShort x lent typeUnits section
+  every-room-law lent =
+      let n : Needs x room typeUnits section c = needs-law x room typeUnits section c answer accepted in
+      by-tables x typeUnits section c (n .rows) (needOf (length (namesIn (n .rows))) c) lent (n .law) (n .counted)
+      (references-needed (length (namesIn (n .rows))) c accepted)
+
+  -- it is accepted, and the same, with room that is enough for the input
+  pub enough-same : (lent : Room) → Within (enoughRoom x section) lent → collectOf x lent typeUnits section ≡ c
+  enough-same lent w =
+      ⊎-elim (λ q. q)
+      (λ s. absurd (omega (arith, roomy-most (s .number) (enough-law x lent typeUnits section w (s .number) (s .answer)), short-least (s .number) (s .one))))
+      (every-room-law lent)

@@ -1,5 +1,5 @@
 -- What collect asks of lent room (document 01, "collect"): each "short" means exactly that the finished count exceeds the
--- lent length. The laws are in proofs/RoomLaws.antt: `needs-law`, `larger-law`, `enough-law`.
+-- lent length. The laws are in proofs/RoomLaws.antt: `needs-law`, `larger-law`, `enough-law`, `every-room-law`.
 use mathlib.Core.Path.{_≡_}
 use Prim.Native.Nat.{ℕ, _+_, _≤_, _<_}
 use mathlib.Core.Bool.{Bool}
@@ -7,6 +7,7 @@ use mathlib.Core.List.{List, [], _∷_}
 use mathlib.Core.Logic.{_⊎_}
 use mathlib.Core.Option.{Option, none, some}
 use lib.ListN.{length, take}
+use Rattle.readers.specs.Refusals.{OneOf}
 use Rattle.readers.specs.Abbreviations.{Placed, abbreviationsOf}
 use Rattle.readers.specs.Header.{headerOf}
 use Rattle.readers.specs.Stream.{Item}
@@ -84,12 +85,19 @@ pub record RoomLaw (x : Sections) (typeUnits : Bool) (section : List ℕ) (c : C
       → need .places ≤ lent .places → lent .bytes < need .bytes
       → collectOf x lent typeUnits section ≡ refused 14
 
--- an accepted answer, the rows of its unit, and that it was lent what it needs
+-- an accepted answer, the rows of its unit, which are as many as it counts entries, and that it was lent what it needs
 pub record Needs (x : Sections) (room : Room) (typeUnits : Bool) (section : List ℕ) (c : Collected) : Type 0 where
   pub rows : List Row
   pub rows-are : analysisOf x section (room .tables) ≡ analysed rows
+  pub counted : needOf (length (namesIn rows)) c .tables .entries ≡ length rows
   pub lent : Within (needOf (length (namesIn rows)) c) room
   pub law : RoomLaw x typeUnits section c rows (needOf (length (namesIn rows)) c)
+
+-- a room that is too short: 10 to 14
+pub record TooShort (x : Sections) (lent : Room) (typeUnits : Bool) (section : List ℕ) : Type 0 where
+  pub number : ℕ
+  pub one : OneOf (10 ∷ 11 ∷ 12 ∷ 13 ∷ 14 ∷ []) number
+  pub answer : collectOf x lent typeUnits section ≡ refused number
 
 -- ---- room that is enough, by the input alone: for all entries and terminators of the unit, for all their indices and
 -- references, and for all their bytes
