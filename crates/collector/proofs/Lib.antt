@@ -1,2 +1,3 @@
 mod Runs
 mod Counting
+pub mod Refusals

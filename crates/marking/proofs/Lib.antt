@@ -36,3 +36,5 @@ pub mod UnitSurvivors
 pub mod KeptMarks
 pub mod EachRow
 pub mod UnitLaws
+pub mod Refusals
+pub mod TableRoom

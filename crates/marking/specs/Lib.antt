@@ -17,3 +17,5 @@ pub mod Columns
 pub mod Resolution
 pub mod Members
 pub mod UnitSurvivors
+pub mod Refusals
+pub mod TableRoom

@@ -19,3 +19,4 @@ pub mod Yields
 pub mod OwnReferences
 pub mod ReferenceTables
 pub mod Answers
+pub mod Refusals

@@ -11,6 +11,7 @@ pub mod Fields
 pub mod Steps
 pub mod References
 pub mod Header
+pub mod Refusals
 pub mod Lists
 pub mod Slots
 pub mod Abbreviations

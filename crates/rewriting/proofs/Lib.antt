@@ -71,3 +71,5 @@ pub mod Answering
 pub mod Listings
 pub mod UnitAnswers
 pub mod UnitWritten
+pub mod Refusals
+pub mod RoomLaws

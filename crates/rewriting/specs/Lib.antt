@@ -25,3 +25,5 @@ pub mod AttributesAgain
 pub mod Leaving
 pub mod FiveEntries
 pub mod SameReferences
+pub mod Refusals
+pub mod RoomLaws

@@ -1,0 +1,202 @@
+-- "A refusal carries a number of document 01": where each refusal of collect comes from, and with which number; a padded number is
+-- refused with 15. Assumes nothing.
+use mathlib.Core.Path.{_≡_, refl, subst}
+use Prim.Native.Nat.{ℕ, _+_, _≤_, _<_}
+use native.Mathlib.Omega.{arith}
+use mathlib.Core.Bool.{Bool, true, false, not}
+use mathlib.Core.List.{List, [], _∷_}
+use mathlib.Core.Logic.{_⊎_, inl, inr, ⊎-elim}
+use mathlib.Core.Option.{Option, none, some}
+use lib.ListN.{length, take}
+use lib.Dec.{T, leb, eqb}
+use mir.Facts.{eqb-no, leb-yes, leb-no}
+use Rattle.readers.specs.Choice.{pick, pick-either, _and_, _or_}
+use Rattle.readers.specs.Refusals.{OneOf}
+use Rattle.readers.specs.Abbreviations.{Placed, abbreviationsOf}
+use Rattle.readers.specs.Header.{headerOf}
+use Rattle.readers.specs.Layout.{Piece, copied, linked, Read}
+use Rattle.readers.specs.declared.header.UnitHeader.{UnitHeader}
+use Rattle.readers.specs.declared.header.HeaderRead.{HeaderRead}
+use Rattle.readers.specs.declared.header.HeaderRead.the-variants.{Unit as Header′, Empty, Refused}
+use Rattle.readers.proofs.Refusals.{isOneOf, areOf, one-of, wider, header-refusal}
+use Rattle.marking.specs.Analysis.{Sections, Row, Analysed, analysed, refused as notAnalysed, analysisOf}
+use Rattle.marking.specs.Marks.{keptCount}
+use Rattle.marking.specs.Resolution.{marksIn}
+use Rattle.marking.proofs.Refusals.{entries-refusal}
+use Rattle.rewriting.specs.Places.{Standing, Place, placesFrom, sizeFrom}
+use Rattle.rewriting.specs.Rewriting.{Unit as Unit′, Lists, Room, Rewrite, Collected, untouched, rewritten, refused, pieceRefusal, orNext, piecesRefusal, readsRefusal, refusalFrom, listsFit, orRefused, rewriteOf, marksCollected, rowsCollected, analysedCollected, declaredCollected, headerCollected, collectOf}
+use Rattle.rewriting.specs.Written.{groupsFit, paddedAnswer}
+use Rattle.rewriting.specs.declared.numbers.Padded.{Padded}
+use Rattle.rewriting.specs.declared.numbers.Padded.the-variants.{Written, Refused as Refused′}
+use Rattle.rewriting.specs.Refusals.{CollectRefusal, PaddedRefusal, UnitRead, unitRead, keptIn, listsIn, Thinned, RefusedAt, at-header, at-abbreviations, at-entries, at-lists, at-map, at-output, at-values}
+use Rattle.rewriting.proofs.Accepted.{kept-most}
+
+-- ---- 8 and 9: 0 where nothing is refused
+
+abbrev pub Late : ℕ → Type 0
+Late n = OneOf (0 ∷ 8 ∷ 9 ∷ []) n
+
+none-late : Late 0
+unfolding isOneOf _or_
+none-late = one-of _ 0 tt
+
+eight-late : Late 8
+unfolding isOneOf _or_
+eight-late = one-of _ 8 tt
+
+nine-late : Late 9
+unfolding isOneOf _or_
+nine-late = one-of _ 9 tt
+
+module _ (lists : Lists) (map : List Place) (depth : ℕ) where
+  next-late : (n m : ℕ) → Late n → Late m → Late (orNext lists map depth n m)
+  unfolding orNext
+  next-late n m p q = pick-either Late (eqb n 0) m n (λ _. q) (λ _. p)
+
+  piece-late : (p : Piece) → Late (pieceRefusal lists map depth p)
+  unfolding pieceRefusal
+  piece-late (copied l) = none-late
+  piece-late (linked e r v) = pick-either Late _ _ _ (λ _. pick-either Late _ _ _ (λ _. none-late) (λ _. nine-late)) (λ _. eight-late)
+
+  pieces-late : (ps : List Piece) → Late (piecesRefusal lists map depth ps)
+  unfolding piecesRefusal
+  pieces-late [] = none-late
+  pieces-late (p ∷ ps) = next-late _ _ (piece-late p) (pieces-late ps)
+
+  reads-late : (rs : List Read) → Late (readsRefusal lists map depth rs)
+  unfolding readsRefusal
+  reads-late [] = none-late
+  reads-late (r ∷ rs) = next-late _ _ (pieces-late (r .pieces)) (reads-late rs)
+
+pub values-late : (x : Sections) (u : Unit′) (lists : Lists) (map : List Place) (kept : List Standing) → Late (refusalFrom x u lists map kept)
+unfolding refusalFrom
+values-late x u lists map [] = none-late
+values-late x u lists map (s ∷ kept) = next-late lists map (s .depth) _ _ (reads-late lists map (s .depth) _) (values-late x u lists map kept)
+
+-- a refusal of a value is 8 or 9
+pub late-value : (n : ℕ) → Late n → T (not (eqb n 0)) → OneOf (8 ∷ 9 ∷ []) n
+unfolding OneOf
+late-value n (inl e) t = absurd (eqb-no {a = n} {b = 0} t e)
+late-value n (inr o) t = o
+
+-- ---- collect
+
+is-true : (b : Bool) → T b → b ≡ true
+is-true true t = refl
+is-true false t = absurd t
+
+is-false : (b : Bool) → T (not b) → b ≡ false
+is-false true t = absurd t
+is-false false t = refl
+
+module _ (x : Sections) (room : Room) (typeUnits : Bool) (section : List ℕ) where
+  unfoldable Staged : Collected → Type 0
+  Staged (untouched n l) = Unit {0}
+  Staged (rewritten w) = Unit {0}
+  Staged (refused n) = RefusedAt x room typeUnits section n
+
+  staged-untouched : (n : ℕ) (l : Lists) → Staged (untouched n l)
+  unfolding Staged
+  staged-untouched n l = tt
+
+  staged-refused : (n : ℕ) → RefusedAt x room typeUnits section n → Staged (refused n)
+  unfolding Staged
+  staged-refused n r = r
+
+  module _ (u : UnitRead x room section) where
+    abbrev unit : Unit′
+    unit = unitRead x room typeUnits section u
+
+    abbrev kept : List Standing
+    kept = keptIn x room typeUnits section u
+
+    abbrev lists : Lists
+    lists = listsIn x room typeUnits section u
+
+    abbrev places : List Place
+    places = placesFrom (u .header .first .0) kept
+
+    values-staged : Thinned x room typeUnits section u → length kept ≤ room .places → u .header .first .0 + sizeFrom kept ≤ room .bytes → (w : Rewrite)
+        → Staged (orRefused x room (refusalFrom x unit lists places kept) (rewritten w))
+    unfolding orRefused Staged
+    values-staged d p b w =
+        pick-either Staged (eqb (refusalFrom x unit lists places kept) 0) (rewritten w) (refused (refusalFrom x unit lists places kept)) (λ _. tt)
+        (λ t. at-values u d p b refl (late-value _ (values-late x unit lists places kept) t))
+
+    rewrite-staged : Thinned x room typeUnits section u → Staged (rewriteOf x room unit (length (marksIn (u .rows))) (keptCount (marksIn (u .rows))) lists kept)
+    unfolding rewriteOf
+    rewrite-staged d =
+        pick-either Staged (leb (length kept) (room .places)) _ (refused 13)
+        (λ p. pick-either Staged (leb (u .header .first .0 + sizeFrom kept) (room .bytes)) _ (refused 14)
+        (λ b. values-staged d (leb-yes p) (leb-yes b) _)
+        (λ b. staged-refused 14 (at-output u d (leb-yes p) (leb-no b))))
+        (λ p. staged-refused 13 (at-map u d (leb-no p)))
+
+    marks-staged : Staged (marksCollected x room typeUnits unit (marksIn (u .rows)) kept)
+    unfolding marksCollected
+    marks-staged =
+        pick-either Staged (listsFit room lists) _ (refused 12)
+        (λ l. pick-either Staged (eqb (keptCount (marksIn (u .rows))) (length (marksIn (u .rows)))) (untouched _ _) _
+        (λ _. staged-untouched _ _)
+        (λ d. rewrite-staged (record {
+          dead = omega (arith, kept-most (marksIn (u .rows)), eqb-no {a = keptCount (marksIn (u .rows))} {b = length (marksIn (u .rows))} d);
+          listed = is-true _ l;
+        })))
+        (λ l. staged-refused 12 (at-lists u (is-false _ l)))
+
+  abbrev asRead : UnitHeader → List Placed → Unit′
+  asRead h ds = record { header = h; bytes = take (h .end) section; declared = ds }
+
+  module _ (h : UnitHeader) (header : headerOf section ≡ Header′ h) where
+    rows-staged : (ds : List Placed) → abbreviationsOf (x .abbreviations) (h .abbreviations) ≡ some ds → (rows : List Row) → analysisOf x section (room .tables) ≡ analysed rows
+        → Staged (rowsCollected x room typeUnits (asRead h ds) rows)
+    unfolding rowsCollected
+    rows-staged ds d [] a = staged-untouched _ _
+    rows-staged ds d (r ∷ rows) a = marks-staged (record { header = h; declared = ds; rows = r ∷ rows; header-is = header; declared-are = d; rows-are = a })
+
+    analysed-staged : (ds : List Placed) → abbreviationsOf (x .abbreviations) (h .abbreviations) ≡ some ds → (o : Analysed) → analysisOf x section (room .tables) ≡ o
+        → Staged (analysedCollected x room typeUnits (asRead h ds) o)
+    unfolding analysedCollected
+    analysed-staged ds d (analysed rows) a = rows-staged ds d rows a
+    analysed-staged ds d (notAnalysed n) a = staged-refused n (at-entries header d a (entries-refusal x section (room .tables) h ds n header d a))
+
+    declared-staged : (o : Option (List Placed)) → abbreviationsOf (x .abbreviations) (h .abbreviations) ≡ o → Staged (declaredCollected x room typeUnits section h o)
+    unfolding declaredCollected
+    declared-staged none d = staged-refused 3 (at-abbreviations header d)
+    declared-staged (some ds) d = analysed-staged ds d (analysisOf x section (room .tables)) refl
+
+  header-staged : (o : HeaderRead) → headerOf section ≡ o → Staged (headerCollected x room typeUnits section o)
+  unfolding headerCollected
+  header-staged Empty q = staged-untouched _ _
+  header-staged (Refused n) q = staged-refused n (at-header q (header-refusal section n q))
+  header-staged (Header′ h) q = declared-staged h q (abbreviationsOf (x .abbreviations) (h .abbreviations)) refl
+
+  -- THE refusals of collect, by where they come from
+  pub refusal-law : (n : ℕ) → collectOf x room typeUnits section ≡ refused n → RefusedAt x room typeUnits section n
+  unfolding collectOf Staged
+  refusal-law n q = subst Staged q (header-staged (headerOf section) refl)
+
+  number-at : (n : ℕ) → RefusedAt x room typeUnits section n → CollectRefusal n
+  unfolding isOneOf areOf _or_ _and_
+  number-at n (at-header q r) = wider (1 ∷ 2 ∷ []) _ n tt r
+  number-at n (at-abbreviations q d) = one-of _ 3 tt
+  number-at n (at-entries q d a r) = wider (4 ∷ 10 ∷ 5 ∷ 6 ∷ 7 ∷ 11 ∷ []) _ n tt r
+  number-at n (at-lists u l) = one-of _ 12 tt
+  number-at n (at-map u d p) = one-of _ 13 tt
+  number-at n (at-output u d p b) = one-of _ 14 tt
+  number-at n (at-values u d p b q r) = wider (8 ∷ 9 ∷ []) _ n tt r
+
+  -- "A refusal carries a number of document 01": 1 to 14
+  pub collect-refusal : (n : ℕ) → collectOf x room typeUnits section ≡ refused n → CollectRefusal n
+  collect-refusal n q = number-at n (refusal-law n q)
+
+-- ---- a padded number: 15
+
+unfoldable PaddedNumbered : Padded → Type 0
+PaddedNumbered Written = Unit {0}
+PaddedNumbered (Refused′ n) = PaddedRefusal n
+
+pub padded-refusal : (value width n k : ℕ) → paddedAnswer value width n ≡ Refused′ k → PaddedRefusal k
+unfolding paddedAnswer PaddedNumbered isOneOf _or_
+padded-refusal value width n k q =
+    subst PaddedNumbered q (pick-either PaddedNumbered (groupsFit value width n) Written (Refused′ 15) (λ _. tt) (λ _. one-of _ 15 tt))
