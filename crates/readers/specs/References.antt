@@ -123,6 +123,13 @@ unfoldable pub namesOf : Yield → List Named
 namesOf (Yielded r) = (r .place, r .target .0, encodedBy (r .leb) (r .width)) ∷ []
 namesOf End = []
 
+-- Reference after reference from a place on, each from where the one before it ends, until there is none. `walked-yields` (proofs/Answers.antt): from the start of
+-- a readable expression these are its references. From any other place they are what the bytes there say, read as operations, past the end of a nested part too.
+pub data Yields (e : Encoding) (s : List ℕ) : ℕ → List Named → Type 0 where
+  no-more : {at : ℕ} → nextReference e s at ≡ End → Yields e s at []
+  one-more : {at : ℕ} {rs : List Named} (r : Reference) → nextReference e s at ≡ Yielded r → Yields e s (r .next .at) rs
+      → Yields e s at ((r .place, r .target .0, encodedBy (r .leb) (r .width)) ∷ rs)
+
 unfoldable pub flatOperation : OperationRead → Turn (List Named) (Unit {0})
 flatOperation (Operation′ op) = pick (eqb (op .row) 19) (more [] (op .first .start)) (more (namesOf (referenceOf op)) (op .next .at))
 flatOperation NoOperation = stop tt
