@@ -57,21 +57,20 @@ impl Cursor {
     pub fn past_values(self, unit: &[u8], abbreviations: &[u8], specs: Cursor, e: Encoding) -> Moved
         ensures { λ r. ⌜ r ≡ valuesAt e (now (abbreviations .entry)) (specs .at) (now (unit .entry)) (self .at) ⌝ }
     {
-        let mut at = self.at;
-        let mut p = specs.at;
+        let mut c = self;
+        let mut p = specs;
         loop {
-            match (Cursor { at: p }).attribute_spec(abbreviations) {
+            match p.attribute_spec(abbreviations) {
                 SpecStep::Attribute(a) => {
                     let next = a.next;
-                    let Moved::To(past) = (Cursor { at }).past_attribute(unit, a.name, a.form, e)
-                    else {
+                    let Moved::To(past) = c.past_attribute(unit, a.name, a.form, e) else {
                         return Moved::Unreadable;
                     };
-                    at = past.at;
-                    p = next.at;
+                    c = past;
+                    p = next;
                 }
                 SpecStep::Last(_) => {
-                    return Moved::To(Cursor { at });
+                    return Moved::To(c);
                 }
                 SpecStep::Unreadable => {
                     return Moved::Unreadable;

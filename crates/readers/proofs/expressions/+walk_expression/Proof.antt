@@ -36,10 +36,10 @@ walk-expression-below t =
     walk-expression.Pre
 
 abbrev walk-expression-Inv-loop : walk-expression-lts.InvT-loop
-walk-expression-Inv-loop s e at₀ references₀ absolute₀ at references absolute = Walking e s at references absolute
+walk-expression-Inv-loop s e c₀ references₀ absolute₀ c references absolute = Walking e s (c .at) references absolute
 
 abbrev walk-expression-μ-loop : walk-expression-lts.MeasureT-loop
-walk-expression-μ-loop s e at₀ references₀ absolute₀ at references absolute = length s - at
+walk-expression-μ-loop s e c₀ references₀ absolute₀ c references absolute = length s - c .at
 
 walk-expression-loop-holds : (t : ℕ) → walk-expression-lts.Need-loop-holds (
   operation-reads.Asked,
@@ -99,7 +99,7 @@ walk-expression-returns : (t : ℕ) → walk-expression-lts.Need-returns (
   own-walk-reads.Asked,
   own-walk-reads.Learnt,
 ) (walk-expression-at t) walk-expression.Post walk-expression-Inv-loop walk-expression-μ-loop
-walk-expression-returns t c = walking-none _ _ _ _ _ (c .before .before .before .before .loop .inv) (c .before .before .before .loop-test .taken) _ (c .before .before .operation .ensures) (c .enum-told .given .1)
+walk-expression-returns t c = walking-none _ _ _ _ _ (c .before .before .before .before .before .loop .inv) (c .before .before .before .if1 .taken) _ (c .before .before .operation .ensures) (c .enum-told .given .1)
 
 walk-expression-sub-walk-expression : (t : ℕ) → walk-expression-lts.Need-sub-walk-expression (
   operation-reads.Asked,
@@ -111,7 +111,7 @@ walk-expression-sub-walk-expression : (t : ℕ) → walk-expression-lts.Need-sub
   own-walk-reads.Asked,
   own-walk-reads.Learnt,
 ) (walk-expression-at t) walk-expression.Post walk-expression-Inv-loop walk-expression-μ-loop
-walk-expression-sub-walk-expression t c = within _ _ _ _ _ (c .before .before .before .before .before .before .before .before .loop .inv) (c .before .before .before .before .before .before .before .loop-test .taken) _ (c .before .before .before .before .before .before .operation .ensures) _ (c .before .before .before .before .op .given .1) .3
+walk-expression-sub-walk-expression t c = within _ _ _ _ _ (c .before .before .before .before .before .before .before .before .before .loop .inv) (c .before .before .before .before .before .before .before .if1 .taken) _ (c .before .before .before .before .before .before .operation .ensures) _ (c .before .before .before .before .op .given .1) .3
 
 walk-expression-part-walk-expression-start :
     (t : ℕ) → walk-expression-lts.Need-part-walk-expression-start (
@@ -124,7 +124,7 @@ walk-expression-part-walk-expression-start :
       own-walk-reads.Asked,
       own-walk-reads.Learnt,
     ) (walk-expression-at t) walk-expression.Post walk-expression-Inv-loop walk-expression-μ-loop
-walk-expression-part-walk-expression-start t c = let i = within _ _ _ _ _ (c .before .before .before .before .before .before .before .before .loop .inv) (c .before .before .before .before .before .before .before .loop-test .taken) _ (c .before .before .before .before .before .before .operation .ensures) _ (c .before .before .before .before .op .given .1) in omega (arith, i .1, i .3, i .4)
+walk-expression-part-walk-expression-start t c = let i = within _ _ _ _ _ (c .before .before .before .before .before .before .before .before .before .loop .inv) (c .before .before .before .before .before .before .before .if1 .taken) _ (c .before .before .before .before .before .before .operation .ensures) _ (c .before .before .before .before .op .given .1) in omega (arith, i .1, i .3, i .4)
 
 walk-expression-part-walk-expression-end :
     (t : ℕ) → walk-expression-lts.Need-part-walk-expression-end (
@@ -137,7 +137,7 @@ walk-expression-part-walk-expression-end :
       own-walk-reads.Asked,
       own-walk-reads.Learnt,
     ) (walk-expression-at t) walk-expression.Post walk-expression-Inv-loop walk-expression-μ-loop
-walk-expression-part-walk-expression-end t c = let i = within _ _ _ _ _ (c .before .before .before .before .before .before .before .before .loop .inv) (c .before .before .before .before .before .before .before .loop-test .taken) _ (c .before .before .before .before .before .before .operation .ensures) _ (c .before .before .before .before .op .given .1) in omega (arith, i .1, i .3, i .4)
+walk-expression-part-walk-expression-end t c = let i = within _ _ _ _ _ (c .before .before .before .before .before .before .before .before .before .loop .inv) (c .before .before .before .before .before .before .before .if1 .taken) _ (c .before .before .before .before .before .before .operation .ensures) _ (c .before .before .before .before .op .given .1) in omega (arith, i .1, i .3, i .4)
 
 walk-expression-walk-expression-requires :
     (t : ℕ) → walk-expression-lts.Need-walk-expression-requires (
@@ -150,7 +150,7 @@ walk-expression-walk-expression-requires :
       own-walk-reads.Asked,
       own-walk-reads.Learnt,
     ) (walk-expression-at t) walk-expression.Post walk-expression-Inv-loop walk-expression-μ-loop
-walk-expression-walk-expression-requires t c κs = (omega (arith, part-less _ _ _ _ _ (c .before .before .before .before .before .before .before .before .before .loop .inv) (c .before .before .before .before .before .before .before .before .loop-test .taken) _ (c .before .before .before .before .before .before .before .operation .ensures) _ (c .before .before .before .before .before .op .given .1)), tt)
+walk-expression-walk-expression-requires t c κs = (omega (arith, part-less _ _ _ _ _ (c .before .before .before .before .before .before .before .before .before .before .loop .inv) (c .before .before .before .before .before .before .before .before .if1 .taken) _ (c .before .before .before .before .before .before .before .operation .ensures) _ (c .before .before .before .before .before .op .given .1)), tt)
 
 walk-expression-enum-known-more : (t : ℕ) → walk-expression-lts.Need-enum-known-more (
   operation-reads.Asked,
@@ -186,7 +186,7 @@ walk-expression-returns-2 : (t : ℕ) → walk-expression-lts.Need-returns-2 (
   own-walk-reads.Asked,
   own-walk-reads.Learnt,
 ) (walk-expression-at t) walk-expression.Post walk-expression-Inv-loop walk-expression-μ-loop
-walk-expression-returns-2 t c = entry-fall _ _ _ _ _ (c .before .before .before .before .before .before .before .before .before .before .before .before .loop .inv) (c .before .before .before .before .before .before .before .before .before .before .before .loop-test .taken) _ (c .before .before .before .before .before .before .before .before .before .before .operation .ensures) _ (c .before .before .before .before .before .before .before .before .op .given .1) (c .before .before .before .before .if1 .taken) _ (c .before .before .walk-expression .ensures) (c .enum-told2 .given .1)
+walk-expression-returns-2 t c = entry-fall _ _ _ _ _ (c .before .before .before .before .before .before .before .before .before .before .before .before .before .loop .inv) (c .before .before .before .before .before .before .before .before .before .before .before .if1 .taken) _ (c .before .before .before .before .before .before .before .before .before .before .operation .ensures) _ (c .before .before .before .before .before .before .before .before .op .given .1) (c .before .before .before .before .if2 .taken) _ (c .before .before .walk-expression .ensures) (c .enum-told2 .given .1)
 
 walk-expression-add-references : (t : ℕ) → walk-expression-lts.Need-add-references (
   operation-reads.Asked,
@@ -198,7 +198,7 @@ walk-expression-add-references : (t : ℕ) → walk-expression-lts.Need-add-refe
   own-walk-reads.Asked,
   own-walk-reads.Learnt,
 ) (walk-expression-at t) walk-expression.Post walk-expression-Inv-loop walk-expression-μ-loop
-walk-expression-add-references t c = let w = walking-entry _ _ _ _ _ (c .before .before .before .before .before .before .before .before .before .before .before .before .before .loop .inv) (c .before .before .before .before .before .before .before .before .before .before .before .before .loop-test .taken) _ (c .before .before .before .before .before .before .before .before .before .before .before .operation .ensures) _ (c .before .before .before .before .before .before .before .before .before .op .given .1) (c .before .before .before .before .before .if1 .taken) _ (c .before .before .before .walk-expression .ensures) _ _ _ (c .before .more .given .1) refl in omega (arith, w .few, w .inside)
+walk-expression-add-references t c = let w = walking-entry _ _ _ _ _ (c .before .before .before .before .before .before .before .before .before .before .before .before .before .before .loop .inv) (c .before .before .before .before .before .before .before .before .before .before .before .before .if1 .taken) _ (c .before .before .before .before .before .before .before .before .before .before .before .operation .ensures) _ (c .before .before .before .before .before .before .before .before .before .op .given .1) (c .before .before .before .before .before .if2 .taken) _ (c .before .before .before .walk-expression .ensures) _ _ _ (c .before .more .given .1) refl in omega (arith, w .few, w .inside)
 
 walk-expression-either-requires : (t : ℕ) → walk-expression-lts.Need-either-requires (
   operation-reads.Asked,
@@ -222,7 +222,7 @@ walk-expression-loop-less : (t : ℕ) → walk-expression-lts.Need-loop-less (
   own-walk-reads.Asked,
   own-walk-reads.Learnt,
 ) (walk-expression-at t) walk-expression.Post walk-expression-Inv-loop walk-expression-μ-loop
-walk-expression-loop-less t c = let i = within _ _ _ _ _ (c .before .before .before .before .before .before .before .before .before .before .before .before .before .before .loop .inv) (c .before .before .before .before .before .before .before .before .before .before .before .before .before .loop-test .taken) _ (c .before .before .before .before .before .before .before .before .before .before .before .before .operation .ensures) _ (c .before .before .before .before .before .before .before .before .before .before .op .given .1) in omega (arith, i .0)
+walk-expression-loop-less t c = let i = within _ _ _ _ _ (c .before .before .before .before .before .before .before .before .before .before .before .before .before .before .before .loop .inv) (c .before .before .before .before .before .before .before .before .before .before .before .before .before .if1 .taken) _ (c .before .before .before .before .before .before .before .before .before .before .before .before .operation .ensures) _ (c .before .before .before .before .before .before .before .before .before .before .op .given .1) in omega (arith, i .0)
 
 walk-expression-loop-again : (t : ℕ) → walk-expression-lts.Need-loop-again (
   operation-reads.Asked,
@@ -234,7 +234,7 @@ walk-expression-loop-again : (t : ℕ) → walk-expression-lts.Need-loop-again (
   own-walk-reads.Asked,
   own-walk-reads.Learnt,
 ) (walk-expression-at t) walk-expression.Post walk-expression-Inv-loop walk-expression-μ-loop
-walk-expression-loop-again t c = walking-entry _ _ _ _ _ (c .before .before .before .before .before .before .before .before .before .before .before .before .before .before .loop .inv) (c .before .before .before .before .before .before .before .before .before .before .before .before .before .loop-test .taken) _ (c .before .before .before .before .before .before .before .before .before .before .before .before .operation .ensures) _ (c .before .before .before .before .before .before .before .before .before .before .op .given .1) (c .before .before .before .before .before .before .if1 .taken) _ (c .before .before .before .before .walk-expression .ensures) _ _ _ (c .before .before .more .given .1) (c .either .ensures)
+walk-expression-loop-again t c = walking-entry _ _ _ _ _ (c .before .before .before .before .before .before .before .before .before .before .before .before .before .before .before .loop .inv) (c .before .before .before .before .before .before .before .before .before .before .before .before .before .if1 .taken) _ (c .before .before .before .before .before .before .before .before .before .before .before .before .operation .ensures) _ (c .before .before .before .before .before .before .before .before .before .before .op .given .1) (c .before .before .before .before .before .before .if2 .taken) _ (c .before .before .before .before .walk-expression .ensures) _ _ _ (c .before .before .more .given .1) (c .either .ensures)
 
 walk-expression-own-walk-requires : (t : ℕ) → walk-expression-lts.Need-own-walk-requires (
   operation-reads.Asked,
@@ -282,7 +282,7 @@ walk-expression-returns-3 : (t : ℕ) → walk-expression-lts.Need-returns-3 (
   own-walk-reads.Asked,
   own-walk-reads.Learnt,
 ) (walk-expression-at t) walk-expression.Post walk-expression-Inv-loop walk-expression-μ-loop
-walk-expression-returns-3 t c = own-fall _ _ _ _ _ (c .before .before .before .before .before .before .before .before .before .before .before .loop .inv) (c .before .before .before .before .before .before .before .before .before .before .loop-test .taken) _ (c .before .before .before .before .before .before .before .before .before .operation .ensures) _ (c .before .before .before .before .before .before .before .op .given .1) (c .before .before .before .if1 .left) _ (c .before .before .own-walk .ensures) (c .enum-told3 .given .1)
+walk-expression-returns-3 t c = own-fall _ _ _ _ _ (c .before .before .before .before .before .before .before .before .before .before .before .before .loop .inv) (c .before .before .before .before .before .before .before .before .before .before .if1 .taken) _ (c .before .before .before .before .before .before .before .before .before .operation .ensures) _ (c .before .before .before .before .before .before .before .op .given .1) (c .before .before .before .if2 .left) _ (c .before .before .own-walk .ensures) (c .enum-told3 .given .1)
 
 walk-expression-add-references-2 : (t : ℕ) → walk-expression-lts.Need-add-references-2 (
   operation-reads.Asked,
@@ -294,7 +294,7 @@ walk-expression-add-references-2 : (t : ℕ) → walk-expression-lts.Need-add-re
   own-walk-reads.Asked,
   own-walk-reads.Learnt,
 ) (walk-expression-at t) walk-expression.Post walk-expression-Inv-loop walk-expression-μ-loop
-walk-expression-add-references-2 t c = let w = walking-own _ _ _ _ _ (c .before .before .before .before .before .before .before .before .before .before .before .before .loop .inv) (c .before .before .before .before .before .before .before .before .before .before .before .loop-test .taken) _ (c .before .before .before .before .before .before .before .before .before .before .operation .ensures) _ (c .before .before .before .before .before .before .before .before .op .given .1) (c .before .before .before .before .if1 .left) _ (c .before .before .before .own-walk .ensures) _ _ _ (c .before .more2 .given .1) refl in omega (arith, w .few, w .inside)
+walk-expression-add-references-2 t c = let w = walking-own _ _ _ _ _ (c .before .before .before .before .before .before .before .before .before .before .before .before .before .loop .inv) (c .before .before .before .before .before .before .before .before .before .before .before .if1 .taken) _ (c .before .before .before .before .before .before .before .before .before .before .operation .ensures) _ (c .before .before .before .before .before .before .before .before .op .given .1) (c .before .before .before .before .if2 .left) _ (c .before .before .before .own-walk .ensures) _ _ _ (c .before .more2 .given .1) refl in omega (arith, w .few, w .inside)
 
 walk-expression-either-requires-2 : (t : ℕ) → walk-expression-lts.Need-either-requires-2 (
   operation-reads.Asked,
@@ -318,7 +318,7 @@ walk-expression-loop-less-2 : (t : ℕ) → walk-expression-lts.Need-loop-less-2
   own-walk-reads.Asked,
   own-walk-reads.Learnt,
 ) (walk-expression-at t) walk-expression.Post walk-expression-Inv-loop walk-expression-μ-loop
-walk-expression-loop-less-2 t c = let i = within _ _ _ _ _ (c .before .before .before .before .before .before .before .before .before .before .before .before .before .loop .inv) (c .before .before .before .before .before .before .before .before .before .before .before .before .loop-test .taken) _ (c .before .before .before .before .before .before .before .before .before .before .before .operation .ensures) _ (c .before .before .before .before .before .before .before .before .before .op .given .1) in omega (arith, i .0)
+walk-expression-loop-less-2 t c = let i = within _ _ _ _ _ (c .before .before .before .before .before .before .before .before .before .before .before .before .before .before .loop .inv) (c .before .before .before .before .before .before .before .before .before .before .before .before .if1 .taken) _ (c .before .before .before .before .before .before .before .before .before .before .before .operation .ensures) _ (c .before .before .before .before .before .before .before .before .before .op .given .1) in omega (arith, i .0)
 
 walk-expression-loop-again-2 : (t : ℕ) → walk-expression-lts.Need-loop-again-2 (
   operation-reads.Asked,
@@ -330,7 +330,7 @@ walk-expression-loop-again-2 : (t : ℕ) → walk-expression-lts.Need-loop-again
   own-walk-reads.Asked,
   own-walk-reads.Learnt,
 ) (walk-expression-at t) walk-expression.Post walk-expression-Inv-loop walk-expression-μ-loop
-walk-expression-loop-again-2 t c = walking-own _ _ _ _ _ (c .before .before .before .before .before .before .before .before .before .before .before .before .before .loop .inv) (c .before .before .before .before .before .before .before .before .before .before .before .before .loop-test .taken) _ (c .before .before .before .before .before .before .before .before .before .before .before .operation .ensures) _ (c .before .before .before .before .before .before .before .before .before .op .given .1) (c .before .before .before .before .before .if1 .left) _ (c .before .before .before .before .own-walk .ensures) _ _ _ (c .before .before .more2 .given .1) (c .either2 .ensures)
+walk-expression-loop-again-2 t c = walking-own _ _ _ _ _ (c .before .before .before .before .before .before .before .before .before .before .before .before .before .before .loop .inv) (c .before .before .before .before .before .before .before .before .before .before .before .before .if1 .taken) _ (c .before .before .before .before .before .before .before .before .before .before .before .operation .ensures) _ (c .before .before .before .before .before .before .before .before .before .op .given .1) (c .before .before .before .before .before .if2 .left) _ (c .before .before .before .before .own-walk .ensures) _ _ _ (c .before .before .more2 .given .1) (c .either2 .ensures)
 
 walk-expression-returns-4 : (t : ℕ) → walk-expression-lts.Need-returns-4 (
   operation-reads.Asked,
@@ -342,7 +342,7 @@ walk-expression-returns-4 : (t : ℕ) → walk-expression-lts.Need-returns-4 (
   own-walk-reads.Asked,
   own-walk-reads.Learnt,
 ) (walk-expression-at t) walk-expression.Post walk-expression-Inv-loop walk-expression-μ-loop
-walk-expression-returns-4 t c = walking-end _ _ _ _ _ (c .before .loop .inv) (c .loop-test .left)
+walk-expression-returns-4 t c = walking-end _ _ _ _ _ (c .before .before .loop .inv) (c .if1 .left)
 
 pub +walk-expression-spec : {M : Type 1} → statement M
 +walk-expression-spec = close μ-walk-expression λ t. walk-expression-lts.spec (
