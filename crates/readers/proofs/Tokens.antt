@@ -570,6 +570,10 @@ module _ (s : List ℕ) (f : Field) where
 
 -- ---- a row, field by field, as it is read
 
+-- from the cursor past the field before
+pub field-from : (e : Encoding) (s : List ℕ) (t : ℕ) (r : FieldRead) (d : Cursor) (n : ℕ) → r ≡ fieldAt e s (d .at) t → d ≡ cursor n → r ≡ fieldAt e s n t
+field-from e s t r d n p q = p ∙ ap (λ (d : Cursor). fieldAt e s (d .at) t) q
+
 module _ (e : Encoding) (s : List ℕ) (at l : ℕ) where
   pub row-over : 28 ≤ l → NoRow ≡ rowAt e s at l
   unfolding rowOf rows unreadableRow

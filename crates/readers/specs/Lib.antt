@@ -17,4 +17,5 @@ pub mod Abbreviations
 pub mod Entries
 pub mod Stream
 pub mod Nesting
+pub mod Refusals
 pub mod Examples

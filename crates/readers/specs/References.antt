@@ -12,6 +12,7 @@ use Rattle.readers.specs.Layout.{Encoded, infixed, inleb, width, Role, r
 use Rattle.readers.specs.Expression.{expressionIn}
 use Rattle.readers.specs.Scan.{Turn, more, stop, Scanned, scan}
 use Rattle.readers.specs.Steps.{operationAt}
+use Rattle.readers.specs.Refusals.{refusalOfWalk}
 use Rattle.readers.specs.declared.cursor.Encoding.{Encoding}
 use Rattle.readers.specs.declared.cursor.Cursor.{Cursor}
 use Rattle.readers.specs.declared.fields.Field.{Field}
@@ -152,8 +153,8 @@ flatFrom e s at = flattened (scan (length s) (flatTurn e s) at)
 
 -- in this order 2, 5, 7, 11; a table holds a third as many references as numbers
 unfoldable pub walkAnswer : ℕ → Walk → References
-walkAnswer room Unreadable = Refused 5
-walkAnswer room (Walked n true) = Refused 7
+walkAnswer room Unreadable = Refused (refusalOfWalk Unreadable)
+walkAnswer room (Walked n true) = Refused (refusalOfWalk (Walked n true))
 walkAnswer room (Walked n false) = pick (leb n room) (Count n) (Refused 11)
 
 unfoldable pub referencesAnswer : ℕ → ℕ → List ℕ → References

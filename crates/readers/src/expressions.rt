@@ -152,12 +152,10 @@ pub fn walk_expression(s: &[u8], e: Encoding) -> Walk
         let first = op.first;
         let next = op.next;
         if row == 19 {
-            let from = first.start;
-            let to = first.end;
             let Walk::Walked {
                 references: more,
                 absolute: named,
-            } = walk_expression(&s[from..to], e)
+            } = walk_expression(first.expression(s), e)
             else {
                 return Walk::Unreadable;
             };

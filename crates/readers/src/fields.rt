@@ -277,10 +277,10 @@ impl Cursor {
         let FieldRead::Read(first) = self.field(s, FIRST[l], e) else {
             return RowRead::Unreadable;
         };
-        let FieldRead::Read(second) = (Cursor { at: first.end }).field(s, SECOND[l], e) else {
+        let FieldRead::Read(second) = first.next().field(s, SECOND[l], e) else {
             return RowRead::Unreadable;
         };
-        let FieldRead::Read(third) = (Cursor { at: second.end }).field(s, THIRD[l], e) else {
+        let FieldRead::Read(third) = second.next().field(s, THIRD[l], e) else {
             return RowRead::Unreadable;
         };
         RowRead::Read(Row {
