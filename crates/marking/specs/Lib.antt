@@ -1,3 +1,4 @@
+pub mod Refusals
 pub mod Addresses
 pub mod Walking
 pub mod Roots

@@ -14,14 +14,14 @@ use Rattle.marking.proofs.analysis.analyse_entries.Statement.{statement
 use Rattle.marking.proofs.analysis.analyse_entries.Tie as tie
 
 abbrev Inv-loop : tie.InvT-loop
-Inv-loop unit abbreviations from index e locations ranges addresses ranges-base entry-room reference-room offsets₀ parents₀ roots₀ ends₀ targets₀ at₀ count₀ to₀ nesting₀ rnglists-base₀ loclists-base₀ offsets parents roots ends targets at count to nesting rnglists-base loclists-base =
+Inv-loop unit abbreviations from index e locations ranges addresses ranges-base entry-room reference-room offsets₀ parents₀ roots₀ ends₀ targets₀ c₀ count₀ to₀ nesting₀ rnglists-base₀ loclists-base₀ offsets parents roots ends targets c count to nesting rnglists-base loclists-base =
     Stage e (sections abbreviations locations ranges addresses ranges-base) unit (rooms entry-room reference-room) (findAt abbreviations from index)
-    (unitAnalysed e (sections abbreviations locations ranges addresses ranges-base) unit (rooms entry-room reference-room) from at₀)
-    offsets₀ parents₀ roots₀ ends₀ targets₀ offsets parents roots ends targets at count to nesting rnglists-base loclists-base
+    (unitAnalysed e (sections abbreviations locations ranges addresses ranges-base) unit (rooms entry-room reference-room) from (c₀ .at))
+    offsets₀ parents₀ roots₀ ends₀ targets₀ offsets parents roots ends targets (c .at) count to nesting rnglists-base loclists-base
 
 abbrev μ-loop : tie.MeasureT-loop
-μ-loop unit abbreviations from index e locations ranges addresses ranges-base entry-room reference-room offsets₀ parents₀ roots₀ ends₀ targets₀ at₀ count₀ to₀ nesting₀ rnglists-base₀ loclists-base₀ offsets parents roots ends targets at count to nesting rnglists-base loclists-base =
-    length unit - at
+μ-loop unit abbreviations from index e locations ranges addresses ranges-base entry-room reference-room offsets₀ parents₀ roots₀ ends₀ targets₀ c₀ count₀ to₀ nesting₀ rnglists-base₀ loclists-base₀ offsets parents roots ends targets c count to nesting rnglists-base loclists-base =
+    length unit - c .at
 
 outside-requires : tie.Need-outside-requires Inv-loop μ-loop
 outside-requires c κs = tt
@@ -133,9 +133,9 @@ mul-ends c = omega (arith, head-ahead (c .before .before .before .before .before
 slice-write-ends : tie.Need-slice-write-ends Inv-loop μ-loop
 slice-write-ends c = omega (arith, c .before .before .before .before .before .before .before .before .before .before .before .before .before .before .before .before .before .before .before .loop .inv .ends-are .size, c .before .before .before .before .before .before .before .before .before .before .before .before .before .before .before .before .before .before .before .loop .inv .ends-room, c .before .before .before .before .before .before .before .before .before .before .before .before .before .before .if1 .left)
 
-cast-t48 : tie.Need-cast-t48 Inv-loop μ-loop
+cast-t47 : tie.Need-cast-t47 Inv-loop μ-loop
 unfolding valuesOfEntry baseOf
-cast-t48 c = omega (arith, head-ahead (c .before .before .before .before .before .before .before .before .before .before .before .before .before .before .before .before .before .before .before .loop .inv) _ _ (head-step _ _ _ _ _ _ (entry-headed _ _ _ _ _ _ _ (c .before .before .before .before .before .before .before .before .before .before .before .before .before .before .before .before .before .before .entry-head .ensures)) _ (c .before .before .before .before .before .before .before .before .before .before .before .before .before .before .before .before .x .given .1) _ refl) (c .before .before .before .before .before .before .before .before .before .before .before .before .before .before .if1 .left) _ _ (c .before .before .before .before .before .before .before .before .before .base-after .ensures) (c .before .before .before .before .before .before .before .before .base-after2 .ensures) _ (c .before .before .before .before .before .before .analyse-entry .ensures .1) _ _ _ (sym (c .before .before .root .given .1) ∙ c .before .before .before .before .before .before .analyse-entry .ensures .0) .2)
+cast-t47 c = omega (arith, head-ahead (c .before .before .before .before .before .before .before .before .before .before .before .before .before .before .before .before .before .before .before .loop .inv) _ _ (head-step _ _ _ _ _ _ (entry-headed _ _ _ _ _ _ _ (c .before .before .before .before .before .before .before .before .before .before .before .before .before .before .before .before .before .before .entry-head .ensures)) _ (c .before .before .before .before .before .before .before .before .before .before .before .before .before .before .before .before .x .given .1) _ refl) (c .before .before .before .before .before .before .before .before .before .before .before .before .before .before .if1 .left) _ _ (c .before .before .before .before .before .before .before .before .before .base-after .ensures) (c .before .before .before .before .before .before .before .before .base-after2 .ensures) _ (c .before .before .before .before .before .before .analyse-entry .ensures .1) _ _ _ (sym (c .before .before .root .given .1) ∙ c .before .before .before .before .before .before .analyse-entry .ensures .0) .2)
 
 after-entry-requires : tie.Need-after-entry-requires Inv-loop μ-loop
 after-entry-requires c κs = tt
@@ -247,7 +247,7 @@ analyse-entries-spec =
     slice-write-roots
     mul-ends
     slice-write-ends
-    cast-t48
+    cast-t47
     after-entry-requires
     add-count
     loop-less
