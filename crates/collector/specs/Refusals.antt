@@ -1,7 +1,7 @@
 -- The numbers that the calls for C answer with: document 01's of a refusal of collect, or those of an accepted answer.
 use Prim.Native.Nat.{ℕ}
 use mathlib.Core.List.{List, [], _∷_}
-use Rattle.readers.specs.Refusals.{OneOf}
+use Rattle.readers.specs.RefusalNumbers.{OneOf}
 
 -- 256 untouched, 257 rewritten, and 2 more where the counts have no room
 abbrev pub CallNumber : ℕ → Type 0

@@ -19,7 +19,7 @@ use Rattle.marking.specs.EntryReferences.{Found, found, refused, after, 
 use Rattle.marking.specs.declared.root_test.EntryAttribute.{EntryAttribute}
 use Rattle.marking.specs.declared.root_test.NextAttribute.{NextAttribute}
 use Rattle.marking.specs.declared.root_test.NextAttribute.the-variants.{More, NoMore}
-use Rattle.marking.proofs.Attributes.{stepped, no-more, stop-end}
+use Rattle.marking.proofs.Attributes.{stepped, stepped-on, ends-on, no-more, stop-end}
 use Rattle.marking.specs.ReferenceTable.{nextPlace, written, tableAfter, scannedTo, entryScanned, endBy, valuedBy}
 use Rattle.marking.specs.declared.references.Scanned.{Scanned}
 use Rattle.marking.specs.declared.references.Scanned.the-variants.{To, Refused}
@@ -164,13 +164,13 @@ module _ (e : Encoding) (l : Locations) (s table₀ : List ℕ) (p₀ from₀ at
         scanning-less = omega (arith, stepped e s p (l .unit) from x (sym q ∙ r) .ahead, stepped e s p (l .unit) from x (sym q ∙ r) .inside)
 
         abbrev rest : Found
-        rest = attributesFound e l (entryValues e s (x .next .at) (l .unit) (x .value .field .end))
+        rest = attributesFound e l (entryValues e s (x .next .at) (l .unit) (x .values .at))
 
         whole-turn : (f : Found) → attributeFound e l (valuedBy x) ≡ f → all ≡ after (h .sofar) (andThen f rest)
         unfolding attributesFound
         whole-turn f k =
             h .whole
-            ∙ ap (λ v. after (h .sofar) (attributesFound e l v)) (stepped e s p (l .unit) from x (sym q ∙ r) .all)
+            ∙ ap (λ v. after (h .sofar) (attributesFound e l v)) (stepped-on e s p (l .unit) from x (sym q ∙ r))
             ∙ ap (λ g. after (h .sofar) (andThen g rest)) k
 
         module _ (w : Scanned) (table′ : List ℕ) (k : Scans table to (attributeFound e l (valuedBy x)) w table′) where
@@ -185,7 +185,7 @@ module _ (e : Encoding) (l : Locations) (s table₀ : List ℕ) (p₀ from₀ at
           unfolding entryScanned
           scanning-refused m g = (ap (λ w. entryScanned w past) (refused-all m g .0), refused-all m g .1)
 
-          pub scanning-on : (to′ : ℕ) → w ≡ To to′ → Scanning e l s table₀ p₀ from₀ at table′ (x .next .at) (x .value .field .end) to′
+          pub scanning-on : (to′ : ℕ) → w ≡ To to′ → Scanning e l s table₀ p₀ from₀ at table′ (x .next .at) (x .values .at) to′
           unfolding Onto andThen
           scanning-on to′ g =
               let b : (ys : List ℕ) × (attributeFound e l (valuedBy x) ≡ found ys) × Put table₀ at (h .sofar ++ ys) table′ to′ =
@@ -194,5 +194,5 @@ module _ (e : Encoding) (l : Locations) (s table₀ : List ℕ) (p₀ from₀ at
                 sofar = h .sofar ++ b .0;
                 put = b .2;
                 whole = whole-turn (found (b .0)) (b .1) ∙ after-after (h .sofar) (b .0) rest;
-                ends = h .ends ∙ stepped e s p (l .unit) from x (sym q ∙ r) .onward;
+                ends = h .ends ∙ ends-on e s p (l .unit) from x (sym q ∙ r);
               }

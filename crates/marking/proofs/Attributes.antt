@@ -164,9 +164,10 @@ module _ (e : Encoding) (s : List ℕ) (p : ℕ) (unit : List ℕ) (at : ℕ) (r
     unfolding nextAttribute takenBy taken
     taken-none h = rw (sym q ∙ k, sym l ∙ h)
 
-    pub taken-more : (v : Attribute) → o ≡ Attribute′ v → More (record { name = a .name; declared = a .form; value = v; next = a .next }) ≡ nextAttribute e s p unit at
+    pub taken-more : (v : Attribute) → o ≡ Attribute′ v → (c : Cursor) → c ≡ cursor (v .field .end)
+        → More (record { name = a .name; declared = a .form; value = v; next = a .next; values = c }) ≡ nextAttribute e s p unit at
     unfolding nextAttribute takenBy taken
-    taken-more v h = rw (sym q ∙ k, sym l ∙ h)
+    taken-more v h c i = rw (sym q ∙ k, sym l ∙ h, i)
 
 -- where the values end, if none is read there
 module _ (s : List ℕ) (p at : ℕ) (r : SpecStep) (q : r ≡ specAt s p) where
@@ -195,12 +196,13 @@ module _ (e : Encoding) (s : List ℕ) (p : ℕ) (unit : List ℕ) (at : ℕ) wh
     pub inside : x .next .at ≤ length s
     pub within : Inside unit at (x .value .field)
     pub onward : valuesAt e s p unit at ≡ valuesAt e s (x .next .at) unit (x .value .field .end)
+    pub follows : x .values ≡ cursor (x .value .field .end)
 
   by-value : (x : EntryAttribute) (a : AttributeSpec) → specAt s p ≡ Spec a → (o : AttributeRead) → attributeAt e unit at (a .name) (a .form) ≡ o
       → taken a o ≡ More x → Stepped x
   unfolding taken
   by-value x a q (Attribute′ v) k g =
-      let z : record { name = a .name; declared = a .form; value = v; next = a .next } ≡ x = cc in
+      let z : record { name = a .name; declared = a .form; value = v; next = a .next; values = cursor (v .field .end) } ≡ x = cc in
       subst Stepped z
       (record {
         all = values-more e s p unit at a q v k;
@@ -208,6 +210,7 @@ module _ (e : Encoding) (s : List ℕ) (p : ℕ) (unit : List ℕ) (at : ℕ) wh
         inside = attribute-inside s p a q .1;
         within = value-inside e unit at (a .name) (a .form) v k;
         onward = Values.values-step e s p unit at a q (attributeAt e unit at (a .name) (a .form)) refl v k;
+        follows = refl;
       })
   by-value x a q NoAttribute k g = let z : _≡_ {A = ℕ} 0 1 = cc in absurd (omega arith)
 
@@ -220,6 +223,13 @@ module _ (e : Encoding) (s : List ℕ) (p : ℕ) (unit : List ℕ) (at : ℕ) wh
   pub stepped : (x : EntryAttribute) → nextAttribute e s p unit at ≡ More x → Stepped x
   unfolding nextAttribute
   stepped x g = by-spec x (specAt s p) refl g
+
+  -- the same, from the cursors that it hands back
+  pub stepped-on : (x : EntryAttribute) → nextAttribute e s p unit at ≡ More x → entryValues e s p unit at ≡ valued x ∷ entryValues e s (x .next .at) unit (x .values .at)
+  stepped-on x g = stepped x g .all ∙ ap (λ (c : Cursor). valued x ∷ entryValues e s (x .next .at) unit (c .at)) (sym (stepped x g .follows))
+
+  pub ends-on : (x : EntryAttribute) → nextAttribute e s p unit at ≡ More x → valuesAt e s p unit at ≡ valuesAt e s (x .next .at) unit (x .values .at)
+  ends-on x g = stepped x g .onward ∙ ap (λ (c : Cursor). valuesAt e s (x .next .at) unit (c .at)) (sym (stepped x g .follows))
 
   none-value : (a : AttributeSpec) → specAt s p ≡ Spec a → (o : AttributeRead) → attributeAt e unit at (a .name) (a .form) ≡ o → taken a o ≡ NoMore → entryValues e s p unit at ≡ []
   unfolding taken

@@ -22,8 +22,8 @@ use Rattle.readers.specs.declared.operations.ListStep.the-variants.{Entry, End,
 use Rattle.marking.specs.Addresses.{isTombstone, lookupAt}
 use Rattle.marking.specs.Walking.{go, stop, onNext, walk, Forward, walk-step}
 use Rattle.marking.specs.Roots.{Flagged, place, Turn, toward, turnOf, onLookup, rangeEntry, rangeStep, rangesLive, olderStep, olderLive, operationStep, locationLive}
-use Rattle.marking.specs.declared.addresses.Liveness.{Liveness}
-use Rattle.marking.specs.declared.addresses.Liveness.the-variants.{Live, Dead, Fails}
+use Rattle.marking.specs.declared.addresses.AddressLookup.{AddressLookup}
+use Rattle.marking.specs.declared.addresses.AddressLookup.the-variants.{Live, Dead, Fails}
 use Rattle.marking.specs.declared.roots.RangeTurn.{RangeTurn}
 use Rattle.marking.specs.declared.roots.RangeTurn.the-variants.{On, Decided}
 use Rattle.marking.specs.declared.roots.Verdict.{Verdict}
@@ -83,7 +83,7 @@ Heads x (go p) = p .at ≡ x .next .at
 Heads x (stop v) = Unit {0}
 
 module _ (x : ListEntry) where
-  looked-heads : (l : Liveness) (t u : Turn) → Heads x t → Heads x u → Heads x (onLookup l stop t u)
+  looked-heads : (l : AddressLookup) (t u : Turn) → Heads x t → Heads x u → Heads x (onLookup l stop t u)
   unfolding onLookup Heads
   looked-heads Live t u f g = f
   looked-heads Dead t u f g = g
@@ -92,7 +92,7 @@ module _ (x : ListEntry) where
   entry-heads : (e : Encoding) (table : List ℕ) (dead : Bool) → Heads x (rangeEntry e table dead x)
   unfolding rangeEntry Heads
   entry-heads e table dead =
-      let l : Liveness = lookupAt table (x .first .value) in
+      let l : AddressLookup = lookupAt table (x .first .value) in
       pick-either (Heads x) (eqb (x .kind) 1) _ _ (λ t. looked-heads l (toward x false) (toward x true) refl refl)
       (λ t. pick-either (Heads x) (leb (x .kind) 3) _ _ (λ t. looked-heads l (stop isLive) (toward x dead) tt refl)
       (λ t. pick-either (Heads x) (eqb (x .kind) 4) _ _ (λ t. pick-either (Heads x) dead (toward x dead) (stop isLive) (λ t. refl) (λ t. tt))
@@ -179,7 +179,7 @@ module _ (e : Encoding) (table s : List ℕ) where
   unfolding locationLive locationFrom
   location-start = refl
 
-  looked-forward : (p : Flagged) (l : Liveness) (t u : Flagged) → Forward {B = Verdict} place (length s) p (go t) → Forward {B = Verdict} place (length s) p (go u)
+  looked-forward : (p : Flagged) (l : AddressLookup) (t u : Flagged) → Forward {B = Verdict} place (length s) p (go t) → Forward {B = Verdict} place (length s) p (go u)
       → Forward place (length s) p (onLookup l stop (go t) (go u))
   unfolding onLookup Forward
   looked-forward p Live t u f g = f
@@ -228,7 +228,7 @@ module _ (e : Encoding) (table s : List ℕ) where
         unfolding locationFrom onNext operationStep pick
         location-on k = operation-turn ∙ rw (r, ne-eqb (x .row) 22 k)
 
-        module _ (k : x .row ≡ 22) (l : Liveness) (a : l ≡ lookupAt table (x .first .value)) where
+        module _ (k : x .row ≡ 22) (l : AddressLookup) (a : l ≡ lookupAt table (x .first .value)) where
           index-turn : locationLive e table s
               ≡ onNext (onLookup l stop (go (record { at = x .next .at; flag = true })) (go (record { at = x .next .at; flag = live }))) (walk place (length s) locationTurn isDead)
           unfolding operationStep pick

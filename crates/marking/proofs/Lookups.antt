@@ -8,8 +8,8 @@ use lib.Dec.{ltb, eqb}
 use borrow.Author.Tests.{lt-ltb, le-ltb, eq-eqb, ne-eqb}
 use Rattle.readers.specs.Choice.{pick, _or_}
 use Rattle.marking.specs.Addresses.{isTombstone, byteLiveness, lookupAt}
-use Rattle.marking.specs.declared.addresses.Liveness.{Liveness}
-use Rattle.marking.specs.declared.addresses.Liveness.the-variants.{Live, Dead, Fails}
+use Rattle.marking.specs.declared.addresses.AddressLookup.{AddressLookup}
+use Rattle.marking.specs.declared.addresses.AddressLookup.the-variants.{Live, Dead, Fails}
 
 module _ (address size : ℕ) where
   pub zero-4 : size ≡ 4 → address ≡ 0 → true ≡ isTombstone address size

@@ -1,15 +1,13 @@
--- Numbers in a lent table, from a place on, and the part of a slice that a field is. Assumes nothing.
+-- Numbers in a lent table, from a place on. Assumes nothing.
 use mathlib.Core.Path.{_≡_, refl, ap, ap₂, sym, _∙_}
 use Prim.Native.Nat.{ℕ, _+_, _-_, _≤_, _<_}
 use native.Mathlib.Omega.{arith}
 use native.Mathlib.Numerals.{add-one}
 use mathlib.Core.List.{List, [], _∷_, _++_}
-use lib.ListN.{length, set, take, drop, length-set, length-drop, drop-of-length-le}
-use lib.Seq.{set-out, take-nil, take-all}
+use lib.ListN.{length, set, length-set}
+use lib.Seq.{set-out}
 use mir.Facts.{yes-ltb, no-ltb}
 use Rattle.readers.specs.Choice.{pick-yes, pick-no}
-use Rattle.readers.specs.declared.fields.Field.{Field}
-use Rattle.marking.specs.EntryReferences.{partOf}
 use Rattle.marking.specs.ReferenceTable.{nextPlace, placed, written}
 
 -- ---- one number
@@ -69,24 +67,3 @@ put-one table₀ at xs table to h x table′ to′ p q = put-more table₀ at xs
 
 pub written-size : (table : List ℕ) (at : ℕ) (xs table′ : List ℕ) → table′ ≡ written table at xs → length table′ ≡ length table
 written-size table at xs table′ q = ap length q ∙ length-written table at xs
-
--- ---- the bytes of a field
-
-module _ (s : List ℕ) (f : Field) where
-  pub part-none : f .end ≤ f .start → [] ≡ partOf s f
-  unfolding partOf
-  part-none h = ap (λ n. take n (drop (f .start) s)) (let z : 0 ≡ f .end - f .start = omega arith in z)
-
-  pub part-past : length s ≤ f .start → [] ≡ partOf s f
-  unfolding partOf
-  part-past h = sym (ap (take (f .end - f .start)) (drop-of-length-le s h) ∙ take-nil (f .end - f .start))
-
-  pub part-rest : length s < f .end → take (length s - f .start) (drop (f .start) s) ≡ partOf s f
-  unfolding partOf
-  part-rest h =
-      take-all (length s - f .start) (drop (f .start) s) (omega (arith, length-drop (f .start) s))
-      ∙ sym (take-all (f .end - f .start) (drop (f .start) s) (omega (arith, length-drop (f .start) s)))
-
-  pub part-whole : take (f .end - f .start) (drop (f .start) s) ≡ partOf s f
-  unfolding partOf
-  part-whole = refl

@@ -8,7 +8,7 @@ use mathlib.Core.Option.{Option, none, some}
 use lib.ListN.{length, take}
 use lib.Dec.{T, ltb, leb}
 use Rattle.readers.specs.Choice.{pick, pick-either, _and_, _or_}
-use Rattle.readers.specs.Refusals.{OneOf}
+use Rattle.readers.specs.RefusalNumbers.{OneOf}
 use Rattle.readers.specs.Header.{headerOf}
 use Rattle.readers.specs.Abbreviations.{Placed, declaredIn, abbreviationsOf}
 use Rattle.readers.specs.Stream.{Item, entry, terminator, itemsFrom}
@@ -43,7 +43,7 @@ use Rattle.marking.specs.Analysis.{Sections, Rooms, Row, Analysed, analy
 use Rattle.marking.specs.Graph.{Graph, takes}
 use Rattle.marking.specs.Marks.{keptCount, marksOf, answerOf}
 use Rattle.marking.specs.Resolution.{unitMarks}
-use Rattle.marking.specs.Refusals.{RootRefusal, ScanRefusal, EntriesRefusal, AnalysisRefusal, MarkRefusal}
+use Rattle.marking.specs.RefusalNumbers.{RootRefusal, ScanRefusal, EntriesRefusal, AnalysisRefusal, MarkRefusal}
 
 -- ---- walks
 

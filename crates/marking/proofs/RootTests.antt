@@ -4,11 +4,12 @@ use Prim.Native.Nat.{ℕ, _+_, _-_, _≤_, _<_}
 use native.Mathlib.Omega.{arith}
 use mathlib.Core.Bool.{Bool, true, false}
 use mathlib.Core.List.{List, [], _∷_}
-use lib.ListN.{length, take, drop, length-take}
+use lib.ListN.{length}
 use lib.Dec.{eqb}
 use borrow.Author.Tests.{eq-eqb, ne-eqb}
 use Rattle.readers.specs.Choice.{pick, _and_}
 use Rattle.readers.specs.Cursors.{cursor}
+use Rattle.readers.specs.Fields.{partOf}
 use Rattle.readers.specs.Lists.{listStart, listOffset}
 use Rattle.readers.proofs.ListStarts.{start-past, start-inside}
 use Rattle.readers.specs.declared.cursor.Encoding.{Encoding}
@@ -23,8 +24,8 @@ use Rattle.marking.specs.declared.root_test.NextAttribute.the-variants.{
 use Rattle.marking.specs.declared.roots.Verdict.{Verdict}
 use Rattle.marking.specs.declared.roots.Verdict.the-variants.{Live as isLive, Dead as isDead, Refused as refused}
 use Rattle.readers.proofs.Tokens.{Inside}
-use Rattle.marking.proofs.Attributes.{valued, stepped, no-more}
-use Rattle.marking.proofs.Lists.{location-start, location-dead, rangesFrom, ranges-start}
+use Rattle.marking.proofs.Attributes.{valued, stepped, stepped-on, no-more}
+use Rattle.marking.proofs.Lists.{rangesFrom, ranges-start}
 
 -- ---- any test over the attributes, from a specification and a value on
 
@@ -35,17 +36,13 @@ module _ (e : Encoding) (s unit : List ℕ) (p at : ℕ) (n : NextAttribute) (q 
   pub attributes-within : (x : EntryAttribute) → n ≡ More x → Inside unit at (x .value .field)
   attributes-within x r = stepped e s p unit at x (sym q ∙ r) .within
 
-  -- bytes of a value are bytes of the unit
-  pub value-ends : (x : EntryAttribute) → n ≡ More x → x .value .field .start < x .value .field .end → x .value .field .end ≤ length unit
-  value-ends x r l = omega (arith, attributes-within x r .after, attributes-within x r .within)
-
   module _ {X : Type 0} (test : List Valued → X) where
     attributes-end : n ≡ NoMore → test (entryValues e s p unit at) ≡ test []
     attributes-end r = ap test (no-more e s p unit at (sym q ∙ r))
 
     attributes-turn : (x : EntryAttribute) → n ≡ More x
-        → test (entryValues e s p unit at) ≡ test (valued x ∷ entryValues e s (x .next .at) unit (x .value .field .end))
-    attributes-turn x r = ap test (stepped e s p unit at x (sym q ∙ r) .all)
+        → test (entryValues e s p unit at) ≡ test (valued x ∷ entryValues e s (x .next .at) unit (x .values .at))
+    attributes-turn x r = ap test (stepped-on e s p unit at x (sym q ∙ r))
 
 -- ---- low_pc
 
@@ -56,15 +53,15 @@ module _ (e : Encoding) (table s unit : List ℕ) (p₀ at₀ p at : ℕ) (h : l
   low-end r = sym (h ∙ attributes-end e s unit p at n q (lowPcs e table) r)
 
   module _ (x : EntryAttribute) (r : n ≡ More x) where
-    low-turn : lowPcs e table (entryValues e s p₀ unit at₀) ≡ lowPcs e table (valued x ∷ entryValues e s (x .next .at) unit (x .value .field .end))
+    low-turn : lowPcs e table (entryValues e s p₀ unit at₀) ≡ lowPcs e table (valued x ∷ entryValues e s (x .next .at) unit (x .values .at))
     low-turn = h ∙ attributes-turn e s unit p at n q (lowPcs e table) x r
 
-    pub low-other : (x .name ≡ 0x11 → ⊥) → lowPcs e table (entryValues e s p₀ unit at₀) ≡ lowPcs e table (entryValues e s (x .next .at) unit (x .value .field .end))
+    pub low-other : (x .name ≡ 0x11 → ⊥) → lowPcs e table (entryValues e s p₀ unit at₀) ≡ lowPcs e table (entryValues e s (x .next .at) unit (x .values .at))
     unfolding lowPcs pick
     low-other k = low-turn ∙ rw (ne-eqb (x .name) 0x11 k)
 
     module _ (k : x .name ≡ 0x11) (w : Verdict) (l : w ≡ lowPc e table (x .value)) where
-      low-met : lowPcs e table (entryValues e s p₀ unit at₀) ≡ orElse w (lowPcs e table (entryValues e s (x .next .at) unit (x .value .field .end)))
+      low-met : lowPcs e table (entryValues e s p₀ unit at₀) ≡ orElse w (lowPcs e table (entryValues e s (x .next .at) unit (x .values .at)))
       unfolding lowPcs pick
       low-met = low-turn ∙ rw (eq-eqb (x .name) 0x11 k, l)
 
@@ -76,17 +73,11 @@ module _ (e : Encoding) (table s unit : List ℕ) (p₀ at₀ p at : ℕ) (h : l
       unfolding orElse
       low-refused m v = sym (low-met ∙ rw v)
 
-      pub low-dead : w ≡ isDead → lowPcs e table (entryValues e s p₀ unit at₀) ≡ lowPcs e table (entryValues e s (x .next .at) unit (x .value .field .end))
+      pub low-dead : w ≡ isDead → lowPcs e table (entryValues e s p₀ unit at₀) ≡ lowPcs e table (entryValues e s (x .next .at) unit (x .values .at))
       unfolding orElse
       low-dead v = low-met ∙ rw v
 
 -- ---- location
-
-pub location-none : (e : Encoding) (table s : List ℕ) → length s ≡ 0 → isDead ≡ locationLive e table s
-location-none e table s z = location-dead e table s 0 false (location-start e table s) (omega arith) refl
-
-abbrev locationOf : List ℕ → EntryAttribute → List ℕ
-locationOf unit x = take (x .value .field .end - x .value .field .start) (drop (x .value .field .start) unit)
 
 module _ (e : Encoding) (table s unit : List ℕ) (p₀ at₀ p at : ℕ)
     (h : locations e table unit (entryValues e s p₀ unit at₀) ≡ locations e table unit (entryValues e s p unit at))
@@ -97,25 +88,25 @@ module _ (e : Encoding) (table s unit : List ℕ) (p₀ at₀ p at : ℕ)
 
   module _ (x : EntryAttribute) (r : n ≡ More x) where
     locations-turn : locations e table unit (entryValues e s p₀ unit at₀)
-        ≡ locations e table unit (valued x ∷ entryValues e s (x .next .at) unit (x .value .field .end))
+        ≡ locations e table unit (valued x ∷ entryValues e s (x .next .at) unit (x .values .at))
     locations-turn = h ∙ attributes-turn e s unit p at n q (locations e table unit) x r
 
     pub locations-other : (x .name ≡ 0x02 → ⊥)
-        → locations e table unit (entryValues e s p₀ unit at₀) ≡ locations e table unit (entryValues e s (x .next .at) unit (x .value .field .end))
+        → locations e table unit (entryValues e s p₀ unit at₀) ≡ locations e table unit (entryValues e s (x .next .at) unit (x .values .at))
     unfolding locations pick _and_
     locations-other k = locations-turn ∙ rw (ne-eqb (x .name) 0x02 k)
 
     module _ (k : x .name ≡ 0x02) where
       pub locations-list : (x .value .form ≡ 0x18 → ⊥)
-          → locations e table unit (entryValues e s p₀ unit at₀) ≡ locations e table unit (entryValues e s (x .next .at) unit (x .value .field .end))
+          → locations e table unit (entryValues e s p₀ unit at₀) ≡ locations e table unit (entryValues e s (x .next .at) unit (x .values .at))
       unfolding locations pick _and_
       locations-list f = locations-turn ∙ rw (eq-eqb (x .name) 0x02 k, ne-eqb (x .value .form) 0x18 f)
 
-      module _ (f : x .value .form ≡ 0x18) (w : Verdict) (l : w ≡ locationLive e table (locationOf unit x)) where
+      module _ (f : x .value .form ≡ 0x18) (part : List ℕ) (i : part ≡ partOf unit (x .value .field)) (w : Verdict) (l : w ≡ locationLive e table part) where
         locations-met : locations e table unit (entryValues e s p₀ unit at₀)
-            ≡ orElse w (locations e table unit (entryValues e s (x .next .at) unit (x .value .field .end)))
+            ≡ orElse w (locations e table unit (entryValues e s (x .next .at) unit (x .values .at)))
         unfolding locations pick _and_
-        locations-met = locations-turn ∙ rw (eq-eqb (x .name) 0x02 k, eq-eqb (x .value .form) 0x18 f, l)
+        locations-met = locations-turn ∙ rw (eq-eqb (x .name) 0x02 k, eq-eqb (x .value .form) 0x18 f, l, i)
 
         pub locations-live : w ≡ isLive → isLive ≡ locations e table unit (entryValues e s p₀ unit at₀)
         unfolding orElse
@@ -126,13 +117,9 @@ module _ (e : Encoding) (table s unit : List ℕ) (p₀ at₀ p at : ℕ)
         locations-refused m v = sym (locations-met ∙ rw v)
 
         pub locations-dead : w ≡ isDead
-            → locations e table unit (entryValues e s p₀ unit at₀) ≡ locations e table unit (entryValues e s (x .next .at) unit (x .value .field .end))
+            → locations e table unit (entryValues e s p₀ unit at₀) ≡ locations e table unit (entryValues e s (x .next .at) unit (x .values .at))
         unfolding orElse
         locations-dead v = locations-met ∙ rw v
-
-      pub locations-empty : x .value .form ≡ 0x18 → x .value .field .end ≤ x .value .field .start
-          → locations e table unit (entryValues e s p₀ unit at₀) ≡ locations e table unit (entryValues e s (x .next .at) unit (x .value .field .end))
-      locations-empty f b = locations-dead f isDead (location-none e table (locationOf unit x) (simp length-take (omega arith))) refl
 
 -- ---- ranges that are not in rnglistx
 
@@ -164,12 +151,12 @@ module _ (e : Encoding) (ranges table : List ℕ) (rb nb : ℕ) (s unit : List �
 
   module _ (x : EntryAttribute) (r : n ≡ More x) where
     first-turn : firstRanges e (rangesBy ranges table rb nb) (entryValues e s p₀ unit at₀)
-        ≡ firstRanges e (rangesBy ranges table rb nb) (valued x ∷ entryValues e s (x .next .at) unit (x .value .field .end))
+        ≡ firstRanges e (rangesBy ranges table rb nb) (valued x ∷ entryValues e s (x .next .at) unit (x .values .at))
     first-turn = h ∙ attributes-turn e s unit p at n q (firstRanges e (rangesBy ranges table rb nb)) x r
 
     pub first-other : (x .name ≡ 0x55 → ⊥)
         → firstRanges e (rangesBy ranges table rb nb) (entryValues e s p₀ unit at₀)
-        ≡ firstRanges e (rangesBy ranges table rb nb) (entryValues e s (x .next .at) unit (x .value .field .end))
+        ≡ firstRanges e (rangesBy ranges table rb nb) (entryValues e s (x .next .at) unit (x .values .at))
     unfolding firstRanges pick
     first-other k = first-turn ∙ rw (ne-eqb (x .name) 0x55 k)
 
@@ -188,15 +175,13 @@ module _ (e : Encoding) (ranges table : List ℕ) (rb nb : ℕ) (s unit : List �
         unfolding rangesLive
         first-unresolved u = sym (first-met ∙ rw u)
 
-        pub first-list : (c : Cursor) → o ≡ At c → firstRanges e (rangesBy ranges table rb nb) (entryValues e s p₀ unit at₀) ≡ rangesFrom e table ranges (c .at) false
+        first-list : (c : Cursor) → o ≡ At c → firstRanges e (rangesBy ranges table rb nb) (entryValues e s p₀ unit at₀) ≡ rangesFrom e table ranges (c .at) false
         first-list c u = first-met ∙ ap (rangesLive e table ranges) u ∙ ranges-start e table ranges c
 
--- its list decided
-pub first-decided : (e : Encoding) (g : Ranges) (table ranges s unit : List ℕ) (p₀ at₀ p at place : ℕ) (dead : Bool)
-    → firstRanges e g (entryValues e s p₀ unit at₀) ≡ firstRanges e g (entryValues e s p unit at)
-    → firstRanges e g (entryValues e s p unit at) ≡ rangesFrom e table ranges place dead
-    → (v : Verdict) → rangesFrom e table ranges place dead ≡ v → v ≡ firstRanges e g (entryValues e s p₀ unit at₀)
-first-decided e g table ranges s unit p₀ at₀ p at place dead h i v k = sym (h ∙ i ∙ k)
+        -- its list decided, at a place of it
+        pub first-decided : (c : Cursor) → o ≡ At c → (place : ℕ) (dead : Bool) → rangesFrom e table ranges (c .at) false ≡ rangesFrom e table ranges place dead
+            → (v : Verdict) → rangesFrom e table ranges place dead ≡ v → v ≡ firstRanges e (rangesBy ranges table rb nb) (entryValues e s p₀ unit at₀)
+        first-decided c u place dead i v k = sym (first-list c u ∙ i ∙ k)
 
 -- ---- the root test
 
@@ -234,25 +219,25 @@ module _ (e : Encoding) (s unit : List ℕ) (name base₀ p₀ at₀ base p at :
 
   module _ (x : EntryAttribute) (r : n ≡ More x) where
     base-turn : (b : ℕ) → pick (eqb (x .name) name and eqb (x .value .form) 0x17) (x .value .field .value) base ≡ b
-        → baseFrom name base₀ (entryValues e s p₀ unit at₀) ≡ baseFrom name b (entryValues e s (x .next .at) unit (x .value .field .end))
+        → baseFrom name base₀ (entryValues e s p₀ unit at₀) ≡ baseFrom name b (entryValues e s (x .next .at) unit (x .values .at))
     unfolding baseFrom
     base-turn b k =
-        h ∙ attributes-turn e s unit p at n q (baseFrom name base) x r ∙ ap (λ b. baseFrom name b (entryValues e s (x .next .at) unit (x .value .field .end))) k
+        h ∙ attributes-turn e s unit p at n q (baseFrom name base) x r ∙ ap (λ b. baseFrom name b (entryValues e s (x .next .at) unit (x .values .at))) k
 
     pub base-other : (x .name ≡ name → ⊥)
-        → baseFrom name base₀ (entryValues e s p₀ unit at₀) ≡ baseFrom name base (entryValues e s (x .next .at) unit (x .value .field .end))
+        → baseFrom name base₀ (entryValues e s p₀ unit at₀) ≡ baseFrom name base (entryValues e s (x .next .at) unit (x .values .at))
     unfolding pick _and_
     base-other k = base-turn base (rw (ne-eqb (x .name) name k))
 
     module _ (k : x .name ≡ name) where
       pub base-form : (x .value .form ≡ 0x17 → ⊥)
-          → baseFrom name base₀ (entryValues e s p₀ unit at₀) ≡ baseFrom name base (entryValues e s (x .next .at) unit (x .value .field .end))
+          → baseFrom name base₀ (entryValues e s p₀ unit at₀) ≡ baseFrom name base (entryValues e s (x .next .at) unit (x .values .at))
       unfolding pick _and_
       base-form f = base-turn base (rw (eq-eqb (x .name) name k, ne-eqb (x .value .form) 0x17 f))
 
       pub base-met : x .value .form ≡ 0x17
           → baseFrom name base₀ (entryValues e s p₀ unit at₀)
-          ≡ baseFrom name (x .value .field .value) (entryValues e s (x .next .at) unit (x .value .field .end))
+          ≡ baseFrom name (x .value .field .value) (entryValues e s (x .next .at) unit (x .values .at))
       unfolding pick _and_
       base-met f = base-turn (x .value .field .value) (rw (eq-eqb (x .name) name k, eq-eqb (x .value .form) 0x17 f))
 

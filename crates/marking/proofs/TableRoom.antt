@@ -27,7 +27,7 @@ use Rattle.marking.specs.declared.roots.Verdict.{Verdict}
 use Rattle.marking.specs.declared.roots.Verdict.the-variants.{Live, Dead, Refused as Failed}
 use Rattle.marking.specs.Analysis.{Sections, Rooms, Row, Analysed, analysed, refused, onto, onVerdict, onFound, Reached, reached, startOf, rootOf, namesOf, baseOf, analyseItems, onDeclared, unitAnalysed, headerAnalysed, analysisOf}
 use Rattle.marking.specs.Columns.{namesIn}
-use Rattle.marking.specs.Refusals.{InputRefusal}
+use Rattle.marking.specs.RefusalNumbers.{InputRefusal}
 use Rattle.marking.specs.TableRoom.{TablesWithin, tablesFor, TableLaw, entryCount, foundCount, referenceCount, declaredTables, headerTables, enoughTables}
 use Rattle.marking.proofs.Rows.{Gives, gives-of, gives-onto, gives-map, gives-refused, UnitRows, analysis-rows}
 use Rattle.marking.proofs.Refusals.{AnalysedOf, analysed-of, none-of, rows-of, onto-of, verdict-of, names-of, root-of, references-of}

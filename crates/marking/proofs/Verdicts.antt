@@ -11,15 +11,15 @@ use Rattle.readers.specs.declared.attributes.Attribute.{Attribute}
 use Rattle.readers.specs.declared.operations.ListEntry.{ListEntry}
 use Rattle.marking.specs.Addresses.{isTombstone, lookupAt}
 use Rattle.marking.specs.Roots.{onLookup, turnOf, rangeEntry, lowPc}
-use Rattle.marking.specs.declared.addresses.Liveness.{Liveness}
-use Rattle.marking.specs.declared.addresses.Liveness.the-variants.{Live, Dead, Fails}
+use Rattle.marking.specs.declared.addresses.AddressLookup.{AddressLookup}
+use Rattle.marking.specs.declared.addresses.AddressLookup.the-variants.{Live, Dead, Fails}
 use Rattle.marking.specs.declared.roots.RangeTurn.the-variants.{On, Decided}
 use Rattle.marking.specs.declared.roots.Verdict.the-variants.{Live as isLive, Dead as isDead, Refused as refused}
 
 -- ---- an entry of a range list
 
 module _ (e : Encoding) (table : List ℕ) (dead : Bool) (x : ListEntry) where
-  module _ (l : Liveness) (q : l ≡ lookupAt table (x .first .value)) where
+  module _ (l : AddressLookup) (q : l ≡ lookupAt table (x .first .value)) where
     module _ (k : x .kind ≡ 1) where
       pub base-live : l ≡ Live → On false ≡ turnOf (rangeEntry e table dead x)
       unfolding rangeEntry turnOf pick onLookup
@@ -104,7 +104,7 @@ module _ (e : Encoding) (table : List ℕ) (v : Attribute) where
   unfolding _or_ _and_
   form-sized n l h = rw (ne-eqb (v .form) 27 n, le-leb 41 (v .form) l, le-leb (v .form) 44 h)
 
-  module _ (l : Liveness) (q : l ≡ lookupAt table (v .field .value)) (i : indexed ≡ true) where
+  module _ (l : AddressLookup) (q : l ≡ lookupAt table (v .field .value)) (i : indexed ≡ true) where
     pub index-live : l ≡ Live → isLive ≡ lowPc e table v
     unfolding lowPc pick onLookup
     index-live t = rw (i, sym q ∙ t)

@@ -5,8 +5,8 @@ use mathlib.Core.List.{List}
 use lib.ListN.{length, getD}
 use lib.Dec.{ltb, eqb}
 use Rattle.readers.specs.Choice.{pick, _or_}
-use Rattle.marking.specs.declared.addresses.Liveness.{Liveness}
-use Rattle.marking.specs.declared.addresses.Liveness.the-variants.{Live, Dead, Fails}
+use Rattle.marking.specs.declared.addresses.AddressLookup.{AddressLookup}
+use Rattle.marking.specs.declared.addresses.AddressLookup.the-variants.{Live, Dead, Fails}
 
 -- address 0 or all ones for size 4 or 8; any other size gives no
 unfoldable pub isTombstone : ℕ → ℕ → Bool
@@ -15,9 +15,9 @@ isTombstone address size =
     (pick (eqb size 8) (eqb address 0 or eqb address (2 ^ 64 - 1))
     false)
 
-unfoldable pub byteLiveness : ℕ → Liveness
+unfoldable pub byteLiveness : ℕ → AddressLookup
 byteLiveness b = pick (eqb b 0) Dead (pick (eqb b 1) Live Fails)
 
 -- a table of bytes, one an index: 0 dead, 1 live, any other byte or an index past its end fails
-unfoldable pub lookupAt : List ℕ → ℕ → Liveness
+unfoldable pub lookupAt : List ℕ → ℕ → AddressLookup
 lookupAt table index = pick (ltb index (length table)) (byteLiveness (getD table index 0)) Fails

@@ -9,6 +9,9 @@ use lib.Dec.{ltb, leb}
 use Rattle.readers.specs.Choice.{pick}
 use Rattle.readers.specs.Header.{headerOf}
 use Rattle.readers.specs.Abbreviations.{Placed, declaredIn, abbreviationsOf}
+use Rattle.readers.specs.Refusals.{refusalOfChecked, refusalOfStep}
+use Rattle.readers.specs.declared.abbreviations.Checked.the-variants.{Refused as Unchecked}
+use Rattle.readers.specs.declared.entries.Step.the-variants.{Unreadable}
 use Rattle.readers.specs.Nesting.{open′, close, top}
 use Rattle.readers.specs.declared.cursor.Encoding.{Encoding}
 use Rattle.readers.specs.declared.entries.Entry.{Entry}
@@ -99,7 +102,7 @@ module _ (e : Encoding) (x : Sections) (unit : List ℕ) where
     -- THE analysis of the items of a unit
     unfoldable pub analyseItems : Reached → List Item → Bool → Analysed
     analyseItems p [] true = analysed []
-    analyseItems p [] false = refused 4
+    analyseItems p [] false = refused (refusalOfStep Unreadable)
     analyseItems p (terminator a b ∷ rest) whole = analyseItems (reached (p .count) (p .references) (close (p .stack)) (p .rnglistsBase) (p .loclistsBase)) rest whole
     analyseItems p (entry y ∷ rest) whole =
         pick (ltb (p .count) (room .entries))
@@ -116,7 +119,7 @@ module _ (e : Encoding) (x : Sections) (unit : List ℕ) where
 -- ---- the first unit of a section
 
 unfoldable pub onDeclared : Option (List Placed) → (List Placed → Analysed) → Analysed
-onDeclared none k = refused 3
+onDeclared none k = refused (refusalOfChecked Unchecked)
 onDeclared (some ds) k = k ds
 
 -- a unit by what its header says: how it is read, where its declarations start and where its first entry does

@@ -7,6 +7,7 @@ use lib.Dec.{leb}
 use Rattle.readers.specs.Choice.{pick, zeros}
 use Rattle.readers.specs.Abbreviations.{checkedOf, indexOf}
 use Rattle.readers.specs.Entries.{entryOf}
+use Rattle.readers.specs.Refusals.{refusalOfValues}
 use Rattle.readers.specs.declared.abbreviations.Checked.the-variants.{Accepted}
 use Rattle.readers.specs.declared.cursor.Cursor.{Cursor}
 use Rattle.readers.specs.declared.cursor.Moved.{Moved}
@@ -116,14 +117,14 @@ rootFound room at next root (found xs) = RowFound root (placed room at xs) next
 rootFound room at next root (refusedAfter xs n) = NoRow n
 
 unfoldable pub entryAnswer : ℕ → ℕ → Moved → Verdict → Found → EntryAnalysis
-entryAnswer room at Nowhere v f = NoRow 4
+entryAnswer room at Nowhere v f = NoRow (refusalOfValues Nowhere)
 entryAnswer room at (To next) Live f = rootFound room at next 1 f
 entryAnswer room at (To next) Dead f = rootFound room at next 0 f
 entryAnswer room at (To next) (Failed n) f = NoRow n
 
 -- any other refusal of it
 unfoldable pub refusalOf : Moved → ℕ → ℕ
-refusalOf Nowhere n = 4
+refusalOf Nowhere n = refusalOfValues Nowhere
 refusalOf (To next) n = n
 
 unfoldable pub entryTable : List ℕ → ℕ → Verdict → Found → List ℕ

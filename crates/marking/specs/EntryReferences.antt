@@ -1,17 +1,18 @@
 -- The references of an entry (document 01, "References"; gc.rs: `scan_live_die_attrs`, `scan_loclist_for_refs`): every one that its attributes hold, in attribute
 -- order, repeats and dangling ones included; 5 and 7 as they are met.
 use mathlib.Core.Path.{_≡_, refl}
-use Prim.Native.Nat.{ℕ, _-_}
+use Prim.Native.Nat.{ℕ}
 use mathlib.Core.Bool.{Bool, true, false, not}
 use mathlib.Core.List.{List, [], _∷_, _++_}
-use lib.ListN.{length, take, drop}
+use lib.ListN.{length}
 use lib.Dec.{leb, eqb}
 use Rattle.readers.specs.Choice.{pick, _and_, _or_}
+unfoldable pub use Rattle.readers.specs.Fields.{partOf}
 use Rattle.readers.specs.Steps.{listEntryAt}
+use Rattle.readers.specs.Refusals.{refusalOfWalk, refusalOfList}
 use Rattle.readers.specs.Lists.{listOffset, listStart}
 use Rattle.readers.specs.References.{Named, walkOf, referencesIn}
 use Rattle.readers.specs.declared.cursor.Encoding.{Encoding}
-use Rattle.readers.specs.declared.fields.Field.{Field}
 use Rattle.readers.specs.declared.expressions.Walk.{Walk}
 use Rattle.readers.specs.declared.expressions.Walk.the-variants.{Walked, Unreadable}
 use Rattle.readers.specs.declared.lists.ListOffset.{ListOffset}
@@ -43,15 +44,12 @@ targets [] = []
 targets (r ∷ rs) = r .1 ∷ targets rs
 
 unfoldable pub walkFound : List ℕ → Walk → Found
-walkFound xs Unreadable = refused [] 5
-walkFound xs (Walked n true) = refused [] 7
+walkFound xs Unreadable = refused [] (refusalOfWalk Unreadable)
+walkFound xs (Walked n true) = refused [] (refusalOfWalk (Walked n true))
 walkFound xs (Walked n false) = found xs
 
 unfoldable pub expressionFound : Encoding → List ℕ → Found
 expressionFound e s = walkFound (targets (referencesIn e s)) (walkOf e s)
-
-unfoldable pub partOf : List ℕ → Field → List ℕ
-partOf s f = take (f .end - f .start) (drop (f .start) s)
 
 -- ---- location lists, entry by entry: each expression is judged before the next entry is read
 
@@ -75,7 +73,7 @@ onFound sofar x (refused ys n) = stop (refused (sofar ++ ys) n)
 unfoldable pub locationStep : Encoding → List ℕ → List ℕ → ListStep → Next Reached Found
 locationStep e s sofar (Entry x) = onFound sofar x (locationFound e s x)
 locationStep e s sofar End = stop (found sofar)
-locationStep e s sofar NoEntry = stop (refused sofar 5)
+locationStep e s sofar NoEntry = stop (refused sofar (refusalOfList NoEntry))
 
 -- an offset that can't be resolved is 5
 unfoldable pub listFound : Encoding → List ℕ → ListOffset → Found

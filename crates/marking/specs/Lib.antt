@@ -1,3 +1,4 @@
+pub mod RefusalNumbers
 pub mod Addresses
 pub mod Walking
 pub mod Roots

@@ -1,29 +1,45 @@
--- The numbers that the calls of this crate refuse with (document 01, "Operations and their numbers").
+-- Document 01's numbers of refusal, for each case of what marking's readers answer; 0 where they refuse nothing.
 use Prim.Native.Nat.{ℕ}
-use mathlib.Core.List.{List, [], _∷_}
-use Rattle.readers.specs.Refusals.{OneOf}
+use Rattle.marking.specs.declared.addresses.AddressLookup.{AddressLookup}
+use Rattle.marking.specs.declared.addresses.AddressLookup.the-variants.{Live, Dead, Fails}
+use Rattle.marking.specs.declared.roots.Verdict.{Verdict}
+use Rattle.marking.specs.declared.roots.Verdict.the-variants.{Live as isLive, Dead as isDead, Refused as refused}
+use Rattle.marking.specs.declared.references.Scanned.{Scanned}
+use Rattle.marking.specs.declared.references.Scanned.the-variants.{To, Refused}
+use Rattle.marking.specs.declared.references.EntryScan.{EntryScan}
+use Rattle.marking.specs.declared.references.EntryScan.the-variants.{Through, Refused as Unscanned}
+use Rattle.marking.specs.declared.analysis.EntryAnalysis.{EntryAnalysis}
+use Rattle.marking.specs.declared.analysis.EntryAnalysis.the-variants.{Found, Refused as NoRow}
+use Rattle.marking.specs.declared.analysis.Analysis.{Analysis}
+use Rattle.marking.specs.declared.analysis.Analysis.the-variants.{Entries, Refused as Unanalysed}
 
--- "root test 5 (unreadable list or expression) or 6 (address table fails)"
-abbrev pub RootRefusal : ℕ → Type 0
-RootRefusal n = OneOf (5 ∷ 6 ∷ []) n
+-- 6: an address table that fails
+abbrev pub refusalOfLookup : AddressLookup → ℕ
+refusalOfLookup Live = 0
+refusalOfLookup Dead = 0
+refusalOfLookup Fails = 6
 
--- "references in attribute order 5 or 7"
-abbrev pub ScanRefusal : ℕ → Type 0
-ScanRefusal n = OneOf (5 ∷ 7 ∷ []) n
+-- 5 or 6 (specs/Roots.antt)
+abbrev pub refusalOfVerdict : Verdict → ℕ
+refusalOfVerdict isLive = 0
+refusalOfVerdict isDead = 0
+refusalOfVerdict (refused n) = n
 
--- "Then entry by entry: 4 unreadable entry; 10 entry table full; root test ..; references ..; once the entry's references
--- are read, 11 reference table full."
-abbrev pub EntriesRefusal : ℕ → Type 0
-EntriesRefusal n = OneOf (4 ∷ 10 ∷ 5 ∷ 6 ∷ 7 ∷ 11 ∷ []) n
+-- 5 or 7 (specs/EntryReferences.antt)
+abbrev pub refusalOfScan : Scanned → ℕ
+refusalOfScan (To place) = 0
+refusalOfScan (Refused n) = n
 
--- the header's 1 and 2, "3 abbreviations", and those of the entries
-abbrev pub AnalysisRefusal : ℕ → Type 0
-AnalysisRefusal n = OneOf (1 ∷ 2 ∷ 3 ∷ 4 ∷ 5 ∷ 6 ∷ 7 ∷ 10 ∷ 11 ∷ []) n
+abbrev pub refusalOfEntryScan : EntryScan → ℕ
+refusalOfEntryScan (Through place end) = 0
+refusalOfEntryScan (Unscanned n) = n
 
--- the same with tables that are long enough
-abbrev pub InputRefusal : ℕ → Type 0
-InputRefusal n = OneOf (1 ∷ 2 ∷ 3 ∷ 4 ∷ 5 ∷ 6 ∷ 7 ∷ []) n
+-- 4 to 7 (specs/Columns.antt)
+abbrev pub refusalOfEntry : EntryAnalysis → ℕ
+refusalOfEntry (Found root to next) = 0
+refusalOfEntry (NoRow n) = n
 
--- "mark": 16
-abbrev pub MarkRefusal : ℕ → Type 0
-MarkRefusal n = OneOf (16 ∷ []) n
+-- 1 to 7, 10 and 11 (specs/Analysis.antt)
+abbrev pub refusalOfAnalysis : Analysis → ℕ
+refusalOfAnalysis (Entries n m) = 0
+refusalOfAnalysis (Unanalysed n) = n

@@ -9,7 +9,7 @@ use Rattle.readers.specs.Tokens.{numberAs, tokenOf}
 use Rattle.readers.specs.Operations.{unreadableRow, rows, rowOf, rowLayout, operations, rowAmong, operationRow, operation, rangeEntries, locationEntries, listRow}
 use Rattle.readers.specs.Forms.{formTokens, tokenAmong, formToken, useOf, valueToken, attributeLayout}
 use Rattle.readers.specs.Cursors.{asLebNumber, lebAt, fixedAt, asFixed}
-use Rattle.readers.specs.Fields.{linkedValue, size, fieldOf, rowOfReads}
+use Rattle.readers.specs.Fields.{linkedValue, size, fieldOf, rowOfReads, partOf}
 use Rattle.readers.specs.Steps.{rowOperation, operationOfReads, asOperation, operationAt, listEntry, rowEntry, entryOfReads, asListStep, listEntryAt}
 use Rattle.readers.specs.Lists.{listStart, fromBase, listOffset}
 use Rattle.readers.specs.Header.{encodingOf}
@@ -82,7 +82,7 @@ entries :
     × (tested [] 0x34 (0x02 ∷ 0x18 ∷ 0 ∷ 0 ∷ []) (0 ∷ []) ≡ Dead)  -- one of no bytes
     × (tested (1 ∷ []) 0x34 (0x11 ∷ 0x1b ∷ 0 ∷ 0 ∷ []) (0 ∷ []) ≡ Dead)  -- a variable's low_pc is not asked
     × (tested [] 0x11 (0x11 ∷ 0x1b ∷ 0 ∷ 0 ∷ []) (0 ∷ []) ≡ Dead)  -- another tag asks nothing
-unfolding tested rootTest orElse lowPcs lowPc firstRanges rangesOf otherRanges olderLive olderStep rangesLive rangeStep rangeEntry listOffset fromBase listStart fixedAt asFixed listEntryAt asListStep entryOfReads rowEntry listEntry listRow rangeEntries rowAmong rowOf rows unreadableRow rowLayout locations locationLive operationStep operationAt asOperation operationOfReads rowOperation operation operationRow operations onLookup lookupAt byteLiveness walk walkWithin onNext entryOf entryValues valuesOf onAttribute specsFrom specsWithin onSpec specAt implicitSpec numberSpec lebAt asLebNumber short within16 attributeAt asAttribute attributeOfReads attributeLayout valueToken useOf formToken tokenAmong formTokens encodingOf tokenOf numberAs readIn tokenIn numberIn before asNumber asLink asExpression asLeb asBytes copy uleb groups below unsigned64 fixedValue ordered littleValue width size bytesOf pieceBytes numberBytes padded fieldOf linkedValue rowOfReads pick check bind _and_ _or_
+unfolding tested rootTest orElse lowPcs lowPc firstRanges rangesOf otherRanges olderLive olderStep rangesLive rangeStep rangeEntry listOffset fromBase listStart fixedAt asFixed listEntryAt asListStep entryOfReads rowEntry listEntry listRow rangeEntries rowAmong rowOf rows unreadableRow rowLayout locations partOf locationLive operationStep operationAt asOperation operationOfReads rowOperation operation operationRow operations onLookup lookupAt byteLiveness walk walkWithin onNext entryOf entryValues valuesOf onAttribute specsFrom specsWithin onSpec specAt implicitSpec numberSpec lebAt asLebNumber short within16 attributeAt asAttribute attributeOfReads attributeLayout valueToken useOf formToken tokenAmong formTokens encodingOf tokenOf numberAs readIn tokenIn numberIn before asNumber asLink asExpression asLeb asBytes copy uleb groups below unsigned64 fixedValue ordered littleValue width size bytesOf pieceBytes numberBytes padded fieldOf linkedValue rowOfReads pick check bind _and_ _or_
 entries = (refl, refl, refl, refl, refl, refl, refl, refl, refl, refl, refl, refl, refl, refl, refl, refl, refl)
 
 -- rnglists_base in sec_offset: of several the last counts; another form, another name and another tag leave the base

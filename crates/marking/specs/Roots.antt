@@ -2,16 +2,18 @@
 use Prim.Native.Nat.{ℕ, zero, suc, _+_, _-_}
 use mathlib.Core.Bool.{Bool, true, false}
 use mathlib.Core.List.{List, [], _∷_}
-use lib.ListN.{length, take, drop}
+use lib.ListN.{length}
 use lib.Dec.{ltb, leb, eqb}
 use Rattle.readers.specs.Choice.{pick, _and_, _or_}
+use Rattle.readers.specs.Cursors.{cursor}
+use Rattle.readers.specs.Fields.{partOf}
 use Rattle.readers.specs.Steps.{operationAt, listEntryAt}
+use Rattle.readers.specs.Refusals.{refusalOfList, refusalOfOperation}
 use Rattle.readers.specs.Lists.{listOffset, listStart}
 use Rattle.readers.specs.Entries.{attributeAt}
 use Rattle.readers.specs.Abbreviations.{specAt}
 use Rattle.readers.specs.declared.cursor.Encoding.{Encoding}
 use Rattle.readers.specs.declared.cursor.Cursor.{Cursor}
-use Rattle.readers.specs.declared.fields.Field.{Field}
 use Rattle.readers.specs.declared.abbreviations.AttributeSpec.{AttributeSpec}
 use Rattle.readers.specs.declared.abbreviations.SpecStep.{SpecStep}
 use Rattle.readers.specs.declared.abbreviations.SpecStep.the-variants.{Attribute as Spec, Last as LastSpec, Unreadable as NoSpec}
@@ -27,9 +29,10 @@ use Rattle.readers.specs.declared.operations.ListEntry.{ListEntry}
 use Rattle.readers.specs.declared.operations.ListStep.{ListStep}
 use Rattle.readers.specs.declared.operations.ListStep.the-variants.{Entry, End, Unreadable as NoEntry}
 use Rattle.marking.specs.Walking.{Next, go, stop, walk}
+use Rattle.marking.specs.Refusals.{refusalOfLookup}
 use Rattle.marking.specs.Addresses.{isTombstone, lookupAt}
-use Rattle.marking.specs.declared.addresses.Liveness.{Liveness}
-use Rattle.marking.specs.declared.addresses.Liveness.the-variants.{Live, Dead, Fails}
+use Rattle.marking.specs.declared.addresses.AddressLookup.{AddressLookup}
+use Rattle.marking.specs.declared.addresses.AddressLookup.the-variants.{Live, Dead, Fails}
 use Rattle.marking.specs.declared.roots.RangeTurn.{RangeTurn}
 use Rattle.marking.specs.declared.roots.RangeTurn.the-variants.{On, Decided}
 use Rattle.marking.specs.declared.root_test.NextAttribute.{NextAttribute}
@@ -44,10 +47,10 @@ orElse isLive w = isLive
 orElse (refused n) w = refused n
 
 -- an index of the address table, and what follows if it is live, if it is dead; a table that fails is 6
-unfoldable pub onLookup : {X : Type 0} → Liveness → (Verdict → X) → X → X → X
+unfoldable pub onLookup : {X : Type 0} → AddressLookup → (Verdict → X) → X → X → X
 onLookup Live refuse live dead = live
 onLookup Dead refuse live dead = dead
-onLookup Fails refuse live dead = refuse (refused 6)
+onLookup Fails refuse live dead = refuse (refused (refusalOfLookup Fails))
 
 -- ---- lists and expressions, from a place on, with a flag: in a range list, that the latest base was dead; in an expression, that a live index was met
 
@@ -82,7 +85,7 @@ module _ (e : Encoding) (table : List ℕ) where
   unfoldable pub rangeStep : Bool → ListStep → Turn
   rangeStep dead (Entry x) = rangeEntry dead x
   rangeStep dead End = stop isDead
-  rangeStep dead NoEntry = stop (refused 5)
+  rangeStep dead NoEntry = stop (refused (refusalOfList NoEntry))
 
   -- the list of a rnglistx: what can't be resolved is live
   unfoldable pub rangesLive : List ℕ → ListOffset → Verdict
@@ -96,7 +99,7 @@ module _ (e : Encoding) (table : List ℕ) where
       pick (eqb (op .row) 22)
       (onLookup (lookupAt table (op .first .value)) stop (go (record { at = op .next .at; flag = true })) (go (record { at = op .next .at; flag = live })))
       (go (record { at = op .next .at; flag = live }))
-  operationStep live NoOperation = stop (refused 5)
+  operationStep live NoOperation = stop (refused (refusalOfOperation NoOperation))
 
   -- a location with a live index; read to its end, nested entry values stepped over
   unfoldable pub locationLive : List ℕ → Verdict
@@ -109,7 +112,7 @@ module _ (e : Encoding) (table : List ℕ) where
 unfoldable pub olderStep : ListStep → Turn
 olderStep (Entry x) = pick (eqb (x .kind) 5) (toward x false) (stop isLive)
 olderStep End = stop isDead
-olderStep NoEntry = stop (refused 5)
+olderStep NoEntry = stop (refused (refusalOfList NoEntry))
 
 unfoldable pub olderLive : Encoding → List ℕ → ListOffset → Verdict
 olderLive e s (At c) = walk place (length s) (λ (p : Flagged). olderStep (listEntryAt e false s (p .at))) isDead (record { at = c .at; flag = false })
@@ -159,7 +162,7 @@ entryValues e abbreviations specs unit at = valuesOf e unit (specsFrom abbreviat
 
 -- the attribute there, as the code reads it
 unfoldable pub taken : AttributeSpec → AttributeRead → NextAttribute
-taken a (Attribute′ v) = More (record { name = a .name; declared = a .form; value = v; next = a .next })
+taken a (Attribute′ v) = More (record { name = a .name; declared = a .form; value = v; next = a .next; values = cursor (v .field .end) })
 taken a NoAttribute = NoMore
 
 unfoldable pub takenBy : Encoding → List ℕ → ℕ → SpecStep → NextAttribute
@@ -180,7 +183,7 @@ unfoldable pub locations : Encoding → List ℕ → List ℕ → List Valued �
 locations e table unit [] = isDead
 locations e table unit (a ∷ rest) =
     pick (eqb (a .name) 0x02 and eqb (a .value .form) 0x18)
-    (orElse (locationLive e table (take (a .value .field .end - a .value .field .start) (drop (a .value .field .start) unit))) (locations e table unit rest))
+    (orElse (locationLive e table (partOf unit (a .value .field))) (locations e table unit rest))
     (locations e table unit rest)
 
 -- what ranges are read by: the range lists, the address table, the caller's ranges base, and the range lists' own base

@@ -2,8 +2,8 @@
 ghost use mathlib.Core.Path.{_≡_};
 ghost use Rattle.marking.specs.Addresses.{isTombstone, lookupAt};
 
-// What is found of an address. A table that fails is refused with 6.
-pub enum Liveness {
+// What the address table says of an index: what gc.rs's `is_addr_live` answers. A table that fails is refused with 6.
+pub enum AddressLookup {
     Live,
     Dead,
     Fails,
@@ -29,19 +29,19 @@ pub fn is_tombstone(address: u64, size: u8) -> bool
 }
 
 // An index of the address table, one byte an index: 0 dead, 1 live; any other byte, or an index past its end, fails.
-pub fn lookup(table: &[u8], index: u64) -> Liveness
+pub fn lookup(table: &[u8], index: u64) -> AddressLookup
     ensures { λ r. ⌜ r ≡ lookupAt (now (table .entry)) index ⌝ }
 {
     if index >= (table.len() as u64) {
-        return Liveness::Fails;
+        return AddressLookup::Fails;
     }
     let i = index as usize;
     let b = table[i];
     if b == 0 {
-        return Liveness::Dead;
+        return AddressLookup::Dead;
     }
     if b == 1 {
-        return Liveness::Live;
+        return AddressLookup::Live;
     }
-    Liveness::Fails
+    AddressLookup::Fails
 }

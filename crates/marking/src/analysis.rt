@@ -9,7 +9,7 @@ ghost use Rattle.marking.specs.Columns.{offsetsIn, parentsIn, rootsIn, e
 use crate::columns::clear_bytes;
 use crate::columns::clear_indexes;
 use crate::references::EntryScan;
-use crate::references::scan;
+use crate::references::scan_live_die_attrs;
 use crate::root_test::base_after;
 use crate::root_test::is_root;
 use crate::roots::Verdict;
@@ -94,7 +94,7 @@ fn analyse_entry(
             return EntryAnalysis::Refused(refusal(unit, abbreviations, x, e, n));
         }
     }
-    match scan(
+    match scan_live_die_attrs(
         unit,
         abbreviations,
         specs,
@@ -143,14 +143,14 @@ fn analyse_entries(
     ensures answer { λ r. ⌜ r ≡ answerOf (unitAnalysed e (sections (now (abbreviations .entry)) (now (locations .entry)) (now (ranges .entry)) (now (addresses .entry)) «ranges_base») (now (unit .entry)) (rooms «entry_room» «reference_room») from (first .at)) ⌝ }
     ensures columns { λ _. ⌜ Outcome (unitAnalysed e (sections (now (abbreviations .entry)) (now (locations .entry)) (now (ranges .entry)) (now (addresses .entry)) «ranges_base») (now (unit .entry)) (rooms «entry_room» «reference_room») from (first .at)) (now (offsets .entry)) (now (parents .entry)) (now (roots .entry)) (now (ends .entry)) (now (targets .entry)) (now (offsets .exit)) (now (parents .exit)) (now (roots .exit)) (now (ends .exit)) (now (targets .exit)) ⌝ }
 {
-    let mut at = first.at;
+    let mut c = first;
     let mut count: usize = 0;
     let mut to: usize = 0;
     let mut nesting = Nesting::outside();
     let mut rnglists_base: u64 = 12;
     let mut loclists_base: u64 = 12;
     loop {
-        match (Cursor { at }).entry_head(unit, abbreviations, from, index) {
+        match c.entry_head(unit, abbreviations, from, index) {
             HeadStep::Entry(x) => {
                 if count >= entry_room {
                     return Analysis::Refused(refusal(unit, abbreviations, x, e, 10));
@@ -214,13 +214,13 @@ fn analyse_entries(
                         );
                         count += 1;
                         to = place;
-                        at = next.at;
+                        c = next;
                     }
                 }
             }
             HeadStep::Terminator(next) => {
                 nesting = nesting.after_terminator(parents);
-                at = next.at;
+                c = next;
             }
             HeadStep::End => {
                 return Analysis::Entries {

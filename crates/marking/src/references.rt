@@ -1,11 +1,11 @@
-// The references of an entry (gc.rs: `scan_live_die_attrs`, `scan_loclist_for_refs`), into a lent table of offsets.
+// The references of an entry, into a lent table of offsets. scan_live_die_attrs and scan_loclist_for_refs have the names of their originals in gc.rs.
 ghost use mathlib.Core.Path.{_≡_};
 ghost use mathlib.Core.List.{[], _∷_};
 ghost use lib.ListN.{length, set};
 ghost use Rattle.readers.specs.Abbreviations.{specAt};
 ghost use Rattle.readers.specs.Entries.{valuesAt};
 ghost use Rattle.readers.specs.References.{flatFrom};
-ghost use Rattle.marking.specs.EntryReferences.{targets as offsetsOf, partOf, expressionFound, locationFound, listFound, locationsBy, attributeFound, attributesFound};
+ghost use Rattle.marking.specs.EntryReferences.{targets as offsetsOf, expressionFound, locationFound, listFound, locationsBy, attributeFound, attributesFound};
 ghost use Rattle.marking.specs.ReferenceTable.{nextPlace, placed, written, scannedTo, tableAfter, valuedBy, endBy, entryScanned};
 ghost use Rattle.marking.specs.Roots.{entryValues};
 ghost use Rattle.readers.specs.declared.lists.ListOffset.the-variants.{At};
@@ -19,7 +19,6 @@ use readers::cursor::Moved;
 use readers::expressions::Walk;
 use readers::expressions::Yield;
 use readers::expressions::walk_expression;
-use readers::fields::Field;
 use readers::lists::ListOffset;
 use readers::lists::list_offset;
 use readers::lists::list_start;
@@ -56,16 +55,14 @@ fn put_references(s: &[u8], e: Encoding, targets: &mut [u64], at: usize) -> usiz
     ensures place { λ r. ⌜ r ≡ placed (length (now (targets .entry))) at (offsetsOf (flatFrom e (now (s .entry)) 0)) ⌝ }
     ensures table { λ _. ⌜ now (targets .exit) ≡ written (now (targets .entry)) at (offsetsOf (flatFrom e (now (s .entry)) 0)) ⌝ }
 {
-    let mut from: usize = 0;
+    let mut c = Cursor { at: 0 };
     let mut to = at;
     loop {
-        let Yield::Reference(r) = (Cursor { at: from }).next_reference(s, e) else {
+        let Yield::Reference(r) = c.next_reference(s, e) else {
             return to;
         };
-        let target = r.target;
-        let next = r.next;
-        to = put(targets, to, target);
-        from = next.at;
+        to = put(targets, to, r.target);
+        c = r.next;
     }
 }
 
@@ -87,24 +84,6 @@ fn scan_expression(s: &[u8], e: Encoding, targets: &mut [u64], at: usize) -> Sca
     Scanned::To(put_references(s, e, targets, at))
 }
 
-// The bytes of a field, as far as the slice has them.
-pub fn part<'a>(s: &'a [u8], f: Field) -> &'a [u8]
-    ensures { λ r. ⌜ now r ≡ partOf (now (s .entry)) f ⌝ }
-{
-    let start = f.start;
-    let end = f.end;
-    if start >= end {
-        return &s[0..0];
-    }
-    if start >= s.len() {
-        return &s[0..0];
-    }
-    if end > s.len() {
-        return &s[start..];
-    }
-    &s[start..end]
-}
-
 // The references of a location list's entry: base addresses have no expression, a default location has it first, the others third.
 fn scan_location(s: &[u8], x: ListEntry, e: Encoding, targets: &mut [u64], at: usize) -> Scanned
     ensures answer { λ r. ⌜ r ≡ scannedTo (length (now (targets .entry))) at (locationFound e (now (s .entry)) x) ⌝ }
@@ -117,20 +96,28 @@ fn scan_location(s: &[u8], x: ListEntry, e: Encoding, targets: &mut [u64], at: u
         return Scanned::To(at);
     }
     if x.kind == 5 {
-        return scan_expression(part(s, x.first), e, targets, at);
+        let first = x.first;
+        return scan_expression(first.expression(s), e, targets, at);
     }
-    scan_expression(part(s, x.third), e, targets, at)
+    let third = x.third;
+    scan_expression(third.expression(s), e, targets, at)
 }
 
 // The references of a location list, entry by entry; 5 where it can't be read.
-fn scan_list(s: &[u8], start: Cursor, e: Encoding, targets: &mut [u64], at: usize) -> Scanned
+fn scan_loclist_for_refs(
+    s: &[u8],
+    start: Cursor,
+    e: Encoding,
+    targets: &mut [u64],
+    at: usize,
+) -> Scanned
     ensures answer { λ r. ⌜ r ≡ scannedTo (length (now (targets .entry))) at (listFound e (now (s .entry)) (At start)) ⌝ }
     ensures table { λ _. ⌜ now (targets .exit) ≡ tableAfter (now (targets .entry)) at (listFound e (now (s .entry)) (At start)) ⌝ }
 {
-    let mut from = start.at;
+    let mut c = start;
     let mut to = at;
     loop {
-        match (Cursor { at: from }).list_entry(s, true, e) {
+        match c.list_entry(s, true, e) {
             ListStep::Entry(x) => {
                 let next = x.next;
                 match scan_location(s, x, e, targets, to) {
@@ -141,7 +128,7 @@ fn scan_list(s: &[u8], start: Cursor, e: Encoding, targets: &mut [u64], at: usiz
                         return Scanned::Refused(n);
                     }
                 }
-                from = next.at;
+                c = next;
             }
             ListStep::End => {
                 return Scanned::To(to);
@@ -154,12 +141,18 @@ fn scan_list(s: &[u8], start: Cursor, e: Encoding, targets: &mut [u64], at: usiz
 }
 
 // The references of a location list that may not be resolved: 5.
-fn scan_list_at(s: &[u8], start: ListOffset, e: Encoding, targets: &mut [u64], at: usize) -> Scanned
+fn scan_loclist_at(
+    s: &[u8],
+    start: ListOffset,
+    e: Encoding,
+    targets: &mut [u64],
+    at: usize,
+) -> Scanned
     ensures answer { λ r. ⌜ r ≡ scannedTo (length (now (targets .entry))) at (listFound e (now (s .entry)) start) ⌝ }
     ensures table { λ _. ⌜ now (targets .exit) ≡ tableAfter (now (targets .entry)) at (listFound e (now (s .entry)) start) ⌝ }
 {
     match start {
-        ListOffset::At(c) => scan_list(s, c, e, targets, at),
+        ListOffset::At(c) => scan_loclist_for_refs(s, c, e, targets, at),
         ListOffset::Unresolved => Scanned::Refused(5),
     }
 }
@@ -187,7 +180,7 @@ fn scan_attribute(
         return Scanned::Refused(7);
     }
     if form == 0x18 {
-        return scan_expression(part(unit, field), e, targets, at);
+        return scan_expression(field.expression(unit), e, targets, at);
     }
     if form >= 0x11 {
         if form <= 0x15 {
@@ -198,7 +191,7 @@ fn scan_attribute(
         return Scanned::To(at);
     }
     if form == 0x22 {
-        return scan_list_at(
+        return scan_loclist_at(
             locations,
             list_offset(locations, loclists_base, field.value, e),
             e,
@@ -207,7 +200,7 @@ fn scan_attribute(
         );
     }
     if form == 0x17 {
-        return scan_list_at(
+        return scan_loclist_at(
             locations,
             list_start(locations, field.value),
             e,
@@ -230,7 +223,7 @@ fn values_end(abbreviations: &[u8], specs: Cursor, values: Cursor) -> Moved
 }
 
 // The references of an entry, in attribute order: each as a 64-bit offset, repeats and dangling ones included. 5 and 7 as they are met.
-pub fn scan(
+pub fn scan_live_die_attrs(
     unit: &[u8],
     abbreviations: &[u8],
     specs: Cursor,
@@ -244,25 +237,18 @@ pub fn scan(
     ensures answer { λ r. ⌜ r ≡ entryScanned (scannedTo (length (now (targets .entry))) at (attributesFound e (locationsBy (now (unit .entry)) (now (locations .entry)) «loclists_base») (entryValues e (now (abbreviations .entry)) (specs .at) (now (unit .entry)) (values .at)))) (valuesAt e (now (abbreviations .entry)) (specs .at) (now (unit .entry)) (values .at)) ⌝ }
     ensures table { λ _. ⌜ now (targets .exit) ≡ tableAfter (now (targets .entry)) at (attributesFound e (locationsBy (now (unit .entry)) (now (locations .entry)) «loclists_base») (entryValues e (now (abbreviations .entry)) (specs .at) (now (unit .entry)) (values .at))) ⌝ }
 {
-    let mut p = specs.at;
-    let mut from = values.at;
+    let mut p = specs;
+    let mut c = values;
     let mut to = at;
     loop {
-        let NextAttribute::More(a) = next_attribute(
-            unit,
-            abbreviations,
-            Cursor { at: p },
-            Cursor { at: from },
-            e,
-        ) else {
+        let NextAttribute::More(a) = next_attribute(unit, abbreviations, p, c, e) else {
             return EntryScan::Through {
                 place: to,
-                end: values_end(abbreviations, Cursor { at: p }, Cursor { at: from }),
+                end: values_end(abbreviations, p, c),
             };
         };
-        let v = a.value;
-        let field = v.field;
         let next = a.next;
+        let past = a.values;
         match scan_attribute(unit, locations, loclists_base, a, e, targets, to) {
             Scanned::To(place) => {
                 to = place;
@@ -271,7 +257,7 @@ pub fn scan(
                 return EntryScan::Refused(n);
             }
         }
-        from = field.end;
-        p = next.at;
+        c = past;
+        p = next;
     }
 }

@@ -3,10 +3,10 @@ ghost use mathlib.Core.Path.{_≡_};
 ghost use Rattle.marking.specs.Roots.{nextAttribute, lowPcs, locations, otherRanges, rangesBy, firstRanges, rootTest, baseAfter, entryValues};
 use crate::roots::RangeTurn;
 use crate::roots::Verdict;
-use crate::roots::location_live;
+use crate::roots::location_expr_live;
 use crate::roots::low_pc;
-use crate::roots::older_live;
 use crate::roots::range_entry;
+use crate::roots::ranges_has_live_entry;
 use readers::abbreviations::SpecStep;
 use readers::attributes::Attribute;
 use readers::attributes::AttributeRead;
@@ -16,13 +16,13 @@ use readers::lists::ListOffset;
 use readers::lists::list_offset;
 use readers::operations::ListStep;
 
-// An attribute of an entry: its name, the form that it is declared with, its value, and the cursor past its specification. Its field ends where the next
-// value starts.
+// An attribute of an entry: its name, the form that it is declared with, its value, the cursor past its specification, and the cursor past its value.
 pub struct EntryAttribute {
     pub name: u64,
     pub declared: u64,
     pub value: Attribute,
     pub next: Cursor,
+    pub values: Cursor,
 }
 
 pub enum NextAttribute {
@@ -48,11 +48,14 @@ pub fn next_attribute(
             let name = a.name;
             let declared = a.form;
             let next = a.next;
+            let field = value.field;
+            let values = field.next();
             NextAttribute::More(EntryAttribute {
                 name,
                 declared,
                 value,
                 next,
+                values,
             })
         }
         SpecStep::Last(_) => NextAttribute::NoMore,
@@ -71,21 +74,15 @@ pub fn low_pcs(
 ) -> Verdict
     ensures { λ r. ⌜ r ≡ lowPcs e (now (table .entry)) (entryValues e (now (abbreviations .entry)) (specs .at) (now (unit .entry)) (values .at)) ⌝ }
 {
-    let mut p = specs.at;
-    let mut at = values.at;
+    let mut p = specs;
+    let mut c = values;
     loop {
-        let NextAttribute::More(a) = next_attribute(
-            unit,
-            abbreviations,
-            Cursor { at: p },
-            Cursor { at },
-            e,
-        ) else {
+        let NextAttribute::More(a) = next_attribute(unit, abbreviations, p, c, e) else {
             return Verdict::Dead;
         };
         let v = a.value;
-        let field = v.field;
         let next = a.next;
+        let past = a.values;
         if a.name == 0x11 {
             match low_pc(v, table, e) {
                 Verdict::Live => {
@@ -97,8 +94,8 @@ pub fn low_pcs(
                 }
             }
         }
-        at = field.end;
-        p = next.at;
+        c = past;
+        p = next;
     }
 }
 
@@ -113,40 +110,31 @@ pub fn locations_live(
 ) -> Verdict
     ensures { λ r. ⌜ r ≡ locations e (now (table .entry)) (now (unit .entry)) (entryValues e (now (abbreviations .entry)) (specs .at) (now (unit .entry)) (values .at)) ⌝ }
 {
-    let mut p = specs.at;
-    let mut at = values.at;
+    let mut p = specs;
+    let mut c = values;
     loop {
-        let NextAttribute::More(a) = next_attribute(
-            unit,
-            abbreviations,
-            Cursor { at: p },
-            Cursor { at },
-            e,
-        ) else {
+        let NextAttribute::More(a) = next_attribute(unit, abbreviations, p, c, e) else {
             return Verdict::Dead;
         };
         let v = a.value;
         let field = v.field;
         let next = a.next;
-        let from = field.start;
-        let to = field.end;
+        let past = a.values;
         if a.name == 0x02 {
             if v.form == 0x18 {
-                if from < to {
-                    match location_live(&unit[from..to], table, e) {
-                        Verdict::Live => {
-                            return Verdict::Live;
-                        }
-                        Verdict::Dead => {}
-                        Verdict::Refused(n) => {
-                            return Verdict::Refused(n);
-                        }
+                match location_expr_live(field.expression(unit), table, e) {
+                    Verdict::Live => {
+                        return Verdict::Live;
+                    }
+                    Verdict::Dead => {}
+                    Verdict::Refused(n) => {
+                        return Verdict::Refused(n);
                     }
                 }
             }
         }
-        at = to;
-        p = next.at;
+        c = past;
+        p = next;
     }
 }
 
@@ -166,10 +154,11 @@ pub fn other_ranges(v: Attribute, ranges: &[u8], ranges_base: u64, e: Encoding) 
         return Verdict::Live;
     }
     let at = (ranges_base + field.value) as usize;
-    older_live(ranges, Cursor { at }, e)
+    ranges_has_live_entry(ranges, Cursor { at }, e)
 }
 
-// The first ranges attribute of an entry. What decides its list leaves the list and the attributes with the verdict.
+// The first ranges attribute of an entry. Its list is read as gc.rs's `rnglist_has_live_entry` does, entry by entry: what decides it leaves the list and the
+// attributes with the verdict.
 pub fn first_ranges(
     unit: &[u8],
     abbreviations: &[u8],
@@ -183,22 +172,17 @@ pub fn first_ranges(
 ) -> Verdict
     ensures { λ r. ⌜ r ≡ firstRanges e (rangesBy (now (ranges .entry)) (now (table .entry)) «ranges_base» «rnglists_base») (entryValues e (now (abbreviations .entry)) (specs .at) (now (unit .entry)) (values .at)) ⌝ }
 {
-    let mut p = specs.at;
-    let mut at = values.at;
+    let mut p = specs;
+    let mut c = values;
     let mut verdict = Verdict::Dead;
     'attributes: loop {
-        let NextAttribute::More(a) = next_attribute(
-            unit,
-            abbreviations,
-            Cursor { at: p },
-            Cursor { at },
-            e,
-        ) else {
+        let NextAttribute::More(a) = next_attribute(unit, abbreviations, p, c, e) else {
             break 'attributes;
         };
         let v = a.value;
         let field = v.field;
         let next = a.next;
+        let past = a.values;
         if a.name == 0x55 {
             if v.form != 0x23 {
                 return other_ranges(v, ranges, ranges_base, e);
@@ -206,16 +190,16 @@ pub fn first_ranges(
             let ListOffset::At(start) = list_offset(ranges, rnglists_base, field.value, e) else {
                 return Verdict::Live;
             };
-            let mut place = start.at;
+            let mut place = start;
             let mut dead = false;
             loop {
-                match (Cursor { at: place }).list_entry(ranges, false, e) {
+                match place.list_entry(ranges, false, e) {
                     ListStep::Entry(x) => {
                         let after = x.next;
                         match range_entry(table, dead, x, e) {
                             RangeTurn::On(flag) => {
                                 dead = flag;
-                                place = after.at;
+                                place = after;
                             }
                             RangeTurn::Decided(found) => {
                                 verdict = found;
@@ -232,13 +216,13 @@ pub fn first_ranges(
                 }
             }
         }
-        at = field.end;
-        p = next.at;
+        c = past;
+        p = next;
     }
     verdict
 }
 
-// The root test of an entry with a tag: a subprogram by its low_pc and its ranges, a variable by its location; other tags never.
+// The root test of an entry with a tag (gc.rs: `is_root`): a subprogram by its low_pc and its ranges, a variable by its location; other tags never.
 pub fn is_root(
     unit: &[u8],
     abbreviations: &[u8],
@@ -292,28 +276,23 @@ pub fn base_after(
     if tag != 0x11 {
         return base;
     }
-    let mut p = specs.at;
-    let mut at = values.at;
+    let mut p = specs;
+    let mut c = values;
     let mut latest = base;
     loop {
-        let NextAttribute::More(a) = next_attribute(
-            unit,
-            abbreviations,
-            Cursor { at: p },
-            Cursor { at },
-            e,
-        ) else {
+        let NextAttribute::More(a) = next_attribute(unit, abbreviations, p, c, e) else {
             return latest;
         };
         let v = a.value;
         let field = v.field;
         let next = a.next;
+        let past = a.values;
         if a.name == name {
             if v.form == 0x17 {
                 latest = field.value;
             }
         }
-        at = field.end;
-        p = next.at;
+        c = past;
+        p = next;
     }
 }

@@ -1,8 +1,8 @@
-// The root test: what is live by itself.
+// The root test: what is live by itself. ranges_has_live_entry and location_expr_live have the names of their originals in gc.rs.
 ghost use mathlib.Core.Path.{_≡_};
 ghost use Rattle.marking.specs.Roots.{turnOf, rangeEntry, olderLive, locationLive, lowPc};
 ghost use Rattle.readers.specs.declared.lists.ListOffset.the-variants.{At};
-use crate::addresses::Liveness;
+use crate::addresses::AddressLookup;
 use crate::addresses::is_tombstone;
 use crate::addresses::lookup;
 use readers::attributes::Attribute;
@@ -25,7 +25,7 @@ pub enum RangeTurn {
     Decided(Verdict),
 }
 
-// An entry of a range list, whose latest base was dead or not.
+// An entry of a range list, whose latest base was dead or not: one turn of gc.rs's `rnglist_has_live_entry`, whose loop is in first_ranges.
 pub fn range_entry(table: &[u8], dead: bool, x: ListEntry, e: Encoding) -> RangeTurn
     ensures { λ r. ⌜ r ≡ turnOf (rangeEntry e (now (table .entry)) dead x) ⌝ }
 {
@@ -33,16 +33,16 @@ pub fn range_entry(table: &[u8], dead: bool, x: ListEntry, e: Encoding) -> Range
     let kind = x.kind;
     if kind == 1 {
         return match lookup(table, first.value) {
-            Liveness::Live => RangeTurn::On(false),
-            Liveness::Dead => RangeTurn::On(true),
-            Liveness::Fails => RangeTurn::Decided(Verdict::Refused(6)),
+            AddressLookup::Live => RangeTurn::On(false),
+            AddressLookup::Dead => RangeTurn::On(true),
+            AddressLookup::Fails => RangeTurn::Decided(Verdict::Refused(6)),
         };
     }
     if kind <= 3 {
         return match lookup(table, first.value) {
-            Liveness::Live => RangeTurn::Decided(Verdict::Live),
-            Liveness::Dead => RangeTurn::On(dead),
-            Liveness::Fails => RangeTurn::Decided(Verdict::Refused(6)),
+            AddressLookup::Live => RangeTurn::Decided(Verdict::Live),
+            AddressLookup::Dead => RangeTurn::On(dead),
+            AddressLookup::Fails => RangeTurn::Decided(Verdict::Refused(6)),
         };
     }
     if kind == 4 {
@@ -62,18 +62,17 @@ pub fn range_entry(table: &[u8], dead: bool, x: ListEntry, e: Encoding) -> Range
 }
 
 // The older test of a range list: base_address is skipped, every other entry is live.
-pub fn older_live(ranges: &[u8], start: Cursor, e: Encoding) -> Verdict
+pub fn ranges_has_live_entry(ranges: &[u8], start: Cursor, e: Encoding) -> Verdict
     ensures { λ r. ⌜ r ≡ olderLive e (now (ranges .entry)) (At start) ⌝ }
 {
-    let mut at = start.at;
+    let mut c = start;
     loop {
-        match (Cursor { at }).list_entry(ranges, false, e) {
+        match c.list_entry(ranges, false, e) {
             ListStep::Entry(x) => {
-                let next = x.next;
                 if x.kind != 5 {
                     return Verdict::Live;
                 }
-                at = next.at;
+                c = x.next;
             }
             ListStep::End => {
                 return Verdict::Dead;
@@ -86,13 +85,13 @@ pub fn older_live(ranges: &[u8], start: Cursor, e: Encoding) -> Verdict
 }
 
 // Whether a variable's location holds a live index of the address table. It is read to its end; nested entry values are stepped over.
-pub fn location_live(s: &[u8], table: &[u8], e: Encoding) -> Verdict
+pub fn location_expr_live(s: &[u8], table: &[u8], e: Encoding) -> Verdict
     ensures { λ r. ⌜ r ≡ locationLive e (now (table .entry)) (now (s .entry)) ⌝ }
 {
-    let mut at: usize = 0;
+    let mut c = Cursor { at: 0 };
     let mut live = false;
-    while at < s.len() {
-        let OperationRead::Read(op) = (Cursor { at }).operation(s, e) else {
+    while c.at < s.len() {
+        let OperationRead::Read(op) = c.operation(s, e) else {
             return Verdict::Refused(5);
         };
         let row = op.row;
@@ -100,16 +99,16 @@ pub fn location_live(s: &[u8], table: &[u8], e: Encoding) -> Verdict
         let next = op.next;
         if row == 22 {
             match lookup(table, first.value) {
-                Liveness::Live => {
+                AddressLookup::Live => {
                     live = true;
                 }
-                Liveness::Dead => {}
-                Liveness::Fails => {
+                AddressLookup::Dead => {}
+                AddressLookup::Fails => {
                     return Verdict::Refused(6);
                 }
             }
         }
-        at = next.at;
+        c = next;
     }
     if live {
         return Verdict::Live;
@@ -138,8 +137,8 @@ pub fn low_pc(v: Attribute, table: &[u8], e: Encoding) -> Verdict
         }
     }
     match lookup(table, field.value) {
-        Liveness::Live => Verdict::Live,
-        Liveness::Dead => Verdict::Dead,
-        Liveness::Fails => Verdict::Refused(6),
+        AddressLookup::Live => Verdict::Live,
+        AddressLookup::Dead => Verdict::Dead,
+        AddressLookup::Fails => Verdict::Refused(6),
     }
 }

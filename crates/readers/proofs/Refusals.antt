@@ -10,7 +10,7 @@ use mir.Facts.{eqb-yes}
 use Rattle.readers.specs.Choice.{pick, pick-either, either, _and_, _or_}
 use Rattle.readers.specs.Header.{present, right, encodingOf, headerMade, headerFields, headerOf}
 use Rattle.readers.specs.References.{walkOf, walkAnswer, referencesAnswer}
-use Rattle.readers.specs.Refusals.{OneOf, HeaderRefusal, ReferencesRefusal}
+use Rattle.readers.specs.RefusalNumbers.{OneOf, HeaderRefusal, ReferencesRefusal}
 use Rattle.readers.specs.declared.cursor.Number.{Number}
 use Rattle.readers.specs.declared.cursor.Number.the-variants.{Value, Unreadable}
 use Rattle.readers.specs.declared.header.HeaderRead.{HeaderRead}

@@ -187,6 +187,15 @@ module _ (e : Encoding) (location : Bool) (s : List ℕ) (at : ℕ) where
     unfolding rowEntry
     entry-some f x = of-row-read ∙ ap (rowEntry kind) x
 
+-- the cursor past it
+pub operation-on : (row : ℕ) (a b : Field) (d d′ : Cursor) → d ≡ d′
+    → Operation′ (record { row = row; first = a; second = b; next = d }) ≡ Operation′ (record { row = row; first = a; second = b; next = d′ })
+operation-on row a b d d′ p = ap (λ (c : Cursor). Operation′ (record { row = row; first = a; second = b; next = c })) p
+
+pub entry-on : (kind : ℕ) (a b f : Field) (d d′ : Cursor) → d ≡ d′
+    → Entry (record { kind = kind; first = a; second = b; third = f; next = d }) ≡ Entry (record { kind = kind; first = a; second = b; third = f; next = d′ })
+entry-on kind a b f d d′ p = ap (λ (c : Cursor). Entry (record { kind = kind; first = a; second = b; third = f; next = c })) p
+
 -- ---- what an operation that was read says
 
 inside-same : (s : List ℕ) (a a′ : ℕ) (f f′ : Field) → a ≡ a′ → f ≡ f′ → Inside s a′ f′ → Inside s a f

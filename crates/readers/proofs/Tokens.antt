@@ -7,8 +7,8 @@ use mathlib.Core.Bool.{Bool, true, false, not}
 use mathlib.Core.Option.{Option, none, some}
 use mathlib.Core.List.{List, [], _∷_, _++_, append-nil}
 use native.Mathlib.Omega.{arith}
-use lib.ListN.{length, take, drop, length-append, length-drop, List·getD-eq-default}
-use lib.Seq.{length-take-le, drop-drop}
+use lib.ListN.{length, take, drop, length-append, length-drop, drop-of-length-le, List·getD-eq-default}
+use lib.Seq.{length-take-le, drop-drop, take-nil, take-all}
 use lib.Dec.{T, leb, eqb}
 use mir.Facts.{yes-leb, no-leb, leb-yes, leb-no, no-eqb, eqb-yes, eqb-no}
 use Rattle.readers.specs.Choice.{pick, pick-yes, pick-no, either, check, bind, All, all-some, all-none, all-check, all-bind, all-triv, Took, took-length}
@@ -317,16 +317,9 @@ module _ (e : Encoding) (s : List ℕ) (at : ℕ) where
   unfolding fieldAt tokenOf pick
   field-block t h = ap (fieldAt e s at) h ∙ token-block leb128 ∙ ap (blockField s) (kind-leb (order e) s at)
 
-  pub field-expression : (t : ℕ) → t ≡ 19 → fieldAt e s at t ≡ blockField s (lebAt uleb s at)
-  unfolding fieldAt tokenOf pick
-  field-expression t h = ap (fieldAt e s at) h ∙ token-expression
-
-  pub field-lengthy : (t : ℕ) → 17 < t → t ≤ 19 → fieldAt e s at t ≡ blockField s (lebAt uleb s at)
-  field-lengthy t lo hi =
-      ⊎-elim
-      (λ u. field-block t (eqb-yes {a = t} {b = 18} u))
-      (λ u. let h : t ≡ 18 → ⊥ = eqb-no {a = t} {b = 18} u in field-expression t (omega arith))
-      (either (eqb t 18))
+  pub field-exprloc : (t : ℕ) → t ≡ 19 → fieldAt e s at t ≡ exprlocAt s at
+  unfolding fieldAt tokenOf pick exprlocAt
+  field-exprloc t h = ap (fieldAt e s at) h ∙ token-expression
 
   pub field-bounded : (t : ℕ) → t ≡ 20 → fieldAt e s at t ≡ boundedField at (lebAt uleb s at)
   unfolding fieldAt tokenOf pick
@@ -554,44 +547,32 @@ module _ (e : Encoding) (s : List ℕ) (at l : ℕ) (r : Row) where
         omega (arith, i .0 .after, i .0 .forward, i .0 .within, i .1 .after, i .1 .forward, i .1 .within, i .2 .within),
       )
 
--- ---- the expression of an exprloc
+-- ---- the bytes of a field
 
-block-shape : (s : List ℕ) (f : Field) (n : Number) → blockField s n ≡ Field′ f → (f .start ≤ f .end) × (f .end - f .start ≤ length s - f .start)
-unfolding blockField
-block-shape s f (Value v c) e =
-    ⊎-elim
-    (λ u. let q : aField 0 (c .at) (c .at + v) ≡ f = cc (pick-yes (leb v (length s - c .at)) (Field′ (aField 0 (c .at) (c .at + v))) NoField u) in
-    let h : v ≤ length s - c .at = leb-yes u in
-    subst (λ (f : Field). (f .start ≤ f .end) × (f .end - f .start ≤ length s - f .start)) q (omega arith, omega arith))
-    (λ u. let z : _≡_ {A = ℕ} 0 1 = cc (pick-no (leb v (length s - c .at)) (Field′ (aField 0 (c .at) (c .at + v))) NoField u) in absurd (omega arith))
-    (either (leb v (length s - c .at)))
-block-shape s f Unreadable e = let z : _≡_ {A = ℕ} 0 1 = cc in absurd (omega arith)
-
-module _ (s : List ℕ) (at : ℕ) (n : Number) (r : FieldRead) (p : n ≡ lebAt uleb s at) (q : r ≡ blockField s n) where
-  part-is : partOf s r ≡ exprlocAt s at
-  unfolding exprlocAt
-  part-is = ap (partOf s) (q ∙ ap (blockField s) p)
-
-  pub exprloc-none : r ≡ NoField → [] ≡ exprlocAt s at
+module _ (s : List ℕ) (f : Field) where
+  pub part-none : f .end ≤ f .start → [] ≡ partOf s f
   unfolding partOf
-  exprloc-none h = sym (ap (partOf s) h) ∙ part-is
+  part-none h = ap (λ n. take n (drop (f .start) s)) (let z : 0 ≡ f .end - f .start = omega arith in z)
 
-  pub exprloc-part : (f : Field) → r ≡ Field′ f → take (f .end - f .start) (drop (f .start) s) ≡ exprlocAt s at
+  pub part-past : length s ≤ f .start → [] ≡ partOf s f
   unfolding partOf
-  exprloc-part f h = sym (ap (partOf s) h) ∙ part-is
+  part-past h = sym (ap (take (f .end - f .start)) (drop-of-length-le s h) ∙ take-nil (f .end - f .start))
 
-  -- a block that ends beyond the slice has no bytes
-  pub exprloc-beyond : (f : Field) → r ≡ Field′ f → length s < f .end → [] ≡ exprlocAt s at
-  exprloc-beyond f h b =
-      let k : (f .start ≤ f .end) × (f .end - f .start ≤ length s - f .start) = block-shape s f n (sym q ∙ h) in
-      let z : f .end - f .start ≡ 0 = omega (arith, k .0, k .1) in
-      sym (ap (λ m. take m (drop (f .start) s)) z) ∙ exprloc-part f h
+  pub part-rest : length s < f .end → take (length s - f .start) (drop (f .start) s) ≡ partOf s f
+  unfolding partOf
+  part-rest h =
+      take-all (length s - f .start) (drop (f .start) s) (omega (arith, length-drop (f .start) s))
+      ∙ sym (take-all (f .end - f .start) (drop (f .start) s) (omega (arith, length-drop (f .start) s)))
 
-  -- and none ends before its start
-  pub exprloc-back : (f : Field) → r ≡ Field′ f → f .end < f .start → [] ≡ exprlocAt s at
-  exprloc-back f h b = absurd (omega (arith, block-shape s f n (sym q ∙ h) .0))
+  pub part-whole : take (f .end - f .start) (drop (f .start) s) ≡ partOf s f
+  unfolding partOf
+  part-whole = refl
 
 -- ---- a row, field by field, as it is read
+
+-- from the cursor past the field before
+pub field-from : (e : Encoding) (s : List ℕ) (t : ℕ) (r : FieldRead) (d : Cursor) (n : ℕ) → r ≡ fieldAt e s (d .at) t → d ≡ cursor n → r ≡ fieldAt e s n t
+field-from e s t r d n p q = p ∙ ap (λ (d : Cursor). fieldAt e s (d .at) t) q
 
 module _ (e : Encoding) (s : List ℕ) (at l : ℕ) where
   pub row-over : 28 ≤ l → NoRow ≡ rowAt e s at l

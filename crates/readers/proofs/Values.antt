@@ -9,7 +9,7 @@ use native.Mathlib.Omega.{arith}
 use lib.ListN.{length, getD, take, drop, length-append}
 use lib.Seq.{length-take-le, drop-drop}
 use lib.Dec.{T, ltb, leb, eqb}
-use mir.Facts.{yes-ltb, no-ltb, ltb-yes, yes-eqb, no-eqb, eqb-yes, eqb-no, leb-yes, leb-no}
+use mir.Facts.{yes-ltb, no-ltb, ltb-yes, ltb-no, yes-eqb, no-eqb, eqb-yes, eqb-no, leb-yes, leb-no}
 use Rattle.readers.specs.Choice.{pick, pick-yes, pick-no, pick-either, _and_, _or_, either, bind, bind-bind, bind-ext, All, all-some, all-bind, all-triv, all-map}
 use Rattle.readers.specs.Numbers.{Groups, uleb}
 use Rattle.readers.specs.Layout.{Read, ReadOf, RunOf, ExpressionReader, Token, forms, Layout, done, fail, field, asBytes, asLeb, copy, asNumber, asForms, before, numberIn, formsIn, tokenIn, readIn, pieceBytes, bytesOf, writeAll, width, LebLaw, uleb-law, FormsLaw, forms-law, ReadLaw, read-law, as-bytes-law}
@@ -18,8 +18,8 @@ use Rattle.readers.specs.Forms.{formToken, formTokens, tokenAmong, useOf
 use Rattle.readers.specs.Cursors.{cursor, asLebNumber, lebAt, fixedAt, skipAt, asFormNumber, formsAt}
 use Rattle.readers.specs.Fields.{size, fieldOf, asField, tokenAt, fieldAt, numberField, numberAt}
 use Rattle.readers.specs.Scan.{Scanned, push}
-use Rattle.readers.specs.Abbreviations.{specAt, attributesFrom, scannedTo, pastAttributes, movedDeclaration, wholeDeclaration, declarationFound, wholeFound}
-use Rattle.readers.specs.Entries.{attributeOfReads, asAttribute, attributeAt, attributeEnd, then, attributesLayout, specsLayout, asPast, valuesAt, foundLayout, entryLayout, entryFound, stepOfReads, asStep, stepAt, entryOf, entryTo, headEnd, headStep}
+use Rattle.readers.specs.Abbreviations.{specAt, attributesFrom, scannedTo, pastAttributes, movedDeclaration, wholeDeclaration, declarationFound, wholeFound, findHead, findAt}
+use Rattle.readers.specs.Entries.{attributeOfReads, asAttribute, attributeAt, attributeEnd, then, attributesLayout, specsLayout, asPast, valuesAt, foundLayout, entryLayout, entryFound, stepOfReads, asStep, stepAt, headFound, headOfCode, entryHeadAt, entryOf, entryTo, headEnd, headStep}
 use Rattle.readers.specs.declared.cursor.Encoding.{Encoding}
 use Rattle.readers.specs.declared.cursor.Cursor.{Cursor}
 use Rattle.readers.specs.declared.cursor.Number.{Number}
@@ -569,38 +569,81 @@ module _ (e : Encoding) (abbreviations : List ℕ) (look : ℕ → Found) (unit 
         step-found : (d : Declaration) → f ≡ Found′ d → entryStep values d (valuesAt e abbreviations (d .attributes .at) unit (values .at)) ≡ stepAt e abbreviations look unit at
         step-found d q′ = whole-step values d ∙ sym (ap (λ (f : Found). foundStep values (wholeFound abbreviations f)) q′) ∙ step-code
 
--- ---- heads of entries, however their values are encoded
+-- ---- heads of entries
 
-module _ (abbreviations : List ℕ) (look : ℕ → Found) (unit : List ℕ) (at : ℕ) where
-  abbrev HeadAt : HeadStep → Type 0
-  HeadAt r = (e : Encoding) → headStep e abbreviations unit r ≡ stepAt e abbreviations look unit at
-
-  pub head-end : length unit ≤ at → HeadAt EndHead
-  unfolding headStep
-  head-end h e = step-end e abbreviations look unit at h
+-- what the steps of the reader of a head answer
+module _ (look : ℕ → Found) (unit : List ℕ) (at : ℕ) where
+  pub head-end : length unit ≤ at → EndHead ≡ entryHeadAt look unit at
+  unfolding entryHeadAt
+  head-end h = sym (pick-no _ _ _ (no-ltb {a = at} {b = length unit} h))
 
   module _ (h : at < length unit) (n : Number) (p : n ≡ lebAt uleb unit at) where
-    pub head-none : n ≡ NoNumber → HeadAt NoHead
-    unfolding headStep
-    head-none q e = step-none e abbreviations look unit at h n p q
+    by-number : headOfCode look at n ≡ entryHeadAt look unit at
+    unfolding entryHeadAt
+    by-number = ap (headOfCode look at) p ∙ sym (pick-yes _ _ _ (yes-ltb {a = at} {b = length unit} h))
+
+    pub head-none : n ≡ NoNumber → NoHead ≡ entryHeadAt look unit at
+    unfolding headOfCode
+    head-none q = sym (ap (headOfCode look at) q) ∙ by-number
 
     module _ (code : ℕ) (values : Cursor) (q : n ≡ Value code values) where
-      pub head-terminator : code ≡ 0 → HeadAt (TerminatorHead values)
-      unfolding headStep
-      head-terminator z e = step-terminator e abbreviations look unit at h n p code values q z
+      pub head-terminator : code ≡ 0 → TerminatorHead values ≡ entryHeadAt look unit at
+      unfolding headOfCode
+      head-terminator z = sym (ap (headOfCode look at) q ∙ pick-yes _ _ _ (yes-eqb {a = code} {b = 0} z)) ∙ by-number
 
-      module _ (z : code ≡ 0 → ⊥) (f : Found) (p′ : wholeFound abbreviations f ≡ look code) where
-        pub head-unknown : f ≡ Nothing → HeadAt NoHead
-        unfolding headStep
-        head-unknown q′ e = step-unknown e abbreviations look unit at h n p code values q z f p′ q′
+      module _ (z : code ≡ 0 → ⊥) (f : Found) (p′ : f ≡ look code) where
+        by-found : headFound look at values f ≡ entryHeadAt look unit at
+        unfolding headOfCode
+        by-found = ap (headFound look at values) p′ ∙ sym (ap (headOfCode look at) q ∙ pick-no _ _ _ (no-eqb {a = code} {b = 0} z)) ∙ by-number
 
-        pub head-entry : (d : Declaration) → f ≡ Found′ d → HeadAt (Head (record { offset = record { 0 = at }; declaration = d; values = values }))
-        unfolding headStep entryTo entryStep
-        head-entry d q′ e = same (valuesAt e abbreviations (d .attributes .at) unit (values .at)) ∙ step-found e abbreviations look unit at h n p code values q z f p′ d q′
-          where
-            same : (m : Moved) → entryTo (record { offset = record { 0 = at }; declaration = d; values = values }) m ≡ entryStep e abbreviations look unit at values d m
-            same (To next) = refl
-            same Nowhere = refl
+        pub head-unknown : f ≡ Nothing → NoHead ≡ entryHeadAt look unit at
+        unfolding headFound
+        head-unknown q′ = sym (ap (headFound look at values) q′) ∙ by-found
+
+        pub head-entry : (d : Declaration) → f ≡ Found′ d → Head (record { offset = record { 0 = at }; declaration = d; values = values }) ≡ entryHeadAt look unit at
+        unfolding headFound
+        head-entry d q′ = sym (ap (headFound look at values) q′) ∙ by-found
+
+-- With where its values end a head is the step there, however the values are encoded.
+module _ (e : Encoding) (abbreviations : List ℕ) (from : ℕ) (index : List ℕ) (unit : List ℕ) (at : ℕ) where
+  abbrev heads : ℕ → Found
+  heads = findHead abbreviations from index
+
+  abbrev whole : ℕ → Found
+  whole = findAt abbreviations from index
+
+  abbrev StepOf : HeadStep → Type 0
+  StepOf r = headStep e abbreviations unit r ≡ stepAt e abbreviations whole unit at
+
+  module _ (h : at < length unit) (code : ℕ) (values : Cursor) (p : Value code values ≡ lebAt uleb unit at) (z : code ≡ 0 → ⊥) where
+    found-step : (f : Found) → wholeFound abbreviations f ≡ whole code → StepOf (headFound heads at values f)
+    unfolding headFound headStep entryTo entryStep
+    found-step Nothing q = step-unknown e abbreviations whole unit at h _ p code values refl z Nothing q refl
+    found-step (Found′ d) q =
+        same (valuesAt e abbreviations (d .attributes .at) unit (values .at)) ∙ step-found e abbreviations whole unit at h _ p code values refl z (Found′ d) q d refl
+      where
+        same : (m : Moved) → entryTo (record { offset = record { 0 = at }; declaration = d; values = values }) m ≡ entryStep e abbreviations whole unit at values d m
+        same (To next) = refl
+        same Nowhere = refl
+
+  code-step : at < length unit → (n : Number) → n ≡ lebAt uleb unit at → StepOf (headOfCode heads at n)
+  unfolding headOfCode headStep findAt
+  code-step h NoNumber p = step-none e abbreviations whole unit at h _ p refl
+  code-step h (Value code values) p =
+      pick-either StepOf (eqb code 0) (TerminatorHead values) (headFound heads at values (heads code))
+      (λ t. step-terminator e abbreviations whole unit at h _ p code values refl (eqb-yes {a = code} {b = 0} t))
+      (λ t. found-step h code values p (eqb-no {a = code} {b = 0} t) (heads code) refl)
+
+  pub entry-head-law : StepOf (entryHeadAt heads unit at)
+  unfolding entryHeadAt headStep
+  entry-head-law =
+      pick-either StepOf (ltb at (length unit)) (headOfCode heads at (lebAt uleb unit at)) EndHead
+      (λ t. code-step (ltb-yes {a = at} {b = length unit} t) _ refl)
+      (λ t. step-end e abbreviations whole unit at (ltb-no {a = at} {b = length unit} t))
+
+  -- the same, of what was read
+  pub entry-headed : (r : HeadStep) → r ≡ entryHeadAt heads unit at → StepOf r
+  entry-headed r q = ap (headStep e abbreviations unit) q ∙ entry-head-law
 
 -- a step by its head
 module _ (e : Encoding) (abbreviations : List ℕ) (look : ℕ → Found) (unit : List ℕ) (at : ℕ) (r : HeadStep) (p : headStep e abbreviations unit r ≡ stepAt e abbreviations look unit at) where

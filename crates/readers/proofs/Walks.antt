@@ -14,6 +14,7 @@ use Rattle.readers.specs.Choice.{pick, pick-yes, pick-no, pick-either, e
 use Rattle.readers.specs.Layout.{Piece, asBytes, bytesOf, readIn}
 use Rattle.readers.specs.Operations.{operation}
 use Rattle.readers.specs.Expression.{expressionIn, expression-none, expression-more}
+use Rattle.readers.specs.Fields.{partOf}
 use Rattle.readers.specs.Steps.{operationAt}
 use Rattle.readers.specs.References.{Named, namesIn, anyAbsolute, asWalk, walkOf, ownWalk, counted, named, namedType, referenceOf, namesOf}
 use Rattle.readers.specs.declared.cursor.Encoding.{Encoding}
@@ -285,12 +286,18 @@ module _ (e : Encoding) (s : List ℕ) where
             length-take-le (op .first .end - op .first .start) (drop (op .first .start) s) (omega (arith, length-drop (op .first .start) s))
 
         -- the expression of an entry value is shorter
-        pub part-less : length part < length s
-        part-less =
+        pub part-less : (x : List ℕ) → x ≡ partOf s (op .first) → length x < length s
+        unfolding partOf
+        part-less x p =
             let i : (at < op .next .at) × (op .next .at ≤ length s) × (at < op .first .start) × (op .first .start ≤ op .first .end) × (op .first .end ≤ op .next .at) = within in
+            let j : length x ≡ length part = ap length p in
             omega (arith, part-size)
 
-        module _ (t : op .row ≡ 19) (u : Walk) (same : u ≡ walkOf e part) where
+        module _ (t : op .row ≡ 19) (x : List ℕ) (p : x ≡ partOf s (op .first)) (u : Walk) (read : u ≡ walkOf e x) where
+          same : u ≡ walkOf e part
+          unfolding partOf
+          same = read ∙ ap (walkOf e) p
+
           abbrev by-entry : walkFrom e s at ≡ join (walkOf e part) (walkFrom e s (op .next .at))
           by-entry = walk-entry e s at op there (yes-eqb {a = op .row} {b = 19} t)
 

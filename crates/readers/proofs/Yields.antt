@@ -17,7 +17,7 @@ use Rattle.readers.specs.Operations.{operation}
 use Rattle.readers.specs.Expression.{expressionIn, expression-none, expression-more, expression-law, write-pieces}
 use Rattle.readers.specs.Fields.{size, fieldOf, rowOfReads}
 use Rattle.readers.specs.Steps.{asOperation, rowOperation, operationOfReads, operationAt}
-use Rattle.readers.specs.References.{Named, namesIn, referenceOf, named, namedType, encodedBy, namesOf, yieldTurn, operationTurn, walkTurn, yielded, nextReference, flatOperation, flatTurn, flat, flattened, flatFrom}
+use Rattle.readers.specs.References.{Named, namesIn, referenceOf, named, namedType, encodedBy, namesOf, yieldTurn, operationTurn, walkTurn, yielded, nextReference, flatOperation, flatTurn, flat, flattened, flatFrom, Yields, no-more, one-more}
 use Rattle.readers.specs.declared.cursor.Encoding.{Encoding}
 use Rattle.readers.specs.declared.cursor.Cursor.{Cursor}
 use Rattle.readers.specs.declared.fields.Field.{Field}
@@ -241,6 +241,25 @@ module _ (e : Encoding) (s : List ℕ) where
   -- the next reference is the first of those from here on
   pub flat-next : (at : ℕ) → flatFrom e s at ≡ flatBy (nextReference e s at)
   flat-next at = by-within (length s - at) at (omega arith)
+
+  -- one after the other, these are all
+  none-left : (at : ℕ) (y : Yield) → nextReference e s at ≡ y → flatBy y ≡ [] → Yields e s at []
+  unfolding flatBy
+  none-left at End p h = no-more p
+  none-left at (Yielded r) p h = let z : _≡_ {A = ℕ} 0 1 = cc in absurd (omega arith)
+
+  one-left : (x : Named) (xs : List Named) → ((n : ℕ) → flatFrom e s n ≡ xs → Yields e s n xs) → (at : ℕ) (y : Yield) → nextReference e s at ≡ y → flatBy y ≡ x ∷ xs
+      → Yields e s at (x ∷ xs)
+  unfolding flatBy
+  one-left x xs ih at End p h = let z : _≡_ {A = ℕ} 0 1 = cc in absurd (omega arith)
+  one-left x xs ih at (Yielded r) p h =
+      let i : (r .place, r .target .0, encodedBy (r .leb) (r .width)) ≡ x = cc in
+      let j : flatFrom e s (r .next .at) ≡ xs = cc in
+      subst (λ z. Yields e s at (z ∷ xs)) i (one-more r p (ih (r .next .at) j))
+
+  pub yields : (rs : List Named) (at : ℕ) → flatFrom e s at ≡ rs → Yields e s at rs
+  yields [] at q = none-left at _ refl (sym (flat-next at) ∙ q)
+  yields (x ∷ xs) at q = one-left x xs (yields xs) at _ refl (sym (flat-next at) ∙ q)
 
   -- ---- their widths
 

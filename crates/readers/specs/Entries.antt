@@ -10,10 +10,13 @@ use Rattle.readers.specs.Layout.{leb128, number, Layout, done, fail, fie
 use Rattle.readers.specs.Forms.{attributeLayout}
 use Rattle.readers.specs.Scan.{Scanned}
 use Rattle.readers.specs.Abbreviations.{attributesFrom}
-use Rattle.readers.specs.Cursors.{cursor}
+use Rattle.readers.specs.Numbers.{uleb}
+use Rattle.readers.specs.Cursors.{cursor, lebAt}
 use Rattle.readers.specs.Fields.{size, fieldOf}
 use Rattle.readers.specs.declared.cursor.Encoding.{Encoding}
 use Rattle.readers.specs.declared.cursor.Cursor.{Cursor}
+use Rattle.readers.specs.declared.cursor.Number.{Number}
+use Rattle.readers.specs.declared.cursor.Number.the-variants.{Value, Unreadable as NoNumber}
 use Rattle.readers.specs.declared.cursor.Moved.{Moved}
 use Rattle.readers.specs.declared.cursor.Moved.the-variants.{To, Unreadable as Nowhere}
 use Rattle.readers.specs.declared.abbreviations.AttributeSpec.{AttributeSpec}
@@ -104,6 +107,21 @@ module _ (e : Encoding) (abbreviations : List ℕ) (look : ℕ → Found) where
   -- the entry or terminator at a place of the unit; its end ends the stream
   unfoldable pub stepAt : List ℕ → ℕ → Step
   stepAt unit at = pick (ltb at (length unit)) (asStep at (readIn (e .«big_endian») asBytes entryLayout (drop at unit))) End
+
+-- ---- the head of an entry: its code and what that declares, the values of its attributes unread
+
+module _ (look : ℕ → Found) where
+  unfoldable pub headFound : ℕ → Cursor → Found → HeadStep
+  headFound at values Nothing = NoHead
+  headFound at values (Found′ d) = Head (record { offset = record { 0 = at }; declaration = d; values = values })
+
+  unfoldable pub headOfCode : ℕ → Number → HeadStep
+  headOfCode at NoNumber = NoHead
+  headOfCode at (Value code values) = pick (eqb code 0) (TerminatorHead values) (headFound at values (look code))
+
+  -- the head of the entry, or the terminator, at a place of the unit; its end ends the stream
+  unfoldable pub entryHeadAt : List ℕ → ℕ → HeadStep
+  entryHeadAt unit at = pick (ltb at (length unit)) (headOfCode at (lebAt uleb unit at)) EndHead
 
 -- ---- an entry by its head
 

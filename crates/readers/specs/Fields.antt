@@ -86,11 +86,10 @@ numberAt e s at t =
     (pick (eqb t 10) (fixedAt (e .«big_endian») (e .«offset_size») s at)
     (lebAt uleb s at)))
 
--- the part of a slice that a field's payload is
-unfoldable pub partOf : List ℕ → FieldRead → List ℕ
-partOf s (Field′ f) = take (f .end - f .start) (drop (f .start) s)
-partOf s NoField = []
+-- an exprloc (7.5.5, class exprloc): a length, and that many bytes
+unfoldable pub exprlocAt : List ℕ → ℕ → FieldRead
+exprlocAt s at = blockField s (lebAt uleb s at)
 
--- the expression of an exprloc (7.5.5, class exprloc), after its length
-unfoldable pub exprlocAt : List ℕ → ℕ → List ℕ
-exprlocAt s at = partOf s (blockField s (lebAt uleb s at))
+-- the part of a slice that a field's payload is; of an exprloc the expression after its length
+unfoldable pub partOf : List ℕ → Field → List ℕ
+partOf s f = take (f .end - f .start) (drop (f .start) s)

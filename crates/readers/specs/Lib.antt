@@ -11,11 +11,12 @@ pub mod Fields
 pub mod Steps
 pub mod References
 pub mod Header
-pub mod Refusals
+pub mod RefusalNumbers
 pub mod Lists
 pub mod Slots
 pub mod Abbreviations
 pub mod Entries
 pub mod Stream
 pub mod Nesting
+pub mod Refusals
 pub mod Examples

@@ -12,6 +12,7 @@ use Rattle.readers.specs.Layout.{Encoded, infixed, inleb, width, Role, r
 use Rattle.readers.specs.Expression.{expressionIn}
 use Rattle.readers.specs.Scan.{Turn, more, stop, Scanned, scan}
 use Rattle.readers.specs.Steps.{operationAt}
+use Rattle.readers.specs.Refusals.{refusalOfWalk}
 use Rattle.readers.specs.declared.cursor.Encoding.{Encoding}
 use Rattle.readers.specs.declared.cursor.Cursor.{Cursor}
 use Rattle.readers.specs.declared.fields.Field.{Field}
@@ -123,6 +124,13 @@ unfoldable pub namesOf : Yield → List Named
 namesOf (Yielded r) = (r .place, r .target .0, encodedBy (r .leb) (r .width)) ∷ []
 namesOf End = []
 
+-- Reference after reference from a place on, each from where the one before it ends, until there is none. `walked-yields` (proofs/Answers.antt): from the start of
+-- a readable expression these are its references. From any other place they are what the bytes there say, read as operations, past the end of a nested part too.
+pub data Yields (e : Encoding) (s : List ℕ) : ℕ → List Named → Type 0 where
+  no-more : {at : ℕ} → nextReference e s at ≡ End → Yields e s at []
+  one-more : {at : ℕ} {rs : List Named} (r : Reference) → nextReference e s at ≡ Yielded r → Yields e s (r .next .at) rs
+      → Yields e s at ((r .place, r .target .0, encodedBy (r .leb) (r .width)) ∷ rs)
+
 unfoldable pub flatOperation : OperationRead → Turn (List Named) (Unit {0})
 flatOperation (Operation′ op) = pick (eqb (op .row) 19) (more [] (op .first .start)) (more (namesOf (referenceOf op)) (op .next .at))
 flatOperation NoOperation = stop tt
@@ -145,8 +153,8 @@ flatFrom e s at = flattened (scan (length s) (flatTurn e s) at)
 
 -- in this order 2, 5, 7, 11; a table holds a third as many references as numbers
 unfoldable pub walkAnswer : ℕ → Walk → References
-walkAnswer room Unreadable = Refused 5
-walkAnswer room (Walked n true) = Refused 7
+walkAnswer room Unreadable = Refused (refusalOfWalk Unreadable)
+walkAnswer room (Walked n true) = Refused (refusalOfWalk (Walked n true))
 walkAnswer room (Walked n false) = pick (leb n room) (Count n) (Refused 11)
 
 unfoldable pub referencesAnswer : ℕ → ℕ → List ℕ → References

@@ -1,18 +1,69 @@
--- The numbers that the calls of this crate refuse with (document 01, "Operations and their numbers").
-use mathlib.Core.Path.{_≡_}
+-- Document 01's numbers of refusal, for each case of what a reader answers; 0 where it refuses nothing.
 use Prim.Native.Nat.{ℕ}
-use mathlib.Core.Logic.{_⊎_}
-use mathlib.Core.List.{List, [], _∷_}
+use mathlib.Core.Bool.{true, false}
+use Rattle.readers.specs.declared.cursor.Moved.{Moved}
+use Rattle.readers.specs.declared.cursor.Moved.the-variants.{To, Unreadable as Nowhere}
+use Rattle.readers.specs.declared.header.HeaderRead.{HeaderRead}
+use Rattle.readers.specs.declared.header.HeaderRead.the-variants.{Unit as Unit′, Empty, Refused as Unheaded}
+use Rattle.readers.specs.declared.abbreviations.Checked.{Checked}
+use Rattle.readers.specs.declared.abbreviations.Checked.the-variants.{Accepted, Refused as Unchecked}
+use Rattle.readers.specs.declared.entries.Step.{Step}
+use Rattle.readers.specs.declared.entries.Step.the-variants.{Entry as Entry′, Terminator, End, Unreadable}
+use Rattle.readers.specs.declared.entries.HeadStep.{HeadStep}
+use Rattle.readers.specs.declared.entries.HeadStep.the-variants.{Entry as Head, Terminator as TerminatorHead, End as EndHead, Unreadable as NoHead}
+use Rattle.readers.specs.declared.operations.OperationRead.{OperationRead}
+use Rattle.readers.specs.declared.operations.OperationRead.the-variants.{Read as Operation′, Unreadable as NoOperation}
+use Rattle.readers.specs.declared.operations.ListStep.{ListStep}
+use Rattle.readers.specs.declared.operations.ListStep.the-variants.{Entry as ListEntry′, End as ListEnd, Unreadable as NoEntry}
+use Rattle.readers.specs.declared.expressions.Walk.{Walk}
+use Rattle.readers.specs.declared.expressions.Walk.the-variants.{Walked, Unreadable as Unwalked}
+use Rattle.readers.specs.declared.expressions.References.{References}
+use Rattle.readers.specs.declared.expressions.References.the-variants.{Count, Refused as NoReferences}
 
--- n is one of some numbers
-unfoldable pub OneOf : List ℕ → ℕ → Type 0
-OneOf [] n = ⊥
-OneOf (m ∷ ms) n = (n ≡ m) ⊎ OneOf ms n
+-- 1 or 2 (specs/Header.antt)
+abbrev pub refusalOfHeader : HeaderRead → ℕ
+refusalOfHeader (Unit′ h) = 0
+refusalOfHeader Empty = 0
+refusalOfHeader (Unheaded n) = n
 
--- "Header in byte order: 1 cut short .., 2 a value outside the domain"
-abbrev pub HeaderRefusal : ℕ → Type 0
-HeaderRefusal n = OneOf (1 ∷ 2 ∷ []) n
+-- 3: the abbreviations
+abbrev pub refusalOfChecked : Checked → ℕ
+refusalOfChecked Accepted = 0
+refusalOfChecked Unchecked = 3
 
--- "references of an expression. In this order 2 (address size not 4 or 8), 5, 7, 11"
-abbrev pub ReferencesRefusal : ℕ → Type 0
-ReferencesRefusal n = OneOf (2 ∷ 5 ∷ 7 ∷ 11 ∷ []) n
+-- 4: an entry, its values too
+abbrev pub refusalOfStep : Step → ℕ
+refusalOfStep (Entry′ x) = 0
+refusalOfStep (Terminator c) = 0
+refusalOfStep End = 0
+refusalOfStep Unreadable = 4
+
+abbrev pub refusalOfHead : HeadStep → ℕ
+refusalOfHead (Head x) = 0
+refusalOfHead (TerminatorHead c) = 0
+refusalOfHead EndHead = 0
+refusalOfHead NoHead = 4
+
+abbrev pub refusalOfValues : Moved → ℕ
+refusalOfValues (To c) = 0
+refusalOfValues Nowhere = 4
+
+-- 5: an operation, an expression or a list; 7: an expression that names something by an offset in the section
+abbrev pub refusalOfOperation : OperationRead → ℕ
+refusalOfOperation (Operation′ op) = 0
+refusalOfOperation NoOperation = 5
+
+abbrev pub refusalOfList : ListStep → ℕ
+refusalOfList (ListEntry′ x) = 0
+refusalOfList ListEnd = 0
+refusalOfList NoEntry = 5
+
+abbrev pub refusalOfWalk : Walk → ℕ
+refusalOfWalk (Walked n false) = 0
+refusalOfWalk (Walked n true) = 7
+refusalOfWalk Unwalked = 5
+
+-- 2, 5, 7 or 11 (specs/References.antt)
+abbrev pub refusalOfReferences : References → ℕ
+refusalOfReferences (Count n) = 0
+refusalOfReferences (NoReferences n) = n

@@ -110,12 +110,12 @@ impl Cursor {
     pub fn past_attributes(self, s: &[u8]) -> Moved
         ensures { λ r. ⌜ r ≡ pastAttributes (now (s .entry)) (self .at) ⌝ }
     {
-        let mut at = self.at;
+        let mut c = self;
         loop {
-            match (Cursor { at }).attribute_spec(s) {
+            match c.attribute_spec(s) {
                 SpecStep::Attribute(a) => {
                     let next = a.next;
-                    at = next.at;
+                    c = next;
                 }
                 SpecStep::Last(next) => {
                     return Moved::To(next);
@@ -181,14 +181,14 @@ impl Cursor {
     pub fn search(self, s: &[u8], to: usize, code: u64) -> Found
         ensures { λ r. ⌜ r ≡ searchAt (now (s .entry)) to code (self .at) ⌝ }
     {
-        let mut at = self.at;
-        while at < to {
-            match (Cursor { at }).declaration(s) {
+        let mut c = self;
+        while c.at < to {
+            match c.declaration(s) {
                 DeclarationStep::Declaration(d, next) => {
                     if d.code == code {
                         return Found::Declaration(d);
                     }
-                    at = next.at;
+                    c = next;
                 }
                 DeclarationStep::Last(_) => {
                     return Found::Nothing;
@@ -207,18 +207,18 @@ fn gather(s: &[u8], start: usize, index: &mut [u64]) -> Count
     ensures counted { λ r. ⌜ r ≡ countOf (declarationsFrom (now (s .entry)) start) ⌝ }
     ensures gathered { λ r. ⌜ Gathered (now (s .entry)) start (now (index .entry)) (now (index .exit)) ⌝ }
 {
-    let mut at = start;
+    let mut c = Cursor { at: start };
     let mut count: usize = 0;
     loop {
-        match (Cursor { at }).declaration(s) {
+        match c.declaration(s) {
             DeclarationStep::Declaration(_, next) => {
                 if count < index.len() {
-                    index[count] = (at as u64) + 1;
+                    index[count] = (c.at as u64) + 1;
                     count += 1;
-                    at = next.at;
+                    c = next;
                 } else {
                     count += 1;
-                    at = next.at;
+                    c = next;
                 }
             }
             DeclarationStep::Last(_) => {
@@ -236,14 +236,14 @@ fn gather(s: &[u8], start: usize, index: &mut [u64]) -> Count
 fn check_plain(s: &[u8], start: usize) -> Checked
     ensures { λ r. ⌜ r ≡ checkedOf (now (s .entry)) start ⌝ }
 {
-    let mut at = start;
+    let mut c = Cursor { at: start };
     loop {
-        match (Cursor { at }).declaration(s) {
+        match c.declaration(s) {
             DeclarationStep::Declaration(d, next) => {
-                if let Found::Declaration(_) = (Cursor { at: start }).search(s, at, d.code) {
+                if let Found::Declaration(_) = (Cursor { at: start }).search(s, c.at, d.code) {
                     return Checked::Refused;
                 }
-                at = next.at;
+                c = next;
             }
             DeclarationStep::Last(_) => {
                 return Checked::Accepted;

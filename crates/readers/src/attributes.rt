@@ -177,7 +177,7 @@ impl Cursor {
         match self.attribute(s, name, form, e) {
             AttributeRead::Read(a) => {
                 let field = a.field;
-                Moved::To(Cursor { at: field.end })
+                Moved::To(field.next())
             }
             AttributeRead::Unreadable => Moved::Unreadable,
         }

@@ -1,10 +1,9 @@
 // The entries and terminators of a unit, one after the other (DWARF 5, 7.5.2 and 2.3), and how they nest.
 ghost use mathlib.Core.Path.{_≡_};
 ghost use mathlib.Core.List.{[]};
-ghost use Rattle.readers.specs.Entries.{valuesAt, stepAt, headStep};
-ghost use Rattle.readers.specs.Abbreviations.{findAt};
+ghost use Rattle.readers.specs.Entries.{valuesAt, stepAt, entryHeadAt};
+ghost use Rattle.readers.specs.Abbreviations.{findAt, findHead};
 ghost use Rattle.readers.specs.Nesting.{nestingOf, opened, closed};
-ghost use Rattle.readers.specs.declared.cursor.Encoding.{Encoding as Encoded};
 use crate::abbreviations::Declaration;
 use crate::abbreviations::Found;
 use crate::abbreviations::SpecStep;
@@ -58,21 +57,20 @@ impl Cursor {
     pub fn past_values(self, unit: &[u8], abbreviations: &[u8], specs: Cursor, e: Encoding) -> Moved
         ensures { λ r. ⌜ r ≡ valuesAt e (now (abbreviations .entry)) (specs .at) (now (unit .entry)) (self .at) ⌝ }
     {
-        let mut at = self.at;
-        let mut p = specs.at;
+        let mut c = self;
+        let mut p = specs;
         loop {
-            match (Cursor { at: p }).attribute_spec(abbreviations) {
+            match p.attribute_spec(abbreviations) {
                 SpecStep::Attribute(a) => {
                     let next = a.next;
-                    let Moved::To(past) = (Cursor { at }).past_attribute(unit, a.name, a.form, e)
-                    else {
+                    let Moved::To(past) = c.past_attribute(unit, a.name, a.form, e) else {
                         return Moved::Unreadable;
                     };
-                    at = past.at;
-                    p = next.at;
+                    c = past;
+                    p = next;
                 }
                 SpecStep::Last(_) => {
-                    return Moved::To(Cursor { at });
+                    return Moved::To(c);
                 }
                 SpecStep::Unreadable => {
                     return Moved::Unreadable;
@@ -81,10 +79,10 @@ impl Cursor {
         }
     }
 
-    // The head of the entry, or the terminator, at a place of a unit, by the abbreviations from an offset on and their index. With where its values end it is the step
-    // there, however they are encoded.
+    // The head of the entry, or the terminator, at a place of a unit, by the abbreviations from an offset on and their index. A code that is not declared
+    // is unreadable. With where its values end it is the step there (`entry-headed` in proofs/Values.antt).
     pub fn entry_head(self, unit: &[u8], abbreviations: &[u8], from: u64, index: &[u64]) -> HeadStep
-        ensures { λ r. ⌜ ((e : Encoded) → headStep e (now (abbreviations .entry)) (now (unit .entry)) r ≡ stepAt e (now (abbreviations .entry)) (findAt (now (abbreviations .entry)) from (now (index .entry))) (now (unit .entry)) (self .at)) ⌝ }
+        ensures { λ r. ⌜ r ≡ entryHeadAt (findHead (now (abbreviations .entry)) from (now (index .entry))) (now (unit .entry)) (self .at) ⌝ }
     {
         let at = self.at;
         if at >= unit.len() {

@@ -141,29 +141,27 @@ fn either(a: bool, b: bool) -> bool
 pub fn walk_expression(s: &[u8], e: Encoding) -> Walk
     ensures { λ r. ⌜ r ≡ walkOf e (now (s .entry)) ⌝ }
 {
-    let mut at: usize = 0;
+    let mut c = Cursor { at: 0 };
     let mut references: usize = 0;
     let mut absolute = false;
-    while at < s.len() {
-        let OperationRead::Read(op) = (Cursor { at }).operation(s, e) else {
+    while c.at < s.len() {
+        let OperationRead::Read(op) = c.operation(s, e) else {
             return Walk::Unreadable;
         };
         let row = op.row;
         let first = op.first;
         let next = op.next;
         if row == 19 {
-            let from = first.start;
-            let to = first.end;
             let Walk::Walked {
                 references: more,
                 absolute: named,
-            } = walk_expression(&s[from..to], e)
+            } = walk_expression(first.expression(s), e)
             else {
                 return Walk::Unreadable;
             };
             references += more;
             absolute = either(absolute, named);
-            at = next.at;
+            c = next;
         } else {
             let Walk::Walked {
                 references: more,
@@ -174,7 +172,7 @@ pub fn walk_expression(s: &[u8], e: Encoding) -> Walk
             };
             references += more;
             absolute = either(absolute, named);
-            at = next.at;
+            c = next;
         }
     }
     Walk::Walked {
@@ -184,27 +182,30 @@ pub fn walk_expression(s: &[u8], e: Encoding) -> Walk
 }
 
 impl Cursor {
-    // The next reference of an expression, at or after a place. The walk goes on inside an entry value, so that it passes each byte once.
+    // The next reference of an expression, at or after a place. The walk goes on inside an entry value, so that it passes each byte once. It must start at 0 of an
+    // expression that walk_expression walked to its end, and go on from each reference's `next`: then it yields the expression's references, each once, in their
+    // order (`walked-yields` in proofs/Answers.antt). From any other place it yields what the bytes there say, read as operations: it can't tell where a nested part
+    // ends.
     pub fn next_reference(self, s: &[u8], e: Encoding) -> Yield
         ensures { λ r. ⌜ r ≡ nextReference e (now (s .entry)) (self .at) ⌝ }
     {
-        let mut at = self.at;
-        while at < s.len() {
-            let OperationRead::Read(op) = (Cursor { at }).operation(s, e) else {
+        let mut c = self;
+        while c.at < s.len() {
+            let OperationRead::Read(op) = c.operation(s, e) else {
                 return Yield::End;
             };
             let row = op.row;
             let first = op.first;
             let next = op.next;
             if row == 19 {
-                at = first.start;
+                c = Cursor { at: first.start };
             } else {
                 match reference_of(op) {
                     Yield::Reference(r) => {
                         return Yield::Reference(r);
                     }
                     Yield::End => {
-                        at = next.at;
+                        c = next;
                     }
                 }
             }
@@ -253,10 +254,10 @@ fn fill_references(s: &[u8], e: Encoding, table: &mut [u64], count: usize)
     requires { ⌜ Room (flatFrom e (now s) 0) (now table) count ⌝ }
     ensures { λ _. ⌜ now (table .exit) ≡ numbersOf (flatFrom e (now (s .entry)) 0) ++ zeros (length (now (table .entry)) - 3 * count) ⌝ }
 {
-    let mut at: usize = 0;
+    let mut c = Cursor { at: 0 };
     let mut i: usize = 0;
     while i < count {
-        let Yield::Reference(r) = (Cursor { at }).next_reference(s, e) else {
+        let Yield::Reference(r) = c.next_reference(s, e) else {
             return;
         };
         let target = r.target;
@@ -264,7 +265,7 @@ fn fill_references(s: &[u8], e: Encoding, table: &mut [u64], count: usize)
         table[3 * i] = r.place as u64;
         table[3 * i + 1] = target.0;
         table[3 * i + 2] = r.width as u64;
-        at = next.at;
+        c = next;
         i += 1;
     }
 }

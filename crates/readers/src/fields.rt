@@ -1,6 +1,7 @@
 // One token of a layout, read by its number, and rows of up to three of them.
 ghost use mathlib.Core.Path.{_≡_};
-ghost use Rattle.readers.specs.Fields.{numberField, blockField, boundedField, numberAt, fieldAt, rowAt, exprlocAt};
+ghost use Rattle.readers.specs.Fields.{numberField, blockField, boundedField, numberAt, fieldAt, rowAt, exprlocAt, partOf};
+ghost use Rattle.readers.specs.Cursors.{cursor};
 use crate::cursor::Cursor;
 use crate::cursor::Encoding;
 use crate::cursor::Moved;
@@ -253,8 +254,11 @@ impl Cursor {
         if token == 17 {
             return block_field(s, self.number(s, 4, e));
         }
-        if token <= 19 {
+        if token == 18 {
             return block_field(s, self.uleb(s));
+        }
+        if token == 19 {
+            return self.exprloc(s);
         }
         if token == 20 {
             return bounded_field(at, self.uleb(s));
@@ -273,10 +277,10 @@ impl Cursor {
         let FieldRead::Read(first) = self.field(s, FIRST[l], e) else {
             return RowRead::Unreadable;
         };
-        let FieldRead::Read(second) = (Cursor { at: first.end }).field(s, SECOND[l], e) else {
+        let FieldRead::Read(second) = first.next().field(s, SECOND[l], e) else {
             return RowRead::Unreadable;
         };
-        let FieldRead::Read(third) = (Cursor { at: second.end }).field(s, THIRD[l], e) else {
+        let FieldRead::Read(third) = second.next().field(s, THIRD[l], e) else {
             return RowRead::Unreadable;
         };
         RowRead::Read(Row {
@@ -286,20 +290,38 @@ impl Cursor {
         })
     }
 
-    // The part of the slice that is the expression of an exprloc: what follows its length, or nothing where it can't be read.
-    pub fn exprloc<'a>(self, s: &'a [u8]) -> &'a [u8]
-        ensures { λ r. ⌜ now r ≡ exprlocAt (now (s .entry)) (self .at) ⌝ }
+    // An exprloc: a length, and that many bytes. Unreadable where its length is, or where the bytes are not there; so an unreadable one is told from one
+    // of no bytes.
+    pub fn exprloc(self, s: &[u8]) -> FieldRead
+        ensures { λ r. ⌜ r ≡ exprlocAt (now (s .entry)) (self .at) ⌝ }
     {
-        let FieldRead::Read(f) = block_field(s, self.uleb(s)) else {
+        block_field(s, self.uleb(s))
+    }
+}
+
+impl Field {
+    // The part of the slice that the field's payload is, as far as the slice has it: of an exprloc the expression after its length.
+    pub fn expression<'a>(self, s: &'a [u8]) -> &'a [u8]
+        ensures { λ r. ⌜ now r ≡ partOf (now (s .entry)) self ⌝ }
+    {
+        let start = self.start;
+        let end = self.end;
+        if start >= end {
             return &s[0..0];
-        };
-        let start = f.start;
-        let end = f.end;
-        if start <= end {
-            if end <= s.len() {
-                return &s[start..end];
-            }
         }
-        &s[0..0]
+        if start >= s.len() {
+            return &s[0..0];
+        }
+        if end > s.len() {
+            return &s[start..];
+        }
+        &s[start..end]
+    }
+
+    // The cursor past the field.
+    pub fn next(self) -> Cursor
+        ensures { λ r. ⌜ r ≡ cursor (self .end) ⌝ }
+    {
+        Cursor { at: self.end }
     }
 }

@@ -346,7 +346,7 @@ impl Cursor {
             row,
             first,
             second,
-            next: Cursor { at: third.end },
+            next: third.next(),
         })
     }
 
@@ -374,7 +374,7 @@ impl Cursor {
             first,
             second,
             third,
-            next: Cursor { at: third.end },
+            next: third.next(),
         })
     }
 }

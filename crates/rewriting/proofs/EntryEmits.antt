@@ -161,7 +161,7 @@ module _ (e : Encoding) (l : e .«big_endian» ≡ false) where
         → Taken abbreviations p unit from x
     unfolding taken
     taken-value x a q (Attribute′ v) k g =
-        let z : record { name = a .name; declared = a .form; value = v; next = a .next } ≡ x = cc in
+        let z : record { name = a .name; declared = a .form; value = v; next = a .next; values = cursor (v .field .end) } ≡ x = cc in
         record {
           spec = a;
           there = q;

@@ -11,7 +11,7 @@ use lib.ListN.{length, take}
 use lib.Dec.{T, leb, eqb}
 use mir.Facts.{eqb-no, leb-yes, leb-no}
 use Rattle.readers.specs.Choice.{pick, pick-either, _and_, _or_}
-use Rattle.readers.specs.Refusals.{OneOf}
+use Rattle.readers.specs.RefusalNumbers.{OneOf}
 use Rattle.readers.specs.Abbreviations.{Placed, abbreviationsOf}
 use Rattle.readers.specs.Header.{headerOf}
 use Rattle.readers.specs.Layout.{Piece, copied, linked, Read}

@@ -6,7 +6,7 @@ use mathlib.Core.Bool.{Bool, true, false}
 use mathlib.Core.List.{List, [], _∷_}
 use mathlib.Core.Option.{Option, none, some}
 use lib.ListN.{length, take}
-use Rattle.readers.specs.Refusals.{OneOf, HeaderRefusal}
+use Rattle.readers.specs.RefusalNumbers.{OneOf, HeaderRefusal}
 use Rattle.readers.specs.Abbreviations.{Placed, abbreviationsOf}
 use Rattle.readers.specs.Header.{headerOf}
 use Rattle.readers.specs.declared.header.UnitHeader.{UnitHeader}
@@ -14,7 +14,7 @@ use Rattle.readers.specs.declared.header.HeaderRead.the-variants.{Unit as Heade
 use Rattle.marking.specs.Analysis.{Sections, Row, analysed, refused as notAnalysed, analysisOf}
 use Rattle.marking.specs.Marks.{keptCount}
 use Rattle.marking.specs.Resolution.{marksIn}
-use Rattle.marking.specs.Refusals.{EntriesRefusal}
+use Rattle.marking.specs.RefusalNumbers.{EntriesRefusal}
 use Rattle.rewriting.specs.Places.{Standing, keptFrom, placesFrom, sizeFrom}
 use Rattle.rewriting.specs.Rewriting.{Unit as Unit′, itemsIn, Lists, listsOf, refusalFrom, Room, listsFit}
 

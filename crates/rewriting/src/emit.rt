@@ -28,7 +28,6 @@ use crate::map::new_offset;
 use crate::numbers::put_bytes;
 use crate::numbers::put_number;
 use crate::siblings::sibling_offset;
-use marking::references::part;
 use marking::root_test::EntryAttribute;
 use marking::root_test::NextAttribute;
 use marking::root_test::next_attribute;
@@ -220,7 +219,7 @@ fn emit_attribute(
     let to = emit_bytes(unit, values, field.start, out, at);
     let leb = is_leb(form);
     if form == 0x18 {
-        return emit_expression(part(unit, field), e, map, places, out, to);
+        return emit_expression(field.expression(unit), e, map, places, out, to);
     }
     if form >= 0x11 {
         if form <= 0x15 {

@@ -8,20 +8,20 @@ use Rattle.readers.specs.Abbreviations.{findAt}
 use Rattle.marking.specs.Analysis.{sections, rooms, unitAnalysed, valuesOfEntry, baseOf}
 use Rattle.marking.proofs.EntryAnswers.{length-entry-table}
 use Rattle.readers.proofs.Streams.{terminator-inside}
-use Rattle.readers.proofs.Values.{headed as head-step, headed-terminator, headed-end, headed-none}
+use Rattle.readers.proofs.Values.{entry-headed, headed as head-step, headed-terminator, headed-end, headed-none}
 use Rattle.marking.proofs.Stages.{Stage, stage-start, stage-terminator, stage-end, stage-unreadable, head-full, head-refused, head-ahead, head-over, head-entry}
 use Rattle.marking.proofs.analysis.analyse_entries.Statement.{statement}
 use Rattle.marking.proofs.analysis.analyse_entries.Tie as tie
 
 abbrev Inv-loop : tie.InvT-loop
-Inv-loop unit abbreviations from index e locations ranges addresses ranges-base entry-room reference-room offsets₀ parents₀ roots₀ ends₀ targets₀ at₀ count₀ to₀ nesting₀ rnglists-base₀ loclists-base₀ offsets parents roots ends targets at count to nesting rnglists-base loclists-base =
+Inv-loop unit abbreviations from index e locations ranges addresses ranges-base entry-room reference-room offsets₀ parents₀ roots₀ ends₀ targets₀ c₀ count₀ to₀ nesting₀ rnglists-base₀ loclists-base₀ offsets parents roots ends targets c count to nesting rnglists-base loclists-base =
     Stage e (sections abbreviations locations ranges addresses ranges-base) unit (rooms entry-room reference-room) (findAt abbreviations from index)
-    (unitAnalysed e (sections abbreviations locations ranges addresses ranges-base) unit (rooms entry-room reference-room) from at₀)
-    offsets₀ parents₀ roots₀ ends₀ targets₀ offsets parents roots ends targets at count to nesting rnglists-base loclists-base
+    (unitAnalysed e (sections abbreviations locations ranges addresses ranges-base) unit (rooms entry-room reference-room) from (c₀ .at))
+    offsets₀ parents₀ roots₀ ends₀ targets₀ offsets parents roots ends targets (c .at) count to nesting rnglists-base loclists-base
 
 abbrev μ-loop : tie.MeasureT-loop
-μ-loop unit abbreviations from index e locations ranges addresses ranges-base entry-room reference-room offsets₀ parents₀ roots₀ ends₀ targets₀ at₀ count₀ to₀ nesting₀ rnglists-base₀ loclists-base₀ offsets parents roots ends targets at count to nesting rnglists-base loclists-base =
-    length unit - at
+μ-loop unit abbreviations from index e locations ranges addresses ranges-base entry-room reference-room offsets₀ parents₀ roots₀ ends₀ targets₀ c₀ count₀ to₀ nesting₀ rnglists-base₀ loclists-base₀ offsets parents roots ends targets c count to nesting rnglists-base loclists-base =
+    length unit - c .at
 
 outside-requires : tie.Need-outside-requires Inv-loop μ-loop
 outside-requires c κs = tt
@@ -54,7 +54,7 @@ same-length-5 : tie.Need-same-length-5 Inv-loop μ-loop
 same-length-5 c = c .before .before .before .before .before .before .loop .inv .targets-are .size
 
 returns : tie.Need-returns Inv-loop μ-loop
-returns c = head-full (c .before .before .before .before .before .before .loop .inv) _ _ (head-step _ _ _ _ _ _ (c .before .before .before .before .before .entry-head .ensures _) _ (c .before .before .before .x .given .1) _ refl) _ (c .refusal .ensures) (c .before .if1 .taken)
+returns c = head-full (c .before .before .before .before .before .before .loop .inv) _ _ (head-step _ _ _ _ _ _ (entry-headed _ _ _ _ _ _ _ (c .before .before .before .before .before .entry-head .ensures)) _ (c .before .before .before .x .given .1) _ refl) _ (c .refusal .ensures) (c .before .if1 .taken)
 
 base-after-requires : tie.Need-base-after-requires Inv-loop μ-loop
 base-after-requires c κs = tt
@@ -85,7 +85,7 @@ same-length-10 c = ap length (c .before .before .before .before .before .analyse
 
 returns-2 : tie.Need-returns-2 Inv-loop μ-loop
 unfolding valuesOfEntry baseOf
-returns-2 c = head-refused (c .before .before .before .before .before .before .before .before .before .before .before .before .before .before .before .before .before .before .loop .inv) _ _ (head-step _ _ _ _ _ _ (c .before .before .before .before .before .before .before .before .before .before .before .before .before .before .before .before .before .entry-head .ensures _) _ (c .before .before .before .before .before .before .before .before .before .before .before .before .before .before .before .x .given .1) _ refl) (c .before .before .before .before .before .before .before .before .before .before .before .before .before .if1 .left) _ _ (c .before .before .before .before .before .before .before .before .base-after .ensures) (c .before .before .before .before .before .before .before .base-after2 .ensures) _ (c .before .before .before .before .before .analyse-entry .ensures .1) _ (sym (c .before .n .given .1) ∙ c .before .before .before .before .before .analyse-entry .ensures .0)
+returns-2 c = head-refused (c .before .before .before .before .before .before .before .before .before .before .before .before .before .before .before .before .before .before .loop .inv) _ _ (head-step _ _ _ _ _ _ (entry-headed _ _ _ _ _ _ _ (c .before .before .before .before .before .before .before .before .before .before .before .before .before .before .before .before .before .entry-head .ensures)) _ (c .before .before .before .before .before .before .before .before .before .before .before .before .before .before .before .x .given .1) _ refl) (c .before .before .before .before .before .before .before .before .before .before .before .before .before .if1 .left) _ _ (c .before .before .before .before .before .before .before .before .base-after .ensures) (c .before .before .before .before .before .before .before .base-after2 .ensures) _ (c .before .before .before .before .before .analyse-entry .ensures .1) _ (sym (c .before .n .given .1) ∙ c .before .before .before .before .before .analyse-entry .ensures .0)
 
 enum-known-root : tie.Need-enum-known-root Inv-loop μ-loop
 enum-known-root c = search needs
@@ -107,18 +107,18 @@ same-length-15 c = ap length (c .before .before .before .before .before .before 
 
 returns-3 : tie.Need-returns-3 Inv-loop μ-loop
 unfolding valuesOfEntry baseOf
-returns-3 c = head-over (c .before .before .before .before .before .before .before .before .before .before .before .before .before .before .before .before .before .before .before .loop .inv) _ _ (head-step _ _ _ _ _ _ (c .before .before .before .before .before .before .before .before .before .before .before .before .before .before .before .before .before .before .entry-head .ensures _) _ (c .before .before .before .before .before .before .before .before .before .before .before .before .before .before .before .before .x .given .1) _ refl) (c .before .before .before .before .before .before .before .before .before .before .before .before .before .before .if1 .left) _ _ (c .before .before .before .before .before .before .before .before .before .base-after .ensures) (c .before .before .before .before .before .before .before .before .base-after2 .ensures) _ (c .before .before .before .before .before .before .analyse-entry .ensures .1) _ _ _ (sym (c .before .before .root .given .1) ∙ c .before .before .before .before .before .before .analyse-entry .ensures .0) (c .if2 .taken)
+returns-3 c = head-over (c .before .before .before .before .before .before .before .before .before .before .before .before .before .before .before .before .before .before .before .loop .inv) _ _ (head-step _ _ _ _ _ _ (entry-headed _ _ _ _ _ _ _ (c .before .before .before .before .before .before .before .before .before .before .before .before .before .before .before .before .before .before .entry-head .ensures)) _ (c .before .before .before .before .before .before .before .before .before .before .before .before .before .before .before .before .x .given .1) _ refl) (c .before .before .before .before .before .before .before .before .before .before .before .before .before .before .if1 .left) _ _ (c .before .before .before .before .before .before .before .before .before .base-after .ensures) (c .before .before .before .before .before .before .before .before .base-after2 .ensures) _ (c .before .before .before .before .before .before .analyse-entry .ensures .1) _ _ _ (sym (c .before .before .root .given .1) ∙ c .before .before .before .before .before .before .analyse-entry .ensures .0) (c .if2 .taken)
 
 mul-offsets : tie.Need-mul-offsets Inv-loop μ-loop
 unfolding valuesOfEntry baseOf
-mul-offsets c = omega (arith, head-ahead (c .before .before .before .before .before .before .before .before .before .before .before .before .before .before .before .before .before .before .before .loop .inv) _ _ (head-step _ _ _ _ _ _ (c .before .before .before .before .before .before .before .before .before .before .before .before .before .before .before .before .before .before .entry-head .ensures _) _ (c .before .before .before .before .before .before .before .before .before .before .before .before .before .before .before .before .x .given .1) _ refl) (c .before .before .before .before .before .before .before .before .before .before .before .before .before .before .if1 .left) _ _ (c .before .before .before .before .before .before .before .before .before .base-after .ensures) (c .before .before .before .before .before .before .before .before .base-after2 .ensures) _ (c .before .before .before .before .before .before .analyse-entry .ensures .1) _ _ _ (sym (c .before .before .root .given .1) ∙ c .before .before .before .before .before .before .analyse-entry .ensures .0) .2)
+mul-offsets c = omega (arith, head-ahead (c .before .before .before .before .before .before .before .before .before .before .before .before .before .before .before .before .before .before .before .loop .inv) _ _ (head-step _ _ _ _ _ _ (entry-headed _ _ _ _ _ _ _ (c .before .before .before .before .before .before .before .before .before .before .before .before .before .before .before .before .before .before .entry-head .ensures)) _ (c .before .before .before .before .before .before .before .before .before .before .before .before .before .before .before .before .x .given .1) _ refl) (c .before .before .before .before .before .before .before .before .before .before .before .before .before .before .if1 .left) _ _ (c .before .before .before .before .before .before .before .before .before .base-after .ensures) (c .before .before .before .before .before .before .before .before .base-after2 .ensures) _ (c .before .before .before .before .before .before .analyse-entry .ensures .1) _ _ _ (sym (c .before .before .root .given .1) ∙ c .before .before .before .before .before .before .analyse-entry .ensures .0) .2)
 
 slice-write-offsets : tie.Need-slice-write-offsets Inv-loop μ-loop
 slice-write-offsets c = omega (arith, c .before .before .before .before .before .before .before .before .before .before .before .before .before .before .before .before .before .before .before .loop .inv .offsets-are .size, c .before .before .before .before .before .before .before .before .before .before .before .before .before .before .before .before .before .before .before .loop .inv .offsets-room, c .before .before .before .before .before .before .before .before .before .before .before .before .before .before .if1 .left)
 
 mul-parents : tie.Need-mul-parents Inv-loop μ-loop
 unfolding valuesOfEntry baseOf
-mul-parents c = omega (arith, head-ahead (c .before .before .before .before .before .before .before .before .before .before .before .before .before .before .before .before .before .before .before .loop .inv) _ _ (head-step _ _ _ _ _ _ (c .before .before .before .before .before .before .before .before .before .before .before .before .before .before .before .before .before .before .entry-head .ensures _) _ (c .before .before .before .before .before .before .before .before .before .before .before .before .before .before .before .before .x .given .1) _ refl) (c .before .before .before .before .before .before .before .before .before .before .before .before .before .before .if1 .left) _ _ (c .before .before .before .before .before .before .before .before .before .base-after .ensures) (c .before .before .before .before .before .before .before .before .base-after2 .ensures) _ (c .before .before .before .before .before .before .analyse-entry .ensures .1) _ _ _ (sym (c .before .before .root .given .1) ∙ c .before .before .before .before .before .before .analyse-entry .ensures .0) .2)
+mul-parents c = omega (arith, head-ahead (c .before .before .before .before .before .before .before .before .before .before .before .before .before .before .before .before .before .before .before .loop .inv) _ _ (head-step _ _ _ _ _ _ (entry-headed _ _ _ _ _ _ _ (c .before .before .before .before .before .before .before .before .before .before .before .before .before .before .before .before .before .before .entry-head .ensures)) _ (c .before .before .before .before .before .before .before .before .before .before .before .before .before .before .before .before .x .given .1) _ refl) (c .before .before .before .before .before .before .before .before .before .before .before .before .before .before .if1 .left) _ _ (c .before .before .before .before .before .before .before .before .before .base-after .ensures) (c .before .before .before .before .before .before .before .before .base-after2 .ensures) _ (c .before .before .before .before .before .before .analyse-entry .ensures .1) _ _ _ (sym (c .before .before .root .given .1) ∙ c .before .before .before .before .before .before .analyse-entry .ensures .0) .2)
 
 slice-write-parents : tie.Need-slice-write-parents Inv-loop μ-loop
 slice-write-parents c = omega (arith, c .before .before .before .before .before .before .before .before .before .before .before .before .before .before .before .before .before .before .before .loop .inv .parents-are .size, c .before .before .before .before .before .before .before .before .before .before .before .before .before .before .before .before .before .before .before .loop .inv .parents-room, c .before .before .before .before .before .before .before .before .before .before .before .before .before .before .if1 .left)
@@ -128,29 +128,29 @@ slice-write-roots c = omega (arith, c .before .before .before .before .before .b
 
 mul-ends : tie.Need-mul-ends Inv-loop μ-loop
 unfolding valuesOfEntry baseOf
-mul-ends c = omega (arith, head-ahead (c .before .before .before .before .before .before .before .before .before .before .before .before .before .before .before .before .before .before .before .loop .inv) _ _ (head-step _ _ _ _ _ _ (c .before .before .before .before .before .before .before .before .before .before .before .before .before .before .before .before .before .before .entry-head .ensures _) _ (c .before .before .before .before .before .before .before .before .before .before .before .before .before .before .before .before .x .given .1) _ refl) (c .before .before .before .before .before .before .before .before .before .before .before .before .before .before .if1 .left) _ _ (c .before .before .before .before .before .before .before .before .before .base-after .ensures) (c .before .before .before .before .before .before .before .before .base-after2 .ensures) _ (c .before .before .before .before .before .before .analyse-entry .ensures .1) _ _ _ (sym (c .before .before .root .given .1) ∙ c .before .before .before .before .before .before .analyse-entry .ensures .0) .2)
+mul-ends c = omega (arith, head-ahead (c .before .before .before .before .before .before .before .before .before .before .before .before .before .before .before .before .before .before .before .loop .inv) _ _ (head-step _ _ _ _ _ _ (entry-headed _ _ _ _ _ _ _ (c .before .before .before .before .before .before .before .before .before .before .before .before .before .before .before .before .before .before .entry-head .ensures)) _ (c .before .before .before .before .before .before .before .before .before .before .before .before .before .before .before .before .x .given .1) _ refl) (c .before .before .before .before .before .before .before .before .before .before .before .before .before .before .if1 .left) _ _ (c .before .before .before .before .before .before .before .before .before .base-after .ensures) (c .before .before .before .before .before .before .before .before .base-after2 .ensures) _ (c .before .before .before .before .before .before .analyse-entry .ensures .1) _ _ _ (sym (c .before .before .root .given .1) ∙ c .before .before .before .before .before .before .analyse-entry .ensures .0) .2)
 
 slice-write-ends : tie.Need-slice-write-ends Inv-loop μ-loop
 slice-write-ends c = omega (arith, c .before .before .before .before .before .before .before .before .before .before .before .before .before .before .before .before .before .before .before .loop .inv .ends-are .size, c .before .before .before .before .before .before .before .before .before .before .before .before .before .before .before .before .before .before .before .loop .inv .ends-room, c .before .before .before .before .before .before .before .before .before .before .before .before .before .before .if1 .left)
 
-cast-t48 : tie.Need-cast-t48 Inv-loop μ-loop
+cast-t47 : tie.Need-cast-t47 Inv-loop μ-loop
 unfolding valuesOfEntry baseOf
-cast-t48 c = omega (arith, head-ahead (c .before .before .before .before .before .before .before .before .before .before .before .before .before .before .before .before .before .before .before .loop .inv) _ _ (head-step _ _ _ _ _ _ (c .before .before .before .before .before .before .before .before .before .before .before .before .before .before .before .before .before .before .entry-head .ensures _) _ (c .before .before .before .before .before .before .before .before .before .before .before .before .before .before .before .before .x .given .1) _ refl) (c .before .before .before .before .before .before .before .before .before .before .before .before .before .before .if1 .left) _ _ (c .before .before .before .before .before .before .before .before .before .base-after .ensures) (c .before .before .before .before .before .before .before .before .base-after2 .ensures) _ (c .before .before .before .before .before .before .analyse-entry .ensures .1) _ _ _ (sym (c .before .before .root .given .1) ∙ c .before .before .before .before .before .before .analyse-entry .ensures .0) .2)
+cast-t47 c = omega (arith, head-ahead (c .before .before .before .before .before .before .before .before .before .before .before .before .before .before .before .before .before .before .before .loop .inv) _ _ (head-step _ _ _ _ _ _ (entry-headed _ _ _ _ _ _ _ (c .before .before .before .before .before .before .before .before .before .before .before .before .before .before .before .before .before .before .entry-head .ensures)) _ (c .before .before .before .before .before .before .before .before .before .before .before .before .before .before .before .before .x .given .1) _ refl) (c .before .before .before .before .before .before .before .before .before .before .before .before .before .before .if1 .left) _ _ (c .before .before .before .before .before .before .before .before .before .base-after .ensures) (c .before .before .before .before .before .before .before .before .base-after2 .ensures) _ (c .before .before .before .before .before .before .analyse-entry .ensures .1) _ _ _ (sym (c .before .before .root .given .1) ∙ c .before .before .before .before .before .before .analyse-entry .ensures .0) .2)
 
 after-entry-requires : tie.Need-after-entry-requires Inv-loop μ-loop
 after-entry-requires c κs = tt
 
 add-count : tie.Need-add-count Inv-loop μ-loop
 unfolding valuesOfEntry baseOf
-add-count c = omega (arith, head-ahead (c .before .before .before .before .before .before .before .before .before .before .before .before .before .before .before .before .before .before .before .before .loop .inv) _ _ (head-step _ _ _ _ _ _ (c .before .before .before .before .before .before .before .before .before .before .before .before .before .before .before .before .before .before .before .entry-head .ensures _) _ (c .before .before .before .before .before .before .before .before .before .before .before .before .before .before .before .before .before .x .given .1) _ refl) (c .before .before .before .before .before .before .before .before .before .before .before .before .before .before .before .if1 .left) _ _ (c .before .before .before .before .before .before .before .before .before .before .base-after .ensures) (c .before .before .before .before .before .before .before .before .before .base-after2 .ensures) _ (c .before .before .before .before .before .before .before .analyse-entry .ensures .1) _ _ _ (sym (c .before .before .before .root .given .1) ∙ c .before .before .before .before .before .before .before .analyse-entry .ensures .0) .2)
+add-count c = omega (arith, head-ahead (c .before .before .before .before .before .before .before .before .before .before .before .before .before .before .before .before .before .before .before .before .loop .inv) _ _ (head-step _ _ _ _ _ _ (entry-headed _ _ _ _ _ _ _ (c .before .before .before .before .before .before .before .before .before .before .before .before .before .before .before .before .before .before .before .entry-head .ensures)) _ (c .before .before .before .before .before .before .before .before .before .before .before .before .before .before .before .before .before .x .given .1) _ refl) (c .before .before .before .before .before .before .before .before .before .before .before .before .before .before .before .if1 .left) _ _ (c .before .before .before .before .before .before .before .before .before .before .base-after .ensures) (c .before .before .before .before .before .before .before .before .before .base-after2 .ensures) _ (c .before .before .before .before .before .before .before .analyse-entry .ensures .1) _ _ _ (sym (c .before .before .before .root .given .1) ∙ c .before .before .before .before .before .before .before .analyse-entry .ensures .0) .2)
 
 loop-less : tie.Need-loop-less Inv-loop μ-loop
 unfolding valuesOfEntry baseOf
-loop-less c = omega (arith, head-ahead (c .before .before .before .before .before .before .before .before .before .before .before .before .before .before .before .before .before .before .before .before .loop .inv) _ _ (head-step _ _ _ _ _ _ (c .before .before .before .before .before .before .before .before .before .before .before .before .before .before .before .before .before .before .before .entry-head .ensures _) _ (c .before .before .before .before .before .before .before .before .before .before .before .before .before .before .before .before .before .x .given .1) _ refl) (c .before .before .before .before .before .before .before .before .before .before .before .before .before .before .before .if1 .left) _ _ (c .before .before .before .before .before .before .before .before .before .before .base-after .ensures) (c .before .before .before .before .before .before .before .before .before .base-after2 .ensures) _ (c .before .before .before .before .before .before .before .analyse-entry .ensures .1) _ _ _ (sym (c .before .before .before .root .given .1) ∙ c .before .before .before .before .before .before .before .analyse-entry .ensures .0) .0, head-ahead (c .before .before .before .before .before .before .before .before .before .before .before .before .before .before .before .before .before .before .before .before .loop .inv) _ _ (head-step _ _ _ _ _ _ (c .before .before .before .before .before .before .before .before .before .before .before .before .before .before .before .before .before .before .before .entry-head .ensures _) _ (c .before .before .before .before .before .before .before .before .before .before .before .before .before .before .before .before .before .x .given .1) _ refl) (c .before .before .before .before .before .before .before .before .before .before .before .before .before .before .before .if1 .left) _ _ (c .before .before .before .before .before .before .before .before .before .before .base-after .ensures) (c .before .before .before .before .before .before .before .before .before .base-after2 .ensures) _ (c .before .before .before .before .before .before .before .analyse-entry .ensures .1) _ _ _ (sym (c .before .before .before .root .given .1) ∙ c .before .before .before .before .before .before .before .analyse-entry .ensures .0) .1)
+loop-less c = omega (arith, head-ahead (c .before .before .before .before .before .before .before .before .before .before .before .before .before .before .before .before .before .before .before .before .loop .inv) _ _ (head-step _ _ _ _ _ _ (entry-headed _ _ _ _ _ _ _ (c .before .before .before .before .before .before .before .before .before .before .before .before .before .before .before .before .before .before .before .entry-head .ensures)) _ (c .before .before .before .before .before .before .before .before .before .before .before .before .before .before .before .before .before .x .given .1) _ refl) (c .before .before .before .before .before .before .before .before .before .before .before .before .before .before .before .if1 .left) _ _ (c .before .before .before .before .before .before .before .before .before .before .base-after .ensures) (c .before .before .before .before .before .before .before .before .before .base-after2 .ensures) _ (c .before .before .before .before .before .before .before .analyse-entry .ensures .1) _ _ _ (sym (c .before .before .before .root .given .1) ∙ c .before .before .before .before .before .before .before .analyse-entry .ensures .0) .0, head-ahead (c .before .before .before .before .before .before .before .before .before .before .before .before .before .before .before .before .before .before .before .before .loop .inv) _ _ (head-step _ _ _ _ _ _ (entry-headed _ _ _ _ _ _ _ (c .before .before .before .before .before .before .before .before .before .before .before .before .before .before .before .before .before .before .before .entry-head .ensures)) _ (c .before .before .before .before .before .before .before .before .before .before .before .before .before .before .before .before .before .x .given .1) _ refl) (c .before .before .before .before .before .before .before .before .before .before .before .before .before .before .before .if1 .left) _ _ (c .before .before .before .before .before .before .before .before .before .before .base-after .ensures) (c .before .before .before .before .before .before .before .before .before .base-after2 .ensures) _ (c .before .before .before .before .before .before .before .analyse-entry .ensures .1) _ _ _ (sym (c .before .before .before .root .given .1) ∙ c .before .before .before .before .before .before .before .analyse-entry .ensures .0) .1)
 
 loop-again : tie.Need-loop-again Inv-loop μ-loop
 unfolding valuesOfEntry baseOf
-loop-again c = head-entry (c .before .before .before .before .before .before .before .before .before .before .before .before .before .before .before .before .before .before .before .before .loop .inv) _ _ (head-step _ _ _ _ _ _ (c .before .before .before .before .before .before .before .before .before .before .before .before .before .before .before .before .before .before .before .entry-head .ensures _) _ (c .before .before .before .before .before .before .before .before .before .before .before .before .before .before .before .before .before .x .given .1) _ refl) (c .before .before .before .before .before .before .before .before .before .before .before .before .before .before .before .if1 .left) _ _ (c .before .before .before .before .before .before .before .before .before .before .base-after .ensures) (c .before .before .before .before .before .before .before .before .before .base-after2 .ensures) _ (c .before .before .before .before .before .before .before .analyse-entry .ensures .1) _ _ _ (sym (c .before .before .before .root .given .1) ∙ c .before .before .before .before .before .before .before .analyse-entry .ensures .0) (c .before .if2 .left) _ (c .after-entry .ensures)
+loop-again c = head-entry (c .before .before .before .before .before .before .before .before .before .before .before .before .before .before .before .before .before .before .before .before .loop .inv) _ _ (head-step _ _ _ _ _ _ (entry-headed _ _ _ _ _ _ _ (c .before .before .before .before .before .before .before .before .before .before .before .before .before .before .before .before .before .before .before .entry-head .ensures)) _ (c .before .before .before .before .before .before .before .before .before .before .before .before .before .before .before .before .before .x .given .1) _ refl) (c .before .before .before .before .before .before .before .before .before .before .before .before .before .before .before .if1 .left) _ _ (c .before .before .before .before .before .before .before .before .before .before .base-after .ensures) (c .before .before .before .before .before .before .before .before .before .base-after2 .ensures) _ (c .before .before .before .before .before .before .before .analyse-entry .ensures .1) _ _ _ (sym (c .before .before .before .root .given .1) ∙ c .before .before .before .before .before .before .before .analyse-entry .ensures .0) (c .before .if2 .left) _ (c .after-entry .ensures)
 
 enum-known-next : tie.Need-enum-known-next Inv-loop μ-loop
 enum-known-next c = search needs
@@ -159,10 +159,10 @@ after-terminator-requires : tie.Need-after-terminator-requires Inv-loop μ-loop
 after-terminator-requires c κs = tt
 
 loop-less-2 : tie.Need-loop-less-2 Inv-loop μ-loop
-loop-less-2 c = let a = terminator-inside (c .before .before .before .before .before .before .before .before .before .before .before .before .before .before .before .before .before .before .before .args .e) _ _ _ _ _ (sym (headed-terminator (c .before .before .before .before .before .before .before .before .before .before .before .before .before .before .before .before .before .before .before .args .e) _ _ _ _ _ (c .before .before .before .before .before .entry-head .ensures _) _ (c .before .before .before .next .given .1))) in omega (arith, a .0, a .1)
+loop-less-2 c = let a = terminator-inside (c .before .before .before .before .before .before .before .before .before .before .before .before .before .before .before .before .before .before .before .args .e) _ _ _ _ _ (sym (headed-terminator (c .before .before .before .before .before .before .before .before .before .before .before .before .before .before .before .before .before .before .before .args .e) _ _ _ _ _ (entry-headed _ _ _ _ _ _ _ (c .before .before .before .before .before .entry-head .ensures)) _ (c .before .before .before .next .given .1))) in omega (arith, a .0, a .1)
 
 loop-again-2 : tie.Need-loop-again-2 Inv-loop μ-loop
-loop-again-2 c = stage-terminator (c .before .before .before .before .before .before .loop .inv) _ (headed-terminator _ _ _ _ _ _ (c .before .before .before .before .before .entry-head .ensures _) _ (c .before .before .before .next .given .1)) _ (c .after-terminator .ensures)
+loop-again-2 c = stage-terminator (c .before .before .before .before .before .before .loop .inv) _ (headed-terminator _ _ _ _ _ _ (entry-headed _ _ _ _ _ _ _ (c .before .before .before .before .before .entry-head .ensures)) _ (c .before .before .before .next .given .1)) _ (c .after-terminator .ensures)
 
 enum-told : tie.Need-enum-told Inv-loop μ-loop
 enum-told c = search needs
@@ -183,7 +183,7 @@ same-length-20 : tie.Need-same-length-20 Inv-loop μ-loop
 same-length-20 c = c .before .before .before .loop .inv .targets-are .size
 
 returns-4 : tie.Need-returns-4 Inv-loop μ-loop
-returns-4 c = stage-end (c .before .before .before .loop .inv) (headed-end _ _ _ _ _ _ (c .before .before .entry-head .ensures _) (c .enum-told .given .1))
+returns-4 c = stage-end (c .before .before .before .loop .inv) (headed-end _ _ _ _ _ _ (entry-headed _ _ _ _ _ _ _ (c .before .before .entry-head .ensures)) (c .enum-told .given .1))
 
 enum-told-2 : tie.Need-enum-told-2 Inv-loop μ-loop
 enum-told-2 c = search needs
@@ -204,7 +204,7 @@ same-length-25 : tie.Need-same-length-25 Inv-loop μ-loop
 same-length-25 c = c .before .before .before .loop .inv .targets-are .size
 
 returns-5 : tie.Need-returns-5 Inv-loop μ-loop
-returns-5 c = stage-unreadable (c .before .before .before .loop .inv) (headed-none _ _ _ _ _ _ (c .before .before .entry-head .ensures _) (c .enum-told2 .given .1))
+returns-5 c = stage-unreadable (c .before .before .before .loop .inv) (headed-none _ _ _ _ _ _ (entry-headed _ _ _ _ _ _ _ (c .before .before .entry-head .ensures)) (c .enum-told2 .given .1))
 
 pub analyse-entries-spec : {M : Type 1} → statement M
 analyse-entries-spec =
@@ -247,7 +247,7 @@ analyse-entries-spec =
     slice-write-roots
     mul-ends
     slice-write-ends
-    cast-t48
+    cast-t47
     after-entry-requires
     add-count
     loop-less

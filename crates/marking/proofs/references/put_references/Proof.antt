@@ -7,10 +7,10 @@ use Rattle.marking.proofs.references.put_references.Statement.{statemen
 use Rattle.marking.proofs.references.put_references.Tie as tie
 
 abbrev Inv-loop : tie.InvT-loop
-Inv-loop s e targets₀ at from₀ to₀ targets from to = Putting e s targets₀ at targets from to
+Inv-loop s e targets₀ at c₀ to₀ targets c to = Putting e s targets₀ at targets (c .at) to
 
 abbrev μ-loop : tie.MeasureT-loop
-μ-loop s e targets₀ at from₀ to₀ targets from to = length s - from
+μ-loop s e targets₀ at c₀ to₀ targets c to = length s - c .at
 
 loop-holds : tie.Need-loop-holds Inv-loop μ-loop
 loop-holds c = putting-start _ _ _ _

@@ -9,11 +9,11 @@ use Rattle.marking.proofs.root_test.base_after.Statement.{statement}
 use Rattle.marking.proofs.root_test.base_after.Tie as tie
 
 abbrev Inv-loop : tie.InvT-loop
-Inv-loop unit abbreviations tag name base e p₀ at₀ latest₀ p at latest =
-    baseFrom name latest₀ (entryValues e abbreviations p₀ unit at₀) ≡ baseFrom name latest (entryValues e abbreviations p unit at)
+Inv-loop unit abbreviations tag name base e p₀ c₀ latest₀ p c latest =
+    baseFrom name latest₀ (entryValues e abbreviations (p₀ .at) unit (c₀ .at)) ≡ baseFrom name latest (entryValues e abbreviations (p .at) unit (c .at))
 
 abbrev μ-loop : tie.MeasureT-loop
-μ-loop unit abbreviations tag name base e p₀ at₀ latest₀ p at latest = length abbreviations - p
+μ-loop unit abbreviations tag name base e p₀ c₀ latest₀ p c latest = length abbreviations - p .at
 
 returns : tie.Need-returns Inv-loop μ-loop
 returns c = search base-kept

@@ -1,32 +1,32 @@
 -- `first_ranges` answers by the first ranges. The outer invariant: the answer over all attributes is that over those from here on, and no verdict is found yet.
--- The inner one: the answer over those attributes is that of the list from its place on. Assumes nothing.
+-- The inner one: the answer of the list from its start is that from its place on. Assumes nothing.
 use mathlib.Core.Path.{_≡_, refl, sym, _∙_}
 use Prim.Native.Nat.{_-_}
 use lib.ListN.{length}
 use borrow.Author.Needs.{needs}
 use Rattle.marking.specs.Roots.{rangesBy, firstRanges, entryValues}
 use Rattle.marking.specs.declared.roots.Verdict.the-variants.{Dead as isDead}
-use Rattle.marking.proofs.RootTests.{first-end, first-other, first-form, first-unresolved, first-list, first-decided}
+use Rattle.marking.proofs.RootTests.{first-end, first-other, first-form, first-unresolved, first-decided}
 use Rattle.marking.proofs.RootTests as tests
 use Rattle.marking.proofs.Lists.{rangesFrom, range-less, range-on, range-decided, range-end, range-none}
 use Rattle.marking.proofs.root_test.first_ranges.Statement.{statement}
 use Rattle.marking.proofs.root_test.first_ranges.Tie as tie
 
 abbrev Inv-loop : tie.InvT-loop
-Inv-loop unit abbreviations ranges table ranges-base rnglists-base e p at place₀ dead₀ place dead =
-    firstRanges e (rangesBy ranges table ranges-base rnglists-base) (entryValues e abbreviations p unit at) ≡ rangesFrom e table ranges place dead
+Inv-loop unit abbreviations ranges table ranges-base rnglists-base e place₀ dead₀ place dead =
+    rangesFrom e table ranges (place₀ .at) dead₀ ≡ rangesFrom e table ranges (place .at) dead
 
 abbrev μ-loop : tie.MeasureT-loop
-μ-loop unit abbreviations ranges table ranges-base rnglists-base e p at place₀ dead₀ place dead = length ranges - place
+μ-loop unit abbreviations ranges table ranges-base rnglists-base e place₀ dead₀ place dead = length ranges - place .at
 
 abbrev Inv-attributes : tie.InvT-attributes
-Inv-attributes unit abbreviations ranges table ranges-base rnglists-base e p₀ at₀ verdict₀ p at verdict =
-    (firstRanges e (rangesBy ranges table ranges-base rnglists-base) (entryValues e abbreviations p₀ unit at₀)
-    ≡ firstRanges e (rangesBy ranges table ranges-base rnglists-base) (entryValues e abbreviations p unit at))
+Inv-attributes unit abbreviations ranges table ranges-base rnglists-base e p₀ c₀ verdict₀ p c verdict =
+    (firstRanges e (rangesBy ranges table ranges-base rnglists-base) (entryValues e abbreviations (p₀ .at) unit (c₀ .at))
+    ≡ firstRanges e (rangesBy ranges table ranges-base rnglists-base) (entryValues e abbreviations (p .at) unit (c .at)))
     × (verdict ≡ isDead)
 
 abbrev μ-attributes : tie.MeasureT-attributes
-μ-attributes unit abbreviations ranges table ranges-base rnglists-base e p₀ at₀ verdict₀ p at verdict = length abbreviations - p
+μ-attributes unit abbreviations ranges table ranges-base rnglists-base e p₀ c₀ verdict₀ p c verdict = length abbreviations - p .at
 
 attributes-holds : tie.Need-attributes-holds Inv-loop μ-loop Inv-attributes μ-attributes
 attributes-holds c = (refl, refl)
@@ -60,9 +60,7 @@ returns-2 : tie.Need-returns-2 Inv-loop μ-loop Inv-attributes μ-attributes
 returns-2 c = search first-unresolved
 
 loop-holds : tie.Need-loop-holds Inv-loop μ-loop Inv-attributes μ-attributes
-loop-holds c =
-    first-list _ _ _ _ _ _ _ _ _ _ _ refl _ (c .before .before .before .before .before .before .before .before .before .before .before .before .before .before .next-attribute .ensures) _ (c .before .before .before .before .before .before .before .before .before .before .before .before .a .given .1)
-    (c .before .before .before .before .before .before .if1 .taken) (c .before .before .before .before .if2 .left) _ (c .before .before .before .list-offset .ensures) _ (c .before .start .given .1)
+loop-holds c = refl
 
 list-entry-requires : tie.Need-list-entry-requires Inv-loop μ-loop Inv-attributes μ-attributes
 list-entry-requires c κs = search needs
@@ -89,13 +87,19 @@ enum-told-3 : tie.Need-enum-told-3 Inv-loop μ-loop Inv-attributes μ-attributes
 enum-told-3 c = search needs
 
 returns-3 : tie.Need-returns-3 Inv-loop μ-loop Inv-attributes μ-attributes
-returns-3 c = search (first-decided, range-end)
+returns-3 c =
+    first-decided _ _ _ _ _ _ _ _ _ _ _ (c .before .before .before .before .before .before .before .before .before .before .before .before .before .before .before .before .before .before .before .before .attributes .inv .0) _ (c .before .before .before .before .before .before .before .before .before .before .before .before .before .before .before .before .before .before .before .next-attribute .ensures) _ (c .before .before .before .before .before .before .before .before .before .before .before .before .before .before .before .before .before .a .given .1)
+    (c .before .before .before .before .before .before .before .before .before .before .if1 .taken) (c .before .before .before .before .before .before .before .before .if2 .left) _ (c .before .before .before .before .before .before .before .list-offset .ensures) _ (c .before .before .before .before .before .start .given .1) _ _ (c .before .before .before .loop .inv) _
+    (range-end _ _ _ _ _ _ (c .before .before .list-entry .ensures) (c .enum-told3 .given .1))
 
 enum-told-4 : tie.Need-enum-told-4 Inv-loop μ-loop Inv-attributes μ-attributes
 enum-told-4 c = search needs
 
 returns-4 : tie.Need-returns-4 Inv-loop μ-loop Inv-attributes μ-attributes
-returns-4 c = search (first-decided, range-none)
+returns-4 c =
+    first-decided _ _ _ _ _ _ _ _ _ _ _ (c .before .before .before .before .before .before .before .before .before .before .before .before .before .before .before .before .before .before .before .before .attributes .inv .0) _ (c .before .before .before .before .before .before .before .before .before .before .before .before .before .before .before .before .before .before .before .next-attribute .ensures) _ (c .before .before .before .before .before .before .before .before .before .before .before .before .before .before .before .before .before .a .given .1)
+    (c .before .before .before .before .before .before .before .before .before .before .if1 .taken) (c .before .before .before .before .before .before .before .before .if2 .left) _ (c .before .before .before .before .before .before .before .list-offset .ensures) _ (c .before .before .before .before .before .start .given .1) _ _ (c .before .before .before .loop .inv) _
+    (range-none _ _ _ _ _ _ (c .before .before .list-entry .ensures) (c .enum-told4 .given .1))
 
 attributes-less : tie.Need-attributes-less Inv-loop μ-loop Inv-attributes μ-attributes
 attributes-less c = search tests.attributes-less
@@ -108,7 +112,8 @@ returns-5 c = search first-end
 
 returns-6 : tie.Need-returns-6 Inv-loop μ-loop Inv-attributes μ-attributes
 returns-6 c =
-    first-decided _ _ _ _ _ _ _ _ _ _ _ _ (c .before .before .before .before .before .before .before .before .before .before .before .before .before .before .before .before .before .before .before .before .before .before .before .before .before .attributes .inv .0) (c .before .before .before .before .before .before .before .before .before .loop .inv) _
+    first-decided _ _ _ _ _ _ _ _ _ _ _ (c .before .before .before .before .before .before .before .before .before .before .before .before .before .before .before .before .before .before .before .before .before .before .before .before .before .before .attributes .inv .0) _ (c .before .before .before .before .before .before .before .before .before .before .before .before .before .before .before .before .before .before .before .before .before .before .before .before .before .next-attribute .ensures) _ (c .before .before .before .before .before .before .before .before .before .before .before .before .before .before .before .before .before .before .before .before .before .before .before .a .given .1)
+    (c .before .before .before .before .before .before .before .before .before .before .before .before .before .before .before .before .if1 .taken) (c .before .before .before .before .before .before .before .before .before .before .before .before .before .before .if2 .left) _ (c .before .before .before .before .before .before .before .before .before .before .before .before .before .list-offset .ensures) _ (c .before .before .before .before .before .before .before .before .before .before .before .start .given .1) _ _ (c .before .before .before .before .before .before .before .before .before .loop .inv) _
     (range-decided _ _ _ _ _ _ (c .before .before .before .before .before .before .before .before .list-entry .ensures) _ (c .before .before .before .before .before .before .x .given .1) _ (c .before .before .before .range-entry .ensures) _ (c .before .found .given .1))
 
 pub first-ranges-spec : {M : Type 1} → statement M

@@ -10,10 +10,10 @@ use Rattle.marking.proofs.root_test.low_pcs.Statement.{statement}
 use Rattle.marking.proofs.root_test.low_pcs.Tie as tie
 
 abbrev Inv-loop : tie.InvT-loop
-Inv-loop unit abbreviations table e p₀ at₀ p at = lowPcs e table (entryValues e abbreviations p₀ unit at₀) ≡ lowPcs e table (entryValues e abbreviations p unit at)
+Inv-loop unit abbreviations table e p₀ c₀ p c = lowPcs e table (entryValues e abbreviations (p₀ .at) unit (c₀ .at)) ≡ lowPcs e table (entryValues e abbreviations (p .at) unit (c .at))
 
 abbrev μ-loop : tie.MeasureT-loop
-μ-loop unit abbreviations table e p₀ at₀ p at = length abbreviations - p
+μ-loop unit abbreviations table e p₀ c₀ p c = length abbreviations - p .at
 
 loop-holds : tie.Need-loop-holds Inv-loop μ-loop
 loop-holds c = refl

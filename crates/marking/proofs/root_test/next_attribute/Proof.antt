@@ -22,6 +22,9 @@ enum-told c = search needs
 returns : tie.Need-returns
 returns c = search taken-none
 
+next-requires : tie.Need-next-requires
+next-requires c κs = search needs
+
 enum-told-2 : tie.Need-enum-told-2
 enum-told-2 c = search needs
 
@@ -47,6 +50,7 @@ next-attribute-spec =
     enum-known-value
     enum-told
     returns
+    next-requires
     enum-told-2
     enum-told-3
     returns-2

@@ -17,12 +17,12 @@ returns-3 c = other-past _ _ _ _ (c .before .before .before .if1 .left) (omega a
 add-at : tie.Need-add-at
 add-at c = search needs
 
-older-live-requires : tie.Need-older-live-requires
-older-live-requires c κs = search needs
+ranges-has-live-entry-requires : tie.Need-ranges-has-live-entry-requires
+ranges-has-live-entry-requires c κs = search needs
 
 returns-4 : tie.Need-returns-4
-returns-4 c = other-older _ _ _ _ (c .before .before .before .before .before .if1 .left) (omega arith) _ (c .older-live .ensures)
+returns-4 c = other-older _ _ _ _ (c .before .before .before .before .before .if1 .left) (omega arith) _ (c .ranges-has-live-entry .ensures)
 
 pub other-ranges-spec : {M : Type 1} → statement M
 other-ranges-spec =
-    tie.close (tie.spec returns returns-2 returns-3 add-at older-live-requires returns-4)
+    tie.close (tie.spec returns returns-2 returns-3 add-at ranges-has-live-entry-requires returns-4)

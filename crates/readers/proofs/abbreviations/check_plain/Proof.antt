@@ -9,10 +9,10 @@ use Rattle.readers.proofs.abbreviations.check_plain.Statement.{statemen
 use Rattle.readers.proofs.abbreviations.check_plain.Tie as tie
 
 abbrev Inv-loop : tie.InvT-loop
-Inv-loop s start at₀ at = Checking s start at
+Inv-loop s start c₀ c = Checking s start (c .at)
 
 abbrev μ-loop : tie.MeasureT-loop
-μ-loop s start at₀ at = length s - at
+μ-loop s start c₀ c = length s - c .at
 
 loop-holds : tie.Need-loop-holds Inv-loop μ-loop
 loop-holds c = checking-none _ _

@@ -9,10 +9,10 @@ use Rattle.readers.proofs.abbreviations.gather.Statement.{statement}
 use Rattle.readers.proofs.abbreviations.gather.Tie as tie
 
 abbrev Inv-loop : tie.InvT-loop
-Inv-loop s start index₀ at₀ count₀ index at count = Gathering s start index₀ index at count
+Inv-loop s start index₀ c₀ count₀ index c count = Gathering s start index₀ index (c .at) count
 
 abbrev μ-loop : tie.MeasureT-loop
-μ-loop s start index₀ at₀ count₀ index at count = length s - at
+μ-loop s start index₀ c₀ count₀ index c count = length s - c .at
 
 loop-holds : tie.Need-loop-holds Inv-loop μ-loop
 loop-holds c = gathering-none _ _ _

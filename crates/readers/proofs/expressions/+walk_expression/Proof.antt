@@ -11,6 +11,7 @@ use Rattle.readers.proofs.expressions.walk_expression.Reads as walk-exp
 use Rattle.readers.proofs.expressions.walk_expression.Kinds as walk-expression-kinds
 use Rattle.readers.proofs.expressions.+walk_expression.Lts-walk_expression as walk-expression-lts
 use Rattle.readers.proofs.cursor.Cursor.operation.Reads as operation-reads
+use Rattle.readers.proofs.fields.Field.expression.Reads as expression-reads
 use Rattle.readers.proofs.expressions.either.Reads as either-reads
 use Rattle.readers.proofs.expressions.own_walk.Reads as own-walk-reads
 use Rattle.readers.proofs.expressions.+walk_expression.{statement}
@@ -36,14 +37,16 @@ walk-expression-below t =
     walk-expression.Pre
 
 abbrev walk-expression-Inv-loop : walk-expression-lts.InvT-loop
-walk-expression-Inv-loop s e at₀ references₀ absolute₀ at references absolute = Walking e s at references absolute
+walk-expression-Inv-loop s e c₀ references₀ absolute₀ c references absolute = Walking e s (c .at) references absolute
 
 abbrev walk-expression-μ-loop : walk-expression-lts.MeasureT-loop
-walk-expression-μ-loop s e at₀ references₀ absolute₀ at references absolute = length s - at
+walk-expression-μ-loop s e c₀ references₀ absolute₀ c references absolute = length s - c .at
 
 walk-expression-loop-holds : (t : ℕ) → walk-expression-lts.Need-loop-holds (
   operation-reads.Asked,
   operation-reads.Learnt,
+  expression-reads.Asked,
+  expression-reads.Learnt,
   walk-expression-below t,
   walk-expression.Post,
   either-reads.Asked,
@@ -56,6 +59,8 @@ walk-expression-loop-holds t c = walking-start _ _
 walk-expression-operation-requires : (t : ℕ) → walk-expression-lts.Need-operation-requires (
   operation-reads.Asked,
   operation-reads.Learnt,
+  expression-reads.Asked,
+  expression-reads.Learnt,
   walk-expression-below t,
   walk-expression.Post,
   either-reads.Asked,
@@ -68,6 +73,8 @@ walk-expression-operation-requires t c κs = tt
 walk-expression-enum-known-op : (t : ℕ) → walk-expression-lts.Need-enum-known-op (
   operation-reads.Asked,
   operation-reads.Learnt,
+  expression-reads.Asked,
+  expression-reads.Learnt,
   walk-expression-below t,
   walk-expression.Post,
   either-reads.Asked,
@@ -80,6 +87,8 @@ walk-expression-enum-known-op t c = search needs
 walk-expression-enum-told : (t : ℕ) → walk-expression-lts.Need-enum-told (
   operation-reads.Asked,
   operation-reads.Learnt,
+  expression-reads.Asked,
+  expression-reads.Learnt,
   walk-expression-below t,
   walk-expression.Post,
   either-reads.Asked,
@@ -92,6 +101,8 @@ walk-expression-enum-told t c = search needs
 walk-expression-returns : (t : ℕ) → walk-expression-lts.Need-returns (
   operation-reads.Asked,
   operation-reads.Learnt,
+  expression-reads.Asked,
+  expression-reads.Learnt,
   walk-expression-below t,
   walk-expression.Post,
   either-reads.Asked,
@@ -99,11 +110,13 @@ walk-expression-returns : (t : ℕ) → walk-expression-lts.Need-returns (
   own-walk-reads.Asked,
   own-walk-reads.Learnt,
 ) (walk-expression-at t) walk-expression.Post walk-expression-Inv-loop walk-expression-μ-loop
-walk-expression-returns t c = walking-none _ _ _ _ _ (c .before .before .before .before .loop .inv) (c .before .before .before .loop-test .taken) _ (c .before .before .operation .ensures) (c .enum-told .given .1)
+walk-expression-returns t c = walking-none _ _ _ _ _ (c .before .before .before .before .before .loop .inv) (c .before .before .before .if1 .taken) _ (c .before .before .operation .ensures) (c .enum-told .given .1)
 
-walk-expression-sub-walk-expression : (t : ℕ) → walk-expression-lts.Need-sub-walk-expression (
+walk-expression-expression-requires : (t : ℕ) → walk-expression-lts.Need-expression-requires (
   operation-reads.Asked,
   operation-reads.Learnt,
+  expression-reads.Asked,
+  expression-reads.Learnt,
   walk-expression-below t,
   walk-expression.Post,
   either-reads.Asked,
@@ -111,38 +124,14 @@ walk-expression-sub-walk-expression : (t : ℕ) → walk-expression-lts.Need-sub
   own-walk-reads.Asked,
   own-walk-reads.Learnt,
 ) (walk-expression-at t) walk-expression.Post walk-expression-Inv-loop walk-expression-μ-loop
-walk-expression-sub-walk-expression t c = within _ _ _ _ _ (c .before .before .before .before .before .before .before .before .loop .inv) (c .before .before .before .before .before .before .before .loop-test .taken) _ (c .before .before .before .before .before .before .operation .ensures) _ (c .before .before .before .before .op .given .1) .3
-
-walk-expression-part-walk-expression-start :
-    (t : ℕ) → walk-expression-lts.Need-part-walk-expression-start (
-      operation-reads.Asked,
-      operation-reads.Learnt,
-      walk-expression-below t,
-      walk-expression.Post,
-      either-reads.Asked,
-      either-reads.Learnt,
-      own-walk-reads.Asked,
-      own-walk-reads.Learnt,
-    ) (walk-expression-at t) walk-expression.Post walk-expression-Inv-loop walk-expression-μ-loop
-walk-expression-part-walk-expression-start t c = let i = within _ _ _ _ _ (c .before .before .before .before .before .before .before .before .loop .inv) (c .before .before .before .before .before .before .before .loop-test .taken) _ (c .before .before .before .before .before .before .operation .ensures) _ (c .before .before .before .before .op .given .1) in omega (arith, i .1, i .3, i .4)
-
-walk-expression-part-walk-expression-end :
-    (t : ℕ) → walk-expression-lts.Need-part-walk-expression-end (
-      operation-reads.Asked,
-      operation-reads.Learnt,
-      walk-expression-below t,
-      walk-expression.Post,
-      either-reads.Asked,
-      either-reads.Learnt,
-      own-walk-reads.Asked,
-      own-walk-reads.Learnt,
-    ) (walk-expression-at t) walk-expression.Post walk-expression-Inv-loop walk-expression-μ-loop
-walk-expression-part-walk-expression-end t c = let i = within _ _ _ _ _ (c .before .before .before .before .before .before .before .before .loop .inv) (c .before .before .before .before .before .before .before .loop-test .taken) _ (c .before .before .before .before .before .before .operation .ensures) _ (c .before .before .before .before .op .given .1) in omega (arith, i .1, i .3, i .4)
+walk-expression-expression-requires t c κs = tt
 
 walk-expression-walk-expression-requires :
     (t : ℕ) → walk-expression-lts.Need-walk-expression-requires (
       operation-reads.Asked,
       operation-reads.Learnt,
+      expression-reads.Asked,
+      expression-reads.Learnt,
       walk-expression-below t,
       walk-expression.Post,
       either-reads.Asked,
@@ -150,11 +139,13 @@ walk-expression-walk-expression-requires :
       own-walk-reads.Asked,
       own-walk-reads.Learnt,
     ) (walk-expression-at t) walk-expression.Post walk-expression-Inv-loop walk-expression-μ-loop
-walk-expression-walk-expression-requires t c κs = (omega (arith, part-less _ _ _ _ _ (c .before .before .before .before .before .before .before .before .before .loop .inv) (c .before .before .before .before .before .before .before .before .loop-test .taken) _ (c .before .before .before .before .before .before .before .operation .ensures) _ (c .before .before .before .before .before .op .given .1)), tt)
+walk-expression-walk-expression-requires t c κs = (omega (arith, part-less _ _ _ _ _ (c .before .before .before .before .before .before .before .before .before .before .loop .inv) (c .before .before .before .before .before .before .before .before .if1 .taken) _ (c .before .before .before .before .before .before .before .operation .ensures) _ (c .before .before .before .before .before .op .given .1) _ (c .expression .ensures)), tt)
 
 walk-expression-enum-known-more : (t : ℕ) → walk-expression-lts.Need-enum-known-more (
   operation-reads.Asked,
   operation-reads.Learnt,
+  expression-reads.Asked,
+  expression-reads.Learnt,
   walk-expression-below t,
   walk-expression.Post,
   either-reads.Asked,
@@ -167,6 +158,8 @@ walk-expression-enum-known-more t c = search needs
 walk-expression-enum-told-2 : (t : ℕ) → walk-expression-lts.Need-enum-told-2 (
   operation-reads.Asked,
   operation-reads.Learnt,
+  expression-reads.Asked,
+  expression-reads.Learnt,
   walk-expression-below t,
   walk-expression.Post,
   either-reads.Asked,
@@ -179,6 +172,8 @@ walk-expression-enum-told-2 t c = search needs
 walk-expression-returns-2 : (t : ℕ) → walk-expression-lts.Need-returns-2 (
   operation-reads.Asked,
   operation-reads.Learnt,
+  expression-reads.Asked,
+  expression-reads.Learnt,
   walk-expression-below t,
   walk-expression.Post,
   either-reads.Asked,
@@ -186,11 +181,13 @@ walk-expression-returns-2 : (t : ℕ) → walk-expression-lts.Need-returns-2 (
   own-walk-reads.Asked,
   own-walk-reads.Learnt,
 ) (walk-expression-at t) walk-expression.Post walk-expression-Inv-loop walk-expression-μ-loop
-walk-expression-returns-2 t c = entry-fall _ _ _ _ _ (c .before .before .before .before .before .before .before .before .before .before .before .before .loop .inv) (c .before .before .before .before .before .before .before .before .before .before .before .loop-test .taken) _ (c .before .before .before .before .before .before .before .before .before .before .operation .ensures) _ (c .before .before .before .before .before .before .before .before .op .given .1) (c .before .before .before .before .if1 .taken) _ (c .before .before .walk-expression .ensures) (c .enum-told2 .given .1)
+walk-expression-returns-2 t c = entry-fall _ _ _ _ _ (c .before .before .before .before .before .before .before .before .before .before .before .before .before .loop .inv) (c .before .before .before .before .before .before .before .before .before .before .before .if1 .taken) _ (c .before .before .before .before .before .before .before .before .before .before .operation .ensures) _ (c .before .before .before .before .before .before .before .before .op .given .1) (c .before .before .before .before .if2 .taken) _ (c .before .before .before .expression .ensures) _ (c .before .before .walk-expression .ensures) (c .enum-told2 .given .1)
 
 walk-expression-add-references : (t : ℕ) → walk-expression-lts.Need-add-references (
   operation-reads.Asked,
   operation-reads.Learnt,
+  expression-reads.Asked,
+  expression-reads.Learnt,
   walk-expression-below t,
   walk-expression.Post,
   either-reads.Asked,
@@ -198,11 +195,13 @@ walk-expression-add-references : (t : ℕ) → walk-expression-lts.Need-add-refe
   own-walk-reads.Asked,
   own-walk-reads.Learnt,
 ) (walk-expression-at t) walk-expression.Post walk-expression-Inv-loop walk-expression-μ-loop
-walk-expression-add-references t c = let w = walking-entry _ _ _ _ _ (c .before .before .before .before .before .before .before .before .before .before .before .before .before .loop .inv) (c .before .before .before .before .before .before .before .before .before .before .before .before .loop-test .taken) _ (c .before .before .before .before .before .before .before .before .before .before .before .operation .ensures) _ (c .before .before .before .before .before .before .before .before .before .op .given .1) (c .before .before .before .before .before .if1 .taken) _ (c .before .before .before .walk-expression .ensures) _ _ _ (c .before .more .given .1) refl in omega (arith, w .few, w .inside)
+walk-expression-add-references t c = let w = walking-entry _ _ _ _ _ (c .before .before .before .before .before .before .before .before .before .before .before .before .before .before .loop .inv) (c .before .before .before .before .before .before .before .before .before .before .before .before .if1 .taken) _ (c .before .before .before .before .before .before .before .before .before .before .before .operation .ensures) _ (c .before .before .before .before .before .before .before .before .before .op .given .1) (c .before .before .before .before .before .if2 .taken) _ (c .before .before .before .before .expression .ensures) _ (c .before .before .before .walk-expression .ensures) _ _ _ (c .before .more .given .1) refl in omega (arith, w .few, w .inside)
 
 walk-expression-either-requires : (t : ℕ) → walk-expression-lts.Need-either-requires (
   operation-reads.Asked,
   operation-reads.Learnt,
+  expression-reads.Asked,
+  expression-reads.Learnt,
   walk-expression-below t,
   walk-expression.Post,
   either-reads.Asked,
@@ -215,6 +214,8 @@ walk-expression-either-requires t c κs = tt
 walk-expression-loop-less : (t : ℕ) → walk-expression-lts.Need-loop-less (
   operation-reads.Asked,
   operation-reads.Learnt,
+  expression-reads.Asked,
+  expression-reads.Learnt,
   walk-expression-below t,
   walk-expression.Post,
   either-reads.Asked,
@@ -222,11 +223,13 @@ walk-expression-loop-less : (t : ℕ) → walk-expression-lts.Need-loop-less (
   own-walk-reads.Asked,
   own-walk-reads.Learnt,
 ) (walk-expression-at t) walk-expression.Post walk-expression-Inv-loop walk-expression-μ-loop
-walk-expression-loop-less t c = let i = within _ _ _ _ _ (c .before .before .before .before .before .before .before .before .before .before .before .before .before .before .loop .inv) (c .before .before .before .before .before .before .before .before .before .before .before .before .before .loop-test .taken) _ (c .before .before .before .before .before .before .before .before .before .before .before .before .operation .ensures) _ (c .before .before .before .before .before .before .before .before .before .before .op .given .1) in omega (arith, i .0)
+walk-expression-loop-less t c = let i = within _ _ _ _ _ (c .before .before .before .before .before .before .before .before .before .before .before .before .before .before .before .loop .inv) (c .before .before .before .before .before .before .before .before .before .before .before .before .before .if1 .taken) _ (c .before .before .before .before .before .before .before .before .before .before .before .before .operation .ensures) _ (c .before .before .before .before .before .before .before .before .before .before .op .given .1) in omega (arith, i .0)
 
 walk-expression-loop-again : (t : ℕ) → walk-expression-lts.Need-loop-again (
   operation-reads.Asked,
   operation-reads.Learnt,
+  expression-reads.Asked,
+  expression-reads.Learnt,
   walk-expression-below t,
   walk-expression.Post,
   either-reads.Asked,
@@ -234,11 +237,13 @@ walk-expression-loop-again : (t : ℕ) → walk-expression-lts.Need-loop-again (
   own-walk-reads.Asked,
   own-walk-reads.Learnt,
 ) (walk-expression-at t) walk-expression.Post walk-expression-Inv-loop walk-expression-μ-loop
-walk-expression-loop-again t c = walking-entry _ _ _ _ _ (c .before .before .before .before .before .before .before .before .before .before .before .before .before .before .loop .inv) (c .before .before .before .before .before .before .before .before .before .before .before .before .before .loop-test .taken) _ (c .before .before .before .before .before .before .before .before .before .before .before .before .operation .ensures) _ (c .before .before .before .before .before .before .before .before .before .before .op .given .1) (c .before .before .before .before .before .before .if1 .taken) _ (c .before .before .before .before .walk-expression .ensures) _ _ _ (c .before .before .more .given .1) (c .either .ensures)
+walk-expression-loop-again t c = walking-entry _ _ _ _ _ (c .before .before .before .before .before .before .before .before .before .before .before .before .before .before .before .loop .inv) (c .before .before .before .before .before .before .before .before .before .before .before .before .before .if1 .taken) _ (c .before .before .before .before .before .before .before .before .before .before .before .before .operation .ensures) _ (c .before .before .before .before .before .before .before .before .before .before .op .given .1) (c .before .before .before .before .before .before .if2 .taken) _ (c .before .before .before .before .before .expression .ensures) _ (c .before .before .before .before .walk-expression .ensures) _ _ _ (c .before .before .more .given .1) (c .either .ensures)
 
 walk-expression-own-walk-requires : (t : ℕ) → walk-expression-lts.Need-own-walk-requires (
   operation-reads.Asked,
   operation-reads.Learnt,
+  expression-reads.Asked,
+  expression-reads.Learnt,
   walk-expression-below t,
   walk-expression.Post,
   either-reads.Asked,
@@ -251,6 +256,8 @@ walk-expression-own-walk-requires t c κs = tt
 walk-expression-enum-known-more-2 : (t : ℕ) → walk-expression-lts.Need-enum-known-more-2 (
   operation-reads.Asked,
   operation-reads.Learnt,
+  expression-reads.Asked,
+  expression-reads.Learnt,
   walk-expression-below t,
   walk-expression.Post,
   either-reads.Asked,
@@ -263,6 +270,8 @@ walk-expression-enum-known-more-2 t c = search needs
 walk-expression-enum-told-3 : (t : ℕ) → walk-expression-lts.Need-enum-told-3 (
   operation-reads.Asked,
   operation-reads.Learnt,
+  expression-reads.Asked,
+  expression-reads.Learnt,
   walk-expression-below t,
   walk-expression.Post,
   either-reads.Asked,
@@ -275,6 +284,8 @@ walk-expression-enum-told-3 t c = search needs
 walk-expression-returns-3 : (t : ℕ) → walk-expression-lts.Need-returns-3 (
   operation-reads.Asked,
   operation-reads.Learnt,
+  expression-reads.Asked,
+  expression-reads.Learnt,
   walk-expression-below t,
   walk-expression.Post,
   either-reads.Asked,
@@ -282,11 +293,13 @@ walk-expression-returns-3 : (t : ℕ) → walk-expression-lts.Need-returns-3 (
   own-walk-reads.Asked,
   own-walk-reads.Learnt,
 ) (walk-expression-at t) walk-expression.Post walk-expression-Inv-loop walk-expression-μ-loop
-walk-expression-returns-3 t c = own-fall _ _ _ _ _ (c .before .before .before .before .before .before .before .before .before .before .before .loop .inv) (c .before .before .before .before .before .before .before .before .before .before .loop-test .taken) _ (c .before .before .before .before .before .before .before .before .before .operation .ensures) _ (c .before .before .before .before .before .before .before .op .given .1) (c .before .before .before .if1 .left) _ (c .before .before .own-walk .ensures) (c .enum-told3 .given .1)
+walk-expression-returns-3 t c = own-fall _ _ _ _ _ (c .before .before .before .before .before .before .before .before .before .before .before .before .loop .inv) (c .before .before .before .before .before .before .before .before .before .before .if1 .taken) _ (c .before .before .before .before .before .before .before .before .before .operation .ensures) _ (c .before .before .before .before .before .before .before .op .given .1) (c .before .before .before .if2 .left) _ (c .before .before .own-walk .ensures) (c .enum-told3 .given .1)
 
 walk-expression-add-references-2 : (t : ℕ) → walk-expression-lts.Need-add-references-2 (
   operation-reads.Asked,
   operation-reads.Learnt,
+  expression-reads.Asked,
+  expression-reads.Learnt,
   walk-expression-below t,
   walk-expression.Post,
   either-reads.Asked,
@@ -294,11 +307,13 @@ walk-expression-add-references-2 : (t : ℕ) → walk-expression-lts.Need-add-re
   own-walk-reads.Asked,
   own-walk-reads.Learnt,
 ) (walk-expression-at t) walk-expression.Post walk-expression-Inv-loop walk-expression-μ-loop
-walk-expression-add-references-2 t c = let w = walking-own _ _ _ _ _ (c .before .before .before .before .before .before .before .before .before .before .before .before .loop .inv) (c .before .before .before .before .before .before .before .before .before .before .before .loop-test .taken) _ (c .before .before .before .before .before .before .before .before .before .before .operation .ensures) _ (c .before .before .before .before .before .before .before .before .op .given .1) (c .before .before .before .before .if1 .left) _ (c .before .before .before .own-walk .ensures) _ _ _ (c .before .more2 .given .1) refl in omega (arith, w .few, w .inside)
+walk-expression-add-references-2 t c = let w = walking-own _ _ _ _ _ (c .before .before .before .before .before .before .before .before .before .before .before .before .before .loop .inv) (c .before .before .before .before .before .before .before .before .before .before .before .if1 .taken) _ (c .before .before .before .before .before .before .before .before .before .before .operation .ensures) _ (c .before .before .before .before .before .before .before .before .op .given .1) (c .before .before .before .before .if2 .left) _ (c .before .before .before .own-walk .ensures) _ _ _ (c .before .more2 .given .1) refl in omega (arith, w .few, w .inside)
 
 walk-expression-either-requires-2 : (t : ℕ) → walk-expression-lts.Need-either-requires-2 (
   operation-reads.Asked,
   operation-reads.Learnt,
+  expression-reads.Asked,
+  expression-reads.Learnt,
   walk-expression-below t,
   walk-expression.Post,
   either-reads.Asked,
@@ -311,6 +326,8 @@ walk-expression-either-requires-2 t c κs = tt
 walk-expression-loop-less-2 : (t : ℕ) → walk-expression-lts.Need-loop-less-2 (
   operation-reads.Asked,
   operation-reads.Learnt,
+  expression-reads.Asked,
+  expression-reads.Learnt,
   walk-expression-below t,
   walk-expression.Post,
   either-reads.Asked,
@@ -318,11 +335,13 @@ walk-expression-loop-less-2 : (t : ℕ) → walk-expression-lts.Need-loop-less-2
   own-walk-reads.Asked,
   own-walk-reads.Learnt,
 ) (walk-expression-at t) walk-expression.Post walk-expression-Inv-loop walk-expression-μ-loop
-walk-expression-loop-less-2 t c = let i = within _ _ _ _ _ (c .before .before .before .before .before .before .before .before .before .before .before .before .before .loop .inv) (c .before .before .before .before .before .before .before .before .before .before .before .before .loop-test .taken) _ (c .before .before .before .before .before .before .before .before .before .before .before .operation .ensures) _ (c .before .before .before .before .before .before .before .before .before .op .given .1) in omega (arith, i .0)
+walk-expression-loop-less-2 t c = let i = within _ _ _ _ _ (c .before .before .before .before .before .before .before .before .before .before .before .before .before .before .loop .inv) (c .before .before .before .before .before .before .before .before .before .before .before .before .if1 .taken) _ (c .before .before .before .before .before .before .before .before .before .before .before .operation .ensures) _ (c .before .before .before .before .before .before .before .before .before .op .given .1) in omega (arith, i .0)
 
 walk-expression-loop-again-2 : (t : ℕ) → walk-expression-lts.Need-loop-again-2 (
   operation-reads.Asked,
   operation-reads.Learnt,
+  expression-reads.Asked,
+  expression-reads.Learnt,
   walk-expression-below t,
   walk-expression.Post,
   either-reads.Asked,
@@ -330,11 +349,13 @@ walk-expression-loop-again-2 : (t : ℕ) → walk-expression-lts.Need-loop-again
   own-walk-reads.Asked,
   own-walk-reads.Learnt,
 ) (walk-expression-at t) walk-expression.Post walk-expression-Inv-loop walk-expression-μ-loop
-walk-expression-loop-again-2 t c = walking-own _ _ _ _ _ (c .before .before .before .before .before .before .before .before .before .before .before .before .before .loop .inv) (c .before .before .before .before .before .before .before .before .before .before .before .before .loop-test .taken) _ (c .before .before .before .before .before .before .before .before .before .before .before .operation .ensures) _ (c .before .before .before .before .before .before .before .before .before .op .given .1) (c .before .before .before .before .before .if1 .left) _ (c .before .before .before .before .own-walk .ensures) _ _ _ (c .before .before .more2 .given .1) (c .either2 .ensures)
+walk-expression-loop-again-2 t c = walking-own _ _ _ _ _ (c .before .before .before .before .before .before .before .before .before .before .before .before .before .before .loop .inv) (c .before .before .before .before .before .before .before .before .before .before .before .before .if1 .taken) _ (c .before .before .before .before .before .before .before .before .before .before .before .operation .ensures) _ (c .before .before .before .before .before .before .before .before .before .op .given .1) (c .before .before .before .before .before .if2 .left) _ (c .before .before .before .before .own-walk .ensures) _ _ _ (c .before .before .more2 .given .1) (c .either2 .ensures)
 
 walk-expression-returns-4 : (t : ℕ) → walk-expression-lts.Need-returns-4 (
   operation-reads.Asked,
   operation-reads.Learnt,
+  expression-reads.Asked,
+  expression-reads.Learnt,
   walk-expression-below t,
   walk-expression.Post,
   either-reads.Asked,
@@ -342,12 +363,14 @@ walk-expression-returns-4 : (t : ℕ) → walk-expression-lts.Need-returns-4 (
   own-walk-reads.Asked,
   own-walk-reads.Learnt,
 ) (walk-expression-at t) walk-expression.Post walk-expression-Inv-loop walk-expression-μ-loop
-walk-expression-returns-4 t c = walking-end _ _ _ _ _ (c .before .loop .inv) (c .loop-test .left)
+walk-expression-returns-4 t c = walking-end _ _ _ _ _ (c .before .before .loop .inv) (c .if1 .left)
 
 pub +walk-expression-spec : {M : Type 1} → statement M
 +walk-expression-spec = close μ-walk-expression λ t. walk-expression-lts.spec (
   operation-reads.Asked,
   operation-reads.Learnt,
+  expression-reads.Asked,
+  expression-reads.Learnt,
   walk-expression-below t,
   walk-expression.Post,
   either-reads.Asked,
@@ -364,9 +387,7 @@ pub +walk-expression-spec : {M : Type 1} → statement M
     (walk-expression-enum-known-op t)
     (walk-expression-enum-told t)
     (walk-expression-returns t)
-    (walk-expression-sub-walk-expression t)
-    (walk-expression-part-walk-expression-start t)
-    (walk-expression-part-walk-expression-end t)
+    (walk-expression-expression-requires t)
     (walk-expression-walk-expression-requires t)
     (walk-expression-enum-known-more t)
     (walk-expression-enum-told-2 t)

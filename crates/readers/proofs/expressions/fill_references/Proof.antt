@@ -7,10 +7,10 @@ use Rattle.readers.proofs.expressions.fill_references.Statement.{statem
 use Rattle.readers.proofs.expressions.fill_references.Tie as tie
 
 abbrev Inv-loop : tie.InvT-loop
-Inv-loop s e table₀ count at₀ i₀ table at i = Filling e s table₀ count table at i
+Inv-loop s e table₀ count c₀ i₀ table c i = Filling e s table₀ count table (c .at) i
 
 abbrev μ-loop : tie.MeasureT-loop
-μ-loop s e table₀ count at₀ i₀ table at i = count - i
+μ-loop s e table₀ count c₀ i₀ table c i = count - i
 
 loop-holds : tie.Need-loop-holds Inv-loop μ-loop
 loop-holds c = fill-start _ _ _ _ (c .before .before .pre)

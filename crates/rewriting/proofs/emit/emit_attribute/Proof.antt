@@ -13,8 +13,8 @@ emit-bytes-requires c κs = search needs
 is-leb-requires : tie.Need-is-leb-requires
 is-leb-requires c κs = search needs
 
-part-requires : tie.Need-part-requires
-part-requires c κs = search needs
+expression-requires : tie.Need-expression-requires
+expression-requires c κs = search needs
 
 emit-expression-requires : tie.Need-emit-expression-requires
 emit-expression-requires c κs = search needs
@@ -23,7 +23,7 @@ same-length : tie.Need-same-length
 same-length c = search needs
 
 returns : tie.Need-returns
-returns c = λ lists ps rs rest l m n w lent i a d. attribute-expression _ _ _ _ _ _ (are-bytes (c .before .before .before .before .before .before .before .before .before .before .before .before .before .before .before .before .before .before .before .before .args .unit .now) (c .before .before .before .before .before .before .before .before .before .before .before .before .before .before .before .before .before .before .before .shared-slice-known .given)) l i a rs rest d _ _ _ _ (c .before .before .before .before .before .before .before .before .before .emit-bytes .ensures) lists ps _ (c .before .before .before .before .before .if1 .taken) _ (c .before .before .before .before .part .ensures) _ _ (λ pieces q. c .before .before .emit-expression .ensures lists ps _ pieces l m n q)
+returns c = λ lists ps rs rest l m n w lent i a d. attribute-expression _ _ _ _ _ _ (are-bytes (c .before .before .before .before .before .before .before .before .before .before .before .before .before .before .before .before .before .before .before .before .args .unit .now) (c .before .before .before .before .before .before .before .before .before .before .before .before .before .before .before .before .before .before .before .shared-slice-known .given)) l i a rs rest d _ _ _ _ (c .before .before .before .before .before .before .before .before .before .emit-bytes .ensures) lists ps _ (c .before .before .before .before .before .if1 .taken) _ (c .before .before .before .before .expression .ensures) _ _ (λ pieces q. c .before .before .emit-expression .ensures lists ps _ pieces l m n q)
 
 sibling-offset-requires : tie.Need-sibling-offset-requires
 sibling-offset-requires c κs = search needs
@@ -118,7 +118,7 @@ emit-attribute-spec =
     (tie.spec
     emit-bytes-requires
     is-leb-requires
-    part-requires
+    expression-requires
     emit-expression-requires
     same-length
     returns

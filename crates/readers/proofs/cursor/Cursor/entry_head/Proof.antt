@@ -1,6 +1,5 @@
 -- `Cursor::entry_head` meets its contract, by what is read of the code and its declaration. Assumes nothing.
 use borrow.Author.Needs.{needs}
-use Rattle.readers.proofs.Declarations.{found-at}
 use Rattle.readers.proofs.Values.{head-end, head-none, head-terminator, head-unknown, head-entry}
 use Rattle.readers.proofs.cursor.Cursor.entry_head.Statement.{statement}
 use Rattle.readers.proofs.cursor.Cursor.entry_head.Tie as tie
@@ -33,10 +32,10 @@ enum-told-2 : tie.Need-enum-told-2
 enum-told-2 c = search needs
 
 returns-4 : tie.Need-returns-4
-returns-4 c = search (head-unknown, found-at)
+returns-4 c = search head-unknown
 
 returns-5 : tie.Need-returns-5
-returns-5 c = search (head-entry, found-at)
+returns-5 c = search head-entry
 
 pub entry-head-spec : {M : Type 1} → statement M
 entry-head-spec =

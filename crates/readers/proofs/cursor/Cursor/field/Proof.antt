@@ -2,7 +2,7 @@
 use mathlib.Core.Path.{_∙_, ap, sym}
 use native.Mathlib.Omega.{arith}
 use Rattle.readers.specs.Fields.{numberField, boundedField, blockField}
-use Rattle.readers.proofs.Tokens.{past, movedField, moved-read, moved-unread, field-nothing, field-number, field-signed, field-string, field-run, field-block1, field-block2, field-block4, field-lengthy, field-bounded, field-unknown}
+use Rattle.readers.proofs.Tokens.{past, movedField, moved-read, moved-unread, field-nothing, field-number, field-signed, field-string, field-run, field-block1, field-block2, field-block4, field-block, field-exprloc, field-bounded, field-unknown}
 use borrow.Author.Needs.{needs}
 use Rattle.readers.proofs.cursor.Cursor.field.Statement.{statement}
 use Rattle.readers.proofs.cursor.Cursor.field.Tie as tie
@@ -92,19 +92,13 @@ block-field-requires-4 : tie.Need-block-field-requires-4
 block-field-requires-4 c κs = search needs
 
 returns-11 : tie.Need-returns-11
-returns-11 c =
-    c .block-field4 .ensures
-    ∙ ap (blockField _) (c .before .uleb .ensures)
-    ∙ sym (field-lengthy _ _ _ _
-    (past _ 16 (past _ 15 (past _ 14 (past _ 13 (past _ 12 (past _ 11
-    (c .before .before .before .before .before .before .before .before .before .if2 .left)
-    (c .before .before .before .before .before .before .before .before .if3 .left))
-    (c .before .before .before .before .before .before .before .if4 .left))
-    (c .before .before .before .before .before .before .if5 .left))
-    (c .before .before .before .before .before .if6 .left))
-    (c .before .before .before .before .if7 .left))
-    (c .before .before .before .if8 .left))
-    (c .before .before .if9 .taken))
+returns-11 c = c .block-field4 .ensures ∙ ap (blockField _) (c .before .uleb .ensures) ∙ sym (field-block _ _ _ _ (c .before .before .if9 .taken))
+
+exprloc-requires : tie.Need-exprloc-requires
+exprloc-requires c κs = search needs
+
+returns-12 : tie.Need-returns-12
+returns-12 c = c .exprloc .ensures ∙ sym (field-exprloc _ _ _ _ (c .before .if10 .taken))
 
 uleb-requires-2 : tie.Need-uleb-requires-2
 uleb-requires-2 c κs = search needs
@@ -112,11 +106,21 @@ uleb-requires-2 c κs = search needs
 bounded-field-requires : tie.Need-bounded-field-requires
 bounded-field-requires c κs = search needs
 
-returns-12 : tie.Need-returns-12
-returns-12 c = c .bounded-field .ensures ∙ ap (boundedField _) (c .before .uleb2 .ensures) ∙ sym (field-bounded _ _ _ _ (c .before .before .if10 .taken))
-
 returns-13 : tie.Need-returns-13
-returns-13 c = sym (field-unknown _ _ _ _ (past _ 19 (c .before .if9 .left) (c .if10 .left)))
+returns-13 c = c .bounded-field .ensures ∙ ap (boundedField _) (c .before .uleb2 .ensures) ∙ sym (field-bounded _ _ _ _ (c .before .before .if11 .taken))
+
+returns-14 : tie.Need-returns-14
+returns-14 c =
+    sym (field-unknown _ _ _ _
+    (past _ 19 (past _ 18 (past _ 17 (past _ 16 (past _ 15 (past _ 14 (past _ 13 (past _ 12 (past _ 11 (c .before .before .before .before .before .before .before .before .before .if2 .left) (c .before .before .before .before .before .before .before .before .if3 .left))
+    (c .before .before .before .before .before .before .before .if4 .left))
+    (c .before .before .before .before .before .before .if5 .left))
+    (c .before .before .before .before .before .if6 .left))
+    (c .before .before .before .before .if7 .left))
+    (c .before .before .before .if8 .left))
+    (c .before .before .if9 .left))
+    (c .before .if10 .left))
+    (c .if11 .left)))
 
 pub field-spec : {M : Type 1} → statement M
 field-spec =
@@ -151,7 +155,9 @@ field-spec =
     uleb-requires
     block-field-requires-4
     returns-11
+    exprloc-requires
+    returns-12
     uleb-requires-2
     bounded-field-requires
-    returns-12
-    returns-13)
+    returns-13
+    returns-14)

@@ -1,6 +1,6 @@
 -- `Cursor::list_entry` meets its contract: the list's end, or a kind and the row of its layout number. Assumes nothing.
-use mathlib.Core.Path.{sym}
-use Rattle.readers.proofs.Steps.{entry-end, entry-zero, entry-none, entry-some}
+use mathlib.Core.Path.{_∙_, sym}
+use Rattle.readers.proofs.Steps.{entry-end, entry-zero, entry-none, entry-some, entry-on}
 use borrow.Author.Needs.{needs}
 use Rattle.readers.proofs.cursor.Cursor.list_entry.Statement.{statement}
 use Rattle.readers.proofs.cursor.Cursor.list_entry.Tie as tie
@@ -34,10 +34,14 @@ returns-3 c =
     sym (entry-none _ _ _ _ _ _ (c .before .before .before .before .before .before .if1 .left) (c .before .before .before .before .if2 .left) (c .before .before .before .list-row .ensures)
     (c .before .before .row .ensures) (c .enum-told .given .1))
 
+next-requires : tie.Need-next-requires
+next-requires c κs = search needs
+
 returns-4 : tie.Need-returns-4
 returns-4 c =
-    sym (entry-some _ _ _ _ _ _ (c .before .before .before .before .before .before .before .before .before .before .if1 .left) (c .before .before .before .before .before .before .before .before .if2 .left) (c .before .before .before .before .before .before .before .list-row .ensures)
-    (c .before .before .before .before .before .before .row .ensures) _ (c .before .before .before .before .r .given .1))
+    entry-on _ _ _ _ _ _ (c .next .ensures)
+    ∙ sym (entry-some _ _ _ _ _ _ (c .before .before .before .before .before .before .before .before .before .before .before .if1 .left) (c .before .before .before .before .before .before .before .before .before .if2 .left) (c .before .before .before .before .before .before .before .before .list-row .ensures)
+    (c .before .before .before .before .before .before .before .row .ensures) _ (c .before .before .before .before .before .r .given .1))
 
 pub list-entry-spec : {M : Type 1} → statement M
 list-entry-spec =
@@ -52,4 +56,5 @@ list-entry-spec =
     enum-known-r
     enum-told
     returns-3
+    next-requires
     returns-4)

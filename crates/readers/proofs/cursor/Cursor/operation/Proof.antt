@@ -1,6 +1,6 @@
 -- `Cursor::operation` meets its contract: a code, and the row of its layout number. Assumes nothing.
-use mathlib.Core.Path.{sym}
-use Rattle.readers.proofs.Steps.{operation-end, operation-none, operation-some}
+use mathlib.Core.Path.{_∙_, sym}
+use Rattle.readers.proofs.Steps.{operation-end, operation-none, operation-some, operation-on}
 use borrow.Author.Needs.{needs}
 use Rattle.readers.proofs.cursor.Cursor.operation.Statement.{statement}
 use Rattle.readers.proofs.cursor.Cursor.operation.Tie as tie
@@ -31,10 +31,14 @@ returns-2 c =
     sym (operation-none _ _ _ _ _ (c .before .before .before .before .before .if1 .left) (c .before .before .before .operation-row .ensures)
     (c .before .before .row .ensures) (c .enum-told .given .1))
 
+next-requires : tie.Need-next-requires
+next-requires c κs = search needs
+
 returns-3 : tie.Need-returns-3
 returns-3 c =
-    sym (operation-some _ _ _ _ _ (c .before .before .before .before .before .before .before .before .before .if1 .left) (c .before .before .before .before .before .before .before .operation-row .ensures)
-    (c .before .before .before .before .before .before .row .ensures) _ (c .before .before .before .before .r .given .1))
+    operation-on _ _ _ _ _ (c .next .ensures)
+    ∙ sym (operation-some _ _ _ _ _ (c .before .before .before .before .before .before .before .before .before .before .if1 .left) (c .before .before .before .before .before .before .before .before .operation-row .ensures)
+    (c .before .before .before .before .before .before .before .row .ensures) _ (c .before .before .before .before .before .r .given .1))
 
 pub operation-spec : {M : Type 1} → statement M
 operation-spec =
@@ -48,4 +52,5 @@ operation-spec =
     enum-known-r
     enum-told
     returns-2
+    next-requires
     returns-3)

@@ -2,6 +2,7 @@
 use mathlib.Core.Path.{ap, _∙_}
 use native.Mathlib.Omega.{arith}
 use Rattle.readers.specs.Entries.{attributeEnd}
+use Rattle.readers.specs.declared.cursor.Moved.the-variants.{To}
 use Rattle.readers.proofs.Values.{plain-past, end-read, end-none}
 use borrow.Author.Needs.{needs}
 use Rattle.readers.proofs.cursor.Cursor.past_attribute.Statement.{statement}
@@ -29,8 +30,11 @@ enum-known-a c = search needs
 enum-told : tie.Need-enum-told
 enum-told c = search needs
 
+next-requires : tie.Need-next-requires
+next-requires c κs = search needs
+
 returns-2 : tie.Need-returns-2
-returns-2 c = end-read _ _ (c .before .before .a .given .1) ∙ ap attributeEnd (c .before .before .before .before .attribute .ensures)
+returns-2 c = ap To (c .next .ensures) ∙ end-read _ _ (c .before .before .before .a .given .1) ∙ ap attributeEnd (c .before .before .before .before .before .attribute .ensures)
 
 returns-3 : tie.Need-returns-3
 returns-3 c = end-none _ (c .enum-told .given .1) ∙ ap attributeEnd (c .before .before .attribute .ensures)
@@ -45,6 +49,7 @@ past-attribute-spec =
     returns
     attribute-requires
     enum-known-a
+    next-requires
     enum-told
     returns-2
     returns-3)

@@ -10,10 +10,10 @@ use Rattle.readers.proofs.cursor.Cursor.past_attributes.Statement.{stat
 use Rattle.readers.proofs.cursor.Cursor.past_attributes.Tie as tie
 
 abbrev Inv-loop : tie.InvT-loop
-Inv-loop s at₀ at = pastAttributes s at₀ ≡ pastAttributes s at
+Inv-loop s c₀ c = pastAttributes s (c₀ .at) ≡ pastAttributes s (c .at)
 
 abbrev μ-loop : tie.MeasureT-loop
-μ-loop s at₀ at = length s - at
+μ-loop s c₀ c = length s - c .at
 
 loop-holds : tie.Need-loop-holds Inv-loop μ-loop
 loop-holds c = refl

@@ -12,10 +12,10 @@ use Rattle.readers.proofs.cursor.Cursor.past_values.Statement.{statemen
 use Rattle.readers.proofs.cursor.Cursor.past_values.Tie as tie
 
 abbrev Inv-loop : tie.InvT-loop
-Inv-loop unit abbreviations e at₀ p₀ at p = valuesAt e abbreviations p₀ unit at₀ ≡ valuesAt e abbreviations p unit at
+Inv-loop unit abbreviations e c₀ p₀ c p = valuesAt e abbreviations (p₀ .at) unit (c₀ .at) ≡ valuesAt e abbreviations (p .at) unit (c .at)
 
 abbrev μ-loop : tie.MeasureT-loop
-μ-loop unit abbreviations e at₀ p₀ at p = length abbreviations - p
+μ-loop unit abbreviations e c₀ p₀ c p = length abbreviations - p .at
 
 loop-holds : tie.Need-loop-holds Inv-loop μ-loop
 loop-holds c = refl

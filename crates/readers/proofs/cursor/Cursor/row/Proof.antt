@@ -1,7 +1,7 @@
 -- `Cursor::row` meets its contract: the tables list the tokens of the rows, and each field is read where the one before ends.
 use Rattle.readers.specs.Operations.{rows, unreadableRow, rowOf}
 use Rattle.readers.proofs.Constants.{listed, listedFrom, entry}
-use Rattle.readers.proofs.Tokens.{row-over, row-none, row-none2, row-none3, row-read}
+use Rattle.readers.proofs.Tokens.{field-from, row-over, row-none, row-none2, row-none3, row-read}
 use borrow.Author.Needs.{needs}
 use Rattle.readers.proofs.cursor.Cursor.row.Statement.{statement}
 use Rattle.readers.proofs.cursor.Cursor.row.Tie as tie
@@ -25,6 +25,9 @@ returns-2 : tie.Need-returns-2
 unfolding listed listedFrom rowOf rows unreadableRow
 returns-2 c = row-none _ _ _ _ _ _ (c .before .before .field .ensures) (entry (λ l. rowOf l .first) 28 _ (c .before .before .before .if1 .left)) (c .enum-told .given .1)
 
+next-requires : tie.Need-next-requires
+next-requires c κs = search needs
+
 array-read-field-2 : tie.Need-array-read-field-2
 array-read-field-2 c = search needs
 
@@ -41,8 +44,11 @@ returns-3 : tie.Need-returns-3
 unfolding listed listedFrom rowOf rows unreadableRow
 returns-3 c =
     row-none2 _ _ _ _ _ _
-    (c .before .before .before .before .before .before .field .ensures) (entry (λ l. rowOf l .first) 28 _ (c .before .before .before .before .before .before .before .if1 .left)) _ (c .before .before .before .before .first .given .1) _ _
-    (c .before .before .field2 .ensures) (entry (λ l. rowOf l .second) 28 _ (c .before .before .before .before .before .before .before .if1 .left)) (c .enum-told2 .given .1)
+    (c .before .before .before .before .before .before .before .field .ensures) (entry (λ l. rowOf l .first) 28 _ (c .before .before .before .before .before .before .before .before .if1 .left)) _ (c .before .before .before .before .before .first .given .1) _ _
+    (field-from _ _ _ _ _ _ (c .before .before .field2 .ensures) (c .before .before .before .next .ensures)) (entry (λ l. rowOf l .second) 28 _ (c .before .before .before .before .before .before .before .before .if1 .left)) (c .enum-told2 .given .1)
+
+next-requires-2 : tie.Need-next-requires-2
+next-requires-2 c κs = search needs
 
 array-read-field-3 : tie.Need-array-read-field-3
 array-read-field-3 c = search needs
@@ -60,17 +66,17 @@ returns-4 : tie.Need-returns-4
 unfolding listed listedFrom rowOf rows unreadableRow
 returns-4 c =
     row-none3 _ _ _ _ _ _
-    (c .before .before .before .before .before .before .before .before .before .before .field .ensures) (entry (λ l. rowOf l .first) 28 _ (c .before .before .before .before .before .before .before .before .before .before .before .if1 .left)) _ (c .before .before .before .before .before .before .before .before .first .given .1) _ _
-    (c .before .before .before .before .before .before .field2 .ensures) (entry (λ l. rowOf l .second) 28 _ (c .before .before .before .before .before .before .before .before .before .before .before .if1 .left)) _ (c .before .before .before .before .second .given .1) _ _
-    (c .before .before .field3 .ensures) (entry (λ l. rowOf l .third) 28 _ (c .before .before .before .before .before .before .before .before .before .before .before .if1 .left)) (c .enum-told3 .given .1)
+    (c .before .before .before .before .before .before .before .before .before .before .before .before .field .ensures) (entry (λ l. rowOf l .first) 28 _ (c .before .before .before .before .before .before .before .before .before .before .before .before .before .if1 .left)) _ (c .before .before .before .before .before .before .before .before .before .before .first .given .1) _ _
+    (field-from _ _ _ _ _ _ (c .before .before .before .before .before .before .before .field2 .ensures) (c .before .before .before .before .before .before .before .before .next .ensures)) (entry (λ l. rowOf l .second) 28 _ (c .before .before .before .before .before .before .before .before .before .before .before .before .before .if1 .left)) _ (c .before .before .before .before .before .second .given .1) _ _
+    (field-from _ _ _ _ _ _ (c .before .before .field3 .ensures) (c .before .before .before .next2 .ensures)) (entry (λ l. rowOf l .third) 28 _ (c .before .before .before .before .before .before .before .before .before .before .before .before .before .if1 .left)) (c .enum-told3 .given .1)
 
 returns-5 : tie.Need-returns-5
 unfolding listed listedFrom rowOf rows unreadableRow
 returns-5 c =
     row-read _ _ _ _ _ _
-    (c .before .before .before .before .before .before .before .before .before .before .before .field .ensures) (entry (λ l. rowOf l .first) 28 _ (c .before .before .before .before .before .before .before .before .before .before .before .before .if1 .left)) _ (c .before .before .before .before .before .before .before .before .before .first .given .1) _ _
-    (c .before .before .before .before .before .before .before .field2 .ensures) (entry (λ l. rowOf l .second) 28 _ (c .before .before .before .before .before .before .before .before .before .before .before .before .if1 .left)) _ (c .before .before .before .before .before .second .given .1) _ _
-    (c .before .before .before .field3 .ensures) (entry (λ l. rowOf l .third) 28 _ (c .before .before .before .before .before .before .before .before .before .before .before .before .if1 .left)) _ (c .before .third .given .1)
+    (c .before .before .before .before .before .before .before .before .before .before .before .before .before .field .ensures) (entry (λ l. rowOf l .first) 28 _ (c .before .before .before .before .before .before .before .before .before .before .before .before .before .before .if1 .left)) _ (c .before .before .before .before .before .before .before .before .before .before .before .first .given .1) _ _
+    (field-from _ _ _ _ _ _ (c .before .before .before .before .before .before .before .before .field2 .ensures) (c .before .before .before .before .before .before .before .before .before .next .ensures)) (entry (λ l. rowOf l .second) 28 _ (c .before .before .before .before .before .before .before .before .before .before .before .before .before .before .if1 .left)) _ (c .before .before .before .before .before .before .second .given .1) _ _
+    (field-from _ _ _ _ _ _ (c .before .before .before .field3 .ensures) (c .before .before .before .before .next2 .ensures)) (entry (λ l. rowOf l .third) 28 _ (c .before .before .before .before .before .before .before .before .before .before .before .before .before .before .if1 .left)) _ (c .before .third .given .1)
 
 pub row-spec : {M : Type 1} → statement M
 row-spec =
@@ -82,11 +88,13 @@ row-spec =
     enum-known-first
     enum-told
     returns-2
+    next-requires
     array-read-field-2
     field-requires-2
     enum-known-second
     enum-told-2
     returns-3
+    next-requires-2
     array-read-field-3
     field-requires-3
     enum-known-third

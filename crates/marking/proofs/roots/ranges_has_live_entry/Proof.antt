@@ -1,17 +1,17 @@
--- `older_live` answers by the list's entries. The invariant: the answer from the start is the answer from here on. Assumes nothing.
+-- `ranges_has_live_entry` answers by the list's entries. The invariant: the answer from the start is the answer from here on. Assumes nothing.
 use mathlib.Core.Path.{_≡_, refl}
 use Prim.Native.Nat.{_-_}
 use lib.ListN.{length}
 use borrow.Author.Needs.{needs}
 use Rattle.marking.proofs.Lists.{olderFrom, older-on, older-less, older-other, older-end, older-none}
-use Rattle.marking.proofs.roots.older_live.Statement.{statement}
-use Rattle.marking.proofs.roots.older_live.Tie as tie
+use Rattle.marking.proofs.roots.ranges_has_live_entry.Statement.{statement}
+use Rattle.marking.proofs.roots.ranges_has_live_entry.Tie as tie
 
 abbrev Inv-loop : tie.InvT-loop
-Inv-loop ranges e at₀ at = olderFrom e ranges at₀ ≡ olderFrom e ranges at
+Inv-loop ranges e c₀ c = olderFrom e ranges (c₀ .at) ≡ olderFrom e ranges (c .at)
 
 abbrev μ-loop : tie.MeasureT-loop
-μ-loop ranges e at₀ at = length ranges - at
+μ-loop ranges e c₀ c = length ranges - c .at
 
 loop-holds : tie.Need-loop-holds Inv-loop μ-loop
 loop-holds c = refl
@@ -43,8 +43,8 @@ enum-told-2 c = search needs
 returns-3 : tie.Need-returns-3 Inv-loop μ-loop
 returns-3 c = search older-none
 
-pub older-live-spec : {M : Type 1} → statement M
-older-live-spec =
+pub ranges-has-live-entry-spec : {M : Type 1} → statement M
+ranges-has-live-entry-spec =
     tie.close
     (tie.spec
     Inv-loop

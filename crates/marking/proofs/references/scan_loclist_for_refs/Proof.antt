@@ -1,4 +1,4 @@
--- `scan_list`: the invariant is that the whole is what is found from here on, after what is in the table. Assumes nothing.
+-- `scan_loclist_for_refs`: the invariant is that the whole is what is found from here on, after what is in the table. Assumes nothing.
 use mathlib.Core.Path.{_∙_}
 use Prim.Native.Nat.{_-_}
 use lib.ListN.{length}
@@ -6,14 +6,14 @@ use borrow.Author.Needs.{needs}
 use mathlib.Core.List.{[]}
 use Rattle.marking.proofs.Founds.{scans-size}
 use Rattle.marking.proofs.LocationLists.{Listing, listing-start, listing-size, listing-refused, list-less, listing-on, listing-end, listing-none}
-use Rattle.marking.proofs.references.scan_list.Statement.{statement}
-use Rattle.marking.proofs.references.scan_list.Tie as tie
+use Rattle.marking.proofs.references.scan_loclist_for_refs.Statement.{statement}
+use Rattle.marking.proofs.references.scan_loclist_for_refs.Tie as tie
 
 abbrev Inv-loop : tie.InvT-loop
-Inv-loop s e targets₀ at from₀ to₀ targets from to = Listing e s targets₀ from₀ at targets from to
+Inv-loop s e targets₀ at c₀ to₀ targets c to = Listing e s targets₀ (c₀ .at) at targets (c .at) to
 
 abbrev μ-loop : tie.MeasureT-loop
-μ-loop s e targets₀ at from₀ to₀ targets from to = length s - from
+μ-loop s e targets₀ at c₀ to₀ targets c to = length s - c .at
 
 loop-holds : tie.Need-loop-holds Inv-loop μ-loop
 loop-holds c = listing-start _ _ _ _ _
@@ -63,8 +63,8 @@ same-length-3 c = search listing-size
 returns-3 : tie.Need-returns-3 Inv-loop μ-loop
 returns-3 c = listing-none _ _ _ _ _ _ _ _ (c .before .before .before .loop .inv) _ (c .before .before .list-entry .ensures) (c .enum-told2 .given .1)
 
-pub scan-list-spec : {M : Type 1} → statement M
-scan-list-spec =
+pub scan-loclist-for-refs-spec : {M : Type 1} → statement M
+scan-loclist-for-refs-spec =
     tie.close
     (tie.spec
     Inv-loop

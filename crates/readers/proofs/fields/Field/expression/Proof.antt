@@ -1,8 +1,8 @@
--- `part`: the bytes of a field. Assumes nothing.
+-- `Field::expression`: the bytes of a field. Assumes nothing.
 use borrow.Author.Needs.{needs}
-use Rattle.marking.proofs.Placing.{part-none, part-past, part-rest, part-whole}
-use Rattle.marking.proofs.references.part.Statement.{statement}
-use Rattle.marking.proofs.references.part.Tie as tie
+use Rattle.readers.proofs.Tokens.{part-none, part-past, part-rest, part-whole}
+use Rattle.readers.proofs.fields.Field.expression.Statement.{statement}
+use Rattle.readers.proofs.fields.Field.expression.Tie as tie
 
 sub-result : tie.Need-sub-result
 sub-result c = search needs
@@ -52,8 +52,8 @@ part-result-end-4 c = search needs
 returns-4 : tie.Need-returns-4
 returns-4 c = part-whole _ _
 
-pub part-spec : {M : Type 1} → statement M
-part-spec =
+pub expression-spec : {M : Type 1} → statement M
+expression-spec =
     tie.close
     (tie.spec
     sub-result

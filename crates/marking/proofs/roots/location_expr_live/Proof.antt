@@ -1,18 +1,18 @@
--- `location_live` answers by the operations. The invariant: the answer is that from here on, with the flag so far. Assumes nothing.
+-- `location_expr_live` answers by the operations. The invariant: the answer is that from here on, with the flag so far. Assumes nothing.
 use mathlib.Core.Path.{_≡_}
 use Prim.Native.Nat.{_-_}
 use lib.ListN.{length}
 use borrow.Author.Needs.{needs}
 use Rattle.marking.specs.Roots.{locationLive}
 use Rattle.marking.proofs.Lists.{locationFrom, location-start, location-live, location-dead, location-none, location-less, location-on, index-met, index-passed, index-refused}
-use Rattle.marking.proofs.roots.location_live.Statement.{statement}
-use Rattle.marking.proofs.roots.location_live.Tie as tie
+use Rattle.marking.proofs.roots.location_expr_live.Statement.{statement}
+use Rattle.marking.proofs.roots.location_expr_live.Tie as tie
 
 abbrev Inv-loop : tie.InvT-loop
-Inv-loop s table e at₀ live₀ at live = locationLive e table s ≡ locationFrom e table s at live
+Inv-loop s table e c₀ live₀ c live = locationLive e table s ≡ locationFrom e table s (c .at) live
 
 abbrev μ-loop : tie.MeasureT-loop
-μ-loop s table e at₀ live₀ at live = length s - at
+μ-loop s table e c₀ live₀ c live = length s - c .at
 
 loop-holds : tie.Need-loop-holds Inv-loop μ-loop
 loop-holds c = search location-start
@@ -68,8 +68,8 @@ returns-3 c = search location-live
 returns-4 : tie.Need-returns-4 Inv-loop μ-loop
 returns-4 c = search location-dead
 
-pub location-live-spec : {M : Type 1} → statement M
-location-live-spec =
+pub location-expr-live-spec : {M : Type 1} → statement M
+location-expr-live-spec =
     tie.close
     (tie.spec
     Inv-loop
