@@ -22,11 +22,12 @@ use Rattle.rewriting.specs.Places.{Place, newOf, siblingOf}
 use Rattle.rewriting.specs.Indices.{rankOr}
 use Rattle.rewriting.specs.Written.{asMapped}
 use Rattle.rewriting.specs.Rewriting.{Lists, newValue, piecesRefusal, readsRefusal, orSelf, listAt}
-use Rattle.rewriting.specs.Emission.{between, Emits, Wide, numberRefusal, offsetRefusal, listForm, lebForm, Lent}
+use Rattle.rewriting.specs.Emission.{between, Wide, numberRefusal, offsetRefusal, listForm, lebForm, Lent}
 use Rattle.rewriting.specs.declared.emit.Emitted.{Emitted}
 use Rattle.rewriting.specs.declared.emit.Emitted.the-variants.{To}
 use Rattle.rewriting.specs.declared.lists.ListCount.{ListCount}
 use Rattle.rewriting.specs.declared.map.Mapped.{Mapped}
+use Rattle.rewriting.proofs.Emissions.{EmitsAt}
 use Rattle.rewriting.proofs.Exact.{token-ok}
 use Rattle.rewriting.proofs.ValueForms.{onlyAbsolute, expression-form, reference-form, ranges-form, locations-form, strings-form, copied-use, copied-plain, own}
 use Rattle.rewriting.proofs.ValueParts.{Value, value-of}
@@ -36,23 +37,23 @@ module _ (e : Encoding) (unit : List ℕ) (values name declared : ℕ) (value : 
     (attribute : attributeAt e unit values name declared ≡ Attribute′ value) (rs : List Read) (rest : List ℕ)
     (deep : readIn false (expressionIn e) (attributeLayout e name declared) (drop values unit) ≡ some (rs, rest))
     (out : List ℕ) (at to : ℕ) (out₁ : List ℕ)
-    (first : values ≤ value .field .start → value .field .start ≤ length unit → Emits 0 (between unit values (value .field .start)) out at (To to) out₁)
+    (first : values ≤ value .field .start → value .field .start ≤ length unit → EmitsAt 0 (between unit values (value .field .start)) out at (To to) out₁)
     (lists : Lists) (map : List Place) (depth : ℕ) where
   abbrev w : Value e unit values name value rs
   w = value-of e unit values name declared value i attribute rs rest deep
 
   abbrev Whole : Emitted → List ℕ → Type 0
-  Whole r out₂ = Emits (readsRefusal lists map depth rs) (writeAll false (patchAll (newValue lists map depth) rs)) out at r out₂
+  Whole r out₂ = EmitsAt (readsRefusal lists map depth rs) (writeAll false (patchAll (newValue lists map depth) rs)) out at r out₂
 
   pub attribute-expression : value .form ≡ 0x18 → (part : List ℕ) → part ≡ partOf unit (value .field) → (r : Emitted) (out₂ : List ℕ)
-      → ((pieces : List Piece) → expressionIn e part ≡ some pieces → Emits (piecesRefusal lists map depth pieces) (bytesOf false (patchPieces (newValue lists map depth) pieces)) out₁ to r out₂)
+      → ((pieces : List Piece) → expressionIn e part ≡ some pieces → EmitsAt (piecesRefusal lists map depth pieces) (bytesOf false (patchPieces (newValue lists map depth) pieces)) out₁ to r out₂)
       → Whole r out₂
   attribute-expression x part p r out₂ h =
       expression-emits e unit values name value rs w l b out at to out₁ first lists map depth (expression-form e name (value .form) x) part p r out₂ h
 
   module _ (leb′ : Bool) (p : leb′ ≡ lebForm (value .form)) (n : ℕ) (q : n ≡ value .field .end - value .field .start) (r : Emitted) (out₂ : List ℕ) where
     abbrev Offsets : Mapped → Type 0
-    Offsets new = (o : Option ℕ) (v : ℕ) → new ≡ asMapped o → Wide leb′ n → Emits (offsetRefusal (encodedBy leb′ n) v o) (numberBytes false (encodedBy leb′ n) (orSelf v o)) out₁ to r out₂
+    Offsets new = (o : Option ℕ) (v : ℕ) → new ≡ asMapped o → Wide leb′ n → EmitsAt (offsetRefusal (encodedBy leb′ n) v o) (numberBytes false (encodedBy leb′ n) (orSelf v o)) out₁ to r out₂
 
     pub attribute-sibling : 0x11 ≤ value .form → value .form ≤ 0x15 → name ≡ 0x01 → (new : Mapped) → new ≡ asMapped (siblingOf map depth (value .field .value)) → Offsets new → Whole r out₂
     attribute-sibling lo hi k new x h =
@@ -65,7 +66,7 @@ module _ (e : Encoding) (unit : List ℕ) (values name declared : ℕ) (value : 
         (pick-no _ _ _ (no-eqb {a = name} {b = 0x01} k)) r out₂ new x h
 
     module _ (v : ℕ) (list : List ℕ) (count : ListCount) (is : (o : Option (List ℕ)) → Lent o list count → v ≡ rankOr o (value .field .value)) (kind : ℕ) (k : kind ≡ listForm (value .form))
-        (h : Wide leb′ n → Emits (numberRefusal (encodedBy leb′ n) v) (numberBytes false (encodedBy leb′ n) v) out₁ to r out₂) where
+        (h : Wide leb′ n → EmitsAt (numberRefusal (encodedBy leb′ n) v) (numberBytes false (encodedBy leb′ n) v) out₁ to r out₂) where
       pub attribute-ranges : kind ≡ 0 → Lent (lists .ranges) list count → Whole r out₂
       unfolding listAt pick
       attribute-ranges z lent =
@@ -86,7 +87,7 @@ module _ (e : Encoding) (unit : List ℕ) (values name declared : ℕ) (value : 
 
   pub attribute-copied : (value .form ≡ 0x18 → ⊥) → (leb 0x11 (value .form) and leb (value .form) 0x15) ≡ false → (kind : ℕ) → kind ≡ listForm (value .form)
       → (kind ≡ 0 → ⊥) → (kind ≡ 1 → ⊥) → (kind ≡ 2 → ⊥) → (to₂ : ℕ) (out₂ : List ℕ)
-      → (value .field .start ≤ value .field .end → value .field .end ≤ length unit → Emits 0 (between unit (value .field .start) (value .field .end)) out₁ to (To to₂) out₂)
+      → (value .field .start ≤ value .field .end → value .field .end ≤ length unit → EmitsAt 0 (between unit (value .field .start) (value .field .end)) out₁ to (To to₂) out₂)
       → Whole (To to₂) out₂
   attribute-copied x y kind k n0 n1 n2 to₂ out₂ h =
       copied-emits e unit values name value rs w l b out at to out₁ first lists map depth

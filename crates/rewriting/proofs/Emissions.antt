@@ -7,17 +7,18 @@ use mathlib.Core.List.{List, [], _++_, append-assoc, append-nil}
 use mathlib.Core.Option.{Option, none, some}
 use mathlib.Core.Logic.{⊎-elim}
 use lib.ListN.{length, take, drop, length-append, length-drop, drop-of-length-le, take-append-drop}
-use lib.Seq.{length-take-le, take-at, drop-append-add, drop-drop, take-all}
+use lib.Seq.{length-take-le, take-at, drop-append-add, drop-drop, take-all, take-nil}
 use lib.Dec.{T, ltb, leb, eqb}
-use mir.Facts.{yes-ltb, yes-leb, eqb-yes, eqb-no, no-eqb, yes-eqb}
+use mir.Facts.{yes-ltb, yes-leb, no-leb, leb-yes, eqb-yes, eqb-no, no-eqb, yes-eqb}
 use Rattle.readers.specs.Choice.{pick, pick-yes, pick-no, either, _and_}
 use Rattle.readers.specs.Layout.{Encoded, width, numberBytes, length-number}
 use Rattle.readers.specs.References.{encodedBy}
 use Rattle.rewriting.specs.Places.{Place}
 use Rattle.rewriting.specs.Indices.{rankIn, rankOr}
-use Rattle.rewriting.specs.Written.{groupsFit, bytesFit, numberFits, Put, put, asMapped, ListHeld}
+use Rattle.rewriting.specs.Written.{groupsFit, bytesFit, numberFits, unfit, Put, over, put, asMapped, ListHeld}
 use Rattle.rewriting.specs.Rewriting.{Lists, fits, orNext, isSome, orSelf}
-use Rattle.rewriting.specs.Emission.{between, Emits, Wide, holds, numberRefusal, offsetRefusal, Lent}
+use Rattle.rewriting.specs.Emission.{between, copiedCount, Emits, Within, onward, Wide, holds, numberRefusal, offsetRefusal, Lent}
+use Rattle.rewriting.proofs.Putting.{fit-room, bytes-room}
 use Rattle.rewriting.specs.declared.emit.Emitted.{Emitted}
 use Rattle.rewriting.specs.declared.emit.Emitted.the-variants.{To, Refused}
 use Rattle.rewriting.specs.declared.lists.ListCount.{ListCount}
@@ -72,6 +73,12 @@ part-length out at = length-take-le (length out - at) (drop at out) (omega (arit
 
 -- ---- one after the other
 
+-- `bytes` are to be written from `at` on, or refused by n: what is answered, with the next free byte, and how the output then is, if it has room for them
+pub record EmitsAt (n : ℕ) (bytes out : List ℕ) (at : ℕ) (r : Emitted) (out′ : List ℕ) : Type 0 where
+  pub size : length out′ ≡ length out
+  pub fine : at + length bytes ≤ length out → n ≡ 0 → (r ≡ To (at + length bytes)) × (out′ ≡ put out at bytes)
+  pub no : at + length bytes ≤ length out → (n ≡ 0 → ⊥) → r ≡ Refused n
+
 emitted-to : (a b : ℕ) → To a ≡ To b → a ≡ b
 emitted-to a b h = cc
 
@@ -81,7 +88,7 @@ emitted-no a b h = cc
 emitted-not : (a b : ℕ) → To a ≡ Refused b → ⊥
 emitted-not a b h = let z : _≡_ {A = ℕ} 0 1 = cc in absurd (omega arith)
 
-pub emits-none : (out : List ℕ) (at : ℕ) → Emits 0 [] out at (To at) out
+pub emits-none : (out : List ℕ) (at : ℕ) → EmitsAt 0 [] out at (To at) out
 emits-none out at =
     record {
       size = refl;
@@ -90,15 +97,15 @@ emits-none out at =
     }
 
 -- where there is no room nothing is said
-pub emits-short : (n : ℕ) (bytes out : List ℕ) (at : ℕ) (r : Emitted) → length out < at + length bytes → Emits n bytes out at r out
+pub emits-short : (n : ℕ) (bytes out : List ℕ) (at : ℕ) (r : Emitted) → length out < at + length bytes → EmitsAt n bytes out at r out
 emits-short n bytes out at r h = record { size = refl; fine = λ room _. absurd (omega arith); no = λ room _. absurd (omega arith) }
 
-pub emits-no : (n : ℕ) (bytes out : List ℕ) (at : ℕ) (out′ : List ℕ) → (n ≡ 0 → ⊥) → length out′ ≡ length out → Emits n bytes out at (Refused n) out′
+pub emits-no : (n : ℕ) (bytes out : List ℕ) (at : ℕ) (out′ : List ℕ) → (n ≡ 0 → ⊥) → length out′ ≡ length out → EmitsAt n bytes out at (Refused n) out′
 emits-no n bytes out at out′ h l = record { size = l; fine = λ _ z. absurd (h z); no = λ _ _. refl }
 
-pub emits-as : {n m : ℕ} {a b : List ℕ} {out : List ℕ} {at : ℕ} {r : Emitted} {out′ : List ℕ} → n ≡ m → a ≡ b → Emits n a out at r out′ → Emits m b out at r out′
+pub emits-as : {n m : ℕ} {a b : List ℕ} {out : List ℕ} {at : ℕ} {r : Emitted} {out′ : List ℕ} → n ≡ m → a ≡ b → EmitsAt n a out at r out′ → EmitsAt m b out at r out′
 emits-as {m = m} {a = a} {out = out} {at = at} {r = r} {out′ = out′} p q h =
-    subst (λ x. Emits m x out at r out′) q (subst (λ x. Emits x a out at r out′) p h)
+    subst (λ x. EmitsAt m x out at r out′) q (subst (λ x. EmitsAt x a out at r out′) p h)
 
 module _ (lists : Lists) (map : List Place) (depth : ℕ) where
   next-yes : (n m : ℕ) → n ≡ 0 → orNext lists map depth n m ≡ m
@@ -110,8 +117,8 @@ module _ (lists : Lists) (map : List Place) (depth : ℕ) where
   next-no n m h = pick-no _ _ _ (no-eqb {a = n} {b = 0} h)
 
   module _ (n m : ℕ) (a b out : List ℕ) (at : ℕ) where
-    pub emits-then : (to : ℕ) (out₁ : List ℕ) (r : Emitted) (out₂ : List ℕ) → Emits n a out at (To to) out₁ → Emits m b out₁ to r out₂
-        → Emits (orNext lists map depth n m) (a ++ b) out at r out₂
+    pub emits-then : (to : ℕ) (out₁ : List ℕ) (r : Emitted) (out₂ : List ℕ) → EmitsAt n a out at (To to) out₁ → EmitsAt m b out₁ to r out₂
+        → EmitsAt (orNext lists map depth n m) (a ++ b) out at r out₂
     emits-then to out₁ r out₂ f g =
         let l : length (a ++ b) ≡ length a + length b = length-append a b in
         let s : length out₁ ≡ length out = f .size in
@@ -136,7 +143,7 @@ module _ (lists : Lists) (map : List Place) (depth : ℕ) where
               (either (eqb n 0));
         }
 
-    pub emits-stop : (k : ℕ) (out₁ : List ℕ) → Emits n a out at (Refused k) out₁ → Emits (orNext lists map depth n m) (a ++ b) out at (Refused k) out₁
+    pub emits-stop : (k : ℕ) (out₁ : List ℕ) → EmitsAt n a out at (Refused k) out₁ → EmitsAt (orNext lists map depth n m) (a ++ b) out at (Refused k) out₁
     emits-stop k out₁ f =
         let l : length (a ++ b) ≡ length a + length b = length-append a b in
         let zero-not : at + length (a ++ b) ≤ length out → n ≡ 0 → ⊥ = (λ room z. emitted-not _ _ (sym (f .fine (omega arith) z .0))) in
@@ -149,33 +156,195 @@ module _ (lists : Lists) (map : List Place) (depth : ℕ) where
           no = λ room z. f .no (omega arith) (zero-not room) ∙ ap Refused (sym (next-no n m (zero-not room)));
         }
 
--- ---- bytes of a slice
+-- ---- from the start of a part
 
-module _ (unit out : List ℕ) (from to at : ℕ) where
-  pub bytes-none : to ≤ from → from ≤ to → to ≤ length unit → Emits 0 (between unit from to) out at (To at) out
-  unfolding between
-  bytes-none g h l =
-      emits-as refl (ap (λ n. take n (drop from unit)) (let z : 0 ≡ to - from = omega arith in z)) (emits-none out at)
-
-  pub bytes-past : length unit < to → from ≤ to → to ≤ length unit → Emits 0 (between unit from to) out at (To at) out
-  bytes-past g h l = absurd (omega arith)
-
-  pub bytes-short : length out < at → from ≤ to → to ≤ length unit → Emits 0 (between unit from to) out at (To at) out
-  bytes-short g h l = emits-short 0 (between unit from to) out at (To at) (omega arith)
-
-  pub bytes-put : (w : List ℕ) → length (take at out ++ (w ++ drop (length out - at) (drop at out))) ≡ length out
-      → (length (take (to - from) (drop from unit)) ≤ length (take (length out - at) (drop at out))
-      → w ≡ take (to - from) (drop from unit) ++ drop (length (take (to - from) (drop from unit))) (take (length out - at) (drop at out)))
-      → from ≤ to → to ≤ length unit
-      → Emits 0 (between unit from to) out at (To (at + (to - from))) (take at out ++ (w ++ drop (length out - at) (drop at out)))
-  unfolding between
-  bytes-put w s f h l =
-      let n : length (take (to - from) (drop from unit)) ≡ to - from = length-take-le (to - from) (drop from unit) (omega (arith, length-drop from unit)) in
+module _ {n : ℕ} {bytes out : List ℕ} {r : Emitted} {out′ : List ℕ} where
+  -- from the output's first byte on
+  pub at-start : Emits n bytes out r out′ → EmitsAt n bytes out 0 r out′
+  unfolding put
+  at-start f =
       record {
-        size = s;
-        fine = λ room _. (ap (λ m. To (at + m)) (sym n), put-home out w (take (to - from) (drop from unit)) at (f (omega (arith, part-length out at))));
+        size = f .size;
+        fine = λ room z. (
+          f .fine (omega arith) z .0 ∙ ap To (let h : length bytes ≡ 0 + length bytes = omega arith in h),
+          f .fine (omega arith) z .1 ∙ ap (λ m. bytes ++ drop m out) (let h : length bytes ≡ 0 + length bytes = omega arith in h),
+        );
+        no = λ room z. f .no (omega arith) z;
+      }
+
+  pub from-start : EmitsAt n bytes out 0 r out′ → Emits n bytes out r out′
+  unfolding put
+  from-start f =
+      record {
+        size = f .size;
+        fine = λ room z. (
+          f .fine (omega arith) z .0 ∙ ap To (let h : 0 + length bytes ≡ length bytes = omega arith in h),
+          f .fine (omega arith) z .1 ∙ ap (λ m. bytes ++ drop m out) (let h : 0 + length bytes ≡ length bytes = omega arith in h),
+        );
+        no = λ room z. f .no (omega arith) z;
+      }
+
+-- a part from `at` on, filled by another writer, and home again
+module _ (out : List ℕ) (at : ℕ) (i : at ≤ length out) (x : List ℕ) where
+  abbrev part : List ℕ
+  part = take (length out - at) (drop at out)
+
+  abbrev home : List ℕ
+  home = take at out ++ (x ++ drop (length out - at) (drop at out))
+
+  pub home-size : length x ≡ length part → length home ≡ length out
+  home-size h =
+      let d : List ℕ = drop (length out - at) (drop at out) in
+      omega (arith, length-append (take at out) (x ++ d), length-append x d, length-take-le at out i, length-drop (length out - at) (drop at out), length-drop at out, part-length out at)
+
+  pub emits-home : {n : ℕ} {bytes : List ℕ} {r : Emitted} → Emits n bytes part r x → EmitsAt n bytes out at (onward at r) home
+  unfolding onward
+  emits-home {bytes = bytes} f =
+      record {
+        size = home-size (f .size);
+        fine = λ room z.
+            (let k : length bytes ≤ length part = omega (arith, part-length out at) in (ap (onward at) (f .fine k z .0), put-home out x bytes at (f .fine k z .1)));
+        no = λ room z. ap (onward at) (f .no (omega (arith, part-length out at)) z);
+      }
+
+-- ---- bytes that are copied
+
+pub count-none : (bytes out : List ℕ) → length out < length bytes → 0 ≡ copiedCount bytes out
+unfolding copiedCount
+count-none bytes out h = sym (pick-no _ _ _ (no-leb {a = length bytes} {b = length out} h))
+
+pub count-all : (bytes out : List ℕ) → length bytes ≤ length out → length bytes ≡ copiedCount bytes out
+unfolding copiedCount
+count-all bytes out h = sym (pick-yes _ _ _ (yes-leb {a = length bytes} {b = length out} h))
+
+module _ (bytes out : List ℕ) (n : ℕ) (out′ : List ℕ) (p : n ≡ copiedCount bytes out) (q : out′ ≡ over bytes out) where
+  copied-room : n ≤ length out
+  unfolding copiedCount
+  copied-room =
+      ⊎-elim
+      (λ t. let l : length bytes ≤ length out = leb-yes {a = length bytes} {b = length out} t in let w : n ≡ length bytes = p ∙ pick-yes _ _ _ t in omega arith)
+      (λ t. let w : n ≡ 0 = p ∙ pick-no _ _ _ t in omega arith)
+      (either (leb (length bytes) (length out)))
+
+  copied-size : length out′ ≡ length out
+  unfolding over
+  copied-size =
+      ⊎-elim
+      (λ t. let l : length bytes ≤ length out = leb-yes {a = length bytes} {b = length out} t in
+      ap length (q ∙ pick-yes _ _ _ t) ∙ length-append bytes (drop (length bytes) out)
+      ∙ (let z : length bytes + length (drop (length bytes) out) ≡ length out = omega (arith, length-drop (length bytes) out) in z))
+      (λ t. ap length (q ∙ pick-no _ _ _ t))
+      (either (leb (length bytes) (length out)))
+
+  pub copied-within : Within out (To n) out′
+  copied-within = record { size = copied-size; room = λ m w. subst (λ k. k ≤ length out) (emitted-to n m w) copied-room }
+
+  copied-emits : Emits 0 bytes out (To n) out′
+  unfolding copiedCount over
+  copied-emits =
+      record {
+        size = copied-size;
+        fine = λ room _. (
+          ap To (p ∙ pick-yes _ _ _ (yes-leb {a = length bytes} {b = length out} room)),
+          q ∙ pick-yes _ _ _ (yes-leb {a = length bytes} {b = length out} room),
+        );
         no = λ _ z. absurd (z refl);
       }
+
+  -- from the first byte on
+  pub copied-front : (those : List ℕ) → bytes ≡ those → EmitsAt 0 those out 0 (To n) out′
+  copied-front those w = emits-as refl w (at-start copied-emits)
+
+-- ---- a writer that has written so many bytes, and another one on the part behind them
+
+pub within-start : (out : List ℕ) → Within out (To 0) out
+within-start out = record { size = refl; room = λ n q. (let w : 0 ≡ n = emitted-to 0 n q in omega arith) }
+
+pub within-no : (out : List ℕ) (k : ℕ) (out′ : List ℕ) → length out′ ≡ length out → Within out (Refused k) out′
+within-no out k out′ s = record { size = s; room = λ n q. absurd (emitted-not n k (sym q)) }
+
+pub within-to : (out : List ℕ) (n : ℕ) (out′ : List ℕ) → length out′ ≡ length out → n ≤ length out → Within out (To n) out′
+within-to out n out′ s h = record { size = s; room = λ m q. subst (λ k. k ≤ length out) (emitted-to n m q) h }
+
+pub within-self : {out out′ : List ℕ} {n : ℕ} → Within out (To n) out′ → Within out′ (To n) out′
+within-self {out = out} {out′ = out′} {n = n} f = within-to out′ n out′ refl (let a : n ≤ length out = f .room n refl in let s : length out′ ≡ length out = f .size in omega arith)
+
+pub within-trans : {out out₁ out₂ : List ℕ} {r z : Emitted} → Within out r out₁ → Within out₁ z out₂ → Within out z out₂
+within-trans {out = out} {out₁ = out₁} {z = z} f g =
+    record { size = g .size ∙ f .size; room = λ n q. (let a : n ≤ length out₁ = g .room n q in let s : length out₁ ≡ length out = f .size in omega arith) }
+
+pub size-small : {out out′ : List ℕ} {r : Emitted} → Within out r out′ → length out < 2 ^ 64 → length out′ < 2 ^ 64
+size-small f l = subst (λ n. n < 2 ^ 64) (sym (f .size)) l
+
+pub onward-to : (at n : ℕ) (r : Emitted) → r ≡ To n → onward at r ≡ To (at + n)
+unfolding onward
+onward-to at n r q = ap (onward at) q
+
+pub onward-no : (at n : ℕ) (r : Emitted) → r ≡ Refused n → onward at r ≡ Refused n
+unfolding onward
+onward-no at n r q = ap (onward at) q
+
+onward-room : (r : Emitted) (at m k : ℕ) → ((n : ℕ) → r ≡ To n → n ≤ m) → at + m ≤ k → (n : ℕ) → onward at r ≡ To n → n ≤ k
+unfolding onward
+onward-room (To j) at m k h l n q = let a : j ≤ m = h j refl in let w : at + j ≡ n = emitted-to (at + j) n q in omega arith
+onward-room (Refused j) at m k h l n q = absurd (emitted-not n j (sym q))
+
+module _ (out₀ out : List ℕ) (to : ℕ) (inv : Within out₀ (To to) out) where
+  pub inside : to ≤ length out
+  inside = let a : to ≤ length out₀ = inv .room to refl in let s : length out ≡ length out₀ = inv .size in omega arith
+
+  pub emits-on : {n : ℕ} {bytes : List ℕ} {r : Emitted} {x : List ℕ} → Emits n bytes (take (length out - to) (drop to out)) r x
+      → EmitsAt n bytes out to (onward to r) (take to out ++ (x ++ drop (length out - to) (drop to out)))
+  emits-on {x = x} f = emits-home out to inside x f
+
+  pub copied-on : (bytes : List ℕ) (n : ℕ) (x : List ℕ) → n ≡ copiedCount bytes (take (length out - to) (drop to out)) → x ≡ over bytes (take (length out - to) (drop to out))
+      → (those : List ℕ) → bytes ≡ those → EmitsAt 0 those out to (To (to + n)) (take to out ++ (x ++ drop (length out - to) (drop to out)))
+  unfolding onward
+  copied-on bytes n x p q those w = emits-as refl w (emits-on (copied-emits bytes (take (length out - to) (drop to out)) n x p q))
+
+  module _ (r : Emitted) (x : List ℕ) (w : Within (take (length out - to) (drop to out)) r x) where
+    home-as : length (take to out ++ (x ++ drop (length out - to) (drop to out))) ≡ length out₀
+    home-as = home-size out to inside x (w .size) ∙ inv .size
+
+    pub within-after : (z : Emitted) → z ≡ onward to r → Within out₀ z (take to out ++ (x ++ drop (length out - to) (drop to out)))
+    within-after z q =
+        record {
+          size = home-as;
+          room = λ n k. onward-room r to (length (take (length out - to) (drop to out))) (length out₀) (w .room) (omega (arith, inside, part-length out to, inv .size)) n (sym q ∙ k);
+        }
+
+    pub within-on : (n : ℕ) → r ≡ To n → Within out₀ (To (to + n)) (take to out ++ (x ++ drop (length out - to) (drop to out)))
+    within-on n q = within-after (To (to + n)) (sym (onward-to to n r q))
+
+    pub within-stop : (k : ℕ) → Within out₀ (Refused k) (take to out ++ (x ++ drop (length out - to) (drop to out)))
+    within-stop k = within-no out₀ k _ home-as
+
+    pub after-small : length out₀ < 2 ^ 64 → (n : ℕ) → r ≡ To n → to + n < 2 ^ 64
+    after-small l n q = let a : to + n ≤ length out₀ = within-on n q .room (to + n) refl in omega arith
+
+pub emits-after : {n : ℕ} {bytes out : List ℕ} {r z : Emitted} {out′ : List ℕ} → z ≡ r → EmitsAt n bytes out 0 r out′ → Emits n bytes out z out′
+emits-after {n = n} {bytes = bytes} {out = out} {out′ = out′} q f = subst (λ y. Emits n bytes out y out′) (sym q) (from-start f)
+
+-- ---- bytes of a slice
+
+module _ (s : List ℕ) (from to : ℕ) where
+  pub between-nothing : to ≤ from → [] ≡ between s from to
+  unfolding between
+  between-nothing h = ap (λ n. take n (drop from s)) (let z : 0 ≡ to - from = omega arith in z)
+
+  pub between-past : length s ≤ from → [] ≡ between s from to
+  unfolding between
+  between-past h = sym (ap (take (to - from)) (drop-of-length-le s h) ∙ take-nil (to - from))
+
+  pub between-rest : length s < to → take (length s - from) (drop from s) ≡ between s from to
+  unfolding between
+  between-rest h =
+      take-all (length s - from) (drop from s) (omega (arith, length-drop from s))
+      ∙ sym (take-all (to - from) (drop from s) (omega (arith, length-drop from s)))
+
+  pub between-whole : take (to - from) (drop from s) ≡ between s from to
+  unfolding between
+  between-whole = refl
 
 -- ---- numbers
 
@@ -212,7 +381,12 @@ fits-by true w v n h l =
     and-true (ltb 0 w) _ (yes-ltb {a = 0} {b = w} (h .0)) ∙ and-true (leb w 10) _ (yes-leb {a = w} {b = 10} (h .1)) ∙ and-true (leb w n) _ (yes-leb {a = w} {b = n} l)
 fits-by false w v n h l = and-true (leb w 8) _ (yes-leb {a = w} {b = 8} h) ∙ and-true (leb w n) _ (yes-leb {a = w} {b = n} l)
 
-module _ (value w : ℕ) (leb′ : Bool) (out : List ℕ) (at : ℕ) where
+fits-room : (leb′ : Bool) (w v n : ℕ) → numberFits leb′ v w n ≡ true → w ≤ n
+unfolding numberFits pick
+fits-room true w v n h = fit-room v w n h
+fits-room false w v n h = bytes-room v w n h
+
+module _ (value w : ℕ) (leb′ : Bool) (out : List ℕ) where
   abbrev code : Encoded
   code = encodedBy leb′ w
 
@@ -222,36 +396,34 @@ module _ (value w : ℕ) (leb′ : Bool) (out : List ℕ) (at : ℕ) where
   the-length : Wide leb′ w → length the-bytes ≡ w
   the-length h = length-number false code value ∙ wide-width leb′ w h
 
-  pub number-past : length out < at → Wide leb′ w → Emits (numberRefusal code value) the-bytes out at (Refused 9) out
-  number-past g h = emits-short _ the-bytes out at (Refused 9) (omega (arith, the-length h))
+  module _ (l : value < 2 ^ 64) (x : List ℕ) (s : length x ≡ length out) (r : Bool) (did : Put (numberFits leb′ value w (length out)) (numberBytes false code value) w out (unfit leb′ w out) r x) where
+    answered : Wide leb′ w → w ≤ length out → r ≡ holds code value
+    answered h g = did .told ∙ fits-by leb′ w value (length out) h g ∙ sym (holds-by leb′ w value h l)
 
-  pub number-short : at ≤ length out → length out - at < w → Wide leb′ w → Emits (numberRefusal code value) the-bytes out at (Refused 9) out
-  number-short i g h = emits-short _ the-bytes out at (Refused 9) (omega (arith, the-length h))
+    pub number-room : r ≡ true → w ≤ length out
+    number-room t = fits-room leb′ w value (length out) (sym (did .told) ∙ t)
 
-  module _ (i : at ≤ length out) (g : w ≤ length out - at) (l : value < 2 ^ 64) (x : List ℕ)
-      (s : length (take at out ++ (x ++ drop (length out - at) (drop at out))) ≡ length out) (r : Bool)
-      (did : Put (numberFits leb′ value w (length (take (length out - at) (drop at out)))) (numberBytes false code value) w (take (length out - at) (drop at out)) r x) where
-    answered : Wide leb′ w → r ≡ holds code value
-    answered h = did .told ∙ fits-by leb′ w value _ h (let k : w ≤ length (take (length out - at) (drop at out)) = omega (arith, part-length out at) in k) ∙ sym (holds-by leb′ w value h l)
-
-    pub number-yes : r ≡ true → Wide leb′ w → Emits (numberRefusal code value) the-bytes out at (To (at + w)) (take at out ++ (x ++ drop (length out - at) (drop at out)))
+    pub number-yes : r ≡ true → Wide leb′ w → Emits (numberRefusal code value) the-bytes out (To w) x
     unfolding numberRefusal pick
     number-yes t h =
-        let z : numberRefusal code value ≡ 0 = ap (λ b. pick b 0 9) (sym (answered h) ∙ t) in
+        let z : numberRefusal code value ≡ 0 = ap (λ b. pick b 0 9) (sym (answered h (number-room t)) ∙ t) in
         let n : length the-bytes ≡ w = the-length h in
-        let p : x ≡ the-bytes ++ drop w (take (length out - at) (drop at out)) =
-        did .left ∙ ap (λ b. pick b (the-bytes ++ drop w (take (length out - at) (drop at out))) (take (length out - at) (drop at out))) (sym (did .told) ∙ t) in
+        let p : x ≡ the-bytes ++ drop w out = did .left ∙ ap (λ b. pick b (the-bytes ++ drop w out) (unfit leb′ w out)) (sym (did .told) ∙ t) in
         record {
           size = s;
-          fine = λ _ _. (ap (λ m. To (at + m)) (sym n), put-home out x the-bytes at (p ∙ ap (λ m. the-bytes ++ drop m (take (length out - at) (drop at out))) (sym n)));
+          fine = λ _ _. (ap To (sym n), p ∙ ap (λ m. the-bytes ++ drop m out) (sym n));
           no = λ _ k. absurd (k z);
         }
 
-    pub number-no : r ≡ false → Wide leb′ w → Emits (numberRefusal code value) the-bytes out at (Refused 9) (take at out ++ (x ++ drop (length out - at) (drop at out)))
+    pub number-no : r ≡ false → Wide leb′ w → Emits (numberRefusal code value) the-bytes out (Refused 9) x
     unfolding numberRefusal pick
     number-no t h =
-        let z : numberRefusal code value ≡ 9 = ap (λ b. pick b 0 9) (sym (answered h) ∙ t) in
-        emits-as (sym z) refl (emits-no 9 the-bytes out at _ (λ k. absurd (omega arith)) s)
+        let nine : length the-bytes ≤ length out → numberRefusal code value ≡ 9 = (λ room. ap (λ b. pick b 0 9) (sym (answered h (omega (arith, the-length h))) ∙ t)) in
+        record {
+          size = s;
+          fine = λ room z. (let q : numberRefusal code value ≡ 9 = nine room in absurd (omega arith));
+          no = λ room _. ap Refused (sym (nine room));
+        }
 
 -- ---- offsets
 
@@ -265,20 +437,20 @@ unfolding asMapped
 mapped-none none h = refl
 mapped-none (some n) h = let z : _≡_ {A = ℕ} 0 1 = cc in absurd (omega arith)
 
-module _ (new : Mapped) (w : ℕ) (leb′ : Bool) (out : List ℕ) (at : ℕ) where
+module _ (new : Mapped) (w : ℕ) (leb′ : Bool) (out : List ℕ) where
   pub offset-some : (value : ℕ) → new ≡ Mapped′ value → (r : Emitted) (out′ : List ℕ)
-      → (Wide leb′ w → Emits (numberRefusal (encodedBy leb′ w) value) (numberBytes false (encodedBy leb′ w) value) out at r out′)
-      → (o : Option ℕ) (v : ℕ) → new ≡ asMapped o → Wide leb′ w → Emits (offsetRefusal (encodedBy leb′ w) v o) (numberBytes false (encodedBy leb′ w) (orSelf v o)) out at r out′
+      → (Wide leb′ w → Emits (numberRefusal (encodedBy leb′ w) value) (numberBytes false (encodedBy leb′ w) value) out r out′)
+      → (o : Option ℕ) (v : ℕ) → new ≡ asMapped o → Wide leb′ w → Emits (offsetRefusal (encodedBy leb′ w) v o) (numberBytes false (encodedBy leb′ w) (orSelf v o)) out r out′
   unfolding offsetRefusal orSelf isSome pick
   offset-some value q r out′ f o v p h =
-      subst (λ z. Emits (offsetRefusal (encodedBy leb′ w) v z) (numberBytes false (encodedBy leb′ w) (orSelf v z)) out at r out′) (sym (mapped-some o value (sym q ∙ p))) (f h)
+      subst (λ z. Emits (offsetRefusal (encodedBy leb′ w) v z) (numberBytes false (encodedBy leb′ w) (orSelf v z)) out r out′) (sym (mapped-some o value (sym q ∙ p))) (f h)
 
   pub offset-none : new ≡ Nothing
-      → (o : Option ℕ) (v : ℕ) → new ≡ asMapped o → Wide leb′ w → Emits (offsetRefusal (encodedBy leb′ w) v o) (numberBytes false (encodedBy leb′ w) (orSelf v o)) out at (Refused 8) out
+      → (o : Option ℕ) (v : ℕ) → new ≡ asMapped o → Wide leb′ w → Emits (offsetRefusal (encodedBy leb′ w) v o) (numberBytes false (encodedBy leb′ w) (orSelf v o)) out (Refused 8) out
   unfolding offsetRefusal orSelf isSome pick
   offset-none q o v p h =
-      subst (λ z. Emits (offsetRefusal (encodedBy leb′ w) v z) (numberBytes false (encodedBy leb′ w) (orSelf v z)) out at (Refused 8) out) (sym (mapped-none o (sym q ∙ p)))
-      (emits-no 8 _ out at out (λ k. absurd (omega arith)) refl)
+      subst (λ z. Emits (offsetRefusal (encodedBy leb′ w) v z) (numberBytes false (encodedBy leb′ w) (orSelf v z)) out (Refused 8) out) (sym (mapped-none o (sym q ∙ p)))
+      (record { size = refl; fine = λ _ z. absurd (let q : _≡_ {A = ℕ} 8 0 = z in omega arith); no = λ _ _. refl })
 
 -- ---- indices
 

@@ -42,11 +42,11 @@ use Rattle.marking.specs.declared.root_test.NextAttribute.{NextAttribute}
 use Rattle.marking.specs.declared.root_test.NextAttribute.the-variants.{More, NoMore}
 use Rattle.rewriting.specs.Places.{Place}
 use Rattle.rewriting.specs.Rewriting.{Lists, newValue, readsRefusal, piecesRefusal, orNext}
-use Rattle.rewriting.specs.Emission.{between, Emits}
+use Rattle.rewriting.specs.Emission.{between}
 use Rattle.rewriting.specs.declared.emit.Emitted.{Emitted}
 use Rattle.rewriting.specs.declared.emit.Emitted.the-variants.{To, Refused}
 use Rattle.rewriting.proofs.DeepReads.{Like, like-width, like-patched, TokenAsBytes, token-as-bytes, LayoutAsBytes, as-bytes, TerminatorRead, EntryRead, deep-terminator, deep-entry, deep-inside}
-use Rattle.rewriting.proofs.Emissions.{emits-none, emits-as, emits-then, emits-stop}
+use Rattle.rewriting.proofs.Emissions.{EmitsAt, emits-none, emits-as, emits-then, emits-stop}
 use Rattle.rewriting.proofs.Splices.{next-zero}
 use Rattle.rewriting.proofs.ValueParts.{between-from, copied-refusal, copied-written, Value, value-of}
 
@@ -251,8 +251,8 @@ pub record Entering (lists : Lists) (map : List Place) (depth : ℕ) (e : Encodi
   pub inside : from ≤ length unit
   pub deep : readIn false (expressionIn e) (specsLayout e (attributesFrom abbreviations p)) (drop from unit) ≡ some (reads, rest)
   pub onward : (r : Emitted) (out′ : List ℕ)
-      → Emits (readsRefusal lists map depth reads) (writeAll false (patchAll (newValue lists map depth) reads)) out to r out′
-      → Emits (readsRefusal lists map depth whole) (writeAll false (patchAll (newValue lists map depth) whole)) out₀ at r out′
+      → EmitsAt (readsRefusal lists map depth reads) (writeAll false (patchAll (newValue lists map depth) reads)) out to r out′
+      → EmitsAt (readsRefusal lists map depth whole) (writeAll false (patchAll (newValue lists map depth) whole)) out₀ at r out′
 
 -- the measure
 pub entering-less : (e : Encoding) (abbreviations : List ℕ) (p : ℕ) (unit : List ℕ) (from : ℕ) (x : EntryAttribute) (y : NextAttribute) → y ≡ nextAttribute e abbreviations p unit from → y ≡ More x
@@ -267,7 +267,7 @@ entering-begin lists map depth e abbreviations unit whole out p from to after i 
 
 module _ (lists : Lists) (map : List Place) (depth : ℕ) (e : Encoding) (l : e .«big_endian» ≡ false) (abbreviations unit : List ℕ) (whole : List Read) (out₀ : List ℕ) (at : ℕ) where
   module _ (out : List ℕ) (p from to : ℕ) (g : Entering lists map depth e abbreviations unit whole out₀ at out p from to) (y : NextAttribute) (q : y ≡ nextAttribute e abbreviations p unit from) where
-    pub entering-end : y ≡ NoMore → Emits (readsRefusal lists map depth whole) (writeAll false (patchAll (newValue lists map depth) whole)) out₀ at (To to) out
+    pub entering-end : y ≡ NoMore → EmitsAt (readsRefusal lists map depth whole) (writeAll false (patchAll (newValue lists map depth) whole)) out₀ at (To to) out
     unfolding readsRefusal writeAll patchAll
     entering-end h =
         let n : g .reads ≡ [] = none-left e l abbreviations p unit from (g .reads) (g .rest) (g .deep) (sym q ∙ h) in
@@ -310,14 +310,14 @@ module _ (lists : Lists) (map : List Place) (depth : ℕ) (e : Encoding) (l : e 
       module _ (a : Emitted) (out₁ : List ℕ)
           (f : (rs : List Read) (rest : List ℕ) → from ≤ length unit → attributeAt e unit from (x .name) (x .declared) ≡ Attribute′ (x .value)
           → readIn false (expressionIn e) (attributeLayout e (x .name) (x .declared)) (drop from unit) ≡ some (rs, rest)
-          → Emits (readsRefusal lists map depth rs) (writeAll false (patchAll (newValue lists map depth) rs)) out to a out₁) where
-        here : Emits (readsRefusal lists map depth (parts .one)) (writeAll false (patchAll (newValue lists map depth) (parts .one))) out to a out₁
+          → EmitsAt (readsRefusal lists map depth rs) (writeAll false (patchAll (newValue lists map depth) rs)) out to a out₁) where
+        here : EmitsAt (readsRefusal lists map depth (parts .one)) (writeAll false (patchAll (newValue lists map depth) (parts .one))) out to a out₁
         here = f (parts .one) (parts .mid) (g .inside) its-value its-reads
 
         together : (z : Emitted) (out₂ : List ℕ)
-            → Emits (orNext lists map depth (readsRefusal lists map depth (parts .one)) (readsRefusal lists map depth (parts .others)))
+            → EmitsAt (orNext lists map depth (readsRefusal lists map depth (parts .one)) (readsRefusal lists map depth (parts .others)))
             (writeAll false (patchAll (newValue lists map depth) (parts .one)) ++ writeAll false (patchAll (newValue lists map depth) (parts .others))) out to z out₂
-            → Emits (readsRefusal lists map depth whole) (writeAll false (patchAll (newValue lists map depth) whole)) out₀ at z out₂
+            → EmitsAt (readsRefusal lists map depth whole) (writeAll false (patchAll (newValue lists map depth) whole)) out₀ at z out₂
         together z out₂ k =
             g .onward z out₂
             (emits-as
@@ -325,12 +325,12 @@ module _ (lists : Lists) (map : List Place) (depth : ℕ) (e : Encoding) (l : e 
             (sym (ap (λ rs. writeAll false (patchAll (newValue lists map depth) rs)) (parts .both) ∙ written-append (newValue lists map depth) (parts .one) (parts .others)))
             k)
 
-        pub entering-refused : (k : ℕ) → a ≡ Refused k → Emits (readsRefusal lists map depth whole) (writeAll false (patchAll (newValue lists map depth) whole)) out₀ at (Refused k) out₁
+        pub entering-refused : (k : ℕ) → a ≡ Refused k → EmitsAt (readsRefusal lists map depth whole) (writeAll false (patchAll (newValue lists map depth) whole)) out₀ at (Refused k) out₁
         entering-refused k w =
             together (Refused k) out₁
             (emits-stop lists map depth (readsRefusal lists map depth (parts .one)) (readsRefusal lists map depth (parts .others))
             (writeAll false (patchAll (newValue lists map depth) (parts .one))) (writeAll false (patchAll (newValue lists map depth) (parts .others))) out to k out₁
-            (subst (λ z. Emits (readsRefusal lists map depth (parts .one)) (writeAll false (patchAll (newValue lists map depth) (parts .one))) out to z out₁) w here))
+            (subst (λ z. EmitsAt (readsRefusal lists map depth (parts .one)) (writeAll false (patchAll (newValue lists map depth) (parts .one))) out to z out₁) w here))
 
         pub entering-on : (to₁ : ℕ) → a ≡ To to₁ → Entering lists map depth e abbreviations unit whole out₀ at out₁ (x .next .at) (x .value .field .end) to₁
         entering-on to₁ w =
@@ -344,7 +344,7 @@ module _ (lists : Lists) (map : List Place) (depth : ℕ) (e : Encoding) (l : e 
                   together z out₂
                   (emits-then lists map depth (readsRefusal lists map depth (parts .one)) (readsRefusal lists map depth (parts .others))
                   (writeAll false (patchAll (newValue lists map depth) (parts .one))) (writeAll false (patchAll (newValue lists map depth) (parts .others))) out to to₁ out₁ z out₂
-                  (subst (λ z. Emits (readsRefusal lists map depth (parts .one)) (writeAll false (patchAll (newValue lists map depth) (parts .one))) out to z out₁) w here) k);
+                  (subst (λ z. EmitsAt (readsRefusal lists map depth (parts .one)) (writeAll false (patchAll (newValue lists map depth) (parts .one))) out to z out₁) w here) k);
             }
 
 -- ---- the code
@@ -457,14 +457,14 @@ module _ (e : Encoding) (l : e .«big_endian» ≡ false) (abbreviations : List 
         omega (arith, length-drop start unit)
 
     entering-start : (specs values : ℕ) → specs ≡ x .declaration .attributes .at → values ≡ x .values .at → (lists : Lists) (map : List Place) (depth : ℕ) (out : List ℕ) (at to : ℕ) (out₁ : List ℕ)
-        → (start ≤ values → values ≤ length unit → Emits 0 (between unit start values) out at (To to) out₁)
+        → (start ≤ values → values ≤ length unit → EmitsAt 0 (between unit start values) out at (To to) out₁)
         → Entering lists map depth e abbreviations unit rs out at out₁ specs values to
     entering-start specs values p q lists map depth out at to out₁ f =
         let v : values ≡ start + coded .wide = q ∙ values-are in
         let s : specs ≡ coded .declaration .attributes .at = p ∙ ap (λ (y : Entry). y .declaration .attributes .at) entry-is in
         let i : values ≤ length unit = omega (arith, values-inside) in
         let code : List ℕ = take (coded .wide) (drop start unit) in
-        let first : Emits 0 code out at (To to) out₁ = emits-as refl (ap (between unit start) v ∙ between-from unit start (coded .wide)) (f (omega arith) i) in
+        let first : EmitsAt 0 code out at (To to) out₁ = emits-as refl (ap (between unit start) v ∙ between-from unit start (coded .wide)) (f (omega arith) i) in
         record {
           reads = coded .others;
           rest = rest;
@@ -482,10 +482,10 @@ module _ (e : Encoding) (l : e .«big_endian» ≡ false) (abbreviations : List 
 
     -- what is said of the attributes after the code is said of the entry
     pub entry-done : (specs values : ℕ) → specs ≡ x .declaration .attributes .at → values ≡ x .values .at → (lists : Lists) (map : List Place) (depth : ℕ) (out : List ℕ) (at to : ℕ) (out₁ : List ℕ)
-        → (start ≤ values → values ≤ length unit → Emits 0 (between unit start values) out at (To to) out₁) → (r : Emitted) (out₂ : List ℕ)
+        → (start ≤ values → values ≤ length unit → EmitsAt 0 (between unit start values) out at (To to) out₁) → (r : Emitted) (out₂ : List ℕ)
         → ((reads : List Read) (after : List ℕ) → values ≤ length unit → readIn false (expressionIn e) (specsLayout e (attributesFrom abbreviations specs)) (drop values unit) ≡ some (reads, after)
-        → Emits (readsRefusal lists map depth reads) (writeAll false (patchAll (newValue lists map depth) reads)) out₁ to r out₂)
-        → Emits (readsRefusal lists map depth rs) (writeAll false (patchAll (newValue lists map depth) rs)) out at r out₂
+        → EmitsAt (readsRefusal lists map depth reads) (writeAll false (patchAll (newValue lists map depth) reads)) out₁ to r out₂)
+        → EmitsAt (readsRefusal lists map depth rs) (writeAll false (patchAll (newValue lists map depth) rs)) out at r out₂
     entry-done specs values p q lists map depth out at to out₁ f r out₂ h =
         let s : Entering lists map depth e abbreviations unit rs out at out₁ specs values to = entering-start specs values p q lists map depth out at to out₁ f in
         s .onward r out₂ (h (s .reads) (s .rest) (s .inside) (s .deep))

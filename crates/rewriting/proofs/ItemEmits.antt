@@ -29,7 +29,7 @@ use Rattle.rewriting.specs.Places.{Place, Standing, keptFrom, offsetOf}
 use Rattle.rewriting.specs.Rewriting.{Unit as Unit′, Lists, itemsIn, readsOr, readsAt, newValue, orNext, readsRefusal, refusalFrom, bytesFrom}
 use Rattle.rewriting.specs.NextKept.{openKept, itemsBy, Stood, keptAt, NextItem, Answers}
 use Rattle.rewriting.specs.IndexLists.{ReadDeep, AllRead, Passable}
-use Rattle.rewriting.specs.Emission.{between, Emits}
+use Rattle.rewriting.specs.Emission.{between}
 use Rattle.rewriting.specs.declared.emit.Emitted.{Emitted}
 use Rattle.rewriting.specs.declared.emit.Emitted.the-variants.{To, Refused}
 use Rattle.rewriting.specs.declared.kept.Reading.{Reading}
@@ -38,7 +38,7 @@ use Rattle.rewriting.specs.declared.kept.Kept.{Kept}
 use Rattle.rewriting.specs.declared.kept.KeptStep.{KeptStep}
 use Rattle.rewriting.specs.declared.kept.KeptStep.the-variants.{Item as Item′, End}
 use Rattle.rewriting.proofs.DeepReads.{TerminatorRead, deep-kind, deep-terminator, deep-entry}
-use Rattle.rewriting.proofs.Emissions.{emits-none, emits-as, emits-then, emits-stop}
+use Rattle.rewriting.proofs.Emissions.{EmitsAt, emits-none, emits-as, emits-then, emits-stop}
 use Rattle.rewriting.proofs.ValueParts.{between-from, copied-refusal, copied-written}
 use Rattle.rewriting.proofs.KeptSteps.{stand}
 use Rattle.rewriting.proofs.KeptPasses.{shown-offset, next-forward, next-item, next-end, stood-start}
@@ -118,8 +118,8 @@ module _ (e : Encoding) (l : e .«big_endian» ≡ false) (abbreviations : List 
   terminator-refusal lists ps depth = ap (readsRefusal lists ps depth) alone ∙ copied-refusal lists ps depth (head .code) its-bytes (head .pieces) []
 
   -- its bytes are those of the unit, and nothing is refused
-  pub terminator-emits : (lists : Lists) (ps : List Place) (depth : ℕ) (out : List ℕ) (at : ℕ) (a : Emitted) (out₁ : List ℕ) → Emits 0 (between unit start end) out at a out₁
-      → Emits (readsRefusal lists ps depth rs) (writeAll false (patchAll (newValue lists ps depth) rs)) out at a out₁
+  pub terminator-emits : (lists : Lists) (ps : List Place) (depth : ℕ) (out : List ℕ) (at : ℕ) (a : Emitted) (out₁ : List ℕ) → EmitsAt 0 (between unit start end) out at a out₁
+      → EmitsAt (readsRefusal lists ps depth rs) (writeAll false (patchAll (newValue lists ps depth) rs)) out at a out₁
   terminator-emits lists ps depth out at a out₁ h =
       emits-as (sym (terminator-refusal lists ps depth))
       (ap (between unit start) terminator-end ∙ between-from unit start (head .wide) ∙ sym (terminator-patched (newValue lists ps depth))) h
@@ -135,10 +135,10 @@ module _ (r : Reading) (s table unit parents ends marks : List ℕ) (first : ℕ
 
   module _ (x : Sections) (u : Unit′) (lists : Lists) (ps : List Place) where
     abbrev pub Whole : List ℕ → Emitted → List ℕ → Type 0
-    Whole out₀ z out′ = Emits (refusalFrom x u lists ps (keptFrom marks 0 [] (itemsIn x u))) (bytesFrom x u lists ps (keptFrom marks 0 [] (itemsIn x u))) out₀ first z out′
+    Whole out₀ z out′ = EmitsAt (refusalFrom x u lists ps (keptFrom marks 0 [] (itemsIn x u))) (bytesFrom x u lists ps (keptFrom marks 0 [] (itemsIn x u))) out₀ 0 z out′
 
     abbrev From : List Standing → List ℕ → ℕ → Emitted → List ℕ → Type 0
-    From kept out to z out′ = Emits (refusalFrom x u lists ps kept) (bytesFrom x u lists ps kept) out to z out′
+    From kept out to z out′ = EmitsAt (refusalFrom x u lists ps kept) (bytesFrom x u lists ps kept) out to z out′
 
     -- a pass that has written what it met: what is said of the items from here on is said of all
     pub record Writing (out₀ : List ℕ) (t : Stand) (out : List ℕ) (to : ℕ) : Type 0 where
@@ -148,7 +148,7 @@ module _ (r : Reading) (s table unit parents ends marks : List ℕ) (first : ℕ
       pub onward : (z : Emitted) (out′ : List ℕ) → From (keptAt items parents ends marks t stack) out to z out′ → Whole out₀ z out′
 
     module _ (p : Passable x u r s table unit parents ends marks first) (l : r .encoding .«big_endian» ≡ false) where
-      pub writing-start : first ≡ u .header .first .0 → (out₀ : List ℕ) (n : Nesting) → n ≡ nestingOf [] → Writing out₀ (stand first 0 n) out₀ first
+      pub writing-start : first ≡ u .header .first .0 → (out₀ : List ℕ) (n : Nesting) → n ≡ nestingOf [] → Writing out₀ (stand first 0 n) out₀ 0
       unfolding openKept
       writing-start q out₀ n m =
           record {
@@ -156,7 +156,7 @@ module _ (r : Reading) (s table unit parents ends marks : List ℕ) (first : ℕ
             stood = stood-start items parents ends marks unit first n m (p .holds, p .ends-hold);
             deep = p .deep;
             onward = λ z out′ h.
-                subst (λ (is : List Item). From (keptFrom marks 0 [] is) out₀ first z out′) (ap items q ∙ items-are x u r s table unit (p .read) (p .found)) h;
+                subst (λ (is : List Item). From (keptFrom marks 0 [] is) out₀ 0 z out′) (ap items q ∙ items-are x u r s table unit (p .read) (p .found)) h;
           }
 
       module _ (out₀ : List ℕ) (t : Stand) (out : List ℕ) (to : ℕ) (g : Writing out₀ t out to) (o : KeptStep) (a : Answers items parents ends marks unit t o) where
@@ -198,10 +198,10 @@ module _ (r : Reading) (s table unit parents ends marks : List ℕ) (first : ℕ
 
           -- the emission of this item alone
           abbrev Here : Emitted → List ℕ → Type 0
-          Here b out₁ = Emits (readsRefusal lists ps (y .depth) reads) (writeAll false (patchAll (newValue lists ps (y .depth)) reads)) out to b out₁
+          Here b out₁ = EmitsAt (readsRefusal lists ps (y .depth) reads) (writeAll false (patchAll (newValue lists ps (y .depth)) reads)) out to b out₁
 
           together : (z : Emitted) (out′ : List ℕ)
-              → Emits (orNext lists ps (y .depth) (readsRefusal lists ps (y .depth) reads) (refusalFrom x u lists ps others))
+              → EmitsAt (orNext lists ps (y .depth) (readsRefusal lists ps (y .depth) reads) (refusalFrom x u lists ps others))
               (writeAll false (patchAll (newValue lists ps (y .depth)) reads) ++ bytesFrom x u lists ps others) out to z out′
               → Whole out₀ z out′
           unfolding refusalFrom bytesFrom
@@ -238,7 +238,7 @@ module _ (r : Reading) (s table unit parents ends marks : List ℕ) (first : ℕ
           module _ (i : y .«is_entry» ≡ true) (b : Emitted) (out₁ : List ℕ)
               (f : (look′ : ℕ → Found) (z : Entry) (rs : List Read) (rest : List ℕ) → stepAt (r .encoding) s look′ unit (y .start) ≡ Entry′ z → y .specs ≡ z .declaration .attributes → y .values ≡ z .values
               → readIn false (expressionIn (r .encoding)) (entryLayout (r .encoding) s look′) (drop (y .start) unit) ≡ some (rs, rest)
-              → Emits (readsRefusal lists ps (y .depth) rs) (writeAll false (patchAll (newValue lists ps (y .depth)) rs)) out to b out₁) where
+              → EmitsAt (readsRefusal lists ps (y .depth) rs) (writeAll false (patchAll (newValue lists ps (y .depth)) rs)) out to b out₁) where
             entry-here : Here b out₁
             entry-here =
                 let w = next-entry (r .encoding) s look unit parents ends marks t (g .stack) y next i in
@@ -251,7 +251,7 @@ module _ (r : Reading) (s table unit parents ends marks : List ℕ) (first : ℕ
             writing-entry = on-here b out₁ entry-here
 
           -- a terminator
-          pub writing-terminator : y .«is_entry» ≡ false → (to₁ : ℕ) (out₁ : List ℕ) → (y .start ≤ y .end → y .end ≤ length unit → Emits 0 (between unit (y .start) (y .end)) out to (To to₁) out₁)
+          pub writing-terminator : y .«is_entry» ≡ false → (to₁ : ℕ) (out₁ : List ℕ) → (y .start ≤ y .end → y .end ≤ length unit → EmitsAt 0 (between unit (y .start) (y .end)) out to (To to₁) out₁)
               → Writing out₀ (y .next) out₁ to₁
           writing-terminator i to₁ out₁ f =
               let w = next-terminator (r .encoding) s look unit parents ends marks t (g .stack) y next i in

@@ -14,7 +14,8 @@ use mir.Facts.{ltb-yes, ltb-no}
 use borrow.Author.Tests.{lt-ltb, le-ltb, le-leb, lt-leb, ltb-true, leb-true, eq-eqb, ne-eqb}
 use Rattle.readers.specs.Choice.{pick, _and_, zeros, either}
 use Rattle.readers.specs.Numbers.{padded, length-padded, littleBytes, ordered, fixedBytes, length-fixed}
-use Rattle.rewriting.specs.Written.{groupsFit, bytesFit, numberFits, Put, paddedAnswer, paddedOut, put, numberAt}
+use Rattle.rewriting.specs.Written.{groupsFit, bytesFit, numberFits, unfit, Put, paddedAnswer, paddedOut, over, put, numberAt}
+use Rattle.rewriting.specs.declared.numbers.Padded.{Padded}
 use Rattle.rewriting.specs.declared.numbers.Padded.the-variants.{Written, Refused}
 use Rattle.readers.specs.Layout.{numberBytes}
 use Rattle.readers.specs.References.{encodedBy}
@@ -158,32 +159,32 @@ shortened-done base value width rest i h p = digits-none rest (width - i) base (
 
 -- ---- what is answered
 
-and-first : (a b : Bool) → a ≡ false → (a and b) ≡ false
+pub and-first : (a b : Bool) → a ≡ false → (a and b) ≡ false
 unfolding _and_
 and-first a b e = rw e
 
-and-second : (a b : Bool) → b ≡ false → (a and b) ≡ false
+pub and-second : (a b : Bool) → b ≡ false → (a and b) ≡ false
 unfolding _and_
 and-second true b e = e
 and-second false b e = refl
 
-true-first : (a b : Bool) → (a and b) ≡ true → a ≡ true
+pub true-first : (a b : Bool) → (a and b) ≡ true → a ≡ true
 unfolding _and_
 true-first true b e = refl
 true-first false b e = e
 
-true-second : (a b : Bool) → (a and b) ≡ true → b ≡ true
+pub true-second : (a b : Bool) → (a and b) ≡ true → b ≡ true
 unfolding _and_
 true-second true b e = e
 true-second false b e = let z : _≡_ {A = ℕ} 0 1 = cc in absurd (omega arith)
 
-pub refused : (fit : Bool) (bytes : List ℕ) (width : ℕ) (out : List ℕ) → fit ≡ false → Put fit bytes width out false out
+pub refused : (fit : Bool) (bytes : List ℕ) (width : ℕ) (out other : List ℕ) → fit ≡ false → Put fit bytes width out other false other
 unfolding pick
-refused fit bytes width out e = record { told = sym e; left = rw e }
+refused fit bytes width out other e = record { told = sym e; left = rw e }
 
-pub accepted : (fit : Bool) (bytes : List ℕ) (width : ℕ) (out after : List ℕ) → fit ≡ true → after ≡ bytes ++ drop width out → Put fit bytes width out true after
+pub accepted : (fit : Bool) (bytes : List ℕ) (width : ℕ) (out other after : List ℕ) → fit ≡ true → after ≡ bytes ++ drop width out → Put fit bytes width out other true after
 unfolding pick
-accepted fit bytes width out after e h = record { told = sym e; left = rw e h }
+accepted fit bytes width out other after e h = record { told = sym e; left = rw e h }
 
 module _ (value width n : ℕ) where
   pub groups-none : width ≡ 0 → groupsFit value width n ≡ false
@@ -219,6 +220,10 @@ module _ (value width n : ℕ) where
   unfolding groupsFit
   fit-room e = leb-true width n (true-first _ _ (true-second (leb width 10) _ (true-second (ltb 0 width) _ e)))
 
+  pub groups-room : width ≤ n → groupsFit value width width ≡ groupsFit value width n
+  unfolding groupsFit
+  groups-room h = ap (λ b. ltb 0 width and leb width 10 and b and ltb value (128 ^ width)) (le-leb width width (omega arith) ∙ sym (le-leb width n h))
+
   pub fit-low : groupsFit value width n ≡ true → value < 128 ^ width
   unfolding groupsFit
   fit-low e = ltb-true value (128 ^ width) (true-second (leb width n) _ (true-second (leb width 10) _ (true-second (ltb 0 width) _ e)))
@@ -230,6 +235,10 @@ module _ (value width n : ℕ) where
   pub bytes-beyond : n < width → bytesFit value width n ≡ false
   unfolding bytesFit
   bytes-beyond h = and-second (leb width 8) _ (and-first _ _ (lt-leb width n h))
+
+  pub bytes-room : bytesFit value width n ≡ true → width ≤ n
+  unfolding bytesFit
+  bytes-room e = leb-true width n (true-first _ _ (true-second (leb width 8) _ e))
 
   pub bytes-large : ltb value (256 ^ width) ≡ false → bytesFit value width n ≡ false
   unfolding bytesFit
@@ -300,7 +309,7 @@ number-made value width rest i out h p w v =
 pub number-put : (value width : ℕ) (out number after : List ℕ) → groupsFit value width (length out) ≡ true
     → (0 < width → width ≤ 10 → value < 128 ^ width → number ≡ padded (width - 1) value ++ zeros (10 - width))
     → (length number ≡ 10 → width ≤ 10 → width ≤ length out → after ≡ take width number ++ drop width out)
-    → Put (groupsFit value width (length out)) (padded (width - 1) value) width out true after
+    → Put (groupsFit value width (length out)) (padded (width - 1) value) width out out true after
 number-put value width out number after e made copied =
     let w : 0 < width = fit-some value width (length out) e in
     let t : width ≤ 10 = fit-ten value width (length out) e in
@@ -309,7 +318,7 @@ number-put value width out number after e made copied =
     let ten : length number ≡ 10 =
     ap length m ∙ length-append (padded (width - 1) value) (zeros (10 - width)) ∙ ap₂ (λ a b. a + b) n (length-replicate (10 - width) 0)
     ∙ (let g : width + (10 - width) ≡ 10 = omega arith in g) in
-    accepted _ _ _ _ _ e
+    accepted _ _ _ _ _ _ e
     (copied ten t (fit-room value width (length out) e)
     ∙ ap (λ l. take width l ++ drop width out) m
     ∙ ap (λ l. l ++ drop width out) (take-at (padded (width - 1) value) (zeros (10 - width)) width n))
@@ -416,7 +425,7 @@ module _ (w : ℕ) (s : List ℕ) (at : ℕ) (o : Number) (q : o ≡ fixedAt tru
 
 -- ---- a padded number in a part of its own, a number in its own encoding
 
-module _ (value width n : ℕ) (out out′ : List ℕ) (r : Bool) (z : out ≡ zeros n) (p : Put (groupsFit value width (length out)) (padded (width - 1) value) width out r out′) where
+module _ (value width n : ℕ) (out out′ : List ℕ) (r : Bool) (z : out ≡ zeros n) (p : Put (groupsFit value width (length out)) (padded (width - 1) value) width out out r out′) where
   fit-is : groupsFit value width n ≡ r
   fit-is = ap (λ m. groupsFit value width m) (sym (ap length z ∙ length-replicate n 0)) ∙ sym (p .told)
 
@@ -437,13 +446,85 @@ module _ (value width n : ℕ) (out out′ : List ℕ) (r : Bool) (z : out ≡ z
       let o : out′ ≡ out = rw t at out-is in
       (rw e, rw e (o ∙ z))
 
-module _ (leb′ : Bool) (value width : ℕ) (out : List ℕ) (r : Bool) (after : List ℕ) where
-  pub number-groups : leb′ ≡ true → Put (groupsFit value width (length out)) (padded (width - 1) value) width out r after
-      → Put (numberFits leb′ value width (length out)) (numberBytes false (encodedBy leb′ width) value) width out r after
-  unfolding numberFits numberBytes encodedBy pick
-  number-groups e p = rw e p
+-- what `write_uleb128_padded` leaves in a part of exactly the number's width
+module _ (value width : ℕ) (answer : Padded) (x : List ℕ) (told : answer ≡ paddedAnswer value width width) (left : x ≡ paddedOut value width width) where
+  padded-fit : answer ≡ Written → groupsFit value width width ≡ true
+  unfolding paddedAnswer pick
+  padded-fit t = by-fit (groupsFit value width width) told
+    where
+      by-fit : (b : Bool) → answer ≡ pick b Written (Refused 15) → b ≡ true
+      by-fit true q = refl
+      by-fit false q = let z : _≡_ {A = ℕ} 0 1 = cc in absurd (omega arith)
 
-  pub number-fixed : leb′ ≡ false → Put (bytesFit value width (length out)) (fixedBytes false width value) width out r after
-      → Put (numberFits leb′ value width (length out)) (numberBytes false (encodedBy leb′ width) value) width out r after
-  unfolding numberFits numberBytes encodedBy pick
-  number-fixed e p = rw e p
+  padded-unfit : (k : ℕ) → answer ≡ Refused k → groupsFit value width width ≡ false
+  unfolding paddedAnswer pick
+  padded-unfit k t = by-fit (groupsFit value width width) told
+    where
+      by-fit : (b : Bool) → answer ≡ pick b Written (Refused 15) → b ≡ false
+      by-fit true q = let z : _≡_ {A = ℕ} 0 1 = cc in absurd (omega arith)
+      by-fit false q = refl
+
+  padded-whole : answer ≡ Written → x ≡ padded (width - 1) value
+  unfolding paddedOut pick
+  padded-whole t =
+      left ∙ ap (λ b. pick b (padded (width - 1) value ++ zeros (width - width)) (zeros width)) (padded-fit t)
+      ∙ ap (λ n. padded (width - 1) value ++ zeros n) (let z : width - width ≡ 0 = omega arith in z) ∙ append-nil (padded (width - 1) value)
+
+  padded-zeros : (k : ℕ) → answer ≡ Refused k → x ≡ zeros width
+  unfolding paddedOut pick
+  padded-zeros k t = left ∙ ap (λ b. pick b (padded (width - 1) value ++ zeros (width - width)) (zeros width)) (padded-unfit k t)
+
+pub taken-length : (out : List ℕ) (width : ℕ) → width ≤ length out → width ≡ length (take width out)
+taken-length out width h = sym (length-take-le width out h)
+
+module _ (leb′ : Bool) (value width : ℕ) (out : List ℕ) where
+  -- a part that is too short
+  pub number-beyond : leb′ ≡ true → length out < width
+      → Put (numberFits leb′ value width (length out)) (numberBytes false (encodedBy leb′ width) value) width out (unfit leb′ width out) false out
+  unfolding numberFits unfit pick _and_
+  number-beyond e h =
+      let w : leb width (length out) ≡ false = lt-leb width (length out) h in
+      let g : groupsFit value width (length out) ≡ false = groups-beyond value width (length out) h in
+      record { told = rw e (sym g); left = rw e (rw g (rw w)) }
+
+  module _ (e : leb′ ≡ true) (h : width ≤ length out) (n : ℕ) (same : n ≡ width) (answer : Padded) (x : List ℕ) (told : answer ≡ paddedAnswer value width n) (left : x ≡ paddedOut value width n)
+      (after : List ℕ) (home : after ≡ x ++ drop width out) where
+    told′ : answer ≡ paddedAnswer value width width
+    told′ = told ∙ ap (paddedAnswer value width) same
+
+    left′ : x ≡ paddedOut value width width
+    left′ = left ∙ ap (paddedOut value width) same
+
+    pub number-written : answer ≡ Written → Put (numberFits leb′ value width (length out)) (numberBytes false (encodedBy leb′ width) value) width out (unfit leb′ width out) true after
+    unfolding numberFits numberBytes encodedBy pick
+    number-written t =
+        let g : groupsFit value width (length out) ≡ true = sym (groups-room value width (length out) h) ∙ padded-fit value width answer x told′ left′ t in
+        let a : after ≡ padded (width - 1) value ++ drop width out = home ∙ ap (λ l. l ++ drop width out) (padded-whole value width answer x told′ left′ t) in
+        record { told = rw e (sym g); left = rw e (rw g a) }
+
+    pub number-zeros : (k : ℕ) → answer ≡ Refused k → Put (numberFits leb′ value width (length out)) (numberBytes false (encodedBy leb′ width) value) width out (unfit leb′ width out) false after
+    unfolding numberFits unfit pick _and_
+    number-zeros k t =
+        let w : leb width (length out) ≡ true = le-leb width (length out) h in
+        let g : groupsFit value width (length out) ≡ false = sym (groups-room value width (length out) h) ∙ padded-unfit value width answer x told′ left′ k t in
+        let a : after ≡ zeros width ++ drop width out = home ∙ ap (λ l. l ++ drop width out) (padded-zeros value width answer x told′ left′ k t) in
+        record { told = rw e (sym g); left = rw e (rw g (rw w a)) }
+
+  pub number-fixed : leb′ ≡ false → (r : Bool) (after : List ℕ) → Put (bytesFit value width (length out)) (fixedBytes false width value) width out out r after
+      → Put (numberFits leb′ value width (length out)) (numberBytes false (encodedBy leb′ width) value) width out (unfit leb′ width out) r after
+  unfolding numberFits unfit numberBytes encodedBy pick _and_
+  number-fixed e r after p = rw e p
+
+-- ---- bytes over a part
+
+pub over-none : (bytes out : List ℕ) → length out < length bytes → out ≡ over bytes out
+unfolding over pick
+over-none bytes out h = sym (ap (λ b. pick b (bytes ++ drop (length bytes) out) out) (lt-leb (length bytes) (length out) h))
+
+pub over-all : (bytes out after : List ℕ) → length bytes ≤ length out → after ≡ bytes ++ drop (length bytes) out → after ≡ over bytes out
+unfolding over pick
+over-all bytes out after h q = q ∙ sym (ap (λ b. pick b (bytes ++ drop (length bytes) out) out) (le-leb (length bytes) (length out) h))
+
+pub over-room : (bytes out after : List ℕ) → after ≡ over bytes out → length bytes ≤ length out → after ≡ bytes ++ drop (length bytes) out
+unfolding over pick
+over-room bytes out after q h = q ∙ ap (λ b. pick b (bytes ++ drop (length bytes) out) out) (le-leb (length bytes) (length out) h)

@@ -24,11 +24,11 @@ use Rattle.readers.proofs.Yields.{flatBy, flat-next, next-wide, yields-all}
 use Rattle.rewriting.specs.Places.{Place, newOf}
 use Rattle.rewriting.specs.Written.{asMapped}
 use Rattle.rewriting.specs.Rewriting.{Lists, newValue, hasPlace, fits, pieceRefusal, piecesRefusal, orNext, orSelf, isSome}
-use Rattle.rewriting.specs.Emission.{between, Emits, Wide, holds, numberRefusal, offsetRefusal}
+use Rattle.rewriting.specs.Emission.{between, Wide, holds, numberRefusal, offsetRefusal}
 use Rattle.rewriting.specs.declared.emit.Emitted.{Emitted}
 use Rattle.rewriting.specs.declared.emit.Emitted.the-variants.{To, Refused}
 use Rattle.rewriting.specs.declared.map.Mapped.{Mapped}
-use Rattle.rewriting.proofs.Emissions.{emits-as, emits-then, emits-stop}
+use Rattle.rewriting.proofs.Emissions.{EmitsAt, emits-as, emits-then, emits-stop}
 use Rattle.rewriting.proofs.Exact.{Right, Rights, inExpression, Exactly, expression-exactly}
 
 -- ---- numbers that fit
@@ -263,8 +263,8 @@ wide-of false w h q = h
 pub record Going (lists : Lists) (map : List Place) (depth : ℕ) (pieces : List Piece) (e : Encoding) (s out₀ : List ℕ) (at : ℕ) (out : List ℕ) (from copied to : ℕ) : Type 0 where
   pub places : InOrder copied (length s) (flatFrom e s from)
   pub onward : (r : Emitted) (out′ : List ℕ)
-      → Emits (namesRefusal lists map depth (flatFrom e s from)) (splice lists map depth s copied (flatFrom e s from)) out to r out′
-      → Emits (piecesRefusal lists map depth pieces) (bytesOf false (patchPieces (newValue lists map depth) pieces)) out₀ at r out′
+      → EmitsAt (namesRefusal lists map depth (flatFrom e s from)) (splice lists map depth s copied (flatFrom e s from)) out to r out′
+      → EmitsAt (piecesRefusal lists map depth pieces) (bytesOf false (patchPieces (newValue lists map depth) pieces)) out₀ at r out′
 
 module _ (lists : Lists) (map : List Place) (depth : ℕ) (pieces : List Piece) (e : Encoding) (s out₀ : List ℕ) (at : ℕ) where
   pub going-start : T (areBytes s) → e .«big_endian» ≡ false → expressionIn e s ≡ some pieces → Going lists map depth pieces e s out₀ at out₀ 0 0 at
@@ -287,8 +287,8 @@ module _ (lists : Lists) (map : List Place) (depth : ℕ) (pieces : List Piece) 
     none-left p = flat-next e s from ∙ ap (flatBy e s) (sym q ∙ p)
 
     pub going-end : y ≡ End → (to′ : ℕ) (out′ : List ℕ)
-        → (copied ≤ length s → length s ≤ length s → Emits 0 (between s copied (length s)) out to (To to′) out′)
-        → Emits (piecesRefusal lists map depth pieces) (bytesOf false (patchPieces (newValue lists map depth) pieces)) out₀ at (To to′) out′
+        → (copied ≤ length s → length s ≤ length s → EmitsAt 0 (between s copied (length s)) out to (To to′) out′)
+        → EmitsAt (piecesRefusal lists map depth pieces) (bytesOf false (patchPieces (newValue lists map depth) pieces)) out₀ at (To to′) out′
     unfolding InOrder namesRefusal splice between
     going-end p to′ out′ f =
         let n : flatFrom e s from ≡ [] = none-left p in
@@ -317,10 +317,10 @@ module _ (lists : Lists) (map : List Place) (depth : ℕ) (pieces : List Piece) 
       pub going-place : r .place + r .width ≤ length s
       going-place = let l : r .place + width code ≤ length s = where-it-is .1 in let w : width code ≡ r .width = is-wide in omega arith
 
-      module _ (to₁ : ℕ) (out₁ : List ℕ) (f : copied ≤ r .place → r .place ≤ length s → Emits 0 (between s copied (r .place)) out to (To to₁) out₁)
+      module _ (to₁ : ℕ) (out₁ : List ℕ) (f : copied ≤ r .place → r .place ≤ length s → EmitsAt 0 (between s copied (r .place)) out to (To to₁) out₁)
           (mapped : Mapped) (m : mapped ≡ asMapped (newOf map (r .target .0))) (a : Emitted) (out₂ : List ℕ)
-          (h : (o : Option ℕ) (v : ℕ) → mapped ≡ asMapped o → Wide (r .leb) (r .width) → Emits (offsetRefusal code v o) (numberBytes false code (orSelf v o)) out₁ to₁ a out₂) where
-        before-it : Emits 0 (between s copied (r .place)) out to (To to₁) out₁
+          (h : (o : Option ℕ) (v : ℕ) → mapped ≡ asMapped o → Wide (r .leb) (r .width) → EmitsAt (offsetRefusal code v o) (numberBytes false code (orSelf v o)) out₁ to₁ a out₂) where
+        before-it : EmitsAt 0 (between s copied (r .place)) out to (To to₁) out₁
         before-it =
             let c : copied ≤ r .place = where-it-is .0 in
             let l : r .place + width code ≤ length s = where-it-is .1 in
@@ -332,14 +332,14 @@ module _ (lists : Lists) (map : List Place) (depth : ℕ) (pieces : List Piece) 
         abbrev its : List ℕ
         its = numberBytes false code (new lists map depth (r .target .0))
 
-        it : Emits no its out₁ to₁ a out₂
+        it : EmitsAt no its out₁ to₁ a out₂
         it = h (newOf map (r .target .0)) (r .target .0) m (wide-of (r .leb) (r .width) (where-it-is .2) is-wide)
 
         -- what is said of it and the rest is said of the whole
         together : (z : Emitted) (out₃ : List ℕ)
-            → Emits (orNext lists map depth (offsetRefusal code (r .target .0) (newOf map (r .target .0))) (namesRefusal lists map depth rest))
+            → EmitsAt (orNext lists map depth (offsetRefusal code (r .target .0) (newOf map (r .target .0))) (namesRefusal lists map depth rest))
             (numberBytes false code (new lists map depth (r .target .0)) ++ splice lists map depth s (r .place + width code) rest) out₁ to₁ z out₃
-            → Emits (piecesRefusal lists map depth pieces) (bytesOf false (patchPieces (newValue lists map depth) pieces)) out₀ at z out₃
+            → EmitsAt (piecesRefusal lists map depth pieces) (bytesOf false (patchPieces (newValue lists map depth) pieces)) out₀ at z out₃
         unfolding namesRefusal splice
         together z out₃ k =
             g .onward z out₃
@@ -349,11 +349,11 @@ module _ (lists : Lists) (map : List Place) (depth : ℕ) (pieces : List Piece) 
             (emits-then lists map depth 0 _ (between s copied (r .place)) _ out to to₁ out₁ z out₃ before-it k))
 
         pub going-refused : (k : ℕ) → a ≡ Refused k
-            → Emits (piecesRefusal lists map depth pieces) (bytesOf false (patchPieces (newValue lists map depth) pieces)) out₀ at (Refused k) out₂
+            → EmitsAt (piecesRefusal lists map depth pieces) (bytesOf false (patchPieces (newValue lists map depth) pieces)) out₀ at (Refused k) out₂
         going-refused k w =
             together (Refused k) out₂
             (emits-stop lists map depth no (namesRefusal lists map depth rest) its (splice lists map depth s (r .place + width code) rest) out₁ to₁ k out₂
-            (subst (λ b. Emits no its out₁ to₁ b out₂) w it))
+            (subst (λ b. EmitsAt no its out₁ to₁ b out₂) w it))
 
         pub going-on : (to₂ : ℕ) → a ≡ To to₂ → (copied′ : ℕ) → (r .place + r .width ≤ length s → copied′ ≡ r .place + r .width)
             → Going lists map depth pieces e s out₀ at out₂ (r .next .at) copied′ to₂
@@ -364,6 +364,6 @@ module _ (lists : Lists) (map : List Place) (depth : ℕ) (pieces : List Piece) 
               onward = λ z out₃ x.
                   together z out₃
                   (emits-then lists map depth no (namesRefusal lists map depth rest) its (splice lists map depth s (r .place + width code) rest) out₁ to₁ to₂ out₂ z out₃
-                  (subst (λ b. Emits no its out₁ to₁ b out₂) w it)
-                  (subst (λ n. Emits (namesRefusal lists map depth rest) (splice lists map depth s n rest) out₂ to₂ z out₃) (sym k) x));
+                  (subst (λ b. EmitsAt no its out₁ to₁ b out₂) w it)
+                  (subst (λ n. EmitsAt (namesRefusal lists map depth rest) (splice lists map depth s n rest) out₂ to₂ z out₃) (sym k) x));
             }

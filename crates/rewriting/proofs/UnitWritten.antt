@@ -28,7 +28,7 @@ use Rattle.rewriting.specs.Bounds.{Bounds}
 use Rattle.rewriting.specs.IndexLists.{ReadDeep, AllRead, Passable}
 use Rattle.rewriting.specs.Measures.{Measures}
 use Rattle.rewriting.specs.MapFilled.{Fills}
-use Rattle.rewriting.specs.Emission.{Emits, Lent, Lends}
+use Rattle.rewriting.specs.Emission.{Lent, Lends}
 use Rattle.rewriting.specs.Outputs.{listCount, countsOf, answerFor, mapFor, outputFor}
 use Rattle.rewriting.specs.Leaving.{Accepts, Writable, WriteAnswer}
 use Rattle.rewriting.specs.declared.kept.Reading.{Reading}
@@ -40,6 +40,7 @@ use Rattle.rewriting.specs.declared.emit.Emitted.the-variants.{To, Refus
 use Rattle.rewriting.specs.declared.collect.Counts.{Counts}
 use Rattle.rewriting.specs.declared.collect.Collected.{Collected as Answer}
 use Rattle.rewriting.specs.declared.collect.Collected.the-variants.{Untouched, Rewritten, Refused}
+use Rattle.rewriting.proofs.Emissions.{EmitsAt}
 use Rattle.rewriting.proofs.DeepReads.{like-width, like-patched, deep-ends}
 use Rattle.rewriting.proofs.ItemsStand.{Every, every-kept, Stands, items-stand}
 use Rattle.rewriting.proofs.Rereading.{StandsThere, deepAt, size-of}
@@ -183,11 +184,11 @@ module _ (r : Reading) (s table unit parents ends marks : List ℕ) (first entri
     module _ (few : z .places ≤ length map′ / 12) (less : z .bytes ≤ length out) (out₁ out₂ : List ℕ)
         (bounds : List ℕ) (bounded : (ps : List Place) → MapHeld ps map′ → z .places ≡ length ps → Bounds ps bounds)
         (same : length out₁ ≡ length out)
-        (headed : 4 ≤ first → first ≤ length unit → first ≤ length out → 4 ≤ z .bytes → z .bytes - 4 < 2 ^ 32 → out₁ ≡ put out 0 (fixedBytes false 4 (z .bytes - 4) ++ drop 4 (take first unit)))
+        (at : ℕ) (headed : 4 ≤ first → first ≤ length unit → first ≤ length out → 4 ≤ z .bytes → z .bytes - 4 < 2 ^ 32 → (at ≡ first) × (out₁ ≡ put out 0 (fixedBytes false 4 (z .bytes - 4) ++ drop 4 (take first unit))))
         (emitted : Emitted)
         (emits : (x : Sections) (u : Unit′) (lists : Lists) (ps : List Place) → Passable x u r s table unit parents ends marks first → first ≡ u .header .first .0 → r .encoding .«big_endian» ≡ false
         → MapHeld ps map′ → z .places ≡ length ps → Bounds ps bounds → Lends lists rl rc ll lc sl sc
-        → Emits (refusalFrom x u lists ps (keptFrom marks 0 [] (itemsIn x u))) (bytesFrom x u lists ps (keptFrom marks 0 [] (itemsIn x u))) out₁ first emitted out₂) where
+        → EmitsAt (refusalFrom x u lists ps (keptFrom marks 0 [] (itemsIn x u))) (bytesFrom x u lists ps (keptFrom marks 0 [] (itemsIn x u))) out₁ at emitted out₂) where
       abbrev ps : List Place
       ps = placesFrom first items
 
@@ -206,12 +207,21 @@ module _ (r : Reading) (s table unit parents ends marks : List ℕ) (first entri
       places : z .places ≡ length ps
       places = places-are ∙ sym (length-places first items)
 
-      it : Emits (refusalFrom x u lists ps items) body out₁ first emitted out₂
+      header-there : (at ≡ first) × (out₁ ≡ put out 0 front)
+      header-there =
+          let t : 12 ≤ first = w .twelve in
+          let a : first + z .places ≤ z .bytes = m .room in
+          let b : z .bytes ≤ length unit = m .inside (w .inside) in
+          let c : length unit < 2 ^ 32 = p .small in
+          headed (omega arith) (w .inside) (omega arith) (omega arith) (omega arith)
+
+      it : EmitsAt (refusalFrom x u lists ps items) body out₁ first emitted out₂
       it =
-          subst (λ (is : List Item). Emits (refusalFrom x u lists ps (keptFrom marks 0 [] is)) (bytesFrom x u lists ps (keptFrom marks 0 [] is)) out₁ first emitted out₂)
+          subst (λ (is : List Item). EmitsAt (refusalFrom x u lists ps (keptFrom marks 0 [] is)) (bytesFrom x u lists ps (keptFrom marks 0 [] is)) out₁ first emitted out₂)
           (sym (items-here true r s table unit parents ends marks first x u p (w .first-is)))
+          (subst (λ (n : ℕ). EmitsAt (refusalFrom x u lists ps (keptFrom marks 0 [] (itemsIn x u))) (bytesFrom x u lists ps (keptFrom marks 0 [] (itemsIn x u))) out₁ n emitted out₂) (header-there .0)
           (emits x u lists ps p (w .first-is) (sym (ap (λ (y : Encoding). y .«big_endian») (p .read .encoding-is)) ∙ w .little)
-          held places (bounded ps held places) l)
+          held places (bounded ps held places) l))
 
       stand : Every (StandsThere x u) items
       unfolding itemsIn
@@ -262,14 +272,6 @@ module _ (r : Reading) (s table unit parents ends marks : List ℕ) (first entri
           ∙ ap (λ (n : ℕ). (fixedBytes false 4 (n - 4) ++ drop 4 (take first (u .bytes))) ++ body) (sym bytes-are)
           ∙ ap (λ (b : List ℕ). (fixedBytes false 4 (z .bytes - 4) ++ drop 4 (take first b)) ++ body) (p .read .bytes-are)
 
-      header-there : out₁ ≡ put out 0 front
-      header-there =
-          let t : 12 ≤ first = w .twelve in
-          let a : first + z .places ≤ z .bytes = m .room in
-          let b : z .bytes ≤ length unit = m .inside (w .inside) in
-          let c : length unit < 2 ^ 32 = p .small in
-          headed (omega arith) (w .inside) (omega arith) (omega arith) (omega arith)
-
       map-there : map′ ≡ mapBytes ps ++ zeros (length map - length (mapBytes ps))
       unfolding mapBytes
       map-there =
@@ -303,7 +305,7 @@ module _ (r : Reading) (s table unit parents ends marks : List ℕ) (first entri
                 ∙ ap (λ (v : ListCount). Rewritten (record { entries = entries; kept = kept; places = length ps; bytes = length (unitBytes x u lists ps items); ranges = listCount (lists .ranges); locations = listCount (lists .locations); strings = v })) (lent-count (lists .strings) sl sc (l .those-strings))
                 ∙ sym (ap answerFor c);
             map-left = λ _. map-there ∙ sym (ap (mapFor (length map)) c);
-            out-left = λ _. out-is front body out out₁ out₂ first length-front (w .out-blank) header-there (it .fine room-out n .1) ∙ ap (padTo (length out)) (sym unit-bytes-are) ∙ sym (ap (outputFor (length out)) c);
+            out-left = λ _. out-is front body out out₁ out₂ first length-front (w .out-blank) (header-there .1) (it .fine room-out n .1) ∙ ap (padTo (length out)) (sym unit-bytes-are) ∙ sym (ap (outputFor (length out)) c);
           }
 
   pub map-short : length map′ / 12 < z .places → Goal (Refused 13) out
@@ -315,13 +317,13 @@ module _ (r : Reading) (s table unit parents ends marks : List ℕ) (first entri
   module _ (few : z .places ≤ length map′ / 12) (less : z .bytes ≤ length out) (out₁ out₂ : List ℕ)
       (bounds : List ℕ) (bounded : (ps : List Place) → MapHeld ps map′ → z .places ≡ length ps → Bounds ps bounds)
       (same : length out₁ ≡ length out)
-      (headed : 4 ≤ first → first ≤ length unit → first ≤ length out → 4 ≤ z .bytes → z .bytes - 4 < 2 ^ 32 → out₁ ≡ put out 0 (fixedBytes false 4 (z .bytes - 4) ++ drop 4 (take first unit)))
+      (at : ℕ) (headed : 4 ≤ first → first ≤ length unit → first ≤ length out → 4 ≤ z .bytes → z .bytes - 4 < 2 ^ 32 → (at ≡ first) × (out₁ ≡ put out 0 (fixedBytes false 4 (z .bytes - 4) ++ drop 4 (take first unit))))
       (emitted : Emitted)
       (emits : (x : Sections) (u : Unit′) (lists : Lists) (ps : List Place) → Passable x u r s table unit parents ends marks first → first ≡ u .header .first .0 → r .encoding .«big_endian» ≡ false
       → MapHeld ps map′ → z .places ≡ length ps → Bounds ps bounds → Lends lists rl rc ll lc sl sc
-      → Emits (refusalFrom x u lists ps (keptFrom marks 0 [] (itemsIn x u))) (bytesFrom x u lists ps (keptFrom marks 0 [] (itemsIn x u))) out₁ first emitted out₂) where
+      → EmitsAt (refusalFrom x u lists ps (keptFrom marks 0 [] (itemsIn x u))) (bytesFrom x u lists ps (keptFrom marks 0 [] (itemsIn x u))) out₁ at emitted out₂) where
     pub unit-written : (to : ℕ) → emitted ≡ To to → Goal (Rewritten (record { entries = entries; kept = kept; places = z .places; bytes = z .bytes; ranges = rc; locations = lc; strings = sc })) out₂
-    unit-written to q x u lists room p l w = by-items x u lists room p l w _ out₂ (was-written x u lists room p l w few less out₁ out₂ bounds bounded same headed emitted emits to q)
+    unit-written to q x u lists room p l w = by-items x u lists room p l w _ out₂ (was-written x u lists room p l w few less out₁ out₂ bounds bounded same at headed emitted emits to q)
 
     pub unit-refused : (k : ℕ) → emitted ≡ NotEmitted k → Goal (Refused k) out₂
-    unit-refused k q x u lists room p l w = by-items x u lists room p l w _ out₂ (not-written x u lists room p l w few less out₁ out₂ bounds bounded same headed emitted emits k q)
+    unit-refused k q x u lists room p l w = by-items x u lists room p l w _ out₂ (not-written x u lists room p l w few less out₁ out₂ bounds bounded same at headed emitted emits k q)

@@ -29,11 +29,11 @@ use Rattle.rewriting.specs.Places.{Place, newOf, siblingOf}
 use Rattle.rewriting.specs.Indices.{rankOr}
 use Rattle.rewriting.specs.Written.{asMapped}
 use Rattle.rewriting.specs.Rewriting.{Lists, newValue, hasPlace, pieceRefusal, piecesRefusal, readsRefusal, orNext, orSelf, isSome, listAt}
-use Rattle.rewriting.specs.Emission.{between, Emits, Wide, numberRefusal, offsetRefusal, lebForm}
+use Rattle.rewriting.specs.Emission.{between, Wide, numberRefusal, offsetRefusal, lebForm}
 use Rattle.rewriting.specs.declared.emit.Emitted.{Emitted}
 use Rattle.rewriting.specs.declared.emit.Emitted.the-variants.{To}
 use Rattle.rewriting.specs.declared.map.Mapped.{Mapped}
-use Rattle.rewriting.proofs.Emissions.{emits-as, emits-then}
+use Rattle.rewriting.proofs.Emissions.{EmitsAt, emits-as, emits-then}
 use Rattle.rewriting.proofs.Exact.{tokenOk, Right, Rights, ExactReader, Exactly, TokenExact, number-exact, token-exact, are-drop}
 use Rattle.rewriting.proofs.Splices.{fits-holds, next-zero, stays, reference-refusal, Sound, wide-of}
 use Rattle.rewriting.proofs.ValueForms.{onlyAbsolute, formIs, LinkForm}
@@ -177,15 +177,15 @@ module _ (e : Encoding) (unit : List ℕ) (values name : ℕ) (value : Attribute
       (ap (asField false (w .o)) (sym deeply ∙ plain-token false (expressionIn e) asBytes (formIs e name f) there p) ∙ shallowly)
 
   module _ (out : List ℕ) (at to : ℕ) (out₁ : List ℕ)
-      (first : values ≤ value .field .start → value .field .start ≤ length unit → Emits 0 (between unit values (value .field .start)) out at (To to) out₁)
+      (first : values ≤ value .field .start → value .field .start ≤ length unit → EmitsAt 0 (between unit values (value .field .start)) out at (To to) out₁)
       (lists : Lists) (map : List Place) (depth : ℕ) where
     abbrev Whole : Emitted → List ℕ → Type 0
-    Whole r out₂ = Emits (readsRefusal lists map depth rs) (writeAll false (patchAll (newValue lists map depth) rs)) out at r out₂
+    Whole r out₂ = EmitsAt (readsRefusal lists map depth rs) (writeAll false (patchAll (newValue lists map depth) rs)) out at r out₂
 
     -- what stands before the payload, and then the rest
     after-start : (n : ℕ) (bytes : List ℕ) (r : Emitted) (out₂ : List ℕ) → n ≡ piecesRefusal lists map depth (w .v .pieces)
         → between unit values (value .field .start) ++ bytes ≡ between unit values (w .o) ++ bytesOf false (patchPieces (newValue lists map depth) (w .v .pieces))
-        → Emits n bytes out₁ to r out₂ → Whole r out₂
+        → EmitsAt n bytes out₁ to r out₂ → Whole r out₂
     after-start n bytes r out₂ p q h =
         emits-as (next-zero lists map depth n ∙ p ∙ sym (w .refused lists map depth)) (q ∙ sym (w .written (newValue lists map depth)))
         (emits-then lists map depth 0 n (between unit values (value .field .start)) bytes out at to out₁ r out₂ (first start-after start-inside) h)
@@ -238,7 +238,7 @@ module _ (e : Encoding) (unit : List ℕ) (values name : ℕ) (value : Attribute
       its-pieces = ap (λ (y : Read). y .pieces) (read-of .is)
 
       pub expression-emits : (part : List ℕ) → part ≡ partOf unit (value .field) → (r : Emitted) (out₂ : List ℕ)
-          → ((pieces : List Piece) → expressionIn e part ≡ some pieces → Emits (piecesRefusal lists map depth pieces) (bytesOf false (patchPieces (newValue lists map depth) pieces)) out₁ to r out₂)
+          → ((pieces : List Piece) → expressionIn e part ≡ some pieces → EmitsAt (piecesRefusal lists map depth pieces) (bytesOf false (patchPieces (newValue lists map depth) pieces)) out₁ to r out₂)
           → Whole r out₂
       unfolding bytesOf pieceBytes patchPieces patchPiece
       expression-emits part p r out₂ h =
@@ -301,7 +301,7 @@ module _ (e : Encoding) (unit : List ℕ) (values name : ℕ) (value : Attribute
             wide-of leb′ n (subst Sound (sym code-is) (fit-sound code the-number (link-of .fit))) (ap width code-is ∙ sym n-is)
 
         link-emits : (z : ℕ) (v : ℕ) → z ≡ pieceRefusal lists map depth (linked code role the-number) → v ≡ newValue lists map depth role the-number
-            → (r : Emitted) (out₂ : List ℕ) → Emits z (numberBytes false code v) out₁ to r out₂ → Whole r out₂
+            → (r : Emitted) (out₂ : List ℕ) → EmitsAt z (numberBytes false code v) out₁ to r out₂ → Whole r out₂
         unfolding bytesOf pieceBytes patchPieces patchPiece
         link-emits z v y x r out₂ h =
             let ps : w .v .pieces ≡ linked code role the-number ∷ [] = ap (λ (y : Read). y .pieces) (link-of .is) in
@@ -313,7 +313,7 @@ module _ (e : Encoding) (unit : List ℕ) (values name : ℕ) (value : Attribute
             h
 
         abbrev Offset : Option ℕ → Emitted → List ℕ → Type 0
-        Offset o r out₂ = Emits (offsetRefusal (encodedBy leb′ n) (value .field .value) o) (numberBytes false (encodedBy leb′ n) (orSelf (value .field .value) o)) out₁ to r out₂
+        Offset o r out₂ = EmitsAt (offsetRefusal (encodedBy leb′ n) (value .field .value) o) (numberBytes false (encodedBy leb′ n) (orSelf (value .field .value) o)) out₁ to r out₂
 
         offset-emits : (o : ℕ → Option ℕ) → ((v : ℕ) → pieceRefusal lists map depth (linked code role v) ≡ offsetRefusal code v (o v)) → ((v : ℕ) → newValue lists map depth role v ≡ orSelf v (o v))
             → (r : Emitted) (out₂ : List ℕ) → Offset (o (value .field .value)) r out₂ → Whole r out₂
@@ -322,7 +322,7 @@ module _ (e : Encoding) (unit : List ℕ) (values name : ℕ) (value : Attribute
             (emits-as (ap₂ (λ (c : Encoded) (v : ℕ). offsetRefusal c v (o v)) code-is link-value) (ap₂ (λ (c : Encoded) (v : ℕ). numberBytes false c (orSelf v (o v))) code-is link-value) h)
 
         pub index-emits : (k : ℕ) → role ≡ index k → (v : ℕ) → v ≡ rankOr (listAt lists k) (value .field .value) → (r : Emitted) (out₂ : List ℕ)
-            → (Wide leb′ n → Emits (numberRefusal (encodedBy leb′ n) v) (numberBytes false (encodedBy leb′ n) v) out₁ to r out₂) → Whole r out₂
+            → (Wide leb′ n → EmitsAt (numberRefusal (encodedBy leb′ n) v) (numberBytes false (encodedBy leb′ n) v) out₁ to r out₂) → Whole r out₂
         unfolding newValue
         index-emits k y v x r out₂ h =
             let is : v ≡ rankOr (listAt lists k) the-number = x ∙ ap (rankOr (listAt lists k)) link-value in
@@ -332,7 +332,7 @@ module _ (e : Encoding) (unit : List ℕ) (values name : ℕ) (value : Attribute
             (emits-as (ap (λ c. numberRefusal c v) code-is) (ap (λ c. numberBytes false c v) code-is) (h link-wide))
 
         pub reference-emits : role ≡ reference → (r : Emitted) (out₂ : List ℕ) (new : Mapped) → new ≡ asMapped (newOf map (value .field .value))
-            → ((o : Option ℕ) (v : ℕ) → new ≡ asMapped o → Wide leb′ n → Emits (offsetRefusal (encodedBy leb′ n) v o) (numberBytes false (encodedBy leb′ n) (orSelf v o)) out₁ to r out₂)
+            → ((o : Option ℕ) (v : ℕ) → new ≡ asMapped o → Wide leb′ n → EmitsAt (offsetRefusal (encodedBy leb′ n) v o) (numberBytes false (encodedBy leb′ n) (orSelf v o)) out₁ to r out₂)
             → Whole r out₂
         unfolding newValue
         reference-emits y r out₂ new x h =
@@ -340,7 +340,7 @@ module _ (e : Encoding) (unit : List ℕ) (values name : ℕ) (value : Attribute
             (h (newOf map (value .field .value)) (value .field .value) x link-wide)
 
         pub sibling-emits : role ≡ sibling → (r : Emitted) (out₂ : List ℕ) (new : Mapped) → new ≡ asMapped (siblingOf map depth (value .field .value))
-            → ((o : Option ℕ) (v : ℕ) → new ≡ asMapped o → Wide leb′ n → Emits (offsetRefusal (encodedBy leb′ n) v o) (numberBytes false (encodedBy leb′ n) (orSelf v o)) out₁ to r out₂)
+            → ((o : Option ℕ) (v : ℕ) → new ≡ asMapped o → Wide leb′ n → EmitsAt (offsetRefusal (encodedBy leb′ n) v o) (numberBytes false (encodedBy leb′ n) (orSelf v o)) out₁ to r out₂)
             → Whole r out₂
         unfolding newValue
         sibling-emits y r out₂ new x h =
@@ -367,7 +367,7 @@ module _ (e : Encoding) (unit : List ℕ) (values name : ℕ) (value : Attribute
           ∙ ap (between unit (w .o)) (sym copied-end)
 
       pub copied-emits : (to₂ : ℕ) (out₂ : List ℕ)
-          → (value .field .start ≤ value .field .end → value .field .end ≤ length unit → Emits 0 (between unit (value .field .start) (value .field .end)) out₁ to (To to₂) out₂)
+          → (value .field .start ≤ value .field .end → value .field .end ≤ length unit → EmitsAt 0 (between unit (value .field .start) (value .field .end)) out₁ to (To to₂) out₂)
           → Whole (To to₂) out₂
       copied-emits to₂ out₂ h =
           let s : ℕ = value .field .start in

@@ -1,14 +1,15 @@
--- What emission writes: bytes over the output from its next free byte on, or nothing that counts and the number of a refusal.
+-- What emission writes: bytes at the start of the part of the output that begins at the next free byte, or nothing that counts and the number of a refusal.
 use mathlib.Core.Path.{_≡_}
-use Prim.Native.Nat.{ℕ, _+_, _-_, _≤_, _<_}
+use Prim.Native.Nat.{ℕ, _+_, _-_, _^_, _≤_, _<_}
 use mathlib.Core.Bool.{Bool, true, false}
-use mathlib.Core.List.{List, []}
+use mathlib.Core.List.{List, [], _++_}
 use mathlib.Core.Option.{Option, none, some}
 use lib.ListN.{length, take, drop}
-use lib.Dec.{leb, eqb}
+use lib.Dec.{ltb, leb, eqb}
 use Rattle.readers.specs.Choice.{pick, _and_, _or_}
+use Rattle.readers.specs.Numbers.{fixedBytes}
 use Rattle.readers.specs.Layout.{Encoded}
-use Rattle.rewriting.specs.Written.{put, ListHeld}
+use Rattle.rewriting.specs.Written.{ListHeld}
 use Rattle.rewriting.specs.Rewriting.{Lists, noLists, fits, isSome, orSelf}
 use Rattle.rewriting.specs.declared.emit.Emitted.{Emitted}
 use Rattle.rewriting.specs.declared.emit.Emitted.the-variants.{To, Refused}
@@ -19,11 +20,48 @@ use Rattle.rewriting.specs.declared.lists.ListCount.the-variants.{Presen
 unfoldable pub between : List ℕ → ℕ → ℕ → List ℕ
 between s from to = take (to - from) (drop from s)
 
--- `bytes` are to be written at `at`, or refused by n (0: they are not): what is answered and how the output then is, if it has room for them
-pub record Emits (n : ℕ) (bytes out : List ℕ) (at : ℕ) (r : Emitted) (out′ : List ℕ) : Type 0 where
+-- how many bytes are copied to a part: all, or none where it has no room for them
+unfoldable pub copiedCount : List ℕ → List ℕ → ℕ
+copiedCount bytes out = pick (leb (length bytes) (length out)) (length bytes) 0
+
+-- `bytes` are to be written at the start of a part, or refused by n (0: they are not): what is answered and how the part then is, if it has room for them
+pub record Emits (n : ℕ) (bytes out : List ℕ) (r : Emitted) (out′ : List ℕ) : Type 0 where
   pub size : length out′ ≡ length out
-  pub fine : at + length bytes ≤ length out → n ≡ 0 → (r ≡ To (at + length bytes)) × (out′ ≡ put out at bytes)
-  pub no : at + length bytes ≤ length out → (n ≡ 0 → ⊥) → r ≡ Refused n
+  pub fine : length bytes ≤ length out → n ≡ 0 → (r ≡ To (length bytes)) × (out′ ≡ bytes ++ drop (length bytes) out)
+  pub no : length bytes ≤ length out → (n ≡ 0 → ⊥) → r ≡ Refused n
+
+-- no more bytes than there is room for, in a part that is as long as it was
+pub record Within (out : List ℕ) (r : Emitted) (out′ : List ℕ) : Type 0 where
+  pub size : length out′ ≡ length out
+  pub room : (n : ℕ) → r ≡ To n → n ≤ length out
+
+-- the same answer where so many bytes stand before
+unfoldable pub onward : ℕ → Emitted → Emitted
+onward done (To n) = To (done + n)
+onward done (Refused n) = Refused n
+
+-- the number of a refusal; 0 where there is none
+unfoldable pub emittedRefusal : Emitted → ℕ
+emittedRefusal (To n) = 0
+emittedRefusal (Refused n) = n
+
+-- ---- the header: the new length, then as it was
+
+unfoldable pub headerBytes : List ℕ → ℕ → ℕ → List ℕ
+headerBytes unit first bytes = fixedBytes false 4 (bytes - 4) ++ drop 4 (take first unit)
+
+-- whether it is in the unit, has room and its length is a number of four bytes
+unfoldable pub headerFits : List ℕ → ℕ → ℕ → List ℕ → Bool
+headerFits unit first bytes out = leb 4 first and leb first (length unit) and leb first (length out) and leb 4 bytes and ltb (bytes - 4) (2 ^ 32)
+
+-- how many bytes are written, and the part then
+unfoldable pub headerCount : List ℕ → ℕ → ℕ → List ℕ → ℕ
+headerCount unit first bytes out = pick (headerFits unit first bytes out) first 0
+
+unfoldable pub headerOver : List ℕ → ℕ → ℕ → List ℕ → List ℕ
+headerOver unit first bytes out = pick (headerFits unit first bytes out) (headerBytes unit first bytes ++ drop first out) out
+
+-- ---- numbers
 
 -- a width that a number can have, as ULEB128 (true) or in so many bytes
 unfoldable pub Wide : Bool → ℕ → Type 0

@@ -30,10 +30,18 @@ bytesFit value width n = leb width 8 and leb width n and ltb value (256 ^ width)
 unfoldable pub numberFits : Bool → ℕ → ℕ → ℕ → Bool
 numberFits isLeb value width n = pick isLeb (groupsFit value width n) (bytesFit value width n)
 
--- a writer's answer, and the part after it: the bytes at its start where they fit, and else as it was
-pub record Put (fit : Bool) (bytes : List ℕ) (width : ℕ) (out : List ℕ) (answer : Bool) (after : List ℕ) : Type 0 where
+-- a part where a number does not fit: as it was, but zeros where a ULEB128 number has room
+unfoldable pub unfit : Bool → ℕ → List ℕ → List ℕ
+unfit isLeb width out = pick (isLeb and leb width (length out)) (zeros width ++ drop width out) out
+
+-- a writer's answer, and the part after it: the bytes at its start where they fit, and else another
+pub record Put (fit : Bool) (bytes : List ℕ) (width : ℕ) (out other : List ℕ) (answer : Bool) (after : List ℕ) : Type 0 where
   pub told : answer ≡ fit
-  pub left : after ≡ pick fit (bytes ++ drop width out) out
+  pub left : after ≡ pick fit (bytes ++ drop width out) other
+
+-- a part with bytes at its start; as it was where it has no room for them
+unfoldable pub over : List ℕ → List ℕ → List ℕ
+over bytes out = pick (leb (length bytes) (length out)) (bytes ++ drop (length bytes) out) out
 
 unfoldable pub paddedAnswer : ℕ → ℕ → ℕ → Padded
 paddedAnswer value width n = pick (groupsFit value width n) Written (Refused 15)

@@ -20,8 +20,8 @@ use crate::kept::fill_ends;
 use crate::lists::ListCount;
 use crate::passes::place_items;
 use crate::siblings::fill_bounds;
+use crate::writing::emit_dies;
 use crate::writing::emit_header;
-use crate::writing::emit_items;
 use marking::analysis::clear_columns;
 use marking::columns::clear_bytes;
 use marking::columns::clear_indexes;
@@ -235,8 +235,8 @@ fn write_unit(
         return Collected::Refused(14);
     }
     fill_bounds(map, size.places, work);
-    emit_header(unit, first, size.bytes, out);
-    match emit_items(
+    let at = emit_header(unit, first, size.bytes, out);
+    match emit_dies(
         unit,
         abbreviations,
         r,
@@ -254,7 +254,7 @@ fn write_unit(
         locations,
         string_list,
         strings,
-        out,
+        &mut out[at..],
     ) {
         Emitted::To(_) => {
             Collected::Rewritten(Counts {

@@ -3,7 +3,7 @@ ghost use mathlib.Core.Path.{_≡_};
 ghost use mathlib.Core.List.{List};
 ghost use mathlib.Core.Option.{Option, some};
 ghost use mathlib.Core.Bool.{false};
-ghost use Prim.Native.Nat.{ℕ, _+_, _-_, _≤_};
+ghost use Prim.Native.Nat.{ℕ, _+_, _-_, _^_, _≤_, _<_};
 ghost use lib.ListN.{length, drop};
 ghost use Rattle.readers.specs.Layout.{Read, Piece, readIn, writeAll, patchAll, bytesOf, patchPieces, numberBytes};
 ghost use Rattle.readers.specs.Expression.{expressionIn};
@@ -16,10 +16,10 @@ ghost use Rattle.readers.specs.declared.entries.Step.the-variants.{Entry as Ent
 ghost use Rattle.readers.specs.declared.attributes.AttributeRead.the-variants.{Read as Attribute′};
 ghost use Rattle.rewriting.specs.Places.{Place};
 ghost use Rattle.rewriting.specs.Indices.{rankOr};
-ghost use Rattle.rewriting.specs.Written.{asMapped, MapHeld};
+ghost use Rattle.rewriting.specs.Written.{asMapped, MapHeld, over};
 ghost use Rattle.rewriting.specs.Bounds.{Bounds};
 ghost use Rattle.rewriting.specs.Rewriting.{Lists, newValue, readsRefusal, piecesRefusal, orSelf};
-ghost use Rattle.rewriting.specs.Emission.{between, Emits, Wide, numberRefusal, offsetRefusal, listForm, lebForm, Lent, Lends};
+ghost use Rattle.rewriting.specs.Emission.{between, copiedCount, Emits, Within, onward, Wide, numberRefusal, offsetRefusal, listForm, lebForm, Lent, Lends};
 ghost use Rattle.rewriting.specs.declared.emit.Emitted.the-variants.{To};
 use crate::lists::ListCount;
 use crate::lists::rank;
@@ -36,51 +36,69 @@ use readers::cursor::Encoding;
 use readers::expressions::Yield;
 use readers::fields::Field;
 
-// The next free byte of the output, or the number of a refusal.
+// How many bytes were written, or the number of a refusal.
 pub enum Emitted {
     To(usize),
     Refused(u8),
 }
 
-// Copies bytes of the unit to the next free byte.
-pub fn emit_bytes(unit: &[u8], from: usize, to: usize, out: &mut [u8], at: usize) -> usize
-    ensures { λ r. ⌜ (from ≤ to → to ≤ length (now (unit .entry)) → Emits 0 (between (now (unit .entry)) from to) (now (out .entry)) at (To r) (now (out .exit))) ⌝ }
+// The bytes of a slice from one place to another, as far as it has them.
+pub(crate) fn bytes_between<'a>(s: &'a [u8], from: usize, to: usize) -> &'a [u8]
+    ensures { λ r. ⌜ now r ≡ between (now (s .entry)) from to ⌝ }
 {
     if from >= to {
-        return at;
+        return &s[0..0];
     }
-    if to > unit.len() {
-        return at;
+    if from >= s.len() {
+        return &s[0..0];
     }
-    if at > out.len() {
-        return at;
+    if to > s.len() {
+        return &s[from..];
     }
-    put_bytes(&unit[from..to], &mut out[at..]);
-    at + (to - from)
+    &s[from..to]
 }
 
-// A number in so many bytes at the next free byte: 9 where it does not fit.
-fn emit_number(value: u64, width: usize, leb: bool, out: &mut [u8], at: usize) -> Emitted
-    ensures { λ r. ⌜ (Wide leb width → Emits (numberRefusal (encodedBy leb width) value) (numberBytes false (encodedBy leb width) value) (now (out .entry)) at r (now (out .exit))) ⌝ }
+// Copies bytes to the start of a part: how many, 0 where there is no room for all.
+pub fn emit_bytes(bytes: &[u8], out: &mut [u8]) -> usize
+    ensures count { λ r. ⌜ r ≡ copiedCount (now (bytes .entry)) (now (out .entry)) ⌝ }
+    ensures part { λ _. ⌜ now (out .exit) ≡ over (now (bytes .entry)) (now (out .entry)) ⌝ }
 {
-    if at > out.len() {
-        return Emitted::Refused(9);
+    if bytes.len() > out.len() {
+        return 0;
     }
-    if width > out.len() - at {
-        return Emitted::Refused(9);
+    put_bytes(bytes, out);
+    bytes.len()
+}
+
+// What is answered where so many bytes stand before: the count goes on, a refusal stays.
+fn after(done: usize, rest: Emitted) -> Emitted
+    requires { ⌜ ((n : ℕ) → rest ≡ To n → done + n < 2 ^ 64) ⌝ }
+    ensures { λ r. ⌜ r ≡ onward done rest ⌝ }
+{
+    match rest {
+        Emitted::To(n) => Emitted::To(done + n),
+        Emitted::Refused(n) => Emitted::Refused(n),
     }
-    if put_number(value, width, leb, &mut out[at..]) {
-        return Emitted::To(at + width);
+}
+
+// A number in so many bytes: 9 where it does not fit.
+fn emit_number(value: u64, width: usize, leb: bool, out: &mut [u8]) -> Emitted
+    ensures within { λ r. ⌜ Within (now (out .entry)) r (now (out .exit)) ⌝ }
+    ensures bytes { λ r. ⌜ (Wide leb width → Emits (numberRefusal (encodedBy leb width) value) (numberBytes false (encodedBy leb width) value) (now (out .entry)) r (now (out .exit))) ⌝ }
+{
+    if put_number(value, width, leb, out) {
+        return Emitted::To(width);
     }
     Emitted::Refused(9)
 }
 
-// The new offset in the old one's place: 8 where it has none.
-fn emit_offset(new: Mapped, width: usize, leb: bool, out: &mut [u8], at: usize) -> Emitted
-    ensures { λ r. ⌜ ((o : Option ℕ) (v : ℕ) → new ≡ asMapped o → Wide leb width → Emits (offsetRefusal (encodedBy leb width) v o) (numberBytes false (encodedBy leb width) (orSelf v o)) (now (out .entry)) at r (now (out .exit))) ⌝ }
+// The new offset in the old one's place: 8 where it has none (gc.rs: `write_ref_value`).
+fn emit_offset(new: Mapped, width: usize, leb: bool, out: &mut [u8]) -> Emitted
+    ensures within { λ r. ⌜ Within (now (out .entry)) r (now (out .exit)) ⌝ }
+    ensures bytes { λ r. ⌜ ((o : Option ℕ) (v : ℕ) → new ≡ asMapped o → Wide leb width → Emits (offsetRefusal (encodedBy leb width) v o) (numberBytes false (encodedBy leb width) (orSelf v o)) (now (out .entry)) r (now (out .exit))) ⌝ }
 {
     match new {
-        Mapped::To(value) => emit_number(value, width, leb, out, at),
+        Mapped::To(value) => emit_number(value, width, leb, out),
         Mapped::Nothing => Emitted::Refused(8),
     }
 }
@@ -99,29 +117,30 @@ fn past(place: usize, width: usize, length: usize) -> usize
 }
 
 // An expression with the new offsets of the entries that it names, nested ones too (gc.rs: `emit_expression`).
-fn emit_expression(
-    s: &[u8],
-    e: Encoding,
-    map: &[u8],
-    places: usize,
-    out: &mut [u8],
-    at: usize,
-) -> Emitted
-    ensures { λ r. ⌜ ((lists : Lists) (ps : List Place) (depth : ℕ) (pieces : List Piece) → e .«big_endian» ≡ false → MapHeld ps (now (map .entry)) → places ≡ length ps → expressionIn e (now (s .entry)) ≡ some pieces → Emits (piecesRefusal lists ps depth pieces) (bytesOf false (patchPieces (newValue lists ps depth) pieces)) (now (out .entry)) at r (now (out .exit))) ⌝ }
+fn emit_expression(s: &[u8], e: Encoding, map: &[u8], places: usize, out: &mut [u8]) -> Emitted
+    ensures within { λ r. ⌜ Within (now (out .entry)) r (now (out .exit)) ⌝ }
+    ensures bytes { λ r. ⌜ ((lists : Lists) (ps : List Place) (depth : ℕ) (pieces : List Piece) → e .«big_endian» ≡ false → MapHeld ps (now (map .entry)) → places ≡ length ps → expressionIn e (now (s .entry)) ≡ some pieces → Emits (piecesRefusal lists ps depth pieces) (bytesOf false (patchPieces (newValue lists ps depth) pieces)) (now (out .entry)) r (now (out .exit))) ⌝ }
 {
     let mut from: usize = 0;
     let mut copied: usize = 0;
-    let mut to = at;
+    let mut to: usize = 0;
     loop {
         let Yield::Reference(r) = (Cursor { at: from }).next_reference(s, e) else {
-            return Emitted::To(emit_bytes(s, copied, s.len(), out, to));
+            let n = emit_bytes(bytes_between(s, copied, s.len()), &mut out[to..]);
+            return Emitted::To(to + n);
         };
         let target = r.target;
         let next = r.next;
-        to = emit_bytes(s, copied, r.place, out, to);
-        match emit_offset(new_offset(map, places, target.0), r.width, r.leb, out, to) {
-            Emitted::To(place) => {
-                to = place;
+        let n = emit_bytes(bytes_between(s, copied, r.place), &mut out[to..]);
+        to += n;
+        match emit_offset(
+            new_offset(map, places, target.0),
+            r.width,
+            r.leb,
+            &mut out[to..],
+        ) {
+            Emitted::To(n) => {
+                to += n;
             }
             Emitted::Refused(n) => {
                 return Emitted::Refused(n);
@@ -209,71 +228,85 @@ fn emit_attribute(
     strings: &[u8],
     strings_count: ListCount,
     out: &mut [u8],
-    at: usize,
 ) -> Emitted
-    ensures { λ r. ⌜ ((lists : Lists) (ps : List Place) (rs : List Read) (rest : List ℕ) → e .«big_endian» ≡ false → MapHeld ps (now (map .entry)) → places ≡ length ps → Bounds ps (now (bounds .entry)) → Lends lists (now (ranges .entry)) «ranges_count» (now (locations .entry)) «locations_count» (now (strings .entry)) «strings_count» → values ≤ length (now (unit .entry)) → attributeAt e (now (unit .entry)) values (a .name) (a .declared) ≡ Attribute′ (a .value) → readIn false (expressionIn e) (attributeLayout e (a .name) (a .declared)) (drop values (now (unit .entry))) ≡ some (rs, rest) → Emits (readsRefusal lists ps depth rs) (writeAll false (patchAll (newValue lists ps depth) rs)) (now (out .entry)) at r (now (out .exit))) ⌝ }
+    ensures within { λ r. ⌜ Within (now (out .entry)) r (now (out .exit)) ⌝ }
+    ensures bytes { λ r. ⌜ ((lists : Lists) (ps : List Place) (rs : List Read) (rest : List ℕ) → e .«big_endian» ≡ false → MapHeld ps (now (map .entry)) → places ≡ length ps → Bounds ps (now (bounds .entry)) → Lends lists (now (ranges .entry)) «ranges_count» (now (locations .entry)) «locations_count» (now (strings .entry)) «strings_count» → values ≤ length (now (unit .entry)) → attributeAt e (now (unit .entry)) values (a .name) (a .declared) ≡ Attribute′ (a .value) → readIn false (expressionIn e) (attributeLayout e (a .name) (a .declared)) (drop values (now (unit .entry))) ≡ some (rs, rest) → Emits (readsRefusal lists ps depth rs) (writeAll false (patchAll (newValue lists ps depth) rs)) (now (out .entry)) r (now (out .exit))) ⌝ }
 {
     let v = a.value;
     let field = v.field;
     let form = v.form;
-    let to = emit_bytes(unit, values, field.start, out, at);
+    let to = emit_bytes(bytes_between(unit, values, field.start), out);
     let leb = is_leb(form);
     if form == 0x18 {
-        return emit_expression(field.expression(unit), e, map, places, out, to);
+        return after(
+            to,
+            emit_expression(field.expression(unit), e, map, places, &mut out[to..]),
+        );
     }
     if form >= 0x11 {
         if form <= 0x15 {
             if a.name == 0x01 {
-                return emit_offset(
-                    sibling_offset(map, places, bounds, field.value, depth),
-                    width(field),
-                    leb,
-                    out,
+                return after(
                     to,
+                    emit_offset(
+                        sibling_offset(map, places, bounds, field.value, depth),
+                        width(field),
+                        leb,
+                        &mut out[to..],
+                    ),
                 );
             }
-            return emit_offset(
-                new_offset(map, places, field.value),
-                width(field),
-                leb,
-                out,
+            return after(
                 to,
+                emit_offset(
+                    new_offset(map, places, field.value),
+                    width(field),
+                    leb,
+                    &mut out[to..],
+                ),
             );
         }
     }
     let list = list_of(form);
     if list == 0 {
-        return emit_number(
-            new_index(ranges, ranges_count, field.value),
-            width(field),
-            leb,
-            out,
+        return after(
             to,
+            emit_number(
+                new_index(ranges, ranges_count, field.value),
+                width(field),
+                leb,
+                &mut out[to..],
+            ),
         );
     }
     if list == 1 {
-        return emit_number(
-            new_index(locations, locations_count, field.value),
-            width(field),
-            leb,
-            out,
+        return after(
             to,
+            emit_number(
+                new_index(locations, locations_count, field.value),
+                width(field),
+                leb,
+                &mut out[to..],
+            ),
         );
     }
     if list == 2 {
-        return emit_number(
-            new_index(strings, strings_count, field.value),
-            width(field),
-            leb,
-            out,
+        return after(
             to,
+            emit_number(
+                new_index(strings, strings_count, field.value),
+                width(field),
+                leb,
+                &mut out[to..],
+            ),
         );
     }
-    Emitted::To(emit_bytes(unit, field.start, field.end, out, to))
+    let n = emit_bytes(bytes_between(unit, field.start, field.end), &mut out[to..]);
+    Emitted::To(to + n)
 }
 
-// An entry: its code, then its attributes.
-pub fn emit_entry(
+// An entry: its code, then its attributes (gc.rs: a turn of `emit_dies`).
+pub(crate) fn emit_entry(
     unit: &[u8],
     abbreviations: &[u8],
     start: usize,
@@ -291,13 +324,13 @@ pub fn emit_entry(
     strings: &[u8],
     strings_count: ListCount,
     out: &mut [u8],
-    at: usize,
 ) -> Emitted
-    ensures { λ r. ⌜ ((lists : Lists) (ps : List Place) (look : ℕ → Found) (x : Entry) (rs : List Read) (rest : List ℕ) → e .«big_endian» ≡ false → MapHeld ps (now (map .entry)) → places ≡ length ps → Bounds ps (now (bounds .entry)) → Lends lists (now (ranges .entry)) «ranges_count» (now (locations .entry)) «locations_count» (now (strings .entry)) «strings_count» → stepAt e (now (abbreviations .entry)) look (now (unit .entry)) start ≡ Entry′ x → specs ≡ x .declaration .attributes → values ≡ x .values → readIn false (expressionIn e) (entryLayout e (now (abbreviations .entry)) look) (drop start (now (unit .entry))) ≡ some (rs, rest) → Emits (readsRefusal lists ps depth rs) (writeAll false (patchAll (newValue lists ps depth) rs)) (now (out .entry)) at r (now (out .exit))) ⌝ }
+    ensures within { λ r. ⌜ Within (now (out .entry)) r (now (out .exit)) ⌝ }
+    ensures bytes { λ r. ⌜ ((lists : Lists) (ps : List Place) (look : ℕ → Found) (x : Entry) (rs : List Read) (rest : List ℕ) → e .«big_endian» ≡ false → MapHeld ps (now (map .entry)) → places ≡ length ps → Bounds ps (now (bounds .entry)) → Lends lists (now (ranges .entry)) «ranges_count» (now (locations .entry)) «locations_count» (now (strings .entry)) «strings_count» → stepAt e (now (abbreviations .entry)) look (now (unit .entry)) start ≡ Entry′ x → specs ≡ x .declaration .attributes → values ≡ x .values → readIn false (expressionIn e) (entryLayout e (now (abbreviations .entry)) look) (drop start (now (unit .entry))) ≡ some (rs, rest) → Emits (readsRefusal lists ps depth rs) (writeAll false (patchAll (newValue lists ps depth) rs)) (now (out .entry)) r (now (out .exit))) ⌝ }
 {
     let mut p = specs.at;
     let mut from = values.at;
-    let mut to = emit_bytes(unit, start, from, out, at);
+    let mut to = emit_bytes(bytes_between(unit, start, from), out);
     loop {
         let NextAttribute::More(a) = next_attribute(
             unit,
@@ -326,11 +359,10 @@ pub fn emit_entry(
             locations_count,
             strings,
             strings_count,
-            out,
-            to,
+            &mut out[to..],
         ) {
-            Emitted::To(place) => {
-                to = place;
+            Emitted::To(n) => {
+                to += n;
             }
             Emitted::Refused(n) => {
                 return Emitted::Refused(n);

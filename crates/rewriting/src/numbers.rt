@@ -9,7 +9,7 @@ ghost use Rattle.readers.specs.Choice.{zeros};
 ghost use Rattle.readers.specs.Numbers.{padded, fixedBytes};
 ghost use Rattle.readers.specs.Layout.{numberBytes};
 ghost use Rattle.readers.specs.References.{encodedBy};
-ghost use Rattle.rewriting.specs.Written.{groupsFit, bytesFit, numberFits, Put, paddedAnswer, paddedOut, put, numberAt};
+ghost use Rattle.rewriting.specs.Written.{groupsFit, bytesFit, numberFits, unfit, Put, paddedAnswer, paddedOut, over, put, numberAt};
 use readers::cursor::Cursor;
 use readers::cursor::Number;
 
@@ -102,7 +102,7 @@ fn copy_number(number: &[u8; 10], width: usize, out: &mut [u8])
 
 // A little-endian number in so many bytes, at most eight: whether it fits.
 fn put_fixed(value: u64, width: usize, out: &mut [u8]) -> bool
-    ensures { λ r. ⌜ Put (bytesFit value width (length (now (out .entry)))) (fixedBytes false width value) width (now (out .entry)) r (now (out .exit)) ⌝ }
+    ensures { λ r. ⌜ Put (bytesFit value width (length (now (out .entry)))) (fixedBytes false width value) width (now (out .entry)) (now (out .entry)) r (now (out .exit)) ⌝ }
 {
     if width > 8 {
         return false;
@@ -138,24 +138,29 @@ pub fn write_uleb128_padded(value: u64, width: usize, out: &mut [u8]) -> Padded
     Padded::Written
 }
 
-// Writes a number in its own encoding at the start of a part: whether it fits.
-pub fn put_number(value: u64, width: usize, leb: bool, out: &mut [u8]) -> bool
-    ensures { λ r. ⌜ Put (numberFits leb value width (length (now (out .entry)))) (numberBytes false (encodedBy leb width) value) width (now (out .entry)) r (now (out .exit)) ⌝ }
+// Writes a number in its own encoding at the start of a part: whether it fits. A padded number has a part of exactly its width.
+pub(crate) fn put_number(value: u64, width: usize, leb: bool, out: &mut [u8]) -> bool
+    ensures { λ r. ⌜ Put (numberFits leb value width (length (now (out .entry)))) (numberBytes false (encodedBy leb width) value) width (now (out .entry)) (unfit leb width (now (out .entry))) r (now (out .exit)) ⌝ }
 {
     if leb {
-        if !groups_fit(value, width, out.len()) {
+        if width > out.len() {
             return false;
         }
-        let number = uleb128_padded(value, width);
-        copy_number(&number, width, out);
-        return true;
+        match write_uleb128_padded(value, width, &mut out[..width]) {
+            Padded::Written => {
+                return true;
+            }
+            Padded::Refused(_) => {
+                return false;
+            }
+        }
     }
     put_fixed(value, width, out)
 }
 
-// Copies a run of bytes into the start of a part that has room for it.
+// Copies a run of bytes into the start of a part that has room for it; else the part stays as it is.
 pub fn put_bytes(bytes: &[u8], out: &mut [u8])
-    ensures { λ _. ⌜ (length (now (bytes .entry)) ≤ length (now (out .entry)) → now (out .exit) ≡ now (bytes .entry) ++ drop (length (now (bytes .entry))) (now (out .entry))) ⌝ }
+    ensures { λ _. ⌜ now (out .exit) ≡ over (now (bytes .entry)) (now (out .entry)) ⌝ }
 {
     if bytes.len() > out.len() {
         return;

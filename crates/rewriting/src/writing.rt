@@ -1,18 +1,17 @@
 // Writes a unit anew: its header with the new length, then the kept entries and terminators.
 ghost use mathlib.Core.Path.{_≡_};
 ghost use mathlib.Core.Bool.{false};
-ghost use mathlib.Core.List.{List, [], _++_};
-ghost use Prim.Native.Nat.{_-_, _^_, _≤_, _<_};
-ghost use lib.ListN.{length, take, drop};
-ghost use Rattle.readers.specs.Numbers.{fixedBytes};
+ghost use mathlib.Core.List.{List, []};
+ghost use lib.ListN.{length};
 ghost use Rattle.marking.specs.Analysis.{Sections};
 ghost use Rattle.rewriting.specs.Places.{Place, keptFrom};
 ghost use Rattle.rewriting.specs.Rewriting.{Unit as Unit′, Lists, itemsIn, refusalFrom, bytesFrom};
-ghost use Rattle.rewriting.specs.Written.{put, MapHeld};
+ghost use Rattle.rewriting.specs.Written.{MapHeld};
 ghost use Rattle.rewriting.specs.Bounds.{Bounds};
 ghost use Rattle.rewriting.specs.IndexLists.{Passable};
-ghost use Rattle.rewriting.specs.Emission.{Emits, Lends};
+ghost use Rattle.rewriting.specs.Emission.{Emits, Within, Lends, headerCount, headerOver};
 use crate::emit::Emitted;
+use crate::emit::bytes_between;
 use crate::emit::emit_bytes;
 use crate::emit::emit_entry;
 use crate::kept::KeptStep;
@@ -24,8 +23,8 @@ use crate::numbers::put_bytes;
 use crate::numbers::put_number;
 use readers::entries::Nesting;
 
-// Writes the kept items.
-pub fn emit_items(
+// Writes the kept items (gc.rs: `emit_dies`).
+pub(crate) fn emit_dies(
     unit: &[u8],
     abbreviations: &[u8],
     r: Reading,
@@ -45,14 +44,15 @@ pub fn emit_items(
     strings_count: ListCount,
     out: &mut [u8],
 ) -> Emitted
-    ensures { λ t. ⌜ ((x : Sections) (u : Unit′) (lists : Lists) (ps : List Place) → Passable x u r (now (abbreviations .entry)) (now (index .entry)) (now (unit .entry)) (now (parents .entry)) (now (ends .entry)) (now (marks .entry)) first → first ≡ u .header .first .0 → r .encoding .«big_endian» ≡ false → MapHeld ps (now (map .entry)) → places ≡ length ps → Bounds ps (now (bounds .entry)) → Lends lists (now (ranges .entry)) «ranges_count» (now (locations .entry)) «locations_count» (now (strings .entry)) «strings_count» → Emits (refusalFrom x u lists ps (keptFrom (now (marks .entry)) 0 [] (itemsIn x u))) (bytesFrom x u lists ps (keptFrom (now (marks .entry)) 0 [] (itemsIn x u))) (now (out .entry)) first t (now (out .exit))) ⌝ }
+    ensures within { λ t. ⌜ Within (now (out .entry)) t (now (out .exit)) ⌝ }
+    ensures bytes { λ t. ⌜ ((x : Sections) (u : Unit′) (lists : Lists) (ps : List Place) → Passable x u r (now (abbreviations .entry)) (now (index .entry)) (now (unit .entry)) (now (parents .entry)) (now (ends .entry)) (now (marks .entry)) first → first ≡ u .header .first .0 → r .encoding .«big_endian» ≡ false → MapHeld ps (now (map .entry)) → places ≡ length ps → Bounds ps (now (bounds .entry)) → Lends lists (now (ranges .entry)) «ranges_count» (now (locations .entry)) «locations_count» (now (strings .entry)) «strings_count» → Emits (refusalFrom x u lists ps (keptFrom (now (marks .entry)) 0 [] (itemsIn x u))) (bytesFrom x u lists ps (keptFrom (now (marks .entry)) 0 [] (itemsIn x u))) (now (out .entry)) t (now (out .exit))) ⌝ }
 {
     let mut s = Stand {
         at: first,
         count: 0,
         nesting: Nesting::outside(),
     };
-    let mut to = first;
+    let mut to: usize = 0;
     loop {
         let KeptStep::Item(x) = next_kept(unit, abbreviations, r, index, parents, ends, marks, s)
         else {
@@ -77,11 +77,10 @@ pub fn emit_items(
                 locations_count,
                 strings,
                 strings_count,
-                out,
-                to,
+                &mut out[to..],
             ) {
-                Emitted::To(place) => {
-                    to = place;
+                Emitted::To(n) => {
+                    to += n;
                     s = next;
                 }
                 Emitted::Refused(n) => {
@@ -89,22 +88,35 @@ pub fn emit_items(
                 }
             }
         } else {
-            to = emit_bytes(unit, x.start, x.end, out, to);
+            let n = emit_bytes(bytes_between(unit, x.start, x.end), &mut out[to..]);
+            to += n;
             s = next;
         }
     }
 }
 
-// The header: the new length, then as it was.
-pub fn emit_header(unit: &[u8], first: usize, bytes: usize, out: &mut [u8])
-    ensures { λ _. ⌜ (4 ≤ first → first ≤ length (now (unit .entry)) → first ≤ length (now (out .entry)) → 4 ≤ bytes → bytes - 4 < 2 ^ 32 → now (out .exit) ≡ put (now (out .entry)) 0 (fixedBytes false 4 (bytes - 4) ++ drop 4 (take first (now (unit .entry))))) ⌝ }
+// The header: the new length, then as it was (gc.rs: the end of `rewrite_unit`). How many bytes; 0, and nothing is written, where it has no room or its length is no number of four bytes.
+pub fn emit_header(unit: &[u8], first: usize, bytes: usize, out: &mut [u8]) -> usize
+    ensures count { λ r. ⌜ r ≡ headerCount (now (unit .entry)) first bytes (now (out .entry)) ⌝ }
+    ensures part { λ _. ⌜ now (out .exit) ≡ headerOver (now (unit .entry)) first bytes (now (out .entry)) ⌝ }
 {
+    if first < 4 {
+        return 0;
+    }
     if first > unit.len() {
-        return;
+        return 0;
+    }
+    if first > out.len() {
+        return 0;
     }
     if bytes < 4 {
-        return;
+        return 0;
+    }
+    let size = (bytes - 4) as u64;
+    if size >= 0x100000000 {
+        return 0;
     }
     put_bytes(&unit[..first], out);
-    put_number((bytes - 4) as u64, 4, false, out);
+    put_number(size, 4, false, out);
+    first
 }

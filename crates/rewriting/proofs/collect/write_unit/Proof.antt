@@ -1,9 +1,11 @@
 -- `write_unit` measures and fills the map, then its bounds, and writes header and items. Assumes nothing.
+use native.Mathlib.Omega.{arith}
 use borrow.Author.Needs.{needs}
+use Rattle.rewriting.proofs.Emissions.{inside, emits-on, onward-to, onward-no}
+use Rattle.rewriting.proofs.HeaderEmits.{header-inside, header-there}
 use Rattle.rewriting.proofs.UnitWritten.{map-short, out-short, unit-written, unit-refused}
 use Rattle.rewriting.proofs.collect.write_unit.Statement.{statement}
 use Rattle.rewriting.proofs.collect.write_unit.Tie as tie
-use Rattle.rewriting.proofs.collect.write_unit.Reads as reads
 
 place-items-requires : tie.Need-place-items-requires
 place-items-requires c κs = search needs
@@ -26,8 +28,17 @@ fill-bounds-requires c κs = search needs
 emit-header-requires : tie.Need-emit-header-requires
 emit-header-requires c κs = search needs
 
-emit-items-requires : tie.Need-emit-items-requires
-emit-items-requires c κs = search needs
+sub-emit-dies : tie.Need-sub-emit-dies
+sub-emit-dies c = omega (arith, inside _ _ _ (header-inside _ _ _ _ _ _ (c .before .before .before .before .emit-header .ensures .0) (c .before .before .before .before .emit-header .ensures .1)))
+
+part-emit-dies-start : tie.Need-part-emit-dies-start
+part-emit-dies-start c = omega (arith, inside _ _ _ (header-inside _ _ _ _ _ _ (c .before .before .before .before .emit-header .ensures .0) (c .before .before .before .before .emit-header .ensures .1)))
+
+part-emit-dies-end : tie.Need-part-emit-dies-end
+part-emit-dies-end c = omega (arith, inside _ _ _ (header-inside _ _ _ _ _ _ (c .before .before .before .before .emit-header .ensures .0) (c .before .before .before .before .emit-header .ensures .1)))
+
+emit-dies-requires : tie.Need-emit-dies-requires
+emit-dies-requires c κs = search needs
 
 enum-told : tie.Need-enum-told
 enum-told c = search needs
@@ -39,25 +50,25 @@ same-length-3 : tie.Need-same-length-3
 same-length-3 c = search needs
 
 same-length-4 : tie.Need-same-length-4
-same-length-4 c = search needs
+same-length-4 c = c .before .before .before .before .before .before .before .before .before .before .before .before .before .before .before .before .before .before .before .before .before .before .before .place-items .kept .1 .1 .1 .1 .1 .1 .1 .1 .0
 
 same-length-5 : tie.Need-same-length-5
 same-length-5 c = search needs
 
 returns-3 : tie.Need-returns-3
-returns-3 c = unit-written _ _ _ _ _ _ _ _ _ _ _ _ _ _ _ _ _ _ _ (c .before .before .before .before .before .before .before .before .before .before .before .before .before .before .before .before .before .before .before .before .before .before .before .place-items .ensures .0) _ (c .before .before .before .before .before .before .before .before .before .before .before .before .before .before .before .before .before .before .before .before .before .before .before .place-items .ensures .1) (c .before .before .before .before .before .before .before .before .before .before .before .before .before .before .before .before .before .before .before .before .before .before .before .place-items .kept .1 .1 .1 .1 .1 .1 .1 .1 .0) (c .before .before .before .before .before .before .before .before .before .before .before .before .before .before .before .before .before .before .before .if1 .left) (c .before .before .before .before .before .before .before .before .before .before .before .before .before .before .before .before .before .if2 .left) _ _ _ (c .before .before .before .before .before .before .before .before .before .before .before .before .before .before .fill-bounds .ensures) (c .before .before .before .before .before .before .before .before .before .before .emit-header .kept .1 .1 .1 .0) (c .before .before .before .before .before .before .before .before .before .before .emit-header .ensures) _ (c .before .before .before .before .emit-items .ensures) _ (c .enum-told .given .1)
+returns-3 c = unit-written _ _ _ _ _ _ _ _ _ _ _ _ _ _ _ _ _ _ _ (c .before .before .before .before .before .before .before .before .before .before .before .before .before .before .before .before .before .before .before .before .before .before .before .place-items .ensures .0) _ (c .before .before .before .before .before .before .before .before .before .before .before .before .before .before .before .before .before .before .before .before .before .before .before .place-items .ensures .1) (c .before .before .before .before .before .before .before .before .before .before .before .before .before .before .before .before .before .before .before .before .before .before .before .place-items .kept .1 .1 .1 .1 .1 .1 .1 .1 .0) (c .before .before .before .before .before .before .before .before .before .before .before .before .before .before .before .before .before .before .before .if1 .left) (c .before .before .before .before .before .before .before .before .before .before .before .before .before .before .before .before .before .if2 .left) _ _ _ (c .before .before .before .before .before .before .before .before .before .before .before .before .before .before .fill-bounds .ensures) (c .before .before .before .before .before .before .before .before .before .before .emit-header .kept .1 .1 .1 .0) _ (λ h i j k l. header-there _ _ _ _ h i j k l _ _ (c .before .before .before .before .before .before .before .before .before .before .emit-header .ensures .0) (c .before .before .before .before .before .before .before .before .before .before .emit-header .ensures .1)) _ (λ x u lists ps p q l m n b g. emits-on _ _ _ (header-inside _ _ _ _ _ _ (c .before .before .before .before .before .before .before .before .before .before .emit-header .ensures .0) (c .before .before .before .before .before .before .before .before .before .before .emit-header .ensures .1)) (c .before .before .before .before .emit-dies .ensures .1 x u lists ps p q l m n b g)) _ (onward-to _ _ _ (c .enum-told .given .1))
 
 same-length-6 : tie.Need-same-length-6
 same-length-6 c = search needs
 
 same-length-7 : tie.Need-same-length-7
-same-length-7 c = search needs
+same-length-7 c = c .before .before .before .before .before .before .before .before .before .before .before .before .before .before .before .before .before .before .before .before .before .before .before .before .place-items .kept .1 .1 .1 .1 .1 .1 .1 .1 .0
 
 same-length-8 : tie.Need-same-length-8
 same-length-8 c = search needs
 
 returns-4 : tie.Need-returns-4
-returns-4 c = unit-refused _ _ _ _ _ _ _ _ _ _ _ _ _ _ _ _ _ _ _ (c .before .before .before .before .before .before .before .before .before .before .before .before .before .before .before .before .before .before .before .before .before .before .before .before .place-items .ensures .0) _ (c .before .before .before .before .before .before .before .before .before .before .before .before .before .before .before .before .before .before .before .before .before .before .before .before .place-items .ensures .1) (c .before .before .before .before .before .before .before .before .before .before .before .before .before .before .before .before .before .before .before .before .before .before .before .before .place-items .kept .1 .1 .1 .1 .1 .1 .1 .1 .0) (c .before .before .before .before .before .before .before .before .before .before .before .before .before .before .before .before .before .before .before .before .if1 .left) (c .before .before .before .before .before .before .before .before .before .before .before .before .before .before .before .before .before .before .if2 .left) _ _ _ (c .before .before .before .before .before .before .before .before .before .before .before .before .before .before .before .fill-bounds .ensures) (c .before .before .before .before .before .before .before .before .before .before .before .emit-header .kept .1 .1 .1 .0) (c .before .before .before .before .before .before .before .before .before .before .before .emit-header .ensures) _ (c .before .before .before .before .before .emit-items .ensures) _ (c .before .n .given .1)
+returns-4 c = unit-refused _ _ _ _ _ _ _ _ _ _ _ _ _ _ _ _ _ _ _ (c .before .before .before .before .before .before .before .before .before .before .before .before .before .before .before .before .before .before .before .before .before .before .before .before .place-items .ensures .0) _ (c .before .before .before .before .before .before .before .before .before .before .before .before .before .before .before .before .before .before .before .before .before .before .before .before .place-items .ensures .1) (c .before .before .before .before .before .before .before .before .before .before .before .before .before .before .before .before .before .before .before .before .before .before .before .before .place-items .kept .1 .1 .1 .1 .1 .1 .1 .1 .0) (c .before .before .before .before .before .before .before .before .before .before .before .before .before .before .before .before .before .before .before .before .if1 .left) (c .before .before .before .before .before .before .before .before .before .before .before .before .before .before .before .before .before .before .if2 .left) _ _ _ (c .before .before .before .before .before .before .before .before .before .before .before .before .before .before .before .fill-bounds .ensures) (c .before .before .before .before .before .before .before .before .before .before .before .emit-header .kept .1 .1 .1 .0) _ (λ h i j k l. header-there _ _ _ _ h i j k l _ _ (c .before .before .before .before .before .before .before .before .before .before .before .emit-header .ensures .0) (c .before .before .before .before .before .before .before .before .before .before .before .emit-header .ensures .1)) _ (λ x u lists ps p q l m n b g. emits-on _ _ _ (header-inside _ _ _ _ _ _ (c .before .before .before .before .before .before .before .before .before .before .before .emit-header .ensures .0) (c .before .before .before .before .before .before .before .before .before .before .before .emit-header .ensures .1)) (c .before .before .before .before .before .emit-dies .ensures .1 x u lists ps p q l m n b g)) _ (onward-no _ _ _ (c .before .n .given .1))
 
 pub write-unit-spec : {M : Type 1} → statement M
 write-unit-spec =
@@ -70,7 +81,10 @@ write-unit-spec =
     returns-2
     fill-bounds-requires
     emit-header-requires
-    emit-items-requires
+    sub-emit-dies
+    part-emit-dies-start
+    part-emit-dies-end
+    emit-dies-requires
     enum-told
     enum-known-n
     same-length-3

@@ -1,6 +1,7 @@
 -- `emit_offset`: a new offset, or none. Assumes nothing.
+use mathlib.Core.Path.{refl}
 use borrow.Author.Needs.{needs}
-use Rattle.rewriting.proofs.Emissions.{offset-some, offset-none}
+use Rattle.rewriting.proofs.Emissions.{within-no, offset-some, offset-none}
 use Rattle.rewriting.proofs.emit.emit_offset.Statement.{statement}
 use Rattle.rewriting.proofs.emit.emit_offset.Tie as tie
 
@@ -17,12 +18,18 @@ same-length : tie.Need-same-length
 same-length c = search needs
 
 returns : tie.Need-returns
-returns c = offset-some _ _ _ _ _ _ (c .before .before .before .before .before .new .given .1) _ _ (c .before .before .emit-number .ensures)
+returns c = (c .before .before .emit-number .ensures .0, offset-some _ _ _ _ _ (c .before .before .before .before .before .new .given .1) _ _ (c .before .before .emit-number .ensures .1))
 
 returns-2 : tie.Need-returns-2
-returns-2 c = offset-none _ _ _ _ _ (c .enum-told .given .1)
+returns-2 c = (within-no _ _ _ refl, offset-none _ _ _ _ (c .enum-told .given .1))
 
 pub emit-offset-spec : {M : Type 1} → statement M
 emit-offset-spec =
     tie.close
-    (tie.spec enum-known-new emit-number-requires enum-told same-length returns returns-2)
+    (tie.spec
+    enum-known-new
+    emit-number-requires
+    enum-told
+    same-length
+    returns
+    returns-2)

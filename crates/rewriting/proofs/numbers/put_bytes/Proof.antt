@@ -2,7 +2,7 @@
 use Prim.Native.Nat.{_-_}
 use native.Mathlib.Omega.{arith}
 use lib.ListN.{length, drop}
-use Rattle.rewriting.proofs.Putting.{Putting, putting-start, copy-more, copy-done}
+use Rattle.rewriting.proofs.Putting.{Putting, putting-start, copy-more, copy-done, over-none, over-all}
 use Rattle.rewriting.proofs.numbers.put_bytes.Statement.{statement}
 use Rattle.rewriting.proofs.numbers.put_bytes.Tie as tie
 
@@ -13,7 +13,7 @@ abbrev μ-loop : tie.MeasureT-loop
 μ-loop bytes out₀ i₀ out i = length bytes - i
 
 returns : tie.Need-returns Inv-loop μ-loop
-returns c = (λ h. absurd (omega arith))
+returns c = over-none _ _ (c .if1 .taken)
 
 loop-holds : tie.Need-loop-holds Inv-loop μ-loop
 loop-holds c = putting-start _ _
@@ -37,7 +37,7 @@ same-length : tie.Need-same-length Inv-loop μ-loop
 same-length c = c .before .loop .inv .same
 
 returns-2 : tie.Need-returns-2 Inv-loop μ-loop
-returns-2 c = (λ h. copy-done _ _ _ _ (omega arith) (c .before .loop .inv))
+returns-2 c = over-all _ _ _ (omega arith) (copy-done _ _ _ _ (omega arith) (c .before .loop .inv))
 
 pub put-bytes-spec : {M : Type 1} → statement M
 put-bytes-spec =

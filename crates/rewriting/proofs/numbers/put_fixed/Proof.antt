@@ -15,16 +15,16 @@ abbrev μ-loop : tie.MeasureT-loop
 μ-loop value width out₀ rest₀ i₀ out rest i = width - i
 
 returns : tie.Need-returns Inv-loop μ-loop
-returns c = refused _ _ _ _ (bytes-over _ _ _ (c .if1 .taken))
+returns c = refused _ _ _ _ _ (bytes-over _ _ _ (c .if1 .taken))
 
 returns-2 : tie.Need-returns-2 Inv-loop μ-loop
-returns-2 c = refused _ _ _ _ (bytes-beyond _ _ _ (c .if2 .taken))
+returns-2 c = refused _ _ _ _ _ (bytes-beyond _ _ _ (c .if2 .taken))
 
 fits-requires : tie.Need-fits-requires Inv-loop μ-loop
 fits-requires c κs = search needs
 
 returns-3 : tie.Need-returns-3 Inv-loop μ-loop
-returns-3 c = refused _ _ _ _ (bytes-large _ _ _ (sym (c .before .fits2 .ensures) ∙ not-true _ (c .if3 .taken)))
+returns-3 c = refused _ _ _ _ _ (bytes-large _ _ _ (sym (c .before .fits2 .ensures) ∙ not-true _ (c .if3 .taken)))
 
 loop-holds : tie.Need-loop-holds Inv-loop μ-loop
 loop-holds c = fixing-start _ _ _
@@ -49,7 +49,7 @@ same-length c = c .before .loop .inv .putting .same
 
 returns-4 : tie.Need-returns-4 Inv-loop μ-loop
 returns-4 c =
-    accepted _ _ _ _ _ (bytes-fit _ _ _ (omega arith) (omega arith) (sym (c .before .before .before .fits2 .ensures) ∙ not-false _ (c .before .before .if3 .left))) (fixing-done _ _ _ _ _ _ (omega arith) (c .before .loop .inv))
+    accepted _ _ _ _ _ _ (bytes-fit _ _ _ (omega arith) (omega arith) (sym (c .before .before .before .fits2 .ensures) ∙ not-false _ (c .before .before .if3 .left))) (fixing-done _ _ _ _ _ _ (omega arith) (c .before .loop .inv))
 
 pub put-fixed-spec : {M : Type 1} → statement M
 put-fixed-spec =

@@ -16,7 +16,7 @@ same-length : tie.Need-same-length
 same-length c = search needs
 
 returns : tie.Need-returns
-returns c = padded-refused _ _ _ _ _ _ (c .before .before .before .before .clear .ensures) (refused _ _ _ _ (sym (c .before .groups-fit .ensures) ∙ not-true _ (c .if1 .taken))) refl
+returns c = padded-refused _ _ _ _ _ _ (c .before .before .before .before .clear .ensures) (refused _ _ _ _ _ (sym (c .before .groups-fit .ensures) ∙ not-true _ (c .if1 .taken))) refl
 
 uleb128-padded-requires : tie.Need-uleb128-padded-requires
 uleb128-padded-requires c κs = search needs
