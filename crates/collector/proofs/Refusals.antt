@@ -7,7 +7,7 @@ use Rattle.readers.specs.Choice.{pick-either, _and_, _or_}
 use Rattle.readers.proofs.Refusals.{isOneOf, areOf, one-of, wider}
 use Rattle.rewriting.specs.Rewriting.{Room, Collected, untouched, rewritten, refused, collectOf}
 use Rattle.rewriting.specs.Outputs.{answerFor}
-use Rattle.rewriting.specs.Refusals.{CollectRefusal}
+use Rattle.rewriting.specs.RefusalNumbers.{CollectRefusal}
 use Rattle.rewriting.proofs.Refusals.{collect-refusal}
 use Rattle.collector.specs.Call.{isUncounted, numberFor, collectedOf}
 use Rattle.collector.specs.Refusals.{CallNumber}

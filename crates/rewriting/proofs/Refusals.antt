@@ -28,7 +28,7 @@ use Rattle.rewriting.specs.Rewriting.{Unit as Unit′, Lists, Room, Rewr
 use Rattle.rewriting.specs.Written.{groupsFit, paddedAnswer}
 use Rattle.rewriting.specs.declared.numbers.Padded.{Padded}
 use Rattle.rewriting.specs.declared.numbers.Padded.the-variants.{Written, Refused as Refused′}
-use Rattle.rewriting.specs.Refusals.{CollectRefusal, PaddedRefusal, UnitRead, unitRead, keptIn, listsIn, Thinned, RefusedAt, at-header, at-abbreviations, at-entries, at-lists, at-map, at-output, at-values}
+use Rattle.rewriting.specs.RefusalNumbers.{CollectRefusal, PaddedRefusal, UnitRead, unitRead, keptIn, listsIn, Thinned, RefusedAt, at-header, at-abbreviations, at-entries, at-lists, at-map, at-output, at-values}
 use Rattle.rewriting.proofs.Accepted.{kept-most}
 
 -- ---- 8 and 9: 0 where nothing is refused

@@ -30,7 +30,7 @@ use Rattle.rewriting.specs.Places.{Standing, keptFrom, opened, closed, i
 use Rattle.rewriting.specs.Indices.{insert, insertAll, readIndices, countOf}
 use Rattle.rewriting.specs.LeftOut.{leftFrom, sizesOf}
 use Rattle.rewriting.specs.Rewriting.{Unit as Unit′, itemsIn, readsAt, Lists, noLists, indicesFrom, anyDeclares, listOf, listsOf, refusalFrom, unitBytes, Room, Rewrite, Collected, untouched, rewritten, refused, listsFit, orRefused, rewriteOf, marksCollected, rowsCollected, analysedCollected, declaredCollected, headerCollected, collectOf}
-use Rattle.rewriting.specs.Refusals.{RoomyRefusal}
+use Rattle.rewriting.specs.RefusalNumbers.{RoomyRefusal}
 use Rattle.rewriting.specs.RoomLaws.{ListsWithin, Within, ListShort, roomFor, noRoom, needOf, IsAccepted, RoomLaw, Needs, TooShort, indexCount, unitRoom, declaredRoom, headerRoom, enoughRoom}
 use Rattle.rewriting.proofs.Maps.{places-length}
 use Rattle.rewriting.proofs.Sizes.{sizes-divided}

@@ -1,3 +1,4 @@
+pub mod Refusals
 pub mod Places
 pub mod Moved
 pub mod Around
@@ -25,5 +26,5 @@ pub mod AttributesAgain
 pub mod Leaving
 pub mod FiveEntries
 pub mod SameReferences
-pub mod Refusals
+pub mod RefusalNumbers
 pub mod RoomLaws

@@ -20,6 +20,9 @@ use Rattle.marking.specs.Marks.{keptCount}
 use Rattle.readers.specs.Stream.{Item, entry, terminator, itemsFrom}
 use Rattle.marking.specs.Analysis.{Sections, Rooms, Row, Analysed, analysed, refused as notAnalysed, valuesOfEntry, analysisOf}
 use Rattle.marking.specs.Resolution.{marksIn}
+use Rattle.rewriting.specs.declared.map.Mapped.the-variants.{Nothing}
+use Rattle.rewriting.specs.declared.collect.Listed.the-variants.{Short}
+use Rattle.rewriting.specs.Refusals.{refusalOfMapped, refusalOfListed}
 use Rattle.rewriting.specs.Places.{Standing, keptFrom, offsetOf, Place, placesFrom, sizeFrom, newOf, siblingOf}
 use Rattle.rewriting.specs.Indices.{insertAll, readIndices, declares, rankOr, countOf}
 
@@ -123,7 +126,7 @@ module _ (lists : Lists) (map : List Place) (depth : ℕ) where
   -- 8 where a target has no place, 9 where a value does not fit, 0 where nothing is refused
   unfoldable pub pieceRefusal : Piece → ℕ
   pieceRefusal (copied l) = 0
-  pieceRefusal (linked e r v) = pick (hasPlace r v) (pick (fits e (newValue r v)) 0 9) 8
+  pieceRefusal (linked e r v) = pick (hasPlace r v) (pick (fits e (newValue r v)) 0 9) (refusalOfMapped Nothing)
 
   unfoldable pub orNext : ℕ → ℕ → ℕ
   orNext n m = pick (eqb n 0) m n
@@ -207,7 +210,7 @@ module _ (x : Sections) (room : Room) where
       pick (listsFit room (listsOf x u typeUnits items))
       (pick (eqb (keptCount marks) (length marks)) (untouched (length marks) (listsOf x u typeUnits items))
       (rewriteOf u (length marks) (keptCount marks) (listsOf x u typeUnits items) items))
-      (refused 12)
+      (refused (refusalOfListed Short))
 
   unfoldable pub rowsCollected : Bool → Unit → List Row → Collected
   rowsCollected typeUnits u [] = untouched 0 noLists

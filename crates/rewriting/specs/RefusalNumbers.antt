@@ -1,0 +1,79 @@
+-- The numbers that the calls of this crate refuse with (document 01, "Operations and their numbers"), and for collect
+-- where each comes from.
+use mathlib.Core.Path.{_≡_}
+use Prim.Native.Nat.{ℕ, _+_, _≤_, _<_}
+use mathlib.Core.Bool.{Bool, true, false}
+use mathlib.Core.List.{List, [], _∷_}
+use mathlib.Core.Option.{Option, none, some}
+use lib.ListN.{length, take}
+use Rattle.readers.specs.RefusalNumbers.{OneOf, HeaderRefusal}
+use Rattle.readers.specs.Abbreviations.{Placed, abbreviationsOf}
+use Rattle.readers.specs.Header.{headerOf}
+use Rattle.readers.specs.declared.header.UnitHeader.{UnitHeader}
+use Rattle.readers.specs.declared.header.HeaderRead.the-variants.{Unit as Header′, Refused}
+use Rattle.marking.specs.Analysis.{Sections, Row, analysed, refused as notAnalysed, analysisOf}
+use Rattle.marking.specs.Marks.{keptCount}
+use Rattle.marking.specs.Resolution.{marksIn}
+use Rattle.marking.specs.RefusalNumbers.{EntriesRefusal}
+use Rattle.rewriting.specs.Places.{Standing, keptFrom, placesFrom, sizeFrom}
+use Rattle.rewriting.specs.Rewriting.{Unit as Unit′, itemsIn, Lists, listsOf, refusalFrom, Room, listsFit}
+
+-- "in stream order 8 (non-sibling target isn't mapped, or no sibling place found) or 9 (value doesn't fit)"
+abbrev pub ValueRefusal : ℕ → Type 0
+ValueRefusal n = OneOf (8 ∷ 9 ∷ []) n
+
+abbrev pub CollectRefusal : ℕ → Type 0
+CollectRefusal n = OneOf (1 ∷ 2 ∷ 3 ∷ 4 ∷ 5 ∷ 6 ∷ 7 ∷ 8 ∷ 9 ∷ 10 ∷ 11 ∷ 12 ∷ 13 ∷ 14 ∷ []) n
+
+-- the same with room enough
+abbrev pub RoomyRefusal : ℕ → Type 0
+RoomyRefusal n = OneOf (1 ∷ 2 ∷ 3 ∷ 4 ∷ 5 ∷ 6 ∷ 7 ∷ 8 ∷ 9 ∷ []) n
+
+-- "padded number": 15
+abbrev pub PaddedRefusal : ℕ → Type 0
+PaddedRefusal n = OneOf (15 ∷ []) n
+
+-- ---- collect, step by step
+
+-- a unit that is analysed: its header and declarations, and the rows of its entries
+pub record UnitRead (x : Sections) (room : Room) (section : List ℕ) : Type 0 where
+  pub header : UnitHeader
+  pub declared : List Placed
+  pub rows : List Row
+  pub header-is : headerOf section ≡ Header′ header
+  pub declared-are : abbreviationsOf (x .abbreviations) (header .abbreviations) ≡ some declared
+  pub rows-are : analysisOf x section (room .tables) ≡ analysed rows
+
+module _ (x : Sections) (room : Room) (typeUnits : Bool) (section : List ℕ) where
+  abbrev pub unitRead : UnitRead x room section → Unit′
+  unitRead u = record { header = u .header; bytes = take (u .header .end) section; declared = u .declared }
+
+  -- what is kept of it, and its lists
+  abbrev pub keptIn : UnitRead x room section → List Standing
+  keptIn u = keptFrom (marksIn (u .rows)) 0 [] (itemsIn x (unitRead u))
+
+  abbrev pub listsIn : UnitRead x room section → Lists
+  listsIn u = listsOf x (unitRead u) typeUnits (keptIn u)
+
+  -- it has a dead entry, and room for its lists
+  pub record Thinned (u : UnitRead x room section) : Type 0 where
+    pub dead : keptCount (marksIn (u .rows)) < length (marksIn (u .rows))
+    pub listed : listsFit room (listsIn u) ≡ true
+
+  -- where a refusal comes from, and what was passed before it: "Header .. 1 .., 2 .. . 3 abbreviations. Then entry by entry
+  -- .. . Then 12 an index list too short .. . If something is dead: 13 map, 14 output too short, then in stream order 8 .. or 9"
+  pub data RefusedAt : ℕ → Type 0 where
+    at-header : {n : ℕ} → headerOf section ≡ Refused n → HeaderRefusal n → RefusedAt n
+    at-abbreviations : {h : UnitHeader} → headerOf section ≡ Header′ h
+        → abbreviationsOf (x .abbreviations) (h .abbreviations) ≡ none → RefusedAt 3
+    at-entries : {h : UnitHeader} {ds : List Placed} {n : ℕ} → headerOf section ≡ Header′ h
+        → abbreviationsOf (x .abbreviations) (h .abbreviations) ≡ some ds
+        → analysisOf x section (room .tables) ≡ notAnalysed n → EntriesRefusal n → RefusedAt n
+    at-lists : (u : UnitRead x room section) → listsFit room (listsIn u) ≡ false → RefusedAt 12
+    at-map : (u : UnitRead x room section) → Thinned u → room .places < length (keptIn u) → RefusedAt 13
+    at-output : (u : UnitRead x room section) → Thinned u → length (keptIn u) ≤ room .places
+        → room .bytes < u .header .first .0 + sizeFrom (keptIn u) → RefusedAt 14
+    at-values : (u : UnitRead x room section) → Thinned u → length (keptIn u) ≤ room .places
+        → u .header .first .0 + sizeFrom (keptIn u) ≤ room .bytes → {n : ℕ}
+        → refusalFrom x (unitRead u) (listsIn u) (placesFrom (u .header .first .0) (keptIn u)) (keptIn u) ≡ n
+        → ValueRefusal n → RefusedAt n
