@@ -36,6 +36,7 @@ use readers::cursor::Cursor;
 use readers::cursor::Encoding;
 use readers::expressions::Yield;
 use readers::fields::Field;
+use readers::offsets::UnitOffset;
 
 // The next free byte of the output, or the number of a refusal.
 pub enum Emitted {
@@ -81,7 +82,7 @@ fn emit_offset(new: Mapped, width: usize, leb: bool, out: &mut [u8], at: usize) 
     ensures { λ r. ⌜ ((o : Option ℕ) (v : ℕ) → new ≡ asMapped o → Wide leb width → Emits (offsetRefusal (encodedBy leb width) v o) (numberBytes false (encodedBy leb width) (orSelf v o)) (now (out .entry)) at r (now (out .exit))) ⌝ }
 {
     match new {
-        Mapped::To(value) => emit_number(value, width, leb, out, at),
+        Mapped::To(value) => emit_number(value.0, width, leb, out, at),
         Mapped::Nothing => Emitted::Refused(8),
     }
 }
@@ -120,7 +121,7 @@ fn emit_expression(
         let target = r.target;
         let next = r.next;
         to = emit_bytes(s, copied, r.place, out, to);
-        match emit_offset(new_offset(map, places, target.0), r.width, r.leb, out, to) {
+        match emit_offset(new_offset(map, places, target), r.width, r.leb, out, to) {
             Emitted::To(place) => {
                 to = place;
             }
@@ -226,7 +227,7 @@ fn emit_attribute(
         if form <= 0x15 {
             if a.name == 0x01 {
                 return emit_offset(
-                    sibling_offset(map, places, bounds, field.value, depth),
+                    sibling_offset(map, places, bounds, UnitOffset(field.value), depth),
                     width(field),
                     leb,
                     out,
@@ -234,7 +235,7 @@ fn emit_attribute(
                 );
             }
             return emit_offset(
-                new_offset(map, places, field.value),
+                new_offset(map, places, UnitOffset(field.value)),
                 width(field),
                 leb,
                 out,

@@ -361,7 +361,7 @@ fn finish_lists(
 }
 
 // The indices of the kept entries as index lists: gathered in any order and sorted, and in order from the start where the sorted lists turn out not to be.
-pub fn sorted_lists(
+pub(crate) fn sorted_lists(
     unit: &[u8],
     abbreviations: &[u8],
     r: Reading,
@@ -481,7 +481,7 @@ fn is_absent(
 }
 
 // A list that was gathered: absent, and zeros again, or its count.
-pub fn settle(
+pub(crate) fn settle(
     unit: &[u8],
     abbreviations: &[u8],
     r: Reading,

@@ -89,7 +89,7 @@ fn end_column(ends: &mut [u64], count: usize)
 }
 
 // Fills a column with the ends of a unit's entries, so that a pass need not step over their values again.
-pub fn fill_ends(
+pub(crate) fn fill_ends(
     unit: &[u8],
     abbreviations: &[u8],
     r: Reading,
@@ -139,7 +139,7 @@ fn end_at(ends: &[u64], count: usize) -> u64
 }
 
 // The next kept item, by the column of ends: of a dead entry the code alone is read. A unit below 4 GiB has fewer entries than a u32 can count.
-pub fn next_kept(
+pub(crate) fn next_kept(
     unit: &[u8],
     abbreviations: &[u8],
     r: Reading,

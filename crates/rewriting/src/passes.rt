@@ -8,6 +8,7 @@ use crate::kept::Stand;
 use crate::kept::next_kept;
 use crate::map::put_place;
 use readers::entries::Nesting;
+use readers::offsets::UnitOffset;
 
 pub struct Size {
     pub places: usize,
@@ -15,7 +16,7 @@ pub struct Size {
 }
 
 // How many places and bytes the rewritten unit has; fills the map, where there is room for all its places.
-pub fn place_items(
+pub(crate) fn place_items(
     unit: &[u8],
     abbreviations: &[u8],
     r: Reading,
@@ -41,7 +42,13 @@ pub fn place_items(
         else {
             return Size { places, bytes };
         };
-        put_place(map, places, x.start as u64, bytes as u64, x.depth);
+        put_place(
+            map,
+            places,
+            UnitOffset(x.start as u64),
+            UnitOffset(bytes as u64),
+            x.depth,
+        );
         bytes += x.end - x.start;
         places += 1;
         s = x.next;

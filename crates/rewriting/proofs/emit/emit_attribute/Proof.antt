@@ -1,8 +1,10 @@
 -- `emit_attribute`: by the form. Assumes nothing.
+use mathlib.Core.Path.{_∙_}
 use mathlib.Core.Logic.{⊎-elim}
 use borrow.Author.Needs.{needs}
 use Rattle.marking.proofs.AttributeScans.{form-below, form-above}
 use Rattle.rewriting.proofs.Exact.{are-bytes}
+use Rattle.rewriting.proofs.Places.{looked-held}
 use Rattle.rewriting.proofs.AttributeEmits.{attribute-expression, attribute-sibling, attribute-reference, attribute-ranges, attribute-locations, attribute-strings, attribute-copied}
 use Rattle.rewriting.proofs.emit.emit_attribute.Statement.{statement}
 use Rattle.rewriting.proofs.emit.emit_attribute.Tie as tie
@@ -53,7 +55,7 @@ same-length-3 : tie.Need-same-length-3
 same-length-3 c = search needs
 
 returns-3 : tie.Need-returns-3
-returns-3 c = λ lists ps rs rest l m n w lent i a d. attribute-reference _ _ _ _ _ _ (are-bytes (c .before .before .before .before .before .before .before .before .before .before .before .before .before .before .before .before .before .before .before .before .before .before .before .before .before .args .unit .now) (c .before .before .before .before .before .before .before .before .before .before .before .before .before .before .before .before .before .before .before .before .before .before .before .before .shared-slice-known .given)) l i a rs rest d _ _ _ _ (c .before .before .before .before .before .before .before .before .before .before .before .before .before .before .emit-bytes .ensures) lists ps _ _ (c .before .before .before .before .before .before .before .before .before .before .before .is-leb .ensures) _ (c .before .before .before .before .width2 .ensures) _ _ (c .before .before .before .before .before .before .before .before .before .if2 .taken) (c .before .before .before .before .before .before .before .before .if3 .taken) (c .before .before .before .before .before .before .if4 .left) _ (c .before .before .before .before .before .new-offset .ensures ps m n) (c .before .before .emit-offset2 .ensures)
+returns-3 c = λ lists ps rs rest l m n w lent i a d. attribute-reference _ _ _ _ _ _ (are-bytes (c .before .before .before .before .before .before .before .before .before .before .before .before .before .before .before .before .before .before .before .before .before .before .before .before .before .args .unit .now) (c .before .before .before .before .before .before .before .before .before .before .before .before .before .before .before .before .before .before .before .before .before .before .before .before .shared-slice-known .given)) l i a rs rest d _ _ _ _ (c .before .before .before .before .before .before .before .before .before .before .before .before .before .before .emit-bytes .ensures) lists ps _ _ (c .before .before .before .before .before .before .before .before .before .before .before .is-leb .ensures) _ (c .before .before .before .before .width2 .ensures) _ _ (c .before .before .before .before .before .before .before .before .before .if2 .taken) (c .before .before .before .before .before .before .before .before .if3 .taken) (c .before .before .before .before .before .before .if4 .left) _ (c .before .before .before .before .before .new-offset .ensures ∙ looked-held ps _ _ _ m n) (c .before .before .emit-offset2 .ensures)
 
 list-of-requires : tie.Need-list-of-requires
 list-of-requires c κs = search needs

@@ -12,6 +12,7 @@ use Rattle.rewriting.specs.Places.{Place}
 use Rattle.rewriting.specs.Rewriting.{Lists}
 use Rattle.rewriting.specs.Written.{MapHeld}
 use Rattle.rewriting.proofs.Exact.{are-bytes}
+use Rattle.rewriting.proofs.Places.{looked-held}
 use Rattle.marking.proofs.NextOffsets.{next-less}
 use Rattle.rewriting.proofs.Splices.{Going, going-start, going-end, going-refused, going-on}
 use Rattle.rewriting.proofs.emit.emit_expression.Statement.{statement}
@@ -66,7 +67,7 @@ same-length-2 : tie.Need-same-length-2 Inv-loop μ-loop
 same-length-2 c = c .before .before .before .before .before .emit-offset .kept .1 .1 .1 .0 ∙ c .before .before .before .before .before .before .before .before .before .before .emit-bytes2 .kept .1 .1 .1 .0 ∙ c .before .before .before .before .before .before .before .before .before .before .before .before .before .before .before .before .before .before .loop .inv .0
 
 returns-2 : tie.Need-returns-2 Inv-loop μ-loop
-returns-2 c = λ lists ps depth pieces l h p q. going-refused lists ps depth pieces _ _ _ _ _ _ _ _ (c .before .before .before .before .before .before .before .before .before .before .before .before .before .before .before .before .before .before .loop .inv .1 lists ps depth pieces l h p q) _ (c .before .before .before .before .before .before .before .before .before .before .before .before .before .before .before .before .before .next-reference .ensures) _ (c .before .before .before .before .before .before .before .before .before .before .before .before .before .before .before .r .given .1) _ _ (c .before .before .before .before .before .before .before .before .before .before .emit-bytes2 .ensures) _ (c .before .before .before .before .before .before .before .new-offset .ensures ps h p) _ _ (c .before .before .before .before .before .emit-offset .ensures) _ (c .before .n .given .1)
+returns-2 c = λ lists ps depth pieces l h p q. going-refused lists ps depth pieces _ _ _ _ _ _ _ _ (c .before .before .before .before .before .before .before .before .before .before .before .before .before .before .before .before .before .before .loop .inv .1 lists ps depth pieces l h p q) _ (c .before .before .before .before .before .before .before .before .before .before .before .before .before .before .before .before .before .next-reference .ensures) _ (c .before .before .before .before .before .before .before .before .before .before .before .before .before .before .before .r .given .1) _ _ (c .before .before .before .before .before .before .before .before .before .before .emit-bytes2 .ensures) _ (c .before .before .before .before .before .before .before .new-offset .ensures ∙ looked-held ps _ _ _ h p) _ _ (c .before .before .before .before .before .emit-offset .ensures) _ (c .before .n .given .1)
 
 past-requires : tie.Need-past-requires Inv-loop μ-loop
 past-requires c κs = search needs
@@ -75,7 +76,7 @@ loop-less : tie.Need-loop-less Inv-loop μ-loop
 loop-less c = search next-less
 
 loop-again : tie.Need-loop-again Inv-loop μ-loop
-loop-again c = (c .before .before .before .before .before .before .emit-offset .kept .1 .1 .1 .0 ∙ c .before .before .before .before .before .before .before .before .before .before .before .emit-bytes2 .kept .1 .1 .1 .0 ∙ c .before .before .before .before .before .before .before .before .before .before .before .before .before .before .before .before .before .before .before .loop .inv .0, λ lists ps depth pieces l h p q. going-on lists ps depth pieces _ _ _ _ _ _ _ _ (c .before .before .before .before .before .before .before .before .before .before .before .before .before .before .before .before .before .before .before .loop .inv .1 lists ps depth pieces l h p q) _ (c .before .before .before .before .before .before .before .before .before .before .before .before .before .before .before .before .before .before .next-reference .ensures) _ (c .before .before .before .before .before .before .before .before .before .before .before .before .before .before .before .before .r .given .1) _ _ (c .before .before .before .before .before .before .before .before .before .before .before .emit-bytes2 .ensures) _ (c .before .before .before .before .before .before .before .before .new-offset .ensures ps h p) _ _ (c .before .before .before .before .before .before .emit-offset .ensures) _ (c .before .before .place .given .1) _ (c .past .ensures))
+loop-again c = (c .before .before .before .before .before .before .emit-offset .kept .1 .1 .1 .0 ∙ c .before .before .before .before .before .before .before .before .before .before .before .emit-bytes2 .kept .1 .1 .1 .0 ∙ c .before .before .before .before .before .before .before .before .before .before .before .before .before .before .before .before .before .before .before .loop .inv .0, λ lists ps depth pieces l h p q. going-on lists ps depth pieces _ _ _ _ _ _ _ _ (c .before .before .before .before .before .before .before .before .before .before .before .before .before .before .before .before .before .before .before .loop .inv .1 lists ps depth pieces l h p q) _ (c .before .before .before .before .before .before .before .before .before .before .before .before .before .before .before .before .before .before .next-reference .ensures) _ (c .before .before .before .before .before .before .before .before .before .before .before .before .before .before .before .before .r .given .1) _ _ (c .before .before .before .before .before .before .before .before .before .before .before .emit-bytes2 .ensures) _ (c .before .before .before .before .before .before .before .before .new-offset .ensures ∙ looked-held ps _ _ _ h p) _ _ (c .before .before .before .before .before .before .emit-offset .ensures) _ (c .before .before .place .given .1) _ (c .past .ensures))
 
 pub emit-expression-spec : {M : Type 1} → statement M
 emit-expression-spec =
