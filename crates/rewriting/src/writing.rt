@@ -22,7 +22,9 @@ use crate::kept::next_kept;
 use crate::lists::ListCount;
 use crate::numbers::put_bytes;
 use crate::numbers::put_number;
+use readers::cursor::Cursor;
 use readers::entries::Nesting;
+use readers::offsets::EntryIndex;
 
 // Writes the kept items.
 pub fn emit_items(
@@ -48,8 +50,8 @@ pub fn emit_items(
     ensures { λ t. ⌜ ((x : Sections) (u : Unit′) (lists : Lists) (ps : List Place) → Passable x u r (now (abbreviations .entry)) (now (index .entry)) (now (unit .entry)) (now (parents .entry)) (now (ends .entry)) (now (marks .entry)) first → first ≡ u .header .first .0 → r .encoding .«big_endian» ≡ false → MapHeld ps (now (map .entry)) → places ≡ length ps → Bounds ps (now (bounds .entry)) → Lends lists (now (ranges .entry)) «ranges_count» (now (locations .entry)) «locations_count» (now (strings .entry)) «strings_count» → Emits (refusalFrom x u lists ps (keptFrom (now (marks .entry)) 0 [] (itemsIn x u))) (bytesFrom x u lists ps (keptFrom (now (marks .entry)) 0 [] (itemsIn x u))) (now (out .entry)) first t (now (out .exit))) ⌝ }
 {
     let mut s = Stand {
-        at: first,
-        count: 0,
+        at: Cursor { at: first },
+        count: EntryIndex(0),
         nesting: Nesting::outside(),
     };
     let mut to = first;
@@ -59,11 +61,13 @@ pub fn emit_items(
             return Emitted::To(to);
         };
         let next = x.next;
+        let start = x.start;
+        let end = x.end;
         if x.is_entry {
             match emit_entry(
                 unit,
                 abbreviations,
-                x.start,
+                start.0 as usize,
                 x.specs,
                 x.values,
                 x.depth,
@@ -89,7 +93,7 @@ pub fn emit_items(
                 }
             }
         } else {
-            to = emit_bytes(unit, x.start, x.end, out, to);
+            to = emit_bytes(unit, start.0 as usize, end.at, out, to);
             s = next;
         }
     }

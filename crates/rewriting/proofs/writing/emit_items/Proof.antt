@@ -25,7 +25,7 @@ Inv-loop unit abbreviations r index parents ends marks first map places bounds r
     → Writing r abbreviations index unit parents ends marks first x u lists ps out₀ s out to)
 
 abbrev μ-loop : tie.MeasureT-loop
-μ-loop unit abbreviations r index parents ends marks first map places bounds ranges ranges-count locations locations-count strings strings-count out₀ s₀ to₀ out s to = length unit - s .at
+μ-loop unit abbreviations r index parents ends marks first map places bounds ranges ranges-count locations locations-count strings strings-count out₀ s₀ to₀ out s to = length unit - s .at .at
 
 outside-requires : tie.Need-outside-requires Inv-loop μ-loop
 outside-requires c κs = search needs
@@ -59,10 +59,10 @@ loop-less c = search next-less
 
 loop-again : tie.Need-loop-again Inv-loop μ-loop
 loop-again c = (
-  c .before .before .before .before .before .emit-entry .kept .1 .1 .1 .1 .1 .1 .1 .1 .1 .1 .1 .1 .1 .1 .1 .1 .0 ∙ c .before .before .before .before .before .before .before .before .before .before .before .before .before .loop .inv .0,
+  c .before .before .before .before .before .emit-entry .kept .1 .1 .1 .1 .1 .1 .1 .1 .1 .1 .1 .1 .1 .1 .1 .1 .0 ∙ c .before .before .before .before .before .before .before .before .before .before .before .before .before .before .before .loop .inv .0,
   λ x u lists ps p q l h k b g.
-      writing-entry _ _ _ _ _ _ _ _ x u lists ps p l _ _ _ _ (c .before .before .before .before .before .before .before .before .before .before .before .before .before .loop .inv .1 x u lists ps p q l h k b g) _ (c .before .before .before .before .before .before .before .before .before .before .before .before .next-kept .ensures)
-      (c .before .before .before .before .before .before .before .before .before .before .x .given .0 .0) (c .before .before .before .before .before .before .before .before .before .before .x .given .1) (c .before .before .before .before .before .before .before .if1 .taken) _ _
+      writing-entry _ _ _ _ _ _ _ _ x u lists ps p l _ _ _ _ (c .before .before .before .before .before .before .before .before .before .before .before .before .before .before .before .loop .inv .1 x u lists ps p q l h k b g) _ (c .before .before .before .before .before .before .before .before .before .before .before .before .before .before .next-kept .ensures)
+      (c .before .before .before .before .before .before .before .before .before .before .before .before .x .given .0 .0) (c .before .before .before .before .before .before .before .before .before .before .before .before .x .given .1) (c .before .before .before .before .before .before .before .if1 .taken) _ _
       (λ look z rs rest. c .before .before .before .before .before .emit-entry .ensures lists ps look z rs rest l h k b g) _ (c .before .place .given .1),
 )
 
@@ -70,12 +70,12 @@ enum-known-n : tie.Need-enum-known-n Inv-loop μ-loop
 enum-known-n c = search needs
 
 same-length-2 : tie.Need-same-length-2 Inv-loop μ-loop
-same-length-2 c = c .before .before .before .before .before .emit-entry .kept .1 .1 .1 .1 .1 .1 .1 .1 .1 .1 .1 .1 .1 .1 .1 .1 .0 ∙ c .before .before .before .before .before .before .before .before .before .before .before .before .before .loop .inv .0
+same-length-2 c = c .before .before .before .before .before .emit-entry .kept .1 .1 .1 .1 .1 .1 .1 .1 .1 .1 .1 .1 .1 .1 .1 .1 .0 ∙ c .before .before .before .before .before .before .before .before .before .before .before .before .before .before .before .loop .inv .0
 
 returns-2 : tie.Need-returns-2 Inv-loop μ-loop
 returns-2 c = λ x u lists ps p q l h k b g.
-    writing-refused _ _ _ _ _ _ _ _ x u lists ps p l _ _ _ _ (c .before .before .before .before .before .before .before .before .before .before .before .before .before .loop .inv .1 x u lists ps p q l h k b g) _ (c .before .before .before .before .before .before .before .before .before .before .before .before .next-kept .ensures)
-    (c .before .before .before .before .before .before .before .before .before .before .x .given .0 .0) (c .before .before .before .before .before .before .before .before .before .before .x .given .1) (c .before .before .before .before .before .before .before .if1 .taken) _ _
+    writing-refused _ _ _ _ _ _ _ _ x u lists ps p l _ _ _ _ (c .before .before .before .before .before .before .before .before .before .before .before .before .before .before .before .loop .inv .1 x u lists ps p q l h k b g) _ (c .before .before .before .before .before .before .before .before .before .before .before .before .before .before .next-kept .ensures)
+    (c .before .before .before .before .before .before .before .before .before .before .before .before .x .given .0 .0) (c .before .before .before .before .before .before .before .before .before .before .before .before .x .given .1) (c .before .before .before .before .before .before .before .if1 .taken) _ _
     (λ look z rs rest. c .before .before .before .before .before .emit-entry .ensures lists ps look z rs rest l h k b g) _ (c .before .n .given .1)
 
 emit-bytes-requires : tie.Need-emit-bytes-requires Inv-loop μ-loop
@@ -86,10 +86,10 @@ loop-less-2 c = search next-less
 
 loop-again-2 : tie.Need-loop-again-2 Inv-loop μ-loop
 loop-again-2 c = (
-  c .before .before .emit-bytes .kept .1 .1 .1 .0 ∙ c .before .before .before .before .before .before .before .before .before .before .loop .inv .0,
+  c .before .before .emit-bytes .kept .1 .1 .1 .0 ∙ c .before .before .before .before .before .before .before .before .before .before .before .before .loop .inv .0,
   λ x u lists ps p q l h k b g.
-      writing-terminator _ _ _ _ _ _ _ _ x u lists ps p l _ _ _ _ (c .before .before .before .before .before .before .before .before .before .before .loop .inv .1 x u lists ps p q l h k b g) _ (c .before .before .before .before .before .before .before .before .before .next-kept .ensures)
-      (c .before .before .before .before .before .before .before .x .given .0 .0) (c .before .before .before .before .before .before .before .x .given .1) (c .before .before .before .before .if1 .left) _ _ (c .before .before .emit-bytes .ensures),
+      writing-terminator _ _ _ _ _ _ _ _ x u lists ps p l _ _ _ _ (c .before .before .before .before .before .before .before .before .before .before .before .before .loop .inv .1 x u lists ps p q l h k b g) _ (c .before .before .before .before .before .before .before .before .before .before .before .next-kept .ensures)
+      (c .before .before .before .before .before .before .before .before .before .x .given .0 .0) (c .before .before .before .before .before .before .before .before .before .x .given .1) (c .before .before .before .before .if1 .left) _ _ (c .before .before .emit-bytes .ensures),
 )
 
 pub emit-items-spec : {M : Type 1} → statement M
