@@ -7,6 +7,7 @@ use bundle::BundleRead;
 use libc::STDOUT_FILENO;
 use marking::references::part;
 use marking::units::UnitMarks;
+use readers::offsets::UnitOffset;
 use rewriting::collect::Collected;
 use rewriting::collect::Counts;
 use rewriting::lists::ListCount;
@@ -25,9 +26,9 @@ fn new_offset(map: &[u8], c: Counts, rewritten: bool, old: u64) {
         number(b" ", old);
         return;
     }
-    match rewriting::map::new_offset(map, c.places, old) {
+    match rewriting::map::new_offset(map, c.places, UnitOffset(old)) {
         Mapped::To(n) => {
-            number(b" ", n);
+            number(b" ", n.0);
         }
         Mapped::Nothing => {
             text(b" -");
@@ -129,8 +130,8 @@ fn places(map: &[u8], n: usize) {
         if i > 0 {
             text(b",");
         }
-        number(b"", rewriting::map::old_at(map, i));
-        number(b">", rewriting::map::new_at(map, i));
+        number(b"", rewriting::map::old_at(map, i).0);
+        number(b">", rewriting::map::new_at(map, i).0);
         number(b"@", rewriting::map::depth_at(map, i));
         i += 1;
     }

@@ -4,85 +4,90 @@ ghost use mathlib.Core.Path.{_≡_};
 ghost use Prim.Native.Nat.{_/_, _<_, _≤_};
 ghost use lib.ListN.{length};
 ghost use Rattle.marking.specs.Passes.{WithParents, WithBoth, ParentsFit, PairsFit, Spread};
+use crate::columns::place;
 use crate::marks::along_at;
 use crate::marks::down;
 use crate::marks::down_at;
 use crate::marks::up_at;
+use readers::offsets::EntryIndex;
 
 // ---- the work column: for each entry the end of its descendants, then a stack of entries; `top` is the place past the stack
 
-// An entry or a place as the column holds it.
-fn stored(i: usize) -> u32 {
-    if i > 0xffff_ffff {
-        return 0xffff_ffff;
+// The index past the last entry of a column of so many; of one that is longer than indexes reach, the last index.
+fn past_last(entries: usize) -> EntryIndex
+    ensures { λ r. ⌜ r .0 ≤ entries ⌝ }
+{
+    if entries > 0xffff_ffff {
+        return EntryIndex(0xffff_ffff);
     }
-    i as u32
+    EntryIndex(entries as u32)
 }
 
-fn wide(x: u32) -> usize
-    ensures { λ r. ⌜ r ≡ x ⌝ }
+// The end of entry k's descendants in a tree that ends at n, past k at least.
+fn end_of(work: &[u32], k: EntryIndex, n: EntryIndex) -> EntryIndex
+    requires { ⌜ k .0 < n .0 ⌝ }
+    ensures past { λ r. ⌜ k .0 < r .0 ⌝ }
+    ensures inside { λ r. ⌜ r .0 ≤ n .0 ⌝ }
 {
-    x as usize
-}
-
-// The end of entry k's descendants in a tree of n entries, past k at least.
-fn end_of(work: &[u32], k: usize, n: usize) -> usize
-    requires { ⌜ k < n ⌝ }
-    ensures past { λ r. ⌜ k < r ⌝ }
-    ensures inside { λ r. ⌜ r ≤ n ⌝ }
-{
-    if k >= work.len() {
-        return k + 1;
+    let at = place(k);
+    if at >= work.len() {
+        return EntryIndex(k.0 + 1);
     }
-    let end = wide(work[k]);
-    if end <= k {
-        return k + 1;
+    let end = work[at];
+    if end <= k.0 {
+        return EntryIndex(k.0 + 1);
     }
-    if end > n {
+    if end > n.0 {
         return n;
     }
-    end
+    EntryIndex(end)
 }
 
 // The end that entry i has is this one at least.
-fn raise_end(work: &mut [u32], i: usize, end: u32) {
-    if i >= work.len() {
+fn raise_end(work: &mut [u32], i: EntryIndex, end: EntryIndex) {
+    let at = place(i);
+    if at >= work.len() {
         return;
     }
-    if work[i] < end {
-        work[i] = end;
+    if work[at] < end.0 {
+        work[at] = end.0;
     }
 }
 
 // Entry i has its end, and its parent ends no sooner.
-fn widen(parents: &[u32], work: &mut [u32], i: usize)
-    requires { ⌜ i < length (now parents) ⌝ }
+fn widen(parents: &[u32], work: &mut [u32], i: EntryIndex)
+    requires { ⌜ i .0 < length (now parents) ⌝ }
 {
-    let end = stored(end_of(work, i, parents.len()));
+    let n = past_last(parents.len());
+    if i.0 >= n.0 {
+        return;
+    }
+    let end = end_of(work, i, n);
     raise_end(work, i, end);
-    raise_end(work, wide(parents[i]), end);
+    let at = place(i);
+    raise_end(work, EntryIndex(parents[at]), end);
 }
 
 // The ends of all entries' descendants, into a column of zeros, the last entry first.
 fn subtree_ends(parents: &[u32], work: &mut [u32]) {
-    let mut i = parents.len();
-    while 0 < i {
-        i -= 1;
+    let mut i = past_last(parents.len());
+    while 0 < i.0 {
+        i = EntryIndex(i.0 - 1);
         widen(parents, work, i);
     }
 }
 
 // Entry i onto the stack.
-fn push(work: &mut [u32], top: usize, i: usize) -> usize {
+fn push(work: &mut [u32], top: usize, i: EntryIndex) -> usize {
     if top >= work.len() {
         return top;
     }
-    work[top] = stored(i);
+    work[top] = i.0;
     top + 1
 }
 
 // An entry that is now kept onto the stack, where its mark before was not one of a kept entry.
-fn push_new(work: &mut [u32], top: usize, i: usize, before: u8) -> usize {
+fn push_new(work: &mut [u32], top: usize, i: EntryIndex, before: u8) -> usize {
     if before >= 2 {
         return top;
     }
@@ -92,10 +97,11 @@ fn push_new(work: &mut [u32], top: usize, i: usize, before: u8) -> usize {
 // Every kept entry onto the empty stack.
 fn push_kept(marks: &[u8], work: &mut [u32]) -> usize {
     let mut top = marks.len();
-    let mut i = marks.len();
-    while 0 < i {
-        i -= 1;
-        if marks[i] >= 2 {
+    let mut i = past_last(marks.len());
+    while 0 < i.0 {
+        i = EntryIndex(i.0 - 1);
+        let at = place(i);
+        if marks[at] >= 2 {
             top = push(work, top, i);
         }
     }
@@ -105,45 +111,57 @@ fn push_kept(marks: &[u8], work: &mut [u32]) -> usize {
 // ---- one mark; where an entry is now kept that was not, it goes onto the stack
 
 // Entry k becomes live where its parent is.
-fn reach_child(parents: &[u32], marks: &mut [u8], work: &mut [u32], k: usize, top: usize) -> usize
+fn reach_child(
+    parents: &[u32],
+    marks: &mut [u8],
+    work: &mut [u32],
+    k: EntryIndex,
+    top: usize,
+) -> usize
     requires { ⌜ ParentsFit (now parents) (now marks) ⌝ }
-    requires { ⌜ k < length (now marks) ⌝ }
+    requires { ⌜ k .0 < length (now marks) ⌝ }
     ensures { λ _. ⌜ Spread (WithParents (now (parents .entry))) (now (marks .entry)) (now (marks .exit)) ⌝ }
 {
-    let before = marks[k];
-    if !down_at(parents, marks, k) {
+    let at = place(k);
+    let before = marks[at];
+    if !down_at(parents, marks, at) {
         return top;
     }
     push_new(work, top, k, before)
 }
 
 // The parent of entry i is retained where i is kept.
-fn lift(parents: &[u32], marks: &mut [u8], work: &mut [u32], i: usize, top: usize) -> usize
+fn lift(parents: &[u32], marks: &mut [u8], work: &mut [u32], i: EntryIndex, top: usize) -> usize
     requires { ⌜ ParentsFit (now parents) (now marks) ⌝ }
-    requires { ⌜ i < length (now marks) ⌝ }
+    requires { ⌜ i .0 < length (now marks) ⌝ }
     ensures { λ _. ⌜ Spread (WithParents (now (parents .entry))) (now (marks .entry)) (now (marks .exit)) ⌝ }
 {
-    if !up_at(parents, marks, i) {
+    let at = place(i);
+    if !up_at(parents, marks, at) {
         return top;
     }
-    push(work, top, wide(parents[i]))
+    push(work, top, EntryIndex(parents[at]))
 }
 
 // The descendants of entry i become live where it is. Those of a live one are live already, and are passed over.
-fn descend(parents: &[u32], marks: &mut [u8], work: &mut [u32], i: usize, top: usize) -> usize
+fn descend(parents: &[u32], marks: &mut [u8], work: &mut [u32], i: EntryIndex, top: usize) -> usize
     requires { ⌜ ParentsFit (now parents) (now marks) ⌝ }
-    requires { ⌜ i < length (now marks) ⌝ }
     ensures { λ _. ⌜ Spread (WithParents (now (parents .entry))) (now (marks .entry)) (now (marks .exit)) ⌝ }
 {
-    let end = end_of(work, i, marks.len());
+    let n = past_last(marks.len());
+    if i.0 >= n.0 {
+        return top;
+    }
+    let end = end_of(work, i, n);
     let mut to = top;
-    let mut k = i + 1;
-    while k < end {
-        if marks[k] >= 3 {
+    let mut k = EntryIndex(i.0 + 1);
+    while k.0 < end.0 {
+        let at = place(k);
+        if marks[at] >= 3 {
             k = end_of(work, k, end);
         } else {
             to = reach_child(parents, marks, work, k, to);
-            k += 1;
+            k = EntryIndex(k.0 + 1);
         }
     }
     to
@@ -163,8 +181,9 @@ fn follow_at(
     requires { ⌜ j < length (now pairs) / 2 ⌝ }
     ensures { λ _. ⌜ Spread (WithBoth (now (parents .entry)) (now (pairs .entry))) (now (marks .entry)) (now (marks .exit)) ⌝ }
 {
-    let t = wide(pairs[2 * j + 1]);
-    let before = marks[t];
+    let t = EntryIndex(pairs[2 * j + 1]);
+    let at = place(t);
+    let before = marks[at];
     if !along_at(pairs, marks, j) {
         return top;
     }
@@ -175,14 +194,14 @@ fn follow_at(
 // ---- the references of an entry
 
 // The first pair of a holder, where pairs stand by holder.
-fn first_pair(pairs: &[u32], holder: usize) -> usize
+fn first_pair(pairs: &[u32], holder: EntryIndex) -> usize
     ensures { λ r. ⌜ r ≤ length (now (pairs .entry)) / 2 ⌝ }
 {
     let mut low = 0;
     let mut high = pairs.len() / 2;
     while low < high {
         let middle = low + (high - low) / 2;
-        if wide(pairs[2 * middle]) < holder {
+        if pairs[2 * middle] < holder.0 {
             low = middle + 1;
         } else {
             high = middle;
@@ -197,7 +216,7 @@ fn follow(
     pairs: &[u32],
     marks: &mut [u8],
     work: &mut [u32],
-    holder: usize,
+    holder: EntryIndex,
     top: usize,
 ) -> usize
     requires { ⌜ ParentsFit (now parents) (now marks) ⌝ }
@@ -208,7 +227,7 @@ fn follow(
     let mut to = top;
     let mut j = first_pair(pairs, holder);
     while j < n {
-        if wide(pairs[2 * j]) != holder {
+        if pairs[2 * j] != holder.0 {
             return to;
         }
         to = follow_at(parents, pairs, marks, work, j, to);
@@ -220,20 +239,20 @@ fn follow(
 // ---- the work list
 
 // The entry at a place of the stack: its references and its parent.
-fn visit(parents: &[u32], pairs: &[u32], marks: &mut [u8], work: &mut [u32], place: usize) -> usize
+fn visit(parents: &[u32], pairs: &[u32], marks: &mut [u8], work: &mut [u32], top: usize) -> usize
     requires { ⌜ ParentsFit (now parents) (now marks) ⌝ }
     requires { ⌜ PairsFit (now pairs) (now marks) ⌝ }
     ensures { λ _. ⌜ Spread (WithBoth (now (parents .entry)) (now (pairs .entry))) (now (marks .entry)) (now (marks .exit)) ⌝ }
 {
-    if place >= work.len() {
-        return place;
+    if top >= work.len() {
+        return top;
     }
-    let i = wide(work[place]);
-    if i >= marks.len() {
-        return place;
+    let i = EntryIndex(work[top]);
+    if place(i) >= marks.len() {
+        return top;
     }
-    let top = follow(parents, pairs, marks, work, i, place);
-    lift(parents, marks, work, i, top)
+    let to = follow(parents, pairs, marks, work, i, top);
+    lift(parents, marks, work, i, to)
 }
 
 // Entries are taken off the stack until it is empty. Each was put there once, when it was first kept, so as many turns as entries are enough.

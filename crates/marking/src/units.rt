@@ -96,21 +96,13 @@ fn resolve(
 {
     let mut place: usize = 0;
     let mut from: usize = 0;
-    let mut i: usize = 0;
-    while i < entries {
-        let to = ends[i] as usize;
-        place = resolve_entry(
-            offsets,
-            entries,
-            targets,
-            from,
-            to,
-            EntryIndex(i as u32),
-            pairs,
-            place,
-        );
+    let mut i = EntryIndex(0);
+    while (i.0 as usize) < entries {
+        let k = i.0 as usize;
+        let to = ends[k] as usize;
+        place = resolve_entry(offsets, entries, targets, from, to, i, pairs, place);
         from = to;
-        i += 1;
+        i = EntryIndex(i.0 + 1);
     }
     place
 }

@@ -16,6 +16,7 @@ use Rattle.rewriting.specs.Places.{Place, newOf, firstFrom, orElse, sibl
 use Rattle.rewriting.specs.Maps.{oldOffsets}
 use Rattle.rewriting.specs.Written.{numberAt, MapHeld, place, asMapped}
 use Rattle.rewriting.specs.Bounds.{AsDeep, BoundsFrom, Bounds}
+use Rattle.readers.specs.declared.offsets.UnitOffset.{UnitOffset}
 use Rattle.rewriting.specs.declared.map.Mapped.the-variants.{To, Nothing}
 use Rattle.rewriting.proofs.Ranks.{rank-above}
 use Rattle.rewriting.proofs.Places.{nowhere, length-olds, old-of, depth-held, new-held, first-skip, first-here, first-on}
@@ -56,8 +57,11 @@ module _ (ps : List Place) (depth v : ℕ) (f : Ascending (oldOffsets ps)) (i : 
 pub record Seeking (map : List ℕ) (places : ℕ) (bounds : List ℕ) (old depth i : ℕ) : Type 0 where
   pub seek : (ps : List Place) → MapHeld ps map → places ≡ length ps → Bounds ps bounds → (siblingOf ps depth old ≡ firstFrom (drop i ps) depth old) × (rankIn (oldOffsets ps) old ≤ i)
 
-pub seeking-start : (map : List ℕ) (places : ℕ) (bounds : List ℕ) (old depth i : ℕ)
-    → ((ps : List Place) → MapHeld ps map → places ≡ length ps → (newOf ps old ≡ none) × (i ≡ rankIn (oldOffsets ps) old)) → Seeking map places bounds old depth i
+-- no place has the old offset, and these many are before it
+abbrev pub Unfound : List ℕ → ℕ → ℕ → ℕ → Type 0
+Unfound map places old i = (ps : List Place) → MapHeld ps map → places ≡ length ps → (newOf ps old ≡ none) × (i ≡ rankIn (oldOffsets ps) old)
+
+pub seeking-start : (map : List ℕ) (places : ℕ) (bounds : List ℕ) (old depth i : ℕ) → Unfound map places old i → Seeking map places bounds old depth i
 unfolding siblingOf orElse
 seeking-start map places bounds old depth i f =
     record {
@@ -83,14 +87,14 @@ module _ (map : List ℕ) (places : ℕ) (bounds : List ℕ) (old depth i : ℕ)
       }
 
   module _ (d : ℕ) (l : i < places) (is-depth : i < length map / 12 → d ≡ numberAt 4 map (12 * i + 8)) where
-    pub seeking-here : (n : ℕ) → d ≤ depth → (i < length map / 12 → n ≡ numberAt 4 map (12 * i + 4)) → (ps : List Place) → MapHeld ps map → places ≡ length ps → Bounds ps bounds
+    pub seeking-here : (n : UnitOffset) → d ≤ depth → (i < length map / 12 → n .0 ≡ numberAt 4 map (12 * i + 4)) → (ps : List Place) → MapHeld ps map → places ≡ length ps → Bounds ps bounds
         → To n ≡ asMapped (siblingOf ps depth old)
     unfolding asMapped
     seeking-here n b f ps h e w =
         let k : d ≡ (getD ps i nowhere) .depth = depth-held ps map h i (omega arith) d is-depth in
-        let q : siblingOf ps depth old ≡ some n =
+        let q : siblingOf ps depth old ≡ some (n .0) =
         p .seek ps h e w .0 ∙ first-here ps depth old i (omega arith) (at-or-after ps depth old (h .ascending) i (p .seek ps h e w .1) i (omega arith) (omega arith)) (omega arith)
-        ∙ ap (λ x. some x) (sym (new-held ps map h i (omega arith) n f)) in
+        ∙ ap (λ x. some x) (sym (new-held ps map h i (omega arith) (n .0) f)) in
         rw q
 
     pub seeking-more : depth < d → Seeking map places bounds old depth (i + 1)

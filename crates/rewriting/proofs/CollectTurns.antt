@@ -109,7 +109,7 @@ module _ (r : Reading) (s table unit : List ℕ) (k : ℕ) where
     Collecting list₀ t list n =
         (length list ≡ length list₀) × ((x : Sections) (u : Unit′) → Passable x u r s table unit parents ends marks first → k < 3 → Passing x u list₀ t list n)
 
-    pub collecting-start : (list₀ : List ℕ) (n : Nesting) → n ≡ nestingOf [] → Collecting list₀ (record { at = first; count = 0; nesting = n }) list₀ 0
+    pub collecting-start : (list₀ : List ℕ) (n : Nesting) → n ≡ nestingOf [] → Collecting list₀ (record { at = record { at = first }; count = record { 0 = 0 }; nesting = n }) list₀ 0
     unfolding openKept Chained
     collecting-start list₀ n m = (
       refl,
@@ -122,10 +122,10 @@ module _ (r : Reading) (s table unit : List ℕ) (k : ℕ) where
     )
 
     module _ (t : Stand) (o : KeptStep) (a : Answers items parents ends marks unit t o) where
-      pub collect-less : (y : Kept) → o ≡ Item′ y → length unit - y .next .at < length unit - t .at
+      pub collect-less : (y : Kept) → o ≡ Item′ y → length unit - y .next .at .at < length unit - t .at .at
       unfolding Forward
       collect-less y q =
-          let i : Forward unit (t .at) (Item′ y) = subst (Forward unit (t .at)) q (a .forward) in
+          let i : Forward unit (t .at .at) (Item′ y) = subst (Forward unit (t .at .at)) q (a .forward) in
           omega (arith, i .0, i .1, i .2, i .3)
 
       module _ (list₀ list : List ℕ) (n : ℕ) (g : Collecting list₀ t list n) where
@@ -157,7 +157,7 @@ module _ (r : Reading) (s table unit : List ℕ) (k : ℕ) where
             stands-here =
                 let h : Every (λ (z : Standing). Stands (r .encoding) s look unit (z .item)) (next-item .standing ∷ keptAt items parents ends marks (y .next) (next-item .after)) =
                 subst (Every (λ (z : Standing). Stands (r .encoding) s look unit (z .item))) (next-item .whole)
-                (kept-stand (r .encoding) s look unit marks (t .count) (openKept marks (now .stack)) (t .at)) in
+                (kept-stand (r .encoding) s look unit marks (t .count .0) (openKept marks (now .stack)) (t .at .at)) in
                 h .0
 
             indices-here : ItemIndices (next-item .standing .item) (readIndices k (readsAt x u (offsetOf (next-item .standing .item))))

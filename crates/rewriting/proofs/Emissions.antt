@@ -19,6 +19,7 @@ use Rattle.rewriting.specs.Written.{groupsFit, bytesFit, numberFits, unf
 use Rattle.rewriting.specs.Rewriting.{Lists, fits, orNext, isSome, orSelf}
 use Rattle.rewriting.specs.Emission.{between, copiedCount, Emits, Within, onward, Wide, holds, numberRefusal, offsetRefusal, Lent}
 use Rattle.rewriting.proofs.Putting.{fit-room, bytes-room}
+use Rattle.readers.specs.declared.offsets.UnitOffset.{UnitOffset}
 use Rattle.rewriting.specs.declared.emit.Emitted.{Emitted}
 use Rattle.rewriting.specs.declared.emit.Emitted.the-variants.{To, Refused}
 use Rattle.rewriting.specs.declared.lists.ListCount.{ListCount}
@@ -427,10 +428,10 @@ module _ (value w : ℕ) (leb′ : Bool) (out : List ℕ) where
 
 -- ---- offsets
 
-mapped-some : (o : Option ℕ) (value : ℕ) → Mapped′ value ≡ asMapped o → o ≡ some value
+mapped-some : (o : Option ℕ) (value : UnitOffset) → Mapped′ value ≡ asMapped o → o ≡ some (value .0)
 unfolding asMapped
 mapped-some none value h = let z : _≡_ {A = ℕ} 0 1 = cc in absurd (omega arith)
-mapped-some (some n) value h = ap some (let z : n ≡ value = cc in z)
+mapped-some (some n) value h = let z : value ≡ record { 0 = n } = cc in ap (λ (y : UnitOffset). some (y .0)) (sym z)
 
 mapped-none : (o : Option ℕ) → Nothing ≡ asMapped o → o ≡ none
 unfolding asMapped
@@ -438,8 +439,8 @@ mapped-none none h = refl
 mapped-none (some n) h = let z : _≡_ {A = ℕ} 0 1 = cc in absurd (omega arith)
 
 module _ (new : Mapped) (w : ℕ) (leb′ : Bool) (out : List ℕ) where
-  pub offset-some : (value : ℕ) → new ≡ Mapped′ value → (r : Emitted) (out′ : List ℕ)
-      → (Wide leb′ w → Emits (numberRefusal (encodedBy leb′ w) value) (numberBytes false (encodedBy leb′ w) value) out r out′)
+  pub offset-some : (value : UnitOffset) → new ≡ Mapped′ value → (r : Emitted) (out′ : List ℕ)
+      → (Wide leb′ w → Emits (numberRefusal (encodedBy leb′ w) (value .0)) (numberBytes false (encodedBy leb′ w) (value .0)) out r out′)
       → (o : Option ℕ) (v : ℕ) → new ≡ asMapped o → Wide leb′ w → Emits (offsetRefusal (encodedBy leb′ w) v o) (numberBytes false (encodedBy leb′ w) (orSelf v o)) out r out′
   unfolding offsetRefusal orSelf isSome pick
   offset-some value q r out′ f o v p h =

@@ -30,9 +30,20 @@ pub number-no : (end : ℕ) (children : Bool) → children ≡ false → end < 2
 unfolding endNumber pick
 number-no end children q h = sym (ap (endNumber end) q)
 
+-- the number at an entry's place
+pub end-there : (ends : List ℕ) (k i : ℕ) → k ≡ i → getD ends k 0 ≡ getD ends i 0
+end-there ends k i e = ap (λ (n : ℕ). getD ends n 0) e
+
+pub end-outside : (ends : List ℕ) (k i : ℕ) → k ≡ i → length ends ≤ k → 0 ≡ getD ends i 0
+end-outside ends k i e h = sym (List·getD-eq-default ends 0 h) ∙ end-there ends k i e
+
 -- a column that has ended
-pub ended-out : (ends : List ℕ) (count : ℕ) → length ends ≤ count → getD ends count 0 ≡ 0
-ended-out ends count h = List·getD-eq-default ends 0 h
+pub ended-out : (ends : List ℕ) (k count : ℕ) → k ≡ count → length ends ≤ k → getD ends count 0 ≡ 0
+ended-out ends k count e h = sym (end-outside ends k count e h)
+
+pub ended-in : (ends : List ℕ) (k count : ℕ) → k ≡ count → k < length ends
+    → (getD (set ends k 0) count 0 ≡ 0) × ((i : ℕ) → i < count → getD (set ends k 0) i 0 ≡ getD ends i 0)
+ended-in ends k count e h = (sym (end-there (set ends k 0) k count e) ∙ getD-set-same ends k 0 0 h, λ i l. getD-set-other ends k i 0 0 (λ z. omega arith))
 
 module _ (r : Reading) (abbreviations index unit : List ℕ) (first : ℕ) (ends₀ : List ℕ) where
   abbrev items : ℕ → List Item
@@ -45,6 +56,7 @@ module _ (r : Reading) (abbreviations index unit : List ℕ) (first : ℕ) (ends
   pub record Ending (ends : List ℕ) (at count : ℕ) : Type 0 where
     pub size : length ends ≡ length ends₀
     pub many : entriesIn (items first) ≡ count + entriesIn (items at)
+    pub passed : count ≤ at
     pub onward : length unit < 2 ^ 32 → (final : List ℕ) → ((i : ℕ) → i < count → getD final i 0 ≡ getD ends i 0)
         → EndsHeld final count (items at) → EndsHeld final 0 (items first)
 
@@ -52,7 +64,7 @@ module _ (r : Reading) (abbreviations index unit : List ℕ) (first : ℕ) (ends
   Ended ends = length unit < 2 ^ 32 → entriesIn (items first) ≤ length ends₀ → EndsHeld ends 0 (items first)
 
   pub ending-start : Ending ends₀ first 0
-  ending-start = record { size = refl; many = (let z : entriesIn (items first) ≡ 0 + entriesIn (items first) = omega arith in z); onward = λ u final a h. h }
+  ending-start = record { size = refl; many = (let z : entriesIn (items first) ≡ 0 + entriesIn (items first) = omega arith in z); passed = omega arith; onward = λ u final a h. h }
 
   module _ (ends : List ℕ) (at count : ℕ) (g : Ending ends at count) (o : Step) (p : o ≡ step at) where
     module _ (final : List ℕ) (z : getD final count 0 ≡ 0) (a : (i : ℕ) → i < count → getD final i 0 ≡ getD ends i 0) where
@@ -77,6 +89,7 @@ module _ (r : Reading) (abbreviations index unit : List ℕ) (first : ℕ) (ends
           record {
             size = g .size;
             many = g .many ∙ ap (λ (is : List Item). count + entriesIn is) e;
+            passed = (let i = terminator-inside (r .encoding) abbreviations (findAt abbreviations (r .from) index) unit at c (sym p ∙ q) in omega (arith, g .passed, i .0));
             onward = λ u final a h. g .onward u final a (subst (λ (is : List Item). EndsHeld final count is) (sym e) h);
           }
 
@@ -91,24 +104,28 @@ module _ (r : Reading) (abbreviations index unit : List ℕ) (first : ℕ) (ends
       unfolding entriesIn
       more = g .many ∙ ap (λ (is : List Item). count + entriesIn is) here
 
-      pub ending-full : length ends ≤ count → Ended ends
-      ending-full h _ l = absurd (omega (arith, more, g .size))
+      pub ending-full : (k : ℕ) → k ≡ count → length ends ≤ k → Ended ends
+      ending-full k e h _ l = absurd (omega (arith, more, g .size))
+
+      -- a unit below 4 GiB has fewer entries than that
+      pub ending-over : count ≡ 4294967295 → Ended ends
+      ending-over h u l = absurd (omega (arith, g .passed, inside .coded, inside .ahead, inside .within))
 
       pub ending-entry-less : length unit - x .next .at < length unit - at
       ending-entry-less = omega (arith, inside .coded, inside .ahead, inside .within)
 
-      module _ (h : count < length ends) (v : ℕ) (w : x .next .at < 2 ^ 32 → v ≡ endNumber (x .next .at) (x .declaration .children)) where
-        put-onward : length unit < 2 ^ 32 → (final : List ℕ) → ((i : ℕ) → i < count + 1 → getD final i 0 ≡ getD (set ends count v) i 0)
+      module _ (k : ℕ) (is : k ≡ count) (h : k < length ends) (v : ℕ) (w : x .next .at < 2 ^ 32 → v ≡ endNumber (x .next .at) (x .declaration .children)) where
+        put-onward : length unit < 2 ^ 32 → (final : List ℕ) → ((i : ℕ) → i < count + 1 → getD final i 0 ≡ getD (set ends k v) i 0)
             → EndsHeld final (count + 1) (items (x .next .at)) → EndsHeld final 0 (items first)
         unfolding EndsHeld
-        put-onward u final a k =
+        put-onward u final a g′ =
             let b : x .next .at < 2 ^ 32 = omega (arith, inside .within) in
             let f : getD final count 0 ≡ endNumber (x .next .at) (x .declaration .children) =
-            a count (omega arith) ∙ getD-set-same ends count v 0 h ∙ w b in
-            let t : EndsHeld final (suc count) (items (x .next .at)) = subst (λ (n : ℕ). EndsHeld final n (items (x .next .at))) (add-one count) k in
+            a count (omega arith) ∙ ap (λ (n : ℕ). getD (set ends k v) n 0) (sym is) ∙ getD-set-same ends k v 0 h ∙ w b in
+            let t : EndsHeld final (suc count) (items (x .next .at)) = subst (λ (n : ℕ). EndsHeld final n (items (x .next .at))) (add-one count) g′ in
             g .onward u final
-            (λ i l. a i (omega arith) ∙ getD-set-other ends count i v 0 (λ z. omega arith))
+            (λ i l. a i (omega arith) ∙ getD-set-other ends k i v 0 (λ z. omega arith))
             (subst (λ (is : List Item). EndsHeld final count is) (sym here) (f, t))
 
-        pub ending-entry : Ending (set ends count v) (x .next .at) (count + 1)
-        ending-entry = record { size = length-set ends count v ∙ g .size; many = (let z : entriesIn (items first) ≡ count + 1 + entriesIn (items (x .next .at)) = omega (arith, more) in z); onward = put-onward }
+        pub ending-entry : Ending (set ends k v) (x .next .at) (count + 1)
+        ending-entry = record { size = length-set ends k v ∙ g .size; many = (let z : entriesIn (items first) ≡ count + 1 + entriesIn (items (x .next .at)) = omega (arith, more) in z); passed = omega (arith, g .passed, inside .coded, inside .ahead); onward = put-onward }

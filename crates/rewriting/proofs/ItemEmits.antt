@@ -184,17 +184,17 @@ module _ (r : Reading) (s table unit parents ends marks : List ℕ) (first : ℕ
           unfolding readsAt readsOr
           reads-are = ap (readsOr x u) (read-here .0 .is)
 
-          deep-here : readIn false (expressionIn (r .encoding)) (entryLayout (r .encoding) s (declaredIn (u .declared))) (drop (y .start) unit) ≡ some (reads, read-here .0 .run .1)
+          deep-here : readIn false (expressionIn (r .encoding)) (entryLayout (r .encoding) s (declaredIn (u .declared))) (drop (y .start .0) unit) ≡ some (reads, read-here .0 .run .1)
           deep-here =
-              ap (λ (b : Bool). readIn b (expressionIn (r .encoding)) (entryLayout (r .encoding) s (declaredIn (u .declared))) (drop (y .start) unit)) (sym l)
-              ∙ ap (λ (e : Encoding). readIn (e .«big_endian») (expressionIn e) (entryLayout e s (declaredIn (u .declared))) (drop (y .start) unit)) (sym (p .read .encoding-is))
-              ∙ ap (λ (z : List ℕ). readIn (u .header .encoding .«big_endian») (expressionIn (u .header .encoding)) (entryLayout (u .header .encoding) z (declaredIn (u .declared))) (drop (y .start) unit)) (sym (p .read .abbreviations-are))
+              ap (λ (b : Bool). readIn b (expressionIn (r .encoding)) (entryLayout (r .encoding) s (declaredIn (u .declared))) (drop (y .start .0) unit)) (sym l)
+              ∙ ap (λ (e : Encoding). readIn (e .«big_endian») (expressionIn e) (entryLayout e s (declaredIn (u .declared))) (drop (y .start .0) unit)) (sym (p .read .encoding-is))
+              ∙ ap (λ (z : List ℕ). readIn (u .header .encoding .«big_endian») (expressionIn (u .header .encoding)) (entryLayout (u .header .encoding) z (declaredIn (u .declared))) (drop (y .start .0) unit)) (sym (p .read .abbreviations-are))
               ∙ ap₂ (λ (n : ℕ) (z : List ℕ). readIn (u .header .encoding .«big_endian») (expressionIn (u .header .encoding)) (entryLayout (u .header .encoding) (x .abbreviations) (declaredIn (u .declared))) (drop n z))
               (sym (shown-offset y (next .standing .item) (next .shows))) (sym (p .read .bytes-are))
               ∙ read-here .0 .is
 
-          step-here : (z : Step) → stepAt (r .encoding) s look unit (y .start) ≡ z → stepAt (r .encoding) s (declaredIn (u .declared)) unit (y .start) ≡ z
-          step-here z h = sym (step-look (r .encoding) s look (declaredIn (u .declared)) (p .found) unit (y .start)) ∙ h
+          step-here : (z : Step) → stepAt (r .encoding) s look unit (y .start .0) ≡ z → stepAt (r .encoding) s (declaredIn (u .declared)) unit (y .start .0) ≡ z
+          step-here z h = sym (step-look (r .encoding) s look (declaredIn (u .declared)) (p .found) unit (y .start .0)) ∙ h
 
           -- the emission of this item alone
           abbrev Here : Emitted → List ℕ → Type 0
@@ -236,8 +236,8 @@ module _ (r : Reading) (s table unit parents ends marks : List ℕ) (first : ℕ
 
           -- an entry
           module _ (i : y .«is_entry» ≡ true) (b : Emitted) (out₁ : List ℕ)
-              (f : (look′ : ℕ → Found) (z : Entry) (rs : List Read) (rest : List ℕ) → stepAt (r .encoding) s look′ unit (y .start) ≡ Entry′ z → y .specs ≡ z .declaration .attributes → y .values ≡ z .values
-              → readIn false (expressionIn (r .encoding)) (entryLayout (r .encoding) s look′) (drop (y .start) unit) ≡ some (rs, rest)
+              (f : (look′ : ℕ → Found) (z : Entry) (rs : List Read) (rest : List ℕ) → stepAt (r .encoding) s look′ unit (y .start .0) ≡ Entry′ z → y .specs ≡ z .declaration .attributes → y .values ≡ z .values
+              → readIn false (expressionIn (r .encoding)) (entryLayout (r .encoding) s look′) (drop (y .start .0) unit) ≡ some (rs, rest)
               → EmitsAt (readsRefusal lists ps (y .depth) rs) (writeAll false (patchAll (newValue lists ps (y .depth)) rs)) out to b out₁) where
             entry-here : Here b out₁
             entry-here =
@@ -251,13 +251,13 @@ module _ (r : Reading) (s table unit parents ends marks : List ℕ) (first : ℕ
             writing-entry = on-here b out₁ entry-here
 
           -- a terminator
-          pub writing-terminator : y .«is_entry» ≡ false → (to₁ : ℕ) (out₁ : List ℕ) → (y .start ≤ y .end → y .end ≤ length unit → EmitsAt 0 (between unit (y .start) (y .end)) out to (To to₁) out₁)
+          pub writing-terminator : y .«is_entry» ≡ false → (to₁ : ℕ) (out₁ : List ℕ) → (y .start .0 ≤ y .end .at → y .end .at ≤ length unit → EmitsAt 0 (between unit (y .start .0) (y .end .at)) out to (To to₁) out₁)
               → Writing out₀ (y .next) out₁ to₁
           writing-terminator i to₁ out₁ f =
               let w = next-terminator (r .encoding) s look unit parents ends marks t (g .stack) y next i in
               let d = next-forward items parents ends marks unit t o a y q in
-              let d1 : y .start < y .end = d .1 in
+              let d1 : y .start .0 < y .end .at = d .1 in
               on-here (To to₁) out₁
-              (terminator-emits (r .encoding) l s (declaredIn (u .declared)) unit (y .start) (y .end) (step-here (Terminator (cursor (y .end))) (w .here)) reads (read-here .0 .run .1) deep-here
+              (terminator-emits (r .encoding) l s (declaredIn (u .declared)) unit (y .start .0) (y .end .at) (step-here (Terminator (cursor (y .end .at))) (w .here)) reads (read-here .0 .run .1) deep-here
               lists ps (y .depth) out to (To to₁) out₁ (f (omega arith) (d .2)))
               to₁ refl

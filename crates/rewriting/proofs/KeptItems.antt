@@ -22,14 +22,14 @@ module _ (e : Encoding) (abbreviations : List ℕ) (look : ℕ → Found) (unit 
   pub record EntryShown (x : Kept) (i : Item) : Type 0 where
     pub it : Entry
     pub item : i ≡ entry it
-    pub here : stepAt e abbreviations look unit (x .start) ≡ Entry′ it
-    pub end : x .end ≡ it .next .at
+    pub here : stepAt e abbreviations look unit (x .start .0) ≡ Entry′ it
+    pub end : x .end .at ≡ it .next .at
     pub specs : x .specs ≡ it .declaration .attributes
     pub values : x .values ≡ it .values
 
   pub record TerminatorShown (x : Kept) (i : Item) : Type 0 where
-    pub item : i ≡ terminator (x .start) (x .end)
-    pub here : stepAt e abbreviations look unit (x .start) ≡ Terminator (cursor (x .end))
+    pub item : i ≡ terminator (x .start .0) (x .end .at)
+    pub here : stepAt e abbreviations look unit (x .start .0) ≡ Terminator (cursor (x .end .at))
 
   entry-of : (x : Kept) (i : Item) → ShowsItem x i → Stands e abbreviations look unit i → x .«is_entry» ≡ true → EntryShown x i
   unfolding ShowsItem Stands
@@ -49,7 +49,7 @@ module _ (e : Encoding) (abbreviations : List ℕ) (look : ℕ → Found) (unit 
   module _ (parents ends marks : List ℕ) (s : Stand) (stack : List ℕ) (x : Kept) (y : NextItem (items e abbreviations look unit) parents ends marks s stack x) where
     pub next-stands : Stands e abbreviations look unit (y .standing .item)
     unfolding Every
-    next-stands = subst (Every (λ t. Stands e abbreviations look unit (t .item))) (y .whole) (kept-stand e abbreviations look unit marks (s .count) (openKept marks stack) (s .at)) .0
+    next-stands = subst (Every (λ t. Stands e abbreviations look unit (t .item))) (y .whole) (kept-stand e abbreviations look unit marks (s .count .0) (openKept marks stack) (s .at .at)) .0
 
     pub next-entry : x .«is_entry» ≡ true → EntryShown x (y .standing .item)
     next-entry q = entry-of x (y .standing .item) (y .shows) next-stands q

@@ -17,18 +17,18 @@ use Rattle.rewriting.specs.declared.kept.KeptStep.{KeptStep}
 use Rattle.rewriting.specs.declared.kept.KeptStep.the-variants.{Item as Item′, End}
 use Rattle.rewriting.proofs.KeptSteps.{stand}
 
-pub shown-size : (x : Kept) (i : Item) → ShowsItem x i → sizeOf i ≡ x .end - x .start
+pub shown-size : (x : Kept) (i : Item) → ShowsItem x i → sizeOf i ≡ x .end .at - x .start .0
 unfolding ShowsItem sizeOf
 shown-size x (entry y) h =
-    let a : x .start ≡ y .offset .0 = h .1 in
-    let b : x .end ≡ y .next .at = h .2 in
+    let a : x .start .0 ≡ y .offset .0 = h .1 in
+    let b : x .end .at ≡ y .next .at = h .2 in
     omega arith
 shown-size x (terminator a b) h =
-    let a : x .start ≡ a = h .1 in
-    let b : x .end ≡ b = h .2 in
+    let a : x .start .0 ≡ a = h .1 in
+    let b : x .end .at ≡ b = h .2 in
     omega arith
 
-pub shown-offset : (x : Kept) (i : Item) → ShowsItem x i → offsetOf i ≡ x .start
+pub shown-offset : (x : Kept) (i : Item) → ShowsItem x i → offsetOf i ≡ x .start .0
 unfolding ShowsItem offsetOf
 shown-offset x (entry y) h = sym (h .1)
 shown-offset x (terminator a b) h = sym (h .1)
@@ -37,9 +37,9 @@ module _ (items : ℕ → List Item) (parents ends marks unit : List ℕ) where
   -- ---- an answer, by its cases
 
   module _ (s : Stand) (r : KeptStep) (a : Answers items parents ends marks unit s r) where
-    pub next-forward : (x : Kept) → r ≡ Item′ x → (s .at ≤ x .start) × (x .start < x .end) × (x .end ≤ length unit) × (x .next .at ≡ x .end)
+    pub next-forward : (x : Kept) → r ≡ Item′ x → (s .at .at ≤ x .start .0) × (x .start .0 < x .end .at) × (x .end .at ≤ length unit) × (x .next .at .at ≡ x .end .at)
     unfolding Forward
-    next-forward x q = subst (Forward unit (s .at)) q (a .forward)
+    next-forward x q = subst (Forward unit (s .at .at)) q (a .forward)
 
     pub next-item : (x : Kept) → r ≡ Item′ x → (stack : List ℕ) → length unit < 2 ^ 32 → Stood items parents ends s stack → NextItem items parents ends marks s stack x
     unfolding Next
@@ -49,13 +49,13 @@ module _ (items : ℕ → List Item) (parents ends marks unit : List ℕ) where
     unfolding Next
     next-end q stack u h = subst (Next items parents ends marks s stack) q (a .next stack u h)
 
-    pub next-less : (x : Kept) → r ≡ Item′ x → length unit - x .next .at < length unit - s .at
+    pub next-less : (x : Kept) → r ≡ Item′ x → length unit - x .next .at .at < length unit - s .at .at
     next-less x q =
         let f = next-forward x q in
-        let f0 : s .at ≤ x .start = f .0 in
-        let f1 : x .start < x .end = f .1 in
-        let f2 : x .end ≤ length unit = f .2 in
-        let f3 : x .next .at ≡ x .end = f .3 in
+        let f0 : s .at .at ≤ x .start .0 = f .0 in
+        let f1 : x .start .0 < x .end .at = f .1 in
+        let f2 : x .end .at ≤ length unit = f .2 in
+        let f3 : x .next .at .at ≡ x .end .at = f .3 in
         omega arith
 
   -- ---- the start
@@ -79,8 +79,8 @@ module _ (items : ℕ → List Item) (parents ends marks unit : List ℕ) where
 
   pub record Measuring (first : ℕ) (s : Stand) (places bytes : ℕ) : Type 0 where
     pub room : first + places ≤ bytes
-    pub passed : bytes ≤ s .at
-    pub inside : first ≤ length unit → s .at ≤ length unit
+    pub passed : bytes ≤ s .at .at
+    pub inside : first ≤ length unit → s .at .at ≤ length unit
     pub counted : length unit < 2 ^ 32 → ColumnsHeld items parents ends first → Counted first s places bytes
 
   pub measuring-start : (first : ℕ) (n : Nesting) → n ≡ nestingOf [] → Measuring first (stand first 0 n) 0 first
@@ -105,7 +105,7 @@ module _ (items : ℕ → List Item) (parents ends marks unit : List ℕ) where
     measuring-end q =
         record {
           room = m .room;
-          inside = λ h. let g : s .at ≤ length unit = m .inside h in omega (arith, m .passed);
+          inside = λ h. let g : s .at .at ≤ length unit = m .inside h in omega (arith, m .passed);
           found = λ u h.
               let d = m .counted u h in
               let e : keptAt items parents ends marks s (d .stack) ≡ [] = next-end s r a q (d .stack) u (d .stood) in
@@ -115,22 +115,22 @@ module _ (items : ℕ → List Item) (parents ends marks unit : List ℕ) where
         }
 
     module _ (x : Kept) (q : r ≡ Item′ x) where
-      pub measuring-fits : (places < x .end) × (x .start ≤ x .end) × (bytes + (x .end - x .start) ≤ x .end)
+      pub measuring-fits : (places < x .end .at) × (x .start .0 ≤ x .end .at) × (bytes + (x .end .at - x .start .0) ≤ x .end .at) × (x .end .at ≤ length unit)
       measuring-fits =
           let f = next-forward s r a x q in
-          let f0 : s .at ≤ x .start = f .0 in
-          let f1 : x .start < x .end = f .1 in
-          let f2 : x .end ≤ length unit = f .2 in
-          (omega (arith, m .room, m .passed), omega arith, omega (arith, m .passed))
+          let f0 : s .at .at ≤ x .start .0 = f .0 in
+          let f1 : x .start .0 < x .end .at = f .1 in
+          let f2 : x .end .at ≤ length unit = f .2 in
+          (omega (arith, m .room, m .passed), omega arith, omega (arith, m .passed), f2)
 
-      pub measuring-more : Measuring first (x .next) (places + 1) (bytes + (x .end - x .start))
+      pub measuring-more : Measuring first (x .next) (places + 1) (bytes + (x .end .at - x .start .0))
       unfolding sizeFrom
       measuring-more =
           let f = next-forward s r a x q in
-          let f0 : s .at ≤ x .start = f .0 in
-          let f1 : x .start < x .end = f .1 in
-          let f2 : x .end ≤ length unit = f .2 in
-          let f3 : x .next .at ≡ x .end = f .3 in
+          let f0 : s .at .at ≤ x .start .0 = f .0 in
+          let f1 : x .start .0 < x .end .at = f .1 in
+          let f2 : x .end .at ≤ length unit = f .2 in
+          let f3 : x .next .at .at ≡ x .end .at = f .3 in
           record {
             room = omega (arith, m .room);
             passed = omega (arith, m .passed);

@@ -7,7 +7,7 @@ use mathlib.Core.Bool.{Bool, true, false}
 use mathlib.Core.List.{List, [], _∷_}
 use mathlib.Core.Logic.{_⊎_, inl, inr, ⊎-elim}
 use lib.ListN.{length, getD, List·getD-eq-default}
-use lib.Dec.{eqb}
+use lib.Dec.{eqb, leb}
 use borrow.Author.Tests.{eq-eqb, ne-eqb}
 use mir.Facts.{yes-eqb, no-eqb}
 use Rattle.readers.specs.Choice.{pick, pick-yes, pick-no}
@@ -45,9 +45,17 @@ use Rattle.rewriting.specs.declared.kept.KeptStep.the-variants.{Item as 
 
 -- ---- tests
 
-pub kept-outside : (marks : List ℕ) (i : ℕ) → length marks ≤ i → false ≡ isKept marks i
+-- the mark at an entry's place
+pub kept-there : (marks : List ℕ) (k i : ℕ) → k ≡ i → leb 2 (getD marks k 0) ≡ isKept marks i
 unfolding isKept
-kept-outside marks i h = rw (List·getD-eq-default marks 0 h) refl
+kept-there marks k i e = ap (isKept marks) e
+
+outside : (marks : List ℕ) (i : ℕ) → length marks ≤ i → false ≡ isKept marks i
+unfolding isKept
+outside marks i h = rw (List·getD-eq-default marks 0 h) refl
+
+pub kept-outside : (marks : List ℕ) (k i : ℕ) → k ≡ i → length marks ≤ k → false ≡ isKept marks i
+kept-outside marks k i e h = outside marks i (omega arith)
 
 pub closes-outside : (marks : List ℕ) (n : Nesting) → n .depth ≡ 0 → false ≡ closesKept marks n
 unfolding closesKept
@@ -139,7 +147,7 @@ whole-same s d d′ q = of (pastAttributes s (d .attributes .at)) q
 -- ---- one step
 
 abbrev pub stand : ℕ → ℕ → Nesting → Stand
-stand at count n = record { at = at; count = count; nesting = n }
+stand at count n = record { at = record { at = at }; count = record { 0 = count }; nesting = n }
 
 module _ (e : Encoding) (abbreviations : List ℕ) (look : ℕ → Found) (unit : List ℕ) where
   abbrev pub items : ℕ → List Item
@@ -196,81 +204,81 @@ module _ (e : Encoding) (abbreviations : List ℕ) (look : ℕ → Found) (unit 
   module _ (parents ends marks : List ℕ) where
     -- ---- after an entry
 
-    entry-holds : (t : Stand) (stack : List ℕ) (x : Entry) → stepAt e abbreviations look unit (t .at) ≡ Entry′ x → Stood items parents ends t stack
-        → (getD parents (t .count) 4294967295 ≡ top stack)
-        × HoldsFrom parents (t .count + 1) (parentsFrom (t .count + 1) (open′ (x .declaration .children) (t .count) stack) (items (x .next .at)))
+    entry-holds : (t : Stand) (stack : List ℕ) (x : Entry) → stepAt e abbreviations look unit (t .at .at) ≡ Entry′ x → Stood items parents ends t stack
+        → (getD parents (t .count .0) 4294967295 ≡ top stack)
+        × HoldsFrom parents (t .count .0 + 1) (parentsFrom (t .count .0 + 1) (open′ (x .declaration .children) (t .count .0) stack) (items (x .next .at)))
     unfolding parentsFrom HoldsFrom
     entry-holds t stack x q s =
-        let h : HoldsFrom parents (t .count) (parentsFrom (t .count) stack (entry x ∷ items (x .next .at))) =
-        subst (λ (is : List Item). HoldsFrom parents (t .count) (parentsFrom (t .count) stack is)) (items-entry (t .at) x q) (s .holds) in (
+        let h : HoldsFrom parents (t .count .0) (parentsFrom (t .count .0) stack (entry x ∷ items (x .next .at))) =
+        subst (λ (is : List Item). HoldsFrom parents (t .count .0) (parentsFrom (t .count .0) stack is)) (items-entry (t .at .at) x q) (s .holds) in (
           h .0,
-          subst (λ (k : ℕ). HoldsFrom parents k (parentsFrom k (open′ (x .declaration .children) (t .count) stack) (items (x .next .at))))
-              (sym (add-one (t .count))) (h .1),
+          subst (λ (k : ℕ). HoldsFrom parents k (parentsFrom k (open′ (x .declaration .children) (t .count .0) stack) (items (x .next .at))))
+              (sym (add-one (t .count .0))) (h .1),
         )
 
-    entry-ends : (t : Stand) (x : Entry) → stepAt e abbreviations look unit (t .at) ≡ Entry′ x → EndsHeld ends (t .count) (items (t .at))
-        → (getD ends (t .count) 0 ≡ endNumber (x .next .at) (x .declaration .children)) × EndsHeld ends (suc (t .count)) (items (x .next .at))
+    entry-ends : (t : Stand) (x : Entry) → stepAt e abbreviations look unit (t .at .at) ≡ Entry′ x → EndsHeld ends (t .count .0) (items (t .at .at))
+        → (getD ends (t .count .0) 0 ≡ endNumber (x .next .at) (x .declaration .children)) × EndsHeld ends (suc (t .count .0)) (items (x .next .at))
     unfolding EndsHeld
-    entry-ends t x q h = subst (EndsHeld ends (t .count)) (items-entry (t .at) x q) h
+    entry-ends t x q h = subst (EndsHeld ends (t .count .0)) (items-entry (t .at .at) x q) h
 
-    entry-stood : (t : Stand) (stack : List ℕ) (x : Entry) (n : Nesting) → stepAt e abbreviations look unit (t .at) ≡ Entry′ x
-        → n ≡ openedBy (x .declaration .children) (t .count) (t .nesting) → length unit < 2 ^ 32 → Stood items parents ends t stack
-        → Stood items parents ends (stand (x .next .at) (t .count + 1) n) (open′ (x .declaration .children) (t .count) stack)
+    entry-stood : (t : Stand) (stack : List ℕ) (x : Entry) (n : Nesting) → stepAt e abbreviations look unit (t .at .at) ≡ Entry′ x
+        → n ≡ openedBy (x .declaration .children) (t .count .0) (t .nesting) → length unit < 2 ^ 32 → Stood items parents ends t stack
+        → Stood items parents ends (stand (x .next .at) (t .count .0 + 1) n) (open′ (x .declaration .children) (t .count .0) stack)
     entry-stood t stack x n q m u s =
-        let i : EntryInside unit (t .at) x = step-inside e abbreviations look unit (t .at) x q in
+        let i : EntryInside unit (t .at .at) x = step-inside e abbreviations look unit (t .at .at) x q in
         let h = entry-holds t stack x q s in
         let l : length stack < 2 ^ 64 - 1 = omega (arith, s .counted, s .passed, i .coded, i .ahead, i .within) in
         record {
-          nested = m ∙ ap (openedBy (x .declaration .children) (t .count)) (s .nested) ∙ opened-is (x .declaration .children) (t .count) stack l;
-          chained = chained-open parents (x .declaration .children) (t .count) stack (h .0) (s .chained);
-          counted = omega (arith, length-open (x .declaration .children) (t .count) stack, s .counted);
+          nested = m ∙ ap (openedBy (x .declaration .children) (t .count .0)) (s .nested) ∙ opened-is (x .declaration .children) (t .count .0) stack l;
+          chained = chained-open parents (x .declaration .children) (t .count .0) stack (h .0) (s .chained);
+          counted = omega (arith, length-open (x .declaration .children) (t .count .0) stack, s .counted);
           passed = omega (arith, s .passed, i .coded, i .ahead);
           holds = h .1;
-          ends-hold = subst (λ (k : ℕ). EndsHeld ends k (items (x .next .at))) (sym (add-one (t .count))) (entry-ends t x q (s .ends-hold) .1);
+          ends-hold = subst (λ (k : ℕ). EndsHeld ends k (items (x .next .at))) (sym (add-one (t .count .0))) (entry-ends t x q (s .ends-hold) .1);
         }
 
-    entry-kept : (t : Stand) (stack : List ℕ) (x : Entry) → stepAt e abbreviations look unit (t .at) ≡ Entry′ x
+    entry-kept : (t : Stand) (stack : List ℕ) (x : Entry) → stepAt e abbreviations look unit (t .at .at) ≡ Entry′ x
         → keptAt items parents ends marks t stack
-        ≡ withIf (isKept marks (t .count)) (record { item = entry x; depth = length stack })
-        (keptFrom marks (t .count + 1) (openKept marks (open′ (x .declaration .children) (t .count) stack)) (items (x .next .at)))
+        ≡ withIf (isKept marks (t .count .0)) (record { item = entry x; depth = length stack })
+        (keptFrom marks (t .count .0 + 1) (openKept marks (open′ (x .declaration .children) (t .count .0) stack)) (items (x .next .at)))
     unfolding keptFrom
     entry-kept t stack x q =
-        ap (keptFrom marks (t .count) (openKept marks stack)) (items-entry (t .at) x q)
-        ∙ ap₂ (λ (d : ℕ) (bs : List Bool). withIf (isKept marks (t .count)) (record { item = entry x; depth = d }) (keptFrom marks (suc (t .count)) bs (items (x .next .at))))
-        (open-length marks stack) (open-opened marks (x .declaration .children) (t .count) stack)
-        ∙ ap (λ (k : ℕ). withIf (isKept marks (t .count)) (record { item = entry x; depth = length stack })
-        (keptFrom marks k (openKept marks (open′ (x .declaration .children) (t .count) stack)) (items (x .next .at)))) (sym (add-one (t .count)))
+        ap (keptFrom marks (t .count .0) (openKept marks stack)) (items-entry (t .at .at) x q)
+        ∙ ap₂ (λ (d : ℕ) (bs : List Bool). withIf (isKept marks (t .count .0)) (record { item = entry x; depth = d }) (keptFrom marks (suc (t .count .0)) bs (items (x .next .at))))
+        (open-length marks stack) (open-opened marks (x .declaration .children) (t .count .0) stack)
+        ∙ ap (λ (k : ℕ). withIf (isKept marks (t .count .0)) (record { item = entry x; depth = length stack })
+        (keptFrom marks k (openKept marks (open′ (x .declaration .children) (t .count .0) stack)) (items (x .next .at)))) (sym (add-one (t .count .0)))
 
     -- ---- after a terminator
 
-    terminator-ends : (t : Stand) (c : Cursor) → stepAt e abbreviations look unit (t .at) ≡ Terminator c → EndsHeld ends (t .count) (items (t .at)) → EndsHeld ends (t .count) (items (c .at))
+    terminator-ends : (t : Stand) (c : Cursor) → stepAt e abbreviations look unit (t .at .at) ≡ Terminator c → EndsHeld ends (t .count .0) (items (t .at .at)) → EndsHeld ends (t .count .0) (items (c .at))
     unfolding EndsHeld
-    terminator-ends t c q h = subst (EndsHeld ends (t .count)) (items-terminator (t .at) c q) h
+    terminator-ends t c q h = subst (EndsHeld ends (t .count .0)) (items-terminator (t .at .at) c q) h
 
-    terminator-stood : (t : Stand) (stack : List ℕ) (c : Cursor) (n : Nesting) → stepAt e abbreviations look unit (t .at) ≡ Terminator c
-        → n ≡ closedBy parents (t .nesting) → Stood items parents ends t stack → Stood items parents ends (stand (c .at) (t .count) n) (close stack)
+    terminator-stood : (t : Stand) (stack : List ℕ) (c : Cursor) (n : Nesting) → stepAt e abbreviations look unit (t .at .at) ≡ Terminator c
+        → n ≡ closedBy parents (t .nesting) → Stood items parents ends t stack → Stood items parents ends (stand (c .at) (t .count .0) n) (close stack)
     unfolding parentsFrom
     terminator-stood t stack c n q m s =
-        let i = terminator-inside e abbreviations look unit (t .at) c q in
+        let i = terminator-inside e abbreviations look unit (t .at .at) c q in
         record {
           nested = m ∙ ap (closedBy parents) (s .nested) ∙ closed-is parents stack (chain-of parents stack (s .chained));
           chained = chained-close parents stack (s .chained);
           counted = omega (arith, length-close stack, s .counted);
           passed = omega (arith, s .passed, i .0);
-          holds = subst (λ (is : List Item). HoldsFrom parents (t .count) (parentsFrom (t .count) stack is)) (items-terminator (t .at) c q) (s .holds);
+          holds = subst (λ (is : List Item). HoldsFrom parents (t .count .0) (parentsFrom (t .count .0) stack is)) (items-terminator (t .at .at) c q) (s .holds);
           ends-hold = terminator-ends t c q (s .ends-hold);
         }
 
-    terminator-kept : (t : Stand) (stack : List ℕ) (c : Cursor) → stepAt e abbreviations look unit (t .at) ≡ Terminator c → t .nesting ≡ nestingOf stack
+    terminator-kept : (t : Stand) (stack : List ℕ) (c : Cursor) → stepAt e abbreviations look unit (t .at .at) ≡ Terminator c → t .nesting ≡ nestingOf stack
         → keptAt items parents ends marks t stack
-        ≡ withIf (closesKept marks (t .nesting)) (record { item = terminator (t .at) (c .at); depth = length stack })
-        (keptFrom marks (t .count) (openKept marks (close stack)) (items (c .at)))
+        ≡ withIf (closesKept marks (t .nesting)) (record { item = terminator (t .at .at) (c .at); depth = length stack })
+        (keptFrom marks (t .count .0) (openKept marks (close stack)) (items (c .at)))
     unfolding keptFrom
     terminator-kept t stack c q m =
-        ap (keptFrom marks (t .count) (openKept marks stack)) (items-terminator (t .at) c q)
-        ∙ ap₂ (λ (d : ℕ) (bs : List Bool). withIf (innermost (openKept marks stack)) (record { item = terminator (t .at) (c .at); depth = d }) (keptFrom marks (t .count) bs (items (c .at))))
+        ap (keptFrom marks (t .count .0) (openKept marks stack)) (items-terminator (t .at .at) c q)
+        ∙ ap₂ (λ (d : ℕ) (bs : List Bool). withIf (innermost (openKept marks stack)) (record { item = terminator (t .at .at) (c .at); depth = d }) (keptFrom marks (t .count .0) bs (items (c .at))))
         (open-length marks stack) (open-closed marks stack)
-        ∙ ap (λ (b : Bool). withIf b (record { item = terminator (t .at) (c .at); depth = length stack }) (keptFrom marks (t .count) (openKept marks (close stack)) (items (c .at))))
+        ∙ ap (λ (b : Bool). withIf b (record { item = terminator (t .at .at) (c .at); depth = length stack }) (keptFrom marks (t .count .0) (openKept marks (close stack)) (items (c .at))))
         (sym (open-innermost marks stack) ∙ ap (closesKept marks) (sym m))
 
     -- ---- the loop: what is kept from the start on is what is kept from here on
@@ -281,7 +289,7 @@ module _ (e : Encoding) (abbreviations : List ℕ) (look : ℕ → Found) (unit 
       pub same : keptAt items parents ends marks s stack ≡ keptAt items parents ends marks t now
 
     abbrev pub Walking : Stand → Stand → Type 0
-    Walking s t = (s .at ≤ t .at) × ((stack : List ℕ) → length unit < 2 ^ 32 → Stood items parents ends s stack → Walked s stack t)
+    Walking s t = (s .at .at ≤ t .at .at) × ((stack : List ℕ) → length unit < 2 ^ 32 → Stood items parents ends s stack → Walked s stack t)
 
     pub walking-start : (s : Stand) → Walking s s
     walking-start s = (omega arith, λ stack u h. record { now = stack; stood = h; same = refl })
@@ -291,53 +299,53 @@ module _ (e : Encoding) (abbreviations : List ℕ) (look : ℕ → Found) (unit 
     depth-of t stack m = ap (λ (n : Nesting). n .depth) m
 
     module _ (s t : Stand) (w : Walking s t) where
-      pub end-end : stepAt e abbreviations look unit (t .at) ≡ StepEnd → Answers items parents ends marks unit s End
+      pub end-end : stepAt e abbreviations look unit (t .at .at) ≡ StepEnd → Answers items parents ends marks unit s End
       unfolding Forward Next keptFrom
       end-end q =
           record {
             forward = tt;
             next = λ stack u g.
                 let v = w .1 stack u g in
-                v .same ∙ ap (keptFrom marks (t .count) (openKept marks (v .now))) (items-end (t .at) q);
+                v .same ∙ ap (keptFrom marks (t .count .0) (openKept marks (v .now))) (items-end (t .at .at) q);
           }
 
-      pub end-bad : stepAt e abbreviations look unit (t .at) ≡ Unreadable → Answers items parents ends marks unit s End
+      pub end-bad : stepAt e abbreviations look unit (t .at .at) ≡ Unreadable → Answers items parents ends marks unit s End
       unfolding Forward Next keptFrom
       end-bad q =
           record {
             forward = tt;
             next = λ stack u g.
                 let v = w .1 stack u g in
-                v .same ∙ ap (keptFrom marks (t .count) (openKept marks (v .now))) (items-bad (t .at) q);
+                v .same ∙ ap (keptFrom marks (t .count .0) (openKept marks (v .now))) (items-bad (t .at .at) q);
           }
 
-      module _ (x : Entry) (q : stepAt e abbreviations look unit (t .at) ≡ Entry′ x) where
-        pub entry-less : length unit - x .next .at < length unit - t .at
+      module _ (x : Entry) (q : stepAt e abbreviations look unit (t .at .at) ≡ Entry′ x) where
+        pub entry-less : length unit - x .next .at < length unit - t .at .at
         entry-less =
-            let i : EntryInside unit (t .at) x = step-inside e abbreviations look unit (t .at) x q in
+            let i : EntryInside unit (t .at .at) x = step-inside e abbreviations look unit (t .at .at) x q in
             omega (arith, i .coded, i .ahead, i .within)
 
-        module _ (n : Nesting) (m : n ≡ openedBy (x .declaration .children) (t .count) (t .nesting)) where
-          pub entry-item : isKept marks (t .count) ≡ true
+        module _ (n : Nesting) (m : n ≡ openedBy (x .declaration .children) (t .count .0) (t .nesting)) where
+          pub entry-item : isKept marks (t .count .0) ≡ true
               → Answers items parents ends marks unit s (Item′ (record {
-                start = t .at;
-                end = x .next .at;
+                start = record { 0 = t .at .at };
+                end = x .next;
                 depth = t .nesting .depth;
                 «is_entry» = true;
                 specs = x .declaration .attributes;
                 values = x .values;
-                next = stand (x .next .at) (t .count + 1) n;
+                next = stand (x .next .at) (t .count .0 + 1) n;
               }))
           unfolding Forward Next ShowsItem
           entry-item k =
-              let i : EntryInside unit (t .at) x = step-inside e abbreviations look unit (t .at) x q in
+              let i : EntryInside unit (t .at .at) x = step-inside e abbreviations look unit (t .at .at) x q in
               record {
                 forward = (w .0, omega (arith, i .coded, i .ahead), i .within, refl);
                 next = λ stack u g.
                     let v = w .1 stack u g in
                     record {
                       standing = record { item = entry x; depth = length (v .now) };
-                      after = open′ (x .declaration .children) (t .count) (v .now);
+                      after = open′ (x .declaration .children) (t .count .0) (v .now);
                       whole = v .same ∙ entry-kept t (v .now) x q ∙ with-yes _ _ _ k;
                       shows = (refl, sym (i .here), refl, refl, refl);
                       deep = depth-of t (v .now) (v .stood .nested);
@@ -346,43 +354,43 @@ module _ (e : Encoding) (abbreviations : List ℕ) (look : ℕ → Found) (unit 
                     };
               }
 
-          pub entry-on : isKept marks (t .count) ≡ false → Walking s (stand (x .next .at) (t .count + 1) n)
+          pub entry-on : isKept marks (t .count .0) ≡ false → Walking s (stand (x .next .at) (t .count .0 + 1) n)
           entry-on k =
-              let i : EntryInside unit (t .at) x = step-inside e abbreviations look unit (t .at) x q in (
+              let i : EntryInside unit (t .at .at) x = step-inside e abbreviations look unit (t .at .at) x q in (
                 omega (arith, w .0, i .coded, i .ahead),
                 λ stack u g.
                     let v = w .1 stack u g in
                     record {
-                      now = open′ (x .declaration .children) (t .count) (v .now);
+                      now = open′ (x .declaration .children) (t .count .0) (v .now);
                       stood = entry-stood t (v .now) x n q m u (v .stood);
                       same = v .same ∙ entry-kept t (v .now) x q ∙ with-no _ _ _ k;
                     },
               )
 
-      module _ (c : Cursor) (q : stepAt e abbreviations look unit (t .at) ≡ Terminator c) where
-        pub terminator-less : length unit - c .at < length unit - t .at
-        terminator-less = let i = terminator-inside e abbreviations look unit (t .at) c q in omega (arith, i .0, i .1)
+      module _ (c : Cursor) (q : stepAt e abbreviations look unit (t .at .at) ≡ Terminator c) where
+        pub terminator-less : length unit - c .at < length unit - t .at .at
+        terminator-less = let i = terminator-inside e abbreviations look unit (t .at .at) c q in omega (arith, i .0, i .1)
 
         module _ (n : Nesting) (m : n ≡ closedBy parents (t .nesting)) where
           pub terminator-item : closesKept marks (t .nesting) ≡ true
               → Answers items parents ends marks unit s (Item′ (record {
-                start = t .at;
-                end = c .at;
+                start = record { 0 = t .at .at };
+                end = c;
                 depth = t .nesting .depth;
                 «is_entry» = false;
                 specs = c;
                 values = c;
-                next = stand (c .at) (t .count) n;
+                next = stand (c .at) (t .count .0) n;
               }))
           unfolding Forward Next ShowsItem
           terminator-item k =
-              let i = terminator-inside e abbreviations look unit (t .at) c q in
+              let i = terminator-inside e abbreviations look unit (t .at .at) c q in
               record {
                 forward = (w .0, i .0, i .1, refl);
                 next = λ stack u g.
                     let v = w .1 stack u g in
                     record {
-                      standing = record { item = terminator (t .at) (c .at); depth = length (v .now) };
+                      standing = record { item = terminator (t .at .at) (c .at); depth = length (v .now) };
                       after = close (v .now);
                       whole = v .same ∙ terminator-kept t (v .now) c q (v .stood .nested) ∙ with-yes _ _ _ k;
                       shows = (refl, refl, refl);
@@ -392,9 +400,9 @@ module _ (e : Encoding) (abbreviations : List ℕ) (look : ℕ → Found) (unit 
                     };
               }
 
-          pub terminator-on : closesKept marks (t .nesting) ≡ false → Walking s (stand (c .at) (t .count) n)
+          pub terminator-on : closesKept marks (t .nesting) ≡ false → Walking s (stand (c .at) (t .count .0) n)
           terminator-on k =
-              let i = terminator-inside e abbreviations look unit (t .at) c q in (
+              let i = terminator-inside e abbreviations look unit (t .at .at) c q in (
                 omega (arith, w .0, i .0),
                 λ stack u g.
                     let v = w .1 stack u g in
@@ -407,102 +415,102 @@ module _ (e : Encoding) (abbreviations : List ℕ) (look : ℕ → Found) (unit 
 
       -- ---- an entry, by the column of ends
 
-      module _ (h : t .at < length unit) (b : Number) (p : b ≡ lebAt uleb unit (t .at)) where
+      module _ (h : t .at .at < length unit) (b : Number) (p : b ≡ lebAt uleb unit (t .at .at)) where
         pub stop-none : b ≡ NoNumber → Answers items parents ends marks unit s End
-        stop-none q = end-bad (sym (step-none e abbreviations look unit (t .at) h b p q))
+        stop-none q = end-bad (sym (step-none e abbreviations look unit (t .at .at) h b p q))
 
         module _ (code : ℕ) (values : Cursor) (q : b ≡ Value code values) where
-          pub at-terminator : code ≡ 0 → stepAt e abbreviations look unit (t .at) ≡ Terminator values
-          at-terminator z = sym (step-terminator e abbreviations look unit (t .at) h b p code values q z)
+          pub at-terminator : code ≡ 0 → stepAt e abbreviations look unit (t .at .at) ≡ Terminator values
+          at-terminator z = sym (step-terminator e abbreviations look unit (t .at .at) h b p code values q z)
 
-          past-code : (t .at < values .at) × (values .at ≤ length unit)
-          past-code = uleb-inside unit (t .at) code values (sym p ∙ q)
+          past-code : (t .at .at < values .at) × (values .at ≤ length unit)
+          past-code = uleb-inside unit (t .at .at) code values (sym p ∙ q)
 
           module _ (z : code ≡ 0 → ⊥) where
             pub stop-unknown : (f : Found) → wholeFound abbreviations f ≡ look code → f ≡ Nothing → Answers items parents ends marks unit s End
-            stop-unknown f k l = end-bad (sym (step-unknown e abbreviations look unit (t .at) h b p code values q z f k l))
+            stop-unknown f k l = end-bad (sym (step-unknown e abbreviations look unit (t .at .at) h b p code values q z f k l))
 
-            stop-unless : ((x : CodedEntry (t .at) code values) (stack : List ℕ) → Stood items parents ends t stack → length unit < 2 ^ 32 → ⊥) → Answers items parents ends marks unit s End
+            stop-unless : ((x : CodedEntry (t .at .at) code values) (stack : List ℕ) → Stood items parents ends t stack → length unit < 2 ^ 32 → ⊥) → Answers items parents ends marks unit s End
             unfolding Forward
             stop-unless f =
                 record {
                   forward = tt;
                   next = λ stack u g.
                       ⊎-elim (λ x. let v = w .1 stack u g in absurd (f x (v .now) (v .stood) u)) (λ k. end-bad k .next stack u g)
-                      (coded (t .at) code values h b p q z);
+                      (coded (t .at .at) code values h b p q z);
                 }
 
-            pub stop-over : 4294967295 < t .count → Answers items parents ends marks unit s End
-            stop-over l = stop-unless (λ x stack g u. let i = step-inside e abbreviations look unit (t .at) (x .of) (x .is) in omega (arith, g .passed, i .coded, i .ahead, i .within))
+            pub stop-over : t .count .0 ≡ 4294967295 → Answers items parents ends marks unit s End
+            stop-over l = stop-unless (λ x stack g u. let i = step-inside e abbreviations look unit (t .at .at) (x .of) (x .is) in omega (arith, g .passed, i .coded, i .ahead, i .within))
 
-            module _ (n : ℕ) (is : n ≡ getD ends (t .count) 0) where
-              ends-at : (x : CodedEntry (t .at) code values) (stack : List ℕ) → Stood items parents ends t stack → n / 2 ≡ x .of .next .at
+            module _ (n : ℕ) (is : n ≡ getD ends (t .count .0) 0) where
+              ends-at : (x : CodedEntry (t .at .at) code values) (stack : List ℕ) → Stood items parents ends t stack → n / 2 ≡ x .of .next .at
               ends-at x stack g = ap (λ (m : ℕ). m / 2) (is ∙ entry-ends t (x .of) (x .is) (g .ends-hold) .0) ∙ half (x .of .next .at) (x .of .declaration .children)
 
-              opens : (x : CodedEntry (t .at) code values) (stack : List ℕ) → Stood items parents ends t stack → eqb (n % 2) 1 ≡ x .of .declaration .children
+              opens : (x : CodedEntry (t .at .at) code values) (stack : List ℕ) → Stood items parents ends t stack → eqb (n % 2) 1 ≡ x .of .declaration .children
               opens x stack g = ap (λ (m : ℕ). eqb (m % 2) 1) (is ∙ entry-ends t (x .of) (x .is) (g .ends-hold) .0) ∙ odd (x .of .next .at) (x .of .declaration .children)
 
               pub stop-low : n / 2 < values .at → Answers items parents ends marks unit s End
               stop-low l = stop-unless (λ x stack g u.
-                  let i = step-inside e abbreviations look unit (t .at) (x .of) (x .is) in
+                  let i = step-inside e abbreviations look unit (t .at .at) (x .of) (x .is) in
                   let k : x .of .values .at ≡ values .at = ap (λ (c : Cursor). c .at) (x .from) in
                   omega (arith, i .ahead, ends-at x stack g))
 
               pub stop-high : length unit < n / 2 → Answers items parents ends marks unit s End
               stop-high l = stop-unless (λ x stack g u.
-                  let i = step-inside e abbreviations look unit (t .at) (x .of) (x .is) in
+                  let i = step-inside e abbreviations look unit (t .at .at) (x .of) (x .is) in
                   omega (arith, i .within, ends-at x stack g))
 
               module _ (low : values .at ≤ n / 2) (high : n / 2 ≤ length unit) where
                 -- the column says of nothing that can't be read where it ends
-                there : (stack : List ℕ) → Stood items parents ends t stack → CodedEntry (t .at) code values
+                there : (stack : List ℕ) → Stood items parents ends t stack → CodedEntry (t .at .at) code values
                 unfolding EndsHeld
                 there stack g =
                     ⊎-elim (λ x. x)
                     (λ k.
-                    let y : getD ends (t .count) 0 ≡ 0 = subst (EndsHeld ends (t .count)) (items-bad (t .at) k) (g .ends-hold) in
+                    let y : getD ends (t .count .0) 0 ≡ 0 = subst (EndsHeld ends (t .count .0)) (items-bad (t .at .at) k) (g .ends-hold) in
                     let o : n ≡ 0 = is ∙ y in
-                    let a : t .at < values .at = past-code .0 in
+                    let a : t .at .at < values .at = past-code .0 in
                     absurd (omega arith))
-                    (coded (t .at) code values h b p q z)
+                    (coded (t .at .at) code values h b p q z)
 
-                pub ends-less : length unit - n / 2 < length unit - t .at
-                ends-less = let a : t .at < values .at = past-code .0 in omega arith
+                pub ends-less : length unit - n / 2 < length unit - t .at .at
+                ends-less = let a : t .at .at < values .at = past-code .0 in omega arith
 
-                module _ (m : Nesting) (o : m ≡ openedBy (eqb (n % 2) 1) (t .count) (t .nesting)) where
-                  pub ends-on : isKept marks (t .count) ≡ false → Walking s (stand (n / 2) (t .count + 1) m)
+                module _ (m : Nesting) (o : m ≡ openedBy (eqb (n % 2) 1) (t .count .0) (t .nesting)) where
+                  pub ends-on : isKept marks (t .count .0) ≡ false → Walking s (stand (n / 2) (t .count .0 + 1) m)
                   ends-on k = (
-                    let a : t .at < values .at = past-code .0 in omega (arith, w .0),
+                    let a : t .at .at < values .at = past-code .0 in omega (arith, w .0),
                     λ stack u g.
                         let v = w .1 stack u g in
-                        let x : CodedEntry (t .at) code values = there (v .now) (v .stood) in
-                        subst (λ (end : ℕ). Walked s stack (stand end (t .count + 1) m)) (sym (ends-at x (v .now) (v .stood)))
-                        (entry-on (x .of) (x .is) m (o ∙ ap (λ (c : Bool). openedBy c (t .count) (t .nesting)) (opens x (v .now) (v .stood))) k .1 stack u g),
+                        let x : CodedEntry (t .at .at) code values = there (v .now) (v .stood) in
+                        subst (λ (end : ℕ). Walked s stack (stand end (t .count .0 + 1) m)) (sym (ends-at x (v .now) (v .stood)))
+                        (entry-on (x .of) (x .is) m (o ∙ ap (λ (c : Bool). openedBy c (t .count .0) (t .nesting)) (opens x (v .now) (v .stood))) k .1 stack u g),
                   )
 
-                  pub ends-item : (f : Found) → wholeFound abbreviations f ≡ look code → (d : Declaration) → f ≡ Found′ d → isKept marks (t .count) ≡ true
+                  pub ends-item : (f : Found) → wholeFound abbreviations f ≡ look code → (d : Declaration) → f ≡ Found′ d → isKept marks (t .count .0) ≡ true
                       → Answers items parents ends marks unit s (Item′ (record {
-                        start = t .at;
-                        end = n / 2;
+                        start = record { 0 = t .at .at };
+                        end = record { at = n / 2 };
                         depth = t .nesting .depth;
                         «is_entry» = true;
                         specs = d .attributes;
                         values = values;
-                        next = stand (n / 2) (t .count + 1) m;
+                        next = stand (n / 2) (t .count .0 + 1) m;
                       }))
                   unfolding Forward
                   ends-item f k d l y =
                       record {
-                        forward = (w .0, (let a : t .at < values .at = past-code .0 in omega arith), high, refl);
+                        forward = (w .0, (let a : t .at .at < values .at = past-code .0 in omega arith), high, refl);
                         next = λ stack u g.
                             let v = w .1 stack u g in
-                            let x : CodedEntry (t .at) code values = there (v .now) (v .stood) in
+                            let x : CodedEntry (t .at .at) code values = there (v .now) (v .stood) in
                             let same : d ≡ x .of .declaration = whole-same abbreviations d (x .of .declaration) (ap (wholeFound abbreviations) (sym l) ∙ k ∙ x .declared) in
-                            subst (λ (end : ℕ). Next items parents ends marks s stack (Item′ (record { start = t .at; end = end; depth = t .nesting .depth; «is_entry» = true; specs = d .attributes; values = values; next = stand end (t .count + 1) m })))
+                            subst (λ (end : ℕ). Next items parents ends marks s stack (Item′ (record { start = record { 0 = t .at .at }; end = record { at = end }; depth = t .nesting .depth; «is_entry» = true; specs = d .attributes; values = values; next = stand end (t .count .0 + 1) m })))
                             (sym (ends-at x (v .now) (v .stood)))
-                            (subst (λ (c : Cursor). Next items parents ends marks s stack (Item′ (record { start = t .at; end = x .of .next .at; depth = t .nesting .depth; «is_entry» = true; specs = d .attributes; values = c; next = stand (x .of .next .at) (t .count + 1) m })))
+                            (subst (λ (c : Cursor). Next items parents ends marks s stack (Item′ (record { start = record { 0 = t .at .at }; end = x .of .next; depth = t .nesting .depth; «is_entry» = true; specs = d .attributes; values = c; next = stand (x .of .next .at) (t .count .0 + 1) m })))
                             (x .from)
-                            (subst (λ (c : Declaration). Next items parents ends marks s stack (Item′ (record { start = t .at; end = x .of .next .at; depth = t .nesting .depth; «is_entry» = true; specs = c .attributes; values = x .of .values; next = stand (x .of .next .at) (t .count + 1) m })))
+                            (subst (λ (c : Declaration). Next items parents ends marks s stack (Item′ (record { start = record { 0 = t .at .at }; end = x .of .next; depth = t .nesting .depth; «is_entry» = true; specs = c .attributes; values = x .of .values; next = stand (x .of .next .at) (t .count .0 + 1) m })))
                             (sym same)
-                            (entry-item (x .of) (x .is) m (o ∙ ap (λ (c : Bool). openedBy c (t .count) (t .nesting)) (opens x (v .now) (v .stood))) y .next stack u g)));
+                            (entry-item (x .of) (x .is) m (o ∙ ap (λ (c : Bool). openedBy c (t .count .0) (t .nesting)) (opens x (v .now) (v .stood))) y .next stack u g)));
                       }

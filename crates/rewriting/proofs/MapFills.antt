@@ -117,14 +117,14 @@ module _ (items : ℕ → List Item) (parents ends marks unit : List ℕ) (first
           }
 
       module _ (x : Kept) (q : r ≡ Item′ x) where
-        pub placing-more : (map′ : List ℕ) → length map′ ≡ length map → Puts map i (x .start) new (x .depth) map′ → Placing map′ (x .next) (i + 1) (new + (x .end - x .start))
+        pub placing-more : (map′ : List ℕ) → length map′ ≡ length map → Puts map i (x .start .0) new (x .depth) map′ → Placing map′ (x .next) (i + 1) (new + (x .end .at - x .start .0))
         unfolding placesFrom
         placing-more map′ l p =
             let g = next-forward items parents ends marks unit s r a x q in
-            let g0 : s .at ≤ x .start = g .0 in
-            let g1 : x .start < x .end = g .1 in
-            let g2 : x .end ≤ length unit = g .2 in
-            let g3 : x .next .at ≡ x .end = g .3 in
+            let g0 : s .at .at ≤ x .start .0 = g .0 in
+            let g1 : x .start .0 < x .end .at = g .1 in
+            let g2 : x .end .at ≤ length unit = g .2 in
+            let g3 : x .next .at .at ≡ x .end .at = g .3 in
             record {
               measuring = measuring-more items parents ends marks unit first s i new (f .measuring) r a x q;
               same = l ∙ f .same;
@@ -136,9 +136,9 @@ module _ (items : ℕ → List Item) (parents ends marks unit : List ℕ) (first
                   record {
                     stack = y .after;
                     stood = y .stood;
-                    done = withPlace (d .done) (place (x .start) new (x .depth));
+                    done = withPlace (d .done) (place (x .start .0) new (x .depth));
                     held = p (d .done) (d .held) (d .counted) w (omega arith) (omega (arith, f .measuring .passed)) (omega (arith, y .low));
-                    counted = (let e : length (d .done ++ (place (x .start) new (x .depth) ∷ [])) ≡ length (d .done) + 1 = length-append (d .done) (place (x .start) new (x .depth) ∷ []) in omega (arith, d .counted));
+                    counted = (let e : length (d .done ++ (place (x .start .0) new (x .depth) ∷ [])) ≡ length (d .done) + 1 = length-append (d .done) (place (x .start .0) new (x .depth) ∷ []) in omega (arith, d .counted));
                     many = omega (arith, d .many);
                     whole =
                         d .whole
@@ -146,6 +146,6 @@ module _ (items : ℕ → List Item) (parents ends marks unit : List ℕ) (first
                         ∙ ap₂ (λ (p : Place) (n : ℕ). d .done ++ (p ∷ placesFrom n (keptAt items parents ends marks (x .next) (y .after))))
                         (ap₂ (λ (o v : ℕ). place o new v) (shown-offset x (y .standing .item) (y .shows)) (sym (y .deep)))
                         (ap (λ (n : ℕ). new + n) (shown-size x (y .standing .item) (y .shows)))
-                        ∙ sym (append-assoc (d .done) (place (x .start) new (x .depth) ∷ []) (placesFrom (new + (x .end - x .start)) (keptAt items parents ends marks (x .next) (y .after))));
+                        ∙ sym (append-assoc (d .done) (place (x .start .0) new (x .depth) ∷ []) (placesFrom (new + (x .end .at - x .start .0)) (keptAt items parents ends marks (x .next) (y .after))));
                   };
             }

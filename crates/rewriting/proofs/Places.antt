@@ -9,8 +9,8 @@ use native.Mathlib.Numerals.{add-one}
 use native.Mathlib.Omega.{arith}
 use lib.ListN.{length, getD, drop, length-append}
 use lib.Seq.{drop-cons}
-use lib.Dec.{ltb, leb}
-use mir.Facts.{ltb-yes, yes-eqb, no-eqb}
+use lib.Dec.{ltb, leb, eqb}
+use mir.Facts.{ltb-yes, ltb-no, yes-ltb, no-ltb, yes-eqb, no-eqb, eqb-yes, eqb-no}
 use borrow.Author.Tests.{le-leb, lt-leb}
 use Rattle.readers.specs.Choice.{pick, _and_, pick-yes, pick-no, either}
 use Rattle.readers.specs.Numbers.{fixedBytes, length-fixed}
@@ -18,10 +18,11 @@ use Rattle.marking.specs.Resolution.{Ascending as From}
 use Rattle.rewriting.specs.Indices.{rankIn}
 use Rattle.rewriting.specs.Places.{Place, newOf, firstFrom, orElse, siblingOf}
 use Rattle.rewriting.specs.Maps.{oldOffsets}
-use Rattle.rewriting.specs.Written.{put, numberAt, Held, columns, MapHeld, place, withPlace, asMapped}
+use Rattle.rewriting.specs.Written.{put, numberAt, Held, columns, MapHeld, place, withPlace, asMapped, oldAt, newAt, depthAt, halved, foundAt, lookedUp}
+use Rattle.readers.specs.declared.offsets.UnitOffset.{UnitOffset}
 use Rattle.rewriting.specs.declared.map.Mapped.the-variants.{To, Nothing}
-use Rattle.rewriting.proofs.Tables.{held-at, held-more, length-put}
-use Rattle.rewriting.proofs.Ranks.{rank-is}
+use Rattle.rewriting.proofs.Tables.{in-room, room-in, no-room, held-at, held-more, length-put}
+use Rattle.rewriting.proofs.Ranks.{rank-is, rank-most, halved-rank}
 
 -- ---- columns
 
@@ -71,6 +72,19 @@ column-depth (p ∷ ps) zero = refl
 column-depth (p ∷ ps) (suc i) = ap (λ n. getD (p .old ∷ p .new ∷ p .depth ∷ columns ps) (suc (suc n)) 0) (three i) ∙ column-depth ps i
 
 -- ---- what is read at a place
+
+module _ (map : List ℕ) (i r : ℕ) where
+  pub old-there : r ≡ oldAt map i → i < length map / 12 → r ≡ numberAt 4 map (12 * i)
+  unfolding oldAt
+  old-there e h = in-room i (length map / 12) _ r e h
+
+  pub new-there : r ≡ newAt map i → i < length map / 12 → r ≡ numberAt 4 map (12 * i + 4)
+  unfolding newAt
+  new-there e h = in-room i (length map / 12) _ r e h
+
+  pub depth-there : r ≡ depthAt map i → i < length map / 12 → r ≡ numberAt 4 map (12 * i + 8)
+  unfolding depthAt
+  depth-there e h = in-room i (length map / 12) _ r e h
 
 module _ (ps : List Place) (map : List ℕ) (h : MapHeld ps map) (i : ℕ) (l : i < length ps) where
   at-column : (k at : ℕ) → k < 3 * length ps → at ≡ 4 * k → numberAt 4 map at ≡ getD (columns ps) k 0
@@ -154,15 +168,7 @@ module _ (ps : List Place) (map : List ℕ) (places old i o : ℕ) (h : MapHeld 
       new-absent ps old (λ j b k.
       let s : rankIn (oldOffsets ps) old ≡ j = rank-is (oldOffsets ps) old j (h .ascending) (omega (arith, length-olds ps)) (old-of ps j ∙ k) in omega arith)
 
-pub mapped-to : (ps : List Place) (old n : ℕ) → newOf ps old ≡ some n → To n ≡ asMapped (newOf ps old)
-unfolding asMapped
-mapped-to ps old n e = rw e
-
-pub mapped-nothing : (ps : List Place) (old : ℕ) → newOf ps old ≡ none → Nothing ≡ asMapped (newOf ps old)
-unfolding asMapped
-mapped-nothing ps old e = rw e
-
-pub sibling-to : (ps : List Place) (depth old n : ℕ) → newOf ps old ≡ some n → To n ≡ asMapped (siblingOf ps depth old)
+pub sibling-to : (ps : List Place) (depth old : ℕ) (n : UnitOffset) → newOf ps old ≡ some (n .0) → To n ≡ asMapped (siblingOf ps depth old)
 unfolding asMapped siblingOf orElse
 sibling-to ps depth old n e = rw e
 
@@ -193,3 +199,62 @@ place-put ps map map₁ map₂ map₃ i old new depth r f g k h e a b d =
 pub old-read : (map : List ℕ) (i r : ℕ) → (i < length map / 12 → r ≡ numberAt 4 map (12 * i)) → {places : ℕ} (ps : List Place) → MapHeld ps map → places ≡ length (oldOffsets ps)
     → i < length (oldOffsets ps) → r ≡ getD (oldOffsets ps) i 0
 old-read map i r f ps h e l = old-held ps map h i (omega (arith, length-olds ps)) r f ∙ sym (old-of ps i)
+
+-- ---- the search in any map
+
+pub has-there : (o a v : ℕ) → o ≡ a → eqb o v ≡ eqb a v
+has-there o a v e = ap (λ n. eqb n v) e
+
+module _ (map : List ℕ) (places i v : ℕ) where
+  found-there : (n : UnitOffset) → i < places → oldAt map i ≡ v → n .0 ≡ newAt map i → To n ≡ foundAt map places v i
+  unfolding foundAt
+  found-there n l e f = sym (pick-yes _ _ _ (yes-ltb {a = i} {b = places} l) ∙ pick-yes _ _ _ (yes-eqb {a = oldAt map i} {b = v} e) ∙ ap (λ k. To (record { 0 = k })) (sym f))
+
+  found-other : i < places → (oldAt map i ≡ v → ⊥) → Nothing ≡ foundAt map places v i
+  unfolding foundAt
+  found-other l e = sym (pick-yes _ _ _ (yes-ltb {a = i} {b = places} l) ∙ pick-no _ _ _ (no-eqb {a = oldAt map i} {b = v} e))
+
+  found-beyond : places ≤ i → Nothing ≡ foundAt map places v i
+  unfolding foundAt
+  found-beyond l = sym (pick-no _ _ _ (no-ltb {a = i} {b = places} l))
+
+module _ (map : List ℕ) (places i v : ℕ) (is : i ≡ halved places (oldAt map) v 0 places) where
+  pub looked-there : (n : UnitOffset) → i < places → oldAt map i ≡ v → n .0 ≡ newAt map i → To n ≡ lookedUp map places v
+  unfolding lookedUp
+  looked-there n l e f = found-there map places i v n l e f ∙ ap (foundAt map places v) is
+
+  pub looked-other : i < places → (oldAt map i ≡ v → ⊥) → Nothing ≡ lookedUp map places v
+  unfolding lookedUp
+  looked-other l e = found-other map places i v l e ∙ ap (foundAt map places v) is
+
+  pub looked-beyond : places ≤ i → Nothing ≡ lookedUp map places v
+  unfolding lookedUp
+  looked-beyond l = found-beyond map places i v l ∙ ap (foundAt map places v) is
+
+-- in a map that holds places: the rank, and the new offset
+pub rank-held : (ps : List Place) (map : List ℕ) (places v : ℕ) → MapHeld ps map → places ≡ length ps → halved places (oldAt map) v 0 places ≡ rankIn (oldOffsets ps) v
+rank-held ps map places v h e =
+    let s : places ≡ length (oldOffsets ps) = e ∙ sym (length-olds ps) in
+    halved-rank (oldAt map) v (oldOffsets ps) (h .ascending)
+    (λ i l. old-read map i (oldAt map i) (old-there map i (oldAt map i) refl) {places = places} ps h s l)
+    places 0 places (omega arith) (omega arith) (let r : rankIn (oldOffsets ps) v ≤ length (oldOffsets ps) = rank-most (oldOffsets ps) v in omega arith) (omega arith)
+
+pub looked-held : (ps : List Place) (map : List ℕ) (places v : ℕ) → MapHeld ps map → places ≡ length ps → lookedUp map places v ≡ asMapped (newOf ps v)
+unfolding lookedUp foundAt asMapped
+looked-held ps map places v h e =
+    let i : ℕ = halved places (oldAt map) v 0 places in
+    let r : i ≡ rankIn (oldOffsets ps) v = rank-held ps map places v h e in
+    let o : i < length map / 12 → oldAt map i ≡ numberAt 4 map (12 * i) = old-there map i (oldAt map i) refl in
+    ⊎-elim
+    (λ t. let l : i < places = ltb-yes {a = i} {b = places} t in
+    pick-yes _ _ _ t
+    ∙ ⊎-elim
+    (λ u. let q : oldAt map i ≡ v = eqb-yes {a = oldAt map i} {b = v} u in
+    let f : newOf ps v ≡ some (newAt map i) = found-new ps map places v i (oldAt map i) h e l o (newAt map i) q (new-there map i (newAt map i) refl) in
+    pick-yes _ _ _ u ∙ sym (ap asMapped f))
+    (λ u. let f : newOf ps v ≡ none = other-none ps map places v i (oldAt map i) h e l o r (λ q. eqb-no {a = oldAt map i} {b = v} u q) in
+    pick-no _ _ _ u ∙ sym (ap asMapped f))
+    (either (eqb (oldAt map i) v)))
+    (λ t. let f : newOf ps v ≡ none = beyond-none ps map places v i 0 h e (ltb-no {a = i} {b = places} t) r in
+    pick-no _ _ _ t ∙ sym (ap asMapped f))
+    (either (ltb i places))

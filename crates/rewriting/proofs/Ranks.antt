@@ -1,15 +1,17 @@
 -- A rank by binary search.
 use Prim.Native.Nat.{ℕ, zero, suc, _+_, _-_, _/_, _≤_, _<_}
-use mathlib.Core.Path.{_≡_, ap, _∙_}
+use mathlib.Core.Path.{_≡_, refl, ap, sym, _∙_}
 use mathlib.Core.List.{List, [], _∷_}
+use mathlib.Core.Logic.{⊎-elim}
 use native.Mathlib.Omega.{arith}
 use lib.ListN.{length, getD}
 use lib.Dec.{ltb}
 use mir.Facts.{ltb-yes, ltb-no, yes-ltb, no-ltb}
-use Rattle.readers.specs.Choice.{pick-either, pick-yes, pick-no}
+use Rattle.readers.specs.Choice.{pick, pick-either, pick-yes, pick-no, either}
 use Rattle.marking.specs.Resolution.{Ascending as From}
 use Rattle.rewriting.specs.Ascending.{Ascending}
 use Rattle.rewriting.specs.Indices.{rankIn}
+use Rattle.rewriting.specs.Written.{halved}
 
 pub rank-most : (xs : List ℕ) (v : ℕ) → rankIn xs v ≤ length xs
 unfolding rankIn
@@ -99,3 +101,81 @@ module _ {A : Type 0} where
 
     pub ranking-done : (low high : ℕ) → Ranking Held numbers count value low high → high ≤ low → (a : A) → Held a → count ≡ length (numbers a) → low ≡ rankIn (numbers a) value
     ranking-done low high p l a q e = omega (arith, p .found a q e .0, p .found a q e .1)
+
+-- ---- the search in any table
+
+module _ (at : ℕ → ℕ) (v : ℕ) where
+  halved-over : (n low high : ℕ) → high ≤ low → halved n at v low high ≡ low
+  unfolding halved
+  halved-over zero low high l = refl
+  halved-over (suc n) low high l = pick-no _ _ _ (no-ltb {a = low} {b = high} l)
+
+  module _ (n low high middle : ℕ) (l : low < high) (m : middle ≡ low + (high - low) / 2) where
+    opened : halved (suc n) at v low high ≡ pick (ltb (at middle) v) (halved n at v (middle + 1) high) (halved n at v low middle)
+    unfolding halved
+    opened = pick-yes _ _ _ (yes-ltb {a = low} {b = high} l) ∙ ap (λ k. pick (ltb (at k) v) (halved n at v (k + 1) high) (halved n at v low k)) (sym m)
+
+    halved-right : at middle < v → halved (suc n) at v low high ≡ halved n at v (middle + 1) high
+    halved-right h = opened ∙ pick-yes _ _ _ (yes-ltb {a = at middle} {b = v} h)
+
+    halved-left : v ≤ at middle → halved (suc n) at v low high ≡ halved n at v low middle
+    halved-left h = opened ∙ pick-no _ _ _ (no-ltb {a = at middle} {b = v} h)
+
+  halved-enough : (n m low high : ℕ) → high - low ≤ n → high - low ≤ m → halved n at v low high ≡ halved m at v low high
+  halved-enough zero m low high a b = halved-over 0 low high (omega arith) ∙ sym (halved-over m low high (omega arith))
+  halved-enough (suc n) zero low high a b = halved-over (suc n) low high (omega arith) ∙ sym (halved-over 0 low high (omega arith))
+  halved-enough (suc n) (suc m) low high a b =
+      ⊎-elim
+      (λ t.
+      let l : low < high = ltb-yes {a = low} {b = high} t in
+      let middle : ℕ = low + (high - low) / 2 in
+      ⊎-elim
+      (λ u. let h : at middle < v = ltb-yes {a = at middle} {b = v} u in
+      halved-right n low high middle l refl h ∙ halved-enough n m (middle + 1) high (omega arith) (omega arith) ∙ sym (halved-right m low high middle l refl h))
+      (λ u. let h : v ≤ at middle = ltb-no {a = at middle} {b = v} u in
+      halved-left n low high middle l refl h ∙ halved-enough n m low middle (omega arith) (omega arith) ∙ sym (halved-left m low high middle l refl h))
+      (either (ltb (at middle) v)))
+      (λ t. let l : high ≤ low = ltb-no {a = low} {b = high} t in halved-over (suc n) low high l ∙ sym (halved-over (suc m) low high l))
+      (either (ltb low high))
+
+  -- after some turns
+  pub record Halving (count low high : ℕ) : Type 0 where
+    pub order : low ≤ high
+    pub top : high ≤ count
+    pub found : (n : ℕ) → high - low ≤ n → halved count at v 0 count ≡ halved n at v low high
+
+  pub halving-start : (count : ℕ) → Halving count 0 count
+  halving-start count = record { order = omega arith; top = omega arith; found = λ n h. halved-enough count n 0 count (omega arith) h }
+
+  module _ (count low high middle r : ℕ) (p : Halving count low high) (l : low < high) (m : middle ≡ low + (high - low) / 2) (is : r ≡ at middle) where
+    pub halving-right : r < v → Halving count (middle + 1) high
+    halving-right h =
+        record { order = omega arith; top = p .top; found = λ n k. p .found (suc (high - low)) (omega arith) ∙ halved-right (high - low) low high middle l m (omega arith) ∙ halved-enough (high - low) n (middle + 1) high (omega arith) k }
+
+    pub halving-left : v ≤ r → Halving count low middle
+    halving-left h =
+        record { order = omega arith; top = omega (arith, p .top); found = λ n k. p .found (suc (high - low)) (omega arith) ∙ halved-left (high - low) low high middle l m (omega arith) ∙ halved-enough (high - low) n low middle (omega arith) k }
+
+  pub halving-done : (count low high : ℕ) → Halving count low high → high ≤ low → low ≡ halved count at v 0 count
+  halving-done count low high p l = sym (p .found 0 (omega arith) ∙ halved-over 0 low high l)
+
+  -- where the numbers ascend it is the rank
+  pub halved-rank : (xs : List ℕ) → Ascending xs → ((i : ℕ) → i < length xs → at i ≡ getD xs i 0) → (n low high : ℕ) → high - low ≤ n → low ≤ rankIn xs v → rankIn xs v ≤ high → high ≤ length xs
+      → halved n at v low high ≡ rankIn xs v
+  halved-rank xs f is zero low high a b c d = halved-over 0 low high (omega arith) ∙ (let e : low ≡ rankIn xs v = omega arith in e)
+  halved-rank xs f is (suc n) low high a b c d =
+      ⊎-elim
+      (λ t.
+      let l : low < high = ltb-yes {a = low} {b = high} t in
+      let middle : ℕ = low + (high - low) / 2 in
+      let s : at middle ≡ getD xs middle 0 = is middle (omega arith) in
+      ⊎-elim
+      (λ u. let h : at middle < v = ltb-yes {a = at middle} {b = v} u in
+      let k : middle < rankIn xs v = rank-above xs v middle f (omega arith) (omega arith) in
+      halved-right n low high middle l refl h ∙ halved-rank xs f is n (middle + 1) high (omega arith) (omega arith) c d)
+      (λ u. let h : v ≤ at middle = ltb-no {a = at middle} {b = v} u in
+      let k : rankIn xs v ≤ middle = rank-below xs v middle (omega arith) (omega arith) in
+      halved-left n low high middle l refl h ∙ halved-rank xs f is n low middle (omega arith) b k (omega arith))
+      (either (ltb (at middle) v)))
+      (λ t. let l : high ≤ low = ltb-no {a = low} {b = high} t in halved-over (suc n) low high l ∙ (let e : low ≡ rankIn xs v = omega arith in e))
+      (either (ltb low high))

@@ -34,7 +34,8 @@ use Rattle.rewriting.specs.RefusalNumbers.{RoomyRefusal}
 use Rattle.rewriting.specs.RoomLaws.{ListsWithin, Within, ListShort, roomFor, noRoom, needOf, IsAccepted, RoomLaw, Needs, TooShort, indexCount, unitRoom, declaredRoom, headerRoom, enoughRoom}
 use Rattle.rewriting.proofs.Maps.{places-length}
 use Rattle.rewriting.proofs.Sizes.{sizes-divided}
-use Rattle.rewriting.proofs.Accepted.{unitOf, survivorsIn, Accepted, marks-each, kept-most, WasRewritten, WasUntouched, was-untouched, was-empty}
+use Rattle.rewriting.proofs.Accepted.{unitOf, survivorsIn, Accepted, kept-most, WasRewritten, WasUntouched, was-untouched, was-empty}
+use Rattle.marking.proofs.UnitLaws.{marks-each}
 use Rattle.rewriting.proofs.CollectLaws.{it, again-law}
 use Rattle.rewriting.proofs.Refusals.{values-late, late-value}
 

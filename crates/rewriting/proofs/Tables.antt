@@ -1,5 +1,5 @@
 -- Tables of big-endian numbers: what is read at a place, and what a write at a place makes of them.
-use Prim.Native.Nat.{ℕ, zero, suc, _+_, _-_, _*_, _^_, _≤_, _<_}
+use Prim.Native.Nat.{ℕ, zero, suc, _+_, _-_, _*_, _/_, _^_, _≤_, _<_}
 use mathlib.Core.Path.{_≡_, refl, ap, ap₂, sym, _∙_}
 use mathlib.Core.Bool.{true}
 use mathlib.Core.List.{List, [], _∷_, _++_, append-assoc, append-nil}
@@ -9,10 +9,11 @@ use native.Mathlib.Numerals.{add-one}
 use native.Mathlib.Omega.{arith}
 use lib.ListN.{length, getD, take, drop, length-append, length-drop, length-replicate, take-append-drop}
 use lib.Seq.{take-at, drop-at, drop-append-add, length-take-le}
-use Rattle.readers.specs.Choice.{zeros}
+use mir.Facts.{yes-ltb, no-ltb}
+use Rattle.readers.specs.Choice.{pick-yes, pick-no, zeros}
 use Rattle.readers.specs.Numbers.{fixedBytes, fixedValue, length-fixed, fixed-value}
 use Rattle.marking.specs.Members.{Member, here, there}
-use Rattle.rewriting.specs.Written.{put, numberAt, runBytes, Held}
+use Rattle.rewriting.specs.Written.{put, numberAt, inRoom, runBytes, Held}
 use Rattle.marking.proofs.Members.{nothing-in}
 use Rattle.rewriting.proofs.Putting.{drop-zeros}
 
@@ -22,6 +23,23 @@ Small n xs = (v : ℕ) → Member v xs → v < n
 
 pub small-tail : (n x : ℕ) (xs : List ℕ) → Small n (x ∷ xs) → Small n xs
 small-tail n x xs h v m = h v (there m)
+
+-- what is read at a place, and where there is none
+pub in-room : (i n x r : ℕ) → r ≡ inRoom i n x → i < n → r ≡ x
+unfolding inRoom
+in-room i n x r e h = e ∙ pick-yes _ _ _ (yes-ltb {a = i} {b = n} h)
+
+pub room-in : (i n x r : ℕ) → i < n → r ≡ x → r ≡ inRoom i n x
+unfolding inRoom
+room-in i n x r h e = e ∙ sym (pick-yes _ _ _ (yes-ltb {a = i} {b = n} h))
+
+pub no-room : (i n x : ℕ) → n ≤ i → 0 ≡ inRoom i n x
+unfolding inRoom
+no-room i n x h = sym (pick-no _ _ _ (no-ltb {a = i} {b = n} h))
+
+-- of an index list
+pub number-there : (list : List ℕ) (i r : ℕ) → r ≡ inRoom i (length list / 8) (numberAt 8 list (8 * i)) → i < length list / 8 → r ≡ numberAt 8 list (8 * i)
+number-there list i r e h = in-room i (length list / 8) _ r e h
 
 module _ (w : ℕ) where
   pub length-run : (xs : List ℕ) → length (runBytes w xs) ≡ w * length xs

@@ -35,12 +35,12 @@ itemsBy r abbreviations index unit at = itemsFrom (r .encoding) abbreviations (f
 
 -- what an answer shows of an item
 unfoldable pub ShowsItem : Kept → Item → Type 0
-ShowsItem x (entry y) = (x .«is_entry» ≡ true) × (x .start ≡ y .offset .0) × (x .end ≡ y .next .at) × (x .specs ≡ y .declaration .attributes) × (x .values ≡ y .values)
-ShowsItem x (terminator a b) = (x .«is_entry» ≡ false) × (x .start ≡ a) × (x .end ≡ b)
+ShowsItem x (entry y) = (x .«is_entry» ≡ true) × (x .start .0 ≡ y .offset .0) × (x .end .at ≡ y .next .at) × (x .specs ≡ y .declaration .attributes) × (x .values ≡ y .values)
+ShowsItem x (terminator a b) = (x .«is_entry» ≡ false) × (x .start .0 ≡ a) × (x .end .at ≡ b)
 
 -- an item takes some bytes of the unit, and the pass goes on after it
 unfoldable pub Forward : List ℕ → ℕ → KeptStep → Type 0
-Forward unit at (Item′ x) = (at ≤ x .start) × (x .start < x .end) × (x .end ≤ length unit) × (x .next .at ≡ x .end)
+Forward unit at (Item′ x) = (at ≤ x .start .0) × (x .start .0 < x .end .at) × (x .end .at ≤ length unit) × (x .next .at .at ≡ x .end .at)
 Forward unit at End = Unit {0}
 
 module _ (items : ℕ → List Item) (parents ends : List ℕ) where
@@ -48,15 +48,15 @@ module _ (items : ℕ → List Item) (parents ends : List ℕ) where
   pub record Stood (s : Stand) (stack : List ℕ) : Type 0 where
     pub nested : s .nesting ≡ nestingOf stack
     pub chained : Chained parents stack
-    pub counted : length stack ≤ s .count
-    pub passed : s .count ≤ s .at
-    pub holds : HoldsFrom parents (s .count) (parentsFrom (s .count) stack (items (s .at)))
-    pub ends-hold : EndsHeld ends (s .count) (items (s .at))
+    pub counted : length stack ≤ s .count .0
+    pub passed : s .count .0 ≤ s .at .at
+    pub holds : HoldsFrom parents (s .count .0) (parentsFrom (s .count .0) stack (items (s .at .at)))
+    pub ends-hold : EndsHeld ends (s .count .0) (items (s .at .at))
 
   module _ (marks : List ℕ) where
     -- what is kept from here on
     abbrev pub keptAt : Stand → List ℕ → List Standing
-    keptAt s stack = keptFrom marks (s .count) (openKept marks stack) (items (s .at))
+    keptAt s stack = keptFrom marks (s .count .0) (openKept marks stack) (items (s .at .at))
 
     -- the next kept item, and where the pass stands after it
     pub record NextItem (s : Stand) (stack : List ℕ) (x : Kept) : Type 0 where
@@ -65,7 +65,7 @@ module _ (items : ℕ → List Item) (parents ends : List ℕ) where
       pub whole : keptAt s stack ≡ standing ∷ keptAt (x .next) after
       pub shows : ShowsItem x (standing .item)
       pub deep : x .depth ≡ standing .depth
-      pub low : x .depth ≤ x .start
+      pub low : x .depth ≤ x .start .0
       pub stood : Stood (x .next) after
 
     unfoldable pub Next : Stand → List ℕ → KeptStep → Type 0
@@ -74,5 +74,5 @@ module _ (items : ℕ → List Item) (parents ends : List ℕ) where
 
     -- THE answer, of units below 4 GiB
     pub record Answers (unit : List ℕ) (s : Stand) (r : KeptStep) : Type 0 where
-      pub forward : Forward unit (s .at) r
+      pub forward : Forward unit (s .at .at) r
       pub next : (stack : List ℕ) → length unit < 2 ^ 32 → Stood s stack → Next s stack r

@@ -1,11 +1,11 @@
 -- What the writers leave: numbers at the start of a part of the output, index lists and maps as bytes.
 use mathlib.Core.Path.{_≡_}
-use Prim.Native.Nat.{ℕ, _+_, _*_, _-_, _^_, _/_, _≤_, _<_}
+use Prim.Native.Nat.{ℕ, zero, suc, _+_, _*_, _-_, _^_, _/_, _≤_, _<_}
 use mathlib.Core.Bool.{Bool, true}
 use mathlib.Core.List.{List, [], _∷_, _++_}
 use mathlib.Core.Option.{Option, none, some}
 use lib.ListN.{length, take, drop}
-use lib.Dec.{ltb, leb}
+use lib.Dec.{ltb, leb, eqb}
 use Rattle.readers.specs.Choice.{pick, _and_, zeros}
 use Rattle.readers.specs.Numbers.{padded, fixedBytes, fixedValue}
 use Rattle.marking.specs.Members.{Member}
@@ -58,6 +58,10 @@ put xs n ys = take n xs ++ (ys ++ drop (n + length ys) xs)
 unfoldable pub numberAt : ℕ → List ℕ → ℕ → ℕ
 numberAt width s at = fixedValue true (take width (drop at s))
 
+-- what a table has at place i of its n places; 0 where there is no such place
+unfoldable pub inRoom : ℕ → ℕ → ℕ → ℕ
+inRoom i n x = pick (ltb i n) x 0
+
 -- numbers of so many bytes each
 unfoldable pub runBytes : ℕ → List ℕ → List ℕ
 runBytes width [] = []
@@ -105,4 +109,28 @@ pub record MapHeld (ps : List Place) (bytes : List ℕ) : Type 0 where
 
 unfoldable pub asMapped : Option ℕ → Mapped
 asMapped none = Nothing
-asMapped (some n) = To n
+asMapped (some n) = To (record { 0 = n })
+
+-- what any map has at a place: old offset, new offset, depth
+unfoldable pub oldAt : List ℕ → ℕ → ℕ
+oldAt map i = inRoom i (length map / 12) (numberAt 4 map (12 * i))
+
+unfoldable pub newAt : List ℕ → ℕ → ℕ
+newAt map i = inRoom i (length map / 12) (numberAt 4 map (12 * i + 4))
+
+unfoldable pub depthAt : List ℕ → ℕ → ℕ
+depthAt map i = inRoom i (length map / 12) (numberAt 4 map (12 * i + 8))
+
+-- where the halving of the places from low to high ends, by what is read at each: where the numbers ascend, at the first that is not below v. n halvings are enough for n places.
+unfoldable pub halved : ℕ → (ℕ → ℕ) → ℕ → ℕ → ℕ → ℕ
+halved zero at v low high = low
+halved (suc n) at v low high =
+    pick (ltb low high) (pick (ltb (at (low + (high - low) / 2)) v) (halved n at v (low + (high - low) / 2 + 1) high) (halved n at v low (low + (high - low) / 2))) low
+
+-- what is found at place i of the first places of a map
+unfoldable pub foundAt : List ℕ → ℕ → ℕ → ℕ → Mapped
+foundAt map places v i = pick (ltb i places) (pick (eqb (oldAt map i) v) (To (record { 0 = newAt map i })) Nothing) Nothing
+
+-- the new offset of an old one, by the first places of any map
+unfoldable pub lookedUp : List ℕ → ℕ → ℕ → Mapped
+lookedUp map places v = foundAt map places v (halved places (oldAt map) v 0 places)

@@ -31,6 +31,7 @@ use readers::header::HeaderRead;
 use readers::header::UnitHeader;
 use readers::header::unit_header;
 use readers::header::unit_part;
+use readers::offsets::UnitOffset;
 use readers::tables::clear;
 
 // What an accepted answer counts: entries, kept ones, map places, output bytes (both 0 where untouched), and the numbers of each list.
@@ -119,13 +120,13 @@ fn index_lists(
     parents: &[u32],
     ends: &[u64],
     marks: &[u8],
-    first: usize,
+    first: UnitOffset,
     type_units: bool,
     range_list: &mut [u8],
     location_list: &mut [u8],
     string_list: &mut [u8],
 ) -> Listed
-    ensures { λ c. ⌜ ((x : Sections) (u : Unit′) → Passable x u r (now (abbreviations .entry)) (now (index .entry)) (now (unit .entry)) (now (parents .entry)) (now (ends .entry)) (now (marks .entry)) first → first ≡ u .header .first .0 → now («range_list» .entry) ≡ zeros (length (now («range_list» .entry))) → now («location_list» .entry) ≡ zeros (length (now («location_list» .entry))) → now («string_list» .entry) ≡ zeros (length (now («string_list» .entry))) → ListsAnswer (listsOf x u «type_units» (keptFrom (now (marks .entry)) 0 [] (itemsIn x u))) (length (now («range_list» .entry))) (length (now («location_list» .entry))) (length (now («string_list» .entry))) c (now («range_list» .exit)) (now («location_list» .exit)) (now («string_list» .exit))) ⌝ }
+    ensures { λ c. ⌜ ((x : Sections) (u : Unit′) → Passable x u r (now (abbreviations .entry)) (now (index .entry)) (now (unit .entry)) (now (parents .entry)) (now (ends .entry)) (now (marks .entry)) (first .0) → first .0 ≡ u .header .first .0 → now («range_list» .entry) ≡ zeros (length (now («range_list» .entry))) → now («location_list» .entry) ≡ zeros (length (now («location_list» .entry))) → now («string_list» .entry) ≡ zeros (length (now («string_list» .entry))) → ListsAnswer (listsOf x u «type_units» (keptFrom (now (marks .entry)) 0 [] (itemsIn x u))) (length (now («range_list» .entry))) (length (now («location_list» .entry))) (length (now («string_list» .entry))) c (now («range_list» .exit)) (now («location_list» .exit)) (now («string_list» .exit))) ⌝ }
 {
     if type_units {
         return Listed::Made {
@@ -202,7 +203,7 @@ fn write_unit(
     parents: &[u32],
     ends: &[u64],
     marks: &[u8],
-    first: usize,
+    first: UnitOffset,
     entries: usize,
     kept: usize,
     range_list: &[u8],
@@ -215,7 +216,7 @@ fn write_unit(
     map: &mut [u8],
     out: &mut [u8],
 ) -> Collected
-    ensures { λ c. ⌜ ((x : Sections) (u : Unit′) (lists : Lists) (room : Room) → Passable x u r (now (abbreviations .entry)) (now (index .entry)) (now (unit .entry)) (now (parents .entry)) (now (ends .entry)) (now (marks .entry)) first → Lends lists (now («range_list» .entry)) ranges (now («location_list» .entry)) locations (now («string_list» .entry)) strings → Writable u room (now (unit .entry)) first (now (map .entry)) (now (out .entry)) → WriteAnswer (rewriteOf x room u entries kept lists (keptFrom (now (marks .entry)) 0 [] (itemsIn x u))) c (length (now (map .entry))) (length (now (out .entry))) (now (map .exit)) (now (out .exit))) ⌝ }
+    ensures { λ c. ⌜ ((x : Sections) (u : Unit′) (lists : Lists) (room : Room) → Passable x u r (now (abbreviations .entry)) (now (index .entry)) (now (unit .entry)) (now (parents .entry)) (now (ends .entry)) (now (marks .entry)) (first .0) → Lends lists (now («range_list» .entry)) ranges (now («location_list» .entry)) locations (now («string_list» .entry)) strings → Writable u room (now (unit .entry)) (first .0) (now (map .entry)) (now (out .entry)) → WriteAnswer (rewriteOf x room u entries kept lists (keptFrom (now (marks .entry)) 0 [] (itemsIn x u))) c (length (now (map .entry))) (length (now (out .entry))) (now (map .exit)) (now (out .exit))) ⌝ }
 {
     let size = place_items(
         unit,
@@ -235,7 +236,7 @@ fn write_unit(
         return Collected::Refused(14);
     }
     fill_bounds(map, size.places, work);
-    let at = emit_header(unit, first, size.bytes, out);
+    let at = emit_header(unit, first.0 as usize, size.bytes, out);
     match emit_dies(
         unit,
         abbreviations,
@@ -244,7 +245,7 @@ fn write_unit(
         parents,
         ends,
         marks,
-        first,
+        first.0 as usize,
         map,
         size.places,
         work,
@@ -298,8 +299,7 @@ fn rewrite_unit(
         encoding,
     };
     let unit = unit_part(section, h);
-    let start = h.first;
-    let first = start.0 as usize;
+    let first = h.first;
     fill_ends(unit, abbreviations, r, index, first, ends);
     match index_lists(
         unit,

@@ -35,6 +35,7 @@ use readers::cursor::Cursor;
 use readers::cursor::Encoding;
 use readers::expressions::Yield;
 use readers::fields::Field;
+use readers::offsets::UnitOffset;
 
 // How many bytes were written, or the number of a refusal.
 pub enum Emitted {
@@ -98,7 +99,7 @@ fn emit_offset(new: Mapped, width: usize, leb: bool, out: &mut [u8]) -> Emitted
     ensures bytes { λ r. ⌜ ((o : Option ℕ) (v : ℕ) → new ≡ asMapped o → Wide leb width → Emits (offsetRefusal (encodedBy leb width) v o) (numberBytes false (encodedBy leb width) (orSelf v o)) (now (out .entry)) r (now (out .exit))) ⌝ }
 {
     match new {
-        Mapped::To(value) => emit_number(value, width, leb, out),
+        Mapped::To(value) => emit_number(value.0, width, leb, out),
         Mapped::Nothing => Emitted::Refused(8),
     }
 }
@@ -134,7 +135,7 @@ fn emit_expression(s: &[u8], e: Encoding, map: &[u8], places: usize, out: &mut [
         let n = emit_bytes(bytes_between(s, copied, r.place), &mut out[to..]);
         to += n;
         match emit_offset(
-            new_offset(map, places, target.0),
+            new_offset(map, places, target),
             r.width,
             r.leb,
             &mut out[to..],
@@ -249,7 +250,7 @@ fn emit_attribute(
                 return after(
                     to,
                     emit_offset(
-                        sibling_offset(map, places, bounds, field.value, depth),
+                        sibling_offset(map, places, bounds, UnitOffset(field.value), depth),
                         width(field),
                         leb,
                         &mut out[to..],
@@ -259,7 +260,7 @@ fn emit_attribute(
             return after(
                 to,
                 emit_offset(
-                    new_offset(map, places, field.value),
+                    new_offset(map, places, UnitOffset(field.value)),
                     width(field),
                     leb,
                     &mut out[to..],

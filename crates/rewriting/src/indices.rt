@@ -33,6 +33,8 @@ use readers::cursor::Cursor;
 use readers::cursor::Encoding;
 use readers::entries::Nesting;
 use readers::entries::Step;
+use readers::offsets::EntryIndex;
+use readers::offsets::UnitOffset;
 
 // Whether an entry declares an attribute of a name in sec_offset.
 fn entry_declares(
@@ -76,14 +78,16 @@ fn any_declares(
     abbreviations: &[u8],
     r: Reading,
     index: &[u64],
-    first: usize,
+    first: UnitOffset,
     name: u64,
 ) -> bool
-    ensures { λ b. ⌜ ((x : Sections) (u : Unit′) → ReadAs x u r (now (abbreviations .entry)) (now (unit .entry)) → b ≡ anyDeclares x u name (itemsBy r (now (abbreviations .entry)) (now (index .entry)) (now (unit .entry)) first)) ⌝ }
+    ensures { λ b. ⌜ ((x : Sections) (u : Unit′) → ReadAs x u r (now (abbreviations .entry)) (now (unit .entry)) → b ≡ anyDeclares x u name (itemsBy r (now (abbreviations .entry)) (now (index .entry)) (now (unit .entry)) (first .0))) ⌝ }
 {
-    let mut at = first;
+    let mut at = Cursor {
+        at: first.0 as usize,
+    };
     loop {
-        match (Cursor { at }).step(unit, abbreviations, r.from, index, r.encoding) {
+        match at.step(unit, abbreviations, r.from, index, r.encoding) {
             Step::Entry(x) => {
                 let declaration = x.declaration;
                 let next = x.next;
@@ -97,10 +101,10 @@ fn any_declares(
                 ) {
                     return true;
                 }
-                at = next.at;
+                at = next;
             }
             Step::Terminator(next) => {
-                at = next.at;
+                at = next;
             }
             Step::End => {
                 return false;
@@ -229,19 +233,21 @@ fn gather(
     parents: &[u32],
     ends: &[u64],
     marks: &[u8],
-    first: usize,
+    first: UnitOffset,
     ordered: bool,
     range_list: &mut [u8],
     location_list: &mut [u8],
     string_list: &mut [u8],
 ) -> Lengths
-    ensures ranges { λ n. ⌜ Gathers 0 ordered r (now (abbreviations .entry)) (now (index .entry)) (now (unit .entry)) (now (parents .entry)) (now (ends .entry)) (now (marks .entry)) first (now («range_list» .entry)) (n .ranges) (now («range_list» .exit)) ⌝ }
-    ensures locations { λ n. ⌜ Gathers 1 ordered r (now (abbreviations .entry)) (now (index .entry)) (now (unit .entry)) (now (parents .entry)) (now (ends .entry)) (now (marks .entry)) first (now («location_list» .entry)) (n .locations) (now («location_list» .exit)) ⌝ }
-    ensures strings { λ n. ⌜ Gathers 2 ordered r (now (abbreviations .entry)) (now (index .entry)) (now (unit .entry)) (now (parents .entry)) (now (ends .entry)) (now (marks .entry)) first (now («string_list» .entry)) (n .strings) (now («string_list» .exit)) ⌝ }
+    ensures ranges { λ n. ⌜ Gathers 0 ordered r (now (abbreviations .entry)) (now (index .entry)) (now (unit .entry)) (now (parents .entry)) (now (ends .entry)) (now (marks .entry)) (first .0) (now («range_list» .entry)) (n .ranges) (now («range_list» .exit)) ⌝ }
+    ensures locations { λ n. ⌜ Gathers 1 ordered r (now (abbreviations .entry)) (now (index .entry)) (now (unit .entry)) (now (parents .entry)) (now (ends .entry)) (now (marks .entry)) (first .0) (now («location_list» .entry)) (n .locations) (now («location_list» .exit)) ⌝ }
+    ensures strings { λ n. ⌜ Gathers 2 ordered r (now (abbreviations .entry)) (now (index .entry)) (now (unit .entry)) (now (parents .entry)) (now (ends .entry)) (now (marks .entry)) (first .0) (now («string_list» .entry)) (n .strings) (now («string_list» .exit)) ⌝ }
 {
     let mut s = Stand {
-        at: first,
-        count: 0,
+        at: Cursor {
+            at: first.0 as usize,
+        },
+        count: EntryIndex(0),
         nesting: Nesting::outside(),
     };
     let mut g = Lengths {
@@ -282,14 +288,14 @@ fn gather_in_order(
     parents: &[u32],
     ends: &[u64],
     marks: &[u8],
-    first: usize,
+    first: UnitOffset,
     range_list: &mut [u8],
     location_list: &mut [u8],
     string_list: &mut [u8],
 ) -> Lengths
-    ensures ranges { λ n. ⌜ Refilling 0 r (now (abbreviations .entry)) (now (index .entry)) (now (unit .entry)) (now (parents .entry)) (now (ends .entry)) (now (marks .entry)) first (now («range_list» .entry)) (n .ranges) (now («range_list» .exit)) ⌝ }
-    ensures locations { λ n. ⌜ Refilling 1 r (now (abbreviations .entry)) (now (index .entry)) (now (unit .entry)) (now (parents .entry)) (now (ends .entry)) (now (marks .entry)) first (now («location_list» .entry)) (n .locations) (now («location_list» .exit)) ⌝ }
-    ensures strings { λ n. ⌜ Refilling 2 r (now (abbreviations .entry)) (now (index .entry)) (now (unit .entry)) (now (parents .entry)) (now (ends .entry)) (now (marks .entry)) first (now («string_list» .entry)) (n .strings) (now («string_list» .exit)) ⌝ }
+    ensures ranges { λ n. ⌜ Refilling 0 r (now (abbreviations .entry)) (now (index .entry)) (now (unit .entry)) (now (parents .entry)) (now (ends .entry)) (now (marks .entry)) (first .0) (now («range_list» .entry)) (n .ranges) (now («range_list» .exit)) ⌝ }
+    ensures locations { λ n. ⌜ Refilling 1 r (now (abbreviations .entry)) (now (index .entry)) (now (unit .entry)) (now (parents .entry)) (now (ends .entry)) (now (marks .entry)) (first .0) (now («location_list» .entry)) (n .locations) (now («location_list» .exit)) ⌝ }
+    ensures strings { λ n. ⌜ Refilling 2 r (now (abbreviations .entry)) (now (index .entry)) (now (unit .entry)) (now (parents .entry)) (now (ends .entry)) (now (marks .entry)) (first .0) (now («string_list» .entry)) (n .strings) (now («string_list» .exit)) ⌝ }
 {
     clear_bytes(range_list);
     clear_bytes(location_list);
@@ -361,7 +367,7 @@ fn finish_lists(
 }
 
 // The indices of the kept entries as index lists: gathered in any order and sorted, and in order from the start where the sorted lists turn out not to be.
-pub fn sorted_lists(
+pub(crate) fn sorted_lists(
     unit: &[u8],
     abbreviations: &[u8],
     r: Reading,
@@ -369,14 +375,14 @@ pub fn sorted_lists(
     parents: &[u32],
     ends: &[u64],
     marks: &[u8],
-    first: usize,
+    first: UnitOffset,
     range_list: &mut [u8],
     location_list: &mut [u8],
     string_list: &mut [u8],
 ) -> Lengths
-    ensures ranges { λ n. ⌜ Listing 0 r (now (abbreviations .entry)) (now (index .entry)) (now (unit .entry)) (now (parents .entry)) (now (ends .entry)) (now (marks .entry)) first (now («range_list» .entry)) (n .ranges) (now («range_list» .exit)) ⌝ }
-    ensures locations { λ n. ⌜ Listing 1 r (now (abbreviations .entry)) (now (index .entry)) (now (unit .entry)) (now (parents .entry)) (now (ends .entry)) (now (marks .entry)) first (now («location_list» .entry)) (n .locations) (now («location_list» .exit)) ⌝ }
-    ensures strings { λ n. ⌜ Listing 2 r (now (abbreviations .entry)) (now (index .entry)) (now (unit .entry)) (now (parents .entry)) (now (ends .entry)) (now (marks .entry)) first (now («string_list» .entry)) (n .strings) (now («string_list» .exit)) ⌝ }
+    ensures ranges { λ n. ⌜ Listing 0 r (now (abbreviations .entry)) (now (index .entry)) (now (unit .entry)) (now (parents .entry)) (now (ends .entry)) (now (marks .entry)) (first .0) (now («range_list» .entry)) (n .ranges) (now («range_list» .exit)) ⌝ }
+    ensures locations { λ n. ⌜ Listing 1 r (now (abbreviations .entry)) (now (index .entry)) (now (unit .entry)) (now (parents .entry)) (now (ends .entry)) (now (marks .entry)) (first .0) (now («location_list» .entry)) (n .locations) (now («location_list» .exit)) ⌝ }
+    ensures strings { λ n. ⌜ Listing 2 r (now (abbreviations .entry)) (now (index .entry)) (now (unit .entry)) (now (parents .entry)) (now (ends .entry)) (now (marks .entry)) (first .0) (now («string_list» .entry)) (n .strings) (now («string_list» .exit)) ⌝ }
 {
     let g = gather(
         unit,
@@ -466,10 +472,10 @@ fn is_absent(
     abbreviations: &[u8],
     r: Reading,
     index: &[u64],
-    first: usize,
+    first: UnitOffset,
     name: u64,
 ) -> bool
-    ensures { λ b. ⌜ ((x : Sections) (u : Unit′) → ReadAs x u r (now (abbreviations .entry)) (now (unit .entry)) → Found u r (now (abbreviations .entry)) (now (index .entry)) → b ≡ isAbsent x u name (itemsBy r (now (abbreviations .entry)) (now (index .entry)) (now (unit .entry)) first)) ⌝ }
+    ensures { λ b. ⌜ ((x : Sections) (u : Unit′) → ReadAs x u r (now (abbreviations .entry)) (now (unit .entry)) → Found u r (now (abbreviations .entry)) (now (index .entry)) → b ≡ isAbsent x u name (itemsBy r (now (abbreviations .entry)) (now (index .entry)) (now (unit .entry)) (first .0))) ⌝ }
 {
     if name == 0 {
         return false;
@@ -481,17 +487,17 @@ fn is_absent(
 }
 
 // A list that was gathered: absent, and zeros again, or its count.
-pub fn settle(
+pub(crate) fn settle(
     unit: &[u8],
     abbreviations: &[u8],
     r: Reading,
     index: &[u64],
-    first: usize,
+    first: UnitOffset,
     name: u64,
     count: usize,
     list: &mut [u8],
 ) -> ListCount
-    ensures { λ c. ⌜ ((x : Sections) (u : Unit′) (ys list₀ : List ℕ) → ReadAs x u r (now (abbreviations .entry)) (now (unit .entry)) → Found u r (now (abbreviations .entry)) (now (index .entry)) → list₀ ≡ zeros (length (now (list .entry))) → Filled ys list₀ count (now (list .entry)) → ListAnswer (pick (isAbsent x u name (itemsBy r (now (abbreviations .entry)) (now (index .entry)) (now (unit .entry)) first)) none (some ys)) list₀ c (now (list .exit))) ⌝ }
+    ensures { λ c. ⌜ ((x : Sections) (u : Unit′) (ys list₀ : List ℕ) → ReadAs x u r (now (abbreviations .entry)) (now (unit .entry)) → Found u r (now (abbreviations .entry)) (now (index .entry)) → list₀ ≡ zeros (length (now (list .entry))) → Filled ys list₀ count (now (list .entry)) → ListAnswer (pick (isAbsent x u name (itemsBy r (now (abbreviations .entry)) (now (index .entry)) (now (unit .entry)) (first .0))) none (some ys)) list₀ c (now (list .exit))) ⌝ }
 {
     if is_absent(unit, abbreviations, r, index, first, name) {
         if count > 0 {

@@ -14,6 +14,7 @@ use readers::cursor::Number;
 use readers::entries::Nesting;
 use readers::entries::Step;
 use readers::offsets::EntryIndex;
+use readers::offsets::UnitOffset;
 
 // How a unit is read: where its declarations start, and by what encoding.
 pub struct Reading {
@@ -21,17 +22,17 @@ pub struct Reading {
     pub encoding: Encoding,
 }
 
-// Where a pass through the kept items stands: the next place, how many entries there were, and the open ones.
+// Where a pass through the kept items stands: the next place, the index of the next entry, and the open ones.
 pub struct Stand {
-    pub at: usize,
-    pub count: usize,
+    pub at: Cursor,
+    pub count: EntryIndex,
     pub nesting: Nesting,
 }
 
-// A kept item: where it starts and ends, its depth, for an entry where its specifications and its values start, and where the pass goes on.
+// A kept item: its offset, the cursor past it, its depth, for an entry where its specifications and its values start, and where the pass goes on.
 pub struct Kept {
-    pub start: usize,
-    pub end: usize,
+    pub start: UnitOffset,
+    pub end: Cursor,
     pub depth: u64,
     pub is_entry: bool,
     pub specs: Cursor,
@@ -44,12 +45,20 @@ pub enum KeptStep {
     End,
 }
 
-// Whether the entry with an index is kept.
-fn is_kept(marks: &[u8], i: usize) -> bool
-    ensures { λ r. ⌜ r ≡ isKept (now (marks .entry)) i ⌝ }
+// An entry's place in the columns.
+fn place(i: EntryIndex) -> usize
+    ensures { λ r. ⌜ r ≡ i .0 ⌝ }
 {
-    if i < marks.len() {
-        return marks[i] >= 2;
+    i.0 as usize
+}
+
+// Whether the entry with an index is kept.
+fn is_kept(marks: &[u8], i: EntryIndex) -> bool
+    ensures { λ r. ⌜ r ≡ isKept (now (marks .entry)) (i .0) ⌝ }
+{
+    let k = place(i);
+    if k < marks.len() {
+        return marks[k] >= 2;
     }
     false
 }
@@ -62,13 +71,14 @@ fn closes_kept(marks: &[u8], nesting: Nesting) -> bool
         return false;
     }
     let parent = nesting.parent;
-    is_kept(marks, parent.0 as usize)
+    is_kept(marks, parent)
 }
 
 // The number of an entry that ends at a place below 4 GiB: twice the place, and one more where it has children.
-fn end_number(end: u64, children: bool) -> u64
-    ensures { λ r. ⌜ (end < 2 ^ 32 → r ≡ endNumber end children) ⌝ }
+fn end_number(past: Cursor, children: bool) -> u64
+    ensures { λ r. ⌜ (past .at < 2 ^ 32 → r ≡ endNumber (past .at) children) ⌝ }
 {
+    let end = past.at as u64;
     if end > 0xffff_ffff {
         return 0;
     }
@@ -79,42 +89,49 @@ fn end_number(end: u64, children: bool) -> u64
 }
 
 // Puts a 0 after the numbers of a column, if it goes on.
-fn end_column(ends: &mut [u64], count: usize)
-    ensures ends { λ _. ⌜ getD (now (ends .exit)) count 0 ≡ 0 ⌝ }
-    ensures others { λ _. ⌜ ((i : ℕ) → i < count → getD (now (ends .exit)) i 0 ≡ getD (now (ends .entry)) i 0) ⌝ }
+fn end_column(ends: &mut [u64], count: EntryIndex)
+    ensures ends { λ _. ⌜ getD (now (ends .exit)) (count .0) 0 ≡ 0 ⌝ }
+    ensures others { λ _. ⌜ ((i : ℕ) → i < count .0 → getD (now (ends .exit)) i 0 ≡ getD (now (ends .entry)) i 0) ⌝ }
 {
-    if count < ends.len() {
-        ends[count] = 0;
+    let k = place(count);
+    if k < ends.len() {
+        ends[k] = 0;
     }
 }
 
 // Fills a column with the ends of a unit's entries, so that a pass need not step over their values again.
-pub fn fill_ends(
+pub(crate) fn fill_ends(
     unit: &[u8],
     abbreviations: &[u8],
     r: Reading,
     index: &[u64],
-    first: usize,
+    first: UnitOffset,
     ends: &mut [u64],
 )
-    ensures { λ _. ⌜ (length (now (unit .entry)) < 2 ^ 32 → entriesIn (itemsBy r (now (abbreviations .entry)) (now (index .entry)) (now (unit .entry)) first) ≤ length (now (ends .entry)) → EndsHeld (now (ends .exit)) 0 (itemsBy r (now (abbreviations .entry)) (now (index .entry)) (now (unit .entry)) first)) ⌝ }
+    ensures { λ _. ⌜ (length (now (unit .entry)) < 2 ^ 32 → entriesIn (itemsBy r (now (abbreviations .entry)) (now (index .entry)) (now (unit .entry)) (first .0)) ≤ length (now (ends .entry)) → EndsHeld (now (ends .exit)) 0 (itemsBy r (now (abbreviations .entry)) (now (index .entry)) (now (unit .entry)) (first .0))) ⌝ }
 {
-    let mut at = first;
-    let mut count: usize = 0;
+    let mut at = Cursor {
+        at: first.0 as usize,
+    };
+    let mut count = EntryIndex(0);
     loop {
-        match (Cursor { at }).step(unit, abbreviations, r.from, index, r.encoding) {
+        match at.step(unit, abbreviations, r.from, index, r.encoding) {
             Step::Entry(x) => {
-                if count >= ends.len() {
+                if count.0 == 0xffff_ffff {
+                    return;
+                }
+                let k = place(count);
+                if k >= ends.len() {
                     return;
                 }
                 let declaration = x.declaration;
                 let next = x.next;
-                ends[count] = end_number(next.at as u64, declaration.children);
-                count += 1;
-                at = next.at;
+                ends[k] = end_number(next, declaration.children);
+                count = EntryIndex(count.0 + 1);
+                at = next;
             }
             Step::Terminator(next) => {
-                at = next.at;
+                at = next;
             }
             Step::End => {
                 end_column(ends, count);
@@ -129,17 +146,18 @@ pub fn fill_ends(
 }
 
 // The number of an entry in the column of ends; 0 where there is none.
-fn end_at(ends: &[u64], count: usize) -> u64
-    ensures { λ r. ⌜ r ≡ getD (now (ends .entry)) count 0 ⌝ }
+fn end_at(ends: &[u64], i: EntryIndex) -> u64
+    ensures { λ r. ⌜ r ≡ getD (now (ends .entry)) (i .0) 0 ⌝ }
 {
-    if count >= ends.len() {
+    let k = place(i);
+    if k >= ends.len() {
         return 0;
     }
-    ends[count]
+    ends[k]
 }
 
 // The next kept item, by the column of ends: of a dead entry the code alone is read. A unit below 4 GiB has fewer entries than a u32 can count.
-pub fn next_kept(
+pub(crate) fn next_kept(
     unit: &[u8],
     abbreviations: &[u8],
     r: Reading,
@@ -155,18 +173,18 @@ pub fn next_kept(
     let mut count = s.count;
     let mut nesting = s.nesting;
     loop {
-        if at >= unit.len() {
+        if at.at >= unit.len() {
             return KeptStep::End;
         }
-        let Number::Value(code, values) = (Cursor { at }).uleb(unit) else {
+        let Number::Value(code, values) = at.uleb(unit) else {
             return KeptStep::End;
         };
-        let start = at;
+        let start = UnitOffset(at.at as u64);
         let depth = nesting.depth;
         if code == 0 {
             let kept = closes_kept(marks, nesting);
             nesting = nesting.after_terminator(parents);
-            at = values.at;
+            at = values;
             if kept {
                 return KeptStep::Item(Kept {
                     start,
@@ -179,7 +197,7 @@ pub fn next_kept(
                 });
             }
         } else {
-            if count > 0xffff_ffff {
+            if count.0 == 0xffff_ffff {
                 return KeptStep::End;
             }
             let n = end_at(ends, count);
@@ -191,9 +209,9 @@ pub fn next_kept(
                 return KeptStep::End;
             }
             let kept = is_kept(marks, count);
-            nesting = nesting.after_entry(EntryIndex(count as u32), n % 2 == 1);
-            count += 1;
-            at = end;
+            nesting = nesting.after_entry(count, n % 2 == 1);
+            count = EntryIndex(count.0 + 1);
+            at = Cursor { at: end };
             if kept {
                 let Found::Declaration(d) = find_declaration(abbreviations, r.from, index, code)
                 else {
@@ -202,7 +220,7 @@ pub fn next_kept(
                 let specs = d.attributes;
                 return KeptStep::Item(Kept {
                     start,
-                    end,
+                    end: at,
                     depth,
                     is_entry: true,
                     specs,

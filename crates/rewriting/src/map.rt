@@ -1,17 +1,17 @@
 // The map: old offset, new offset and depth of each place, four big-endian bytes each, in ascending order.
 ghost use mathlib.Core.Path.{_≡_};
-ghost use Prim.Native.Nat.{_+_, _*_, _/_, _<_};
+ghost use Prim.Native.Nat.{_/_, _<_};
 ghost use mathlib.Core.List.{List};
 ghost use lib.ListN.{length};
-ghost use Rattle.rewriting.specs.Places.{Place, newOf};
-ghost use Rattle.rewriting.specs.Indices.{rankIn};
-ghost use Rattle.rewriting.specs.Maps.{oldOffsets};
-ghost use Rattle.rewriting.specs.Written.{numberAt, Held, columns, MapHeld, place, withPlace, asMapped};
+ghost use lib.Dec.{eqb};
+ghost use Rattle.rewriting.specs.Places.{Place};
+ghost use Rattle.rewriting.specs.Written.{Held, columns, place, withPlace, oldAt, newAt, depthAt, halved, lookedUp};
 use crate::numbers::big_endian_at;
 use crate::numbers::put_big_endian;
+use readers::offsets::UnitOffset;
 
 pub enum Mapped {
-    To(u64),
+    To(UnitOffset),
     Nothing,
 }
 
@@ -23,26 +23,26 @@ pub fn room(map: &[u8]) -> usize
 }
 
 // What a place has: its old offset, its new one and its depth; 0 where there is none.
-pub fn old_at(map: &[u8], i: usize) -> u64
-    ensures { λ r. ⌜ (i < length (now (map .entry)) / 12 → r ≡ numberAt 4 (now (map .entry)) (12 * i)) ⌝ }
+pub fn old_at(map: &[u8], i: usize) -> UnitOffset
+    ensures { λ r. ⌜ r .0 ≡ oldAt (now (map .entry)) i ⌝ }
 {
     if i >= room(map) {
-        return 0;
+        return UnitOffset(0);
     }
-    big_endian_at(map, 12 * i, 4)
+    UnitOffset(big_endian_at(map, 12 * i, 4))
 }
 
-pub fn new_at(map: &[u8], i: usize) -> u64
-    ensures { λ r. ⌜ (i < length (now (map .entry)) / 12 → r ≡ numberAt 4 (now (map .entry)) (12 * i + 4)) ⌝ }
+pub fn new_at(map: &[u8], i: usize) -> UnitOffset
+    ensures { λ r. ⌜ r .0 ≡ newAt (now (map .entry)) i ⌝ }
 {
     if i >= room(map) {
-        return 0;
+        return UnitOffset(0);
     }
-    big_endian_at(map, 12 * i + 4, 4)
+    UnitOffset(big_endian_at(map, 12 * i + 4, 4))
 }
 
 pub fn depth_at(map: &[u8], i: usize) -> u64
-    ensures { λ r. ⌜ (i < length (now (map .entry)) / 12 → r ≡ numberAt 4 (now (map .entry)) (12 * i + 8)) ⌝ }
+    ensures { λ r. ⌜ r ≡ depthAt (now (map .entry)) i ⌝ }
 {
     if i >= room(map) {
         return 0;
@@ -50,27 +50,36 @@ pub fn depth_at(map: &[u8], i: usize) -> u64
     big_endian_at(map, 12 * i + 8, 4)
 }
 
+// Whether a place has an old offset.
+pub fn has_old(map: &[u8], i: usize, old: UnitOffset) -> bool
+    ensures { λ r. ⌜ r ≡ eqb (oldAt (now (map .entry)) i) (old .0) ⌝ }
+{
+    let offset = old_at(map, i);
+    offset.0 == old.0
+}
+
 // One place more, where there is room for it.
-pub fn put_place(map: &mut [u8], i: usize, old: u64, new: u64, depth: u64)
-    ensures { λ _. ⌜ ((ps : List Place) → Held 4 (columns ps) (now (map .entry)) → i ≡ length ps → i < length (now (map .entry)) / 12 → old < 4294967296 → new < 4294967296 → depth < 4294967296 → Held 4 (columns (withPlace ps (place old new depth))) (now (map .exit))) ⌝ }
+pub(crate) fn put_place(map: &mut [u8], i: usize, old: UnitOffset, new: UnitOffset, depth: u64)
+    ensures { λ _. ⌜ ((ps : List Place) → Held 4 (columns ps) (now (map .entry)) → i ≡ length ps → i < length (now (map .entry)) / 12 → old .0 < 4294967296 → new .0 < 4294967296 → depth < 4294967296 → Held 4 (columns (withPlace ps (place (old .0) (new .0) depth))) (now (map .exit))) ⌝ }
 {
     if i >= room(map) {
         return;
     }
-    put_big_endian(map, 12 * i, 4, old);
-    put_big_endian(map, 12 * i + 4, 4, new);
+    put_big_endian(map, 12 * i, 4, old.0);
+    put_big_endian(map, 12 * i + 4, 4, new.0);
     put_big_endian(map, 12 * i + 8, 4, depth);
 }
 
 // How many of the first places are before an old offset.
-pub fn before(map: &[u8], places: usize, old: u64) -> usize
-    ensures { λ r. ⌜ ((ps : List Place) → MapHeld ps (now (map .entry)) → places ≡ length ps → r ≡ rankIn (oldOffsets ps) old) ⌝ }
+pub fn before(map: &[u8], places: usize, old: UnitOffset) -> usize
+    ensures { λ r. ⌜ r ≡ halved places (oldAt (now (map .entry))) (old .0) 0 places ⌝ }
 {
     let mut low: usize = 0;
     let mut high = places;
     while low < high {
         let middle = low + (high - low) / 2;
-        if old_at(map, middle) < old {
+        let offset = old_at(map, middle);
+        if offset.0 < old.0 {
             low = middle + 1;
         } else {
             high = middle;
@@ -80,12 +89,12 @@ pub fn before(map: &[u8], places: usize, old: u64) -> usize
 }
 
 // The new offset of an old one.
-pub fn new_offset(map: &[u8], places: usize, old: u64) -> Mapped
-    ensures { λ r. ⌜ ((ps : List Place) → MapHeld ps (now (map .entry)) → places ≡ length ps → r ≡ asMapped (newOf ps old)) ⌝ }
+pub fn new_offset(map: &[u8], places: usize, old: UnitOffset) -> Mapped
+    ensures { λ r. ⌜ r ≡ lookedUp (now (map .entry)) places (old .0) ⌝ }
 {
     let i = before(map, places, old);
     if i < places {
-        if old_at(map, i) == old {
+        if has_old(map, i, old) {
             return Mapped::To(new_at(map, i));
         }
     }

@@ -7,7 +7,10 @@ use crate::kept::Reading;
 use crate::kept::Stand;
 use crate::kept::next_kept;
 use crate::map::put_place;
+use readers::cursor::Cursor;
 use readers::entries::Nesting;
+use readers::offsets::EntryIndex;
+use readers::offsets::UnitOffset;
 
 pub struct Size {
     pub places: usize,
@@ -15,7 +18,7 @@ pub struct Size {
 }
 
 // How many places and bytes the rewritten unit has; fills the map, where there is room for all its places.
-pub fn place_items(
+pub(crate) fn place_items(
     unit: &[u8],
     abbreviations: &[u8],
     r: Reading,
@@ -23,26 +26,33 @@ pub fn place_items(
     parents: &[u32],
     ends: &[u64],
     marks: &[u8],
-    first: usize,
+    first: UnitOffset,
     map: &mut [u8],
 ) -> Size
-    ensures size { λ z. ⌜ Measures (itemsBy r (now (abbreviations .entry)) (now (index .entry)) (now (unit .entry))) (now (unit .entry)) (now (parents .entry)) (now (ends .entry)) (now (marks .entry)) first z ⌝ }
-    ensures map { λ _. ⌜ Fills (itemsBy r (now (abbreviations .entry)) (now (index .entry)) (now (unit .entry))) (now (unit .entry)) (now (parents .entry)) (now (ends .entry)) (now (marks .entry)) first (now (map .entry)) (now (map .exit)) ⌝ }
+    ensures size { λ z. ⌜ Measures (itemsBy r (now (abbreviations .entry)) (now (index .entry)) (now (unit .entry))) (now (unit .entry)) (now (parents .entry)) (now (ends .entry)) (now (marks .entry)) (first .0) z ⌝ }
+    ensures map { λ _. ⌜ Fills (itemsBy r (now (abbreviations .entry)) (now (index .entry)) (now (unit .entry))) (now (unit .entry)) (now (parents .entry)) (now (ends .entry)) (now (marks .entry)) (first .0) (now (map .entry)) (now (map .exit)) ⌝ }
 {
     let mut s = Stand {
-        at: first,
-        count: 0,
+        at: Cursor {
+            at: first.0 as usize,
+        },
+        count: EntryIndex(0),
         nesting: Nesting::outside(),
     };
     let mut places: usize = 0;
-    let mut bytes = first;
+    let mut new = UnitOffset(first.0);
     loop {
         let KeptStep::Item(x) = next_kept(unit, abbreviations, r, index, parents, ends, marks, s)
         else {
-            return Size { places, bytes };
+            return Size {
+                places,
+                bytes: new.0 as usize,
+            };
         };
-        put_place(map, places, x.start as u64, bytes as u64, x.depth);
-        bytes += x.end - x.start;
+        let start = x.start;
+        let end = x.end;
+        put_place(map, places, start, new, x.depth);
+        new = UnitOffset(new.0 + (end.at as u64 - start.0));
         places += 1;
         s = x.next;
     }

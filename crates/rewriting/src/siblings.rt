@@ -10,8 +10,9 @@ ghost use Rattle.rewriting.specs.Bounds.{AsDeep, BoundsFrom, Bounds};
 use crate::map::Mapped;
 use crate::map::before;
 use crate::map::depth_at;
+use crate::map::has_old;
 use crate::map::new_at;
-use crate::map::old_at;
+use readers::offsets::UnitOffset;
 
 // A number of the table; 0 where there is none.
 fn number_at(bounds: &[u32], at: usize) -> u64
@@ -48,12 +49,18 @@ fn past_deeper(bounds: &[u32], i: usize, depth: u64) -> usize
 }
 
 // The new offset of a sibling's target: its own place, or the first at or after it that is no deeper.
-pub fn sibling_offset(map: &[u8], places: usize, bounds: &[u32], old: u64, depth: u64) -> Mapped
-    ensures { λ r. ⌜ ((ps : List Place) → MapHeld ps (now (map .entry)) → places ≡ length ps → Bounds ps (now (bounds .entry)) → r ≡ asMapped (siblingOf ps depth old)) ⌝ }
+pub(crate) fn sibling_offset(
+    map: &[u8],
+    places: usize,
+    bounds: &[u32],
+    old: UnitOffset,
+    depth: u64,
+) -> Mapped
+    ensures { λ r. ⌜ ((ps : List Place) → MapHeld ps (now (map .entry)) → places ≡ length ps → Bounds ps (now (bounds .entry)) → r ≡ asMapped (siblingOf ps depth (old .0))) ⌝ }
 {
     let start = before(map, places, old);
     if start < places {
-        if old_at(map, start) == old {
+        if has_old(map, start, old) {
             return Mapped::To(new_at(map, start));
         }
     }
@@ -137,7 +144,7 @@ fn rows(places: usize, numbers: usize) -> usize
 }
 
 // Fills the table, from the last row to the first.
-pub fn fill_bounds(map: &[u8], places: usize, bounds: &mut [u32])
+pub(crate) fn fill_bounds(map: &[u8], places: usize, bounds: &mut [u32])
     ensures { λ _. ⌜ ((ps : List Place) → MapHeld ps (now (map .entry)) → places ≡ length ps → Bounds ps (now (bounds .exit))) ⌝ }
 {
     let mut k = rows(places, bounds.len());

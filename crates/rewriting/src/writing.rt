@@ -21,7 +21,9 @@ use crate::kept::next_kept;
 use crate::lists::ListCount;
 use crate::numbers::put_bytes;
 use crate::numbers::put_number;
+use readers::cursor::Cursor;
 use readers::entries::Nesting;
+use readers::offsets::EntryIndex;
 
 // Writes the kept items (gc.rs: `emit_dies`).
 pub(crate) fn emit_dies(
@@ -48,8 +50,8 @@ pub(crate) fn emit_dies(
     ensures bytes { λ t. ⌜ ((x : Sections) (u : Unit′) (lists : Lists) (ps : List Place) → Passable x u r (now (abbreviations .entry)) (now (index .entry)) (now (unit .entry)) (now (parents .entry)) (now (ends .entry)) (now (marks .entry)) first → first ≡ u .header .first .0 → r .encoding .«big_endian» ≡ false → MapHeld ps (now (map .entry)) → places ≡ length ps → Bounds ps (now (bounds .entry)) → Lends lists (now (ranges .entry)) «ranges_count» (now (locations .entry)) «locations_count» (now (strings .entry)) «strings_count» → Emits (refusalFrom x u lists ps (keptFrom (now (marks .entry)) 0 [] (itemsIn x u))) (bytesFrom x u lists ps (keptFrom (now (marks .entry)) 0 [] (itemsIn x u))) (now (out .entry)) t (now (out .exit))) ⌝ }
 {
     let mut s = Stand {
-        at: first,
-        count: 0,
+        at: Cursor { at: first },
+        count: EntryIndex(0),
         nesting: Nesting::outside(),
     };
     let mut to: usize = 0;
@@ -59,11 +61,13 @@ pub(crate) fn emit_dies(
             return Emitted::To(to);
         };
         let next = x.next;
+        let start = x.start;
+        let end = x.end;
         if x.is_entry {
             match emit_entry(
                 unit,
                 abbreviations,
-                x.start,
+                start.0 as usize,
                 x.specs,
                 x.values,
                 x.depth,
@@ -88,7 +92,10 @@ pub(crate) fn emit_dies(
                 }
             }
         } else {
-            let n = emit_bytes(bytes_between(unit, x.start, x.end), &mut out[to..]);
+            let n = emit_bytes(
+                bytes_between(unit, start.0 as usize, end.at),
+                &mut out[to..],
+            );
             to += n;
             s = next;
         }

@@ -6,23 +6,23 @@ use borrow.Author.Needs.{needs}
 use Rattle.marking.proofs.spread.follow_at.Statement.{statement}
 use Rattle.marking.proofs.spread.follow_at.Tie as tie
 
-mul-wide : tie.Need-mul-wide
-mul-wide c = search needs
+mul-t11 : tie.Need-mul-t11
+mul-t11 c = search needs
 
-add-wide : tie.Need-add-wide
-add-wide c = search needs
+add-t12 : tie.Need-add-t12
+add-t12 c = search needs
 
-mul-wide-2 : tie.Need-mul-wide-2
-mul-wide-2 c = search needs
+mul-t13 : tie.Need-mul-t13
+mul-t13 c = search needs
 
-shared-slice-read-wide : tie.Need-shared-slice-read-wide
-shared-slice-read-wide c = search needs
+shared-slice-read-t15 : tie.Need-shared-slice-read-t15
+shared-slice-read-t15 c = search needs
 
-wide-requires : tie.Need-wide-requires
-wide-requires c κs = search needs
+place-requires : tie.Need-place-requires
+place-requires c κs = search needs
 
 slice-read-before : tie.Need-slice-read-before
-slice-read-before c = let s = c .before .before .before .before .before .before .before in omega (arith, c .before .wide .ensures, pair-inside (s .args .pairs .now) (s .args .marks .now) (s .args .j) (s .pre .1 .0) (s .pre .1 .1) .1)
+slice-read-before c = omega (arith, c .before .place .ensures, pair-inside (c .before .before .before .before .before .before .before .args .pairs .now) (c .before .before .before .before .before .before .before .args .marks .now) (c .before .before .before .before .before .before .before .args .j) (c .before .before .before .before .before .before .before .pre .1 .0) (c .before .before .before .before .before .before .before .pre .1 .1) .1)
 
 along-at-requires : tie.Need-along-at-requires
 along-at-requires c κs = search needs
@@ -37,7 +37,7 @@ push-new-requires : tie.Need-push-new-requires
 push-new-requires c κs = search needs
 
 descend-requires : tie.Need-descend-requires
-descend-requires c κs = let s = c .before .before .before .before .before .before .before .before .before .before .before .before .before .before .before .before .before .before in (search parents-fit-still, omega (arith, c .before .before .before .before .before .before .before .before .before .before .before .before .wide .ensures, c .before .before .before .before .before .before .before .before .before .along-at .kept .1 .0, pair-inside (s .args .pairs .now) (s .args .marks .now) (s .args .j) (s .pre .1 .0) (s .pre .1 .1) .1))
+descend-requires c κs = search parents-fit-still
 
 same-length-2 : tie.Need-same-length-2
 same-length-2 c = search needs
@@ -52,11 +52,11 @@ pub follow-at-spec : {M : Type 1} → statement M
 follow-at-spec =
     tie.close
     (tie.spec
-    mul-wide
-    add-wide
-    mul-wide-2
-    shared-slice-read-wide
-    wide-requires
+    mul-t11
+    add-t12
+    mul-t13
+    shared-slice-read-t15
+    place-requires
     slice-read-before
     along-at-requires
     same-length

@@ -1,25 +1,31 @@
--- `push_kept` stays in its columns and ends. Assumes nothing.
-use Prim.Native.Nat.{_≤_}
+-- `push_kept` is safe, and ends. Assumes nothing.
 use mathlib.Core.Path.{_≡_}
-use borrow.Author.Needs.{needs}
+use Prim.Native.Nat.{_≤_}
 use lib.ListN.{length}
+use borrow.Author.Needs.{needs}
 use Rattle.marking.proofs.spread.push_kept.Statement.{statement}
 use Rattle.marking.proofs.spread.push_kept.Tie as tie
 
 abbrev Inv-loop : tie.InvT-loop
-Inv-loop marks work₀ top₀ i₀ work top i = (i ≤ length marks) × (length work ≡ length work₀)
+Inv-loop marks work₀ top₀ i₀ work top i = (i .0 ≤ length marks) × (length work ≡ length work₀)
 
 abbrev μ-loop : tie.MeasureT-loop
-μ-loop marks work₀ top₀ i₀ work top i = i
+μ-loop marks work₀ top₀ i₀ work top i = i .0
+
+past-last-requires : tie.Need-past-last-requires Inv-loop μ-loop
+past-last-requires c κs = search needs
 
 loop-holds : tie.Need-loop-holds Inv-loop μ-loop
 loop-holds c = search needs
 
-sub-i : tie.Need-sub-i Inv-loop μ-loop
-sub-i c = search needs
+sub-t8 : tie.Need-sub-t8 Inv-loop μ-loop
+sub-t8 c = search needs
 
-shared-slice-read-if1 : tie.Need-shared-slice-read-if1 Inv-loop μ-loop
-shared-slice-read-if1 c = search needs
+place-requires : tie.Need-place-requires Inv-loop μ-loop
+place-requires c κs = search needs
+
+shared-slice-read-if2 : tie.Need-shared-slice-read-if2 Inv-loop μ-loop
+shared-slice-read-if2 c = search needs
 
 push-requires : tie.Need-push-requires Inv-loop μ-loop
 push-requires c κs = search needs
@@ -48,9 +54,11 @@ push-kept-spec =
     (tie.spec
     Inv-loop
     μ-loop
+    past-last-requires
     loop-holds
-    sub-i
-    shared-slice-read-if1
+    sub-t8
+    place-requires
+    shared-slice-read-if2
     push-requires
     loop-less
     loop-again

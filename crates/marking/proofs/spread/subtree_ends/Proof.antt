@@ -1,22 +1,25 @@
--- `subtree_ends` stays in its columns and ends. Assumes nothing.
-use Prim.Native.Nat.{_≤_}
+-- `subtree_ends` is safe, and ends. Assumes nothing.
 use mathlib.Core.Path.{_≡_}
-use borrow.Author.Needs.{needs}
+use Prim.Native.Nat.{_≤_}
 use lib.ListN.{length}
+use borrow.Author.Needs.{needs}
 use Rattle.marking.proofs.spread.subtree_ends.Statement.{statement}
 use Rattle.marking.proofs.spread.subtree_ends.Tie as tie
 
 abbrev Inv-loop : tie.InvT-loop
-Inv-loop parents work₀ i₀ work i = (i ≤ length parents) × (length work ≡ length work₀)
+Inv-loop parents work₀ i₀ work i = (i .0 ≤ length parents) × (length work ≡ length work₀)
 
 abbrev μ-loop : tie.MeasureT-loop
-μ-loop parents work₀ i₀ work i = i
+μ-loop parents work₀ i₀ work i = i .0
+
+past-last-requires : tie.Need-past-last-requires Inv-loop μ-loop
+past-last-requires c κs = search needs
 
 loop-holds : tie.Need-loop-holds Inv-loop μ-loop
 loop-holds c = search needs
 
-sub-i : tie.Need-sub-i Inv-loop μ-loop
-sub-i c = search needs
+sub-t6 : tie.Need-sub-t6 Inv-loop μ-loop
+sub-t6 c = search needs
 
 widen-requires : tie.Need-widen-requires Inv-loop μ-loop
 widen-requires c κs = search needs
@@ -39,8 +42,9 @@ subtree-ends-spec =
     (tie.spec
     Inv-loop
     μ-loop
+    past-last-requires
     loop-holds
-    sub-i
+    sub-t6
     widen-requires
     loop-less
     loop-again

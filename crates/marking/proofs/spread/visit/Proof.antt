@@ -8,14 +8,14 @@ use Rattle.marking.proofs.spread.visit.Tie as tie
 returns : tie.Need-returns
 returns c = search needs
 
-mul-wide : tie.Need-mul-wide
-mul-wide c = search needs
+mul-t8 : tie.Need-mul-t8
+mul-t8 c = search needs
 
-slice-read-wide : tie.Need-slice-read-wide
-slice-read-wide c = search needs
+slice-read-t11 : tie.Need-slice-read-t11
+slice-read-t11 c = search needs
 
-wide-requires : tie.Need-wide-requires
-wide-requires c κs = search needs
+place-requires : tie.Need-place-requires
+place-requires c κs = search needs
 
 returns-2 : tie.Need-returns-2
 returns-2 c = search needs
@@ -24,7 +24,7 @@ follow-requires : tie.Need-follow-requires
 follow-requires c κs = search needs
 
 lift-requires : tie.Need-lift-requires
-lift-requires c κs = (search parents-fit-still, omega (arith, c .before .before .before .before .before .before .follow .kept .1 .1 .0))
+lift-requires c κs = (search parents-fit-still, omega (arith, c .before .before .before .before .before .before .before .before .before .before .place .ensures, c .before .before .before .before .before .before .follow .kept .1 .1 .0))
 
 same-length : tie.Need-same-length
 same-length c = search needs
@@ -40,9 +40,9 @@ visit-spec =
     tie.close
     (tie.spec
     returns
-    mul-wide
-    slice-read-wide
-    wide-requires
+    mul-t8
+    slice-read-t11
+    place-requires
     returns-2
     follow-requires
     lift-requires

@@ -1,11 +1,12 @@
 -- `emit_attribute`: by the form. Assumes nothing.
-use mathlib.Core.Path.{refl}
+use mathlib.Core.Path.{refl, _∙_}
 use mathlib.Core.Logic.{⊎-elim}
 use native.Mathlib.Omega.{arith}
 use borrow.Author.Needs.{needs}
 use Rattle.marking.proofs.AttributeScans.{form-below, form-above}
 use Rattle.rewriting.proofs.Exact.{are-bytes}
 use Rattle.rewriting.proofs.Emissions.{from-start, within-on, within-after, inside, copied-front, copied-within, copied-on, emits-on, after-small, emits-after}
+use Rattle.rewriting.proofs.Places.{looked-held}
 use Rattle.rewriting.proofs.AttributeEmits.{attribute-expression, attribute-sibling, attribute-reference, attribute-ranges, attribute-locations, attribute-strings, attribute-copied}
 use Rattle.rewriting.proofs.emit.emit_attribute.Statement.{statement}
 use Rattle.rewriting.proofs.emit.emit_attribute.Tie as tie
@@ -95,7 +96,7 @@ same-length-3 : tie.Need-same-length-3
 same-length-3 c = (within-after _ _ _ (copied-within _ _ _ _ (c .before .before .before .before .before .before .before .before .before .before .before .before .before .before .before .emit-bytes .ensures .0) (c .before .before .before .before .before .before .before .before .before .before .before .before .before .before .before .emit-bytes .ensures .1)) _ _ (c .before .before .before .emit-offset2 .ensures .0) _ (c .after3 .ensures)) .size
 
 returns-3 : tie.Need-returns-3
-returns-3 c = (within-after _ _ _ (copied-within _ _ _ _ (c .before .before .before .before .before .before .before .before .before .before .before .before .before .before .before .emit-bytes .ensures .0) (c .before .before .before .before .before .before .before .before .before .before .before .before .before .before .before .emit-bytes .ensures .1)) _ _ (c .before .before .before .emit-offset2 .ensures .0) _ (c .after3 .ensures), λ lists ps rs rest l m n w lent i a d. emits-after (c .after3 .ensures) (attribute-reference _ _ _ _ _ _ (are-bytes (c .before .before .before .before .before .before .before .before .before .before .before .before .before .before .before .before .before .before .before .before .before .before .before .before .before .before .before .args .unit .now) (c .before .before .before .before .before .before .before .before .before .before .before .before .before .before .before .before .before .before .before .before .before .before .before .before .before .before .shared-slice-known .given)) l i a rs rest d _ _ _ _ (λ _ _. copied-front _ _ _ _ (c .before .before .before .before .before .before .before .before .before .before .before .before .before .before .before .emit-bytes .ensures .0) (c .before .before .before .before .before .before .before .before .before .before .before .before .before .before .before .emit-bytes .ensures .1) _ (c .before .before .before .before .before .before .before .before .before .before .before .before .before .before .before .before .before .bytes-between .ensures)) lists ps _ _ (c .before .before .before .before .before .before .before .before .before .before .before .before .is-leb .ensures) _ (c .before .before .before .before .before .width2 .ensures) _ _ (c .before .before .before .before .before .before .before .before .before .before .if2 .taken) (c .before .before .before .before .before .before .before .before .before .if3 .taken) (c .before .before .before .before .before .before .before .if4 .left) _ (c .before .before .before .before .before .before .new-offset .ensures ps m n) (λ o v x y. emits-on _ _ _ (copied-within _ _ _ _ (c .before .before .before .before .before .before .before .before .before .before .before .before .before .before .before .emit-bytes .ensures .0) (c .before .before .before .before .before .before .before .before .before .before .before .before .before .before .before .emit-bytes .ensures .1)) (c .before .before .before .emit-offset2 .ensures .1 o v x y))))
+returns-3 c = (within-after _ _ _ (copied-within _ _ _ _ (c .before .before .before .before .before .before .before .before .before .before .before .before .before .before .before .emit-bytes .ensures .0) (c .before .before .before .before .before .before .before .before .before .before .before .before .before .before .before .emit-bytes .ensures .1)) _ _ (c .before .before .before .emit-offset2 .ensures .0) _ (c .after3 .ensures), λ lists ps rs rest l m n w lent i a d. emits-after (c .after3 .ensures) (attribute-reference _ _ _ _ _ _ (are-bytes (c .before .before .before .before .before .before .before .before .before .before .before .before .before .before .before .before .before .before .before .before .before .before .before .before .before .before .before .args .unit .now) (c .before .before .before .before .before .before .before .before .before .before .before .before .before .before .before .before .before .before .before .before .before .before .before .before .before .before .shared-slice-known .given)) l i a rs rest d _ _ _ _ (λ _ _. copied-front _ _ _ _ (c .before .before .before .before .before .before .before .before .before .before .before .before .before .before .before .emit-bytes .ensures .0) (c .before .before .before .before .before .before .before .before .before .before .before .before .before .before .before .emit-bytes .ensures .1) _ (c .before .before .before .before .before .before .before .before .before .before .before .before .before .before .before .before .before .bytes-between .ensures)) lists ps _ _ (c .before .before .before .before .before .before .before .before .before .before .before .before .is-leb .ensures) _ (c .before .before .before .before .before .width2 .ensures) _ _ (c .before .before .before .before .before .before .before .before .before .before .if2 .taken) (c .before .before .before .before .before .before .before .before .before .if3 .taken) (c .before .before .before .before .before .before .before .if4 .left) _ (c .before .before .before .before .before .before .new-offset .ensures ∙ looked-held ps _ _ _ m n) (λ o v x y. emits-on _ _ _ (copied-within _ _ _ _ (c .before .before .before .before .before .before .before .before .before .before .before .before .before .before .before .emit-bytes .ensures .0) (c .before .before .before .before .before .before .before .before .before .before .before .before .before .before .before .emit-bytes .ensures .1)) (c .before .before .before .emit-offset2 .ensures .1 o v x y))))
 
 list-of-requires : tie.Need-list-of-requires
 list-of-requires c κs = search needs

@@ -15,6 +15,7 @@ use Rattle.rewriting.specs.Written.{MapHeld}
 use Rattle.rewriting.specs.Emission.{Within}
 use Rattle.rewriting.specs.declared.emit.Emitted.the-variants.{To}
 use Rattle.rewriting.proofs.Exact.{are-bytes}
+use Rattle.rewriting.proofs.Places.{looked-held}
 use Rattle.marking.proofs.NextOffsets.{next-less}
 use Rattle.rewriting.proofs.Emissions.{from-start, within-start, within-on, within-stop, inside, copied-within, copied-on, emits-on, after-small, onward-to, onward-no}
 use Rattle.rewriting.proofs.Splices.{Going, going-start, going-end, going-refused, going-on}
@@ -112,7 +113,7 @@ same-length-2 : tie.Need-same-length-2 Inv-loop μ-loop
 same-length-2 c = (within-stop _ _ _ (within-on _ _ _ (c .before .before .before .before .before .before .before .before .before .before .before .before .before .before .before .before .before .before .before .loop .inv .0) _ _ (copied-within _ _ _ _ (c .before .before .before .before .before .before .before .before .before .before .emit-bytes2 .ensures .0) (c .before .before .before .before .before .before .before .before .before .before .emit-bytes2 .ensures .1)) _ refl) _ _ (c .before .before .before .before .before .emit-offset .ensures .0) 0) .size
 
 returns-2 : tie.Need-returns-2 Inv-loop μ-loop
-returns-2 c = (within-stop _ _ _ (within-on _ _ _ (c .before .before .before .before .before .before .before .before .before .before .before .before .before .before .before .before .before .before .before .loop .inv .0) _ _ (copied-within _ _ _ _ (c .before .before .before .before .before .before .before .before .before .before .emit-bytes2 .ensures .0) (c .before .before .before .before .before .before .before .before .before .before .emit-bytes2 .ensures .1)) _ refl) _ _ (c .before .before .before .before .before .emit-offset .ensures .0) _, λ lists ps depth pieces l h p q. from-start (going-refused lists ps depth pieces _ _ _ _ _ _ _ _ (c .before .before .before .before .before .before .before .before .before .before .before .before .before .before .before .before .before .before .before .loop .inv .1 lists ps depth pieces l h p q) _ (c .before .before .before .before .before .before .before .before .before .before .before .before .before .before .before .before .before .before .next-reference .ensures) _ (c .before .before .before .before .before .before .before .before .before .before .before .before .before .before .before .before .r .given .1) _ _ (λ _ _. copied-on _ _ _ (c .before .before .before .before .before .before .before .before .before .before .before .before .before .before .before .before .before .before .before .loop .inv .0) _ _ _ (c .before .before .before .before .before .before .before .before .before .before .emit-bytes2 .ensures .0) (c .before .before .before .before .before .before .before .before .before .before .emit-bytes2 .ensures .1) _ (c .before .before .before .before .before .before .before .before .before .before .before .before .bytes-between2 .ensures)) _ (c .before .before .before .before .before .before .before .new-offset .ensures ps h p) _ _ (λ o v m w. emits-on _ _ _ (within-on _ _ _ (c .before .before .before .before .before .before .before .before .before .before .before .before .before .before .before .before .before .before .before .loop .inv .0) _ _ (copied-within _ _ _ _ (c .before .before .before .before .before .before .before .before .before .before .emit-bytes2 .ensures .0) (c .before .before .before .before .before .before .before .before .before .before .emit-bytes2 .ensures .1)) _ refl) (c .before .before .before .before .before .emit-offset .ensures .1 o v m w)) _ (onward-no _ _ _ (c .before .n2 .given .1))))
+returns-2 c = (within-stop _ _ _ (within-on _ _ _ (c .before .before .before .before .before .before .before .before .before .before .before .before .before .before .before .before .before .before .before .loop .inv .0) _ _ (copied-within _ _ _ _ (c .before .before .before .before .before .before .before .before .before .before .emit-bytes2 .ensures .0) (c .before .before .before .before .before .before .before .before .before .before .emit-bytes2 .ensures .1)) _ refl) _ _ (c .before .before .before .before .before .emit-offset .ensures .0) _, λ lists ps depth pieces l h p q. from-start (going-refused lists ps depth pieces _ _ _ _ _ _ _ _ (c .before .before .before .before .before .before .before .before .before .before .before .before .before .before .before .before .before .before .before .loop .inv .1 lists ps depth pieces l h p q) _ (c .before .before .before .before .before .before .before .before .before .before .before .before .before .before .before .before .before .before .next-reference .ensures) _ (c .before .before .before .before .before .before .before .before .before .before .before .before .before .before .before .before .r .given .1) _ _ (λ _ _. copied-on _ _ _ (c .before .before .before .before .before .before .before .before .before .before .before .before .before .before .before .before .before .before .before .loop .inv .0) _ _ _ (c .before .before .before .before .before .before .before .before .before .before .emit-bytes2 .ensures .0) (c .before .before .before .before .before .before .before .before .before .before .emit-bytes2 .ensures .1) _ (c .before .before .before .before .before .before .before .before .before .before .before .before .bytes-between2 .ensures)) _ (c .before .before .before .before .before .before .before .new-offset .ensures ∙ looked-held ps _ _ _ h p) _ _ (λ o v m w. emits-on _ _ _ (within-on _ _ _ (c .before .before .before .before .before .before .before .before .before .before .before .before .before .before .before .before .before .before .before .loop .inv .0) _ _ (copied-within _ _ _ _ (c .before .before .before .before .before .before .before .before .before .before .emit-bytes2 .ensures .0) (c .before .before .before .before .before .before .before .before .before .before .emit-bytes2 .ensures .1)) _ refl) (c .before .before .before .before .before .emit-offset .ensures .1 o v m w)) _ (onward-no _ _ _ (c .before .n2 .given .1))))
 
 past-requires : tie.Need-past-requires Inv-loop μ-loop
 past-requires c κs = search needs
@@ -121,7 +122,7 @@ loop-less : tie.Need-loop-less Inv-loop μ-loop
 loop-less c = search next-less
 
 loop-again : tie.Need-loop-again Inv-loop μ-loop
-loop-again c = (within-on _ _ _ (within-on _ _ _ (c .before .before .before .before .before .before .before .before .before .before .before .before .before .before .before .before .before .before .before .before .loop .inv .0) _ _ (copied-within _ _ _ _ (c .before .before .before .before .before .before .before .before .before .before .before .emit-bytes2 .ensures .0) (c .before .before .before .before .before .before .before .before .before .before .before .emit-bytes2 .ensures .1)) _ refl) _ _ (c .before .before .before .before .before .before .emit-offset .ensures .0) _ (c .before .before .n .given .1), λ lists ps depth pieces l h p q. going-on lists ps depth pieces _ _ _ _ _ _ _ _ (c .before .before .before .before .before .before .before .before .before .before .before .before .before .before .before .before .before .before .before .before .loop .inv .1 lists ps depth pieces l h p q) _ (c .before .before .before .before .before .before .before .before .before .before .before .before .before .before .before .before .before .before .before .next-reference .ensures) _ (c .before .before .before .before .before .before .before .before .before .before .before .before .before .before .before .before .before .r .given .1) _ _ (λ _ _. copied-on _ _ _ (c .before .before .before .before .before .before .before .before .before .before .before .before .before .before .before .before .before .before .before .before .loop .inv .0) _ _ _ (c .before .before .before .before .before .before .before .before .before .before .before .emit-bytes2 .ensures .0) (c .before .before .before .before .before .before .before .before .before .before .before .emit-bytes2 .ensures .1) _ (c .before .before .before .before .before .before .before .before .before .before .before .before .before .bytes-between2 .ensures)) _ (c .before .before .before .before .before .before .before .before .new-offset .ensures ps h p) _ _ (λ o v m w. emits-on _ _ _ (within-on _ _ _ (c .before .before .before .before .before .before .before .before .before .before .before .before .before .before .before .before .before .before .before .before .loop .inv .0) _ _ (copied-within _ _ _ _ (c .before .before .before .before .before .before .before .before .before .before .before .emit-bytes2 .ensures .0) (c .before .before .before .before .before .before .before .before .before .before .before .emit-bytes2 .ensures .1)) _ refl) (c .before .before .before .before .before .before .emit-offset .ensures .1 o v m w)) _ (onward-to _ _ _ (c .before .before .n .given .1)) _ (c .past .ensures))
+loop-again c = (within-on _ _ _ (within-on _ _ _ (c .before .before .before .before .before .before .before .before .before .before .before .before .before .before .before .before .before .before .before .before .loop .inv .0) _ _ (copied-within _ _ _ _ (c .before .before .before .before .before .before .before .before .before .before .before .emit-bytes2 .ensures .0) (c .before .before .before .before .before .before .before .before .before .before .before .emit-bytes2 .ensures .1)) _ refl) _ _ (c .before .before .before .before .before .before .emit-offset .ensures .0) _ (c .before .before .n .given .1), λ lists ps depth pieces l h p q. going-on lists ps depth pieces _ _ _ _ _ _ _ _ (c .before .before .before .before .before .before .before .before .before .before .before .before .before .before .before .before .before .before .before .before .loop .inv .1 lists ps depth pieces l h p q) _ (c .before .before .before .before .before .before .before .before .before .before .before .before .before .before .before .before .before .before .before .next-reference .ensures) _ (c .before .before .before .before .before .before .before .before .before .before .before .before .before .before .before .before .before .r .given .1) _ _ (λ _ _. copied-on _ _ _ (c .before .before .before .before .before .before .before .before .before .before .before .before .before .before .before .before .before .before .before .before .loop .inv .0) _ _ _ (c .before .before .before .before .before .before .before .before .before .before .before .emit-bytes2 .ensures .0) (c .before .before .before .before .before .before .before .before .before .before .before .emit-bytes2 .ensures .1) _ (c .before .before .before .before .before .before .before .before .before .before .before .before .before .bytes-between2 .ensures)) _ (c .before .before .before .before .before .before .before .before .new-offset .ensures ∙ looked-held ps _ _ _ h p) _ _ (λ o v m w. emits-on _ _ _ (within-on _ _ _ (c .before .before .before .before .before .before .before .before .before .before .before .before .before .before .before .before .before .before .before .before .loop .inv .0) _ _ (copied-within _ _ _ _ (c .before .before .before .before .before .before .before .before .before .before .before .emit-bytes2 .ensures .0) (c .before .before .before .before .before .before .before .before .before .before .before .emit-bytes2 .ensures .1)) _ refl) (c .before .before .before .before .before .before .emit-offset .ensures .1 o v m w)) _ (onward-to _ _ _ (c .before .before .n .given .1)) _ (c .past .ensures))
 
 pub emit-expression-spec : {M : Type 1} → statement M
 emit-expression-spec =

@@ -8,10 +8,10 @@ use Rattle.rewriting.proofs.indices.any_declares.Statement.{statement}
 use Rattle.rewriting.proofs.indices.any_declares.Tie as tie
 
 abbrev Inv-loop : tie.InvT-loop
-Inv-loop unit abbreviations r index first name at₀ at = SameFrom r abbreviations index unit name at₀ at
+Inv-loop unit abbreviations r index name at₀ at = SameFrom r abbreviations index unit name (at₀ .at) (at .at)
 
 abbrev μ-loop : tie.MeasureT-loop
-μ-loop unit abbreviations r index first name at₀ at = length unit - at
+μ-loop unit abbreviations r index name at₀ at = length unit - at .at
 
 loop-holds : tie.Need-loop-holds Inv-loop μ-loop
 loop-holds c = λ x u w. refl

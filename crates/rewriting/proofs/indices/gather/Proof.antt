@@ -9,13 +9,13 @@ use Rattle.rewriting.proofs.indices.gather.Statement.{statement}
 use Rattle.rewriting.proofs.indices.gather.Tie as tie
 
 abbrev Inv-loop : tie.InvT-loop
-Inv-loop unit abbreviations r index parents ends marks first ordered range-list₀ location-list₀ string-list₀ s₀ g₀ range-list location-list string-list s g =
-    Collecting r abbreviations index unit 0 ordered parents ends marks first range-list₀ s range-list (g .ranges)
-    × Collecting r abbreviations index unit 1 ordered parents ends marks first location-list₀ s location-list (g .locations)
-    × Collecting r abbreviations index unit 2 ordered parents ends marks first string-list₀ s string-list (g .strings)
+Inv-loop unit abbreviations r index parents ends marks ordered range-list₀ location-list₀ string-list₀ s₀ g₀ range-list location-list string-list s g =
+    Collecting r abbreviations index unit 0 ordered parents ends marks (s₀ .at .at) range-list₀ s range-list (g .ranges)
+    × Collecting r abbreviations index unit 1 ordered parents ends marks (s₀ .at .at) location-list₀ s location-list (g .locations)
+    × Collecting r abbreviations index unit 2 ordered parents ends marks (s₀ .at .at) string-list₀ s string-list (g .strings)
 
 abbrev μ-loop : tie.MeasureT-loop
-μ-loop unit abbreviations r index parents ends marks first ordered range-list₀ location-list₀ string-list₀ s₀ g₀ range-list location-list string-list s g = length unit - s .at
+μ-loop unit abbreviations r index parents ends marks ordered range-list₀ location-list₀ string-list₀ s₀ g₀ range-list location-list string-list s g = length unit - s .at .at
 
 outside-requires : tie.Need-outside-requires Inv-loop μ-loop
 outside-requires c κs = search needs

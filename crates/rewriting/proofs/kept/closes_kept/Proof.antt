@@ -7,9 +7,6 @@ use Rattle.rewriting.proofs.kept.closes_kept.Tie as tie
 returns : tie.Need-returns
 returns c = search closes-outside
 
-cast-is-kept : tie.Need-cast-is-kept
-cast-is-kept c = search needs
-
 is-kept-requires : tie.Need-is-kept-requires
 is-kept-requires c κs = search needs
 
@@ -17,4 +14,4 @@ returns-2 : tie.Need-returns-2
 returns-2 c = search closes-inside
 
 pub closes-kept-spec : {M : Type 1} → statement M
-closes-kept-spec = tie.close (tie.spec returns cast-is-kept is-kept-requires returns-2)
+closes-kept-spec = tie.close (tie.spec returns is-kept-requires returns-2)

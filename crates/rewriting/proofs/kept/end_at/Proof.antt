@@ -1,12 +1,14 @@
 -- `end_at` by its cases. Assumes nothing.
-use mathlib.Core.Path.{sym}
-use lib.ListN.{List·getD-eq-default}
 use borrow.Author.Needs.{needs}
+use Rattle.rewriting.proofs.EndsFilled.{end-there, end-outside}
 use Rattle.rewriting.proofs.kept.end_at.Statement.{statement}
 use Rattle.rewriting.proofs.kept.end_at.Tie as tie
 
+place-requires : tie.Need-place-requires
+place-requires c κs = search needs
+
 returns : tie.Need-returns
-returns c = sym (List·getD-eq-default (c .before .args .ends .now) 0 (c .if1 .taken))
+returns c = search end-outside
 
 mul-result : tie.Need-mul-result
 mul-result c = search needs
@@ -15,7 +17,7 @@ shared-slice-read-result : tie.Need-shared-slice-read-result
 shared-slice-read-result c = search needs
 
 returns-2 : tie.Need-returns-2
-returns-2 c = search needs
+returns-2 c = search end-there
 
 pub end-at-spec : {M : Type 1} → statement M
-end-at-spec = tie.close (tie.spec returns mul-result shared-slice-read-result returns-2)
+end-at-spec = tie.close (tie.spec place-requires returns mul-result shared-slice-read-result returns-2)

@@ -1,9 +1,12 @@
 -- `end_column` by its cases. Assumes nothing.
 use mathlib.Core.Path.{refl}
 use borrow.Author.Needs.{needs}
-use Rattle.rewriting.proofs.EndsFilled.{ended-out}
+use Rattle.rewriting.proofs.EndsFilled.{ended-in, ended-out}
 use Rattle.rewriting.proofs.kept.end_column.Statement.{statement}
 use Rattle.rewriting.proofs.kept.end_column.Tie as tie
+
+place-requires : tie.Need-place-requires
+place-requires c κs = search needs
 
 mul-ends : tie.Need-mul-ends
 mul-ends c = search needs
@@ -15,10 +18,10 @@ same-length : tie.Need-same-length
 same-length c = search needs
 
 returns : tie.Need-returns
-returns c = search needs
+returns c = ended-in (c .before .before .before .args .ends .now) _ _ (c .before .place .ensures) (c .if1 .taken)
 
 returns-2 : tie.Need-returns-2
 returns-2 c = (search ended-out, λ i h. refl)
 
 pub end-column-spec : {M : Type 1} → statement M
-end-column-spec = tie.close (tie.spec mul-ends slice-write-ends same-length returns returns-2)
+end-column-spec = tie.close (tie.spec place-requires mul-ends slice-write-ends same-length returns returns-2)

@@ -3,15 +3,15 @@ use Prim.Native.Nat.{_-_}
 use native.Mathlib.Omega.{arith}
 use lib.ListN.{length}
 use borrow.Author.Needs.{needs}
-use Rattle.rewriting.proofs.EndsFilled.{Ending, ending-start, ending-end, ending-bad, ending-terminator-less, ending-terminator, ending-full, ending-entry-less, ending-entry}
+use Rattle.rewriting.proofs.EndsFilled.{Ending, ending-start, ending-end, ending-bad, ending-terminator-less, ending-terminator, ending-full, ending-over, ending-entry-less, ending-entry}
 use Rattle.rewriting.proofs.kept.fill_ends.Statement.{statement}
 use Rattle.rewriting.proofs.kept.fill_ends.Tie as tie
 
 abbrev Inv-loop : tie.InvT-loop
-Inv-loop unit abbreviations r index first ends₀ at₀ count₀ ends at count = Ending r abbreviations index unit first ends₀ ends at count
+Inv-loop unit abbreviations r index ends₀ at₀ count₀ ends at count = Ending r abbreviations index unit (at₀ .at) ends₀ ends (at .at) (count .0)
 
 abbrev μ-loop : tie.MeasureT-loop
-μ-loop unit abbreviations r index first ends₀ at₀ count₀ ends at count = length unit - at
+μ-loop unit abbreviations r index ends₀ at₀ count₀ ends at count = length unit - at .at
 
 loop-holds : tie.Need-loop-holds Inv-loop μ-loop
 loop-holds c = ending-start _ _ _ _ _ _
@@ -26,19 +26,28 @@ same-length : tie.Need-same-length Inv-loop μ-loop
 same-length c = search needs
 
 returns : tie.Need-returns Inv-loop μ-loop
-returns c = search ending-full
+returns c = search ending-over
+
+place-requires : tie.Need-place-requires Inv-loop μ-loop
+place-requires c κs = search needs
+
+same-length-2 : tie.Need-same-length-2 Inv-loop μ-loop
+same-length-2 c = search needs
+
+returns-2 : tie.Need-returns-2 Inv-loop μ-loop
+returns-2 c = search ending-full
 
 end-number-requires : tie.Need-end-number-requires Inv-loop μ-loop
 end-number-requires c κs = search needs
 
 mul-ends : tie.Need-mul-ends Inv-loop μ-loop
-mul-ends c = omega (arith, c .before .before .before .before .before .before .before .before .loop .inv .size, c .before .before .before .before .before .before .before .before .before .before .before .before .before .good .1 .1 .1 .1 .1 .0 .1, c .before .before .before .if1 .left)
+mul-ends c = search needs
 
 slice-write-ends : tie.Need-slice-write-ends Inv-loop μ-loop
 slice-write-ends c = search needs
 
-add-count : tie.Need-add-count Inv-loop μ-loop
-add-count c = omega (arith, c .before .before .before .before .before .before .before .before .loop .inv .size, c .before .before .before .before .before .before .before .before .before .before .before .before .before .good .1 .1 .1 .1 .1 .0 .1, c .before .before .before .if1 .left)
+add-t20 : tie.Need-add-t20 Inv-loop μ-loop
+add-t20 c = search needs
 
 loop-less : tie.Need-loop-less Inv-loop μ-loop
 loop-less c = search ending-entry-less
@@ -61,11 +70,11 @@ enum-told c = search needs
 end-column-requires : tie.Need-end-column-requires Inv-loop μ-loop
 end-column-requires c κs = search needs
 
-same-length-2 : tie.Need-same-length-2 Inv-loop μ-loop
-same-length-2 c = search needs
+same-length-3 : tie.Need-same-length-3 Inv-loop μ-loop
+same-length-3 c = search needs
 
-returns-2 : tie.Need-returns-2 Inv-loop μ-loop
-returns-2 c = search ending-end
+returns-3 : tie.Need-returns-3 Inv-loop μ-loop
+returns-3 c = search ending-end
 
 enum-told-2 : tie.Need-enum-told-2 Inv-loop μ-loop
 enum-told-2 c = search needs
@@ -73,11 +82,11 @@ enum-told-2 c = search needs
 end-column-requires-2 : tie.Need-end-column-requires-2 Inv-loop μ-loop
 end-column-requires-2 c κs = search needs
 
-same-length-3 : tie.Need-same-length-3 Inv-loop μ-loop
-same-length-3 c = search needs
+same-length-4 : tie.Need-same-length-4 Inv-loop μ-loop
+same-length-4 c = search needs
 
-returns-3 : tie.Need-returns-3 Inv-loop μ-loop
-returns-3 c = search ending-bad
+returns-4 : tie.Need-returns-4 Inv-loop μ-loop
+returns-4 c = search ending-bad
 
 pub fill-ends-spec : {M : Type 1} → statement M
 fill-ends-spec =
@@ -90,10 +99,13 @@ fill-ends-spec =
     enum-known-x
     same-length
     returns
+    place-requires
+    same-length-2
+    returns-2
     end-number-requires
     mul-ends
     slice-write-ends
-    add-count
+    add-t20
     loop-less
     loop-again
     enum-known-next
@@ -101,9 +113,9 @@ fill-ends-spec =
     loop-again-2
     enum-told
     end-column-requires
-    same-length-2
-    returns-2
+    same-length-3
+    returns-3
     enum-told-2
     end-column-requires-2
-    same-length-3
-    returns-3)
+    same-length-4
+    returns-4)

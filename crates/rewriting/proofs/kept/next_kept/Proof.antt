@@ -12,17 +12,17 @@ use Rattle.rewriting.proofs.kept.next_kept.Tie as tie
 
 abbrev Inv-loop : tie.InvT-loop
 Inv-loop unit abbreviations r index parents ends marks at₀ count₀ nesting₀ at count nesting =
-    Walking (r .encoding) abbreviations (findAt abbreviations (r .from) index) unit parents ends marks (stand at₀ count₀ nesting₀) (stand at count nesting)
+    Walking (r .encoding) abbreviations (findAt abbreviations (r .from) index) unit parents ends marks (stand (at₀ .at) (count₀ .0) nesting₀) (stand (at .at) (count .0) nesting)
 
 abbrev μ-loop : tie.MeasureT-loop
-μ-loop unit abbreviations r index parents ends marks at₀ count₀ nesting₀ at count nesting = length unit - at
+μ-loop unit abbreviations r index parents ends marks at₀ count₀ nesting₀ at count nesting = length unit - at .at
 
 loop-holds : tie.Need-loop-holds Inv-loop μ-loop
 loop-holds c = walking-start _ _ _ _ _ _ _ _
 
 returns : tie.Need-returns Inv-loop μ-loop
 returns c =
-    end-end _ _ _ _ _ _ _ (c .before .before .before .before .before .before .before .before .before .args .s) (stand (c .before .loop .at) (c .before .loop .count) (c .before .loop .nesting)) (c .before .loop .inv) (sym (step-end _ _ _ _ _ (c .if1 .taken)))
+    end-end _ _ _ _ _ _ _ (c .before .before .before .before .before .before .before .before .before .before .before .before .args .s) (stand (c .before .before .loop .at .at) (c .before .before .loop .count .0) (c .before .before .loop .nesting)) (c .before .before .loop .inv) (sym (step-end _ _ _ _ _ (c .if1 .taken)))
 
 uleb-requires : tie.Need-uleb-requires Inv-loop μ-loop
 uleb-requires c κs = search needs
@@ -35,7 +35,7 @@ enum-told c = search needs
 
 returns-2 : tie.Need-returns-2 Inv-loop μ-loop
 returns-2 c =
-    stop-none _ _ _ _ _ _ _ (c .before .before .before .before .before .before .before .before .before .before .before .before .args .s) (stand (c .before .before .before .before .loop .at) (c .before .before .before .before .loop .count) (c .before .before .before .before .loop .nesting)) (c .before .before .before .before .loop .inv) (c .before .before .before .if1 .left) _ (c .before .before .uleb .ensures) (c .enum-told .given .1)
+    stop-none _ _ _ _ _ _ _ (c .before .before .before .before .before .before .before .before .before .before .before .before .before .before .before .args .s) (stand (c .before .before .before .before .before .loop .at .at) (c .before .before .before .before .before .loop .count .0) (c .before .before .before .before .before .loop .nesting)) (c .before .before .before .before .before .loop .inv) (c .before .before .before .if1 .left) _ (c .before .before .uleb .ensures) (c .enum-told .given .1)
 
 closes-kept-requires : tie.Need-closes-kept-requires Inv-loop μ-loop
 closes-kept-requires c κs = search needs
@@ -45,42 +45,39 @@ after-terminator-requires c κs = search needs
 
 returns-3 : tie.Need-returns-3 Inv-loop μ-loop
 returns-3 c =
-    terminator-item _ _ _ _ _ _ _ (c .before .before .before .before .before .before .before .before .before .before .before .before .before .before .before .before .before .args .s) (stand (c .before .before .before .before .before .before .before .before .before .loop .at) (c .before .before .before .before .before .before .before .before .before .loop .count) (c .before .before .before .before .before .before .before .before .before .loop .nesting)) (c .before .before .before .before .before .before .before .before .before .loop .inv) _ (at-terminator _ _ _ _ _ _ _ (c .before .before .before .before .before .before .before .before .before .before .before .before .before .before .before .before .before .args .s) (stand (c .before .before .before .before .before .before .before .before .before .loop .at) (c .before .before .before .before .before .before .before .before .before .loop .count) (c .before .before .before .before .before .before .before .before .before .loop .nesting)) (c .before .before .before .before .before .before .before .before .before .loop .inv) (c .before .before .before .before .before .before .before .before .if1 .left) _ (c .before .before .before .before .before .before .before .uleb .ensures) _ _ (c .before .before .before .before .before .code .given .1) (c .before .before .before .if2 .taken)) _ (c .before .after-terminator .ensures) (sym (c .before .before .closes-kept .ensures) ∙ c .if3 .taken)
+    terminator-item _ _ _ _ _ _ _ (c .before .before .before .before .before .before .before .before .before .before .before .before .before .before .before .before .before .before .before .before .args .s) (stand (c .before .before .before .before .before .before .before .before .before .before .loop .at .at) (c .before .before .before .before .before .before .before .before .before .before .loop .count .0) (c .before .before .before .before .before .before .before .before .before .before .loop .nesting)) (c .before .before .before .before .before .before .before .before .before .before .loop .inv) _ (at-terminator _ _ _ _ _ _ _ (c .before .before .before .before .before .before .before .before .before .before .before .before .before .before .before .before .before .before .before .before .args .s) (stand (c .before .before .before .before .before .before .before .before .before .before .loop .at .at) (c .before .before .before .before .before .before .before .before .before .before .loop .count .0) (c .before .before .before .before .before .before .before .before .before .before .loop .nesting)) (c .before .before .before .before .before .before .before .before .before .before .loop .inv) (c .before .before .before .before .before .before .before .before .if1 .left) _ (c .before .before .before .before .before .before .before .uleb .ensures) _ _ (c .before .before .before .before .before .code .given .1) (c .before .before .before .if2 .taken)) _ (c .before .after-terminator .ensures) (sym (c .before .before .closes-kept .ensures) ∙ c .if3 .taken)
 
 loop-less : tie.Need-loop-less Inv-loop μ-loop
 loop-less c =
-    terminator-less _ _ _ _ _ _ _ (c .before .before .before .before .before .before .before .before .before .before .before .before .before .before .before .before .before .args .s) (stand (c .before .before .before .before .before .before .before .before .before .loop .at) (c .before .before .before .before .before .before .before .before .before .loop .count) (c .before .before .before .before .before .before .before .before .before .loop .nesting)) (c .before .before .before .before .before .before .before .before .before .loop .inv) _ (at-terminator _ _ _ _ _ _ _ (c .before .before .before .before .before .before .before .before .before .before .before .before .before .before .before .before .before .args .s) (stand (c .before .before .before .before .before .before .before .before .before .loop .at) (c .before .before .before .before .before .before .before .before .before .loop .count) (c .before .before .before .before .before .before .before .before .before .loop .nesting)) (c .before .before .before .before .before .before .before .before .before .loop .inv) (c .before .before .before .before .before .before .before .before .if1 .left) _ (c .before .before .before .before .before .before .before .uleb .ensures) _ _ (c .before .before .before .before .before .code .given .1) (c .before .before .before .if2 .taken))
+    terminator-less _ _ _ _ _ _ _ (c .before .before .before .before .before .before .before .before .before .before .before .before .before .before .before .before .before .before .before .before .args .s) (stand (c .before .before .before .before .before .before .before .before .before .before .loop .at .at) (c .before .before .before .before .before .before .before .before .before .before .loop .count .0) (c .before .before .before .before .before .before .before .before .before .before .loop .nesting)) (c .before .before .before .before .before .before .before .before .before .before .loop .inv) _ (at-terminator _ _ _ _ _ _ _ (c .before .before .before .before .before .before .before .before .before .before .before .before .before .before .before .before .before .before .before .before .args .s) (stand (c .before .before .before .before .before .before .before .before .before .before .loop .at .at) (c .before .before .before .before .before .before .before .before .before .before .loop .count .0) (c .before .before .before .before .before .before .before .before .before .before .loop .nesting)) (c .before .before .before .before .before .before .before .before .before .before .loop .inv) (c .before .before .before .before .before .before .before .before .if1 .left) _ (c .before .before .before .before .before .before .before .uleb .ensures) _ _ (c .before .before .before .before .before .code .given .1) (c .before .before .before .if2 .taken))
 
 loop-again : tie.Need-loop-again Inv-loop μ-loop
 loop-again c =
-    terminator-on _ _ _ _ _ _ _ (c .before .before .before .before .before .before .before .before .before .before .before .before .before .before .before .before .before .args .s) (stand (c .before .before .before .before .before .before .before .before .before .loop .at) (c .before .before .before .before .before .before .before .before .before .loop .count) (c .before .before .before .before .before .before .before .before .before .loop .nesting)) (c .before .before .before .before .before .before .before .before .before .loop .inv) _ (at-terminator _ _ _ _ _ _ _ (c .before .before .before .before .before .before .before .before .before .before .before .before .before .before .before .before .before .args .s) (stand (c .before .before .before .before .before .before .before .before .before .loop .at) (c .before .before .before .before .before .before .before .before .before .loop .count) (c .before .before .before .before .before .before .before .before .before .loop .nesting)) (c .before .before .before .before .before .before .before .before .before .loop .inv) (c .before .before .before .before .before .before .before .before .if1 .left) _ (c .before .before .before .before .before .before .before .uleb .ensures) _ _ (c .before .before .before .before .before .code .given .1) (c .before .before .before .if2 .taken)) _ (c .before .after-terminator .ensures) (sym (c .before .before .closes-kept .ensures) ∙ c .if3 .left)
+    terminator-on _ _ _ _ _ _ _ (c .before .before .before .before .before .before .before .before .before .before .before .before .before .before .before .before .before .before .before .before .args .s) (stand (c .before .before .before .before .before .before .before .before .before .before .loop .at .at) (c .before .before .before .before .before .before .before .before .before .before .loop .count .0) (c .before .before .before .before .before .before .before .before .before .before .loop .nesting)) (c .before .before .before .before .before .before .before .before .before .before .loop .inv) _ (at-terminator _ _ _ _ _ _ _ (c .before .before .before .before .before .before .before .before .before .before .before .before .before .before .before .before .before .before .before .before .args .s) (stand (c .before .before .before .before .before .before .before .before .before .before .loop .at .at) (c .before .before .before .before .before .before .before .before .before .before .loop .count .0) (c .before .before .before .before .before .before .before .before .before .before .loop .nesting)) (c .before .before .before .before .before .before .before .before .before .before .loop .inv) (c .before .before .before .before .before .before .before .before .if1 .left) _ (c .before .before .before .before .before .before .before .uleb .ensures) _ _ (c .before .before .before .before .before .code .given .1) (c .before .before .before .if2 .taken)) _ (c .before .after-terminator .ensures) (sym (c .before .before .closes-kept .ensures) ∙ c .if3 .left)
 
 returns-4 : tie.Need-returns-4 Inv-loop μ-loop
 returns-4 c =
-    stop-over _ _ _ _ _ _ _ (c .before .before .before .before .before .before .before .before .before .before .before .before .before .before .before .args .s) (stand (c .before .before .before .before .before .before .before .loop .at) (c .before .before .before .before .before .before .before .loop .count) (c .before .before .before .before .before .before .before .loop .nesting)) (c .before .before .before .before .before .before .before .loop .inv) (c .before .before .before .before .before .before .if1 .left) _ (c .before .before .before .before .before .uleb .ensures) _ _ (c .before .before .before .code .given .1) (c .before .if2 .left) (c .if4 .taken)
+    stop-over _ _ _ _ _ _ _ (c .before .before .before .before .before .before .before .before .before .before .before .before .before .before .before .before .before .before .before .args .s) (stand (c .before .before .before .before .before .before .before .before .before .loop .at .at) (c .before .before .before .before .before .before .before .before .before .loop .count .0) (c .before .before .before .before .before .before .before .before .before .loop .nesting)) (c .before .before .before .before .before .before .before .before .before .loop .inv) (c .before .before .before .before .before .before .before .if1 .left) _ (c .before .before .before .before .before .before .uleb .ensures) _ _ (c .before .before .before .before .code .given .1) (c .before .before .if2 .left) (c .if4 .taken)
 
 end-at-requires : tie.Need-end-at-requires Inv-loop μ-loop
 end-at-requires c κs = search needs
 
 returns-5 : tie.Need-returns-5 Inv-loop μ-loop
 returns-5 c =
-    stop-low _ _ _ _ _ _ _ (c .before .before .before .before .before .before .before .before .before .before .before .before .before .before .before .before .before .before .args .s) (stand (c .before .before .before .before .before .before .before .before .before .before .loop .at) (c .before .before .before .before .before .before .before .before .before .before .loop .count) (c .before .before .before .before .before .before .before .before .before .before .loop .nesting)) (c .before .before .before .before .before .before .before .before .before .before .loop .inv) (c .before .before .before .before .before .before .before .before .before .if1 .left) _ (c .before .before .before .before .before .before .before .before .uleb .ensures) _ _ (c .before .before .before .before .before .before .code .given .1) (c .before .before .before .before .if2 .left) _ (c .before .before .end-at .ensures) (c .if5 .taken)
+    stop-low _ _ _ _ _ _ _ (c .before .before .before .before .before .before .before .before .before .before .before .before .before .before .before .before .before .before .before .before .before .before .args .s) (stand (c .before .before .before .before .before .before .before .before .before .before .before .before .loop .at .at) (c .before .before .before .before .before .before .before .before .before .before .before .before .loop .count .0) (c .before .before .before .before .before .before .before .before .before .before .before .before .loop .nesting)) (c .before .before .before .before .before .before .before .before .before .before .before .before .loop .inv) (c .before .before .before .before .before .before .before .before .before .before .if1 .left) _ (c .before .before .before .before .before .before .before .before .before .uleb .ensures) _ _ (c .before .before .before .before .before .before .before .code .given .1) (c .before .before .before .before .before .if2 .left) _ (c .before .before .end-at .ensures) (c .if5 .taken)
 
 returns-6 : tie.Need-returns-6 Inv-loop μ-loop
 returns-6 c =
-    stop-high _ _ _ _ _ _ _ (c .before .before .before .before .before .before .before .before .before .before .before .before .before .before .before .before .before .before .before .args .s) (stand (c .before .before .before .before .before .before .before .before .before .before .before .loop .at) (c .before .before .before .before .before .before .before .before .before .before .before .loop .count) (c .before .before .before .before .before .before .before .before .before .before .before .loop .nesting)) (c .before .before .before .before .before .before .before .before .before .before .before .loop .inv) (c .before .before .before .before .before .before .before .before .before .before .if1 .left) _ (c .before .before .before .before .before .before .before .before .before .uleb .ensures) _ _ (c .before .before .before .before .before .before .before .code .given .1) (c .before .before .before .before .before .if2 .left) _ (c .before .before .before .end-at .ensures) (c .if6 .taken)
+    stop-high _ _ _ _ _ _ _ (c .before .before .before .before .before .before .before .before .before .before .before .before .before .before .before .before .before .before .before .before .before .before .before .args .s) (stand (c .before .before .before .before .before .before .before .before .before .before .before .before .before .loop .at .at) (c .before .before .before .before .before .before .before .before .before .before .before .before .before .loop .count .0) (c .before .before .before .before .before .before .before .before .before .before .before .before .before .loop .nesting)) (c .before .before .before .before .before .before .before .before .before .before .before .before .before .loop .inv) (c .before .before .before .before .before .before .before .before .before .before .before .if1 .left) _ (c .before .before .before .before .before .before .before .before .before .before .uleb .ensures) _ _ (c .before .before .before .before .before .before .before .before .code .given .1) (c .before .before .before .before .before .before .if2 .left) _ (c .before .before .before .end-at .ensures) (c .if6 .taken)
 
 is-kept-requires : tie.Need-is-kept-requires Inv-loop μ-loop
 is-kept-requires c κs = search needs
 
-cast-t32 : tie.Need-cast-t32 Inv-loop μ-loop
-cast-t32 c = search needs
-
 after-entry-requires : tie.Need-after-entry-requires Inv-loop μ-loop
 after-entry-requires c κs = search needs
 
-add-count : tie.Need-add-count Inv-loop μ-loop
-add-count c = search needs
+add-t32 : tie.Need-add-t32 Inv-loop μ-loop
+add-t32 c = search needs
 
 find-declaration-requires : tie.Need-find-declaration-requires Inv-loop μ-loop
 find-declaration-requires c κs = search needs
@@ -93,19 +90,19 @@ enum-told-2 c = search needs
 
 returns-7 : tie.Need-returns-7 Inv-loop μ-loop
 returns-7 c =
-    stop-unknown _ _ _ _ _ _ _ (c .before .before .before .before .before .before .before .before .before .before .before .before .before .before .before .before .before .before .before .before .before .before .before .before .before .args .s) (stand (c .before .before .before .before .before .before .before .before .before .before .before .before .before .before .before .before .before .loop .at) (c .before .before .before .before .before .before .before .before .before .before .before .before .before .before .before .before .before .loop .count) (c .before .before .before .before .before .before .before .before .before .before .before .before .before .before .before .before .before .loop .nesting)) (c .before .before .before .before .before .before .before .before .before .before .before .before .before .before .before .before .before .loop .inv) (c .before .before .before .before .before .before .before .before .before .before .before .before .before .before .before .before .if1 .left) _ (c .before .before .before .before .before .before .before .before .before .before .before .before .before .before .before .uleb .ensures) _ _ (c .before .before .before .before .before .before .before .before .before .before .before .before .before .code .given .1) (c .before .before .before .before .before .before .before .before .before .before .before .if2 .left) _ (found-at _ _ _ _ _ (c .before .before .find-declaration .ensures)) (c .enum-told2 .given .1)
+    stop-unknown _ _ _ _ _ _ _ (c .before .before .before .before .before .before .before .before .before .before .before .before .before .before .before .before .before .before .before .before .before .before .before .before .before .before .before .before .before .before .args .s) (stand (c .before .before .before .before .before .before .before .before .before .before .before .before .before .before .before .before .before .before .before .before .loop .at .at) (c .before .before .before .before .before .before .before .before .before .before .before .before .before .before .before .before .before .before .before .before .loop .count .0) (c .before .before .before .before .before .before .before .before .before .before .before .before .before .before .before .before .before .before .before .before .loop .nesting)) (c .before .before .before .before .before .before .before .before .before .before .before .before .before .before .before .before .before .before .before .before .loop .inv) (c .before .before .before .before .before .before .before .before .before .before .before .before .before .before .before .before .before .before .if1 .left) _ (c .before .before .before .before .before .before .before .before .before .before .before .before .before .before .before .before .before .uleb .ensures) _ _ (c .before .before .before .before .before .before .before .before .before .before .before .before .before .before .before .code .given .1) (c .before .before .before .before .before .before .before .before .before .before .before .before .before .if2 .left) _ (found-at _ _ _ _ _ (c .before .before .find-declaration .ensures)) (c .enum-told2 .given .1)
 
 returns-8 : tie.Need-returns-8 Inv-loop μ-loop
 returns-8 c =
-    ends-item _ _ _ _ _ _ _ (c .before .before .before .before .before .before .before .before .before .before .before .before .before .before .before .before .before .before .before .before .before .before .before .before .before .before .before .args .s) (stand (c .before .before .before .before .before .before .before .before .before .before .before .before .before .before .before .before .before .before .before .loop .at) (c .before .before .before .before .before .before .before .before .before .before .before .before .before .before .before .before .before .before .before .loop .count) (c .before .before .before .before .before .before .before .before .before .before .before .before .before .before .before .before .before .before .before .loop .nesting)) (c .before .before .before .before .before .before .before .before .before .before .before .before .before .before .before .before .before .before .before .loop .inv) (c .before .before .before .before .before .before .before .before .before .before .before .before .before .before .before .before .before .before .if1 .left) _ (c .before .before .before .before .before .before .before .before .before .before .before .before .before .before .before .before .before .uleb .ensures) _ _ (c .before .before .before .before .before .before .before .before .before .before .before .before .before .before .before .code .given .1) (c .before .before .before .before .before .before .before .before .before .before .before .before .before .if2 .left) _ (c .before .before .before .before .before .before .before .before .before .before .before .end-at .ensures) (c .before .before .before .before .before .before .before .before .before .if5 .left) (c .before .before .before .before .before .before .before .before .if6 .left) _ (c .before .before .before .before .before .before .after-entry .ensures) _ (found-at _ _ _ _ _ (c .before .before .before .before .find-declaration .ensures)) _ (c .before .before .d .given .1) (sym (c .before .before .before .before .before .before .before .is-kept .ensures) ∙ c .before .before .before .before .before .if7 .taken)
+    ends-item _ _ _ _ _ _ _ (c .before .before .before .before .before .before .before .before .before .before .before .before .before .before .before .before .before .before .before .before .before .before .before .before .before .before .before .before .before .before .before .before .args .s) (stand (c .before .before .before .before .before .before .before .before .before .before .before .before .before .before .before .before .before .before .before .before .before .before .loop .at .at) (c .before .before .before .before .before .before .before .before .before .before .before .before .before .before .before .before .before .before .before .before .before .before .loop .count .0) (c .before .before .before .before .before .before .before .before .before .before .before .before .before .before .before .before .before .before .before .before .before .before .loop .nesting)) (c .before .before .before .before .before .before .before .before .before .before .before .before .before .before .before .before .before .before .before .before .before .before .loop .inv) (c .before .before .before .before .before .before .before .before .before .before .before .before .before .before .before .before .before .before .before .before .if1 .left) _ (c .before .before .before .before .before .before .before .before .before .before .before .before .before .before .before .before .before .before .before .uleb .ensures) _ _ (c .before .before .before .before .before .before .before .before .before .before .before .before .before .before .before .before .before .code .given .1) (c .before .before .before .before .before .before .before .before .before .before .before .before .before .before .before .if2 .left) _ (c .before .before .before .before .before .before .before .before .before .before .before .before .end-at .ensures) (c .before .before .before .before .before .before .before .before .before .before .if5 .left) (c .before .before .before .before .before .before .before .before .before .if6 .left) _ (c .before .before .before .before .before .before .before .after-entry .ensures) _ (found-at _ _ _ _ _ (c .before .before .before .before .find-declaration .ensures)) _ (c .before .before .d .given .1) (sym (c .before .before .before .before .before .before .before .before .is-kept .ensures) ∙ c .before .before .before .before .before .if7 .taken)
 
 loop-less-2 : tie.Need-loop-less-2 Inv-loop μ-loop
 loop-less-2 c =
-    ends-less _ _ _ _ _ _ _ (c .before .before .before .before .before .before .before .before .before .before .before .before .before .before .before .before .before .before .before .before .before .before .args .s) (stand (c .before .before .before .before .before .before .before .before .before .before .before .before .before .before .loop .at) (c .before .before .before .before .before .before .before .before .before .before .before .before .before .before .loop .count) (c .before .before .before .before .before .before .before .before .before .before .before .before .before .before .loop .nesting)) (c .before .before .before .before .before .before .before .before .before .before .before .before .before .before .loop .inv) (c .before .before .before .before .before .before .before .before .before .before .before .before .before .if1 .left) _ (c .before .before .before .before .before .before .before .before .before .before .before .before .uleb .ensures) _ _ (c .before .before .before .before .before .before .before .before .before .before .code .given .1) (c .before .before .before .before .before .before .before .before .if2 .left) _ (c .before .before .before .before .before .before .end-at .ensures) (c .before .before .before .before .if5 .left) (c .before .before .before .if6 .left)
+    ends-less _ _ _ _ _ _ _ (c .before .before .before .before .before .before .before .before .before .before .before .before .before .before .before .before .before .before .before .before .before .before .before .before .before .before .before .args .s) (stand (c .before .before .before .before .before .before .before .before .before .before .before .before .before .before .before .before .before .loop .at .at) (c .before .before .before .before .before .before .before .before .before .before .before .before .before .before .before .before .before .loop .count .0) (c .before .before .before .before .before .before .before .before .before .before .before .before .before .before .before .before .before .loop .nesting)) (c .before .before .before .before .before .before .before .before .before .before .before .before .before .before .before .before .before .loop .inv) (c .before .before .before .before .before .before .before .before .before .before .before .before .before .before .before .if1 .left) _ (c .before .before .before .before .before .before .before .before .before .before .before .before .before .before .uleb .ensures) _ _ (c .before .before .before .before .before .before .before .before .before .before .before .before .code .given .1) (c .before .before .before .before .before .before .before .before .before .before .if2 .left) _ (c .before .before .before .before .before .before .before .end-at .ensures) (c .before .before .before .before .before .if5 .left) (c .before .before .before .before .if6 .left)
 
 loop-again-2 : tie.Need-loop-again-2 Inv-loop μ-loop
 loop-again-2 c =
-    ends-on _ _ _ _ _ _ _ (c .before .before .before .before .before .before .before .before .before .before .before .before .before .before .before .before .before .before .before .before .before .before .args .s) (stand (c .before .before .before .before .before .before .before .before .before .before .before .before .before .before .loop .at) (c .before .before .before .before .before .before .before .before .before .before .before .before .before .before .loop .count) (c .before .before .before .before .before .before .before .before .before .before .before .before .before .before .loop .nesting)) (c .before .before .before .before .before .before .before .before .before .before .before .before .before .before .loop .inv) (c .before .before .before .before .before .before .before .before .before .before .before .before .before .if1 .left) _ (c .before .before .before .before .before .before .before .before .before .before .before .before .uleb .ensures) _ _ (c .before .before .before .before .before .before .before .before .before .before .code .given .1) (c .before .before .before .before .before .before .before .before .if2 .left) _ (c .before .before .before .before .before .before .end-at .ensures) (c .before .before .before .before .if5 .left) (c .before .before .before .if6 .left) _ (c .before .after-entry .ensures) (sym (c .before .before .is-kept .ensures) ∙ c .if7 .left)
+    ends-on _ _ _ _ _ _ _ (c .before .before .before .before .before .before .before .before .before .before .before .before .before .before .before .before .before .before .before .before .before .before .before .before .before .before .before .args .s) (stand (c .before .before .before .before .before .before .before .before .before .before .before .before .before .before .before .before .before .loop .at .at) (c .before .before .before .before .before .before .before .before .before .before .before .before .before .before .before .before .before .loop .count .0) (c .before .before .before .before .before .before .before .before .before .before .before .before .before .before .before .before .before .loop .nesting)) (c .before .before .before .before .before .before .before .before .before .before .before .before .before .before .before .before .before .loop .inv) (c .before .before .before .before .before .before .before .before .before .before .before .before .before .before .before .if1 .left) _ (c .before .before .before .before .before .before .before .before .before .before .before .before .before .before .uleb .ensures) _ _ (c .before .before .before .before .before .before .before .before .before .before .before .before .code .given .1) (c .before .before .before .before .before .before .before .before .before .before .if2 .left) _ (c .before .before .before .before .before .before .before .end-at .ensures) (c .before .before .before .before .before .if5 .left) (c .before .before .before .before .if6 .left) _ (c .before .before .after-entry .ensures) (sym (c .before .before .before .is-kept .ensures) ∙ c .if7 .left)
 
 pub next-kept-spec : {M : Type 1} → statement M
 next-kept-spec =
@@ -129,9 +126,8 @@ next-kept-spec =
     returns-5
     returns-6
     is-kept-requires
-    cast-t32
     after-entry-requires
-    add-count
+    add-t32
     find-declaration-requires
     enum-known-d
     enum-told-2

@@ -1,6 +1,8 @@
 -- `new_at` meets its contract.
 use native.Mathlib.Omega.{arith}
 use borrow.Author.Needs.{needs}
+use Rattle.rewriting.specs.Written.{newAt}
+use Rattle.rewriting.proofs.Tables.{room-in, no-room}
 use Rattle.rewriting.proofs.map.new_at.Statement.{statement}
 use Rattle.rewriting.proofs.map.new_at.Tie as tie
 
@@ -8,7 +10,8 @@ room-requires : tie.Need-room-requires
 room-requires c κs = search needs
 
 returns : tie.Need-returns
-returns c = search needs
+unfolding newAt
+returns c = no-room _ _ _ (omega arith)
 
 mul-big-endian-at : tie.Need-mul-big-endian-at
 mul-big-endian-at c = search needs
@@ -20,7 +23,8 @@ big-endian-at-requires : tie.Need-big-endian-at-requires
 big-endian-at-requires c κs = search needs
 
 returns-2 : tie.Need-returns-2
-returns-2 c = λ h. c .big-endian-at .ensures (omega arith) (omega arith)
+unfolding newAt
+returns-2 c = room-in _ _ _ _ (omega arith) (c .big-endian-at .ensures (omega arith) (omega arith))
 
 pub new-at-spec : {M : Type 1} → statement M
 new-at-spec =

@@ -1,6 +1,8 @@
 -- `old_at` meets its contract.
 use native.Mathlib.Omega.{arith}
 use borrow.Author.Needs.{needs}
+use Rattle.rewriting.specs.Written.{oldAt}
+use Rattle.rewriting.proofs.Tables.{room-in, no-room}
 use Rattle.rewriting.proofs.map.old_at.Statement.{statement}
 use Rattle.rewriting.proofs.map.old_at.Tie as tie
 
@@ -8,7 +10,8 @@ room-requires : tie.Need-room-requires
 room-requires c κs = search needs
 
 returns : tie.Need-returns
-returns c = search needs
+unfolding oldAt
+returns c = no-room _ _ _ (omega arith)
 
 mul-big-endian-at : tie.Need-mul-big-endian-at
 mul-big-endian-at c = search needs
@@ -17,7 +20,8 @@ big-endian-at-requires : tie.Need-big-endian-at-requires
 big-endian-at-requires c κs = search needs
 
 returns-2 : tie.Need-returns-2
-returns-2 c = λ h. c .big-endian-at .ensures (omega arith) (omega arith)
+unfolding oldAt
+returns-2 c = room-in _ _ _ _ (omega arith) (c .big-endian-at .ensures (omega arith) (omega arith))
 
 pub old-at-spec : {M : Type 1} → statement M
 old-at-spec =

@@ -10,11 +10,11 @@ use Rattle.rewriting.proofs.passes.place_items.Statement.{statement}
 use Rattle.rewriting.proofs.passes.place_items.Tie as tie
 
 abbrev Inv-loop : tie.InvT-loop
-Inv-loop unit abbreviations r index parents ends marks first map₀ s₀ places₀ bytes₀ map s places bytes =
-    Placing (itemsBy r abbreviations index unit) parents ends marks unit first map₀ map s places bytes
+Inv-loop unit abbreviations r index parents ends marks map₀ s₀ places₀ new₀ map s places new =
+    Placing (itemsBy r abbreviations index unit) parents ends marks unit (s₀ .at .at) map₀ map s places (new .0)
 
 abbrev μ-loop : tie.MeasureT-loop
-μ-loop unit abbreviations r index parents ends marks first map₀ s₀ places₀ bytes₀ map s places bytes = length unit - s .at
+μ-loop unit abbreviations r index parents ends marks map₀ s₀ places₀ new₀ map s places new = length unit - s .at .at
 
 outside-requires : tie.Need-outside-requires Inv-loop μ-loop
 outside-requires c κs = search needs
@@ -40,27 +40,30 @@ returns c = (search measuring-end, search placing-end)
 put-place-requires : tie.Need-put-place-requires Inv-loop μ-loop
 put-place-requires c κs = search needs
 
-sub-bytes : tie.Need-sub-bytes Inv-loop μ-loop
-sub-bytes c = measuring-fits _ _ _ _ _ _ _ _ _ (c .before .before .before .before .before .before .before .before .before .loop .inv .measuring) _ (c .before .before .before .before .before .before .before .before .next-kept .ensures) _ (c .before .before .before .before .before .before .x .given .1) .1
+sub-t26 : tie.Need-sub-t26 Inv-loop μ-loop
+sub-t26 c = measuring-fits _ _ _ _ _ _ _ _ _ (c .before .before .before .before .before .before .before .before .before .before .before .loop .inv .measuring) _ (c .before .before .before .before .before .before .before .before .before .before .next-kept .ensures) _ (c .before .before .before .before .before .before .before .before .x .given .1) .1
 
-add-bytes : tie.Need-add-bytes Inv-loop μ-loop
-add-bytes c =
-    let f = measuring-fits _ _ _ _ _ _ _ _ _ (c .before .before .before .before .before .before .before .before .before .loop .inv .measuring) _ (c .before .before .before .before .before .before .before .before .next-kept .ensures) _ (c .before .before .before .before .before .before .x .given .1) in
-    let g : c .before .before .before .before .before .before .before .before .before .loop .bytes + (c .before .before .before .before .before .before .x .given .0 .0 .end - c .before .before .before .before .before .before .x .given .0 .0 .start) ≤ c .before .before .before .before .before .before .x .given .0 .0 .end = f .2 in
-    omega (arith, g, c .struct-known .given)
+add-t27 : tie.Need-add-t27 Inv-loop μ-loop
+add-t27 c =
+    let f = measuring-fits _ _ _ _ _ _ _ _ _ (c .before .before .before .before .before .before .before .before .before .before .before .before .loop .inv .measuring) _ (c .before .before .before .before .before .before .before .before .before .before .before .next-kept .ensures) _ (c .before .before .before .before .before .before .before .before .before .x .given .1) in
+    let g : c .before .before .before .before .before .before .before .before .before .before .before .before .loop .new .0 + (c .before .before .before .before .before .before .before .before .before .x .given .0 .0 .end .at - c .before .before .before .before .before .before .before .before .before .x .given .0 .0 .start .0) ≤ c .before .before .before .before .before .before .before .before .before .x .given .0 .0 .end .at = f .2 in
+    let h : c .before .before .before .before .before .before .before .before .before .x .given .0 .0 .end .at ≤ length (c .before .before .before .before .before .before .before .before .before .before .before .before .before .before .before .before .before .before .before .before .before .args .unit .now) = f .3 in
+    let z : c .before .before .before .before .before .before .before .before .before .before .before .before .loop .new .0 + (c .before .before .before .before .before .before .before .before .before .x .given .0 .0 .end .at - c .before .before .before .before .before .before .before .before .before .x .given .0 .0 .start .0) < 18446744073709551616 = omega (arith, g, h, c .before .before .before .before .before .before .before .before .before .before .before .before .before .before .before .before .before .before .before .before .before .good .0 .1) in
+    record { fits = z }
 
 add-places : tie.Need-add-places Inv-loop μ-loop
 add-places c =
-    let f = measuring-fits _ _ _ _ _ _ _ _ _ (c .before .before .before .before .before .before .before .before .before .loop .inv .measuring) _ (c .before .before .before .before .before .before .before .before .next-kept .ensures) _ (c .before .before .before .before .before .before .x .given .1) in
-    let g : c .before .before .before .before .before .before .before .before .before .loop .places < c .before .before .before .before .before .before .x .given .0 .0 .end = f .0 in
-    omega (arith, g, c .struct-known .given)
+    let f = measuring-fits _ _ _ _ _ _ _ _ _ (c .before .before .before .before .before .before .before .before .before .before .before .before .loop .inv .measuring) _ (c .before .before .before .before .before .before .before .before .before .before .before .next-kept .ensures) _ (c .before .before .before .before .before .before .before .before .before .x .given .1) in
+    let g : c .before .before .before .before .before .before .before .before .before .before .before .before .loop .places < c .before .before .before .before .before .before .before .before .before .x .given .0 .0 .end .at = f .0 in
+    let h : c .before .before .before .before .before .before .before .before .before .x .given .0 .0 .end .at ≤ length (c .before .before .before .before .before .before .before .before .before .before .before .before .before .before .before .before .before .before .before .before .before .args .unit .now) = f .3 in
+    omega (arith, g, h, c .before .before .before .before .before .before .before .before .before .before .before .before .before .before .before .before .before .before .before .before .before .good .0 .1)
 
 loop-less : tie.Need-loop-less Inv-loop μ-loop
 loop-less c = search next-less
 
 loop-again : tie.Need-loop-again Inv-loop μ-loop
 loop-again c =
-    placing-more _ _ _ _ _ _ _ _ _ _ _ (c .before .before .before .before .before .before .before .before .before .before .loop .inv) _ (c .before .before .before .before .before .before .before .before .before .next-kept .ensures) _ (c .before .before .before .before .before .before .before .x .given .1) _ (search needs) (c .before .before .before .before .put-place .ensures)
+    placing-more _ _ _ _ _ _ _ _ _ _ _ (c .before .before .before .before .before .before .before .before .before .before .before .before .before .loop .inv) _ (c .before .before .before .before .before .before .before .before .before .before .before .before .next-kept .ensures) _ (c .before .before .before .before .before .before .before .before .before .before .x .given .1) _ (search needs) (c .before .before .before .before .before .put-place .ensures)
 
 pub place-items-spec : {M : Type 1} → statement M
 place-items-spec =
@@ -76,8 +79,8 @@ place-items-spec =
     same-length
     returns
     put-place-requires
-    sub-bytes
-    add-bytes
+    sub-t26
+    add-t27
     add-places
     loop-less
     loop-again)

@@ -3,6 +3,7 @@ use Prim.Native.Nat.{_-_}
 use native.Mathlib.Omega.{arith}
 use Rattle.rewriting.proofs.Bounded.{Least, least-start, least-more, least-all, least-done}
 use borrow.Author.Needs.{needs}
+use Rattle.rewriting.proofs.Places.{depth-there}
 use Rattle.rewriting.proofs.siblings.shallowest.Statement.{statement}
 use Rattle.rewriting.proofs.siblings.shallowest.Tie as tie
 
@@ -31,7 +32,7 @@ loop-less : tie.Need-loop-less Inv-loop μ-loop
 loop-less c = omega arith
 
 loop-again : tie.Need-loop-again Inv-loop μ-loop
-loop-again c = least-more _ _ _ _ _ _ _ (c .before .before .before .before .loop .inv) (omega arith) (c .before .depth-at .ensures) (c .lesser .ensures .0) (c .lesser .ensures .1)
+loop-again c = least-more _ _ _ _ _ _ _ (c .before .before .before .before .loop .inv) (omega arith) (depth-there _ _ _ (c .before .depth-at .ensures)) (c .lesser .ensures .0) (c .lesser .ensures .1)
 
 returns-2 : tie.Need-returns-2 Inv-loop μ-loop
 returns-2 c = (c .before .loop .inv .fits, least-done _ _ _ _ _ _ (c .before .loop .inv) (c .loop-test .left))

@@ -28,7 +28,7 @@ Inv-loop unit abbreviations r index parents ends marks first map places bounds r
     → Writing r abbreviations index unit parents ends marks first x u lists ps out₀ s out to)
 
 abbrev μ-loop : tie.MeasureT-loop
-μ-loop unit abbreviations r index parents ends marks first map places bounds ranges ranges-count locations locations-count strings strings-count out₀ s₀ to₀ out s to = length unit - s .at
+μ-loop unit abbreviations r index parents ends marks first map places bounds ranges ranges-count locations locations-count strings strings-count out₀ s₀ to₀ out s to = length unit - s .at .at
 
 outside-requires : tie.Need-outside-requires Inv-loop μ-loop
 outside-requires c κs = search needs
@@ -52,13 +52,13 @@ returns : tie.Need-returns Inv-loop μ-loop
 returns c = (c .before .before .before .loop .inv .0, λ x u lists ps p q l h k b g. from-start (writing-end _ _ _ _ _ _ _ _ x u lists ps p l _ _ _ _ (c .before .before .before .loop .inv .1 x u lists ps p q l h k b g) _ (c .before .before .next-kept .ensures) (c .enum-told .given .1)))
 
 sub-emit-entry : tie.Need-sub-emit-entry Inv-loop μ-loop
-sub-emit-entry c = omega (arith, inside _ _ _ (c .before .before .before .before .before .before .loop .inv .0))
+sub-emit-entry c = omega (arith, inside _ _ _ (c .before .before .before .before .before .before .before .before .loop .inv .0))
 
 part-emit-entry-start : tie.Need-part-emit-entry-start Inv-loop μ-loop
-part-emit-entry-start c = omega (arith, inside _ _ _ (c .before .before .before .before .before .before .loop .inv .0))
+part-emit-entry-start c = omega (arith, inside _ _ _ (c .before .before .before .before .before .before .before .before .loop .inv .0))
 
 part-emit-entry-end : tie.Need-part-emit-entry-end Inv-loop μ-loop
-part-emit-entry-end c = omega (arith, inside _ _ _ (c .before .before .before .before .before .before .loop .inv .0))
+part-emit-entry-end c = omega (arith, inside _ _ _ (c .before .before .before .before .before .before .before .before .loop .inv .0))
 
 emit-entry-requires : tie.Need-emit-entry-requires Inv-loop μ-loop
 emit-entry-requires c κs = search needs
@@ -67,46 +67,46 @@ enum-known-n : tie.Need-enum-known-n Inv-loop μ-loop
 enum-known-n c = search needs
 
 add-to : tie.Need-add-to Inv-loop μ-loop
-add-to c = record { fits = after-small _ _ _ (c .before .before .before .before .before .before .before .before .before .before .before .before .before .loop .inv .0) _ _ (c .before .before .before .before .before .emit-entry .ensures .0) (c .before .before .before .before .before .before .before .before .before .before .before .before .before .before .before .before .before .before .before .before .before .before .before .before .before .before .before .good .1 .1 .1 .1 .1 .1 .1 .1 .1 .1 .1 .1 .1 .1 .1 .1 .1 .0 .0) _ (c .before .n .given .1) }
+add-to c = record { fits = after-small _ _ _ (c .before .before .before .before .before .before .before .before .before .before .before .before .before .before .before .loop .inv .0) _ _ (c .before .before .before .before .before .emit-entry .ensures .0) (c .before .before .before .before .before .before .before .before .before .before .before .before .before .before .before .before .before .before .before .before .before .before .before .before .before .before .before .before .before .good .1 .1 .1 .1 .1 .1 .1 .1 .1 .1 .1 .1 .1 .1 .1 .1 .1 .0 .0) _ (c .before .n .given .1) }
 
 loop-less : tie.Need-loop-less Inv-loop μ-loop
 loop-less c = search next-less
 
 loop-again : tie.Need-loop-again Inv-loop μ-loop
-loop-again c = (within-on _ _ _ (c .before .before .before .before .before .before .before .before .before .before .before .before .before .loop .inv .0) _ _ (c .before .before .before .before .before .emit-entry .ensures .0) _ (c .before .n .given .1), λ x u lists ps p q l h k b g. writing-entry _ _ _ _ _ _ _ _ x u lists ps p l _ _ _ _ (c .before .before .before .before .before .before .before .before .before .before .before .before .before .loop .inv .1 x u lists ps p q l h k b g) _ (c .before .before .before .before .before .before .before .before .before .before .before .before .next-kept .ensures) (c .before .before .before .before .before .before .before .before .before .before .x .given .0 .0) (c .before .before .before .before .before .before .before .before .before .before .x .given .1) (c .before .before .before .before .before .before .before .if1 .taken) _ _ (λ look z rs rest s t v d. emits-on _ _ _ (c .before .before .before .before .before .before .before .before .before .before .before .before .before .loop .inv .0) (c .before .before .before .before .before .emit-entry .ensures .1 lists ps look z rs rest l h k b g s t v d)) _ (onward-to _ _ _ (c .before .n .given .1)))
+loop-again c = (within-on _ _ _ (c .before .before .before .before .before .before .before .before .before .before .before .before .before .before .before .loop .inv .0) _ _ (c .before .before .before .before .before .emit-entry .ensures .0) _ (c .before .n .given .1), λ x u lists ps p q l h k b g. writing-entry _ _ _ _ _ _ _ _ x u lists ps p l _ _ _ _ (c .before .before .before .before .before .before .before .before .before .before .before .before .before .before .before .loop .inv .1 x u lists ps p q l h k b g) _ (c .before .before .before .before .before .before .before .before .before .before .before .before .before .before .next-kept .ensures) (c .before .before .before .before .before .before .before .before .before .before .before .before .x .given .0 .0) (c .before .before .before .before .before .before .before .before .before .before .before .before .x .given .1) (c .before .before .before .before .before .before .before .if1 .taken) _ _ (λ look z rs rest s t v d. emits-on _ _ _ (c .before .before .before .before .before .before .before .before .before .before .before .before .before .before .before .loop .inv .0) (c .before .before .before .before .before .emit-entry .ensures .1 lists ps look z rs rest l h k b g s t v d)) _ (onward-to _ _ _ (c .before .n .given .1)))
 
 enum-known-n-2 : tie.Need-enum-known-n-2 Inv-loop μ-loop
 enum-known-n-2 c = search needs
 
 same-length-2 : tie.Need-same-length-2 Inv-loop μ-loop
-same-length-2 c = (within-stop _ _ _ (c .before .before .before .before .before .before .before .before .before .before .before .before .before .loop .inv .0) _ _ (c .before .before .before .before .before .emit-entry .ensures .0) 0) .size
+same-length-2 c = (within-stop _ _ _ (c .before .before .before .before .before .before .before .before .before .before .before .before .before .before .before .loop .inv .0) _ _ (c .before .before .before .before .before .emit-entry .ensures .0) 0) .size
 
 returns-2 : tie.Need-returns-2 Inv-loop μ-loop
-returns-2 c = (within-stop _ _ _ (c .before .before .before .before .before .before .before .before .before .before .before .before .before .loop .inv .0) _ _ (c .before .before .before .before .before .emit-entry .ensures .0) _, λ x u lists ps p q l h k b g. from-start (writing-refused _ _ _ _ _ _ _ _ x u lists ps p l _ _ _ _ (c .before .before .before .before .before .before .before .before .before .before .before .before .before .loop .inv .1 x u lists ps p q l h k b g) _ (c .before .before .before .before .before .before .before .before .before .before .before .before .next-kept .ensures) (c .before .before .before .before .before .before .before .before .before .before .x .given .0 .0) (c .before .before .before .before .before .before .before .before .before .before .x .given .1) (c .before .before .before .before .before .before .before .if1 .taken) _ _ (λ look z rs rest s t v d. emits-on _ _ _ (c .before .before .before .before .before .before .before .before .before .before .before .before .before .loop .inv .0) (c .before .before .before .before .before .emit-entry .ensures .1 lists ps look z rs rest l h k b g s t v d)) _ (onward-no _ _ _ (c .before .n2 .given .1))))
+returns-2 c = (within-stop _ _ _ (c .before .before .before .before .before .before .before .before .before .before .before .before .before .before .before .loop .inv .0) _ _ (c .before .before .before .before .before .emit-entry .ensures .0) _, λ x u lists ps p q l h k b g. from-start (writing-refused _ _ _ _ _ _ _ _ x u lists ps p l _ _ _ _ (c .before .before .before .before .before .before .before .before .before .before .before .before .before .before .before .loop .inv .1 x u lists ps p q l h k b g) _ (c .before .before .before .before .before .before .before .before .before .before .before .before .before .before .next-kept .ensures) (c .before .before .before .before .before .before .before .before .before .before .before .before .x .given .0 .0) (c .before .before .before .before .before .before .before .before .before .before .before .before .x .given .1) (c .before .before .before .before .before .before .before .if1 .taken) _ _ (λ look z rs rest s t v d. emits-on _ _ _ (c .before .before .before .before .before .before .before .before .before .before .before .before .before .before .before .loop .inv .0) (c .before .before .before .before .before .emit-entry .ensures .1 lists ps look z rs rest l h k b g s t v d)) _ (onward-no _ _ _ (c .before .n2 .given .1))))
 
 bytes-between-requires : tie.Need-bytes-between-requires Inv-loop μ-loop
 bytes-between-requires c κs = search needs
 
 sub-emit-bytes : tie.Need-sub-emit-bytes Inv-loop μ-loop
-sub-emit-bytes c = omega (arith, inside _ _ _ (c .before .before .before .before .before .before .before .loop .inv .0))
+sub-emit-bytes c = omega (arith, inside _ _ _ (c .before .before .before .before .before .before .before .before .before .loop .inv .0))
 
 part-emit-bytes-start : tie.Need-part-emit-bytes-start Inv-loop μ-loop
-part-emit-bytes-start c = omega (arith, inside _ _ _ (c .before .before .before .before .before .before .before .loop .inv .0))
+part-emit-bytes-start c = omega (arith, inside _ _ _ (c .before .before .before .before .before .before .before .before .before .loop .inv .0))
 
 part-emit-bytes-end : tie.Need-part-emit-bytes-end Inv-loop μ-loop
-part-emit-bytes-end c = omega (arith, inside _ _ _ (c .before .before .before .before .before .before .before .loop .inv .0))
+part-emit-bytes-end c = omega (arith, inside _ _ _ (c .before .before .before .before .before .before .before .before .before .loop .inv .0))
 
 emit-bytes-requires : tie.Need-emit-bytes-requires Inv-loop μ-loop
 emit-bytes-requires c κs = search needs
 
 add-to-2 : tie.Need-add-to-2 Inv-loop μ-loop
-add-to-2 c = record { fits = after-small _ _ _ (c .before .before .before .before .before .before .before .before .before .before .before .loop .inv .0) _ _ (copied-within _ _ _ _ (c .before .before .emit-bytes .ensures .0) (c .before .before .emit-bytes .ensures .1)) (c .before .before .before .before .before .before .before .before .before .before .before .before .before .before .before .before .before .before .before .before .before .before .before .before .before .good .1 .1 .1 .1 .1 .1 .1 .1 .1 .1 .1 .1 .1 .1 .1 .1 .1 .0 .0) _ refl }
+add-to-2 c = record { fits = after-small _ _ _ (c .before .before .before .before .before .before .before .before .before .before .before .before .before .loop .inv .0) _ _ (copied-within _ _ _ _ (c .before .before .emit-bytes .ensures .0) (c .before .before .emit-bytes .ensures .1)) (c .before .before .before .before .before .before .before .before .before .before .before .before .before .before .before .before .before .before .before .before .before .before .before .before .before .before .before .good .1 .1 .1 .1 .1 .1 .1 .1 .1 .1 .1 .1 .1 .1 .1 .1 .1 .0 .0) _ refl }
 
 loop-less-2 : tie.Need-loop-less-2 Inv-loop μ-loop
 loop-less-2 c = search next-less
 
 loop-again-2 : tie.Need-loop-again-2 Inv-loop μ-loop
-loop-again-2 c = (within-on _ _ _ (c .before .before .before .before .before .before .before .before .before .before .before .loop .inv .0) _ _ (copied-within _ _ _ _ (c .before .before .emit-bytes .ensures .0) (c .before .before .emit-bytes .ensures .1)) _ refl, λ x u lists ps p q l h k b g. writing-terminator _ _ _ _ _ _ _ _ x u lists ps p l _ _ _ _ (c .before .before .before .before .before .before .before .before .before .before .before .loop .inv .1 x u lists ps p q l h k b g) _ (c .before .before .before .before .before .before .before .before .before .before .next-kept .ensures) (c .before .before .before .before .before .before .before .before .x .given .0 .0) (c .before .before .before .before .before .before .before .before .x .given .1) (c .before .before .before .before .before .if1 .left) _ _ (λ _ _. copied-on _ _ _ (c .before .before .before .before .before .before .before .before .before .before .before .loop .inv .0) _ _ _ (c .before .before .emit-bytes .ensures .0) (c .before .before .emit-bytes .ensures .1) _ (c .before .before .before .before .bytes-between .ensures)))
+loop-again-2 c = (within-on _ _ _ (c .before .before .before .before .before .before .before .before .before .before .before .before .before .loop .inv .0) _ _ (copied-within _ _ _ _ (c .before .before .emit-bytes .ensures .0) (c .before .before .emit-bytes .ensures .1)) _ refl, λ x u lists ps p q l h k b g. writing-terminator _ _ _ _ _ _ _ _ x u lists ps p l _ _ _ _ (c .before .before .before .before .before .before .before .before .before .before .before .before .before .loop .inv .1 x u lists ps p q l h k b g) _ (c .before .before .before .before .before .before .before .before .before .before .before .before .next-kept .ensures) (c .before .before .before .before .before .before .before .before .before .before .x .given .0 .0) (c .before .before .before .before .before .before .before .before .before .before .x .given .1) (c .before .before .before .before .before .if1 .left) _ _ (λ _ _. copied-on _ _ _ (c .before .before .before .before .before .before .before .before .before .before .before .before .before .loop .inv .0) _ _ _ (c .before .before .emit-bytes .ensures .0) (c .before .before .emit-bytes .ensures .1) _ (c .before .before .before .before .bytes-between .ensures)))
 
 pub emit-dies-spec : {M : Type 1} → statement M
 emit-dies-spec =
