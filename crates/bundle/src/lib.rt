@@ -1,5 +1,6 @@
 // A bundle: the sections of one unit in one run of bytes, as the programs read it from standard input.
 ghost use mathlib.Core.Path.{_≡_};
+ghost use Rattle.readers.specs.Fields.{partOf};
 ghost use Rattle.bundle.specs.Bundle.{bundleOf, frameOf, part, sectionsOf};
 use readers::cursor::Cursor;
 use readers::cursor::Encoding;
@@ -85,6 +86,13 @@ fn sections(s: &[u8]) -> BundleRead
         ranges,
         addresses,
     })
+}
+
+// The bytes of a section of the bundle.
+pub fn section_bytes<'a>(s: &'a [u8], section: Field) -> &'a [u8]
+    ensures { λ r. ⌜ now r ≡ partOf (now (s .entry)) section ⌝ }
+{
+    section.expression(s)
 }
 
 // Reads a bundle: the length of the rest, version 1, and the sections.

@@ -8,6 +8,7 @@ use readers::attributes::Attribute;
 use readers::attributes::AttributeRead;
 use readers::cursor::Cursor;
 use readers::cursor::Encoding;
+use readers::cursor::Moved;
 use readers::entries::Entry;
 use readers::entries::Step;
 use readers::expressions::References;
@@ -18,10 +19,10 @@ use readers::lists::ListOffset;
 use readers::operations::ListEntry;
 use readers::operations::ListStep;
 
-// Where the walk through the entries stands: the next place, its depth, and the list bases.
+// Where the walk through the entries stands: the next entry or terminator, its depth, and the list bases.
 struct Place {
     done: bool,
-    at: usize,
+    next: Cursor,
     depth: u64,
     range_base: u64,
     location_base: u64,
@@ -30,8 +31,8 @@ struct Place {
 // Where the walk through an entry's attributes stands: the next value and the next specification.
 struct Values {
     done: bool,
-    at: usize,
-    spec: usize,
+    value: Cursor,
+    spec: Cursor,
 }
 
 fn text(s: &[u8]) {
@@ -57,18 +58,6 @@ fn signed_number(s: &[u8], n: u64) {
 fn refused(n: u64) {
     number(b"refused ", n);
     text(b"\n");
-}
-
-// A part of the bundle, or nothing where it is none.
-pub fn part<'a>(s: &'a [u8], f: Field) -> &'a [u8] {
-    let start = f.start;
-    let end = f.end;
-    if start <= end {
-        if end <= s.len() {
-            return &s[start..end];
-        }
-    }
-    &s[0..0]
 }
 
 // ---- values
@@ -171,60 +160,47 @@ fn list_lines(s: &[u8], entry: ListEntry, location: bool, e: Encoding) {
             number(b" bytes ", f.start as u64);
             number(b" to ", f.end as u64);
             text(b"\n");
-            expression(part(s, f), e.address_size);
+            expression(f.expression(s), e.address_size);
             return;
         }
     }
     text(b"\n");
 }
 
-// One entry of a list; answers where the next one is, or the end.
-fn list_step(s: &[u8], at: usize, location: bool, e: Encoding) -> Values {
-    match (Cursor { at }).list_entry(s, location, e) {
+// One entry of a list; answers where the next one is, or nowhere at the list's end.
+fn list_step(s: &[u8], c: Cursor, location: bool, e: Encoding) -> Moved {
+    match c.list_entry(s, location, e) {
         ListStep::Entry(entry) => {
             list_lines(s, entry, location, e);
             let next = entry.next;
-            Values {
-                done: false,
-                at: next.at,
-                spec: 0,
-            }
+            Moved::To(next)
         }
         ListStep::End => {
             text(b"  end\n");
-            Values {
-                done: true,
-                at,
-                spec: 0,
-            }
+            Moved::Unreadable
         }
         ListStep::Unreadable => {
             text(b"  list ");
             refused(5);
-            Values {
-                done: true,
-                at,
-                spec: 0,
-            }
+            Moved::Unreadable
         }
     }
 }
 
 fn list(s: &[u8], start: ListOffset, location: bool, e: Encoding) {
-    let ListOffset::At(c) = start else {
+    let ListOffset::At(first) = start else {
         text(b"  list unresolved\n");
         return;
     };
-    number(b"  list at ", c.at as u64);
+    number(b"  list at ", first.at as u64);
     text(b"\n");
-    let mut at = c.at;
+    let mut c = first;
     let mut turns: usize = 65537;
     while turns > 0 {
-        let next = list_step(s, at, location, e);
-        if next.done {
+        let Moved::To(next) = list_step(s, c, location, e) else {
             return;
-        }
-        at = next.at;
+        };
+        c = next;
         turns -= 1;
     }
 }
@@ -288,17 +264,15 @@ fn attribute_lines(
     number(b" form ", v.form);
     value(v.form, field, a.implicit);
     if v.form == 0x18 {
-        expression(part(unit, field), e.address_size);
+        expression(field.expression(unit), e.address_size);
     }
     lists(locations, ranges, p, a.name, v.form, field.value, e);
 }
 
-fn ended(at: usize) -> Values {
-    Values {
-        done: true,
-        at,
-        spec: 0,
-    }
+fn ended(v: Values) -> Values {
+    let mut w = v;
+    w.done = true;
+    w
 }
 
 // One attribute of an entry.
@@ -312,20 +286,20 @@ fn attribute_step(
     e: Encoding,
 ) -> Values {
     let spec = v.spec;
-    let at = v.at;
-    let SpecStep::Attribute(a) = (Cursor { at: spec }).attribute_spec(abbreviations) else {
-        return ended(at);
+    let place = v.value;
+    let SpecStep::Attribute(a) = spec.attribute_spec(abbreviations) else {
+        return ended(v);
     };
-    let AttributeRead::Read(r) = (Cursor { at }).attribute(unit, a.name, a.form, e) else {
-        return ended(at);
+    let AttributeRead::Read(r) = place.attribute(unit, a.name, a.form, e) else {
+        return ended(v);
     };
     attribute_lines(unit, locations, ranges, p, a, r, e);
     let field = r.field;
     let next = a.next;
     Values {
         done: false,
-        at: field.end,
-        spec: next.at,
+        value: field.next(),
+        spec: next,
     }
 }
 
@@ -366,21 +340,20 @@ fn with_base(p: Place, name: u64, form: u64, value: u64) -> Place {
 
 fn bases(unit: &[u8], abbreviations: &[u8], p: Place, first: Values, e: Encoding) -> Place {
     let mut q = p;
-    let mut at = first.at;
+    let mut c = first.value;
     let mut spec = first.spec;
     let mut turns: usize = 65537;
     while turns > 0 {
-        let SpecStep::Attribute(a) = (Cursor { at: spec }).attribute_spec(abbreviations) else {
+        let SpecStep::Attribute(a) = spec.attribute_spec(abbreviations) else {
             return q;
         };
-        let AttributeRead::Read(r) = (Cursor { at }).attribute(unit, a.name, a.form, e) else {
+        let AttributeRead::Read(r) = c.attribute(unit, a.name, a.form, e) else {
             return q;
         };
         let field = r.field;
-        let next = a.next;
         q = with_base(q, a.name, r.form, field.value);
-        at = field.end;
-        spec = next.at;
+        c = field.next();
+        spec = a.next;
         turns -= 1;
     }
     q
@@ -424,15 +397,15 @@ fn entry(
     let next = x.next;
     let first = Values {
         done: false,
-        at: values.at,
-        spec: specs.at,
+        value: values,
+        spec: specs,
     };
     let mut q = p;
     if d.tag == 0x11 {
         q = bases(unit, abbreviations, p, first, e);
     }
     attributes(unit, abbreviations, locations, ranges, q, first, e);
-    q.at = next.at;
+    q.next = next;
     if d.children {
         if q.depth < 65537 {
             q.depth += 1;
@@ -452,15 +425,15 @@ fn place_step(
     p: Place,
 ) -> Place {
     let e = h.encoding;
-    let at = p.at;
-    match (Cursor { at }).step(unit, abbreviations, h.abbreviations, index, e) {
+    let c = p.next;
+    match c.step(unit, abbreviations, h.abbreviations, index, e) {
         Step::Entry(x) => entry(unit, abbreviations, locations, ranges, p, x, e),
         Step::Terminator(next) => {
-            number(b"terminator ", at as u64);
+            number(b"terminator ", c.at as u64);
             number(b" depth ", p.depth);
             text(b"\n");
             let mut q = p;
-            q.at = next.at;
+            q.next = next;
             if 0 < q.depth {
                 q.depth -= 1;
             }
@@ -485,7 +458,9 @@ fn entries(
     let first = h.first;
     let mut p = Place {
         done: false,
-        at: first.0 as usize,
+        next: Cursor {
+            at: first.0 as usize,
+        },
         depth: 0,
         range_base: 12,
         location_base: 12,
@@ -543,7 +518,7 @@ pub fn dump(s: &[u8]) {
         text(b"bundle\n");
         return;
     };
-    let unit = part(s, b.unit);
+    let unit = bundle::section_bytes(s, b.unit);
     match readers::header::unit_header(unit) {
         HeaderRead::Empty => {
             text(b"empty\n");
@@ -554,9 +529,9 @@ pub fn dump(s: &[u8]) {
         HeaderRead::Unit(h) => {
             unit_lines(
                 unit,
-                part(s, b.abbreviations),
-                part(s, b.locations),
-                part(s, b.ranges),
+                bundle::section_bytes(s, b.abbreviations),
+                bundle::section_bytes(s, b.locations),
+                bundle::section_bytes(s, b.ranges),
                 h,
             );
         }

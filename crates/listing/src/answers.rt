@@ -4,8 +4,8 @@ use crate::marks::mark;
 use crate::text::number;
 use crate::text::text;
 use bundle::BundleRead;
+use bundle::section_bytes;
 use libc::STDOUT_FILENO;
-use marking::references::part;
 use marking::units::UnitMarks;
 use readers::offsets::UnitOffset;
 use rewriting::collect::Collected;
@@ -290,11 +290,11 @@ fn of_bundle(s: &[u8], whole: bool) {
         return;
     };
     unit(
-        part(s, b.unit),
-        part(s, b.abbreviations),
-        part(s, b.locations),
-        part(s, b.ranges),
-        part(s, b.addresses),
+        section_bytes(s, b.unit),
+        section_bytes(s, b.abbreviations),
+        section_bytes(s, b.locations),
+        section_bytes(s, b.ranges),
+        section_bytes(s, b.addresses),
         whole,
     );
 }

@@ -6,7 +6,7 @@ use crate::size;
 use crate::text::number;
 use crate::text::text;
 use bundle::BundleRead;
-use marking::references::part;
+use bundle::section_bytes;
 use readers::cursor::Cursor;
 use readers::cursor::Number;
 use readers::cursor::left;
@@ -91,11 +91,11 @@ fn collect_bundle(
         return Collected::Refused(0);
     };
     rewriting::collect::collect(
-        part(s, b.unit),
-        part(s, b.abbreviations),
-        part(s, b.locations),
-        part(s, b.ranges),
-        part(s, b.addresses),
+        section_bytes(s, b.unit),
+        section_bytes(s, b.abbreviations),
+        section_bytes(s, b.locations),
+        section_bytes(s, b.ranges),
+        section_bytes(s, b.addresses),
         setting(settings, RANGES_BASE),
         setting(settings, TYPE_UNITS) != 0,
         index,

@@ -2,7 +2,7 @@
 use crate::text::number;
 use crate::text::text;
 use bundle::BundleRead;
-use marking::references::part;
+use bundle::section_bytes;
 use marking::units::UnitMarks;
 
 // R retained, L live, D dead.
@@ -100,10 +100,10 @@ pub fn list(s: &[u8]) {
         return;
     };
     unit(
-        part(s, b.unit),
-        part(s, b.abbreviations),
-        part(s, b.locations),
-        part(s, b.ranges),
-        part(s, b.addresses),
+        section_bytes(s, b.unit),
+        section_bytes(s, b.abbreviations),
+        section_bytes(s, b.locations),
+        section_bytes(s, b.ranges),
+        section_bytes(s, b.addresses),
     );
 }

@@ -8,10 +8,9 @@ use lib.ListN.{length}
 use lib.Dec.{eqb}
 use borrow.Author.Tests.{eq-eqb, ne-eqb}
 use Rattle.readers.specs.Choice.{pick, _and_}
-use Rattle.readers.specs.Cursors.{cursor}
 use Rattle.readers.specs.Fields.{partOf}
 use Rattle.readers.specs.Lists.{listStart, listOffset}
-use Rattle.readers.proofs.ListStarts.{start-past, start-inside}
+use Rattle.readers.proofs.ListStarts.{start-past}
 use Rattle.readers.specs.declared.cursor.Encoding.{Encoding}
 use Rattle.readers.specs.declared.cursor.Cursor.{Cursor}
 use Rattle.readers.specs.declared.attributes.Attribute.{Attribute}
@@ -137,8 +136,13 @@ module _ (e : Encoding) (s : List ℕ) (base : ℕ) (v : Attribute) where
     unfolding olderLive
     other-past h = sym (ap (olderLive e s) (start-past s (base + v .field .value) h)) ∙ other-from
 
-    pub other-older : base + v .field .value ≤ length s → (w : Verdict) → w ≡ olderLive e s (At (cursor (base + v .field .value))) → w ≡ otherRanges e s base v
-    other-older h w q = q ∙ sym (ap (olderLive e s) (start-inside s (base + v .field .value) h)) ∙ other-from
+    module _ (o : ListOffset) (p : o ≡ listStart s (base + v .field .value)) where
+      pub other-unresolved : o ≡ Unresolved → isLive ≡ otherRanges e s base v
+      unfolding olderLive
+      other-unresolved u = ap (olderLive e s) (sym u ∙ p) ∙ other-from
+
+      pub other-older : (c : Cursor) → o ≡ At c → (w : Verdict) → w ≡ olderLive e s (At c) → w ≡ otherRanges e s base v
+      other-older c u w q = q ∙ ap (olderLive e s) (sym u ∙ p) ∙ other-from
 
 -- ---- the first ranges
 

@@ -9,7 +9,7 @@ use lib.Dec.{leb, eqb}
 use Rattle.readers.specs.Choice.{pick, _and_, _or_}
 unfoldable pub use Rattle.readers.specs.Fields.{partOf}
 use Rattle.readers.specs.Steps.{listEntryAt}
-use Rattle.readers.specs.Refusals.{refusalOfWalk, refusalOfList}
+use Rattle.readers.specs.Refusals.{refusalOfWalk, refusalOfList, refusalOfLocations}
 use Rattle.readers.specs.Lists.{listOffset, listStart}
 use Rattle.readers.specs.References.{Named, walkOf, referencesIn}
 use Rattle.readers.specs.declared.cursor.Encoding.{Encoding}
@@ -79,7 +79,7 @@ locationStep e s sofar NoEntry = stop (refused sofar (refusalOfList NoEntry))
 unfoldable pub listFound : Encoding → List ℕ → ListOffset → Found
 listFound e s (At c) =
     walk reachedAt (length s) (λ (p : Reached). locationStep e s (p .sofar) (listEntryAt e true s (p .at))) (found []) (record { at = c .at; sofar = [] })
-listFound e s Unresolved = refused [] 5
+listFound e s Unresolved = refused [] (refusalOfLocations Unresolved)
 
 -- ---- attributes
 

@@ -14,6 +14,7 @@ use readers::cursor::Cursor;
 use readers::cursor::Encoding;
 use readers::lists::ListOffset;
 use readers::lists::list_offset;
+use readers::lists::list_start;
 use readers::operations::ListStep;
 
 // An attribute of an entry: its name, the form that it is declared with, its value, the cursor past its specification, and the cursor past its value.
@@ -153,8 +154,11 @@ pub fn other_ranges(v: Attribute, ranges: &[u8], ranges_base: u64, e: Encoding) 
     if field.value > len - ranges_base {
         return Verdict::Live;
     }
-    let at = (ranges_base + field.value) as usize;
-    ranges_has_live_entry(ranges, Cursor { at }, e)
+    let at = ranges_base + field.value;
+    let ListOffset::At(start) = list_start(ranges, at) else {
+        return Verdict::Live;
+    };
+    ranges_has_live_entry(ranges, start, e)
 }
 
 // The first ranges attribute of an entry. Its list is read as gc.rs's `rnglist_has_live_entry` does, entry by entry: what decides it leaves the list and the

@@ -124,8 +124,9 @@ unfoldable pub namesOf : Yield → List Named
 namesOf (Yielded r) = (r .place, r .target .0, encodedBy (r .leb) (r .width)) ∷ []
 namesOf End = []
 
--- Reference after reference from a place on, each from where the one before it ends, until there is none. `walked-yields` (proofs/Answers.antt): from the start of
--- a readable expression these are its references. From any other place they are what the bytes there say, read as operations, past the end of a nested part too.
+-- Reference after reference from a place on, each from where the one before it ends, until there is none. From the start of an expression
+-- that can be read these are its references (`walked-yields`, proofs/Answers.antt). From any other place they are what the bytes there say,
+-- read as operations: nothing tells where a nested part ends.
 pub data Yields (e : Encoding) (s : List ℕ) : ℕ → List Named → Type 0 where
   no-more : {at : ℕ} → nextReference e s at ≡ End → Yields e s at []
   one-more : {at : ℕ} {rs : List Named} (r : Reference) → nextReference e s at ≡ Yielded r → Yields e s (r .next .at) rs

@@ -7,6 +7,10 @@ use Rattle.readers.specs.declared.header.HeaderRead.{HeaderRead}
 use Rattle.readers.specs.declared.header.HeaderRead.the-variants.{Unit as Unit′, Empty, Refused as Unheaded}
 use Rattle.readers.specs.declared.abbreviations.Checked.{Checked}
 use Rattle.readers.specs.declared.abbreviations.Checked.the-variants.{Accepted, Refused as Unchecked}
+use Rattle.readers.specs.declared.abbreviations.DeclarationStep.{DeclarationStep}
+use Rattle.readers.specs.declared.abbreviations.DeclarationStep.the-variants.{Declaration as Declared, Last as LastOne, Unreadable as NoDeclaration}
+use Rattle.readers.specs.declared.attributes.AttributeRead.{AttributeRead}
+use Rattle.readers.specs.declared.attributes.AttributeRead.the-variants.{Read as Attribute′, Unreadable as NoAttribute}
 use Rattle.readers.specs.declared.entries.Step.{Step}
 use Rattle.readers.specs.declared.entries.Step.the-variants.{Entry as Entry′, Terminator, End, Unreadable}
 use Rattle.readers.specs.declared.entries.HeadStep.{HeadStep}
@@ -15,6 +19,8 @@ use Rattle.readers.specs.declared.operations.OperationRead.{OperationRea
 use Rattle.readers.specs.declared.operations.OperationRead.the-variants.{Read as Operation′, Unreadable as NoOperation}
 use Rattle.readers.specs.declared.operations.ListStep.{ListStep}
 use Rattle.readers.specs.declared.operations.ListStep.the-variants.{Entry as ListEntry′, End as ListEnd, Unreadable as NoEntry}
+use Rattle.readers.specs.declared.lists.ListOffset.{ListOffset}
+use Rattle.readers.specs.declared.lists.ListOffset.the-variants.{At, Unresolved}
 use Rattle.readers.specs.declared.expressions.Walk.{Walk}
 use Rattle.readers.specs.declared.expressions.Walk.the-variants.{Walked, Unreadable as Unwalked}
 use Rattle.readers.specs.declared.expressions.References.{References}
@@ -31,6 +37,11 @@ abbrev pub refusalOfChecked : Checked → ℕ
 refusalOfChecked Accepted = 0
 refusalOfChecked Unchecked = 3
 
+abbrev pub refusalOfDeclaration : DeclarationStep → ℕ
+refusalOfDeclaration (Declared d c) = 0
+refusalOfDeclaration (LastOne c) = 0
+refusalOfDeclaration NoDeclaration = 3
+
 -- 4: an entry, its values too
 abbrev pub refusalOfStep : Step → ℕ
 refusalOfStep (Entry′ x) = 0
@@ -43,6 +54,10 @@ refusalOfHead (Head x) = 0
 refusalOfHead (TerminatorHead c) = 0
 refusalOfHead EndHead = 0
 refusalOfHead NoHead = 4
+
+abbrev pub refusalOfAttribute : AttributeRead → ℕ
+refusalOfAttribute (Attribute′ a) = 0
+refusalOfAttribute NoAttribute = 4
 
 abbrev pub refusalOfValues : Moved → ℕ
 refusalOfValues (To c) = 0
@@ -57,6 +72,11 @@ abbrev pub refusalOfList : ListStep → ℕ
 refusalOfList (ListEntry′ x) = 0
 refusalOfList ListEnd = 0
 refusalOfList NoEntry = 5
+
+-- where it holds locations: ranges that can't be resolved are live (document 01, "Roots")
+abbrev pub refusalOfLocations : ListOffset → ℕ
+refusalOfLocations (At c) = 0
+refusalOfLocations Unresolved = 5
 
 abbrev pub refusalOfWalk : Walk → ℕ
 refusalOfWalk (Walked n false) = 0

@@ -182,10 +182,10 @@ pub fn walk_expression(s: &[u8], e: Encoding) -> Walk
 }
 
 impl Cursor {
-    // The next reference of an expression, at or after a place. The walk goes on inside an entry value, so that it passes each byte once. It must start at 0 of an
-    // expression that walk_expression walked to its end, and go on from each reference's `next`: then it yields the expression's references, each once, in their
-    // order (`walked-yields` in proofs/Answers.antt). From any other place it yields what the bytes there say, read as operations: it can't tell where a nested part
-    // ends.
+    // The next reference of an expression, at or after a place. The walk goes on inside an entry value, so that it passes each byte once.
+    // It must start at 0 of an expression that walk_expression walked to its end, and go on from each reference's `next`: then it yields the
+    // expression's references, each once, in their order (`walked-yields` in proofs/Answers.antt). From any other place it yields what the bytes
+    // there say, read as operations: it can't tell where a nested part ends.
     pub fn next_reference(self, s: &[u8], e: Encoding) -> Yield
         ensures { λ r. ⌜ r ≡ nextReference e (now (s .entry)) (self .at) ⌝ }
     {

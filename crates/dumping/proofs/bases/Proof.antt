@@ -5,64 +5,55 @@ use Rattle.dumping.proofs.bases.Tie as tie
 use Rattle.dumping.proofs.bases.Reads as reads
 use Rattle.dumping.proofs.bases.Lts as lts
 use Rattle.dumping.proofs.with_base.Reads as with-base-reads
+use Rattle.readers.proofs.fields.Field.next.Reads as next-reads
 use Rattle.readers.proofs.cursor.Cursor.attribute.Reads as attribute-reads
 use Rattle.readers.proofs.cursor.Cursor.attribute_spec.Reads as attribute-spec-reads
 
 abbrev Inv-loop : tie.InvT-loop
-Inv-loop unit abbreviations e q₀ at₀ spec₀ turns₀ q at spec turns = Unit {0}
+Inv-loop unit abbreviations e q₀ c₀ spec₀ turns₀ q c spec turns = Unit {0}
 
 abbrev μ-loop : tie.MeasureT-loop
-μ-loop unit abbreviations e q₀ at₀ spec₀ turns₀ q at spec turns = turns
+μ-loop unit abbreviations e q₀ c₀ spec₀ turns₀ q c spec turns = turns
 
--- src/lib.rt:372:5
 loop-holds : tie.Need-loop-holds Inv-loop μ-loop
 loop-holds c = search needs
 
--- src/lib.rt:373:38
 attribute-spec-requires : tie.Need-attribute-spec-requires Inv-loop μ-loop
 attribute-spec-requires c κs = search needs
 
--- src/lib.rt:373:33
 enum-known-a : tie.Need-enum-known-a Inv-loop μ-loop
 enum-known-a c = search needs
 
--- src/lib.rt:374:13
 returns : tie.Need-returns Inv-loop μ-loop
 returns c = search needs
 
--- src/lib.rt:376:38
 attribute-requires : tie.Need-attribute-requires Inv-loop μ-loop
 attribute-requires c κs = search needs
 
--- src/lib.rt:376:33
 enum-known-r : tie.Need-enum-known-r Inv-loop μ-loop
 enum-known-r c = search needs
 
--- src/lib.rt:377:13
 enum-told : tie.Need-enum-told Inv-loop μ-loop
 enum-told c = search needs
 
--- src/lib.rt:377:13
 returns-2 : tie.Need-returns-2 Inv-loop μ-loop
 returns-2 c = search needs
 
--- src/lib.rt:381:9
 with-base-requires : tie.Need-with-base-requires Inv-loop μ-loop
 with-base-requires c κs = search needs
 
--- src/lib.rt:384:9
+next-requires : tie.Need-next-requires Inv-loop μ-loop
+next-requires c κs = search needs
+
 sub-turns : tie.Need-sub-turns Inv-loop μ-loop
 sub-turns c = search needs
 
--- src/lib.rt:372:5
 loop-less : tie.Need-loop-less Inv-loop μ-loop
 loop-less c = search needs
 
--- src/lib.rt:372:5
 loop-again : tie.Need-loop-again Inv-loop μ-loop
 loop-again c = search needs
 
--- src/lib.rt:367:1
 returns-3 : tie.Need-returns-3 Inv-loop μ-loop
 returns-3 c = search needs
 
@@ -81,6 +72,7 @@ bases-spec =
     enum-told
     returns-2
     with-base-requires
+    next-requires
     sub-turns
     loop-less
     loop-again

@@ -1,7 +1,7 @@
 -- `other_ranges` meets its contract: a sum within the section is no larger than 64 bits. Assumes nothing.
 use native.Mathlib.Omega.{arith}
 use borrow.Author.Needs.{needs}
-use Rattle.marking.proofs.RootTests.{other-form, other-past, other-older}
+use Rattle.marking.proofs.RootTests.{other-form, other-past, other-unresolved, other-older}
 use Rattle.marking.proofs.root_test.other_ranges.Statement.{statement}
 use Rattle.marking.proofs.root_test.other_ranges.Tie as tie
 
@@ -17,12 +17,35 @@ returns-3 c = other-past _ _ _ _ (c .before .before .before .if1 .left) (omega a
 add-at : tie.Need-add-at
 add-at c = search needs
 
+list-start-requires : tie.Need-list-start-requires
+list-start-requires c κs = search needs
+
+enum-known-start : tie.Need-enum-known-start
+enum-known-start c = search needs
+
+enum-told : tie.Need-enum-told
+enum-told c = search needs
+
+returns-4 : tie.Need-returns-4
+returns-4 c = search other-unresolved
+
 ranges-has-live-entry-requires : tie.Need-ranges-has-live-entry-requires
 ranges-has-live-entry-requires c κs = search needs
 
-returns-4 : tie.Need-returns-4
-returns-4 c = other-older _ _ _ _ (c .before .before .before .before .before .if1 .left) (omega arith) _ (c .ranges-has-live-entry .ensures)
+returns-5 : tie.Need-returns-5
+returns-5 c = search other-older
 
 pub other-ranges-spec : {M : Type 1} → statement M
 other-ranges-spec =
-    tie.close (tie.spec returns returns-2 returns-3 add-at ranges-has-live-entry-requires returns-4)
+    tie.close
+    (tie.spec
+    returns
+    returns-2
+    returns-3
+    add-at
+    list-start-requires
+    enum-known-start
+    enum-told
+    returns-4
+    ranges-has-live-entry-requires
+    returns-5)
