@@ -28,8 +28,8 @@ use Rattle.readers.specs.declared.operations.OperationRead.{OperationRead}
 use Rattle.readers.specs.declared.operations.OperationRead.the-variants.{Read as Operation′, Unreadable as NoOperation}
 use Rattle.readers.specs.declared.attributes.Attribute.{Attribute}
 use Rattle.readers.proofs.Refusals.{isOneOf, areOf, one-of, wider, HeaderNumbered, header-numbered}
-use Rattle.marking.specs.declared.addresses.Liveness.{Liveness}
-use Rattle.marking.specs.declared.addresses.Liveness.the-variants.{Live as Alive, Dead as NotAlive, Fails}
+use Rattle.marking.specs.declared.addresses.AddressLookup.{AddressLookup}
+use Rattle.marking.specs.declared.addresses.AddressLookup.the-variants.{Live as Alive, Dead as NotAlive, Fails}
 use Rattle.marking.specs.declared.roots.Verdict.{Verdict}
 use Rattle.marking.specs.declared.roots.Verdict.the-variants.{Live, Dead, Refused as Failed}
 use Rattle.marking.specs.declared.units.UnitMarks.{UnitMarks}
@@ -82,7 +82,7 @@ else-numbered Dead w p q = q
 else-numbered Live w p q = tt
 else-numbered (Failed n) w p q = p
 
-lookup-numbered : {X : Type 0} (P : X → Type 0) (l : Liveness) (r : Verdict → X) (a b : X) → P (r (Failed 6)) → P a → P b → P (onLookup l r a b)
+lookup-numbered : {X : Type 0} (P : X → Type 0) (l : AddressLookup) (r : Verdict → X) (a b : X) → P (r (Failed 6)) → P a → P b → P (onLookup l r a b)
 unfolding onLookup
 lookup-numbered P Alive r a b p q s = q
 lookup-numbered P NotAlive r a b p q s = s

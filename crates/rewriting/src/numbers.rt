@@ -173,7 +173,7 @@ pub fn put_bytes(bytes: &[u8], out: &mut [u8])
 }
 
 // A big-endian number of so many bytes at a place; 0 where it is not there.
-pub fn big_endian_at(s: &[u8], at: usize, width: usize) -> u64
+pub(crate) fn big_endian_at(s: &[u8], at: usize, width: usize) -> u64
     ensures { λ r. ⌜ (width ≤ 8 → at + width ≤ length (now (s .entry)) → r ≡ numberAt width (now (s .entry)) at) ⌝ }
 {
     let c = Cursor { at };
@@ -184,7 +184,7 @@ pub fn big_endian_at(s: &[u8], at: usize, width: usize) -> u64
 }
 
 // Writes a big-endian number of so many bytes at a place that has room for it.
-pub fn put_big_endian(s: &mut [u8], at: usize, width: usize, value: u64)
+pub(crate) fn put_big_endian(s: &mut [u8], at: usize, width: usize, value: u64)
     ensures { λ _. ⌜ (at + width ≤ length (now (s .entry)) → now (s .exit) ≡ put (now (s .entry)) at (fixedBytes true width value)) ⌝ }
 {
     if at > s.len() {
