@@ -121,11 +121,14 @@ newAt map i = inRoom i (length map / 12) (numberAt 4 map (12 * i + 4))
 unfoldable pub depthAt : List ℕ → ℕ → ℕ
 depthAt map i = inRoom i (length map / 12) (numberAt 4 map (12 * i + 8))
 
--- where the halving of the places from low to high ends, by what is read at each: where the numbers ascend, at the first that is not below v. n halvings are enough for n places.
+-- where the halving of the places from low to high ends, by what is read at each: at the first that is not below v, where the numbers ascend;
+-- n halvings are enough for n places
 unfoldable pub halved : ℕ → (ℕ → ℕ) → ℕ → ℕ → ℕ → ℕ
 halved zero at v low high = low
 halved (suc n) at v low high =
-    pick (ltb low high) (pick (ltb (at (low + (high - low) / 2)) v) (halved n at v (low + (high - low) / 2 + 1) high) (halved n at v low (low + (high - low) / 2))) low
+    pick (ltb low high)
+    (pick (ltb (at (low + (high - low) / 2)) v) (halved n at v (low + (high - low) / 2 + 1) high) (halved n at v low (low + (high - low) / 2)))
+    low
 
 -- what is found at place i of the first places of a map
 unfoldable pub foundAt : List ℕ → ℕ → ℕ → ℕ → Mapped

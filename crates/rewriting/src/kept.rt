@@ -6,6 +6,7 @@ ghost use Rattle.marking.specs.Marks.{isKept};
 ghost use Rattle.rewriting.specs.Parents.{entriesIn};
 ghost use Rattle.rewriting.specs.Ends.{endNumber, EndsHeld};
 ghost use Rattle.rewriting.specs.NextKept.{closesKept, itemsBy, Answers};
+use marking::columns::place;
 use readers::abbreviations::Found;
 use readers::abbreviations::find_declaration;
 use readers::cursor::Cursor;
@@ -43,13 +44,6 @@ pub struct Kept {
 pub enum KeptStep {
     Item(Kept),
     End,
-}
-
-// An entry's place in the columns.
-fn place(i: EntryIndex) -> usize
-    ensures { λ r. ⌜ r ≡ i .0 ⌝ }
-{
-    i.0 as usize
 }
 
 // Whether the entry with an index is kept.
