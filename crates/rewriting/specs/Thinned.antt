@@ -1,5 +1,6 @@
--- WHAT IS CLAIMED of a unit that collect rewrote (demand 3), on one page: definitions and no proofs. That every rewritten unit is `Thinned` is the theorem `thinned-law`
--- (proofs/ThinnedLaw.antt); it assumes nothing but the answer. Places in lists count from 0, and `Nth a m xs` says that a is the m-th of xs.
+-- WHAT IS CLAIMED of a unit that collect accepted (demand 3), on one page: definitions and no proofs. That every rewritten unit is
+-- `Thinned` and every untouched one `Untouched` are the theorems `thinned-law` and `untouched-law` (proofs/ThinnedLaw.antt); they
+-- assume nothing but the answer. Places in lists count from 0, and `Nth a m xs` says that a is the m-th of xs.
 use Prim.Native.Nat.{ℕ, suc, _+_, _≤_, _<_}
 use mathlib.Core.Path.{_≡_}
 use mathlib.Core.Bool.{Bool, true}
@@ -45,19 +46,23 @@ Pairwise R (x ∷ xs) (y ∷ ys) = R x y × Pairwise R xs ys
 abbrev pub inside : List ℕ → Item → Standing
 inside stack i = record { item = i; depth = length stack }
 
--- The items of a unit, from entry number k on and inside these open entries, each either kept or left out, in order: an entry is kept where it is in S, a terminator
--- where the entry whose children it closes is; one that closes none is left out.
+-- The items of a unit, from entry number k on and inside these open entries, each either kept or left out, in order: an entry is
+-- kept where it is in S, a terminator where the entry whose children it closes is; one that closes none is left out.
 module _ (S : ℕ → Type 0) where
   pub data Parted : ℕ → List ℕ → List Item → List Standing → List Standing → Type 0 where
     ended : {k : ℕ} {stack : List ℕ} → Parted k stack [] [] []
     kept-entry : {k : ℕ} {stack : List ℕ} {y : Entry} {rest : List Item} {kept left : List Standing} → S k
-        → Parted (suc k) (open′ (y .declaration .children) k stack) rest kept left → Parted k stack (entry y ∷ rest) (inside stack (entry y) ∷ kept) left
+        → Parted (suc k) (open′ (y .declaration .children) k stack) rest kept left
+        → Parted k stack (entry y ∷ rest) (inside stack (entry y) ∷ kept) left
     left-entry : {k : ℕ} {stack : List ℕ} {y : Entry} {rest : List Item} {kept left : List Standing} → (S k → ⊥)
-        → Parted (suc k) (open′ (y .declaration .children) k stack) rest kept left → Parted k stack (entry y ∷ rest) kept (inside stack (entry y) ∷ left)
+        → Parted (suc k) (open′ (y .declaration .children) k stack) rest kept left
+        → Parted k stack (entry y ∷ rest) kept (inside stack (entry y) ∷ left)
     kept-terminator : {k p a b : ℕ} {stack : List ℕ} {rest : List Item} {kept left : List Standing} → S p
-        → Parted k stack rest kept left → Parted k (p ∷ stack) (terminator a b ∷ rest) (inside (p ∷ stack) (terminator a b) ∷ kept) left
+        → Parted k stack rest kept left
+        → Parted k (p ∷ stack) (terminator a b ∷ rest) (inside (p ∷ stack) (terminator a b) ∷ kept) left
     left-terminator : {k p a b : ℕ} {stack : List ℕ} {rest : List Item} {kept left : List Standing} → (S p → ⊥)
-        → Parted k stack rest kept left → Parted k (p ∷ stack) (terminator a b ∷ rest) kept (inside (p ∷ stack) (terminator a b) ∷ left)
+        → Parted k stack rest kept left
+        → Parted k (p ∷ stack) (terminator a b ∷ rest) kept (inside (p ∷ stack) (terminator a b) ∷ left)
     surplus : {k a b : ℕ} {rest : List Item} {kept left : List Standing}
         → Parted k [] rest kept left → Parted k [] (terminator a b ∷ rest) kept (inside [] (terminator a b) ∷ left)
 
