@@ -8,6 +8,9 @@ use lib.ListN.{length, take, drop}
 use lib.Dec.{ltb, leb}
 use Rattle.readers.specs.Choice.{pick, _and_, zeros}
 use Rattle.readers.specs.Numbers.{padded, fixedBytes, fixedValue}
+use Rattle.readers.specs.Cursors.{fixedAt}
+use Rattle.readers.specs.declared.cursor.Number.{Number}
+use Rattle.readers.specs.declared.cursor.Number.the-variants.{Value, Unreadable}
 use Rattle.rewriting.specs.Ascending.{Ascending, Member}
 use Rattle.rewriting.specs.Indices.{insert}
 use Rattle.rewriting.specs.Places.{Place}
@@ -45,6 +48,11 @@ over bytes out = pick (leb (length bytes) (length out)) (bytes ++ drop (length b
 unfoldable pub paddedAnswer : ℕ → ℕ → ℕ → Padded
 paddedAnswer value width n = pick (groupsFit value width n) Written (Refused 15)
 
+-- document 01's number of an answer; 0 where nothing is refused
+unfoldable pub paddedRefusal : Padded → ℕ
+paddedRefusal Written = 0
+paddedRefusal (Refused n) = n
+
 unfoldable pub paddedOut : ℕ → ℕ → ℕ → List ℕ
 paddedOut value width n = pick (groupsFit value width n) (padded (width - 1) value ++ zeros (n - width)) (zeros n)
 
@@ -54,8 +62,20 @@ paddedOut value width n = pick (groupsFit value width n) (padded (width - 1) val
 unfoldable pub put : List ℕ → ℕ → List ℕ → List ℕ
 put xs n ys = take n xs ++ (ys ++ drop (n + length ys) xs)
 
+-- the same where it has room for them, else as it was
+unfoldable pub putIn : List ℕ → ℕ → List ℕ → List ℕ
+putIn xs n ys = pick (leb (n + length ys) (length xs)) (put xs n ys) xs
+
 unfoldable pub numberAt : ℕ → List ℕ → ℕ → ℕ
 numberAt width s at = fixedValue true (take width (drop at s))
+
+-- the number that is read, 0 where there is none
+unfoldable pub valueOr : Number → ℕ
+valueOr (Value v c) = v
+valueOr Unreadable = 0
+
+unfoldable pub numberThere : ℕ → List ℕ → ℕ → ℕ
+numberThere width s at = valueOr (fixedAt true width s at)
 
 -- numbers of so many bytes each
 unfoldable pub runBytes : ℕ → List ℕ → List ℕ

@@ -9,7 +9,7 @@ ghost use Rattle.readers.specs.Choice.{zeros};
 ghost use Rattle.readers.specs.Numbers.{padded, fixedBytes};
 ghost use Rattle.readers.specs.Layout.{numberBytes};
 ghost use Rattle.readers.specs.References.{encodedBy};
-ghost use Rattle.rewriting.specs.Written.{groupsFit, bytesFit, numberFits, unfit, Put, paddedAnswer, paddedOut, over, put, numberAt};
+ghost use Rattle.rewriting.specs.Written.{groupsFit, bytesFit, numberFits, unfit, Put, paddedAnswer, paddedOut, over, putIn, numberThere};
 use readers::cursor::Cursor;
 use readers::cursor::Number;
 
@@ -174,7 +174,7 @@ pub fn put_bytes(bytes: &[u8], out: &mut [u8])
 
 // A big-endian number of so many bytes at a place; 0 where it is not there.
 pub fn big_endian_at(s: &[u8], at: usize, width: usize) -> u64
-    ensures { λ r. ⌜ (width ≤ 8 → at + width ≤ length (now (s .entry)) → r ≡ numberAt width (now (s .entry)) at) ⌝ }
+    ensures { λ r. ⌜ r ≡ numberThere width (now (s .entry)) at ⌝ }
 {
     let c = Cursor { at };
     match c.fixed(s, width, true) {
@@ -183,9 +183,9 @@ pub fn big_endian_at(s: &[u8], at: usize, width: usize) -> u64
     }
 }
 
-// Writes a big-endian number of so many bytes at a place that has room for it.
+// Writes a big-endian number of so many bytes at a place; nothing where there is no room for it.
 pub fn put_big_endian(s: &mut [u8], at: usize, width: usize, value: u64)
-    ensures { λ _. ⌜ (at + width ≤ length (now (s .entry)) → now (s .exit) ≡ put (now (s .entry)) at (fixedBytes true width value)) ⌝ }
+    ensures { λ _. ⌜ now (s .exit) ≡ putIn (now (s .entry)) at (fixedBytes true width value) ⌝ }
 {
     if at > s.len() {
         return;

@@ -1,6 +1,7 @@
 -- `old_at` meets its contract.
 use native.Mathlib.Omega.{arith}
 use borrow.Author.Needs.{needs}
+use Rattle.rewriting.proofs.Putting.{number-there}
 use Rattle.rewriting.proofs.map.old_at.Statement.{statement}
 use Rattle.rewriting.proofs.map.old_at.Tie as tie
 
@@ -17,7 +18,7 @@ big-endian-at-requires : tie.Need-big-endian-at-requires
 big-endian-at-requires c κs = search needs
 
 returns-2 : tie.Need-returns-2
-returns-2 c = λ h. c .big-endian-at .ensures (omega arith) (omega arith)
+returns-2 c = λ h. number-there _ _ _ _ (c .big-endian-at .ensures) (omega arith) (omega arith)
 
 pub old-at-spec : {M : Type 1} → statement M
 old-at-spec =
