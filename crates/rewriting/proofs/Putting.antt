@@ -14,7 +14,7 @@ use mir.Facts.{ltb-yes, ltb-no}
 use borrow.Author.Tests.{lt-ltb, le-ltb, le-leb, lt-leb, ltb-true, leb-true, eq-eqb, ne-eqb}
 use Rattle.readers.specs.Choice.{pick, _and_, zeros, either}
 use Rattle.readers.specs.Numbers.{padded, length-padded, littleBytes, ordered, fixedBytes, length-fixed}
-use Rattle.rewriting.specs.Written.{groupsFit, bytesFit, numberFits, unfit, Put, paddedAnswer, paddedOut, over, put, putIn, numberAt, valueOr, numberThere}
+use Rattle.rewriting.specs.Written.{groupsFit, bytesFit, numberFits, unfit, Put, paddedAnswer, paddedRefusal, paddedOut, over, put, putIn, numberAt, valueOr, numberThere}
 use Rattle.rewriting.specs.declared.numbers.Padded.{Padded}
 use Rattle.rewriting.specs.declared.numbers.Padded.the-variants.{Written, Refused}
 use Rattle.readers.specs.Layout.{numberBytes}
@@ -491,6 +491,15 @@ module _ (value width : ℕ) (answer : Padded) (x : List ℕ) (told : answer ≡
   padded-zeros : (k : ℕ) → answer ≡ Refused k → x ≡ zeros width
   unfolding paddedOut pick
   padded-zeros k t = left ∙ ap (λ b. pick b (padded (width - 1) value ++ zeros (width - width)) (zeros width)) (padded-unfit k t)
+
+-- the number of the refusal: 15, or none
+pub padded-refusal : (value width n : ℕ) → paddedRefusal (paddedAnswer value width n) ≡ pick (groupsFit value width n) 0 15
+unfolding paddedRefusal paddedAnswer pick
+padded-refusal value width n = by-fit (groupsFit value width n)
+  where
+    by-fit : (b : Bool) → paddedRefusal (pick b Written (Refused 15)) ≡ pick b 0 15
+    by-fit true = refl
+    by-fit false = refl
 
 pub taken-length : (out : List ℕ) (width : ℕ) → width ≤ length out → width ≡ length (take width out)
 taken-length out width h = sym (length-take-le width out h)

@@ -123,8 +123,8 @@ fn put_fixed(value: u64, width: usize, out: &mut [u8]) -> bool
     true
 }
 
-// Writes a ULEB128 number in exactly so many bytes at the start of a slice, zeros after it (gc.rs: `write_uleb128_padded`). 15, and zeros, for a width of 0, above 10, below what the number
-// needs or beyond the slice.
+// Writes a ULEB128 number in exactly so many bytes at the start of a slice, zeros after it (gc.rs: `write_uleb128_padded`).
+// 15, and zeros, for a width of 0, above 10, below what the number needs or beyond the slice.
 pub fn write_uleb128_padded(value: u64, width: usize, out: &mut [u8]) -> Padded
     ensures answer { λ r. ⌜ r ≡ paddedAnswer value width (length (now (out .entry))) ⌝ }
     ensures bytes { λ _. ⌜ now (out .exit) ≡ paddedOut value width (length (now (out .entry))) ⌝ }
