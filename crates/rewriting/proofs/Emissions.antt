@@ -17,7 +17,7 @@ use Rattle.rewriting.specs.Places.{Place}
 use Rattle.rewriting.specs.Indices.{rankIn, rankOr}
 use Rattle.rewriting.specs.Written.{groupsFit, bytesFit, numberFits, unfit, Put, over, put, asMapped, ListHeld}
 use Rattle.rewriting.specs.Rewriting.{Lists, fits, orNext, isSome, orSelf}
-use Rattle.rewriting.specs.Emission.{between, copiedCount, Emits, Within, onward, Wide, holds, numberRefusal, offsetRefusal, Lent}
+use Rattle.rewriting.specs.Emission.{between, copiedCount, Emits, Within, onward, emittedRefusal, Wide, holds, numberRefusal, offsetRefusal, Lent}
 use Rattle.rewriting.proofs.Putting.{fit-room, bytes-room}
 use Rattle.readers.specs.declared.offsets.UnitOffset.{UnitOffset}
 use Rattle.rewriting.specs.declared.emit.Emitted.{Emitted}
@@ -184,6 +184,15 @@ module _ {n : ℕ} {bytes out : List ℕ} {r : Emitted} {out′ : List ℕ} wher
         );
         no = λ room z. f .no (omega arith) z;
       }
+
+-- the number of the refusal is the one that is asked for
+pub emits-refusal : {n : ℕ} {bytes out : List ℕ} {r : Emitted} {out′ : List ℕ} → Emits n bytes out r out′ → length bytes ≤ length out → emittedRefusal r ≡ n
+unfolding emittedRefusal
+emits-refusal {n = n} f room =
+    ⊎-elim
+    (λ t. let z : n ≡ 0 = eqb-yes {a = n} {b = 0} t in ap emittedRefusal (f .fine room z .0) ∙ sym z)
+    (λ t. ap emittedRefusal (f .no room (eqb-no {a = n} {b = 0} t)))
+    (either (eqb n 0))
 
 -- a part from `at` on, filled by another writer, and home again
 module _ (out : List ℕ) (at : ℕ) (i : at ≤ length out) (x : List ℕ) where

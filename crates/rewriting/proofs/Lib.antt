@@ -21,6 +21,7 @@ pub mod Emissions
 pub mod FormKinds
 pub mod Exact
 pub mod Splices
+pub mod Yielded
 pub mod ValueForms
 pub mod ValueParts
 pub mod ValueEmits

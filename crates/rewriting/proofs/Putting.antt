@@ -14,7 +14,7 @@ use mir.Facts.{ltb-yes, ltb-no}
 use borrow.Author.Tests.{lt-ltb, le-ltb, le-leb, lt-leb, ltb-true, leb-true, eq-eqb, ne-eqb}
 use Rattle.readers.specs.Choice.{pick, _and_, zeros, either}
 use Rattle.readers.specs.Numbers.{padded, length-padded, littleBytes, ordered, fixedBytes, length-fixed}
-use Rattle.rewriting.specs.Written.{groupsFit, bytesFit, numberFits, unfit, Put, paddedAnswer, paddedOut, over, put, numberAt}
+use Rattle.rewriting.specs.Written.{groupsFit, bytesFit, numberFits, unfit, Put, paddedAnswer, paddedRefusal, paddedOut, over, put, putIn, numberAt, valueOr, numberThere}
 use Rattle.rewriting.specs.declared.numbers.Padded.{Padded}
 use Rattle.rewriting.specs.declared.numbers.Padded.the-variants.{Written, Refused}
 use Rattle.readers.specs.Layout.{numberBytes}
@@ -410,18 +410,36 @@ backing-done value at width s₀ s rest i h p =
     q .s-is ∙ ap (λ n. take n s₀ ++ (q .done ++ drop (at + width) s₀)) (let e : at + 0 ≡ at = omega arith in e)
     ∙ ap₂ (λ l n. take at s₀ ++ (l ++ drop (at + n) s₀)) e (sym (length-fixed true width value))
 
+pub put-none : (value at width : ℕ) (s : List ℕ) → length s < at + width → s ≡ putIn s at (fixedBytes true width value)
+unfolding putIn pick
+put-none value at width s h =
+    sym (ap (λ b. pick b (put s at (fixedBytes true width value)) s) (lt-leb (at + length (fixedBytes true width value)) (length s) (omega (arith, length-fixed true width value))))
+
+pub put-all : (value at width : ℕ) (s after : List ℕ) → at + width ≤ length s → after ≡ put s at (fixedBytes true width value) → after ≡ putIn s at (fixedBytes true width value)
+unfolding putIn pick
+put-all value at width s after h q =
+    q ∙ sym (ap (λ b. pick b (put s at (fixedBytes true width value)) s) (le-leb (at + length (fixedBytes true width value)) (length s) (omega (arith, length-fixed true width value))))
+
+pub put-room : (value at width : ℕ) (s after : List ℕ) → after ≡ putIn s at (fixedBytes true width value) → at + width ≤ length s → after ≡ put s at (fixedBytes true width value)
+unfolding putIn pick
+put-room value at width s after q h =
+    q ∙ ap (λ b. pick b (put s at (fixedBytes true width value)) s) (le-leb (at + length (fixedBytes true width value)) (length s) (omega (arith, length-fixed true width value)))
+
 -- ---- a big-endian number that is read
 
-module _ (w : ℕ) (s : List ℕ) (at : ℕ) (o : Number) (q : o ≡ fixedAt true w s at) (e : w ≤ 8) (h : at + w ≤ length s) where
-  read-is : o ≡ Value (numberAt w s at) (cursor (at + w))
-  unfolding numberAt
-  read-is = q ∙ fixed-is true w s at e (omega arith)
+module _ (w : ℕ) (s : List ℕ) (at : ℕ) (o : Number) (q : o ≡ fixedAt true w s at) where
+  pub read-value : (v : ℕ) (c : Cursor) → o ≡ Value v c → v ≡ numberThere w s at
+  unfolding numberThere valueOr
+  read-value v c g = sym (ap valueOr (sym q ∙ g))
 
-  pub read-value : (v : ℕ) (c : Cursor) → o ≡ Value v c → v ≡ numberAt w s at
-  read-value v c g = let k : Value v c ≡ Value (numberAt w s at) (cursor (at + w)) = sym g ∙ read-is in cc
+  pub read-nothing : o ≡ Unreadable → 0 ≡ numberThere w s at
+  unfolding numberThere valueOr
+  read-nothing g = sym (ap valueOr (sym q ∙ g))
 
-  pub read-nothing : o ≡ Unreadable → 0 ≡ numberAt w s at
-  read-nothing g = let k : Unreadable ≡ Value (numberAt w s at) (cursor (at + w)) = sym g ∙ read-is in let z : _≡_ {A = ℕ} 0 1 = cc in absurd (omega arith)
+-- where it is there
+pub big-endian-there : (w : ℕ) (s : List ℕ) (at v : ℕ) → v ≡ numberThere w s at → w ≤ 8 → at + w ≤ length s → v ≡ numberAt w s at
+unfolding numberThere valueOr numberAt
+big-endian-there w s at v q e h = q ∙ ap valueOr (fixed-is true w s at e (omega arith))
 
 -- ---- a padded number in a part of its own, a number in its own encoding
 
@@ -473,6 +491,15 @@ module _ (value width : ℕ) (answer : Padded) (x : List ℕ) (told : answer ≡
   padded-zeros : (k : ℕ) → answer ≡ Refused k → x ≡ zeros width
   unfolding paddedOut pick
   padded-zeros k t = left ∙ ap (λ b. pick b (padded (width - 1) value ++ zeros (width - width)) (zeros width)) (padded-unfit k t)
+
+-- the number of the refusal: 15, or none
+pub padded-refusal : (value width n : ℕ) → paddedRefusal (paddedAnswer value width n) ≡ pick (groupsFit value width n) 0 15
+unfolding paddedRefusal paddedAnswer pick
+padded-refusal value width n = by-fit (groupsFit value width n)
+  where
+    by-fit : (b : Bool) → paddedRefusal (pick b Written (Refused 15)) ≡ pick b 0 15
+    by-fit true = refl
+    by-fit false = refl
 
 pub taken-length : (out : List ℕ) (width : ℕ) → width ≤ length out → width ≡ length (take width out)
 taken-length out width h = sym (length-take-le width out h)

@@ -10,6 +10,9 @@ use Rattle.readers.specs.Choice.{pick, _and_, zeros}
 use Rattle.readers.specs.Numbers.{padded, fixedBytes, fixedValue}
 use Rattle.marking.specs.Members.{Member}
 use Rattle.rewriting.specs.Ascending.{Ascending}
+use Rattle.readers.specs.Cursors.{fixedAt}
+use Rattle.readers.specs.declared.cursor.Number.{Number}
+use Rattle.readers.specs.declared.cursor.Number.the-variants.{Value, Unreadable}
 use Rattle.rewriting.specs.Indices.{insert}
 use Rattle.rewriting.specs.Places.{Place}
 use Rattle.rewriting.specs.Maps.{oldOffsets}
@@ -46,6 +49,11 @@ over bytes out = pick (leb (length bytes) (length out)) (bytes ++ drop (length b
 unfoldable pub paddedAnswer : ℕ → ℕ → ℕ → Padded
 paddedAnswer value width n = pick (groupsFit value width n) Written (Refused 15)
 
+-- document 01's number of an answer; 0 where nothing is refused
+unfoldable pub paddedRefusal : Padded → ℕ
+paddedRefusal Written = 0
+paddedRefusal (Refused n) = n
+
 unfoldable pub paddedOut : ℕ → ℕ → ℕ → List ℕ
 paddedOut value width n = pick (groupsFit value width n) (padded (width - 1) value ++ zeros (n - width)) (zeros n)
 
@@ -55,12 +63,24 @@ paddedOut value width n = pick (groupsFit value width n) (padded (width - 1) val
 unfoldable pub put : List ℕ → ℕ → List ℕ → List ℕ
 put xs n ys = take n xs ++ (ys ++ drop (n + length ys) xs)
 
+-- the same where it has room for them, else as it was
+unfoldable pub putIn : List ℕ → ℕ → List ℕ → List ℕ
+putIn xs n ys = pick (leb (n + length ys) (length xs)) (put xs n ys) xs
+
 unfoldable pub numberAt : ℕ → List ℕ → ℕ → ℕ
 numberAt width s at = fixedValue true (take width (drop at s))
 
 -- what a table has at place i of its n places; 0 where there is no such place
 unfoldable pub inRoom : ℕ → ℕ → ℕ → ℕ
 inRoom i n x = pick (ltb i n) x 0
+
+-- the number that is read, 0 where there is none
+unfoldable pub valueOr : Number → ℕ
+valueOr (Value v c) = v
+valueOr Unreadable = 0
+
+unfoldable pub numberThere : ℕ → List ℕ → ℕ → ℕ
+numberThere width s at = valueOr (fixedAt true width s at)
 
 -- numbers of so many bytes each
 unfoldable pub runBytes : ℕ → List ℕ → List ℕ

@@ -104,19 +104,6 @@ fn emit_offset(new: Mapped, width: usize, leb: bool, out: &mut [u8]) -> Emitted
     }
 }
 
-// The place past a number, within a slice of a length.
-fn past(place: usize, width: usize, length: usize) -> usize
-    ensures { λ r. ⌜ (place + width ≤ length → r ≡ place + width) ⌝ }
-{
-    if place > length {
-        return length;
-    }
-    if width > length - place {
-        return length;
-    }
-    place + width
-}
-
 // An expression with the new offsets of the entries that it names, nested ones too (gc.rs: `emit_expression`).
 fn emit_expression(s: &[u8], e: Encoding, map: &[u8], places: usize, out: &mut [u8]) -> Emitted
     ensures within { λ r. ⌜ Within (now (out .entry)) r (now (out .exit)) ⌝ }
@@ -127,12 +114,13 @@ fn emit_expression(s: &[u8], e: Encoding, map: &[u8], places: usize, out: &mut [
     let mut to: usize = 0;
     loop {
         let Yield::Reference(r) = (Cursor { at: from }).next_reference(s, e) else {
-            let n = emit_bytes(bytes_between(s, copied, s.len()), &mut out[to..]);
+            let n = emit_bytes(&s[copied..], &mut out[to..]);
             return Emitted::To(to + n);
         };
+        let place = r.place;
         let target = r.target;
         let next = r.next;
-        let n = emit_bytes(bytes_between(s, copied, r.place), &mut out[to..]);
+        let n = emit_bytes(&s[copied..place], &mut out[to..]);
         to += n;
         match emit_offset(
             new_offset(map, places, target),
@@ -147,7 +135,7 @@ fn emit_expression(s: &[u8], e: Encoding, map: &[u8], places: usize, out: &mut [
                 return Emitted::Refused(n);
             }
         }
-        copied = past(r.place, r.width, s.len());
+        copied = place + r.width;
         from = next.at;
     }
 }

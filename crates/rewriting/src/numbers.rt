@@ -9,7 +9,7 @@ ghost use Rattle.readers.specs.Choice.{zeros};
 ghost use Rattle.readers.specs.Numbers.{padded, fixedBytes};
 ghost use Rattle.readers.specs.Layout.{numberBytes};
 ghost use Rattle.readers.specs.References.{encodedBy};
-ghost use Rattle.rewriting.specs.Written.{groupsFit, bytesFit, numberFits, unfit, Put, paddedAnswer, paddedOut, over, put, numberAt};
+ghost use Rattle.rewriting.specs.Written.{groupsFit, bytesFit, numberFits, unfit, Put, paddedAnswer, paddedOut, over, putIn, numberThere};
 use readers::cursor::Cursor;
 use readers::cursor::Number;
 
@@ -123,8 +123,8 @@ fn put_fixed(value: u64, width: usize, out: &mut [u8]) -> bool
     true
 }
 
-// Writes a ULEB128 number in exactly so many bytes at the start of a slice, zeros after it (gc.rs: `write_uleb128_padded`). 15, and zeros, for a width of 0, above 10, below what the number
-// needs or beyond the slice.
+// Writes a ULEB128 number in exactly so many bytes at the start of a slice, zeros after it (gc.rs: `write_uleb128_padded`).
+// 15, and zeros, for a width of 0, above 10, below what the number needs or beyond the slice.
 pub fn write_uleb128_padded(value: u64, width: usize, out: &mut [u8]) -> Padded
     ensures answer { λ r. ⌜ r ≡ paddedAnswer value width (length (now (out .entry))) ⌝ }
     ensures bytes { λ _. ⌜ now (out .exit) ≡ paddedOut value width (length (now (out .entry))) ⌝ }
@@ -173,8 +173,8 @@ pub fn put_bytes(bytes: &[u8], out: &mut [u8])
 }
 
 // A big-endian number of so many bytes at a place; 0 where it is not there.
-pub(crate) fn big_endian_at(s: &[u8], at: usize, width: usize) -> u64
-    ensures { λ r. ⌜ (width ≤ 8 → at + width ≤ length (now (s .entry)) → r ≡ numberAt width (now (s .entry)) at) ⌝ }
+pub fn big_endian_at(s: &[u8], at: usize, width: usize) -> u64
+    ensures { λ r. ⌜ r ≡ numberThere width (now (s .entry)) at ⌝ }
 {
     let c = Cursor { at };
     match c.fixed(s, width, true) {
@@ -183,9 +183,9 @@ pub(crate) fn big_endian_at(s: &[u8], at: usize, width: usize) -> u64
     }
 }
 
-// Writes a big-endian number of so many bytes at a place that has room for it.
-pub(crate) fn put_big_endian(s: &mut [u8], at: usize, width: usize, value: u64)
-    ensures { λ _. ⌜ (at + width ≤ length (now (s .entry)) → now (s .exit) ≡ put (now (s .entry)) at (fixedBytes true width value)) ⌝ }
+// Writes a big-endian number of so many bytes at a place; nothing where there is no room for it.
+pub fn put_big_endian(s: &mut [u8], at: usize, width: usize, value: u64)
+    ensures { λ _. ⌜ now (s .exit) ≡ putIn (now (s .entry)) at (fixedBytes true width value) ⌝ }
 {
     if at > s.len() {
         return;

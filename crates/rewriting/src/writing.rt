@@ -102,7 +102,8 @@ pub(crate) fn emit_dies(
     }
 }
 
-// The header: the new length, then as it was (gc.rs: the end of `rewrite_unit`). How many bytes; 0, and nothing is written, where it has no room or its length is no number of four bytes.
+// The header: the new length, then as it was (gc.rs: the end of `rewrite_unit`). How many bytes; 0, and nothing is written,
+// where it has no room or its length is no number of four bytes.
 pub fn emit_header(unit: &[u8], first: usize, bytes: usize, out: &mut [u8]) -> usize
     ensures count { λ r. ⌜ r ≡ headerCount (now (unit .entry)) first bytes (now (out .entry)) ⌝ }
     ensures part { λ _. ⌜ now (out .exit) ≡ headerOver (now (unit .entry)) first bytes (now (out .entry)) ⌝ }

@@ -3,6 +3,7 @@ use borrow.Author.Needs.{needs}
 use native.Mathlib.Omega.{arith}
 use Prim.Native.Nat.{_-_}
 use lib.ListN.{length}
+use Rattle.rewriting.proofs.Putting.{put-room}
 use Rattle.collector.proofs.Runs.{Run, run-start, run-more, run-inside, run-done}
 use Rattle.collector.proofs.answers.put_run.Statement.{statement}
 use Rattle.collector.proofs.answers.put_run.Tie as tie
@@ -52,7 +53,7 @@ loop-less c = omega arith
 loop-again : tie.Need-loop-again Inv-loop μ-loop
 loop-again c =
     run-more _ _ _ _ _ _ _ _ (c .before .before .before .before .before .before .before .before .loop .inv) (omega arith) (omega arith)
-    (c .before .before .put-big-endian .ensures (omega arith))
+    (put-room _ _ _ _ _ (c .before .before .put-big-endian .ensures) (omega arith))
 
 same-length-3 : tie.Need-same-length-3 Inv-loop μ-loop
 same-length-3 c = c .before .loop .inv .same

@@ -1,6 +1,6 @@
 -- `emit_expression`: the invariant is that the answer from here on is that of the whole. Assumes nothing.
 use mathlib.Core.Path.{_≡_, refl}
-use Prim.Native.Nat.{ℕ, _-_}
+use Prim.Native.Nat.{ℕ, _-_, _≤_}
 use mathlib.Core.Bool.{false}
 use mathlib.Core.List.{List}
 use mathlib.Core.Option.{some}
@@ -17,14 +17,15 @@ use Rattle.rewriting.specs.declared.emit.Emitted.the-variants.{To}
 use Rattle.rewriting.proofs.Exact.{are-bytes}
 use Rattle.rewriting.proofs.Places.{looked-held}
 use Rattle.marking.proofs.NextOffsets.{next-less}
-use Rattle.rewriting.proofs.Emissions.{from-start, within-start, within-on, within-stop, inside, copied-within, copied-on, emits-on, after-small, onward-to, onward-no}
+use Rattle.rewriting.proofs.Yielded.{next-placed, next-small}
+use Rattle.rewriting.proofs.Emissions.{from-start, within-start, within-on, within-stop, inside, between-whole, copied-within, copied-on, emits-on, after-small, onward-to, onward-no}
 use Rattle.rewriting.proofs.Splices.{Going, going-start, going-end, going-refused, going-on}
 use Rattle.rewriting.proofs.emit.emit_expression.Statement.{statement}
 use Rattle.rewriting.proofs.emit.emit_expression.Tie as tie
 
 abbrev Inv-loop : tie.InvT-loop
 Inv-loop s e map places out₀ from₀ copied₀ to₀ out from copied to =
-    Within out₀ (To to) out
+    Within out₀ (To to) out × (copied ≤ from) × (from ≤ length s)
     × ((lists : Lists) (ps : List Place) (depth : ℕ) (pieces : List Piece) → e .«big_endian» ≡ false → MapHeld ps map → places ≡ length ps → expressionIn e s ≡ some pieces
     → Going lists ps depth pieces e s out₀ 0 out from copied to)
 
@@ -32,7 +33,7 @@ abbrev μ-loop : tie.MeasureT-loop
 μ-loop s e map places out₀ from₀ copied₀ to₀ out from copied to = length s - from
 
 loop-holds : tie.Need-loop-holds Inv-loop μ-loop
-loop-holds c = (within-start _, λ lists ps depth pieces l h p q. going-start lists ps depth pieces _ _ _ _ (are-bytes (c .before .before .before .args .s .now) (c .before .before .shared-slice-known .given)) l q)
+loop-holds c = (within-start _, omega arith, omega arith, λ lists ps depth pieces l h p q. going-start lists ps depth pieces _ _ _ _ (are-bytes (c .before .before .before .args .s .now) (c .before .before .shared-slice-known .given)) l q)
 
 next-reference-requires : tie.Need-next-reference-requires Inv-loop μ-loop
 next-reference-requires c κs = search needs
@@ -43,41 +44,53 @@ enum-known-r c = search needs
 enum-told : tie.Need-enum-told Inv-loop μ-loop
 enum-told c = search needs
 
-bytes-between-requires : tie.Need-bytes-between-requires Inv-loop μ-loop
-bytes-between-requires c κs = search needs
-
 sub-emit-bytes : tie.Need-sub-emit-bytes Inv-loop μ-loop
-sub-emit-bytes c = omega (arith, inside _ _ _ (c .before .before .before .before .loop .inv .0))
+sub-emit-bytes c = omega (arith, c .before .before .before .loop .inv .1, c .before .before .before .loop .inv .2)
 
 part-emit-bytes-start : tie.Need-part-emit-bytes-start Inv-loop μ-loop
-part-emit-bytes-start c = omega (arith, inside _ _ _ (c .before .before .before .before .loop .inv .0))
+part-emit-bytes-start c = omega (arith, c .before .before .before .loop .inv .1, c .before .before .before .loop .inv .2)
 
 part-emit-bytes-end : tie.Need-part-emit-bytes-end Inv-loop μ-loop
-part-emit-bytes-end c = omega (arith, inside _ _ _ (c .before .before .before .before .loop .inv .0))
+part-emit-bytes-end c = omega (arith, c .before .before .before .loop .inv .1, c .before .before .before .loop .inv .2)
+
+sub-emit-bytes-2 : tie.Need-sub-emit-bytes-2 Inv-loop μ-loop
+sub-emit-bytes-2 c = omega (arith, inside _ _ _ (c .before .before .before .before .loop .inv .0))
+
+part-emit-bytes-start-2 : tie.Need-part-emit-bytes-start-2 Inv-loop μ-loop
+part-emit-bytes-start-2 c = omega (arith, inside _ _ _ (c .before .before .before .before .loop .inv .0))
+
+part-emit-bytes-end-2 : tie.Need-part-emit-bytes-end-2 Inv-loop μ-loop
+part-emit-bytes-end-2 c = omega (arith, inside _ _ _ (c .before .before .before .before .loop .inv .0))
 
 emit-bytes-requires : tie.Need-emit-bytes-requires Inv-loop μ-loop
 emit-bytes-requires c κs = search needs
 
-add-t19 : tie.Need-add-t19 Inv-loop μ-loop
-add-t19 c = record { fits = after-small _ _ _ (c .before .before .before .before .before .before .before .before .loop .inv .0) _ _ (copied-within _ _ _ _ (c .before .before .emit-bytes .ensures .0) (c .before .before .emit-bytes .ensures .1)) (c .before .before .before .before .before .before .before .before .before .before .before .before .good .1 .1 .1 .1 .0 .0) _ refl }
+add-t20 : tie.Need-add-t20 Inv-loop μ-loop
+add-t20 c = record { fits = after-small _ _ _ (c .before .before .before .before .before .before .before .before .loop .inv .0) _ _ (copied-within _ _ _ _ (c .before .before .emit-bytes .ensures .0) (c .before .before .emit-bytes .ensures .1)) (c .before .before .before .before .before .before .before .before .before .before .before .before .good .1 .1 .1 .1 .0 .0) _ refl }
 
 same-length : tie.Need-same-length Inv-loop μ-loop
 same-length c = (within-on _ _ _ (c .before .before .before .before .before .before .before .before .loop .inv .0) _ _ (copied-within _ _ _ _ (c .before .before .emit-bytes .ensures .0) (c .before .before .emit-bytes .ensures .1)) _ refl) .size
 
 returns : tie.Need-returns Inv-loop μ-loop
-returns c = (within-on _ _ _ (c .before .before .before .before .before .before .before .before .loop .inv .0) _ _ (copied-within _ _ _ _ (c .before .before .emit-bytes .ensures .0) (c .before .before .emit-bytes .ensures .1)) _ refl, λ lists ps depth pieces l h p q. from-start (going-end lists ps depth pieces _ _ _ _ _ _ _ _ (c .before .before .before .before .before .before .before .before .loop .inv .1 lists ps depth pieces l h p q) _ (c .before .before .before .before .before .before .before .next-reference .ensures) (c .before .before .before .before .before .enum-told .given .1) _ _ (λ _ _. copied-on _ _ _ (c .before .before .before .before .before .before .before .before .loop .inv .0) _ _ _ (c .before .before .emit-bytes .ensures .0) (c .before .before .emit-bytes .ensures .1) _ (c .before .before .before .before .bytes-between .ensures))))
+returns c = (within-on _ _ _ (c .before .before .before .before .before .before .before .before .loop .inv .0) _ _ (copied-within _ _ _ _ (c .before .before .emit-bytes .ensures .0) (c .before .before .emit-bytes .ensures .1)) _ refl, λ lists ps depth pieces l h p q. from-start (going-end lists ps depth pieces _ _ _ _ _ _ _ _ (c .before .before .before .before .before .before .before .before .loop .inv .3 lists ps depth pieces l h p q) _ (c .before .before .before .before .before .before .before .next-reference .ensures) (c .before .before .before .before .before .enum-told .given .1) _ _ (λ _ _. copied-on _ _ _ (c .before .before .before .before .before .before .before .before .loop .inv .0) _ _ _ (c .before .before .emit-bytes .ensures .0) (c .before .before .emit-bytes .ensures .1) _ (between-whole _ _ _))))
 
-bytes-between-requires-2 : tie.Need-bytes-between-requires-2 Inv-loop μ-loop
-bytes-between-requires-2 c κs = search needs
+sub-emit-bytes-3 : tie.Need-sub-emit-bytes-3 Inv-loop μ-loop
+sub-emit-bytes-3 c = omega (arith, c .before .before .before .before .before .before .loop .inv .1, (next-placed _ _ _ _ (c .before .before .before .before .before .next-reference .ensures) _ (c .before .before .before .r .given .1)) .0, (next-placed _ _ _ _ (c .before .before .before .before .before .next-reference .ensures) _ (c .before .before .before .r .given .1)) .1, (next-placed _ _ _ _ (c .before .before .before .before .before .next-reference .ensures) _ (c .before .before .before .r .given .1)) .2)
 
-sub-emit-bytes-2 : tie.Need-sub-emit-bytes-2 Inv-loop μ-loop
-sub-emit-bytes-2 c = omega (arith, inside _ _ _ (c .before .before .before .before .before .before .before .loop .inv .0))
+part-emit-bytes-start-3 : tie.Need-part-emit-bytes-start-3 Inv-loop μ-loop
+part-emit-bytes-start-3 c = omega (arith, c .before .before .before .before .before .before .loop .inv .1, (next-placed _ _ _ _ (c .before .before .before .before .before .next-reference .ensures) _ (c .before .before .before .r .given .1)) .0, (next-placed _ _ _ _ (c .before .before .before .before .before .next-reference .ensures) _ (c .before .before .before .r .given .1)) .1, (next-placed _ _ _ _ (c .before .before .before .before .before .next-reference .ensures) _ (c .before .before .before .r .given .1)) .2)
 
-part-emit-bytes-start-2 : tie.Need-part-emit-bytes-start-2 Inv-loop μ-loop
-part-emit-bytes-start-2 c = omega (arith, inside _ _ _ (c .before .before .before .before .before .before .before .loop .inv .0))
+part-emit-bytes-end-3 : tie.Need-part-emit-bytes-end-3 Inv-loop μ-loop
+part-emit-bytes-end-3 c = omega (arith, c .before .before .before .before .before .before .loop .inv .1, (next-placed _ _ _ _ (c .before .before .before .before .before .next-reference .ensures) _ (c .before .before .before .r .given .1)) .0, (next-placed _ _ _ _ (c .before .before .before .before .before .next-reference .ensures) _ (c .before .before .before .r .given .1)) .1, (next-placed _ _ _ _ (c .before .before .before .before .before .next-reference .ensures) _ (c .before .before .before .r .given .1)) .2)
 
-part-emit-bytes-end-2 : tie.Need-part-emit-bytes-end-2 Inv-loop μ-loop
-part-emit-bytes-end-2 c = omega (arith, inside _ _ _ (c .before .before .before .before .before .before .before .loop .inv .0))
+sub-emit-bytes-4 : tie.Need-sub-emit-bytes-4 Inv-loop μ-loop
+sub-emit-bytes-4 c = omega (arith, inside _ _ _ (c .before .before .before .before .before .before .before .loop .inv .0))
+
+part-emit-bytes-start-4 : tie.Need-part-emit-bytes-start-4 Inv-loop μ-loop
+part-emit-bytes-start-4 c = omega (arith, inside _ _ _ (c .before .before .before .before .before .before .before .loop .inv .0))
+
+part-emit-bytes-end-4 : tie.Need-part-emit-bytes-end-4 Inv-loop μ-loop
+part-emit-bytes-end-4 c = omega (arith, inside _ _ _ (c .before .before .before .before .before .before .before .loop .inv .0))
 
 emit-bytes-requires-2 : tie.Need-emit-bytes-requires-2 Inv-loop μ-loop
 emit-bytes-requires-2 c κs = search needs
@@ -113,16 +126,16 @@ same-length-2 : tie.Need-same-length-2 Inv-loop μ-loop
 same-length-2 c = (within-stop _ _ _ (within-on _ _ _ (c .before .before .before .before .before .before .before .before .before .before .before .before .before .before .before .before .before .before .before .loop .inv .0) _ _ (copied-within _ _ _ _ (c .before .before .before .before .before .before .before .before .before .before .emit-bytes2 .ensures .0) (c .before .before .before .before .before .before .before .before .before .before .emit-bytes2 .ensures .1)) _ refl) _ _ (c .before .before .before .before .before .emit-offset .ensures .0) 0) .size
 
 returns-2 : tie.Need-returns-2 Inv-loop μ-loop
-returns-2 c = (within-stop _ _ _ (within-on _ _ _ (c .before .before .before .before .before .before .before .before .before .before .before .before .before .before .before .before .before .before .before .loop .inv .0) _ _ (copied-within _ _ _ _ (c .before .before .before .before .before .before .before .before .before .before .emit-bytes2 .ensures .0) (c .before .before .before .before .before .before .before .before .before .before .emit-bytes2 .ensures .1)) _ refl) _ _ (c .before .before .before .before .before .emit-offset .ensures .0) _, λ lists ps depth pieces l h p q. from-start (going-refused lists ps depth pieces _ _ _ _ _ _ _ _ (c .before .before .before .before .before .before .before .before .before .before .before .before .before .before .before .before .before .before .before .loop .inv .1 lists ps depth pieces l h p q) _ (c .before .before .before .before .before .before .before .before .before .before .before .before .before .before .before .before .before .before .next-reference .ensures) _ (c .before .before .before .before .before .before .before .before .before .before .before .before .before .before .before .before .r .given .1) _ _ (λ _ _. copied-on _ _ _ (c .before .before .before .before .before .before .before .before .before .before .before .before .before .before .before .before .before .before .before .loop .inv .0) _ _ _ (c .before .before .before .before .before .before .before .before .before .before .emit-bytes2 .ensures .0) (c .before .before .before .before .before .before .before .before .before .before .emit-bytes2 .ensures .1) _ (c .before .before .before .before .before .before .before .before .before .before .before .before .bytes-between2 .ensures)) _ (c .before .before .before .before .before .before .before .new-offset .ensures ∙ looked-held ps _ _ _ h p) _ _ (λ o v m w. emits-on _ _ _ (within-on _ _ _ (c .before .before .before .before .before .before .before .before .before .before .before .before .before .before .before .before .before .before .before .loop .inv .0) _ _ (copied-within _ _ _ _ (c .before .before .before .before .before .before .before .before .before .before .emit-bytes2 .ensures .0) (c .before .before .before .before .before .before .before .before .before .before .emit-bytes2 .ensures .1)) _ refl) (c .before .before .before .before .before .emit-offset .ensures .1 o v m w)) _ (onward-no _ _ _ (c .before .n2 .given .1))))
+returns-2 c = (within-stop _ _ _ (within-on _ _ _ (c .before .before .before .before .before .before .before .before .before .before .before .before .before .before .before .before .before .before .before .loop .inv .0) _ _ (copied-within _ _ _ _ (c .before .before .before .before .before .before .before .before .before .before .emit-bytes2 .ensures .0) (c .before .before .before .before .before .before .before .before .before .before .emit-bytes2 .ensures .1)) _ refl) _ _ (c .before .before .before .before .before .emit-offset .ensures .0) _, λ lists ps depth pieces l h p q. from-start (going-refused lists ps depth pieces _ _ _ _ _ _ _ _ (c .before .before .before .before .before .before .before .before .before .before .before .before .before .before .before .before .before .before .before .loop .inv .3 lists ps depth pieces l h p q) _ (c .before .before .before .before .before .before .before .before .before .before .before .before .before .before .before .before .before .before .next-reference .ensures) _ (c .before .before .before .before .before .before .before .before .before .before .before .before .before .before .before .before .r .given .1) _ _ (λ _ _. copied-on _ _ _ (c .before .before .before .before .before .before .before .before .before .before .before .before .before .before .before .before .before .before .before .loop .inv .0) _ _ _ (c .before .before .before .before .before .before .before .before .before .before .emit-bytes2 .ensures .0) (c .before .before .before .before .before .before .before .before .before .before .emit-bytes2 .ensures .1) _ (between-whole _ _ _)) _ (c .before .before .before .before .before .before .before .new-offset .ensures ∙ looked-held ps _ _ _ h p) _ _ (λ o v m w. emits-on _ _ _ (within-on _ _ _ (c .before .before .before .before .before .before .before .before .before .before .before .before .before .before .before .before .before .before .before .loop .inv .0) _ _ (copied-within _ _ _ _ (c .before .before .before .before .before .before .before .before .before .before .emit-bytes2 .ensures .0) (c .before .before .before .before .before .before .before .before .before .before .emit-bytes2 .ensures .1)) _ refl) (c .before .before .before .before .before .emit-offset .ensures .1 o v m w)) _ (onward-no _ _ _ (c .before .n2 .given .1))))
 
-past-requires : tie.Need-past-requires Inv-loop μ-loop
-past-requires c κs = search needs
+add-copied : tie.Need-add-copied Inv-loop μ-loop
+add-copied c = record { fits = next-small _ _ _ _ (c .before .before .before .before .before .before .before .before .before .before .before .before .before .before .before .before .before .before .before .next-reference .ensures) _ (c .before .before .before .before .before .before .before .before .before .before .before .before .before .before .before .before .before .r .given .1) (c .before .before .before .before .before .before .before .before .before .before .before .before .before .before .before .before .before .before .before .before .before .before .before .before .good .0 .0) }
 
 loop-less : tie.Need-loop-less Inv-loop μ-loop
 loop-less c = search next-less
 
 loop-again : tie.Need-loop-again Inv-loop μ-loop
-loop-again c = (within-on _ _ _ (within-on _ _ _ (c .before .before .before .before .before .before .before .before .before .before .before .before .before .before .before .before .before .before .before .before .loop .inv .0) _ _ (copied-within _ _ _ _ (c .before .before .before .before .before .before .before .before .before .before .before .emit-bytes2 .ensures .0) (c .before .before .before .before .before .before .before .before .before .before .before .emit-bytes2 .ensures .1)) _ refl) _ _ (c .before .before .before .before .before .before .emit-offset .ensures .0) _ (c .before .before .n .given .1), λ lists ps depth pieces l h p q. going-on lists ps depth pieces _ _ _ _ _ _ _ _ (c .before .before .before .before .before .before .before .before .before .before .before .before .before .before .before .before .before .before .before .before .loop .inv .1 lists ps depth pieces l h p q) _ (c .before .before .before .before .before .before .before .before .before .before .before .before .before .before .before .before .before .before .before .next-reference .ensures) _ (c .before .before .before .before .before .before .before .before .before .before .before .before .before .before .before .before .before .r .given .1) _ _ (λ _ _. copied-on _ _ _ (c .before .before .before .before .before .before .before .before .before .before .before .before .before .before .before .before .before .before .before .before .loop .inv .0) _ _ _ (c .before .before .before .before .before .before .before .before .before .before .before .emit-bytes2 .ensures .0) (c .before .before .before .before .before .before .before .before .before .before .before .emit-bytes2 .ensures .1) _ (c .before .before .before .before .before .before .before .before .before .before .before .before .before .bytes-between2 .ensures)) _ (c .before .before .before .before .before .before .before .before .new-offset .ensures ∙ looked-held ps _ _ _ h p) _ _ (λ o v m w. emits-on _ _ _ (within-on _ _ _ (c .before .before .before .before .before .before .before .before .before .before .before .before .before .before .before .before .before .before .before .before .loop .inv .0) _ _ (copied-within _ _ _ _ (c .before .before .before .before .before .before .before .before .before .before .before .emit-bytes2 .ensures .0) (c .before .before .before .before .before .before .before .before .before .before .before .emit-bytes2 .ensures .1)) _ refl) (c .before .before .before .before .before .before .emit-offset .ensures .1 o v m w)) _ (onward-to _ _ _ (c .before .before .n .given .1)) _ (c .past .ensures))
+loop-again c = (within-on _ _ _ (within-on _ _ _ (c .before .before .before .before .before .before .before .before .before .before .before .before .before .before .before .before .before .before .before .before .loop .inv .0) _ _ (copied-within _ _ _ _ (c .before .before .before .before .before .before .before .before .before .before .before .emit-bytes2 .ensures .0) (c .before .before .before .before .before .before .before .before .before .before .before .emit-bytes2 .ensures .1)) _ refl) _ _ (c .before .before .before .before .before .before .emit-offset .ensures .0) _ (c .before .before .n .given .1), (next-placed _ _ _ _ (c .before .before .before .before .before .before .before .before .before .before .before .before .before .before .before .before .before .before .before .next-reference .ensures) _ (c .before .before .before .before .before .before .before .before .before .before .before .before .before .before .before .before .before .r .given .1)) .1, (next-placed _ _ _ _ (c .before .before .before .before .before .before .before .before .before .before .before .before .before .before .before .before .before .before .before .next-reference .ensures) _ (c .before .before .before .before .before .before .before .before .before .before .before .before .before .before .before .before .before .r .given .1)) .2, λ lists ps depth pieces l h p q. going-on lists ps depth pieces _ _ _ _ _ _ _ _ (c .before .before .before .before .before .before .before .before .before .before .before .before .before .before .before .before .before .before .before .before .loop .inv .3 lists ps depth pieces l h p q) _ (c .before .before .before .before .before .before .before .before .before .before .before .before .before .before .before .before .before .before .before .next-reference .ensures) _ (c .before .before .before .before .before .before .before .before .before .before .before .before .before .before .before .before .before .r .given .1) _ _ (λ _ _. copied-on _ _ _ (c .before .before .before .before .before .before .before .before .before .before .before .before .before .before .before .before .before .before .before .before .loop .inv .0) _ _ _ (c .before .before .before .before .before .before .before .before .before .before .before .emit-bytes2 .ensures .0) (c .before .before .before .before .before .before .before .before .before .before .before .emit-bytes2 .ensures .1) _ (between-whole _ _ _)) _ (c .before .before .before .before .before .before .before .before .new-offset .ensures ∙ looked-held ps _ _ _ h p) _ _ (λ o v m w. emits-on _ _ _ (within-on _ _ _ (c .before .before .before .before .before .before .before .before .before .before .before .before .before .before .before .before .before .before .before .before .loop .inv .0) _ _ (copied-within _ _ _ _ (c .before .before .before .before .before .before .before .before .before .before .before .emit-bytes2 .ensures .0) (c .before .before .before .before .before .before .before .before .before .before .before .emit-bytes2 .ensures .1)) _ refl) (c .before .before .before .before .before .before .emit-offset .ensures .1 o v m w)) _ (onward-to _ _ _ (c .before .before .n .given .1)) _ (λ _. refl))
 
 pub emit-expression-spec : {M : Type 1} → statement M
 emit-expression-spec =
@@ -134,18 +147,22 @@ emit-expression-spec =
     next-reference-requires
     enum-known-r
     enum-told
-    bytes-between-requires
     sub-emit-bytes
     part-emit-bytes-start
     part-emit-bytes-end
-    emit-bytes-requires
-    add-t19
-    same-length
-    returns
-    bytes-between-requires-2
     sub-emit-bytes-2
     part-emit-bytes-start-2
     part-emit-bytes-end-2
+    emit-bytes-requires
+    add-t20
+    same-length
+    returns
+    sub-emit-bytes-3
+    part-emit-bytes-start-3
+    part-emit-bytes-end-3
+    sub-emit-bytes-4
+    part-emit-bytes-start-4
+    part-emit-bytes-end-4
     emit-bytes-requires-2
     add-to
     new-offset-requires
@@ -158,6 +175,6 @@ emit-expression-spec =
     enum-known-n-2
     same-length-2
     returns-2
-    past-requires
+    add-copied
     loop-less
     loop-again)

@@ -3,6 +3,7 @@ use native.Mathlib.Omega.{arith}
 use borrow.Author.Needs.{needs}
 use Rattle.rewriting.specs.Written.{depthAt}
 use Rattle.rewriting.proofs.Tables.{room-in, no-room}
+use Rattle.rewriting.proofs.Putting.{big-endian-there}
 use Rattle.rewriting.proofs.map.depth_at.Statement.{statement}
 use Rattle.rewriting.proofs.map.depth_at.Tie as tie
 
@@ -24,7 +25,7 @@ big-endian-at-requires c κs = search needs
 
 returns-2 : tie.Need-returns-2
 unfolding depthAt
-returns-2 c = room-in _ _ _ _ (omega arith) (c .big-endian-at .ensures (omega arith) (omega arith))
+returns-2 c = room-in _ _ _ _ (omega arith) (big-endian-there _ _ _ _ (c .big-endian-at .ensures) (omega arith) (omega arith))
 
 pub depth-at-spec : {M : Type 1} → statement M
 depth-at-spec =

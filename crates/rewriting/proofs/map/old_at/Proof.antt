@@ -3,6 +3,7 @@ use native.Mathlib.Omega.{arith}
 use borrow.Author.Needs.{needs}
 use Rattle.rewriting.specs.Written.{oldAt}
 use Rattle.rewriting.proofs.Tables.{room-in, no-room}
+use Rattle.rewriting.proofs.Putting.{big-endian-there}
 use Rattle.rewriting.proofs.map.old_at.Statement.{statement}
 use Rattle.rewriting.proofs.map.old_at.Tie as tie
 
@@ -21,7 +22,7 @@ big-endian-at-requires c κs = search needs
 
 returns-2 : tie.Need-returns-2
 unfolding oldAt
-returns-2 c = room-in _ _ _ _ (omega arith) (c .big-endian-at .ensures (omega arith) (omega arith))
+returns-2 c = room-in _ _ _ _ (omega arith) (big-endian-there _ _ _ _ (c .big-endian-at .ensures) (omega arith) (omega arith))
 
 pub old-at-spec : {M : Type 1} → statement M
 old-at-spec =

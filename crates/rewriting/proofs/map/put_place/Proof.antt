@@ -1,5 +1,6 @@
 -- `put_place` meets its contract.
 use native.Mathlib.Omega.{arith}
+use Rattle.rewriting.proofs.Putting.{put-room}
 use Rattle.rewriting.proofs.Places.{place-put}
 use borrow.Author.Needs.{needs}
 use Rattle.rewriting.proofs.map.put_place.Statement.{statement}
@@ -43,7 +44,7 @@ same-length-2 c = search needs
 
 returns-2 : tie.Need-returns-2
 returns-2 c =
-    λ ps h e r a b d. place-put ps _ _ _ _ _ _ _ _ r (c .before .before .before .before .before .before .before .before .before .before .put-big-endian .ensures) (c .before .before .before .before .before .before .put-big-endian2 .ensures) (c .before .before .put-big-endian3 .ensures) h e a b d
+    λ ps h e r a b d. place-put ps _ _ _ _ _ _ _ _ r (put-room _ _ _ _ _ (c .before .before .before .before .before .before .before .before .before .before .put-big-endian .ensures)) (put-room _ _ _ _ _ (c .before .before .before .before .before .before .put-big-endian2 .ensures)) (put-room _ _ _ _ _ (c .before .before .put-big-endian3 .ensures)) h e a b d
 
 pub put-place-spec : {M : Type 1} → statement M
 put-place-spec =

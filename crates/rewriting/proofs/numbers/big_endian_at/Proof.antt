@@ -14,10 +14,10 @@ enum-told : tie.Need-enum-told
 enum-told c = search needs
 
 returns : tie.Need-returns
-returns c = λ e h. read-value _ _ _ _ (c .before .before .before .fixed .ensures) e h _ _ (c .before .value .given .1)
+returns c = read-value _ _ _ _ (c .before .before .before .fixed .ensures) _ _ (c .before .value .given .1)
 
 returns-2 : tie.Need-returns-2
-returns-2 c = λ e h. read-nothing _ _ _ _ (c .before .before .fixed .ensures) e h (c .enum-told .given .1)
+returns-2 c = read-nothing _ _ _ _ (c .before .before .fixed .ensures) (c .enum-told .given .1)
 
 pub big-endian-at-spec : {M : Type 1} → statement M
 big-endian-at-spec =

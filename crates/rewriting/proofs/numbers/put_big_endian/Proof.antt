@@ -1,7 +1,7 @@
 -- `put_big_endian` meets its contract: the last byte is written first.
 use Prim.Native.Nat.{_-_}
 use native.Mathlib.Omega.{arith}
-use Rattle.rewriting.proofs.Putting.{Backing, backing-start, backing-more, backing-done}
+use Rattle.rewriting.proofs.Putting.{Backing, backing-start, backing-more, backing-done, put-none, put-all}
 use Rattle.rewriting.proofs.numbers.put_big_endian.Statement.{statement}
 use Rattle.rewriting.proofs.numbers.put_big_endian.Tie as tie
 
@@ -12,13 +12,13 @@ abbrev μ-loop : tie.MeasureT-loop
 μ-loop s₀ at width value rest₀ i₀ s rest i = i
 
 returns : tie.Need-returns Inv-loop μ-loop
-returns c = (λ h. absurd (omega arith))
+returns c = put-none _ _ _ _ (omega arith)
 
 sub-if2 : tie.Need-sub-if2 Inv-loop μ-loop
 sub-if2 c = omega arith
 
 returns-2 : tie.Need-returns-2 Inv-loop μ-loop
-returns-2 c = (λ h. absurd (omega arith))
+returns-2 c = put-none _ _ _ _ (omega arith)
 
 loop-holds : tie.Need-loop-holds Inv-loop μ-loop
 loop-holds c = backing-start _ _ _ _ (omega arith)
@@ -45,7 +45,7 @@ same-length : tie.Need-same-length Inv-loop μ-loop
 same-length c = c .before .loop .inv .same
 
 returns-3 : tie.Need-returns-3 Inv-loop μ-loop
-returns-3 c = (λ h. backing-done _ _ _ _ _ _ _ (omega arith) (c .before .loop .inv))
+returns-3 c = put-all _ _ _ _ _ (c .before .loop .inv .room) (backing-done _ _ _ _ _ _ _ (omega arith) (c .before .loop .inv))
 
 pub put-big-endian-spec : {M : Type 1} → statement M
 put-big-endian-spec =
