@@ -369,7 +369,7 @@ module _ (x : Sections) (room : Room) (typeUnits : Bool) (section : List ℕ) wh
   needs-empty : (l : Lists) → collectOf x room typeUnits section ≡ untouched 0 l → Needs x room typeUnits section (untouched 0 l)
   unfolding lists-of needOf countOf namesIn
   needs-empty l answer =
-      let a : analysisOf x section (room .tables) ≡ analysed [] = was-empty x room typeUnits section l answer in
+      let a : analysisOf x section (room .tables) ≡ analysed [] = was-empty x room typeUnits section l answer .0 in
       let e : noLists ≡ l = ap lists-of (sym (collected-empty x typeUnits section room a) ∙ answer) in
       subst (λ (m : Lists). Needs x room typeUnits section (untouched 0 m)) e
       (record {
