@@ -197,8 +197,8 @@ part-emit-bytes-end c = omega (arith, inside _ _ _ (copied-within _ _ _ _ (c .be
 emit-bytes-requires-2 : tie.Need-emit-bytes-requires-2
 emit-bytes-requires-2 c κs = search needs
 
-add-t72 : tie.Need-add-t72
-add-t72 c = record { fits = after-small _ _ _ (copied-within _ _ _ _ (c .before .before .before .before .before .before .before .before .before .before .before .before .before .before .emit-bytes .ensures .0) (c .before .before .before .before .before .before .before .before .before .before .before .before .before .before .emit-bytes .ensures .1)) _ _ (copied-within _ _ _ _ (c .before .before .emit-bytes2 .ensures .0) (c .before .before .emit-bytes2 .ensures .1)) (c .before .before .before .before .before .before .before .before .before .before .before .before .before .before .before .before .before .before .before .before .before .before .before .before .before .before .good .1 .1 .1 .1 .1 .1 .1 .1 .1 .1 .1 .1 .1 .1 .0 .0) _ refl }
+add-t74 : tie.Need-add-t74
+add-t74 c = record { fits = after-small _ _ _ (copied-within _ _ _ _ (c .before .before .before .before .before .before .before .before .before .before .before .before .before .before .emit-bytes .ensures .0) (c .before .before .before .before .before .before .before .before .before .before .before .before .before .before .emit-bytes .ensures .1)) _ _ (copied-within _ _ _ _ (c .before .before .emit-bytes2 .ensures .0) (c .before .before .emit-bytes2 .ensures .1)) (c .before .before .before .before .before .before .before .before .before .before .before .before .before .before .before .before .before .before .before .before .before .before .before .before .before .before .good .1 .1 .1 .1 .1 .1 .1 .1 .1 .1 .1 .1 .1 .1 .0 .0) _ refl }
 
 same-length-7 : tie.Need-same-length-7
 same-length-7 c = (within-on _ _ _ (copied-within _ _ _ _ (c .before .before .before .before .before .before .before .before .before .before .before .before .before .before .emit-bytes .ensures .0) (c .before .before .before .before .before .before .before .before .before .before .before .before .before .before .emit-bytes .ensures .1)) _ _ (copied-within _ _ _ _ (c .before .before .emit-bytes2 .ensures .0) (c .before .before .emit-bytes2 .ensures .1)) _ refl) .size
@@ -272,6 +272,6 @@ emit-attribute-spec =
     part-emit-bytes-start
     part-emit-bytes-end
     emit-bytes-requires-2
-    add-t72
+    add-t74
     same-length-7
     returns-7)
