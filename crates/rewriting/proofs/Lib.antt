@@ -48,6 +48,7 @@ pub mod Counting
 pub mod Roles
 pub mod ThinnedItems
 pub mod CollectLaws
+pub mod AbsentLists
 pub mod ThinnedLaw
 pub mod HeaderBytes
 pub mod HostReads

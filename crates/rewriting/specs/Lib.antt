@@ -10,6 +10,7 @@ pub mod Bounds
 pub mod Gathering
 pub mod LeftOut
 pub mod Rewriting
+pub mod AbsentLists
 pub mod Landing
 pub mod Parents
 pub mod Ends
