@@ -61,6 +61,7 @@ pub mod NamedPieces
 pub mod EntryNames
 pub mod ListedNames
 pub mod SameReferences
+pub mod MarkingSteps
 pub mod IndexTurns
 pub mod Holdings
 pub mod SortedLists

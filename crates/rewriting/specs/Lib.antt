@@ -27,5 +27,6 @@ pub mod AttributesAgain
 pub mod Leaving
 pub mod FiveEntries
 pub mod SameReferences
+pub mod MarkingSteps
 pub mod RefusalNumbers
 pub mod RoomLaws
