@@ -48,6 +48,7 @@ pub mod Counting
 pub mod Roles
 pub mod ThinnedItems
 pub mod CollectLaws
+pub mod AbsentLists
 pub mod ThinnedLaw
 pub mod HeaderBytes
 pub mod HostReads
@@ -60,6 +61,7 @@ pub mod NamedPieces
 pub mod EntryNames
 pub mod ListedNames
 pub mod SameReferences
+pub mod MarkingSteps
 pub mod IndexTurns
 pub mod Holdings
 pub mod SortedLists

@@ -29,6 +29,7 @@ use Rattle.rewriting.proofs.ClosedMarks.{accepted-kept}
 use Rattle.rewriting.proofs.ReadableItems.{accepted-readable}
 use Rattle.rewriting.proofs.SameReferences.{accepted-references, each-references}
 use Rattle.rewriting.proofs.HeaderBytes.{header-bytes-law}
+use Rattle.rewriting.proofs.AbsentLists.{absent-law}
 use Rattle.rewriting.proofs.Following.{accepted-header}
 use Rattle.marking.proofs.Members.{nothing-in}
 use Rattle.rewriting.proofs.Roles.{index-kind}
@@ -352,6 +353,7 @@ module _ (x : Sections) (room : Room) (typeUnits : Bool) (section : List ℕ) (w
         each = each-law;
         bytes = header-law .end-is ∙ bytes-law x room typeUnits section w answer;
         lists-are = it x room typeUnits section w answer .lists-is;
+        absent = absent-law x was typeUnits items (w .lists) (it x room typeUnits section w answer .lists-is);
         lists = lists-law;
       }
 
@@ -379,6 +381,7 @@ module _ (x : Sections) (room : Room) (typeUnits : Bool) (section : List ℕ) wh
           declared-are = o .accepted .declared;
           parted = parted (Kept (graphOf (o .rows))) (marksIn (o .rows)) (accepted-kept x room section (o .header) (o .declared) (o .rows) (o .accepted)) 0 [] (itemsIn x whole-unit);
           lists-are = o .lists-is;
+          absent = absent-law x whole-unit typeUnits all-kept lists (o .lists-is);
           each = (λ k h xs q. index-list x whole-unit all-kept
               (accepted-readable x room section (o .header) (o .declared) (o .rows) (o .accepted) (marksIn (o .rows))) k xs
               (whole-list-law x room typeUnits section n lists answer some-entry k h xs q));

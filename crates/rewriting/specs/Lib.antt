@@ -10,6 +10,7 @@ pub mod Bounds
 pub mod Gathering
 pub mod LeftOut
 pub mod Rewriting
+pub mod AbsentLists
 pub mod Landing
 pub mod Parents
 pub mod Ends
@@ -26,5 +27,6 @@ pub mod AttributesAgain
 pub mod Leaving
 pub mod FiveEntries
 pub mod SameReferences
+pub mod MarkingSteps
 pub mod RefusalNumbers
 pub mod RoomLaws

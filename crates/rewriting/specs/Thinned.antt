@@ -30,6 +30,7 @@ use Rattle.rewriting.specs.Maps.{oldOffsets, newOffsets}
 use Rattle.rewriting.specs.Around.{aroundFrom}
 use Rattle.rewriting.specs.Moved.{movedItem, depthsFrom}
 use Rattle.rewriting.specs.Rewriting.{Unit as Unit′, unitOf, itemsIn, Lists, listsOf, noLists, listAt, Rewrite}
+use Rattle.rewriting.specs.AbsentLists.{DeclaresOffset}
 use Rattle.rewriting.specs.HeaderBytes.{HeaderBytes}
 use Rattle.rewriting.specs.SameReferences.{UnitReferences}
 
@@ -215,8 +216,8 @@ pub record Thinned (x : Sections) (typeUnits : Bool) (section : List ℕ) (w : R
       → SideBySide x (unitOf header section declared) (thinnedOf header (w .output) declared) (w .lists) (w .map) kept m s
   -- "The rewritten unit's old bytes, counted, equal its new bytes plus those of the entries and terminators left out."
   pub bytes : header .end ≡ length (w .output) + sizeFrom left
-  -- which lists are absent is in `listsOf`
   pub lists-are : w .lists ≡ listsOf x (unitOf header section declared) typeUnits kept
+  pub absent : (k : ℕ) → k < 3 → (listAt (w .lists) k ≡ none) ↔ ((typeUnits ≡ true) ⊎ DeclaresOffset x (unitOf header section declared) k)
   pub lists : (k : ℕ) → k < 3 → (xs : List ℕ) → listAt (w .lists) k ≡ some xs
       → IndexList x (unitOf header section declared) kept k xs
 
@@ -232,6 +233,7 @@ pub record UntouchedLists (x : Sections) (typeUnits : Bool) (section : List ℕ)
   pub declared-are : abbreviationsOf (x .abbreviations) (header .abbreviations) ≡ some declared
   pub parted : Parted (Kept (graphOf rows)) 0 [] (itemsIn x (unitOf header section declared)) kept left
   pub lists-are : lists ≡ listsOf x (unitOf header section declared) typeUnits kept
+  pub absent : (k : ℕ) → k < 3 → (listAt lists k ≡ none) ↔ ((typeUnits ≡ true) ⊎ DeclaresOffset x (unitOf header section declared) k)
   pub each : (k : ℕ) → k < 3 → (xs : List ℕ) → listAt lists k ≡ some xs → IndexList x (unitOf header section declared) kept k xs
 
 -- "An accepted unit is rewritten exactly when it has a dead entry.": every entry of an untouched one is a survivor; "without entries the lists are absent too"
