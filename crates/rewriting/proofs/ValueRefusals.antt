@@ -266,3 +266,48 @@ module _ (lists : Lists) (first : ℕ) (kept : List Standing) (depth : ℕ) wher
   unfolding pieceRefusal TooWide
   piece-nine (copied l) = (λ q. absurd (omega arith), λ h. absurd h)
   piece-nine (linked e role v) = (link-told e role v .2, λ h. link-wide e role v (h .0) (h .1))
+
+-- ---- what is read of an item, and the kept items
+
+module _ (x : Sections) (u : Unit′) (lists : Lists) (first : ℕ) (kept : List Standing) (Bad : ℕ → Piece → Type 0) (n : ℕ) (some-number : 0 < n)
+    (piece : (depth : ℕ) (p : Piece) → (pieceRefusal lists (placesFrom first kept) depth p ≡ n) ↔ Bad depth p) where
+  abbrev places : List Place
+  places = placesFrom first kept
+
+  pieces-mean : (depth : ℕ) → Means (piecesRefusal lists places depth) (Each (Fine lists first kept depth)) (First (Fine lists first kept depth) (Bad depth)) n
+  unfolding piecesRefusal orNext
+  pieces-mean depth =
+      all-mean (pieceRefusal lists places depth) (piecesRefusal lists places depth) refl (λ a xs. refl) (Fine lists first kept depth) (Bad depth) n some-number
+      (record { clean = piece-fine lists first kept depth; spoiled = piece depth })
+
+  reads-mean : (depth : ℕ) → Means (readsRefusal lists places depth) (Each (FineRead x u lists first kept depth))
+      (First (FineRead x u lists first kept depth) (BadRead x u lists first kept Bad depth)) n
+  unfolding readsRefusal orNext
+  reads-mean depth =
+      all-mean (λ (r : Read). piecesRefusal lists places depth (r .pieces)) (readsRefusal lists places depth) refl (λ a xs. refl)
+      (FineRead x u lists first kept depth) (BadRead x u lists first kept Bad depth) n some-number
+      (record { clean = λ r. pieces-mean depth .clean (r .pieces); spoiled = λ r. pieces-mean depth .spoiled (r .pieces) })
+
+  items-mean : Means (refusalFrom x u lists places) (Each (FineItem x u lists first kept))
+      (First (FineItem x u lists first kept) (BadItem x u lists first kept Bad)) n
+  unfolding refusalFrom orNext
+  items-mean =
+      all-mean (λ (s : Standing). readsRefusal lists places (s .depth) (readsAt x u (offsetOf (s .item)))) (refusalFrom x u lists places) refl (λ a xs. refl)
+      (FineItem x u lists first kept) (BadItem x u lists first kept Bad) n some-number
+      (record {
+        clean = λ s. reads-mean (s .depth) .clean (readsAt x u (offsetOf (s .item)));
+        spoiled = λ s. reads-mean (s .depth) .spoiled (readsAt x u (offsetOf (s .item)));
+      })
+
+module _ (x : Sections) (u : Unit′) (lists : Lists) (first : ℕ) (kept : List Standing) where
+  -- 8: the first number in stream order that is refused has no place
+  pub eight-means : (refusalFrom x u lists (placesFrom first kept) kept ≡ 8) ↔ FirstUnplaced x u lists first kept
+  eight-means = items-mean x u lists first kept (Unplaced lists first kept) 8 (omega arith) (λ d p. piece-eight lists first kept d p) .spoiled kept
+
+  -- 9: it has one, and its new value does not fit
+  pub nine-means : (refusalFrom x u lists (placesFrom first kept) kept ≡ 9) ↔ FirstTooWide x u lists first kept
+  nine-means = items-mean x u lists first kept (TooWide lists first kept) 9 (omega arith) (λ d p. piece-nine lists first kept d p) .spoiled kept
+
+  -- nothing is refused where every number has a place and fits, and only there
+  pub none-means : (refusalFrom x u lists (placesFrom first kept) kept ≡ 0) ↔ AllFine x u lists first kept
+  none-means = items-mean x u lists first kept (Unplaced lists first kept) 8 (omega arith) (λ d p. piece-eight lists first kept d p) .clean kept
