@@ -35,7 +35,7 @@ module _ (lists : Lists) (places : List Place) (depth : ℕ) where
       (λ t. absurd (eqb-no {a = n} {b = 0} t (sym (pick-no _ _ _ t) ∙ q)))
       (either (eqb n 0))
 
-  fit-by : (e : Encoded) (v : ℕ) → T (fits lists places depth e v) → Fit e v
+  pub fit-by : (e : Encoded) (v : ℕ) → T (fits lists places depth e v) → Fit e v
   unfolding fits Fit
   fit-by (infixed w) v t =
       let q : T (leb w 8) × T (ltb v (256 ^ w)) = both (leb w 8) (ltb v (256 ^ w)) t in

@@ -74,5 +74,6 @@ pub mod Answering
 pub mod Listings
 pub mod UnitAnswers
 pub mod UnitWritten
+pub mod ValueRefusals
 pub mod Refusals
 pub mod RoomLaws

@@ -28,7 +28,7 @@ use Rattle.rewriting.specs.Rewriting.{Unit as Unit′, Lists, Room, Rewr
 use Rattle.rewriting.specs.Written.{groupsFit, paddedAnswer}
 use Rattle.rewriting.specs.declared.numbers.Padded.{Padded}
 use Rattle.rewriting.specs.declared.numbers.Padded.the-variants.{Written, Refused as Refused′}
-use Rattle.rewriting.specs.RefusalNumbers.{CollectRefusal, PaddedRefusal, UnitRead, unitRead, keptIn, listsIn, Thinned, RefusedAt, at-header, at-abbreviations, at-entries, at-lists, at-map, at-output, at-values}
+use Rattle.rewriting.specs.RefusalNumbers.{CollectRefusal, PaddedRefusal, UnitRead, unitRead, keptIn, listsIn, Thinnable, RefusedAt, at-header, at-abbreviations, at-entries, at-lists, at-map, at-output, at-values}
 use Rattle.rewriting.proofs.Accepted.{kept-most}
 
 -- ---- 8 and 9: 0 where nothing is refused
@@ -116,14 +116,14 @@ module _ (x : Sections) (room : Room) (typeUnits : Bool) (section : List ℕ) wh
     abbrev places : List Place
     places = placesFrom (u .header .first .0) kept
 
-    values-staged : Thinned x room typeUnits section u → length kept ≤ room .places → u .header .first .0 + sizeFrom kept ≤ room .bytes → (w : Rewrite)
+    values-staged : Thinnable x room typeUnits section u → length kept ≤ room .places → u .header .first .0 + sizeFrom kept ≤ room .bytes → (w : Rewrite)
         → Staged (orRefused x room (refusalFrom x unit lists places kept) (rewritten w))
     unfolding orRefused Staged
     values-staged d p b w =
         pick-either Staged (eqb (refusalFrom x unit lists places kept) 0) (rewritten w) (refused (refusalFrom x unit lists places kept)) (λ _. tt)
         (λ t. at-values u d p b refl (late-value _ (values-late x unit lists places kept) t))
 
-    rewrite-staged : Thinned x room typeUnits section u → Staged (rewriteOf x room unit (length (marksIn (u .rows))) (keptCount (marksIn (u .rows))) lists kept)
+    rewrite-staged : Thinnable x room typeUnits section u → Staged (rewriteOf x room unit (length (marksIn (u .rows))) (keptCount (marksIn (u .rows))) lists kept)
     unfolding rewriteOf
     rewrite-staged d =
         pick-either Staged (leb (length kept) (room .places)) _ (refused 13)

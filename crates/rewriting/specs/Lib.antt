@@ -28,5 +28,6 @@ pub mod Leaving
 pub mod FiveEntries
 pub mod SameReferences
 pub mod MarkingSteps
+pub mod ValueRefusals
 pub mod RefusalNumbers
 pub mod RoomLaws

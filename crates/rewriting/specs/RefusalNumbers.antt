@@ -56,7 +56,7 @@ module _ (x : Sections) (room : Room) (typeUnits : Bool) (section : List ℕ) wh
   listsIn u = listsOf x (unitRead u) typeUnits (keptIn u)
 
   -- it has a dead entry, and room for its lists
-  pub record Thinned (u : UnitRead x room section) : Type 0 where
+  pub record Thinnable (u : UnitRead x room section) : Type 0 where
     pub dead : keptCount (marksIn (u .rows)) < length (marksIn (u .rows))
     pub listed : listsFit room (listsIn u) ≡ true
 
@@ -70,10 +70,10 @@ module _ (x : Sections) (room : Room) (typeUnits : Bool) (section : List ℕ) wh
         → abbreviationsOf (x .abbreviations) (h .abbreviations) ≡ some ds
         → analysisOf x section (room .tables) ≡ notAnalysed n → EntriesRefusal n → RefusedAt n
     at-lists : (u : UnitRead x room section) → listsFit room (listsIn u) ≡ false → RefusedAt 12
-    at-map : (u : UnitRead x room section) → Thinned u → room .places < length (keptIn u) → RefusedAt 13
-    at-output : (u : UnitRead x room section) → Thinned u → length (keptIn u) ≤ room .places
+    at-map : (u : UnitRead x room section) → Thinnable u → room .places < length (keptIn u) → RefusedAt 13
+    at-output : (u : UnitRead x room section) → Thinnable u → length (keptIn u) ≤ room .places
         → room .bytes < u .header .first .0 + sizeFrom (keptIn u) → RefusedAt 14
-    at-values : (u : UnitRead x room section) → Thinned u → length (keptIn u) ≤ room .places
+    at-values : (u : UnitRead x room section) → Thinnable u → length (keptIn u) ≤ room .places
         → u .header .first .0 + sizeFrom (keptIn u) ≤ room .bytes → {n : ℕ}
         → refusalFrom x (unitRead u) (listsIn u) (placesFrom (u .header .first .0) (keptIn u)) (keptIn u) ≡ n
         → ValueRefusal n → RefusedAt n
