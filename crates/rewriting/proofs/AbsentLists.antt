@@ -4,7 +4,7 @@ use Prim.Native.Nat.{ℕ, zero, suc, _<_}
 use native.Mathlib.Omega.{arith}
 use mathlib.Core.Bool.{Bool, true, false, false≢true}
 use mathlib.Core.List.{List, [], _∷_}
-use mathlib.Core.Option.{Option, none, some}
+use mathlib.Core.Option.{none}
 use mathlib.Core.Logic.{_⊎_, inl, inr, ⊎-elim, _↔_}
 use lib.Dec.{eqb}
 use borrow.Author.Tests.{eqb-true, eq-eqb}
@@ -42,7 +42,8 @@ declares-in : (name : ℕ) (vs : List Valued) (a : Valued) → Member a vs → a
 unfolding declares
 declares-in name [] a m n o = absurd (nothing-in a m)
 declares-in name (v ∷ vs) a (here q) n o =
-    or-inl (declares name vs) (and-in (eq-eqb (v .name) name (ap (λ (z : Valued). z .name) (sym q) ∙ n)) (eq-eqb (v .declared) 0x17 (ap (λ (z : Valued). z .declared) (sym q) ∙ o)))
+    or-inl (declares name vs)
+    (and-in (eq-eqb (v .name) name (ap (λ (z : Valued). z .name) (sym q) ∙ n)) (eq-eqb (v .declared) 0x17 (ap (λ (z : Valued). z .declared) (sym q) ∙ o)))
 declares-in name (v ∷ vs) a (there m) n o = or-inr _ (declares-in name vs a m n o)
 
 -- ---- among items
@@ -110,12 +111,15 @@ module _ (x : Sections) (u : Unit′) where
 
     -- the strings list has none
     no-attribute : (n : ℕ) → ListAttribute 2 n → ⊥
-    no-attribute n = ⊎-elim (λ (p : (2 ≡ 0) × (n ≡ 0x55)). let q : 2 ≡ 0 = p .0 in omega arith) (λ (p : (2 ≡ 1) × (n ≡ 0x02)). let q : 2 ≡ 1 = p .0 in omega arith)
+    no-attribute n =
+        ⊎-elim (λ (p : (2 ≡ 0) × (n ≡ 0x55)). let q : 2 ≡ 0 = p .0 in omega arith)
+        (λ (p : (2 ≡ 1) × (n ≡ 0x02)). let q : 2 ≡ 1 = p .0 in omega arith)
 
     strings-absent : (listOf x u typeUnits 2 kept ≡ none) ↔ ((typeUnits ≡ true) ⊎ DeclaresOffset x u 2)
     strings-absent = (
       λ q. inl (list-absent typeUnits 2 .0 q),
-      λ c. list-absent typeUnits 2 .1 (⊎-elim (λ (t : typeUnits ≡ true). t) (λ (d : DeclaresOffset x u 2). absurd (no-attribute (d .a .name) (d .attribute))) c),
+      λ c. list-absent typeUnits 2 .1
+          (⊎-elim (λ (t : typeUnits ≡ true). t) (λ (d : DeclaresOffset x u 2). absurd (no-attribute (d .a .name) (d .attribute))) c),
     )
 
     only-ranges : (n : ℕ) → ListAttribute 0 n → n ≡ 0x55

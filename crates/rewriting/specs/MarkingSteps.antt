@@ -1,4 +1,5 @@
 -- What a single marking accepts, by the rows of a unit's entries, and what it changes (document 01, "Marking"). What is marked is a test on entries.
+-- That it is so of every unit that is analysed, whatever is marked, is the theorem `marking-law` (proofs/MarkingSteps.antt).
 use Prim.Native.Nat.{ℕ, _<_}
 use mathlib.Core.Path.{_≡_}
 use mathlib.Core.Bool.{Bool, true, false}
@@ -19,9 +20,9 @@ pub data ReasonIn (rows : List Row) (m : ℕ → Bool) : ℕ → Type 0 where
   is-under-root : {r d : ℕ} → RootIn rows r → Below rows r d → ReasonIn rows m d
   is-under-named : {s t d : ℕ} → NamesIn rows s t → m s ≡ true → Below rows t d → ReasonIn rows m d
 
--- a marking of entry i, where m is marked
+-- the marking of entry i, where m tells what is marked before it
 pub record MarkingSays (rows : List Row) (m : ℕ → Bool) (i : ℕ) : Type 0 where
-  -- "Where that is unmarked and is .., it becomes marked"; "else the marking is refused"
+  -- "Where that is unmarked and is .. it becomes marked"; "else the marking is refused"
   pub accepted : (accepts (graphOf rows) m i ≡ true) ↔ ((i < length rows) × (m i ≡ false) × ReasonIn rows m i)
-  -- "and the others stay as they were"; "nothing changes": what is marked after it
+  -- what is marked after it: "it becomes marked and the others stay as they were; else .. nothing changes"
   pub after : (j : ℕ) → (step (graphOf rows) m i j ≡ true) ↔ ((m j ≡ true) ⊎ ((j ≡ i) × (accepts (graphOf rows) m i ≡ true)))

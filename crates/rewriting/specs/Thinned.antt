@@ -217,6 +217,7 @@ pub record Thinned (x : Sections) (typeUnits : Bool) (section : List ℕ) (w : R
   -- "The rewritten unit's old bytes, counted, equal its new bytes plus those of the entries and terminators left out."
   pub bytes : header .end ≡ length (w .output) + sizeFrom left
   pub lists-are : w .lists ≡ listsOf x (unitOf header section declared) typeUnits kept
+  -- which are absent (specs/AbsentLists.antt), and what is in the others
   pub absent : (k : ℕ) → k < 3 → (listAt (w .lists) k ≡ none) ↔ ((typeUnits ≡ true) ⊎ DeclaresOffset x (unitOf header section declared) k)
   pub lists : (k : ℕ) → k < 3 → (xs : List ℕ) → listAt (w .lists) k ≡ some xs
       → IndexList x (unitOf header section declared) kept k xs
