@@ -76,4 +76,5 @@ pub mod UnitAnswers
 pub mod UnitWritten
 pub mod ValueRefusals
 pub mod Refusals
+pub mod Accepting
 pub mod RoomLaws

@@ -16,7 +16,8 @@ use Rattle.marking.specs.Marks.{keptCount}
 use Rattle.marking.specs.Resolution.{marksIn}
 use Rattle.marking.specs.RefusalNumbers.{EntriesRefusal}
 use Rattle.rewriting.specs.Places.{Standing, keptFrom, placesFrom, sizeFrom}
-use Rattle.rewriting.specs.Rewriting.{Unit as Unit′, itemsIn, Lists, listsOf, refusalFrom, Room, listsFit}
+use Rattle.rewriting.specs.Rewriting.{Unit as Unit′, itemsIn, Lists, noLists, listsOf, refusalFrom, unitBytes, Room, Rewrite, untouched, rewritten, listsFit, collectOf}
+use Rattle.rewriting.specs.ValueRefusals.{AllFine}
 
 -- "in stream order 8 (non-sibling target isn't mapped, or no sibling place found) or 9 (value doesn't fit)"
 abbrev pub ValueRefusal : ℕ → Type 0
@@ -77,3 +78,33 @@ module _ (x : Sections) (room : Room) (typeUnits : Bool) (section : List ℕ) wh
         → u .header .first .0 + sizeFrom (keptIn u) ≤ room .bytes → {n : ℕ}
         → refusalFrom x (unitRead u) (listsIn u) (placesFrom (u .header .first .0) (keptIn u)) (keptIn u) ≡ n
         → ValueRefusal n → RefusedAt n
+
+  -- ---- what is not refused is accepted
+
+  -- where something is dead: no cause of 13, 14, 8 and 9
+  pub record Rewritable (u : UnitRead x room section) : Type 0 where
+    pub mapped : length (keptIn u) ≤ room .places
+    pub written : u .header .first .0 + sizeFrom (keptIn u) ≤ room .bytes
+    pub fine : AllFine x (unitRead u) (listsIn u) (u .header .first .0) (keptIn u)
+
+  -- no cause of a refusal after the entries are read: 12, and those
+  pub record Acceptable (u : UnitRead x room section) : Type 0 where
+    pub listed : listsFit room (listsIn u) ≡ true
+    pub rewritable : keptCount (marksIn (u .rows)) < length (marksIn (u .rows)) → Rewritable u
+
+  abbrev pub rewriteIn : UnitRead x room section → Rewrite
+  rewriteIn u =
+      record {
+        entries = length (marksIn (u .rows));
+        kept = keptCount (marksIn (u .rows));
+        lists = listsIn u;
+        map = placesFrom (u .header .first .0) (keptIn u);
+        output = unitBytes x (unitRead u) (listsIn u) (placesFrom (u .header .first .0) (keptIn u)) (keptIn u);
+      }
+
+  -- the answer: rewritten where something is dead, else untouched
+  pub record AcceptedAs (u : UnitRead x room section) : Type 0 where
+    pub thinned : keptCount (marksIn (u .rows)) < length (marksIn (u .rows)) → collectOf x room typeUnits section ≡ rewritten (rewriteIn u)
+    pub whole : 0 < length (u .rows) → keptCount (marksIn (u .rows)) ≡ length (marksIn (u .rows))
+        → collectOf x room typeUnits section ≡ untouched (length (u .rows)) (listsIn u)
+    pub empty : length (u .rows) ≡ 0 → collectOf x room typeUnits section ≡ untouched 0 noLists

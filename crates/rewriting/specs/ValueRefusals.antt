@@ -1,5 +1,5 @@
--- What the refusals 8 and 9 of collect mean (document 01, "Rewriting"), by the kept items of a unit. That they come exactly so,
--- and that a unit without such a number is accepted, are `eight-law`, `nine-law` and `accepted-law` (proofs/ValueRefusals.antt).
+-- What the refusals 8 and 9 of collect mean (document 01, "Rewriting"), by the kept items of a unit: `eight-means`, `nine-means` and,
+-- of nothing refused, `none-means` (proofs/ValueRefusals.antt) say that they come exactly so.
 use Prim.Native.Nat.{ℕ, _≤_}
 use mathlib.Core.Path.{_≡_}
 use mathlib.Core.List.{List, _∷_}
