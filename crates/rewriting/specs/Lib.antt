@@ -26,5 +26,6 @@ pub mod AttributesAgain
 pub mod Leaving
 pub mod FiveEntries
 pub mod SameReferences
+pub mod SameRoles
 pub mod RefusalNumbers
 pub mod RoomLaws
