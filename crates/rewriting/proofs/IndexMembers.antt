@@ -99,6 +99,13 @@ module _ (k v : ℕ) where
   reads-in (q ∷ rs) r (here e) n = in-left v (indicesIn k (q .pieces)) (readIndices k rs) (subst (λ (z : Read). Member v (indicesIn k (z .pieces))) e n)
   reads-in (q ∷ rs) r (there m) n = in-right v (indicesIn k (q .pieces)) (readIndices k rs) (reads-in rs r m n)
 
+  -- the indices of reads are their index operands
+  pub read-members : (rs : List Read) → Member v (readIndices k rs) ↔ IndexRead k v rs
+  read-members rs = (
+    reads-out rs,
+    λ q. reads-in rs (q .read) (q .among) (pieces-in (q .read .pieces) (q .operand .encoded) (q .operand .within)),
+  )
+
   module _ (x : Sections) (u : Unit′) where
     abbrev own : Standing → List ℕ
     own s = readIndices k (readsAt x u (offsetOf (s .item)))

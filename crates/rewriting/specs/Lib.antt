@@ -29,5 +29,6 @@ pub mod FiveEntries
 pub mod SameReferences
 pub mod MarkingSteps
 pub mod ValueRefusals
+pub mod SameRoles
 pub mod RefusalNumbers
 pub mod RoomLaws
