@@ -74,3 +74,4 @@ pub mod UnitAnswers
 pub mod UnitWritten
 pub mod Refusals
 pub mod RoomLaws
+pub mod LandsOnce

@@ -28,3 +28,4 @@ pub mod FiveEntries
 pub mod SameReferences
 pub mod RefusalNumbers
 pub mod RoomLaws
+pub mod ByForm
