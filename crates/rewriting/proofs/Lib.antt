@@ -75,3 +75,4 @@ pub mod UnitWritten
 pub mod Refusals
 pub mod RoomLaws
 pub mod LandsOnce
+pub mod ByForm

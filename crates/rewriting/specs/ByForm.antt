@@ -40,8 +40,10 @@ module _ (x : Sections) (u new : Unit′) (lists : Lists) (map : List Place) (ke
     -- rnglistx 0; loclistx 1; strx, strx1 to strx4 and GNU_str_index 2: the place in the list of the index that it was, if there is such a list
     pub unlisted : (k : ℕ) → k < 3 → listForm (formOf a) ≡ k → listAt lists k ≡ none → numberOf b ≡ numberOf a
     pub listed : (k : ℕ) → k < 3 → listForm (formOf a) ≡ k → (xs : List ℕ) → listAt lists k ≡ some xs → Nth (numberOf a) (numberOf b) xs
-    -- any other form but exprloc (0x18), whose operations are in SameAttribute: the same number and, but for ref_addr (0x10), the same bytes
-    pub others : (InUnit (formOf a) → ⊥) → listForm (formOf a) ≡ 3 → (formOf a ≡ 0x18 → ⊥) → numberOf b ≡ numberOf a
+    -- any other form: the same number, and but for ref_addr (0x10) and exprloc (0x18; its operations are in SameAttribute) the same bytes
+    pub stays : (InUnit (formOf a) → ⊥) → listForm (formOf a) ≡ 3 → numberOf b ≡ numberOf a
+    pub bytes : (InUnit (formOf a) → ⊥) → listForm (formOf a) ≡ 3 → (formOf a ≡ 0x10 → ⊥) → (formOf a ≡ 0x18 → ⊥)
+        → payload (new .bytes) b ≡ payload (u .bytes) a
 
   -- the m-th kept item, an entry: its place in the map, the item there in the new unit, and its attributes one by one
   pub record EntryByForm (m : ℕ) (s : Standing) (y : Entry) : Type 0 where
