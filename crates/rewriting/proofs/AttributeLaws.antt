@@ -51,7 +51,7 @@ module _ (e : Encoding) (x : Sections) (look : ℕ → Found) (unit : List ℕ) 
   abbrev ex : ExpressionReader
   ex = expressionIn e
 
-  record SpecsRead (p : ℕ) (s : List ℕ) (rs : List Read) (rest : List ℕ) : Type 0 where
+  pub record SpecsRead (p : ℕ) (s : List ℕ) (rs : List Read) (rest : List ℕ) : Type 0 where
     pub specs : List AttributeSpec
     pub are : specsFrom (x .abbreviations) p ≡ specs
     pub reads : readIn big ex (attributesLayout e specs) s ≡ some (rs, rest)
@@ -72,7 +72,7 @@ module _ (e : Encoding) (x : Sections) (look : ℕ → Found) (unit : List ℕ) 
         subst (λ (k : Entry). SpecsRead (k .declaration .attributes .at) s rs rest) z (by-specs (d .attributes .at) (attributesFrom (x .abbreviations) (d .attributes .at)) refl s rs rest h),
       )
 
-  record Headed (at : ℕ) (y : Entry) (rs : List Read) (rest : List ℕ) : Type 0 where
+  pub record Headed (at : ℕ) (y : Entry) (rs : List Read) (rest : List ℕ) : Type 0 where
     pub code : Read
     pub others : List Read
     pub both : rs ≡ code ∷ others
@@ -106,7 +106,7 @@ module _ (e : Encoding) (x : Sections) (look : ℕ → Found) (unit : List ℕ) 
         (λ c q law. all-bind (λ _. Unit {0}) Step′ (readIn big ex (codeLayout (c .0 .seen)) (c .1)) (before (c .0)) (all-triv _)
         (λ r p _. all-some Step′ (after-code (c .0) (c .1) (law .0 .1 ∙ drop-drop (size big (c .0)) at unit) (r .0) (r .1) p)))
 
-    headed : (rs : List Read) (rest : List ℕ) → readIn big ex (entryLayout e (x .abbreviations) look) (drop at unit) ≡ some (rs, rest)
+    pub headed : (rs : List Read) (rest : List ℕ) → readIn big ex (entryLayout e (x .abbreviations) look) (drop at unit) ≡ some (rs, rest)
         → stepAt e (x .abbreviations) look unit at ≡ Entry′ y → Headed at y rs rest
     headed rs rest d q = all-of Step′ headed-all d (sym (deep-step e (x .abbreviations) look ex (expression-law e) unit at rs rest d) ∙ q)
 

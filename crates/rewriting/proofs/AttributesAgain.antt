@@ -105,16 +105,16 @@ module _ (e : Encoding) (f : Patch) (unit output : List ℕ) where
         }
 
   -- the reads of a value, direct or after the form numbers of DW_FORM_indirect
-  record Direct (t : Token) (s : List ℕ) (r : RunOf) : Type 0 where
+  pub record Direct (t : Token) (s : List ℕ) (r : RunOf) : Type 0 where
     pub v : Read
     pub is : tokenIn big ex t s ≡ some (v, r .1)
     pub one : r .0 ≡ v ∷ []
 
-  direct-all : (t : Token) (s : List ℕ) → All (Direct t s) (readIn big ex (field t (λ _. done)) s)
+  pub direct-all : (t : Token) (s : List ℕ) → All (Direct t s) (readIn big ex (field t (λ _. done)) s)
   unfolding readIn before bind
   direct-all t s = all-bind (λ _. Unit {0}) (Direct t s) (tokenIn big ex t s) _ (all-triv _) (λ r q _. all-some (Direct t s) (record { v = r .0; is = q; one = refl }))
 
-  record Indirect (name : ℕ) (s : List ℕ) (r : RunOf) : Type 0 where
+  pub record Indirect (name : ℕ) (s : List ℕ) (r : RunOf) : Type 0 where
     pub c : Read
     pub mid : List ℕ
     pub is : tokenIn big ex forms s ≡ some (c, mid)
@@ -122,7 +122,7 @@ module _ (e : Encoding) (f : Patch) (unit output : List ℕ) where
     pub value : tokenIn big ex (valueToken e true name (c .seen)) mid ≡ some (v, r .1)
     pub two : r .0 ≡ c ∷ v ∷ []
 
-  indirect-all : (name : ℕ) (s : List ℕ) → All (Indirect name s) (readIn big ex (field forms (λ g. field (valueToken e true name g) (λ _. done))) s)
+  pub indirect-all : (name : ℕ) (s : List ℕ) → All (Indirect name s) (readIn big ex (field forms (λ g. field (valueToken e true name g) (λ _. done))) s)
   unfolding readIn before
   indirect-all name s =
       all-bind (λ _. Unit {0}) (Indirect name s) (tokenIn big ex forms s) _ (all-triv _)
@@ -130,11 +130,11 @@ module _ (e : Encoding) (f : Patch) (unit output : List ℕ) where
       (direct-all (valueToken e true name (c .0 .seen)) (c .1))
       (λ r k d. all-some (Indirect name s) (record { c = c .0; mid = c .1; is = q; v = d .v; value = d .is; two = ap (λ (l : List Read). c .0 ∷ l) (d .one) })))
 
-  shallow-one : (t : Token) (s : List ℕ) (it : Read) (rest : List ℕ) → tokenIn big asBytes t s ≡ some (it, rest) → readIn big asBytes (field t (λ _. done)) s ≡ some (it ∷ [], rest)
+  pub shallow-one : (t : Token) (s : List ℕ) (it : Read) (rest : List ℕ) → tokenIn big asBytes t s ≡ some (it, rest) → readIn big asBytes (field t (λ _. done)) s ≡ some (it ∷ [], rest)
   unfolding readIn before bind
   shallow-one t s it rest q = bind-at _ q
 
-  shallow-two : (name : ℕ) (s : List ℕ) (c : Read) (mid : List ℕ) (it : Read) (rest : List ℕ) → tokenIn big asBytes forms s ≡ some (c, mid)
+  pub shallow-two : (name : ℕ) (s : List ℕ) (c : Read) (mid : List ℕ) (it : Read) (rest : List ℕ) → tokenIn big asBytes forms s ≡ some (c, mid)
       → tokenIn big asBytes (valueToken e true name (c .seen)) mid ≡ some (it, rest)
       → readIn big asBytes (field forms (λ g. field (valueToken e true name g) (λ _. done))) s ≡ some (c ∷ it ∷ [], rest)
   unfolding readIn before bind
@@ -219,7 +219,7 @@ module _ (e : Encoding) (f : Patch) (unit output : List ℕ) where
 
   -- ---- one after the other
 
-  record Divided (g h : Layout) (s : List ℕ) (r : RunOf) : Type 0 where
+  pub record Divided (g h : Layout) (s : List ℕ) (r : RunOf) : Type 0 where
     pub one : List Read
     pub mid : List ℕ
     pub first : readIn big ex g s ≡ some (one, mid)
@@ -234,14 +234,14 @@ module _ (e : Encoding) (f : Patch) (unit output : List ℕ) where
       (λ r q _. all-bind (λ _. Unit {0}) (Divided g h s) (readIn big ex h (r .1)) _ (all-triv _)
       (λ z k _. all-some (Divided g h s) (record { one = r .0; mid = r .1; first = q; others = z .0; next = k; both = refl })))
 
-  divided : (g h : Layout) (s : List ℕ) (rs : List Read) (rest : List ℕ) → readIn big ex (then g h) s ≡ some (rs, rest) → Divided g h s (rs, rest)
+  pub divided : (g h : Layout) (s : List ℕ) (rs : List Read) (rest : List ℕ) → readIn big ex (then g h) s ≡ some (rs, rest) → Divided g h s (rs, rest)
   divided g h s rs rest q = all-of (Divided g h s) (divided-all g h s) (sym (read-then big ex g h s) ∙ q)
 
   pub record ValuesTwice (specs : List AttributeSpec) (at at′ : ℕ) : Type 0 where
     pub each : length (valuesOf e unit specs at) ≡ length specs
     pub same : (old new : ℕ) → at′ + old ≡ at + new → SameAttributes f e old new unit output (valuesOf e unit specs at) (valuesOf e output specs at′)
 
-  more : (s : List ℕ) (a : AttributeSpec) (specs : List AttributeSpec) (at : ℕ) (v : Attribute) (n : ℕ) → attributeAt e s at (a .name) (a .form) ≡ Attribute′ v → v .field .end ≡ n
+  pub more : (s : List ℕ) (a : AttributeSpec) (specs : List AttributeSpec) (at : ℕ) (v : Attribute) (n : ℕ) → attributeAt e s at (a .name) (a .form) ≡ Attribute′ v → v .field .end ≡ n
       → valuesOf e s (a ∷ specs) at ≡ attribute (a .name) (a .form) v ∷ valuesOf e s specs n
   unfolding valuesOf onAttribute
   more s a specs at v n q z =

@@ -79,3 +79,5 @@ pub mod ValueRefusals
 pub mod Refusals
 pub mod Accepting
 pub mod RoomLaws
+pub mod LandsOnce
+pub mod ByForm

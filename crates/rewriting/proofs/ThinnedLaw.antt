@@ -226,7 +226,7 @@ module _ (x : Sections) (room : Room) (typeUnits : Bool) (section : List ℕ) (w
           subst (λ (j : ℕ). Nth v j xs) (sym (ap (λ (o : Option (List ℕ)). rankOr o v) q)) (nth-getD xs v (rankIn xs v) (l .ranks v n .inside) (l .ranks v n .placed)),
     )
 
-    becomes : (role : Role) (v : ℕ) → Member (linked e role v) (r .pieces) → Rule (s .depth) role v (value role v)
+    pub becomes : (role : Role) (v : ℕ) → Member (linked e role v) (r .pieces) → Rule (s .depth) role v (value role v)
     unfolding Becomes newValue
     becomes reference v p = lands v (value reference v) (item-reference x was (w .lists) (w .map) items clean s m r i e v p)
     becomes typeReference v p = type-becomes v p

@@ -174,18 +174,18 @@ module _ (e : Encoding) (f : Patch) where
   copied-read unknown o x s = all-none _
 
   -- a number that a patch may change
-  record LinkRead (role : Role) (r : ReadOf) : Type 0 where
+  pub record LinkRead (role : Role) (r : ReadOf) : Type 0 where
     pub code : Encoded
     pub value : ℕ
     pub is : r .0 ≡ record { seen = 0; start = 0; pieces = linked code role value ∷ [] }
 
-  link-read : (k : Kind) (role : Role) (s : List ℕ) → All (LinkRead role) (tokenIn big ex (link k role) s)
+  pub link-read : (k : Kind) (role : Role) (s : List ℕ) → All (LinkRead role) (tokenIn big ex (link k role) s)
   unfolding tokenIn asLink
   link-read k role s =
       all-bind (λ _. Unit {0}) _ (numberIn big k s) _ (all-triv _) (λ t q _. all-some (LinkRead role) (record { code = t .0; value = t .1; is = refl }))
 
   -- an expression: read as bytes too, its payload is what was read
-  record ExpressionRead (s : List ℕ) (r : ReadOf) : Type 0 where
+  pub record ExpressionRead (s : List ℕ) (r : ReadOf) : Type 0 where
     pub it : Read
     pub is : tokenIn big asBytes expression s ≡ some (it, r .1)
     pub length-bytes : List ℕ
@@ -196,7 +196,7 @@ module _ (e : Encoding) (f : Patch) where
     pub wide : size big it ≡ size big (r .0)
     pub inner : ex (partOf big s it) ≡ some pieces
 
-  expression-read : (s : List ℕ) → All (ExpressionRead s) (tokenIn big ex expression s)
+  pub expression-read : (s : List ℕ) → All (ExpressionRead s) (tokenIn big ex expression s)
   unfolding tokenIn asExpression asBytes bytesOf pieceBytes size linkedValue bind
   expression-read s =
       all-bind (LebLaw uleb s) _ (uleb s) _ (uleb-law s)

@@ -32,3 +32,4 @@ pub mod ValueRefusals
 pub mod SameRoles
 pub mod RefusalNumbers
 pub mod RoomLaws
+pub mod ByForm
