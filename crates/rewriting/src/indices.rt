@@ -420,12 +420,11 @@ pub(crate) fn sorted_lists(
 fn specs_declare(abbreviations: &[u8], specs: Cursor, name: u64) -> bool
     ensures { λ b. ⌜ b ≡ specsDeclare name (specsFrom (now (abbreviations .entry)) (specs .at)) ⌝ }
 {
-    let mut p = specs.at;
+    let mut p = specs;
     loop {
-        match (Cursor { at: p }).attribute_spec(abbreviations) {
+        match p.attribute_spec(abbreviations) {
             SpecStep::Attribute(a) => {
-                let next = a.next;
-                p = next.at;
+                p = a.next;
                 if a.name == name {
                     if a.form == 0x17 {
                         return true;
@@ -446,14 +445,16 @@ fn specs_declare(abbreviations: &[u8], specs: Cursor, name: u64) -> bool
 fn table_declares(abbreviations: &[u8], from: u64, name: u64) -> bool
     ensures { λ b. ⌜ ((ds : List Placed) → abbreviationsOf (now (abbreviations .entry)) from ≡ some ds → b ≡ tableDeclares (now (abbreviations .entry)) name ds) ⌝ }
 {
-    let mut at = from as usize;
+    let mut at = Cursor {
+        at: from as usize,
+    };
     loop {
-        match (Cursor { at }).declaration(abbreviations) {
+        match at.declaration(abbreviations) {
             DeclarationStep::Declaration(d, next) => {
                 if specs_declare(abbreviations, d.attributes, name) {
                     return true;
                 }
-                at = next.at;
+                at = next;
             }
             DeclarationStep::Last(_) => {
                 return false;
