@@ -23,7 +23,7 @@ use Rattle.marking.specs.Roots.{entryValues, nextAttribute}
 use Rattle.marking.specs.declared.root_test.EntryAttribute.{EntryAttribute}
 use Rattle.marking.specs.declared.root_test.NextAttribute.{NextAttribute}
 use Rattle.marking.specs.declared.root_test.NextAttribute.the-variants.{More, NoMore}
-use Rattle.marking.proofs.Attributes.{stepped, no-more}
+use Rattle.marking.proofs.Attributes.{stepped, stepped-on, no-more}
 use Rattle.marking.specs.Analysis.{Sections, valuesOfEntry}
 use Rattle.rewriting.specs.Indices.{declares}
 use Rattle.rewriting.specs.Rewriting.{Unit as Unit′, itemDeclares, anyDeclares}
@@ -69,21 +69,21 @@ module _ (e : Encoding) (s unit : List ℕ) (p at : ℕ) (n : NextAttribute) (q 
 
     module _ (x : EntryAttribute) (r : n ≡ More x) where
       declares-turn : declares name (entryValues e s p₀ unit at₀)
-          ≡ (eqb (x .name) name and eqb (x .declared) 0x17) or declares name (entryValues e s (x .next .at) unit (x .value .field .end))
+          ≡ (eqb (x .name) name and eqb (x .declared) 0x17) or declares name (entryValues e s (x .next .at) unit (x .values .at))
       unfolding declares
-      declares-turn = h ∙ ap (declares name) (stepped e s p unit at x (sym q ∙ r) .all)
+      declares-turn = h ∙ ap (declares name) (stepped-on e s p unit at x (sym q ∙ r))
 
       pub declares-yes : x .name ≡ name → x .declared ≡ 0x17 → true ≡ declares name (entryValues e s p₀ unit at₀)
       unfolding _and_ _or_
       declares-yes k l = sym (declares-turn ∙ rw (eq-eqb (x .name) name k, eq-eqb (x .declared) 0x17 l))
 
       pub declares-form : x .name ≡ name → (x .declared ≡ 0x17 → ⊥)
-          → declares name (entryValues e s p₀ unit at₀) ≡ declares name (entryValues e s (x .next .at) unit (x .value .field .end))
+          → declares name (entryValues e s p₀ unit at₀) ≡ declares name (entryValues e s (x .next .at) unit (x .values .at))
       unfolding _and_ _or_
       declares-form k l = declares-turn ∙ rw (eq-eqb (x .name) name k, ne-eqb (x .declared) 0x17 l)
 
       pub declares-name : (x .name ≡ name → ⊥)
-          → declares name (entryValues e s p₀ unit at₀) ≡ declares name (entryValues e s (x .next .at) unit (x .value .field .end))
+          → declares name (entryValues e s p₀ unit at₀) ≡ declares name (entryValues e s (x .next .at) unit (x .values .at))
       unfolding _and_ _or_
       declares-name k = declares-turn ∙ rw (ne-eqb (x .name) name k)
 
@@ -155,8 +155,8 @@ module _ (k : ℕ) (e : Encoding) (s unit : List ℕ) where
     indices-end r = ap (valueIndices k) (no-more e s p unit at (sym q ∙ r))
 
     pub indices-more : (x : EntryAttribute) → n ≡ More x → (i : ℕ) → ((name : ℕ) → i ≡ useList (useOf name (x .value .form)))
-        → Indices p at ≡ kindIndex k i (x .value .field .value) ++ Indices (x .next .at) (x .value .field .end)
+        → Indices p at ≡ kindIndex k i (x .value .field .value) ++ Indices (x .next .at) (x .values .at)
     unfolding valueIndices valueIndex formList
     indices-more x r i l =
-        ap (valueIndices k) (stepped e s p unit at x (sym q ∙ r) .all)
-        ∙ ap (λ (j : ℕ). kindIndex k j (x .value .field .value) ++ Indices (x .next .at) (x .value .field .end)) (sym (l 0))
+        ap (valueIndices k) (stepped-on e s p unit at x (sym q ∙ r))
+        ∙ ap (λ (j : ℕ). kindIndex k j (x .value .field .value) ++ Indices (x .next .at) (x .values .at)) (sym (l 0))

@@ -47,28 +47,19 @@ fn entry_declares(
 ) -> bool
     ensures { λ b. ⌜ b ≡ declares name (entryValues e (now (abbreviations .entry)) (specs .at) (now (unit .entry)) (values .at)) ⌝ }
 {
-    let mut p = specs.at;
-    let mut from = values.at;
+    let mut p = specs;
+    let mut from = values;
     loop {
-        let NextAttribute::More(a) = next_attribute(
-            unit,
-            abbreviations,
-            Cursor { at: p },
-            Cursor { at: from },
-            e,
-        ) else {
+        let NextAttribute::More(a) = next_attribute(unit, abbreviations, p, from, e) else {
             return false;
         };
-        let v = a.value;
-        let field = v.field;
-        let next = a.next;
+        p = a.next;
+        from = a.values;
         if a.name == name {
             if a.declared == 0x17 {
                 return true;
             }
         }
-        from = field.end;
-        p = next.at;
     }
 }
 
@@ -194,22 +185,15 @@ fn entry_gather(
     ensures locations { λ n. ⌜ PutsOn ordered (valueIndices 1 (entryValues e (now (abbreviations .entry)) (specs .at) (now (unit .entry)) (values .at))) (counts .locations) (now («location_list» .entry)) (n .locations) (now («location_list» .exit)) ⌝ }
     ensures strings { λ n. ⌜ PutsOn ordered (valueIndices 2 (entryValues e (now (abbreviations .entry)) (specs .at) (now (unit .entry)) (values .at))) (counts .strings) (now («string_list» .entry)) (n .strings) (now («string_list» .exit)) ⌝ }
 {
-    let mut p = specs.at;
-    let mut from = values.at;
+    let mut p = specs;
+    let mut from = values;
     let mut g = counts;
     loop {
-        let NextAttribute::More(a) = next_attribute(
-            unit,
-            abbreviations,
-            Cursor { at: p },
-            Cursor { at: from },
-            e,
-        ) else {
+        let NextAttribute::More(a) = next_attribute(unit, abbreviations, p, from, e) else {
             return g;
         };
         let v = a.value;
         let field = v.field;
-        let next = a.next;
         g = put_by_kind(
             list_of(v.form),
             field.value,
@@ -219,8 +203,8 @@ fn entry_gather(
             string_list,
             g,
         );
-        from = field.end;
-        p = next.at;
+        from = a.values;
+        p = a.next;
     }
 }
 
@@ -420,12 +404,11 @@ pub(crate) fn sorted_lists(
 fn specs_declare(abbreviations: &[u8], specs: Cursor, name: u64) -> bool
     ensures { λ b. ⌜ b ≡ specsDeclare name (specsFrom (now (abbreviations .entry)) (specs .at)) ⌝ }
 {
-    let mut p = specs.at;
+    let mut p = specs;
     loop {
-        match (Cursor { at: p }).attribute_spec(abbreviations) {
+        match p.attribute_spec(abbreviations) {
             SpecStep::Attribute(a) => {
-                let next = a.next;
-                p = next.at;
+                p = a.next;
                 if a.name == name {
                     if a.form == 0x17 {
                         return true;
@@ -446,14 +429,16 @@ fn specs_declare(abbreviations: &[u8], specs: Cursor, name: u64) -> bool
 fn table_declares(abbreviations: &[u8], from: u64, name: u64) -> bool
     ensures { λ b. ⌜ ((ds : List Placed) → abbreviationsOf (now (abbreviations .entry)) from ≡ some ds → b ≡ tableDeclares (now (abbreviations .entry)) name ds) ⌝ }
 {
-    let mut at = from as usize;
+    let mut at = Cursor {
+        at: from as usize,
+    };
     loop {
-        match (Cursor { at }).declaration(abbreviations) {
+        match at.declaration(abbreviations) {
             DeclarationStep::Declaration(d, next) => {
                 if specs_declare(abbreviations, d.attributes, name) {
                     return true;
                 }
-                at = next.at;
+                at = next;
             }
             DeclarationStep::Last(_) => {
                 return false;

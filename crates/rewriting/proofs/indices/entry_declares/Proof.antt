@@ -10,10 +10,10 @@ use Rattle.rewriting.proofs.indices.entry_declares.Statement.{statement
 use Rattle.rewriting.proofs.indices.entry_declares.Tie as tie
 
 abbrev Inv-loop : tie.InvT-loop
-Inv-loop unit abbreviations name e p₀ from₀ p from = declares name (entryValues e abbreviations p₀ unit from₀) ≡ declares name (entryValues e abbreviations p unit from)
+Inv-loop unit abbreviations name e p₀ from₀ p from = declares name (entryValues e abbreviations (p₀ .at) unit (from₀ .at)) ≡ declares name (entryValues e abbreviations (p .at) unit (from .at))
 
 abbrev μ-loop : tie.MeasureT-loop
-μ-loop unit abbreviations name e p₀ from₀ p from = length abbreviations - p
+μ-loop unit abbreviations name e p₀ from₀ p from = length abbreviations - p .at
 
 loop-holds : tie.Need-loop-holds Inv-loop μ-loop
 loop-holds c = refl

@@ -11,12 +11,12 @@ use Rattle.rewriting.proofs.indices.entry_gather.Tie as tie
 
 abbrev Inv-loop : tie.InvT-loop
 Inv-loop unit abbreviations e ordered range-list₀ location-list₀ string-list₀ p₀ from₀ g₀ range-list location-list string-list p from g =
-    Filling ordered (Indices 0 e abbreviations unit p₀ from₀) (g₀ .ranges) range-list₀ (Indices 0 e abbreviations unit p from) (g .ranges) range-list
-    × Filling ordered (Indices 1 e abbreviations unit p₀ from₀) (g₀ .locations) location-list₀ (Indices 1 e abbreviations unit p from) (g .locations) location-list
-    × Filling ordered (Indices 2 e abbreviations unit p₀ from₀) (g₀ .strings) string-list₀ (Indices 2 e abbreviations unit p from) (g .strings) string-list
+    Filling ordered (Indices 0 e abbreviations unit (p₀ .at) (from₀ .at)) (g₀ .ranges) range-list₀ (Indices 0 e abbreviations unit (p .at) (from .at)) (g .ranges) range-list
+    × Filling ordered (Indices 1 e abbreviations unit (p₀ .at) (from₀ .at)) (g₀ .locations) location-list₀ (Indices 1 e abbreviations unit (p .at) (from .at)) (g .locations) location-list
+    × Filling ordered (Indices 2 e abbreviations unit (p₀ .at) (from₀ .at)) (g₀ .strings) string-list₀ (Indices 2 e abbreviations unit (p .at) (from .at)) (g .strings) string-list
 
 abbrev μ-loop : tie.MeasureT-loop
-μ-loop unit abbreviations e ordered range-list₀ location-list₀ string-list₀ p₀ from₀ g₀ range-list location-list string-list p from g = length abbreviations - p
+μ-loop unit abbreviations e ordered range-list₀ location-list₀ string-list₀ p₀ from₀ g₀ range-list location-list string-list p from g = length abbreviations - p .at
 
 loop-holds : tie.Need-loop-holds Inv-loop μ-loop
 loop-holds c = ((refl, onward-start _ _ _ _), (refl, onward-start _ _ _ _), (refl, onward-start _ _ _ _))
@@ -62,12 +62,12 @@ loop-less c = search attributes-less
 
 loop-again : tie.Need-loop-again Inv-loop μ-loop
 loop-again c =
-    let l = c .before .before .before .before .before .before .before .before .before .before .before .before .before .before .before .before .before .before in
-    let n = c .before .before .before .before .before .before .before .before .before .before .before .before .before .before .before .before .before .next-attribute .ensures in
-    let x = c .before .before .before .before .before .before .before .before .before .before .before .before .before .before .before .a .given .0 .0 in
-    let t = c .before .before .before .before .before .before .before .before .before .before .before .before .before .before .before .a .given .1 in
-    let i = c .before .before .before .before .before .before .before .before .before .before .list-of .ensures in
-    let p = c .before .before .before .before .before .before in (
+    let l = c .before .before .before .before .before .before .before .before .before .before .before .before .before .before .before .before .before .before .before in
+    let n = c .before .before .before .before .before .before .before .before .before .before .before .before .before .before .before .before .before .before .next-attribute .ensures in
+    let x = c .before .before .before .before .before .before .before .before .before .before .before .before .before .before .before .before .a .given .0 .0 in
+    let t = c .before .before .before .before .before .before .before .before .before .before .before .before .before .before .before .before .a .given .1 in
+    let i = c .before .before .before .before .before .before .before .before .before .before .before .before .list-of .ensures in
+    let p = c .before .before .before .before .before .before .before .before in (
       (
         p .put-by-kind .kept .1 .1 .1 .0 ∙ l .loop .inv .0 .0,
         onward-more _ _ _ _ _ _ _ (l .loop .inv .0 .1) _ _ (indices-more 0 _ _ _ _ _ _ n x t _ (λ name. i ∙ form-list name _)) _ _ (p .put-by-kind .ensures .0),

@@ -10,10 +10,10 @@ use Rattle.rewriting.proofs.indices.specs_declare.Statement.{statement}
 use Rattle.rewriting.proofs.indices.specs_declare.Tie as tie
 
 abbrev Inv-loop : tie.InvT-loop
-Inv-loop abbreviations name p₀ p = specsDeclare name (specsFrom abbreviations p₀) ≡ specsDeclare name (specsFrom abbreviations p)
+Inv-loop abbreviations name p₀ p = specsDeclare name (specsFrom abbreviations (p₀ .at)) ≡ specsDeclare name (specsFrom abbreviations (p .at))
 
 abbrev μ-loop : tie.MeasureT-loop
-μ-loop abbreviations name p₀ p = length abbreviations - p
+μ-loop abbreviations name p₀ p = length abbreviations - p .at
 
 loop-holds : tie.Need-loop-holds Inv-loop μ-loop
 loop-holds c = refl

@@ -7,10 +7,10 @@ use Rattle.rewriting.proofs.indices.table_declares.Statement.{statement
 use Rattle.rewriting.proofs.indices.table_declares.Tie as tie
 
 abbrev Inv-loop : tie.InvT-loop
-Inv-loop abbreviations from name at₀ at = Declaring abbreviations name from at
+Inv-loop abbreviations from name at₀ at = Declaring abbreviations name from (at .at)
 
 abbrev μ-loop : tie.MeasureT-loop
-μ-loop abbreviations from name at₀ at = length abbreviations - at
+μ-loop abbreviations from name at₀ at = length abbreviations - at .at
 
 loop-holds : tie.Need-loop-holds Inv-loop μ-loop
 loop-holds c = declaring-start _ _ _
