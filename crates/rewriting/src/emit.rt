@@ -298,7 +298,7 @@ fn emit_attribute(
 pub(crate) fn emit_entry(
     unit: &[u8],
     abbreviations: &[u8],
-    start: usize,
+    start: UnitOffset,
     specs: Cursor,
     values: Cursor,
     depth: u64,
@@ -315,11 +315,11 @@ pub(crate) fn emit_entry(
     out: &mut [u8],
 ) -> Emitted
     ensures within { λ r. ⌜ Within (now (out .entry)) r (now (out .exit)) ⌝ }
-    ensures bytes { λ r. ⌜ ((lists : Lists) (ps : List Place) (look : ℕ → Found) (x : Entry) (rs : List Read) (rest : List ℕ) → e .«big_endian» ≡ false → MapHeld ps (now (map .entry)) → places ≡ length ps → Bounds ps (now (bounds .entry)) → Lends lists (now (ranges .entry)) «ranges_count» (now (locations .entry)) «locations_count» (now (strings .entry)) «strings_count» → stepAt e (now (abbreviations .entry)) look (now (unit .entry)) start ≡ Entry′ x → specs ≡ x .declaration .attributes → values ≡ x .values → readIn false (expressionIn e) (entryLayout e (now (abbreviations .entry)) look) (drop start (now (unit .entry))) ≡ some (rs, rest) → Emits (readsRefusal lists ps depth rs) (writeAll false (patchAll (newValue lists ps depth) rs)) (now (out .entry)) r (now (out .exit))) ⌝ }
+    ensures bytes { λ r. ⌜ ((lists : Lists) (ps : List Place) (look : ℕ → Found) (x : Entry) (rs : List Read) (rest : List ℕ) → e .«big_endian» ≡ false → MapHeld ps (now (map .entry)) → places ≡ length ps → Bounds ps (now (bounds .entry)) → Lends lists (now (ranges .entry)) «ranges_count» (now (locations .entry)) «locations_count» (now (strings .entry)) «strings_count» → stepAt e (now (abbreviations .entry)) look (now (unit .entry)) (start .0) ≡ Entry′ x → specs ≡ x .declaration .attributes → values ≡ x .values → readIn false (expressionIn e) (entryLayout e (now (abbreviations .entry)) look) (drop (start .0) (now (unit .entry))) ≡ some (rs, rest) → Emits (readsRefusal lists ps depth rs) (writeAll false (patchAll (newValue lists ps depth) rs)) (now (out .entry)) r (now (out .exit))) ⌝ }
 {
     let mut p = specs;
     let mut from = values;
-    let mut to = emit_bytes(bytes_between(unit, start, from.at), out);
+    let mut to = emit_bytes(bytes_between(unit, start.0 as usize, from.at), out);
     loop {
         let NextAttribute::More(a) = next_attribute(unit, abbreviations, p, from, e) else {
             return Emitted::To(to);

@@ -24,7 +24,7 @@ use Rattle.rewriting.proofs.emit.emit_entry.Statement.{statement}
 use Rattle.rewriting.proofs.emit.emit_entry.Tie as tie
 
 abbrev Inv-loop : tie.InvT-loop
-Inv-loop unit abbreviations start depth e map places bounds ranges ranges-count locations locations-count strings strings-count out₀ p₀ from₀ to₀ out p from to =
+Inv-loop unit abbreviations depth e map places bounds ranges ranges-count locations locations-count strings strings-count out₀ p₀ from₀ to₀ out p from to =
     Within out₀ (To to) out
     × ((lists : Lists) (ps : List Place) (whole : List Read) (rest : List ℕ) → e .«big_endian» ≡ false → MapHeld ps map → places ≡ length ps → Bounds ps bounds
     → Lends lists ranges ranges-count locations locations-count strings strings-count → from₀ .at ≤ length unit
@@ -32,7 +32,7 @@ Inv-loop unit abbreviations start depth e map places bounds ranges ranges-count 
     → Entering lists ps depth e abbreviations unit whole out₀ to₀ out (p .at) (from .at) to)
 
 abbrev μ-loop : tie.MeasureT-loop
-μ-loop unit abbreviations start depth e map places bounds ranges ranges-count locations locations-count strings strings-count out₀ p₀ from₀ to₀ out p from to =
+μ-loop unit abbreviations depth e map places bounds ranges ranges-count locations locations-count strings strings-count out₀ p₀ from₀ to₀ out p from to =
     length abbreviations - p .at
 
 bytes-between-requires : tie.Need-bytes-between-requires Inv-loop μ-loop
