@@ -288,9 +288,10 @@ module _ (lists : Lists) (map : List Place) (depth : ℕ) (e : Encoding) (l : e 
       its-reads : readIn false (expressionIn e) (attributeLayout e (x .name) (x .declared)) (drop from unit) ≡ some (parts .one, parts .mid)
       its-reads = ap₂ (λ (n m : ℕ). readIn false (expressionIn e) (attributeLayout e n m) (drop from unit)) (sym (it .name)) (sym (it .declared)) ∙ parts .first
 
-      its-end : x .value .field .end ≡ from + length (writeAll false (parts .one))
+      its-end : x .values .at ≡ from + length (writeAll false (parts .one))
       its-end =
-          value-width e l unit from (x .name) (x .value) (parts .one)
+          ap (λ (c : Cursor). c .at) (stepped e abbreviations p unit from x (sym q ∙ h) .follows)
+          ∙ value-width e l unit from (x .name) (x .value) (parts .one)
           (value-of e unit from (x .name) (x .declared) (x .value) (g .inside) its-value (parts .one) (parts .mid) its-reads)
 
       took : Took (drop from unit) (length (writeAll false (parts .one))) (parts .mid)
@@ -298,13 +299,13 @@ module _ (lists : Lists) (map : List Place) (depth : ℕ) (e : Encoding) (l : e 
           all-of (ReadLaw false (expressionIn e) (attributeLayout e (x .name) (x .declared)) (drop from unit))
           (read-law false (expressionIn e) (law e l) (attributeLayout e (x .name) (x .declared)) (drop from unit)) its-reads .0
 
-      ends-inside : x .value .field .end ≤ length unit
+      ends-inside : x .values .at ≤ length unit
       ends-inside =
           let i : from ≤ length unit = g .inside in
           let k : length (writeAll false (parts .one)) ≤ length (drop from unit) = took .0 in
           omega (arith, its-end, length-drop from unit)
 
-      mid-is : parts .mid ≡ drop (x .value .field .end) unit
+      mid-is : parts .mid ≡ drop (x .values .at) unit
       mid-is = took .1 ∙ drop-drop (length (writeAll false (parts .one))) from unit ∙ ap (λ n. drop n unit) (sym its-end)
 
       module _ (a : Emitted) (out₁ : List ℕ)
@@ -332,7 +333,7 @@ module _ (lists : Lists) (map : List Place) (depth : ℕ) (e : Encoding) (l : e 
             (writeAll false (patchAll (newValue lists map depth) (parts .one))) (writeAll false (patchAll (newValue lists map depth) (parts .others))) out to k out₁
             (subst (λ z. EmitsAt (readsRefusal lists map depth (parts .one)) (writeAll false (patchAll (newValue lists map depth) (parts .one))) out to z out₁) w here))
 
-        pub entering-on : (to₁ : ℕ) → a ≡ To to₁ → Entering lists map depth e abbreviations unit whole out₀ at out₁ (x .next .at) (x .value .field .end) to₁
+        pub entering-on : (to₁ : ℕ) → a ≡ To to₁ → Entering lists map depth e abbreviations unit whole out₀ at out₁ (x .next .at) (x .values .at) to₁
         entering-on to₁ w =
             record {
               reads = parts .others;

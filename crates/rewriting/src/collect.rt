@@ -236,7 +236,7 @@ fn write_unit(
         return Collected::Refused(14);
     }
     fill_bounds(map, size.places, work);
-    let at = emit_header(unit, first.0 as usize, size.bytes, out);
+    let at = emit_header(unit, first, size.bytes, out);
     match emit_dies(
         unit,
         abbreviations,
@@ -245,7 +245,7 @@ fn write_unit(
         parents,
         ends,
         marks,
-        first.0 as usize,
+        first,
         map,
         size.places,
         work,

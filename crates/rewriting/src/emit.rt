@@ -109,11 +109,11 @@ fn emit_expression(s: &[u8], e: Encoding, map: &[u8], places: usize, out: &mut [
     ensures within { λ r. ⌜ Within (now (out .entry)) r (now (out .exit)) ⌝ }
     ensures bytes { λ r. ⌜ ((lists : Lists) (ps : List Place) (depth : ℕ) (pieces : List Piece) → e .«big_endian» ≡ false → MapHeld ps (now (map .entry)) → places ≡ length ps → expressionIn e (now (s .entry)) ≡ some pieces → Emits (piecesRefusal lists ps depth pieces) (bytesOf false (patchPieces (newValue lists ps depth) pieces)) (now (out .entry)) r (now (out .exit))) ⌝ }
 {
-    let mut from: usize = 0;
+    let mut from = Cursor { at: 0 };
     let mut copied: usize = 0;
     let mut to: usize = 0;
     loop {
-        let Yield::Reference(r) = (Cursor { at: from }).next_reference(s, e) else {
+        let Yield::Reference(r) = from.next_reference(s, e) else {
             let n = emit_bytes(&s[copied..], &mut out[to..]);
             return Emitted::To(to + n);
         };
@@ -136,7 +136,7 @@ fn emit_expression(s: &[u8], e: Encoding, map: &[u8], places: usize, out: &mut [
             }
         }
         copied = place + r.width;
-        from = next.at;
+        from = next;
     }
 }
 
@@ -203,7 +203,7 @@ fn width(f: Field) -> usize
 // An attribute's value: what stands before it (form numbers, a length) is copied (gc.rs: `emit_attribute`).
 fn emit_attribute(
     unit: &[u8],
-    values: usize,
+    values: Cursor,
     a: EntryAttribute,
     depth: u64,
     e: Encoding,
@@ -219,12 +219,12 @@ fn emit_attribute(
     out: &mut [u8],
 ) -> Emitted
     ensures within { λ r. ⌜ Within (now (out .entry)) r (now (out .exit)) ⌝ }
-    ensures bytes { λ r. ⌜ ((lists : Lists) (ps : List Place) (rs : List Read) (rest : List ℕ) → e .«big_endian» ≡ false → MapHeld ps (now (map .entry)) → places ≡ length ps → Bounds ps (now (bounds .entry)) → Lends lists (now (ranges .entry)) «ranges_count» (now (locations .entry)) «locations_count» (now (strings .entry)) «strings_count» → values ≤ length (now (unit .entry)) → attributeAt e (now (unit .entry)) values (a .name) (a .declared) ≡ Attribute′ (a .value) → readIn false (expressionIn e) (attributeLayout e (a .name) (a .declared)) (drop values (now (unit .entry))) ≡ some (rs, rest) → Emits (readsRefusal lists ps depth rs) (writeAll false (patchAll (newValue lists ps depth) rs)) (now (out .entry)) r (now (out .exit))) ⌝ }
+    ensures bytes { λ r. ⌜ ((lists : Lists) (ps : List Place) (rs : List Read) (rest : List ℕ) → e .«big_endian» ≡ false → MapHeld ps (now (map .entry)) → places ≡ length ps → Bounds ps (now (bounds .entry)) → Lends lists (now (ranges .entry)) «ranges_count» (now (locations .entry)) «locations_count» (now (strings .entry)) «strings_count» → values .at ≤ length (now (unit .entry)) → attributeAt e (now (unit .entry)) (values .at) (a .name) (a .declared) ≡ Attribute′ (a .value) → readIn false (expressionIn e) (attributeLayout e (a .name) (a .declared)) (drop (values .at) (now (unit .entry))) ≡ some (rs, rest) → Emits (readsRefusal lists ps depth rs) (writeAll false (patchAll (newValue lists ps depth) rs)) (now (out .entry)) r (now (out .exit))) ⌝ }
 {
     let v = a.value;
     let field = v.field;
     let form = v.form;
-    let to = emit_bytes(bytes_between(unit, values, field.start), out);
+    let to = emit_bytes(bytes_between(unit, values.at, field.start), out);
     let leb = is_leb(form);
     if form == 0x18 {
         return after(
@@ -298,7 +298,7 @@ fn emit_attribute(
 pub(crate) fn emit_entry(
     unit: &[u8],
     abbreviations: &[u8],
-    start: usize,
+    start: UnitOffset,
     specs: Cursor,
     values: Cursor,
     depth: u64,
@@ -315,24 +315,17 @@ pub(crate) fn emit_entry(
     out: &mut [u8],
 ) -> Emitted
     ensures within { λ r. ⌜ Within (now (out .entry)) r (now (out .exit)) ⌝ }
-    ensures bytes { λ r. ⌜ ((lists : Lists) (ps : List Place) (look : ℕ → Found) (x : Entry) (rs : List Read) (rest : List ℕ) → e .«big_endian» ≡ false → MapHeld ps (now (map .entry)) → places ≡ length ps → Bounds ps (now (bounds .entry)) → Lends lists (now (ranges .entry)) «ranges_count» (now (locations .entry)) «locations_count» (now (strings .entry)) «strings_count» → stepAt e (now (abbreviations .entry)) look (now (unit .entry)) start ≡ Entry′ x → specs ≡ x .declaration .attributes → values ≡ x .values → readIn false (expressionIn e) (entryLayout e (now (abbreviations .entry)) look) (drop start (now (unit .entry))) ≡ some (rs, rest) → Emits (readsRefusal lists ps depth rs) (writeAll false (patchAll (newValue lists ps depth) rs)) (now (out .entry)) r (now (out .exit))) ⌝ }
+    ensures bytes { λ r. ⌜ ((lists : Lists) (ps : List Place) (look : ℕ → Found) (x : Entry) (rs : List Read) (rest : List ℕ) → e .«big_endian» ≡ false → MapHeld ps (now (map .entry)) → places ≡ length ps → Bounds ps (now (bounds .entry)) → Lends lists (now (ranges .entry)) «ranges_count» (now (locations .entry)) «locations_count» (now (strings .entry)) «strings_count» → stepAt e (now (abbreviations .entry)) look (now (unit .entry)) (start .0) ≡ Entry′ x → specs ≡ x .declaration .attributes → values ≡ x .values → readIn false (expressionIn e) (entryLayout e (now (abbreviations .entry)) look) (drop (start .0) (now (unit .entry))) ≡ some (rs, rest) → Emits (readsRefusal lists ps depth rs) (writeAll false (patchAll (newValue lists ps depth) rs)) (now (out .entry)) r (now (out .exit))) ⌝ }
 {
-    let mut p = specs.at;
-    let mut from = values.at;
-    let mut to = emit_bytes(bytes_between(unit, start, from), out);
+    let mut p = specs;
+    let mut from = values;
+    let mut to = emit_bytes(bytes_between(unit, start.0 as usize, from.at), out);
     loop {
-        let NextAttribute::More(a) = next_attribute(
-            unit,
-            abbreviations,
-            Cursor { at: p },
-            Cursor { at: from },
-            e,
-        ) else {
+        let NextAttribute::More(a) = next_attribute(unit, abbreviations, p, from, e) else {
             return Emitted::To(to);
         };
-        let v = a.value;
-        let field = v.field;
         let next = a.next;
+        let past = a.values;
         match emit_attribute(
             unit,
             from,
@@ -357,7 +350,7 @@ pub(crate) fn emit_entry(
                 return Emitted::Refused(n);
             }
         }
-        from = field.end;
-        p = next.at;
+        from = past;
+        p = next;
     }
 }

@@ -429,9 +429,7 @@ fn specs_declare(abbreviations: &[u8], specs: Cursor, name: u64) -> bool
 fn table_declares(abbreviations: &[u8], from: u64, name: u64) -> bool
     ensures { λ b. ⌜ ((ds : List Placed) → abbreviationsOf (now (abbreviations .entry)) from ≡ some ds → b ≡ tableDeclares (now (abbreviations .entry)) name ds) ⌝ }
 {
-    let mut at = Cursor {
-        at: from as usize,
-    };
+    let mut at = Cursor { at: from as usize };
     loop {
         match at.declaration(abbreviations) {
             DeclarationStep::Declaration(d, next) => {

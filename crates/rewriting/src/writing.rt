@@ -24,6 +24,7 @@ use crate::numbers::put_number;
 use readers::cursor::Cursor;
 use readers::entries::Nesting;
 use readers::offsets::EntryIndex;
+use readers::offsets::UnitOffset;
 
 // Writes the kept items (gc.rs: `emit_dies`).
 pub(crate) fn emit_dies(
@@ -34,7 +35,7 @@ pub(crate) fn emit_dies(
     parents: &[u32],
     ends: &[u64],
     marks: &[u8],
-    first: usize,
+    first: UnitOffset,
     map: &[u8],
     places: usize,
     bounds: &[u32],
@@ -47,10 +48,12 @@ pub(crate) fn emit_dies(
     out: &mut [u8],
 ) -> Emitted
     ensures within { λ t. ⌜ Within (now (out .entry)) t (now (out .exit)) ⌝ }
-    ensures bytes { λ t. ⌜ ((x : Sections) (u : Unit′) (lists : Lists) (ps : List Place) → Passable x u r (now (abbreviations .entry)) (now (index .entry)) (now (unit .entry)) (now (parents .entry)) (now (ends .entry)) (now (marks .entry)) first → first ≡ u .header .first .0 → r .encoding .«big_endian» ≡ false → MapHeld ps (now (map .entry)) → places ≡ length ps → Bounds ps (now (bounds .entry)) → Lends lists (now (ranges .entry)) «ranges_count» (now (locations .entry)) «locations_count» (now (strings .entry)) «strings_count» → Emits (refusalFrom x u lists ps (keptFrom (now (marks .entry)) 0 [] (itemsIn x u))) (bytesFrom x u lists ps (keptFrom (now (marks .entry)) 0 [] (itemsIn x u))) (now (out .entry)) t (now (out .exit))) ⌝ }
+    ensures bytes { λ t. ⌜ ((x : Sections) (u : Unit′) (lists : Lists) (ps : List Place) → Passable x u r (now (abbreviations .entry)) (now (index .entry)) (now (unit .entry)) (now (parents .entry)) (now (ends .entry)) (now (marks .entry)) (first .0) → first .0 ≡ u .header .first .0 → r .encoding .«big_endian» ≡ false → MapHeld ps (now (map .entry)) → places ≡ length ps → Bounds ps (now (bounds .entry)) → Lends lists (now (ranges .entry)) «ranges_count» (now (locations .entry)) «locations_count» (now (strings .entry)) «strings_count» → Emits (refusalFrom x u lists ps (keptFrom (now (marks .entry)) 0 [] (itemsIn x u))) (bytesFrom x u lists ps (keptFrom (now (marks .entry)) 0 [] (itemsIn x u))) (now (out .entry)) t (now (out .exit))) ⌝ }
 {
     let mut s = Stand {
-        at: Cursor { at: first },
+        at: Cursor {
+            at: first.0 as usize,
+        },
         count: EntryIndex(0),
         nesting: Nesting::outside(),
     };
@@ -67,7 +70,7 @@ pub(crate) fn emit_dies(
             match emit_entry(
                 unit,
                 abbreviations,
-                start.0 as usize,
+                start,
                 x.specs,
                 x.values,
                 x.depth,
@@ -104,17 +107,18 @@ pub(crate) fn emit_dies(
 
 // The header: the new length, then as it was (gc.rs: the end of `rewrite_unit`). How many bytes; 0, and nothing is written,
 // where it has no room or its length is no number of four bytes.
-pub fn emit_header(unit: &[u8], first: usize, bytes: usize, out: &mut [u8]) -> usize
-    ensures count { λ r. ⌜ r ≡ headerCount (now (unit .entry)) first bytes (now (out .entry)) ⌝ }
-    ensures part { λ _. ⌜ now (out .exit) ≡ headerOver (now (unit .entry)) first bytes (now (out .entry)) ⌝ }
+pub fn emit_header(unit: &[u8], first: UnitOffset, bytes: usize, out: &mut [u8]) -> usize
+    ensures count { λ r. ⌜ r ≡ headerCount (now (unit .entry)) (first .0) bytes (now (out .entry)) ⌝ }
+    ensures part { λ _. ⌜ now (out .exit) ≡ headerOver (now (unit .entry)) (first .0) bytes (now (out .entry)) ⌝ }
 {
-    if first < 4 {
+    let at = first.0 as usize;
+    if at < 4 {
         return 0;
     }
-    if first > unit.len() {
+    if at > unit.len() {
         return 0;
     }
-    if first > out.len() {
+    if at > out.len() {
         return 0;
     }
     if bytes < 4 {
@@ -124,7 +128,7 @@ pub fn emit_header(unit: &[u8], first: usize, bytes: usize, out: &mut [u8]) -> u
     if size >= 0x100000000 {
         return 0;
     }
-    put_bytes(&unit[..first], out);
+    put_bytes(&unit[..at], out);
     put_number(size, 4, false, out);
-    first
+    at
 }

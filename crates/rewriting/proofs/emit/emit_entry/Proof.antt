@@ -24,16 +24,16 @@ use Rattle.rewriting.proofs.emit.emit_entry.Statement.{statement}
 use Rattle.rewriting.proofs.emit.emit_entry.Tie as tie
 
 abbrev Inv-loop : tie.InvT-loop
-Inv-loop unit abbreviations start depth e map places bounds ranges ranges-count locations locations-count strings strings-count out₀ p₀ from₀ to₀ out p from to =
+Inv-loop unit abbreviations depth e map places bounds ranges ranges-count locations locations-count strings strings-count out₀ p₀ from₀ to₀ out p from to =
     Within out₀ (To to) out
     × ((lists : Lists) (ps : List Place) (whole : List Read) (rest : List ℕ) → e .«big_endian» ≡ false → MapHeld ps map → places ≡ length ps → Bounds ps bounds
-    → Lends lists ranges ranges-count locations locations-count strings strings-count → from₀ ≤ length unit
-    → readIn false (expressionIn e) (specsLayout e (attributesFrom abbreviations p₀)) (drop from₀ unit) ≡ some (whole, rest)
-    → Entering lists ps depth e abbreviations unit whole out₀ to₀ out p from to)
+    → Lends lists ranges ranges-count locations locations-count strings strings-count → from₀ .at ≤ length unit
+    → readIn false (expressionIn e) (specsLayout e (attributesFrom abbreviations (p₀ .at))) (drop (from₀ .at) unit) ≡ some (whole, rest)
+    → Entering lists ps depth e abbreviations unit whole out₀ to₀ out (p .at) (from .at) to)
 
 abbrev μ-loop : tie.MeasureT-loop
-μ-loop unit abbreviations start depth e map places bounds ranges ranges-count locations locations-count strings strings-count out₀ p₀ from₀ to₀ out p from to =
-    length abbreviations - p
+μ-loop unit abbreviations depth e map places bounds ranges ranges-count locations locations-count strings strings-count out₀ p₀ from₀ to₀ out p from to =
+    length abbreviations - p .at
 
 bytes-between-requires : tie.Need-bytes-between-requires Inv-loop μ-loop
 bytes-between-requires c κs = search needs
@@ -60,13 +60,13 @@ returns : tie.Need-returns Inv-loop μ-loop
 returns c = (within-trans (copied-within _ _ _ _ (c .before .before .before .before .before .before .emit-bytes .ensures .0) (c .before .before .before .before .before .before .emit-bytes .ensures .1)) (c .before .before .before .loop .inv .0), λ lists ps look x rs rest l m n b lent step sp va d. from-start (entry-done _ l _ look _ _ x step rs rest d _ _ (ap (λ (k : Cursor). k .at) sp) (ap (λ (k : Cursor). k .at) va) lists ps _ _ _ _ _ (λ _ _. copied-front _ _ _ _ (c .before .before .before .before .before .before .emit-bytes .ensures .0) (c .before .before .before .before .before .before .emit-bytes .ensures .1) _ (c .before .before .before .before .before .before .before .before .bytes-between .ensures)) _ _ (λ reads after i k. entering-end lists ps _ _ l _ _ reads _ _ _ _ _ _ (c .before .before .before .loop .inv .1 lists ps reads after l m n b lent i k) _ (c .before .before .next-attribute .ensures) (c .enum-told .given .1))))
 
 sub-emit-attribute : tie.Need-sub-emit-attribute Inv-loop μ-loop
-sub-emit-attribute c = omega (arith, inside _ _ _ (c .before .before .before .before .before .before .before .loop .inv .0))
+sub-emit-attribute c = omega (arith, inside _ _ _ (c .before .before .before .before .before .before .loop .inv .0))
 
 part-emit-attribute-start : tie.Need-part-emit-attribute-start Inv-loop μ-loop
-part-emit-attribute-start c = omega (arith, inside _ _ _ (c .before .before .before .before .before .before .before .loop .inv .0))
+part-emit-attribute-start c = omega (arith, inside _ _ _ (c .before .before .before .before .before .before .loop .inv .0))
 
 part-emit-attribute-end : tie.Need-part-emit-attribute-end Inv-loop μ-loop
-part-emit-attribute-end c = omega (arith, inside _ _ _ (c .before .before .before .before .before .before .before .loop .inv .0))
+part-emit-attribute-end c = omega (arith, inside _ _ _ (c .before .before .before .before .before .before .loop .inv .0))
 
 emit-attribute-requires : tie.Need-emit-attribute-requires Inv-loop μ-loop
 emit-attribute-requires c κs = search needs
@@ -75,22 +75,22 @@ enum-known-n : tie.Need-enum-known-n Inv-loop μ-loop
 enum-known-n c = search needs
 
 add-to : tie.Need-add-to Inv-loop μ-loop
-add-to c = record { fits = after-small _ _ _ (c .before .before .before .before .before .before .before .before .before .before .before .before .before .before .loop .inv .0) _ _ (c .before .before .before .before .before .emit-attribute .ensures .0) (size-small (copied-within _ _ _ _ (c .before .before .before .before .before .before .before .before .before .before .before .before .before .before .before .before .before .emit-bytes .ensures .0) (c .before .before .before .before .before .before .before .before .before .before .before .before .before .before .before .before .before .emit-bytes .ensures .1)) (c .before .before .before .before .before .before .before .before .before .before .before .before .before .before .before .before .before .before .before .before .before .before .before .before .before .before .before .before .good .1 .1 .1 .1 .1 .1 .1 .1 .1 .1 .1 .1 .1 .1 .1 .1 .0 .0)) _ (c .before .n .given .1) }
+add-to c = record { fits = after-small _ _ _ (c .before .before .before .before .before .before .before .before .before .before .before .before .before .loop .inv .0) _ _ (c .before .before .before .before .before .emit-attribute .ensures .0) (size-small (copied-within _ _ _ _ (c .before .before .before .before .before .before .before .before .before .before .before .before .before .before .before .before .emit-bytes .ensures .0) (c .before .before .before .before .before .before .before .before .before .before .before .before .before .before .before .before .emit-bytes .ensures .1)) (c .before .before .before .before .before .before .before .before .before .before .before .before .before .before .before .before .before .before .before .before .before .before .before .before .before .before .before .good .1 .1 .1 .1 .1 .1 .1 .1 .1 .1 .1 .1 .1 .1 .1 .1 .0 .0)) _ (c .before .n .given .1) }
 
 enum-known-n-2 : tie.Need-enum-known-n-2 Inv-loop μ-loop
 enum-known-n-2 c = search needs
 
 same-length-2 : tie.Need-same-length-2 Inv-loop μ-loop
-same-length-2 c = (within-trans (copied-within _ _ _ _ (c .before .before .before .before .before .before .before .before .before .before .before .before .before .before .before .before .before .emit-bytes .ensures .0) (c .before .before .before .before .before .before .before .before .before .before .before .before .before .before .before .before .before .emit-bytes .ensures .1)) (within-stop _ _ _ (c .before .before .before .before .before .before .before .before .before .before .before .before .before .before .loop .inv .0) _ _ (c .before .before .before .before .before .emit-attribute .ensures .0) 0)) .size
+same-length-2 c = (within-trans (copied-within _ _ _ _ (c .before .before .before .before .before .before .before .before .before .before .before .before .before .before .before .before .emit-bytes .ensures .0) (c .before .before .before .before .before .before .before .before .before .before .before .before .before .before .before .before .emit-bytes .ensures .1)) (within-stop _ _ _ (c .before .before .before .before .before .before .before .before .before .before .before .before .before .loop .inv .0) _ _ (c .before .before .before .before .before .emit-attribute .ensures .0) 0)) .size
 
 returns-2 : tie.Need-returns-2 Inv-loop μ-loop
-returns-2 c = (within-trans (copied-within _ _ _ _ (c .before .before .before .before .before .before .before .before .before .before .before .before .before .before .before .before .before .emit-bytes .ensures .0) (c .before .before .before .before .before .before .before .before .before .before .before .before .before .before .before .before .before .emit-bytes .ensures .1)) (within-stop _ _ _ (c .before .before .before .before .before .before .before .before .before .before .before .before .before .before .loop .inv .0) _ _ (c .before .before .before .before .before .emit-attribute .ensures .0) _), λ lists ps look x rs rest l m n b lent step sp va d. from-start (entry-done _ l _ look _ _ x step rs rest d _ _ (ap (λ (k : Cursor). k .at) sp) (ap (λ (k : Cursor). k .at) va) lists ps _ _ _ _ _ (λ _ _. copied-front _ _ _ _ (c .before .before .before .before .before .before .before .before .before .before .before .before .before .before .before .before .before .emit-bytes .ensures .0) (c .before .before .before .before .before .before .before .before .before .before .before .before .before .before .before .before .before .emit-bytes .ensures .1) _ (c .before .before .before .before .before .before .before .before .before .before .before .before .before .before .before .before .before .before .before .bytes-between .ensures)) _ _ (λ reads after i k. entering-refused lists ps _ _ l _ _ reads _ _ _ _ _ _ (c .before .before .before .before .before .before .before .before .before .before .before .before .before .before .loop .inv .1 lists ps reads after l m n b lent i k) _ (c .before .before .before .before .before .before .before .before .before .before .before .before .before .next-attribute .ensures) _ (c .before .before .before .before .before .before .before .before .before .before .before .a .given .1) _ _ (λ one mid j v e. emits-on _ _ _ (c .before .before .before .before .before .before .before .before .before .before .before .before .before .before .loop .inv .0) (c .before .before .before .before .before .emit-attribute .ensures .1 lists ps one mid l m n b lent j v e)) _ (onward-no _ _ _ (c .before .n2 .given .1)))))
+returns-2 c = (within-trans (copied-within _ _ _ _ (c .before .before .before .before .before .before .before .before .before .before .before .before .before .before .before .before .emit-bytes .ensures .0) (c .before .before .before .before .before .before .before .before .before .before .before .before .before .before .before .before .emit-bytes .ensures .1)) (within-stop _ _ _ (c .before .before .before .before .before .before .before .before .before .before .before .before .before .loop .inv .0) _ _ (c .before .before .before .before .before .emit-attribute .ensures .0) _), λ lists ps look x rs rest l m n b lent step sp va d. from-start (entry-done _ l _ look _ _ x step rs rest d _ _ (ap (λ (k : Cursor). k .at) sp) (ap (λ (k : Cursor). k .at) va) lists ps _ _ _ _ _ (λ _ _. copied-front _ _ _ _ (c .before .before .before .before .before .before .before .before .before .before .before .before .before .before .before .before .emit-bytes .ensures .0) (c .before .before .before .before .before .before .before .before .before .before .before .before .before .before .before .before .emit-bytes .ensures .1) _ (c .before .before .before .before .before .before .before .before .before .before .before .before .before .before .before .before .before .before .bytes-between .ensures)) _ _ (λ reads after i k. entering-refused lists ps _ _ l _ _ reads _ _ _ _ _ _ (c .before .before .before .before .before .before .before .before .before .before .before .before .before .loop .inv .1 lists ps reads after l m n b lent i k) _ (c .before .before .before .before .before .before .before .before .before .before .before .before .next-attribute .ensures) _ (c .before .before .before .before .before .before .before .before .before .before .a .given .1) _ _ (λ one mid j v e. emits-on _ _ _ (c .before .before .before .before .before .before .before .before .before .before .before .before .before .loop .inv .0) (c .before .before .before .before .before .emit-attribute .ensures .1 lists ps one mid l m n b lent j v e)) _ (onward-no _ _ _ (c .before .n2 .given .1)))))
 
 loop-less : tie.Need-loop-less Inv-loop μ-loop
-loop-less c = entering-less _ _ _ _ _ _ _ (c .before .before .before .before .before .before .before .before .before .before .before .before .before .next-attribute .ensures) (c .before .before .before .before .before .before .before .before .before .before .before .a .given .1)
+loop-less c = entering-less _ _ _ _ _ _ _ (c .before .before .before .before .before .before .before .before .before .before .before .before .next-attribute .ensures) (c .before .before .before .before .before .before .before .before .before .before .a .given .1)
 
 loop-again : tie.Need-loop-again Inv-loop μ-loop
-loop-again c = (within-on _ _ _ (c .before .before .before .before .before .before .before .before .before .before .before .before .before .before .loop .inv .0) _ _ (c .before .before .before .before .before .emit-attribute .ensures .0) _ (c .before .n .given .1), λ lists ps reads after l m n b lent i k. entering-on lists ps _ _ l _ _ reads _ _ _ _ _ _ (c .before .before .before .before .before .before .before .before .before .before .before .before .before .before .loop .inv .1 lists ps reads after l m n b lent i k) _ (c .before .before .before .before .before .before .before .before .before .before .before .before .before .next-attribute .ensures) _ (c .before .before .before .before .before .before .before .before .before .before .before .a .given .1) _ _ (λ one mid j v e. emits-on _ _ _ (c .before .before .before .before .before .before .before .before .before .before .before .before .before .before .loop .inv .0) (c .before .before .before .before .before .emit-attribute .ensures .1 lists ps one mid l m n b lent j v e)) _ (onward-to _ _ _ (c .before .n .given .1)))
+loop-again c = (within-on _ _ _ (c .before .before .before .before .before .before .before .before .before .before .before .before .before .loop .inv .0) _ _ (c .before .before .before .before .before .emit-attribute .ensures .0) _ (c .before .n .given .1), λ lists ps reads after l m n b lent i k. entering-on lists ps _ _ l _ _ reads _ _ _ _ _ _ (c .before .before .before .before .before .before .before .before .before .before .before .before .before .loop .inv .1 lists ps reads after l m n b lent i k) _ (c .before .before .before .before .before .before .before .before .before .before .before .before .next-attribute .ensures) _ (c .before .before .before .before .before .before .before .before .before .before .a .given .1) _ _ (λ one mid j v e. emits-on _ _ _ (c .before .before .before .before .before .before .before .before .before .before .before .before .before .loop .inv .0) (c .before .before .before .before .before .emit-attribute .ensures .1 lists ps one mid l m n b lent j v e)) _ (onward-to _ _ _ (c .before .n .given .1)))
 
 pub emit-entry-spec : {M : Type 1} → statement M
 emit-entry-spec =

@@ -25,12 +25,12 @@ use Rattle.rewriting.proofs.emit.emit_expression.Tie as tie
 
 abbrev Inv-loop : tie.InvT-loop
 Inv-loop s e map places out₀ from₀ copied₀ to₀ out from copied to =
-    Within out₀ (To to) out × (copied ≤ from) × (from ≤ length s)
+    Within out₀ (To to) out × (copied ≤ from .at) × (from .at ≤ length s)
     × ((lists : Lists) (ps : List Place) (depth : ℕ) (pieces : List Piece) → e .«big_endian» ≡ false → MapHeld ps map → places ≡ length ps → expressionIn e s ≡ some pieces
-    → Going lists ps depth pieces e s out₀ 0 out from copied to)
+    → Going lists ps depth pieces e s out₀ 0 out (from .at) copied to)
 
 abbrev μ-loop : tie.MeasureT-loop
-μ-loop s e map places out₀ from₀ copied₀ to₀ out from copied to = length s - from
+μ-loop s e map places out₀ from₀ copied₀ to₀ out from copied to = length s - from .at
 
 loop-holds : tie.Need-loop-holds Inv-loop μ-loop
 loop-holds c = (within-start _, omega arith, omega arith, λ lists ps depth pieces l h p q. going-start lists ps depth pieces _ _ _ _ (are-bytes (c .before .before .before .args .s .now) (c .before .before .shared-slice-known .given)) l q)
@@ -65,8 +65,8 @@ part-emit-bytes-end-2 c = omega (arith, inside _ _ _ (c .before .before .before 
 emit-bytes-requires : tie.Need-emit-bytes-requires Inv-loop μ-loop
 emit-bytes-requires c κs = search needs
 
-add-t20 : tie.Need-add-t20 Inv-loop μ-loop
-add-t20 c = record { fits = after-small _ _ _ (c .before .before .before .before .before .before .before .before .loop .inv .0) _ _ (copied-within _ _ _ _ (c .before .before .emit-bytes .ensures .0) (c .before .before .emit-bytes .ensures .1)) (c .before .before .before .before .before .before .before .before .before .before .before .before .good .1 .1 .1 .1 .0 .0) _ refl }
+add-t19 : tie.Need-add-t19 Inv-loop μ-loop
+add-t19 c = record { fits = after-small _ _ _ (c .before .before .before .before .before .before .before .before .loop .inv .0) _ _ (copied-within _ _ _ _ (c .before .before .emit-bytes .ensures .0) (c .before .before .emit-bytes .ensures .1)) (c .before .before .before .before .before .before .before .before .before .before .before .before .good .1 .1 .1 .1 .0 .0) _ refl }
 
 same-length : tie.Need-same-length Inv-loop μ-loop
 same-length c = (within-on _ _ _ (c .before .before .before .before .before .before .before .before .loop .inv .0) _ _ (copied-within _ _ _ _ (c .before .before .emit-bytes .ensures .0) (c .before .before .emit-bytes .ensures .1)) _ refl) .size
@@ -154,7 +154,7 @@ emit-expression-spec =
     part-emit-bytes-start-2
     part-emit-bytes-end-2
     emit-bytes-requires
-    add-t20
+    add-t19
     same-length
     returns
     sub-emit-bytes-3

@@ -21,14 +21,14 @@ use Rattle.rewriting.proofs.writing.emit_dies.Statement.{statement}
 use Rattle.rewriting.proofs.writing.emit_dies.Tie as tie
 
 abbrev Inv-loop : tie.InvT-loop
-Inv-loop unit abbreviations r index parents ends marks first map places bounds ranges ranges-count locations locations-count strings strings-count out₀ s₀ to₀ out s to =
+Inv-loop unit abbreviations r index parents ends marks map places bounds ranges ranges-count locations locations-count strings strings-count out₀ s₀ to₀ out s to =
     Within out₀ (To to) out
-    × ((x : Sections) (u : Unit′) (lists : Lists) (ps : List Place) → Passable x u r abbreviations index unit parents ends marks first → first ≡ u .header .first .0 → r .encoding .«big_endian» ≡ false
+    × ((x : Sections) (u : Unit′) (lists : Lists) (ps : List Place) → Passable x u r abbreviations index unit parents ends marks (s₀ .at .at) → s₀ .at .at ≡ u .header .first .0 → r .encoding .«big_endian» ≡ false
     → MapHeld ps map → places ≡ length ps → Bounds ps bounds → Lends lists ranges ranges-count locations locations-count strings strings-count
-    → Writing r abbreviations index unit parents ends marks first x u lists ps out₀ s out to)
+    → Writing r abbreviations index unit parents ends marks (s₀ .at .at) x u lists ps out₀ s out to)
 
 abbrev μ-loop : tie.MeasureT-loop
-μ-loop unit abbreviations r index parents ends marks first map places bounds ranges ranges-count locations locations-count strings strings-count out₀ s₀ to₀ out s to = length unit - s .at .at
+μ-loop unit abbreviations r index parents ends marks map places bounds ranges ranges-count locations locations-count strings strings-count out₀ s₀ to₀ out s to = length unit - s .at .at
 
 outside-requires : tie.Need-outside-requires Inv-loop μ-loop
 outside-requires c κs = search needs
