@@ -381,6 +381,7 @@ module _ (x : Sections) (room : Room) (typeUnits : Bool) (section : List ℕ) (w
         at = g .new;
         place = g .place;
         item = g .item;
+        each = g .attributes .each;
         attributes = by-forms s (nth-member s m ks i) (y .offset .0) (g .new) _ _ (entry-numbers m s y q (placed x room typeUnits section w answer m s i)) (g .attributes .same);
       }
 

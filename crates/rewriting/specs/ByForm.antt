@@ -4,9 +4,10 @@ use Prim.Native.Nat.{ℕ, _≤_, _<_}
 use mathlib.Core.List.{List}
 use mathlib.Core.Logic.{_⊎_}
 use mathlib.Core.Option.{none, some}
+use lib.ListN.{length}
 use Rattle.readers.specs.Stream.{entry}
 use Rattle.readers.specs.declared.entries.Entry.{Entry}
-use Rattle.marking.specs.Roots.{Valued}
+use Rattle.marking.specs.Roots.{Valued, specsFrom}
 use Rattle.marking.specs.Analysis.{Sections, valuesOfEntry}
 use Rattle.marking.specs.Members.{Nth}
 use Rattle.rewriting.specs.Places.{Standing, Place}
@@ -50,5 +51,7 @@ module _ (x : Sections) (u new : Unit′) (lists : Lists) (map : List Place) (ke
     pub at : ℕ
     pub place : Nth (record { old = y .offset .0; new = at; depth = s .depth }) m map
     pub item : Nth (entry (movedEntry at y)) m (itemsIn x new)
+    -- every attribute that its declaration has is read
+    pub each : length (valuesOfEntry (u .header .encoding) x (u .bytes) y) ≡ length (specsFrom (x .abbreviations) (y .declaration .attributes .at))
     pub attributes : Pairwise (AttributeByForm (s .depth)) (valuesOfEntry (u .header .encoding) x (u .bytes) y)
         (valuesOfEntry (new .header .encoding) x (new .bytes) (movedEntry at y))
