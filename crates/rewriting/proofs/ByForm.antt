@@ -3,20 +3,21 @@ use mathlib.Core.Path.{_≡_, refl, ap, sym, _∙_, subst}
 use Prim.Native.Nat.{ℕ, zero, suc, _+_, _<_}
 use native.Mathlib.Omega.{arith}
 use mathlib.Core.Bool.{Bool, true, false, not}
-use mathlib.Core.Option.{Option, none, some}
+use mathlib.Core.Option.{some}
 use mathlib.Core.List.{List, [], _∷_, _++_, append-nil}
-use mathlib.Core.Logic.{_⊎_, ⊎-elim}
+use mathlib.Core.Logic.{⊎-elim}
 use lib.ListN.{length, drop, length-append}
 use lib.Seq.{drop-drop}
 use lib.Dec.{T, eqb, leb}
 use mir.Facts.{leb-yes, yes-leb, eqb-yes, eqb-no, yes-eqb, no-eqb}
 use Rattle.readers.specs.Choice.{pick, pick-yes, pick-no, either, _and_, _or_, all-of}
-use Rattle.readers.specs.Layout.{Kind, Encoded, Role, reference, typeReference, sibling, index, absolute, Token, nothing, number, bounded, forms, signed, link, string, run, block, expression, unknown, Layout, linked, Read, RunOf, ExpressionReader, asBytes, tokenIn, readIn, TokenLaw, token-law, ReadLaw, read-law, bytesOf, writeAll, Patch}
+use Rattle.readers.specs.Layout.{Kind, Encoded, Role, reference, typeReference, sibling, index, absolute, Token, nothing, number, bounded, forms, signed, link, string, run, block, expression, unknown, Layout, linked, Read, ExpressionReader, asBytes, tokenIn, readIn, ReadLaw, read-law, bytesOf, writeAll, Patch}
 use Rattle.readers.specs.Expression.{expressionIn, expression-law}
 use Rattle.readers.specs.Tokens.{Use, plain, as′}
 use Rattle.readers.specs.Forms.{useOf, valueToken, attributeLayout}
 use Rattle.readers.specs.Fields.{size, linkedValue, fieldOf}
-use Rattle.readers.specs.Abbreviations.{declaredIn}
+use Rattle.readers.specs.Abbreviations.{Placed, declaredIn}
+use Rattle.readers.specs.declared.header.UnitHeader.{UnitHeader}
 use Rattle.readers.specs.Entries.{attributeOfReads, asAttribute, attributeAt, attributesLayout, entryLayout, stepAt}
 use Rattle.readers.specs.Stream.{Item, entry}
 use Rattle.readers.specs.declared.cursor.Encoding.{Encoding}
@@ -30,24 +31,23 @@ use Rattle.marking.specs.Roots.{Valued, valuesOf, specsFrom, entryValues}
 use Rattle.marking.specs.Analysis.{Sections, valuesOfEntry}
 use Rattle.marking.specs.Members.{Member, here, there, Nth}
 use Rattle.marking.proofs.Members.{nothing-in}
-use Rattle.rewriting.specs.Places.{Standing, offsetOf, Place}
-use Rattle.rewriting.specs.Moved.{movedEntry}
-use Rattle.rewriting.specs.Rewriting.{Unit as Unit′, itemsIn, readsAt, Lists, listAt, newValue, Room, Rewrite, rewritten, collectOf}
+use Rattle.rewriting.specs.Places.{Standing, offsetOf}
+use Rattle.rewriting.specs.Rewriting.{Unit as Unit′, unitOf, itemsIn, readsAt, newValue, Room, Rewrite, rewritten, collectOf}
 use Rattle.rewriting.specs.Emission.{listForm}
 use Rattle.rewriting.specs.IndexLists.{roleList, useList}
 use Rattle.rewriting.specs.AttributesAgain.{newNumber, useIn, SameAttribute, SameAttributes, EntryAgain}
-use Rattle.rewriting.specs.Thinned.{Pairwise, LandsOn, FirstFrom, Becomes, thinnedOf}
-use Rattle.rewriting.specs.ByForm.{formOf, numberOf, InUnit, AttributeByForm, EntryByForm}
+use Rattle.rewriting.specs.Thinned.{Pairwise, Becomes, thinnedOf, Thinned}
+use Rattle.rewriting.specs.ByForm.{formOf, numberOf, RefersInUnit, AttributeByForm, EntryByForm}
 use Rattle.rewriting.proofs.Expressions.{isExpression}
-use Rattle.rewriting.proofs.ValueForms.{formIs, own, LinkForm, and-both, reference-form, ranges-form, locations-form, strings-form}
+use Rattle.rewriting.proofs.ValueForms.{own, LinkForm, and-both, reference-form, ranges-form, locations-form, strings-form}
 use Rattle.rewriting.proofs.EntryIndices.{form-list}
 use Rattle.rewriting.proofs.ValuesAgain.{same-reader, LinkRead, link-read, ExpressionRead, expression-read, token-known}
 use Rattle.rewriting.proofs.AttributesAgain.{Direct, direct-all, Indirect, indirect-all, shallow-one, shallow-two, Divided, divided, more}
 use Rattle.rewriting.proofs.ItemsStand.{Stands}
 use Rattle.rewriting.proofs.ThinnedItems.{nth-member}
 use Rattle.rewriting.proofs.Rereading.{deep-read}
-use Rattle.rewriting.proofs.AttributeLaws.{SpecsRead, Headed, headed, PlacedItem, placed, attributes-law}
-use Rattle.rewriting.proofs.ThinnedLaw.{becomes}
+use Rattle.rewriting.proofs.AttributeLaws.{Headed, headed, PlacedItem, placed, attributes-law}
+use Rattle.rewriting.proofs.ThinnedLaw.{becomes, thinned-law, of-thinned}
 use Rattle.rewriting.proofs.CollectLaws as Laws
 
 -- ---- members of lists one after the other
@@ -246,7 +246,7 @@ unfolding _and_
 both true b h k = k
 both false b h k = absurd h
 
-reference-use : (e : Encoding) (name f : ℕ) → InUnit f → useOf name f ≡ as′ (own e name)
+reference-use : (e : Encoding) (name f : ℕ) → RefersInUnit f → useOf name f ≡ as′ (own e name)
 unfolding useOf
 reference-use e name f h = pick-yes _ _ _ (both (leb 0x11 f) (leb f 0x15) (yes-leb {a = 0x11} {b = f} (h .0)) (yes-leb {a = f} {b = 0x15} (h .1)))
 
@@ -275,7 +275,7 @@ rest-plain false true c q = let z : _≡_ {A = ℕ} 1 3 = q in absurd (omega ari
 rest-plain false false true q = let z : _≡_ {A = ℕ} 2 3 = q in absurd (omega arith)
 rest-plain false false false q = refl
 
-module _ (name f : ℕ) (o : InUnit f → ⊥) where
+module _ (name f : ℕ) (o : RefersInUnit f → ⊥) where
   not-both : T (not (leb 0x11 f and leb f 0x15))
   not-both =
       ⊎-elim (λ t. let p = and-both (leb 0x11 f) (leb f 0x15) t in absurd (o (leb-yes {a = 0x11} {b = f} (p .0), leb-yes {a = f} {b = 0x15} (p .1))))
@@ -325,14 +325,14 @@ module _ (x : Sections) (room : Room) (typeUnits : Bool) (section : List ℕ) (w
           subst (Rule role (numberOf a)) (sym (h .number ∙ ap (λ (z : Use). newNumber f z (numberOf a)) q))
           (becomes x room typeUnits section w answer s i (g .read) (g .among) (g .code) role (numberOf a) (g .within))
 
-      own-rule : InUnit (formOf a) → Rule (own en (a .name)) (numberOf a) (numberOf b)
+      own-rule : RefersInUnit (formOf a) → Rule (own en (a .name)) (numberOf a) (numberOf b)
       own-rule r = rule (own en (a .name)) (reference-form en (a .name) (formOf a) (r .0) (r .1)) (reference-use en (a .name) (formOf a) r)
 
       index-rule : (k : ℕ) → k < 3 → listForm (formOf a) ≡ k → Rule (index k) (numberOf a) (numberOf b)
       index-rule k l q =
           rule (index k) (index-form en (a .name) (formOf a) k l q) (use-index (useIn a) k l (sym (form-list (a .name) (formOf a)) ∙ q))
 
-      number-stays : (InUnit (formOf a) → ⊥) → listForm (formOf a) ≡ 3 → numberOf b ≡ numberOf a
+      number-stays : (RefersInUnit (formOf a) → ⊥) → listForm (formOf a) ≡ 3 → numberOf b ≡ numberOf a
       unfolding newNumber newValue
       number-stays o q =
           h .number
@@ -381,5 +381,17 @@ module _ (x : Sections) (room : Room) (typeUnits : Bool) (section : List ℕ) (w
         at = g .new;
         place = g .place;
         item = g .item;
+        each = g .attributes .each;
         attributes = by-forms s (nth-member s m ks i) (y .offset .0) (g .new) _ _ (entry-numbers m s y q (placed x room typeUnits section w answer m s i)) (g .attributes .same);
       }
+
+  -- the same in the terms of the unit that is thinned (specs/Thinned.antt)
+  abbrev t : Thinned x typeUnits section w
+  t = thinned-law x room typeUnits section w answer
+
+  pub thinned-form-law : (m : ℕ) (s : Standing) (y : Entry) → Nth s m (t .kept) → s .item ≡ entry y
+      → EntryByForm x (unitOf (t .header) section (t .declared)) (thinnedOf (t .header) (w .output) (t .declared)) (w .lists) (w .map) (t .kept) m s y
+  thinned-form-law =
+      of-thinned x room typeUnits section w answer
+      (λ (h : UnitHeader) (ds : List Placed) (ks : List Standing). (m : ℕ) (s : Standing) (y : Entry) → Nth s m ks → s .item ≡ entry y
+      → EntryByForm x (unitOf h section ds) (thinnedOf h (w .output) ds) (w .lists) (w .map) ks m s y) form-law

@@ -1,6 +1,6 @@
 -- In a thinned unit an old offset has one new offset, and a new offset one old one: what a reference becomes names what it named and
 -- no other kept item, of the same shape or not. Assumes nothing but that the unit is thinned.
-use mathlib.Core.Path.{_≡_, refl, ap, sym, _∙_}
+use mathlib.Core.Path.{_≡_, ap, sym, _∙_}
 use Prim.Native.Nat.{ℕ, suc, _≤_}
 use native.Mathlib.Omega.{arith}
 use mathlib.Core.Bool.{Bool}
@@ -9,7 +9,6 @@ use Rattle.marking.specs.Analysis.{Sections}
 use Rattle.marking.specs.Members.{Member, here, there}
 use Rattle.marking.specs.Resolution.{Ascending as From}
 use Rattle.marking.proofs.Members.{nothing-in, from-member}
-use Rattle.rewriting.specs.Ascending.{Ascending}
 use Rattle.rewriting.specs.Places.{Standing, Place}
 use Rattle.rewriting.specs.Maps.{newOffsets, Leads}
 use Rattle.rewriting.specs.Rewriting.{Unit as Unit′, unitOf, Lists, orSelf, Rewrite}

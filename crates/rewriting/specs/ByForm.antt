@@ -4,9 +4,10 @@ use Prim.Native.Nat.{ℕ, _≤_, _<_}
 use mathlib.Core.List.{List}
 use mathlib.Core.Logic.{_⊎_}
 use mathlib.Core.Option.{none, some}
-use Rattle.readers.specs.Stream.{Item, entry}
+use lib.ListN.{length}
+use Rattle.readers.specs.Stream.{entry}
 use Rattle.readers.specs.declared.entries.Entry.{Entry}
-use Rattle.marking.specs.Roots.{Valued}
+use Rattle.marking.specs.Roots.{Valued, specsFrom}
 use Rattle.marking.specs.Analysis.{Sections, valuesOfEntry}
 use Rattle.marking.specs.Members.{Nth}
 use Rattle.rewriting.specs.Places.{Standing, Place}
@@ -24,8 +25,8 @@ abbrev pub numberOf : Valued → ℕ
 numberOf a = a .value .field .value
 
 -- ref1, ref2, ref4, ref8, ref_udata
-abbrev pub InUnit : ℕ → Type 0
-InUnit f = (0x11 ≤ f) × (f ≤ 0x15)
+abbrev pub RefersInUnit : ℕ → Type 0
+RefersInUnit f = (0x11 ≤ f) × (f ≤ 0x15)
 
 module _ (x : Sections) (u new : Unit′) (lists : Lists) (map : List Place) (kept : List Standing) where
   -- an attribute a of an entry at a depth, and b in its place where the entry now stands
@@ -33,16 +34,16 @@ module _ (x : Sections) (u new : Unit′) (lists : Lists) (map : List Place) (ke
     pub name : b .name ≡ a .name
     pub form : formOf b ≡ formOf a
     -- a reference within the unit lands on the new place of what it named
-    pub refers : (a .name ≡ 0x01 → ⊥) → InUnit (formOf a) → LandsOn x u new lists map kept (numberOf a) (numberOf b)
+    pub refers : (a .name ≡ 0x01 → ⊥) → RefersInUnit (formOf a) → LandsOn x u new lists map kept (numberOf a) (numberOf b)
     -- DW_AT_sibling does too, or on the first kept place from there on that is no deeper than its entry
-    pub sibling : a .name ≡ 0x01 → InUnit (formOf a)
+    pub sibling : a .name ≡ 0x01 → RefersInUnit (formOf a)
         → LandsOn x u new lists map kept (numberOf a) (numberOf b) ⊎ FirstFrom x u new lists map kept depth (numberOf a) (numberOf b)
     -- rnglistx 0; loclistx 1; strx, strx1 to strx4 and GNU_str_index 2: the place in the list of the index that it was, if there is such a list
     pub unlisted : (k : ℕ) → k < 3 → listForm (formOf a) ≡ k → listAt lists k ≡ none → numberOf b ≡ numberOf a
     pub listed : (k : ℕ) → k < 3 → listForm (formOf a) ≡ k → (xs : List ℕ) → listAt lists k ≡ some xs → Nth (numberOf a) (numberOf b) xs
     -- any other form: the same number, and but for ref_addr (0x10) and exprloc (0x18; its operations are in SameAttribute) the same bytes
-    pub stays : (InUnit (formOf a) → ⊥) → listForm (formOf a) ≡ 3 → numberOf b ≡ numberOf a
-    pub bytes : (InUnit (formOf a) → ⊥) → listForm (formOf a) ≡ 3 → (formOf a ≡ 0x10 → ⊥) → (formOf a ≡ 0x18 → ⊥)
+    pub stays : (RefersInUnit (formOf a) → ⊥) → listForm (formOf a) ≡ 3 → numberOf b ≡ numberOf a
+    pub bytes : (RefersInUnit (formOf a) → ⊥) → listForm (formOf a) ≡ 3 → (formOf a ≡ 0x10 → ⊥) → (formOf a ≡ 0x18 → ⊥)
         → payload (new .bytes) b ≡ payload (u .bytes) a
 
   -- the m-th kept item, an entry: its place in the map, the item there in the new unit, and its attributes one by one
@@ -50,5 +51,7 @@ module _ (x : Sections) (u new : Unit′) (lists : Lists) (map : List Place) (ke
     pub at : ℕ
     pub place : Nth (record { old = y .offset .0; new = at; depth = s .depth }) m map
     pub item : Nth (entry (movedEntry at y)) m (itemsIn x new)
+    -- every attribute that its declaration has is read
+    pub each : length (valuesOfEntry (u .header .encoding) x (u .bytes) y) ≡ length (specsFrom (x .abbreviations) (y .declaration .attributes .at))
     pub attributes : Pairwise (AttributeByForm (s .depth)) (valuesOfEntry (u .header .encoding) x (u .bytes) y)
         (valuesOfEntry (new .header .encoding) x (new .bytes) (movedEntry at y))
