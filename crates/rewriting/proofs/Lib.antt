@@ -60,6 +60,7 @@ pub mod NamedPieces
 pub mod EntryNames
 pub mod ListedNames
 pub mod SameReferences
+pub mod EntryRoles
 pub mod SameRoles
 pub mod IndexTurns
 pub mod Holdings
