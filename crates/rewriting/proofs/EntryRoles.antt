@@ -1,7 +1,7 @@
 -- The numbers of a role in an entry that can be read deep are those of its attributes with that use, where no operation has
 -- the role: siblings. Assumes nothing.
 use mathlib.Core.Path.{_≡_, refl, ap, ap₂, sym, _∙_, subst}
-use Prim.Native.Nat.{ℕ, zero, suc, _+_, _≤_, _<_}
+use Prim.Native.Nat.{ℕ, zero, suc, _+_, _≤_}
 use native.Mathlib.Omega.{arith}
 use mathlib.Core.Bool.{Bool, true, false, not}
 use mathlib.Core.List.{List, [], _∷_, _++_, append-assoc, append-nil}
@@ -10,7 +10,7 @@ use mathlib.Core.Logic.{⊎-elim, _↔_}
 use lib.ListN.{length, getD, take, drop}
 use lib.Seq.{drop-drop}
 use lib.Dec.{T, eqb, leb}
-use mir.Facts.{leb-yes, leb-no, eqb-yes, eqb-no, no-eqb}
+use mir.Facts.{leb-yes, eqb-yes, eqb-no, no-eqb}
 use Rattle.readers.specs.Choice.{pick, pick-yes, pick-no, pick-either, either, _and_, _or_, bind, bind-at, bind-bind, check-yes, All, all-some, all-none, all-of, all-bind, all-check, all-triv}
 use Rattle.readers.specs.Numbers.{uleb, sleb}
 use Rattle.readers.specs.Layout.{Encoded, Kind, leb128, Role, reference, typeReference, sibling, index, absolute, Token, nothing, number, bounded, forms, signed, link, string, run, block, expression, unknown, Layout, done, fail, field, Piece, copied, linked, Read, ReadOf, RunOf, ExpressionReader, asBytes, copy, asNumber, asBounded, asForms, asSigned, asLink, asString, asBlock, asExpression, numberIn, formsIn, stringIn, tokenIn, readIn, before, TokenLaw, token-law, as-bytes-law}
@@ -148,16 +148,16 @@ module _ (sought : Role → Bool) (no-reference : sought reference ≡ false) (n
   NoneSought ex = (s : List ℕ) → All (λ (ps : List Piece). piecesSought ps ≡ []) (ex s)
 
   module _ (big : Bool) (ex : ExpressionReader) where
-    -- a token that was read: read as bytes too, and its indices by its value
+    -- a token that was read: read as bytes too, and what is sought of it by its value
     record SoughtToken (t : Token) (s : List ℕ) (r : ReadOf) : Type 0 where
       pub it : Read
       pub is : tokenIn big asBytes t s ≡ some (it, r .1)
       pub alike : r .0 .seen ≡ it .seen
       pub numbers : piecesSought (r .0 .pieces) ≡ tokenSought t (linkedValue (it .pieces) (it .seen))
 
-    link-index : (e : _) (r : Role) (v : ℕ) → piecesSought (linked e r v ∷ []) ≡ roleSought r v
+    link-sought : (e : _) (r : Role) (v : ℕ) → piecesSought (linked e r v ∷ []) ≡ roleSought r v
     unfolding piecesSought pieceSought
-    link-index e r v = append-nil _
+    link-sought e r v = append-nil _
 
     module _ (none-sought : NoneSought ex) where
       token-sought : (t : Token) (s : List ℕ) → All (SoughtToken t s) (tokenIn big ex t s)
@@ -177,7 +177,7 @@ module _ (sought : Role → Bool) (no-reference : sought reference ≡ false) (n
           (λ r q _. all-some (SoughtToken signed s) (record { it = _; is = bind-at _ q; alike = refl; numbers = refl }))
       token-sought (link w role) s =
           all-bind _ _ (numberIn big w s) _ (all-triv (numberIn big w s))
-          (λ r q _. all-some (SoughtToken (link w role) s) (record { it = _; is = bind-at _ q; alike = refl; numbers = link-index (r .0) role (r .1) }))
+          (λ r q _. all-some (SoughtToken (link w role) s) (record { it = _; is = bind-at _ q; alike = refl; numbers = link-sought (r .0) role (r .1) }))
       token-sought string s =
           all-bind _ _ (stringIn s) _ (all-triv (stringIn s))
           (λ r q _. all-some (SoughtToken string s) (record { it = _; is = bind-at _ q; alike = refl; numbers = refl }))
@@ -197,7 +197,7 @@ module _ (sought : Role → Bool) (no-reference : sought reference ≡ false) (n
           }))))
       token-sought unknown s = all-none _
 
-      -- ---- a layout without indices
+      -- ---- a layout without them
 
       unfoldable Without : Layout → Type 0
       Without done = Unit {0}
@@ -412,23 +412,23 @@ module _ (sought : Role → Bool) (no-reference : sought reference ≡ false) (n
         (λ t u. no-string-form f n25 n26 n27 n28 (leb-yes {a = 0x25} {b = f} t) (leb-yes {a = f} {b = 0x28} u)))
         (no-eqb {a = f} {b = 0x1f02} n1f02)))))))))))))))))
 
-    abbrev Nothing-in : ℕ → ℕ → ℕ → Type 0
-    Nothing-in name v f = [] ≡ pick (useSought (useOf name f)) (v ∷ []) []
+    abbrev NotSought : ℕ → ℕ → ℕ → Type 0
+    NotSought name v f = [] ≡ pick (useSought (useOf name f)) (v ∷ []) []
 
-    exprloc-none : (name v : ℕ) → Nothing-in name v 0x18
+    exprloc-none : (name v : ℕ) → NotSought name v 0x18
     unfolding useSought useOf pick _and_ _or_
     exprloc-none name v = refl
 
-    implicit-none : (name v : ℕ) → Nothing-in name v 0x21
+    implicit-none : (name v : ℕ) → NotSought name v 0x21
     unfolding useSought useOf pick _and_ _or_
     implicit-none name v = refl
 
-    unknown-none : (name : ℕ) (a b c d : Bool) (f v : ℕ) → (T b → f ≡ 0x18) → (T d → f ≡ 0x21) → T ((a and b) or (c and d)) → Nothing-in name v f
+    unknown-none : (name : ℕ) (a b c d : Bool) (f v : ℕ) → (T b → f ≡ 0x18) → (T d → f ≡ 0x21) → T ((a and b) or (c and d)) → NotSought name v f
     unfolding _and_ _or_
-    unknown-none name true true c d f v h g t = subst (Nothing-in name v) (sym (h tt)) (exprloc-none name v)
-    unknown-none name true false true d f v h g t = subst (Nothing-in name v) (sym (g t)) (implicit-none name v)
+    unknown-none name true true c d f v h g t = subst (NotSought name v) (sym (h tt)) (exprloc-none name v)
+    unknown-none name true false true d f v h g t = subst (NotSought name v) (sym (g t)) (implicit-none name v)
     unknown-none name true false false d f v h g t = absurd t
-    unknown-none name false b true d f v h g t = subst (Nothing-in name v) (sym (g t)) (implicit-none name v)
+    unknown-none name false b true d f v h g t = subst (NotSought name v) (sym (g t)) (implicit-none name v)
     unknown-none name false b false d f v h g t = absurd t
 
     value-sought : (indirect : Bool) (name f v : ℕ) → tokenSought (valueToken e indirect name f) v ≡ pick (useSought (useOf name f)) (v ∷ []) []
@@ -455,7 +455,7 @@ module _ (sought : Role → Bool) (no-reference : sought reference ≡ false) (n
           let l : TokenLaw big asBytes t (drop n unit) r = all-of (TokenLaw big asBytes t (drop n unit)) (token-law big asBytes (as-bytes-law big) t (drop n unit)) q in
           l .0 .1 ∙ drop-drop _ n unit
 
-      -- an attribute: its value, where it ends, and its index
+      -- an attribute: its value, where it ends, and what is sought of it
       record ValueRead (name form at : ℕ) (r : RunOf) : Type 0 where
         pub value : Attribute
         pub is : attributeAt e unit at name form ≡ Attribute′ value
@@ -539,7 +539,7 @@ module _ (sought : Role → Bool) (no-reference : sought reference ≡ false) (n
       -- ---- an entry or a terminator
 
       module _ (abbreviations : List ℕ) (look : ℕ → Found) where
-        -- the indices at a step: those of an entry's values
+        -- those at a step: those of an entry's values
         unfoldable pub StepSought : Step → List ℕ → Type 0
         StepSought (Entry′ y) is = is ≡ valuesSought (entryValues e abbreviations (y .declaration .attributes .at) unit (y .values .at))
         StepSought (Terminator c) is = is ≡ []
@@ -593,7 +593,7 @@ module _ (sought : Role → Bool) (no-reference : sought reference ≡ false) (n
             subst (λ (z : List ℕ). All (At at) (bind (readIn big deep (pick (eqb (r .0 .seen) 0) done (foundLayout e abbreviations look (look (r .0 .seen)))) z) (before (r .0))))
             (sym (l .0 .1 ∙ drop-drop _ at unit)) (code-at at (r .0) (i .numbers)))
 
-        -- THE indices of what is read deep at a place, by the step there
+        -- THE numbers sought in what is read deep at a place, by the step there
         pub deep-sought : (at : ℕ) (all : RunOf) → readIn big deep (entryLayout e abbreviations look) (drop at unit) ≡ some all
             → StepSought (stepAt e abbreviations look unit at) (readsSought (all .0))
         deep-sought at all q =
