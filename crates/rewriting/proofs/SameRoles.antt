@@ -8,8 +8,8 @@ use mathlib.Core.Logic.{⊎-elim, _⊎_, inl, inr, _↔_}
 use native.Mathlib.Omega.{arith}
 use lib.ListN.{take, drop}
 use lib.Dec.{T, eqb, leb}
-use mir.Facts.{eqb-yes, yes-eqb, leb-yes, yes-leb}
-use Rattle.readers.specs.Choice.{pick, pick-yes, pick-either, _and_, _or_}
+use mir.Facts.{eqb-yes, yes-eqb, leb-yes, leb-no, yes-leb}
+use Rattle.readers.specs.Choice.{pick, pick-yes, pick-either, either, _and_, _or_}
 use Rattle.readers.specs.Tokens.{Use, plain, as′}
 use Rattle.readers.specs.Forms.{useOf}
 use Rattle.readers.specs.Layout.{Role, reference, typeReference, sibling, index, absolute, Read, RunOf, readIn}
@@ -93,6 +93,77 @@ module _ (k v : ℕ) where
             (λ j. in-right v (valueIndex k (a .value)) (valueIndices k rest) (more .1 j))
             (index-here a rest i),
       )
+
+-- ---- no other indices
+
+module _ (k : ℕ) where
+  unfoldable isIndex : Role → Bool
+  isIndex reference = false
+  isIndex typeReference = false
+  isIndex sibling = false
+  isIndex (index j) = eqb j k
+  isIndex absolute = false
+
+  index-no-reference : isIndex reference ≡ false
+  unfolding isIndex
+  index-no-reference = refl
+
+  index-no-type : isIndex typeReference ≡ false
+  unfolding isIndex
+  index-no-type = refl
+
+  index-no-absolute : isIndex absolute ≡ false
+  unfolding isIndex
+  index-no-absolute = refl
+
+  index-is : T (isIndex (index k))
+  unfolding isIndex
+  index-is = yes-eqb {a = k} {b = k} refl
+
+  only-index : (r : Role) → T (isIndex r) → r ≡ index k
+  unfolding isIndex
+  only-index reference t = absurd t
+  only-index typeReference t = absurd t
+  only-index sibling t = absurd t
+  only-index (index j) t = ap index (eqb-yes {a = j} {b = k} t)
+  only-index absolute t = absurd t
+
+  abbrev indexUse : Use → Bool
+  indexUse = useSought isIndex index-no-reference index-no-type index-no-absolute
+
+  abbrev valuesIndices : List Valued → List ℕ
+  valuesIndices = valuesSought isIndex index-no-reference index-no-type index-no-absolute
+
+  abbrev readsIndices : List Read → List ℕ
+  readsIndices = readsSought isIndex index-no-reference index-no-type index-no-absolute
+
+  module _ (large : 3 ≤ k) where
+    none-below : (j : ℕ) → j < 3 → T (eqb j k) → ⊥
+    none-below j l t = let z : j ≡ k = eqb-yes {a = j} {b = k} t in omega arith
+
+    abbrev NotIndex : Use → Type 0
+    NotIndex u = T (indexUse u) → ⊥
+
+    -- no form has such a use
+    no-form : (name f : ℕ) → NotIndex (useOf name f)
+    unfolding useOf useSought isIndex
+    no-form name f =
+        pick-either NotIndex (leb 0x11 f and leb f 0x15) (as′ (pick (eqb name 0x01) sibling reference)) _
+        (λ _. pick-either (λ (r : Role). NotIndex (as′ r)) (eqb name 0x01) sibling reference (λ _ n. n) (λ _ n. n))
+        (λ _. pick-either NotIndex (eqb f 0x10) _ _ (λ _ n. n)
+        (λ _. pick-either NotIndex (eqb f 0x23) _ _ (λ _ n. none-below 0 (omega arith) n)
+        (λ _. pick-either NotIndex (eqb f 0x22) _ _ (λ _ n. none-below 1 (omega arith) n)
+        (λ _. pick-either NotIndex (eqb f 0x1a or (leb 0x25 f and leb f 0x28) or eqb f 0x1f02) _ plain (λ _ n. none-below 2 (omega arith) n) (λ _ n. n)))))
+
+    no-values : (v : ℕ) (values : List Valued) → Member v (valuesIndices values) → ⊥
+    unfolding valuesSought ownSought
+    no-values v [] m = nothing-in v m
+    no-values v (a ∷ rest) m =
+        ⊎-elim
+        (λ n. pick-either (λ (l : List ℕ). Member v l → ⊥) (indexUse (useOf (a .name) (a .value .form))) (a .value .field .value ∷ []) []
+        (λ t _. no-form (a .name) (a .value .form) t) (λ _ o. nothing-in v o) n)
+        (λ n. no-values v rest n)
+        (in-either v _ (valuesIndices rest) m)
 
 -- ---- siblings
 
@@ -244,6 +315,21 @@ module _ (x : Sections) (u : Unit′) where
           λ n. roles .0 (reads .0 (subst (Member v) (sym same) (values .1 n))),
         )
 
+    same-indices : (k : ℕ) → readsIndices k (readsIn x u y) ≡ valuesIndices k (valuesIn x u y)
+    unfolding StepSought valuesOfEntry
+    same-indices k =
+        ap (readsIndices k) (reads-are (y .offset .0) all q)
+        ∙ subst (λ (w : Step). StepSought (isIndex k) (index-no-reference k) (index-no-type k) (index-no-absolute k) (u .header .encoding) (u .bytes) (x .abbreviations) (declaredIn (u .declared)) w (readsIndices k (all .0))) s
+        (deep-sought (isIndex k) (index-no-reference k) (index-no-type k) (index-no-absolute k) (u .header .encoding) (u .bytes) (x .abbreviations) (declaredIn (u .declared)) (y .offset .0) all q)
+
+    entry-lists : (k v : ℕ) → RoleRead (readsIn x u y) (index k) v → k < 3
+    entry-lists k v i =
+        ⊎-elim
+        (λ t. absurd (no-values k (leb-yes {a = 3} {b = k} t) v (valuesIn x u y) (subst (Member v) (same-indices k)
+        (reads-members (isIndex k) (index-no-reference k) (index-no-type k) (index-no-absolute k) (index k) (index-is k) (only-index k) v (readsIn x u y) .1 i))))
+        (λ t. leb-no {a = 3} {b = k} t)
+        (either (leb 3 k))
+
     same-siblings : readsSiblings (readsIn x u y) ≡ valuesSiblings (valuesIn x u y)
     unfolding StepSought valuesOfEntry
     same-siblings =
@@ -262,7 +348,7 @@ module _ (x : Sections) (u : Unit′) where
 
     -- an entry that stands at its offset and is read deep
     entry-roles : SameRoles x u y
-    entry-roles = record { indexed = entry-indexed; siblings = entry-siblings }
+    entry-roles = record { indexed = entry-indexed; lists = entry-lists; siblings = entry-siblings }
 
   -- one that was judged is read deep
   judged-roles : (y : Entry) → There y → JudgedStep (u .header .encoding) x (declaredIn (u .declared)) (u .bytes) (Entry′ y) → SameRoles x u y

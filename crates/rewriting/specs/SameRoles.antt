@@ -51,6 +51,8 @@ pub record FormSibling (values : List Valued) (v : ℕ) : Type 0 where
 
 pub record SameRoles (x : Sections) (u : Unit′) (y : Entry) : Type 0 where
   pub indexed : (k v : ℕ) → k < 3 → RoleRead (readsIn x u y) (index k) v ↔ FormIndex (valuesIn x u y) k v
+  -- there are no other indices
+  pub lists : (k v : ℕ) → RoleRead (readsIn x u y) (index k) v → k < 3
   pub siblings : (v : ℕ) → RoleRead (readsIn x u y) sibling v ↔ FormSibling (valuesIn x u y) v
 
 -- the first unit of a section, by the header and the declarations that are found: of every entry
