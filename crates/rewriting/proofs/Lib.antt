@@ -62,6 +62,7 @@ pub mod EntryNames
 pub mod ListedNames
 pub mod SameReferences
 pub mod MarkingSteps
+pub mod EntryRoles
 pub mod SameRoles
 pub mod IndexTurns
 pub mod Holdings

@@ -1,15 +1,18 @@
 -- The indices and siblings of every entry of an accepted unit, by roles and by forms. Assumes nothing.
 use mathlib.Core.Path.{_≡_, refl, ap, sym, _∙_, subst}
-use Prim.Native.Nat.{ℕ, suc, _<_}
+use Prim.Native.Nat.{ℕ, suc, _≤_, _<_}
+use mathlib.Core.Bool.{Bool, true, false}
 use mathlib.Core.List.{List, [], _∷_}
 use mathlib.Core.Option.{Option, none, some}
 use mathlib.Core.Logic.{⊎-elim, _⊎_, inl, inr, _↔_}
 use native.Mathlib.Omega.{arith}
 use lib.ListN.{take, drop}
-use lib.Dec.{eqb}
-use mir.Facts.{eqb-yes, yes-eqb}
-use Rattle.readers.specs.Choice.{pick-yes, pick-either}
-use Rattle.readers.specs.Layout.{index, Read, RunOf, readIn}
+use lib.Dec.{T, eqb, leb}
+use mir.Facts.{eqb-yes, yes-eqb, leb-yes, leb-no, yes-leb}
+use Rattle.readers.specs.Choice.{pick, pick-yes, pick-either, either, _and_, _or_}
+use Rattle.readers.specs.Tokens.{Use, plain, as′}
+use Rattle.readers.specs.Forms.{useOf}
+use Rattle.readers.specs.Layout.{Role, reference, typeReference, sibling, index, absolute, Read, RunOf, readIn}
 use Rattle.readers.specs.Expression.{expressionIn}
 use Rattle.readers.specs.Entries.{entryLayout, stepAt}
 use Rattle.readers.specs.Abbreviations.{Placed, declaredIn, abbreviationsOf}
@@ -32,11 +35,12 @@ use Rattle.rewriting.specs.Indices.{readIndices}
 use Rattle.rewriting.specs.IndexLists.{formList, valueIndex, valueIndices}
 use Rattle.rewriting.specs.Rewriting.{Unit as Unit′, itemsIn, readsOr, readsAt, Room}
 use Rattle.rewriting.specs.SameReferences.{valuesIn, readsIn}
-use Rattle.rewriting.specs.SameRoles.{RoleRead, FormIndex, SameRoles, UnitRoles}
+use Rattle.rewriting.specs.SameRoles.{RoleRead, FormIndex, FormSibling, SameRoles, UnitRoles}
 use Rattle.marking.proofs.Members.{nothing-in}
 use Rattle.rewriting.proofs.IndexMembers.{in-left, in-right, in-either, IndexRead, read-members}
 use Rattle.rewriting.proofs.NamedPieces.{only}
 use Rattle.rewriting.proofs.EntryIndices.{form-list, StepIndices, deep-indices}
+use Rattle.rewriting.proofs.EntryRoles.{readsSought, useSought, ownSought, valuesSought, StepSought, deep-sought, reads-members}
 use Rattle.rewriting.proofs.ItemsStand.{EveryItem, Stands, items-stand}
 use Rattle.rewriting.proofs.ReadableItems.{Is, JudgedStep, step-deep}
 use Rattle.rewriting.proofs.Accepted.{unitOf, Accepted}
@@ -90,6 +94,196 @@ module _ (k v : ℕ) where
             (index-here a rest i),
       )
 
+-- ---- no other indices
+
+module _ (k : ℕ) where
+  unfoldable isIndex : Role → Bool
+  isIndex reference = false
+  isIndex typeReference = false
+  isIndex sibling = false
+  isIndex (index j) = eqb j k
+  isIndex absolute = false
+
+  index-no-reference : isIndex reference ≡ false
+  unfolding isIndex
+  index-no-reference = refl
+
+  index-no-type : isIndex typeReference ≡ false
+  unfolding isIndex
+  index-no-type = refl
+
+  index-no-absolute : isIndex absolute ≡ false
+  unfolding isIndex
+  index-no-absolute = refl
+
+  index-is : T (isIndex (index k))
+  unfolding isIndex
+  index-is = yes-eqb {a = k} {b = k} refl
+
+  only-index : (r : Role) → T (isIndex r) → r ≡ index k
+  unfolding isIndex
+  only-index reference t = absurd t
+  only-index typeReference t = absurd t
+  only-index sibling t = absurd t
+  only-index (index j) t = ap index (eqb-yes {a = j} {b = k} t)
+  only-index absolute t = absurd t
+
+  abbrev indexUse : Use → Bool
+  indexUse = useSought isIndex index-no-reference index-no-type index-no-absolute
+
+  abbrev valuesIndices : List Valued → List ℕ
+  valuesIndices = valuesSought isIndex index-no-reference index-no-type index-no-absolute
+
+  abbrev readsIndices : List Read → List ℕ
+  readsIndices = readsSought isIndex index-no-reference index-no-type index-no-absolute
+
+  module _ (large : 3 ≤ k) where
+    none-below : (j : ℕ) → j < 3 → T (eqb j k) → ⊥
+    none-below j l t = let z : j ≡ k = eqb-yes {a = j} {b = k} t in omega arith
+
+    abbrev NotIndex : Use → Type 0
+    NotIndex u = T (indexUse u) → ⊥
+
+    -- no form has such a use
+    no-form : (name f : ℕ) → NotIndex (useOf name f)
+    unfolding useOf useSought isIndex
+    no-form name f =
+        pick-either NotIndex (leb 0x11 f and leb f 0x15) (as′ (pick (eqb name 0x01) sibling reference)) _
+        (λ _. pick-either (λ (r : Role). NotIndex (as′ r)) (eqb name 0x01) sibling reference (λ _ n. n) (λ _ n. n))
+        (λ _. pick-either NotIndex (eqb f 0x10) _ _ (λ _ n. n)
+        (λ _. pick-either NotIndex (eqb f 0x23) _ _ (λ _ n. none-below 0 (omega arith) n)
+        (λ _. pick-either NotIndex (eqb f 0x22) _ _ (λ _ n. none-below 1 (omega arith) n)
+        (λ _. pick-either NotIndex (eqb f 0x1a or (leb 0x25 f and leb f 0x28) or eqb f 0x1f02) _ plain (λ _ n. none-below 2 (omega arith) n) (λ _ n. n)))))
+
+    no-values : (v : ℕ) (values : List Valued) → Member v (valuesIndices values) → ⊥
+    unfolding valuesSought ownSought
+    no-values v [] m = nothing-in v m
+    no-values v (a ∷ rest) m =
+        ⊎-elim
+        (λ n. pick-either (λ (l : List ℕ). Member v l → ⊥) (indexUse (useOf (a .name) (a .value .form))) (a .value .field .value ∷ []) []
+        (λ t _. no-form (a .name) (a .value .form) t) (λ _ o. nothing-in v o) n)
+        (λ n. no-values v rest n)
+        (in-either v _ (valuesIndices rest) m)
+
+-- ---- siblings
+
+unfoldable isSibling : Role → Bool
+isSibling reference = false
+isSibling typeReference = false
+isSibling sibling = true
+isSibling (index k) = false
+isSibling absolute = false
+
+no-reference : isSibling reference ≡ false
+unfolding isSibling
+no-reference = refl
+
+no-type : isSibling typeReference ≡ false
+unfolding isSibling
+no-type = refl
+
+no-absolute : isSibling absolute ≡ false
+unfolding isSibling
+no-absolute = refl
+
+sibling-is : T (isSibling sibling)
+unfolding isSibling
+sibling-is = tt
+
+only-sibling : (r : Role) → T (isSibling r) → r ≡ sibling
+unfolding isSibling
+only-sibling reference t = absurd t
+only-sibling typeReference t = absurd t
+only-sibling sibling t = refl
+only-sibling (index k) t = absurd t
+only-sibling absolute t = absurd t
+
+abbrev siblingUse : Use → Bool
+siblingUse = useSought isSibling no-reference no-type no-absolute
+
+abbrev ownSibling : ℕ → Attribute → List ℕ
+ownSibling = ownSought isSibling no-reference no-type no-absolute
+
+abbrev valuesSiblings : List Valued → List ℕ
+valuesSiblings = valuesSought isSibling no-reference no-type no-absolute
+
+abbrev readsSiblings : List Read → List ℕ
+readsSiblings = readsSought isSibling no-reference no-type no-absolute
+
+abbrev SiblingForm : ℕ → ℕ → Type 0
+SiblingForm name f = (name ≡ 0x01) × ((0x11 ≤ f) × (f ≤ 0x15))
+
+both : (a b : Bool) → T (a and b) → T a × T b
+unfolding _and_
+both true b t = (tt, t)
+both false b t = absurd t
+
+and-both : (a b : Bool) → T a → T b → T (a and b)
+unfolding _and_
+and-both true b s t = t
+and-both false b s t = absurd s
+
+abbrev OnlySibling : ℕ → ℕ → Use → Type 0
+OnlySibling name f u = T (siblingUse u) → SiblingForm name f
+
+-- the use of a sibling is that of these forms under DW_AT_sibling
+sibling-out : (name f : ℕ) → T (siblingUse (useOf name f)) → SiblingForm name f
+unfolding useOf useSought isSibling
+sibling-out name f =
+    pick-either (OnlySibling name f) (leb 0x11 f and leb f 0x15) (as′ (pick (eqb name 0x01) sibling reference)) _
+    (λ t. let b = both (leb 0x11 f) (leb f 0x15) t in
+    pick-either (λ (r : Role). OnlySibling name f (as′ r)) (eqb name 0x01) sibling reference
+    (λ s _. (eqb-yes {a = name} {b = 0x01} s, (leb-yes {a = 0x11} {b = f} (b .0), leb-yes {a = f} {b = 0x15} (b .1))))
+    (λ _ n. absurd n))
+    (λ _. pick-either (OnlySibling name f) (eqb f 0x10) _ _ (λ _ n. absurd n)
+    (λ _. pick-either (OnlySibling name f) (eqb f 0x23) _ _ (λ _ n. absurd n)
+    (λ _. pick-either (OnlySibling name f) (eqb f 0x22) _ _ (λ _ n. absurd n)
+    (λ _. pick-either (OnlySibling name f) (eqb f 0x1a or (leb 0x25 f and leb f 0x28) or eqb f 0x1f02) _ plain (λ _ n. absurd n) (λ _ n. absurd n)))))
+
+sibling-in : (name f : ℕ) → SiblingForm name f → T (siblingUse (useOf name f))
+unfolding useOf useSought isSibling
+sibling-in name f q =
+    subst (λ (u : Use). T (siblingUse u))
+    (sym (pick-yes _ _ _ (and-both (leb 0x11 f) (leb f 0x15) (yes-leb {a = 0x11} {b = f} (q .1 .0)) (yes-leb {a = f} {b = 0x15} (q .1 .1)))
+    ∙ ap as′ (pick-yes (eqb name 0x01) sibling reference (yes-eqb {a = name} {b = 0x01} (q .0))))) tt
+
+module _ (v : ℕ) where
+  abbrev OwnSibling : Valued → Type 0
+  OwnSibling a = SiblingForm (a .name) (a .value .form) × (v ≡ a .value .field .value)
+
+  own-sibling : (a : Valued) → Member v (ownSibling (a .name) (a .value)) ↔ OwnSibling a
+  unfolding ownSought
+  own-sibling a = (
+    pick-either (λ (l : List ℕ). Member v l → OwnSibling a) (siblingUse (useOf (a .name) (a .value .form))) (a .value .field .value ∷ []) []
+        (λ t m. (sibling-out (a .name) (a .value .form) t, only v (a .value .field .value) m))
+        (λ t m. absurd (nothing-in v m)),
+    λ q. subst (Member v) (sym (pick-yes _ (a .value .field .value ∷ []) [] (sibling-in (a .name) (a .value .form) (q .0)))) (here (q .1)),
+  )
+
+  sibling-here : (a : Valued) (rest : List Valued) → FormSibling (a ∷ rest) v → OwnSibling a ⊎ FormSibling rest v
+  sibling-here a rest i = by-place (i .attribute) (i .among) ((i .name-is, (i .from, i .upto)), i .is)
+    where
+      by-place : (b : Valued) → Member b (a ∷ rest) → OwnSibling b → OwnSibling a ⊎ FormSibling rest v
+      by-place b (here q) o = inl (subst OwnSibling q o)
+      by-place b (there m) o =
+          inr (record { attribute = b; among = m; name-is = o .0 .0; from = o .0 .1 .0; upto = o .0 .1 .1; is = o .1 })
+
+  sibling-members : (values : List Valued) → Member v (valuesSiblings values) ↔ FormSibling values v
+  unfolding valuesSought
+  sibling-members [] = (λ m. absurd (nothing-in v m), λ i. absurd (nothing-in (i .attribute) (i .among)))
+  sibling-members (a ∷ rest) =
+      let one : Member v (ownSibling (a .name) (a .value)) ↔ OwnSibling a = own-sibling a in
+      let more : Member v (valuesSiblings rest) ↔ FormSibling rest v = sibling-members rest in (
+        λ m. ⊎-elim
+            (λ n. let o = one .0 n in record { attribute = a; among = here refl; name-is = o .0 .0; from = o .0 .1 .0; upto = o .0 .1 .1; is = o .1 })
+            (λ n. let i = more .0 n in record { attribute = i .attribute; among = there (i .among); name-is = i .name-is; from = i .from; upto = i .upto; is = i .is })
+            (in-either v (ownSibling (a .name) (a .value)) (valuesSiblings rest) m),
+        λ i. ⊎-elim
+            (λ o. in-left v (ownSibling (a .name) (a .value)) (valuesSiblings rest) (one .1 o))
+            (λ j. in-right v (ownSibling (a .name) (a .value)) (valuesSiblings rest) (more .1 j))
+            (sibling-here a rest i),
+      )
+
 -- ---- one entry
 
 module _ (x : Sections) (u : Unit′) where
@@ -121,9 +315,40 @@ module _ (x : Sections) (u : Unit′) where
           λ n. roles .0 (reads .0 (subst (Member v) (sym same) (values .1 n))),
         )
 
+    same-indices : (k : ℕ) → readsIndices k (readsIn x u y) ≡ valuesIndices k (valuesIn x u y)
+    unfolding StepSought valuesOfEntry
+    same-indices k =
+        ap (readsIndices k) (reads-are (y .offset .0) all q)
+        ∙ subst (λ (w : Step). StepSought (isIndex k) (index-no-reference k) (index-no-type k) (index-no-absolute k) (u .header .encoding) (u .bytes) (x .abbreviations) (declaredIn (u .declared)) w (readsIndices k (all .0))) s
+        (deep-sought (isIndex k) (index-no-reference k) (index-no-type k) (index-no-absolute k) (u .header .encoding) (u .bytes) (x .abbreviations) (declaredIn (u .declared)) (y .offset .0) all q)
+
+    entry-lists : (k v : ℕ) → RoleRead (readsIn x u y) (index k) v → k < 3
+    entry-lists k v i =
+        ⊎-elim
+        (λ t. absurd (no-values k (leb-yes {a = 3} {b = k} t) v (valuesIn x u y) (subst (Member v) (same-indices k)
+        (reads-members (isIndex k) (index-no-reference k) (index-no-type k) (index-no-absolute k) (index k) (index-is k) (only-index k) v (readsIn x u y) .1 i))))
+        (λ t. leb-no {a = 3} {b = k} t)
+        (either (leb 3 k))
+
+    same-siblings : readsSiblings (readsIn x u y) ≡ valuesSiblings (valuesIn x u y)
+    unfolding StepSought valuesOfEntry
+    same-siblings =
+        ap readsSiblings (reads-are (y .offset .0) all q)
+        ∙ subst (λ (w : Step). StepSought isSibling no-reference no-type no-absolute (u .header .encoding) (u .bytes) (x .abbreviations) (declaredIn (u .declared)) w (readsSiblings (all .0))) s
+        (deep-sought isSibling no-reference no-type no-absolute (u .header .encoding) (u .bytes) (x .abbreviations) (declaredIn (u .declared)) (y .offset .0) all q)
+
+    entry-siblings : (v : ℕ) → RoleRead (readsIn x u y) sibling v ↔ FormSibling (valuesIn x u y) v
+    entry-siblings v =
+        let reads : Member v (readsSiblings (readsIn x u y)) ↔ RoleRead (readsIn x u y) sibling v =
+        reads-members isSibling no-reference no-type no-absolute sibling sibling-is only-sibling v (readsIn x u y) in
+        let values : Member v (valuesSiblings (valuesIn x u y)) ↔ FormSibling (valuesIn x u y) v = sibling-members v (valuesIn x u y) in (
+          λ n. values .0 (subst (Member v) same-siblings (reads .1 n)),
+          λ n. reads .0 (subst (Member v) (sym same-siblings) (values .1 n)),
+        )
+
     -- an entry that stands at its offset and is read deep
     entry-roles : SameRoles x u y
-    entry-roles = record { indexed = entry-indexed }
+    entry-roles = record { indexed = entry-indexed; lists = entry-lists; siblings = entry-siblings }
 
   -- one that was judged is read deep
   judged-roles : (y : Entry) → There y → JudgedStep (u .header .encoding) x (declaredIn (u .declared)) (u .bytes) (Entry′ y) → SameRoles x u y

@@ -9,9 +9,7 @@ use Rattle.readers.specs.Abbreviations.{Placed, abbreviationsOf}
 use Rattle.readers.specs.Header.{headerOf}
 use Rattle.readers.specs.Layout.{Encoded, Role, sibling, index, linked, Read}
 use Rattle.readers.specs.Stream.{entry}
-use Rattle.readers.specs.declared.attributes.Attribute.{Attribute}
 use Rattle.readers.specs.declared.entries.Entry.{Entry}
-use Rattle.readers.specs.declared.fields.Field.{Field}
 use Rattle.readers.specs.declared.header.HeaderRead.the-variants.{Unit as Header′}
 use Rattle.readers.specs.declared.header.UnitHeader.{UnitHeader}
 use Rattle.marking.specs.Roots.{Valued}
@@ -53,6 +51,9 @@ pub record FormSibling (values : List Valued) (v : ℕ) : Type 0 where
 
 pub record SameRoles (x : Sections) (u : Unit′) (y : Entry) : Type 0 where
   pub indexed : (k v : ℕ) → k < 3 → RoleRead (readsIn x u y) (index k) v ↔ FormIndex (valuesIn x u y) k v
+  -- there are no other indices
+  pub lists : (k v : ℕ) → RoleRead (readsIn x u y) (index k) v → k < 3
+  pub siblings : (v : ℕ) → RoleRead (readsIn x u y) sibling v ↔ FormSibling (valuesIn x u y) v
 
 -- the first unit of a section, by the header and the declarations that are found: of every entry
 pub record UnitRoles (x : Sections) (section : List ℕ) : Type 0 where
