@@ -73,6 +73,6 @@ pub mod Listings
 pub mod UnitAnswers
 pub mod UnitWritten
 pub mod ValueRefusals
-pub mod Refusals
 pub mod Accepting
+pub mod Refusals
 pub mod RoomLaws
