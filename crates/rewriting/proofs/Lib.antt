@@ -73,6 +73,7 @@ pub mod Listings
 pub mod UnitAnswers
 pub mod UnitWritten
 pub mod ValueRefusals
+pub mod NewValues
 pub mod Accepting
 pub mod Refusals
 pub mod RoomLaws
