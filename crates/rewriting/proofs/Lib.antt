@@ -77,8 +77,9 @@ pub mod Listings
 pub mod UnitAnswers
 pub mod UnitWritten
 pub mod ValueRefusals
-pub mod Refusals
+pub mod NewValues
 pub mod Accepting
+pub mod Refusals
 pub mod RoomLaws
 pub mod LandsOnce
 pub mod ByForm

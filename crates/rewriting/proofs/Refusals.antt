@@ -1,16 +1,16 @@
 -- "A refusal carries a number of document 01": where each refusal of collect comes from, and with which number; a padded number is
 -- refused with 15. Assumes nothing.
-use mathlib.Core.Path.{_≡_, refl, subst}
+use mathlib.Core.Path.{_≡_, refl, sym, ap, _∙_, subst}
 use Prim.Native.Nat.{ℕ, _+_, _≤_, _<_}
 use native.Mathlib.Omega.{arith}
-use mathlib.Core.Bool.{Bool, true, false, not}
+use mathlib.Core.Bool.{Bool, true, false, not, false≢true}
 use mathlib.Core.List.{List, [], _∷_}
 use mathlib.Core.Logic.{_⊎_, inl, inr, ⊎-elim}
 use mathlib.Core.Option.{Option, none, some}
 use lib.ListN.{length, take}
 use lib.Dec.{T, leb, eqb}
-use mir.Facts.{eqb-no, leb-yes, leb-no}
-use Rattle.readers.specs.Choice.{pick, pick-either, _and_, _or_}
+use mir.Facts.{eqb-no, leb-yes, leb-no, no-eqb, yes-leb, no-leb}
+use Rattle.readers.specs.Choice.{pick, pick-either, pick-no, pick-yes, _and_, _or_}
 use Rattle.readers.specs.RefusalNumbers.{OneOf}
 use Rattle.readers.specs.Abbreviations.{Placed, abbreviationsOf}
 use Rattle.readers.specs.Header.{headerOf}
@@ -28,8 +28,10 @@ use Rattle.rewriting.specs.Rewriting.{Unit as Unit′, Lists, Room, Rewr
 use Rattle.rewriting.specs.Written.{groupsFit, paddedAnswer}
 use Rattle.rewriting.specs.declared.numbers.Padded.{Padded}
 use Rattle.rewriting.specs.declared.numbers.Padded.the-variants.{Written, Refused as Refused′}
-use Rattle.rewriting.specs.RefusalNumbers.{CollectRefusal, PaddedRefusal, UnitRead, unitRead, keptIn, listsIn, Thinnable, RefusedAt, at-header, at-abbreviations, at-entries, at-lists, at-map, at-output, at-values}
+use Rattle.rewriting.specs.RefusalNumbers.{CollectRefusal, PaddedRefusal, UnitRead, unitRead, keptIn, listsIn, Thinnable, RefusedAt, at-header, at-abbreviations, at-entries, at-lists, at-map, at-output, at-place, at-width}
 use Rattle.rewriting.proofs.Accepted.{kept-most}
+use Rattle.rewriting.proofs.ValueRefusals.{eight-means, nine-means}
+use Rattle.rewriting.proofs.Accepting.{marks-on, dead-on, room-on}
 
 -- ---- 8 and 9: 0 where nothing is refused
 
@@ -116,12 +118,21 @@ module _ (x : Sections) (room : Room) (typeUnits : Bool) (section : List ℕ) wh
     abbrev places : List Place
     places = placesFrom (u .header .first .0) kept
 
+    value-at : Thinnable x room typeUnits section u → length kept ≤ room .places → u .header .first .0 + sizeFrom kept ≤ room .bytes → (n : ℕ)
+        → refusalFrom x unit lists places kept ≡ n → OneOf (8 ∷ 9 ∷ []) n → RefusedAt x room typeUnits section n
+    unfolding OneOf
+    value-at d p b n q (inl e) =
+        subst (RefusedAt x room typeUnits section) (sym e) (at-place u d p b (eight-means x unit lists (u .header .first .0) kept .0 (q ∙ e)))
+    value-at d p b n q (inr (inl e)) =
+        subst (RefusedAt x room typeUnits section) (sym e) (at-width u d p b (nine-means x unit lists (u .header .first .0) kept .0 (q ∙ e)))
+    value-at d p b n q (inr (inr z)) = absurd z
+
     values-staged : Thinnable x room typeUnits section u → length kept ≤ room .places → u .header .first .0 + sizeFrom kept ≤ room .bytes → (w : Rewrite)
         → Staged (orRefused x room (refusalFrom x unit lists places kept) (rewritten w))
     unfolding orRefused Staged
     values-staged d p b w =
         pick-either Staged (eqb (refusalFrom x unit lists places kept) 0) (rewritten w) (refused (refusalFrom x unit lists places kept)) (λ _. tt)
-        (λ t. at-values u d p b refl (late-value _ (values-late x unit lists places kept) t))
+        (λ t. value-at d p b _ refl (late-value _ (values-late x unit lists places kept) t))
 
     rewrite-staged : Thinnable x room typeUnits section u → Staged (rewriteOf x room unit (length (marksIn (u .rows))) (keptCount (marksIn (u .rows))) lists kept)
     unfolding rewriteOf
@@ -132,9 +143,9 @@ module _ (x : Sections) (room : Room) (typeUnits : Bool) (section : List ℕ) wh
         (λ b. staged-refused 14 (at-output u d (leb-yes p) (leb-no b))))
         (λ p. staged-refused 13 (at-map u d (leb-no p)))
 
-    marks-staged : Staged (marksCollected x room typeUnits unit (marksIn (u .rows)) kept)
+    marks-staged : 0 < length (u .rows) → Staged (marksCollected x room typeUnits unit (marksIn (u .rows)) kept)
     unfolding marksCollected
-    marks-staged =
+    marks-staged m =
         pick-either Staged (listsFit room lists) _ (refused 12)
         (λ l. pick-either Staged (eqb (keptCount (marksIn (u .rows))) (length (marksIn (u .rows)))) (untouched _ _) _
         (λ _. staged-untouched _ _)
@@ -142,7 +153,7 @@ module _ (x : Sections) (room : Room) (typeUnits : Bool) (section : List ℕ) wh
           dead = omega (arith, kept-most (marksIn (u .rows)), eqb-no {a = keptCount (marksIn (u .rows))} {b = length (marksIn (u .rows))} d);
           listed = is-true _ l;
         })))
-        (λ l. staged-refused 12 (at-lists u (is-false _ l)))
+        (λ l. staged-refused 12 (at-lists u m (is-false _ l)))
 
   abbrev asRead : UnitHeader → List Placed → Unit′
   asRead h ds = record { header = h; bytes = take (h .end) section; declared = ds }
@@ -152,7 +163,7 @@ module _ (x : Sections) (room : Room) (typeUnits : Bool) (section : List ℕ) wh
         → Staged (rowsCollected x room typeUnits (asRead h ds) rows)
     unfolding rowsCollected
     rows-staged ds d [] a = staged-untouched _ _
-    rows-staged ds d (r ∷ rows) a = marks-staged (record { header = h; declared = ds; rows = r ∷ rows; header-is = header; declared-are = d; rows-are = a })
+    rows-staged ds d (r ∷ rows) a = marks-staged (record { header = h; declared = ds; rows = r ∷ rows; header-is = header; declared-are = d; rows-are = a }) (omega arith)
 
     analysed-staged : (ds : List Placed) → abbreviationsOf (x .abbreviations) (h .abbreviations) ≡ some ds → (o : Analysed) → analysisOf x section (room .tables) ≡ o
         → Staged (analysedCollected x room typeUnits (asRead h ds) o)
@@ -176,15 +187,50 @@ module _ (x : Sections) (room : Room) (typeUnits : Bool) (section : List ℕ) wh
   unfolding collectOf Staged
   refusal-law n q = subst Staged q (header-staged (headerOf section) refl)
 
+  not-so : (b : Bool) → b ≡ false → T (not b)
+  not-so true q = absurd (false≢true (sym q))
+  not-so false q = tt
+
+  value-refused : (u : UnitRead x room section) → Thinnable x room typeUnits section u → length (kept u) ≤ room .places
+      → u .header .first .0 + sizeFrom (kept u) ≤ room .bytes → (n : ℕ) → 0 < n → refusalFrom x (unit u) (lists u) (places u) (kept u) ≡ n
+      → collectOf x room typeUnits section ≡ refused n
+  unfolding orRefused
+  value-refused u d p b n h q =
+      room-on x room typeUnits section u (d .dead) (d .listed) p b
+      ∙ pick-no (eqb (refusalFrom x (unit u) (lists u) (places u) (kept u)) 0) _ _
+      (no-eqb {a = refusalFrom x (unit u) (lists u) (places u) (kept u)} {b = 0} (λ z. let y : n ≡ 0 = sym q ∙ z in omega arith))
+      ∙ ap refused q
+
+  -- and each of them is answered so
+  pub refused-law : (n : ℕ) → RefusedAt x room typeUnits section n → collectOf x room typeUnits section ≡ refused n
+  unfolding collectOf headerCollected declaredCollected analysedCollected marksCollected rewriteOf
+  refused-law n (at-header q r) = ap (headerCollected x room typeUnits section) q
+  refused-law n (at-abbreviations {h} q d) = ap (headerCollected x room typeUnits section) q ∙ ap (declaredCollected x room typeUnits section h) d
+  refused-law n (at-entries {h} {ds} q d a r) =
+      ap (headerCollected x room typeUnits section) q ∙ ap (declaredCollected x room typeUnits section h) d
+      ∙ ap (analysedCollected x room typeUnits (asRead h ds)) a
+  refused-law n (at-lists u m l) = marks-on x room typeUnits section u m ∙ pick-no (listsFit room (lists u)) _ _ (not-so _ l)
+  refused-law n (at-map u d p) =
+      dead-on x room typeUnits section u (d .dead) (d .listed)
+      ∙ pick-no (leb (length (kept u)) (room .places)) _ _ (no-leb {a = length (kept u)} {b = room .places} (omega arith))
+  refused-law n (at-output u d p b) =
+      dead-on x room typeUnits section u (d .dead) (d .listed)
+      ∙ pick-yes (leb (length (kept u)) (room .places)) _ _ (yes-leb {a = length (kept u)} {b = room .places} p)
+      ∙ pick-no (leb (u .header .first .0 + sizeFrom (kept u)) (room .bytes)) _ _
+      (no-leb {a = u .header .first .0 + sizeFrom (kept u)} {b = room .bytes} (omega arith))
+  refused-law n (at-place u d p b f) = value-refused u d p b 8 (omega arith) (eight-means x (unit u) (lists u) (u .header .first .0) (kept u) .1 f)
+  refused-law n (at-width u d p b f) = value-refused u d p b 9 (omega arith) (nine-means x (unit u) (lists u) (u .header .first .0) (kept u) .1 f)
+
   number-at : (n : ℕ) → RefusedAt x room typeUnits section n → CollectRefusal n
   unfolding isOneOf areOf _or_ _and_
   number-at n (at-header q r) = wider (1 ∷ 2 ∷ []) _ n tt r
   number-at n (at-abbreviations q d) = one-of _ 3 tt
   number-at n (at-entries q d a r) = wider (4 ∷ 10 ∷ 5 ∷ 6 ∷ 7 ∷ 11 ∷ []) _ n tt r
-  number-at n (at-lists u l) = one-of _ 12 tt
+  number-at n (at-lists u m l) = one-of _ 12 tt
   number-at n (at-map u d p) = one-of _ 13 tt
   number-at n (at-output u d p b) = one-of _ 14 tt
-  number-at n (at-values u d p b q r) = wider (8 ∷ 9 ∷ []) _ n tt r
+  number-at n (at-place u d p b f) = one-of _ 8 tt
+  number-at n (at-width u d p b f) = one-of _ 9 tt
 
   -- "A refusal carries a number of document 01": 1 to 14
   pub collect-refusal : (n : ℕ) → collectOf x room typeUnits section ≡ refused n → CollectRefusal n

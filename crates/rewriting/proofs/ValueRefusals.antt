@@ -80,7 +80,7 @@ new-in n (y ∷ kept) v =
     (λ t _. record { s = y; is-kept = here refl; named = eqb-yes {a = offsetOf (y .item)} {b = v} t })
     (λ _ q. at-next y kept v (new-in (n + sizeOf (y .item)) kept v q))
 
-new-out : (n : ℕ) (kept : List Standing) (v : ℕ) → KeptAt kept v → isSome (newOf (placesFrom n kept) v) ≡ true
+pub new-out : (n : ℕ) (kept : List Standing) (v : ℕ) → KeptAt kept v → isSome (newOf (placesFrom n kept) v) ≡ true
 new-out n kept v k = subst (λ (z : ℕ). isSome (newOf (placesFrom n kept) z) ≡ true) (k .named) (has-new n kept (k .s) (k .is-kept))
 
 both-in : (a b : Bool) → T (a and b) → T a × T b
@@ -162,7 +162,7 @@ module _ (lists : Lists) (first : ℕ) (kept : List Standing) (depth : ℕ) wher
   place-in (index k) v q = tt
   place-in absolute v q = tt
 
-  place-out : (role : Role) (v : ℕ) → HasPlace kept depth role v → hasPlace lists map depth role v ≡ true
+  pub place-out : (role : Role) (v : ℕ) → HasPlace kept depth role v → hasPlace lists map depth role v ≡ true
   unfolding hasPlace HasPlace siblingOf
   place-out reference v k = new-out first kept v k
   place-out typeReference v (inl e) = one-left (eqb v 0) (isSome (newOf map v)) (yes-eqb {a = v} {b = 0} e)

@@ -16,12 +16,8 @@ use Rattle.marking.specs.Marks.{keptCount}
 use Rattle.marking.specs.Resolution.{marksIn}
 use Rattle.marking.specs.RefusalNumbers.{EntriesRefusal}
 use Rattle.rewriting.specs.Places.{Standing, keptFrom, placesFrom, sizeFrom}
-use Rattle.rewriting.specs.Rewriting.{Unit as Unit′, itemsIn, Lists, noLists, listsOf, refusalFrom, unitBytes, Room, Rewrite, untouched, rewritten, listsFit, collectOf}
-use Rattle.rewriting.specs.ValueRefusals.{AllFine}
-
--- "in stream order 8 (non-sibling target isn't mapped, or no sibling place found) or 9 (value doesn't fit)"
-abbrev pub ValueRefusal : ℕ → Type 0
-ValueRefusal n = OneOf (8 ∷ 9 ∷ []) n
+use Rattle.rewriting.specs.Rewriting.{Unit as Unit′, itemsIn, Lists, noLists, listsOf, unitBytes, Room, Rewrite, untouched, rewritten, listsFit, collectOf}
+use Rattle.rewriting.specs.ValueRefusals.{AllFine, FirstUnplaced, FirstTooWide}
 
 abbrev pub CollectRefusal : ℕ → Type 0
 CollectRefusal n = OneOf (1 ∷ 2 ∷ 3 ∷ 4 ∷ 5 ∷ 6 ∷ 7 ∷ 8 ∷ 9 ∷ 10 ∷ 11 ∷ 12 ∷ 13 ∷ 14 ∷ []) n
@@ -70,14 +66,16 @@ module _ (x : Sections) (room : Room) (typeUnits : Bool) (section : List ℕ) wh
     at-entries : {h : UnitHeader} {ds : List Placed} {n : ℕ} → headerOf section ≡ Header′ h
         → abbreviationsOf (x .abbreviations) (h .abbreviations) ≡ some ds
         → analysisOf x section (room .tables) ≡ notAnalysed n → EntriesRefusal n → RefusedAt n
-    at-lists : (u : UnitRead x room section) → listsFit room (listsIn u) ≡ false → RefusedAt 12
+    at-lists : (u : UnitRead x room section) → 0 < length (u .rows) → listsFit room (listsIn u) ≡ false → RefusedAt 12
     at-map : (u : UnitRead x room section) → Thinnable u → room .places < length (keptIn u) → RefusedAt 13
     at-output : (u : UnitRead x room section) → Thinnable u → length (keptIn u) ≤ room .places
         → room .bytes < u .header .first .0 + sizeFrom (keptIn u) → RefusedAt 14
-    at-values : (u : UnitRead x room section) → Thinnable u → length (keptIn u) ≤ room .places
-        → u .header .first .0 + sizeFrom (keptIn u) ≤ room .bytes → {n : ℕ}
-        → refusalFrom x (unitRead u) (listsIn u) (placesFrom (u .header .first .0) (keptIn u)) (keptIn u) ≡ n
-        → ValueRefusal n → RefusedAt n
+    at-place : (u : UnitRead x room section) → Thinnable u → length (keptIn u) ≤ room .places
+        → u .header .first .0 + sizeFrom (keptIn u) ≤ room .bytes
+        → FirstUnplaced x (unitRead u) (listsIn u) (u .header .first .0) (keptIn u) → RefusedAt 8
+    at-width : (u : UnitRead x room section) → Thinnable u → length (keptIn u) ≤ room .places
+        → u .header .first .0 + sizeFrom (keptIn u) ≤ room .bytes
+        → FirstTooWide x (unitRead u) (listsIn u) (u .header .first .0) (keptIn u) → RefusedAt 9
 
   -- ---- what is not refused is accepted
 

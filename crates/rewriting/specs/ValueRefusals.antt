@@ -1,14 +1,17 @@
 -- What the refusals 8 and 9 of collect mean (document 01, "Rewriting"), by the kept items of a unit: `eight-means`, `nine-means` and,
 -- of nothing refused, `none-means` (proofs/ValueRefusals.antt) say that they come exactly so.
-use Prim.Native.Nat.{ℕ, _≤_}
+use Prim.Native.Nat.{ℕ, _+_, _≤_, _<_}
 use mathlib.Core.Path.{_≡_}
 use mathlib.Core.List.{List, _∷_}
 use mathlib.Core.Logic.{_⊎_}
+use mathlib.Core.Option.{none, some}
 use Rattle.readers.specs.Layout.{Role, reference, typeReference, sibling, index, absolute, Piece, copied, linked, Read, Fit}
 use Rattle.marking.specs.Analysis.{Sections}
-use Rattle.marking.specs.Members.{Member}
-use Rattle.rewriting.specs.Places.{Standing, offsetOf, placesFrom}
-use Rattle.rewriting.specs.Rewriting.{Unit as Unit′, readsAt, Lists, newValue}
+use Rattle.marking.specs.Members.{Member, Nth}
+use Rattle.rewriting.specs.Places.{Standing, offsetOf, placesFrom, sizeFrom}
+use Rattle.rewriting.specs.Ascending.{Ascending}
+use Rattle.rewriting.specs.Maps.{Split}
+use Rattle.rewriting.specs.Rewriting.{Unit as Unit′, readsAt, Lists, listAt, newValue}
 
 -- ---- lists
 
@@ -51,6 +54,35 @@ module _ (kept : List Standing) where
   NoPlace depth sibling v = (KeptAt v → ⊥) × (KeptAfter depth v → ⊥)
   NoPlace depth (index k) v = ⊥
   NoPlace depth absolute v = ⊥
+
+-- ---- new values
+
+-- where a kept item comes to stand: behind the kept items before it
+module _ (first : ℕ) (kept : List Standing) where
+  -- n is the new offset of the kept item at v
+  pub record NewAt (v n : ℕ) : Type 0 where
+    pub s : Standing
+    pub split : Split kept s
+    pub named : offsetOf (s .item) ≡ v
+    pub new-is : n ≡ first + sizeFrom (split .before)
+
+  -- n is the new offset of the first kept item at v or after it that is no deeper than so
+  pub record NewAfter (depth v n : ℕ) : Type 0 where
+    pub s : Standing
+    pub split : Split kept s
+    pub after : v ≤ offsetOf (s .item)
+    pub no-deeper : s .depth ≤ depth
+    pub new-is : n ≡ first + sizeFrom (split .before)
+    pub first-one : (t : Standing) → Member t (split .before) → v ≤ offsetOf (t .item) → depth < t .depth
+
+  -- n is the new value of a number with a place; `newValue` is so (proofs/NewValues.antt, `new-value-law`), in refused units too
+  unfoldable pub IsNew : Lists → ℕ → Role → ℕ → ℕ → Type 0
+  IsNew lists depth reference v n = NewAt v n
+  IsNew lists depth typeReference v n = (v ≡ 0 → n ≡ 0) × ((v ≡ 0 → ⊥) → NewAt v n)
+  IsNew lists depth sibling v n = NewAt v n ⊎ ((KeptAt kept v → ⊥) × NewAfter depth v n)
+  IsNew lists depth (index k) v n =
+      (listAt lists k ≡ none → n ≡ v) × ((xs : List ℕ) → listAt lists k ≡ some xs → Ascending xs → Member v xs → Nth v n xs)
+  IsNew lists depth absolute v n = n ≡ v
 
 -- ---- the numbers of kept items
 
