@@ -1,4 +1,5 @@
-// Marks the survivors of a unit that is given as a graph: the parent of each entry, the references as pairs of entries, the roots.
+// Marks the survivors of a unit that is given as a graph: the parent of each entry, the references as pairs of entries, the roots. A mark is what gc.rs has as
+// `Liveness`: 1 dead, 2 retained, 3 live.
 ghost use mathlib.Core.Path.{_≡_};
 ghost use Prim.Native.Nat.{_/_, _<_};
 ghost use lib.ListN.{length, replicate};

@@ -25,8 +25,9 @@ pub data Encoded : Type 0 where
   infixed : ℕ → Encoded
   inleb : ℕ → Encoded
 
--- What a number that a rewriting may change stands for: the offset of an entry; such an offset or 0 for none (the type operands of 2.5.1.4);
--- DW_AT_sibling's offset; an index into the ranges, locations or strings (0, 1, 2); an offset from the section's start, which no rewriting changes.
+-- What a number that a rewriting may change stands for: the offset of an entry; such an offset or 0 for none (the type operands of
+-- 2.5.1.1 to 2.5.1.3 and 2.5.1.6); DW_AT_sibling's offset; an index into the ranges, locations or strings (0, 1, 2); an offset from
+-- the section's start, which no rewriting changes.
 pub data Role : Type 0 where
   reference : Role
   typeReference : Role

@@ -29,6 +29,7 @@ use Rattle.rewriting.proofs.Accepted.{survivorsIn, WasRewritten, WasUnt
 use Rattle.rewriting.proofs.ClosedMarks.{accepted-kept}
 use Rattle.rewriting.proofs.ReadableItems.{accepted-readable}
 use Rattle.rewriting.proofs.SameReferences.{accepted-references, each-references}
+use Rattle.rewriting.proofs.SameRoles.{accepted-roles}
 use Rattle.rewriting.proofs.HeaderBytes.{header-bytes-law}
 use Rattle.rewriting.proofs.AbsentLists.{absent-law}
 use Rattle.rewriting.proofs.Following.{accepted-header}
@@ -338,6 +339,7 @@ module _ (x : Sections) (room : Room) (typeUnits : Bool) (section : List ℕ) (w
         left = leftFrom (marks x room typeUnits section w answer) 0 [] (itemsIn x was);
         survivors = unit-survivors x section (room .tables) (it x room typeUnits section w answer .rows) (it x room typeUnits section w answer .accepted .analysis);
         references = same-references;
+        roles = accepted-roles x room section (it x room typeUnits section w answer .header) (it x room typeUnits section w answer .declared) (it x room typeUnits section w answer .rows) (it x room typeUnits section w answer .accepted);
         header-is = it x room typeUnits section w answer .accepted .header;
         declared-are = it x room typeUnits section w answer .accepted .declared;
         parted = parted (Kept (graphOf (it x room typeUnits section w answer .rows))) (marks x room typeUnits section w answer) (survivors-law x room typeUnits section w answer) 0 [] (itemsIn x was);

@@ -33,6 +33,7 @@ use Rattle.rewriting.specs.Rewriting.{Unit as Unit′, unitOf, itemsIn, 
 use Rattle.rewriting.specs.AbsentLists.{DeclaresOffset}
 use Rattle.rewriting.specs.HeaderBytes.{HeaderBytes}
 use Rattle.rewriting.specs.SameReferences.{UnitReferences}
+use Rattle.rewriting.specs.SameRoles.{UnitRoles}
 
 -- two lists, one by one
 unfoldable pub Pairwise : {A B : Type 0} → (A → B → Type 0) → List A → List B → Type 0
@@ -195,9 +196,11 @@ pub record Thinned (x : Sections) (typeUnits : Bool) (section : List ℕ) (w : R
   pub left : List Standing
   pub header-is : headerOf section ≡ Header′ header
   pub declared-are : abbreviationsOf (x .abbreviations) (header .abbreviations) ≡ some declared
-  -- the least set (marking, specs/UnitSurvivors.antt), by the references that are patched below (specs/SameReferences.antt)
+  -- the least set (marking, specs/UnitSurvivors.antt), by the references that are patched below
+  -- (specs/SameReferences.antt); which numbers are patched, by their forms (specs/SameRoles.antt)
   pub survivors : SurvivorsOf x section rows
   pub references : UnitReferences x section rows
+  pub roles : UnitRoles x section
   pub parted : Parted (Kept (graphOf rows)) 0 [] (itemsIn x (unitOf header section declared)) kept left
   -- "The kept count is the number of survivors." "An accepted unit is rewritten exactly when it has a dead entry."
   pub entries-are : w .entries ≡ length rows
