@@ -87,7 +87,7 @@ module _ (x : Sections) (u : Unit′) (typeUnits : Bool) (kept : List Standing) 
         });
       })
 
-  listed-law : (lists : Lists) → lists ≡ listsOf x u typeUnits kept → (k : ℕ) → k < 3 → listAt lists k ≡ some xs → ListLaw x u kept k xs
+  pub listed-law : (lists : Lists) → lists ≡ listsOf x u typeUnits kept → (k : ℕ) → k < 3 → listAt lists k ≡ some xs → ListLaw x u kept k xs
   listed-law lists q k h p = sorted-law k (list-is k h (sym (ap (λ (z : Lists). listAt z k) q) ∙ p))
 
 -- ---- a rewritten unit

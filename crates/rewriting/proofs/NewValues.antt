@@ -7,18 +7,22 @@ use mathlib.Core.Logic.{_⊎_, inl, inr, ⊎-elim}
 use mathlib.Core.Option.{Option, none, some}
 use native.Mathlib.Omega.{arith}
 use native.Mathlib.Nat.{add-zero, add-assoc}
-use lib.ListN.{length, getD}
+use lib.ListN.{length, getD, drop}
 use lib.Dec.{T, leb, eqb}
 use mir.Facts.{eqb-yes, leb-yes, leb-no, yes-leb}
 use Rattle.readers.specs.Choice.{pick, pick-either, _and_}
-use Rattle.readers.specs.Layout.{Role, reference, typeReference, sibling, index, absolute}
+use Rattle.readers.specs.Layout.{Encoded, Role, reference, typeReference, sibling, index, absolute, linked, Read, RunOf}
+use Rattle.readers.specs.Abbreviations.{declaredIn}
+use Rattle.marking.specs.Analysis.{Sections}
 use Rattle.marking.specs.Members.{Member, here, there, Nth, now, later}
 use Rattle.marking.proofs.Members.{nothing-in}
 use Rattle.rewriting.specs.Places.{Standing, offsetOf, sizeOf, Place, placesFrom, sizeFrom, newOf, firstFrom, orElse, siblingOf}
 use Rattle.rewriting.specs.Ascending.{Ascending}
 use Rattle.rewriting.specs.Indices.{rankOr}
-use Rattle.rewriting.specs.Rewriting.{Lists, listAt, isSome, newValue, hasPlace}
+use Rattle.rewriting.specs.Rewriting.{Unit as Unit′, readsOr, readsAt, listsOf, Lists, listAt, isSome, newValue, hasPlace}
 use Rattle.rewriting.specs.ValueRefusals.{KeptAt, HasPlace, NewAt, NewAfter, IsNew}
+use Rattle.rewriting.proofs.Roles.{index-kind}
+use Rattle.rewriting.proofs.CollectLaws.{ListLaw, listed-law}
 use Rattle.rewriting.proofs.Landing.{reference-lands, type-lands, no-type, sibling-lands}
 use Rattle.rewriting.proofs.Sorted.{rank-inside, rank-place}
 use Rattle.rewriting.proofs.ValueRefusals.{place-out, new-out}
@@ -135,3 +139,28 @@ module _ (lists : Lists) (first : ℕ) (kept : List Standing) (depth : ℕ) wher
         subst (λ (j : ℕ). Nth v j xs) (sym (ap (λ (o : Option (List ℕ)). rankOr o v) q)) (nth-at xs v _ (rank-inside xs v f m) (rank-place xs v f m)),
   )
   new-value-law absolute v h = refl
+
+-- ---- an index of a kept item is in its list
+
+record ReadBy (o : Option RunOf) (r : Read) : Type 0 where
+  run : RunOf
+  is : o ≡ some run
+  among : Member r (run .0)
+
+read-by : (x : Sections) (u : Unit′) (o : Option RunOf) (r : Read) → Member r (readsOr x u o) → ReadBy o r
+unfolding readsOr
+read-by x u none r m = absurd (nothing-in r m)
+read-by x u (some run) r m = record { run = run; is = refl; among = m }
+
+module _ (x : Sections) (u : Unit′) (typeUnits : Bool) (first : ℕ) (kept : List Standing) where
+  -- so its new value is its place in the list
+  pub new-index-law : (s : Standing) → Member s kept → (r : Read) → Member r (readsAt x u (offsetOf (s .item))) → (e : Encoded) (k v : ℕ)
+      → Member (linked e (index k) v) (r .pieces) → (xs : List ℕ) → listAt (listsOf x u typeUnits kept) k ≡ some xs
+      → Nth v (newValue (listsOf x u typeUnits kept) (placesFrom first kept) (s .depth) (index k) v) xs
+  unfolding readsAt newValue rankOr
+  new-index-law s m r i e k v p xs q =
+      let o : ReadBy _ r = read-by x u _ r i in
+      let h : k < 3 = index-kind (u .header .encoding) (x .abbreviations) (declaredIn (u .declared)) (drop (offsetOf (s .item)) (u .bytes)) (o .run) (o .is) r (o .among) e k v p in
+      let l : ListLaw x u kept k xs = listed-law x u typeUnits kept xs (listsOf x u typeUnits kept) refl k h q in
+      let n : Member v xs = l .members v .1 (record { standing = s; among = m; operand = record { read = r; among = i; operand = record { encoded = e; within = p } } }) in
+      subst (λ (j : ℕ). Nth v j xs) (sym (ap (λ (o : Option (List ℕ)). rankOr o v) q)) (nth-at xs v _ (l .ranks v n .inside) (l .ranks v n .placed))

@@ -9,7 +9,7 @@ use mathlib.Core.Logic.{_⊎_, inl, inr, ⊎-elim}
 use mathlib.Core.Option.{Option, none, some}
 use lib.ListN.{length, take}
 use lib.Dec.{T, leb, eqb}
-use mir.Facts.{eqb-no, leb-yes, leb-no, no-eqb, yes-leb, no-leb}
+use mir.Facts.{eqb-no, leb-yes, leb-no, yes-eqb, no-eqb, yes-leb, no-leb}
 use Rattle.readers.specs.Choice.{pick, pick-either, pick-no, pick-yes, _and_, _or_}
 use Rattle.readers.specs.RefusalNumbers.{OneOf}
 use Rattle.readers.specs.Abbreviations.{Placed, abbreviationsOf}
@@ -25,12 +25,13 @@ use Rattle.marking.specs.Resolution.{marksIn}
 use Rattle.marking.proofs.Refusals.{entries-refusal}
 use Rattle.rewriting.specs.Places.{Standing, Place, placesFrom, sizeFrom}
 use Rattle.rewriting.specs.Rewriting.{Unit as Unit′, Lists, Room, Rewrite, Collected, untouched, rewritten, refused, pieceRefusal, orNext, piecesRefusal, readsRefusal, refusalFrom, listsFit, orRefused, rewriteOf, marksCollected, rowsCollected, analysedCollected, declaredCollected, headerCollected, collectOf}
+use Rattle.rewriting.specs.ValueRefusals.{Unplaced, TooWide}
 use Rattle.rewriting.specs.Written.{groupsFit, paddedAnswer}
 use Rattle.rewriting.specs.declared.numbers.Padded.{Padded}
 use Rattle.rewriting.specs.declared.numbers.Padded.the-variants.{Written, Refused as Refused′}
-use Rattle.rewriting.specs.RefusalNumbers.{CollectRefusal, PaddedRefusal, UnitRead, unitRead, keptIn, listsIn, Thinnable, RefusedAt, at-header, at-abbreviations, at-entries, at-lists, at-map, at-output, at-place, at-width}
+use Rattle.rewriting.specs.RefusalNumbers.{CollectRefusal, PaddedRefusal, UnitRead, unitRead, keptIn, listsIn, Thinnable, RefusedNumber, RefusedAt, at-header, at-abbreviations, at-entries, at-lists, at-map, at-output, at-place, at-width}
 use Rattle.rewriting.proofs.Accepted.{kept-most}
-use Rattle.rewriting.proofs.ValueRefusals.{eight-means, nine-means}
+use Rattle.rewriting.proofs.ValueRefusals.{eight-means, nine-means, refused-number}
 use Rattle.rewriting.proofs.Accepting.{marks-on, dead-on, room-on}
 
 -- ---- 8 and 9: 0 where nothing is refused
@@ -82,6 +83,23 @@ late-value n (inl e) t = absurd (eqb-no {a = n} {b = 0} t e)
 late-value n (inr o) t = o
 
 -- ---- collect
+
+or-first : (a b : Bool) → T (not (a or b)) → T a → ⊥
+unfolding _or_
+or-first true b t h = t
+or-first false b t h = h
+
+or-rest : (a b : Bool) → T (not (a or b)) → T (not b)
+unfolding _or_
+or-rest true b t = absurd t
+or-rest false b t = t
+
+-- a number that is not one of some
+none-of : (ms : List ℕ) (n k : ℕ) → n ≡ k → T (not (isOneOf ms k)) → OneOf ms n → ⊥
+unfolding OneOf isOneOf _or_
+none-of [] n k e t o = o
+none-of (m ∷ ms) n k e t (inl q) = or-first (eqb k m) (isOneOf ms k) t (yes-eqb {a = k} {b = m} (sym e ∙ q))
+none-of (m ∷ ms) n k e t (inr o) = none-of ms n k e (or-rest (eqb k m) (isOneOf ms k) t) o
 
 is-true : (b : Bool) → T b → b ≡ true
 is-true true t = refl
@@ -220,6 +238,36 @@ module _ (x : Sections) (room : Room) (typeUnits : Bool) (section : List ℕ) wh
       (no-leb {a = u .header .first .0 + sizeFrom (kept u)} {b = room .bytes} (omega arith))
   refused-law n (at-place u d p b f) = value-refused u d p b 8 (omega arith) (eight-means x (unit u) (lists u) (u .header .first .0) (kept u) .1 f)
   refused-law n (at-width u d p b f) = value-refused u d p b 9 (omega arith) (nine-means x (unit u) (lists u) (u .header .first .0) (kept u) .1 f)
+
+  eight-at : (n : ℕ) → n ≡ 8 → RefusedAt x room typeUnits section n → RefusedNumber x room typeUnits section Unplaced
+  unfolding isOneOf areOf OneOf _or_ _and_
+  eight-at n e (at-header q r) = absurd (none-of (1 ∷ 2 ∷ []) n 8 e tt r)
+  eight-at n e (at-abbreviations q d) = absurd (omega arith)
+  eight-at n e (at-entries q d a r) = absurd (none-of (4 ∷ 10 ∷ 5 ∷ 6 ∷ 7 ∷ 11 ∷ []) n 8 e tt r)
+  eight-at n e (at-lists u m l) = absurd (omega arith)
+  eight-at n e (at-map u d p) = absurd (omega arith)
+  eight-at n e (at-output u d p b) = absurd (omega arith)
+  eight-at n e (at-place u d p b f) = record { u = u; thinnable = d; number = refused-number x (unit u) (lists u) (u .header .first .0) (kept u) _ f }
+  eight-at n e (at-width u d p b f) = absurd (omega arith)
+
+  nine-at : (n : ℕ) → n ≡ 9 → RefusedAt x room typeUnits section n → RefusedNumber x room typeUnits section TooWide
+  unfolding isOneOf areOf OneOf _or_ _and_
+  nine-at n e (at-header q r) = absurd (none-of (1 ∷ 2 ∷ []) n 9 e tt r)
+  nine-at n e (at-abbreviations q d) = absurd (omega arith)
+  nine-at n e (at-entries q d a r) = absurd (none-of (4 ∷ 10 ∷ 5 ∷ 6 ∷ 7 ∷ 11 ∷ []) n 9 e tt r)
+  nine-at n e (at-lists u m l) = absurd (omega arith)
+  nine-at n e (at-map u d p) = absurd (omega arith)
+  nine-at n e (at-output u d p b) = absurd (omega arith)
+  nine-at n e (at-place u d p b f) = absurd (omega arith)
+  nine-at n e (at-width u d p b f) = record { u = u; thinnable = d; number = refused-number x (unit u) (lists u) (u .header .first .0) (kept u) _ f }
+
+  -- 8 only where a number of a kept item has no place
+  pub eight-law : collectOf x room typeUnits section ≡ refused 8 → RefusedNumber x room typeUnits section Unplaced
+  eight-law q = eight-at 8 refl (refusal-law 8 q)
+
+  -- 9 only where one has a place, and its new value does not fit
+  pub nine-law : collectOf x room typeUnits section ≡ refused 9 → RefusedNumber x room typeUnits section TooWide
+  nine-law q = nine-at 9 refl (refusal-law 9 q)
 
   number-at : (n : ℕ) → RefusedAt x room typeUnits section n → CollectRefusal n
   unfolding isOneOf areOf _or_ _and_

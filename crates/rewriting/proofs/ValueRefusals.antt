@@ -16,7 +16,7 @@ use Rattle.marking.specs.Members.{Member, here, there}
 use Rattle.marking.proofs.Members.{nothing-in}
 use Rattle.rewriting.specs.Places.{Standing, offsetOf, sizeOf, Place, placesFrom, newOf, firstFrom, orElse, siblingOf}
 use Rattle.rewriting.specs.Rewriting.{Unit as Unit′, readsAt, Lists, isSome, newValue, hasPlace, fits, pieceRefusal, orNext, piecesRefusal, readsRefusal, refusalFrom}
-use Rattle.rewriting.specs.ValueRefusals.{Each, First, this, next, KeptAt, KeptAfter, HasPlace, NoPlace, Fine, Unplaced, TooWide, FineRead, FineItem, BadRead, BadItem, AllFine, FirstUnplaced, FirstTooWide}
+use Rattle.rewriting.specs.ValueRefusals.{Each, First, this, next, KeptAt, KeptAfter, HasPlace, NoPlace, Fine, Unplaced, TooWide, FineRead, FineItem, BadRead, BadItem, AllFine, FirstUnplaced, FirstTooWide, NumberOf}
 use Rattle.rewriting.proofs.Maps.{has-new}
 use Rattle.rewriting.proofs.Fitting.{fit-by}
 
@@ -71,7 +71,6 @@ at-next y kept v k = record { s = k .s; is-kept = there (k .is-kept); named = k 
 after-next : (y : Standing) (kept : List Standing) (depth v : ℕ) → KeptAfter kept depth v → KeptAfter (y ∷ kept) depth v
 after-next y kept depth v k = record { s = k .s; is-kept = there (k .is-kept); after = k .after; no-deeper = k .no-deeper }
 
-
 new-in : (n : ℕ) (kept : List Standing) (v : ℕ) → isSome (newOf (placesFrom n kept) v) ≡ true → KeptAt kept v
 unfolding placesFrom newOf isSome
 new-in n [] v = λ q. absurd (false≢true q)
@@ -100,7 +99,7 @@ after-in n (y ∷ kept) depth v =
     pick-either (λ (o : Option ℕ). isSome o ≡ true → KeptAfter (y ∷ kept) depth v) (leb v (offsetOf (y .item)) and leb (y .depth) depth) (some n)
     (firstFrom (placesFrom (n + sizeOf (y .item)) kept) depth v)
     (λ t _. let p = both-in (leb v (offsetOf (y .item))) (leb (y .depth) depth) t in
-      record { s = y; is-kept = here refl; after = leb-yes {a = v} {b = offsetOf (y .item)} (p .0); no-deeper = leb-yes {a = y .depth} {b = depth} (p .1) })
+    record { s = y; is-kept = here refl; after = leb-yes {a = v} {b = offsetOf (y .item)} (p .0); no-deeper = leb-yes {a = y .depth} {b = depth} (p .1) })
     (λ _ q. after-next y kept depth v (after-in (n + sizeOf (y .item)) kept depth v q))
 
 after-by : (n : ℕ) (kept : List Standing) (depth v : ℕ) (s : Standing) → Member s kept → v ≤ offsetOf (s .item) → s .depth ≤ depth
@@ -233,9 +232,12 @@ module _ (lists : Lists) (first : ℕ) (kept : List Standing) (depth : ℕ) wher
     link-told =
         pick-either Told placed (pick wide 0 9) 8
         (λ p. pick-either Told wide 0 9
-          (λ w. (λ _. (place-in role v (so-is placed p), fit-by lists map depth e (newValue lists map depth role v) w), λ q. absurd (omega arith), λ q. absurd (omega arith)))
-          (λ w. (λ q. absurd (omega arith), λ q. absurd (omega arith),
-            λ _. (place-in role v (so-is placed p), λ f. never wide w (fit-out e (newValue lists map depth role v) f)))))
+        (λ w. (λ _. (place-in role v (so-is placed p), fit-by lists map depth e (newValue lists map depth role v) w), λ q. absurd (omega arith), λ q. absurd (omega arith)))
+        (λ w. (
+          λ q. absurd (omega arith),
+          λ q. absurd (omega arith),
+          λ _. (place-in role v (so-is placed p), λ f. never wide w (fit-out e (newValue lists map depth role v) f)),
+        )))
         (λ p. (λ q. absurd (omega arith), λ _. without role v (λ h. never placed p (is-so placed (place-out role v h))), λ q. absurd (omega arith)))
 
     link-fine : HasPlace kept depth role v → Fit e (newValue lists map depth role v) → pieceRefusal lists map depth (linked e role v) ≡ 0
@@ -311,3 +313,25 @@ module _ (x : Sections) (u : Unit′) (lists : Lists) (first : ℕ) (kept : List
   -- nothing is refused where every number has a place and fits, and only there
   pub none-means : (refusalFrom x u lists (placesFrom first kept) kept ≡ 0) ↔ AllFine x u lists first kept
   none-means = items-mean x u lists first kept (Unplaced lists first kept) 8 (omega arith) (λ d p. piece-eight lists first kept d p) .clean kept
+
+-- ---- the number that is refused
+
+record Found {A : Type 0} (Bad : A → Type 0) (xs : List A) : Type 0 where
+  it : A
+  among : Member it xs
+  bad : Bad it
+
+found : {A : Type 0} (Good Bad : A → Type 0) (xs : List A) → First Good Bad xs → Found Bad xs
+found Good Bad [] f = elim f [ ]
+found Good Bad (a ∷ xs) (this b) = record { it = a; among = here refl; bad = b }
+found Good Bad (a ∷ xs) (next g f) = let r : Found Bad xs = found Good Bad xs f in record { it = r .it; among = there (r .among); bad = r .bad }
+
+pub refused-number : (x : Sections) (u : Unit′) (lists : Lists) (first : ℕ) (kept : List Standing) (Bad : ℕ → Piece → Type 0)
+    → First (FineItem x u lists first kept) (BadItem x u lists first kept Bad) kept → NumberOf x u lists first kept Bad
+refused-number x u lists first kept Bad f =
+    let i : Found (BadItem x u lists first kept Bad) kept = found (FineItem x u lists first kept) (BadItem x u lists first kept Bad) kept f in
+    let s : Standing = i .it in
+    let j : Found (BadRead x u lists first kept Bad (s .depth)) (readsAt x u (offsetOf (s .item))) =
+    found (FineRead x u lists first kept (s .depth)) (BadRead x u lists first kept Bad (s .depth)) (readsAt x u (offsetOf (s .item))) (i .bad) in
+    let k : Found (Bad (s .depth)) (j .it .pieces) = found (Fine lists first kept (s .depth)) (Bad (s .depth)) (j .it .pieces) (j .bad) in
+    record { s = s; r = j .it; p = k .it; is-kept = i .among; among = j .among; operand = k .among; bad = k .bad }

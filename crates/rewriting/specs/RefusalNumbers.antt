@@ -9,6 +9,7 @@ use lib.ListN.{length, take}
 use Rattle.readers.specs.RefusalNumbers.{OneOf, HeaderRefusal}
 use Rattle.readers.specs.Abbreviations.{Placed, abbreviationsOf}
 use Rattle.readers.specs.Header.{headerOf}
+use Rattle.readers.specs.Layout.{Piece}
 use Rattle.readers.specs.declared.header.UnitHeader.{UnitHeader}
 use Rattle.readers.specs.declared.header.HeaderRead.the-variants.{Unit as Header′, Refused}
 use Rattle.marking.specs.Analysis.{Sections, Row, analysed, refused as notAnalysed, analysisOf}
@@ -16,8 +17,9 @@ use Rattle.marking.specs.Marks.{keptCount}
 use Rattle.marking.specs.Resolution.{marksIn}
 use Rattle.marking.specs.RefusalNumbers.{EntriesRefusal}
 use Rattle.rewriting.specs.Places.{Standing, keptFrom, placesFrom, sizeFrom}
-use Rattle.rewriting.specs.Rewriting.{Unit as Unit′, itemsIn, Lists, noLists, listsOf, unitBytes, Room, Rewrite, untouched, rewritten, listsFit, collectOf}
-use Rattle.rewriting.specs.ValueRefusals.{AllFine, FirstUnplaced, FirstTooWide}
+use Rattle.rewriting.specs.Rewriting.{Unit as Unit′, itemsIn, Lists, noLists, listsOf, unitBytes}
+use Rattle.rewriting.specs.Rewriting.{Room, Rewrite, untouched, rewritten, listsFit, collectOf}
+use Rattle.rewriting.specs.ValueRefusals.{AllFine, FirstUnplaced, FirstTooWide, NumberOf}
 
 abbrev pub CollectRefusal : ℕ → Type 0
 CollectRefusal n = OneOf (1 ∷ 2 ∷ 3 ∷ 4 ∷ 5 ∷ 6 ∷ 7 ∷ 8 ∷ 9 ∷ 10 ∷ 11 ∷ 12 ∷ 13 ∷ 14 ∷ []) n
@@ -76,6 +78,12 @@ module _ (x : Sections) (room : Room) (typeUnits : Bool) (section : List ℕ) wh
     at-width : (u : UnitRead x room section) → Thinnable u → length (keptIn u) ≤ room .places
         → u .header .first .0 + sizeFrom (keptIn u) ≤ room .bytes
         → FirstTooWide x (unitRead u) (listsIn u) (u .header .first .0) (keptIn u) → RefusedAt 9
+
+  -- 8 and 9: a unit with a dead entry that has a number without a place, or one too wide
+  pub record RefusedNumber (Bad : Lists → ℕ → List Standing → ℕ → Piece → Type 0) : Type 0 where
+    pub u : UnitRead x room section
+    pub thinnable : Thinnable u
+    pub number : NumberOf x (unitRead u) (listsIn u) (u .header .first .0) (keptIn u) (Bad (listsIn u) (u .header .first .0) (keptIn u))
 
   -- ---- what is not refused is accepted
 

@@ -92,12 +92,12 @@ module _ (lists : Lists) (first : ℕ) (kept : List Standing) (depth : ℕ) wher
   Fine (copied l) = Unit {0}
   Fine (linked e role v) = HasPlace kept depth role v × Fit e (newValue lists (placesFrom first kept) depth role v)
 
-  -- 8
+  -- 8: "non-sibling target isn't mapped, or no sibling place found"
   unfoldable pub Unplaced : Piece → Type 0
   Unplaced (copied l) = ⊥
   Unplaced (linked e role v) = NoPlace kept depth role v
 
-  -- 9
+  -- 9: "value doesn't fit"
   unfoldable pub TooWide : Piece → Type 0
   TooWide (copied l) = ⊥
   TooWide (linked e role v) = HasPlace kept depth role v × (Fit e (newValue lists (placesFrom first kept) depth role v) → ⊥)
@@ -129,3 +129,13 @@ module _ (x : Sections) (u : Unit′) (lists : Lists) (first : ℕ) (kept : List
   -- or has one, and its new value does not fit
   abbrev pub FirstTooWide : Type 0
   FirstTooWide = First FineItem (BadItem (TooWide lists first kept)) kept
+
+  -- a number of a kept item that is so
+  pub record NumberOf (Bad : ℕ → Piece → Type 0) : Type 0 where
+    pub s : Standing
+    pub r : Read
+    pub p : Piece
+    pub is-kept : Member s kept
+    pub among : Member r (readsAt x u (offsetOf (s .item)))
+    pub operand : Member p (r .pieces)
+    pub bad : Bad (s .depth) p
