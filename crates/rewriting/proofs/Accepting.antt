@@ -1,20 +1,20 @@
 -- A unit that is read and has no cause of a refusal is accepted. Assumes nothing.
 use Prim.Native.Nat.{ℕ, _+_, _≤_, _<_}
-use mathlib.Core.Path.{_≡_, refl, sym, ap, _∙_}
+use mathlib.Core.Path.{_≡_, refl, ap, _∙_}
 use mathlib.Core.Bool.{Bool, true, false, false≢true}
 use mathlib.Core.List.{List, [], _∷_}
 use native.Mathlib.Omega.{arith}
 use lib.ListN.{length}
 use lib.Dec.{T, leb, eqb}
 use mir.Facts.{yes-eqb, no-eqb, yes-leb}
-use Rattle.readers.specs.Choice.{pick, pick-yes, pick-no}
+use Rattle.readers.specs.Choice.{pick-yes, pick-no}
 use Rattle.marking.specs.Analysis.{Sections, Row}
 use Rattle.marking.specs.Marks.{keptCount}
 use Rattle.marking.specs.Resolution.{marksIn}
 use Rattle.marking.proofs.UnitLaws.{marks-each}
 use Rattle.rewriting.specs.Places.{Standing, keptFrom, Place, placesFrom, sizeFrom}
-use Rattle.rewriting.specs.Rewriting.{Unit as Unit′, itemsIn, Lists, noLists, refusalFrom, Room, Collected, untouched, rewritten, refused, listsFit, orRefused, rewriteOf, marksCollected, rowsCollected, analysedCollected, declaredCollected, headerCollected, collectOf}
-use Rattle.rewriting.specs.RefusalNumbers.{UnitRead, unitRead, keptIn, listsIn, Rewritable, Acceptable, rewriteIn, AcceptedAs}
+use Rattle.rewriting.specs.Rewriting.{Unit as Unit′, itemsIn, Lists, noLists, refusalFrom, Room, untouched, rewritten, listsFit, orRefused, rewriteOf, marksCollected, rowsCollected, analysedCollected, declaredCollected, headerCollected, collectOf}
+use Rattle.rewriting.specs.RefusalNumbers.{UnitRead, unitRead, keptIn, listsIn, Acceptable, rewriteIn, AcceptedAs}
 use Rattle.rewriting.proofs.ValueRefusals.{none-means}
 
 so : (b : Bool) → b ≡ true → T b

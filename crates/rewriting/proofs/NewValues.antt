@@ -3,23 +3,22 @@ use Prim.Native.Nat.{ℕ, zero, suc, _+_, _≤_, _<_}
 use mathlib.Core.Path.{_≡_, refl, sym, ap, _∙_, subst}
 use mathlib.Core.Bool.{Bool, true, false, not, false≢true}
 use mathlib.Core.List.{List, [], _∷_}
-use mathlib.Core.Logic.{_⊎_, inl, inr, ⊎-elim}
+use mathlib.Core.Logic.{_⊎_, inl, inr}
 use mathlib.Core.Option.{Option, none, some}
 use native.Mathlib.Omega.{arith}
 use native.Mathlib.Nat.{add-zero, add-assoc}
 use lib.ListN.{length, getD, drop}
 use lib.Dec.{T, leb, eqb}
 use mir.Facts.{eqb-yes, leb-yes, leb-no, yes-leb}
-use Rattle.readers.specs.Choice.{pick, pick-either, _and_}
+use Rattle.readers.specs.Choice.{pick-either, _and_}
 use Rattle.readers.specs.Layout.{Encoded, Role, reference, typeReference, sibling, index, absolute, linked, Read, RunOf}
 use Rattle.readers.specs.Abbreviations.{declaredIn}
 use Rattle.marking.specs.Analysis.{Sections}
 use Rattle.marking.specs.Members.{Member, here, there, Nth, now, later}
 use Rattle.marking.proofs.Members.{nothing-in}
 use Rattle.rewriting.specs.Places.{Standing, offsetOf, sizeOf, Place, placesFrom, sizeFrom, newOf, firstFrom, orElse, siblingOf}
-use Rattle.rewriting.specs.Ascending.{Ascending}
 use Rattle.rewriting.specs.Indices.{rankOr}
-use Rattle.rewriting.specs.Rewriting.{Unit as Unit′, readsOr, readsAt, listsOf, Lists, listAt, isSome, newValue, hasPlace}
+use Rattle.rewriting.specs.Rewriting.{Unit as Unit′, readsOr, readsAt, listsOf, Lists, listAt, isSome, newValue}
 use Rattle.rewriting.specs.ValueRefusals.{KeptAt, HasPlace, NewAt, NewAfter, IsNew}
 use Rattle.rewriting.proofs.Roles.{index-kind}
 use Rattle.rewriting.proofs.CollectLaws.{ListLaw, listed-law}

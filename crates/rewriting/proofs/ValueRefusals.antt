@@ -6,10 +6,9 @@ use mathlib.Core.List.{List, [], _∷_}
 use mathlib.Core.Logic.{_⊎_, inl, inr, ⊎-elim, _↔_}
 use mathlib.Core.Option.{Option, none, some}
 use native.Mathlib.Omega.{arith}
-use lib.ListN.{length}
 use lib.Dec.{T, ltb, leb, eqb}
 use mir.Facts.{eqb-yes, eqb-no, yes-eqb, no-eqb, leb-yes, yes-leb, yes-ltb}
-use Rattle.readers.specs.Choice.{pick, pick-either, pick-yes, pick-no, either, _and_, _or_}
+use Rattle.readers.specs.Choice.{pick, pick-either, pick-yes, pick-no, _and_, _or_}
 use Rattle.readers.specs.Layout.{Encoded, infixed, inleb, Role, reference, typeReference, sibling, index, absolute, Piece, copied, linked, Read, Fit}
 use Rattle.marking.specs.Analysis.{Sections}
 use Rattle.marking.specs.Members.{Member, here, there}
