@@ -1,4 +1,5 @@
 pub mod Choice
+pub mod Codes
 pub mod Numbers
 pub mod Layout
 pub mod Tokens

@@ -5,6 +5,8 @@ ghost use lib.ListN.{length, getD};
 ghost use Rattle.readers.specs.Choice.{zeros};
 ghost use Rattle.readers.specs.Abbreviations.{specAt, implicitSpec, pastAttributes, headAt, declarationAt, declarationsFrom, searchAt, checkedOf, countOf, Gathered, indexOf, holdsCode, headIn, findHead};
 ghost use Rattle.readers.specs.declared.abbreviations.Checked.the-variants.{Accepted};
+use crate::codes::DW_CHILDREN_yes;
+use crate::codes::DW_FORM_implicit_const;
 use crate::cursor::Cursor;
 use crate::cursor::Moved;
 use crate::cursor::Number;
@@ -64,7 +66,7 @@ pub enum Found {
 fn implicit_spec(s: &[u8], name: u64, form: u64, c: Cursor) -> SpecStep
     ensures { λ r. ⌜ r ≡ implicitSpec (now (s .entry)) name form (c .at) ⌝ }
 {
-    if form != 0x21 {
+    if form != DW_FORM_implicit_const {
         return SpecStep::Attribute(AttributeSpec {
             name,
             form,
@@ -146,14 +148,14 @@ impl Cursor {
         let Number::Value(children, attributes) = after_tag.fixed(s, 1, false) else {
             return DeclarationStep::Unreadable;
         };
-        if children > 1 {
+        if children > DW_CHILDREN_yes {
             return DeclarationStep::Unreadable;
         }
         DeclarationStep::Declaration(
             Declaration {
                 code,
                 tag,
-                children: children == 1,
+                children: children == DW_CHILDREN_yes,
                 attributes,
             },
             attributes,
