@@ -16,7 +16,7 @@ use Rattle.readers.specs.Layout.{short}
 use Rattle.readers.specs.Scan.{Turn, more, stop, bad, Scanned, push, onTurn, scanWithin, scan, Goes, scan-stop, scan-bad, scan-more}
 use Rattle.readers.specs.Cursors.{lebAt, fixedAt}
 use Rattle.readers.specs.Slots.{codeOf, slotCode, slotOf, Twice, Ordered}
-use Rattle.readers.specs.Abbreviations.{scannedTo, pastAttributes, numberDeclaration, movedDeclaration, headAt, wholeDeclaration, declarationAt, Placed, declarationTurn, declarationsFrom, declaredIn, isFound, distinct, checkDistinct, abbreviationsOf, asChecked, checkedOf, countOf, insertByCode, byCode, slotsOf, Gathered, indexed, indexFor, indexOf, searchTurn, foundBy, searchAt, declarationFound, holdsCode, headIn, findHead, findAt, wholeFound}
+use Rattle.readers.specs.Abbreviations.{scannedTo, pastAttributes, numberDeclaration, movedDeclaration, headAt, wholeDeclaration, declarationAt, Placed, declarationTurn, declarationsFrom, declaredIn, isFound, distinct, checkDistinct, abbreviationsOf, asChecked, checkedOf, accepted, countOf, insertByCode, byCode, slotsOf, Gathered, indexed, indexFor, indexOf, searchTurn, foundBy, searchAt, declarationFound, holdsCode, headIn, findHead, findAt, wholeFound}
 use Rattle.readers.specs.declared.cursor.Cursor.{Cursor}
 use Rattle.readers.specs.declared.cursor.Number.{Number}
 use Rattle.readers.specs.declared.cursor.Number.the-variants.{Value, Unreadable}
@@ -27,6 +27,8 @@ use Rattle.readers.specs.declared.abbreviations.Declaration.{Declaration
 use Rattle.readers.specs.declared.abbreviations.DeclarationStep.{DeclarationStep}
 use Rattle.readers.specs.declared.abbreviations.DeclarationStep.the-variants.{Declaration as Declared, Last, Unreadable as NoDeclaration}
 use Rattle.readers.specs.declared.abbreviations.Checked.{Checked}
+use Rattle.readers.specs.declared.slots.Arranged.{Arranged}
+use Rattle.readers.specs.declared.slots.Arranged.the-variants.{Ascending, Repeated}
 use Rattle.readers.specs.declared.abbreviations.Checked.the-variants.{Accepted, Refused}
 use Rattle.readers.specs.declared.abbreviations.Count.{Count}
 use Rattle.readers.specs.declared.abbreviations.Count.the-variants.{Of, Unreadable as Uncounted}
@@ -819,7 +821,7 @@ module _ (s : List ℕ) (from : ℕ) where
     listed-coded : Coded s ds
     listed-coded = chain-coded (closed-of s ds from end g .chain)
 
-    module _ (m : List ℕ) (o : Ordered s (slotsOf ds) m Accepted) where
+    module _ (m : List ℕ) (o : Ordered s (slotsOf ds) m Ascending) where
       ordered-slots : m ≡ slotsOf (byCode ds)
       ordered-slots =
           let q : Drawn (slotsOf ds) m = drawn-of (o .swaps) in
@@ -836,7 +838,7 @@ module _ (s : List ℕ) (from : ℕ) where
           bind-at checkDistinct g
           ∙ check-yes _ _ (order-distinct s ds listed-coded (subst (Strict (slotCode s)) ordered-slots (strict-of (slotCode s) m (o .ascending refl))))
 
-    ordered-refused : (m : List ℕ) → Ordered s (slotsOf ds) m Refused → abbreviationsOf s from ≡ none
+    ordered-refused : (m : List ℕ) → Ordered s (slotsOf ds) m Repeated → abbreviationsOf s from ≡ none
     unfolding abbreviationsOf checkDistinct
     ordered-refused m o =
         let q : Drawn (slotsOf ds) m = drawn-of (o .swaps) in
@@ -863,25 +865,25 @@ module _ (s : List ℕ) (from : ℕ) where
         below a b h d = ⊎-elim (λ t. ltb-yes {a = a} {b = b} t) (λ t. let u : b ≤ a = ltb-no {a = a} {b = b} t in absurd (d (omega arith))) (either (ltb a b))
 
     -- what the slots are in order, and the rest of the index
-    ordered-index : (m : List ℕ) (n : ℕ) (r : Checked) → Ordered s (slotsOf ds) m r → length ds ≤ n
-        → (r ≡ checkedOf s from) × (r ≡ Accepted → m ++ drop (length ds) (zeros n) ≡ indexOf s from n)
-    unfolding checkedOf asChecked indexOf indexFor indexed
-    ordered-index m n Accepted o h =
+    ordered-index : (m : List ℕ) (n : ℕ) (a : Arranged) → Ordered s (slotsOf ds) m a → length ds ≤ n
+        → (accepted a ≡ checkedOf s from) × (accepted a ≡ Accepted → m ++ drop (length ds) (zeros n) ≡ indexOf s from n)
+    unfolding checkedOf asChecked accepted indexOf indexFor indexed
+    ordered-index m n Ascending o h =
         let a : abbreviationsOf s from ≡ some ds = ordered-accepted m o in (
           sym (ap asChecked a),
           λ _. ap (λ (l : List ℕ). l ++ drop (length ds) (zeros n)) (ordered-slots m o)
               ∙ sym (ap (indexFor n) a ∙ pick-yes _ _ _ (yes-leb {a = length ds} {b = length (zeros n)} (omega (arith, length-replicate {A = ℕ} n 0)))),
         )
-    ordered-index m n Refused o h = (sym (ap asChecked (ordered-refused m o)), λ e. absurd (refused-not e))
+    ordered-index m n Repeated o h = (sym (ap asChecked (ordered-refused m o)), λ e. absurd (refused-not e))
 
 module _ (s : List ℕ) (from count : ℕ) (l₀ l : List ℕ) (same : length l ≡ length l₀) (h : Of count ≡ countOf (declarationsFrom s from)) where
   pub over-filled : (m : List ℕ) → length l < count → m ≡ zeros (length l) → m ≡ indexOf s from (length l₀)
   over-filled m g e = e ∙ ap zeros same ∙ over-index s from count (length l₀) h (omega arith)
 
   -- the slots ordered in their part of the index
-  pub filled-index : (m : List ℕ) (r : Checked) → l₀ ≡ zeros (length l₀) → Gathered s from l₀ l → count ≤ length l → Ordered s (take count l) m r
-      → (r ≡ checkedOf s from) × (r ≡ Accepted → m ++ drop count l ≡ indexOf s from (length l₀))
-  filled-index m r z w i o =
+  pub filled-index : (m : List ℕ) (r : Checked) (a : Arranged) → l₀ ≡ zeros (length l₀) → Gathered s from l₀ l → count ≤ length l
+      → Ordered s (take count l) m a → r ≡ accepted a → (r ≡ checkedOf s from) × (r ≡ Accepted → m ++ drop count l ≡ indexOf s from (length l₀))
+  filled-index m r a z w i o u =
       let n : ℕ = length l₀ in
       let q : (r : Scanned Placed ℕ) × (declarationsFrom s from ≡ some r) × (count ≡ length (r .0)) = counted-list s from count (declarationsFrom s from) h in
       let ds : List Placed = q .0 .0 in
@@ -890,9 +892,9 @@ module _ (s : List ℕ) (from count : ℕ) (l₀ l : List ℕ) (same : length l 
       let c : length (slotsOf ds) ≡ count = slots-length ds ∙ k in
       let t : take count l ≡ slotsOf ds = ap (take count) e ∙ take-at (slotsOf ds) (drop (length ds) (zeros n)) count c in
       let d : drop count l ≡ drop (length ds) (zeros n) = ap (drop count) e ∙ drop-at (slotsOf ds) (drop (length ds) (zeros n)) count c in
-      let x : (r ≡ checkedOf s from) × (r ≡ Accepted → m ++ drop (length ds) (zeros n) ≡ indexOf s from n) =
-      ordered-index s from ds (q .0 .1) (q .1) m n r (subst (λ (y : List ℕ). Ordered s y m r) t o) (omega arith) in
-      (x .0, λ a. ap (λ (y : List ℕ). m ++ y) d ∙ x .1 a)
+      let x : (accepted a ≡ checkedOf s from) × (accepted a ≡ Accepted → m ++ drop (length ds) (zeros n) ≡ indexOf s from n) =
+      ordered-index s from ds (q .0 .1) (q .1) m n a (subst (λ (y : List ℕ). Ordered s y m a) t o) (omega arith) in
+      (u ∙ x .0, λ b. ap (λ (y : List ℕ). m ++ y) d ∙ x .1 (sym u ∙ b))
 
 -- ---- lookup
 

@@ -27,6 +27,8 @@ use Rattle.readers.specs.declared.abbreviations.DeclarationStep.{Declara
 use Rattle.readers.specs.declared.abbreviations.DeclarationStep.the-variants.{Declaration as Declared, Last, Unreadable as NoDeclaration}
 use Rattle.readers.specs.declared.abbreviations.Checked.{Checked}
 use Rattle.readers.specs.declared.abbreviations.Checked.the-variants.{Accepted, Refused}
+use Rattle.readers.specs.declared.slots.Arranged.{Arranged}
+use Rattle.readers.specs.declared.slots.Arranged.the-variants.{Ascending, Repeated}
 use Rattle.readers.specs.declared.abbreviations.Count.{Count}
 use Rattle.readers.specs.declared.abbreviations.Count.the-variants.{Of, Unreadable as Uncounted}
 use Rattle.readers.specs.declared.abbreviations.Found.{Found}
@@ -145,6 +147,11 @@ asChecked (some ds) = Accepted
 
 unfoldable pub checkedOf : List ℕ → ℕ → Checked
 checkedOf s from = asChecked (abbreviationsOf s from)
+
+-- declarations whose codes ascend, or of which two have one code
+unfoldable pub accepted : Arranged → Checked
+accepted Ascending = Accepted
+accepted Repeated = Refused
 
 -- how many there are
 unfoldable pub countOf : Option (Scanned Placed ℕ) → Count
