@@ -89,6 +89,14 @@ useOf name f =
     (pick (eqb f «DW_FORM_strx» or (leb «DW_FORM_strx1» f and leb f «DW_FORM_strx4») or eqb f «DW_FORM_GNU_str_index») (as′ (index 2))
     plain))))
 
+-- The list that an index of a form counts in: rnglistx 0; loclistx 1; strx, strx1 to strx4 and GNU_str_index 2; 3 for a form that is no index.
+unfoldable pub listForm : ℕ → ℕ
+listForm f =
+    pick (eqb f «DW_FORM_rnglistx») 0
+    (pick (eqb f «DW_FORM_loclistx») 1
+    (pick (eqb f «DW_FORM_strx» or (leb «DW_FORM_strx1» f and leb f «DW_FORM_strx4») or eqb f «DW_FORM_GNU_str_index») 2
+    3))
+
 -- Document 01, "Readers": a sibling in exprloc, and implicit_const under indirect, are unreadable.
 unfoldable pub valueToken : Encoding → Bool → ℕ → ℕ → Token
 valueToken e indirect name f =

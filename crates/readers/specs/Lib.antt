@@ -17,6 +17,7 @@ pub mod Lists
 pub mod Slots
 pub mod Abbreviations
 pub mod Entries
+pub mod EntryAttributes
 pub mod Stream
 pub mod Nesting
 pub mod Refusals

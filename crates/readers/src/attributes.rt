@@ -1,6 +1,6 @@
 // Values of attributes, by their forms (DWARF 5, 7.5.6).
 ghost use mathlib.Core.Path.{_≡_};
-ghost use Rattle.readers.specs.Forms.{formToken, valueToken};
+ghost use Rattle.readers.specs.Forms.{formToken, listForm, valueToken};
 ghost use Rattle.readers.specs.Fields.{tokenAt};
 ghost use Rattle.readers.specs.Entries.{attributeAt, attributeEnd};
 use crate::codes::DW_AT_sibling;
@@ -8,6 +8,11 @@ use crate::codes::DW_FORM_GNU_str_index;
 use crate::codes::DW_FORM_exprloc;
 use crate::codes::DW_FORM_implicit_const;
 use crate::codes::DW_FORM_indirect;
+use crate::codes::DW_FORM_loclistx;
+use crate::codes::DW_FORM_rnglistx;
+use crate::codes::DW_FORM_strx;
+use crate::codes::DW_FORM_strx1;
+use crate::codes::DW_FORM_strx4;
 use crate::cursor::Cursor;
 use crate::cursor::Encoding;
 use crate::cursor::Moved;
@@ -88,6 +93,31 @@ pub fn form_token(form: u64) -> u8
         return ULEB128;
     }
     UNREADABLE
+}
+
+// The number of the index list of a form: 0 ranges, 1 locations, 2 strings; 3 for a form that is no index.
+pub fn list_of(form: u64) -> u8
+    ensures { λ r. ⌜ r ≡ listForm form ⌝ }
+{
+    if form == DW_FORM_rnglistx {
+        return 0;
+    }
+    if form == DW_FORM_loclistx {
+        return 1;
+    }
+    if form == DW_FORM_strx {
+        return 2;
+    }
+    if form < DW_FORM_strx1 {
+        return 3;
+    }
+    if form <= DW_FORM_strx4 {
+        return 2;
+    }
+    if form == DW_FORM_GNU_str_index {
+        return 2;
+    }
+    3
 }
 
 impl Cursor {

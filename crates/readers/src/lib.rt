@@ -4,6 +4,7 @@ pub mod attributes;
 pub mod codes;
 pub mod cursor;
 pub mod entries;
+pub mod entry_attributes;
 pub mod expressions;
 pub mod fields;
 pub mod header;
