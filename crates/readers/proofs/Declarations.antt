@@ -333,17 +333,6 @@ chain-searched : {s : List ℕ} {a b : ℕ} {ds : List Placed} (code : ℕ) → 
 chain-searched {s} {a} {b} {ds} code k =
     chain-search b code k (omega arith) ∙ ap (orElse (declaredIn ds code)) (sym (search-end s b code b (omega arith))) ∙ else-nothing (declaredIn ds code)
 
-pub declared-code : (ds : List Placed) (code : ℕ) (d : Declaration) → declaredIn ds code ≡ Found′ d → d .code ≡ code
-unfolding declaredIn
-declared-code [] code d e = let z : _≡_ {A = ℕ} 0 1 = cc in absurd (omega arith)
-declared-code (p ∷ ds) code d e =
-    ⊎-elim
-    (λ t. let q : Found′ (p .1) ≡ Found′ d = sym (pick-yes _ _ _ t) ∙ e in
-    let q′ : p .1 ≡ d = cc in
-    ap (λ (x : Declaration). x .code) (sym q′) ∙ eqb-yes t)
-    (λ t. declared-code ds code d (sym (pick-no _ _ _ t) ∙ e))
-    (either (eqb (p .1 .code) code))
-
 -- ---- no code twice
 
 both : (a b : Bool) → T a → T b → T (a and b)
@@ -1030,27 +1019,7 @@ find-plain s from n ds h code =
     ∙ through-else (getD (indexed (zeros n) ds) (code - 1) 0) code _ k (q .once) (index-slots n (code - 1) ds)
     (through-else (getD (indexed (zeros n) ds) (slotOf s (indexed (zeros n) ds) code) 0) code _ k (q .once) (index-slots n (slotOf s (indexed (zeros n) ds) code) ds) f)
 
-find-found : (s : List ℕ) (from : ℕ) (index : List ℕ) (code : ℕ) → FoundLaw s (findAt s from index code)
-unfolding through
-find-found s from index code =
-    subst (FoundLaw s) (sym (find-whole s from index code))
-    (pick-either (FoundLaw s) (holdsCode s (getD index (code - 1) 0) code) _ _
-    (λ _. step-found s (getD index (code - 1) 0 - 1) (declarationAt s (getD index (code - 1) 0 - 1)) refl)
-    (λ _. pick-either (FoundLaw s) (holdsCode s (getD index (slotOf s index code) 0) code) _ _
-    (λ _. step-found s (getD index (slotOf s index code) 0 - 1) (declarationAt s (getD index (slotOf s index code) 0 - 1)) refl)
-    (λ _. search-found s (length s) code from)))
-
 -- what the reader of a head finds is, where it is whole, what is found
 pub found-at : (s : List ℕ) (from : ℕ) (index : List ℕ) (code : ℕ) (f : Found) → f ≡ findHead s from index code → wholeFound s f ≡ findAt s from index code
 unfolding findAt
 found-at s from index code f q = ap (wholeFound s) q
-
-pub find-somewhere : (s : List ℕ) (from : ℕ) (index : List ℕ) (code : ℕ) (d : Declaration) → findAt s from index code ≡ Found′ d → Somewhere s d
-unfolding FoundLaw
-find-somewhere s from index code d e = subst (FoundLaw s) e (find-found s from index code)
-
-pub find-attributes : (s : List ℕ) (from : ℕ) (index : List ℕ) (code : ℕ) (d : Declaration) → findAt s from index code ≡ Found′ d
-    → (q : Somewhere s d) × Past s (d .attributes .at) (q .next)
-find-attributes s from index code d e =
-    let q : Somewhere s d = find-somewhere s from index code d e in
-    (q, declaration-inside s (q .place) d (q .next) (q .is) .past)
