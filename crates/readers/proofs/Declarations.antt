@@ -16,7 +16,7 @@ use Rattle.readers.specs.Layout.{short}
 use Rattle.readers.specs.Scan.{Turn, more, stop, bad, Scanned, push, onTurn, scanWithin, scan, Goes, scan-stop, scan-bad, scan-more}
 use Rattle.readers.specs.Cursors.{lebAt, fixedAt}
 use Rattle.readers.specs.Slots.{codeOf, slotCode, slotOf, Twice, Ordered}
-use Rattle.readers.specs.Abbreviations.{scannedTo, pastAttributes, numberDeclaration, movedDeclaration, headAt, wholeDeclaration, declarationAt, Placed, declarationTurn, declarationsFrom, declaredIn, isFound, distinct, checkDistinct, abbreviationsOf, asChecked, checkedOf, countOf, insertByCode, byCode, slotsOf, Gathered, indexed, indexFor, indexOf, searchTurn, foundBy, searchAt, declarationFound, holdsCode, headIn, findHead, findAt, wholeFound}
+use Rattle.readers.specs.Abbreviations.{scannedTo, pastAttributes, numberDeclaration, movedDeclaration, headAt, wholeDeclaration, declarationAt, Placed, declarationTurn, declarationsFrom, declaredIn, isFound, distinct, checkDistinct, abbreviationsOf, asChecked, checkedOf, accepted, countOf, insertByCode, byCode, slotsOf, Gathered, indexed, indexFor, indexOf, searchTurn, foundBy, searchAt, declarationFound, holdsCode, headIn, findHead, findAt, wholeFound}
 use Rattle.readers.specs.declared.cursor.Cursor.{Cursor}
 use Rattle.readers.specs.declared.cursor.Number.{Number}
 use Rattle.readers.specs.declared.cursor.Number.the-variants.{Value, Unreadable}
@@ -27,6 +27,8 @@ use Rattle.readers.specs.declared.abbreviations.Declaration.{Declaration
 use Rattle.readers.specs.declared.abbreviations.DeclarationStep.{DeclarationStep}
 use Rattle.readers.specs.declared.abbreviations.DeclarationStep.the-variants.{Declaration as Declared, Last, Unreadable as NoDeclaration}
 use Rattle.readers.specs.declared.abbreviations.Checked.{Checked}
+use Rattle.readers.specs.declared.slots.Arranged.{Arranged}
+use Rattle.readers.specs.declared.slots.Arranged.the-variants.{Ascending, Repeated}
 use Rattle.readers.specs.declared.abbreviations.Checked.the-variants.{Accepted, Refused}
 use Rattle.readers.specs.declared.abbreviations.Count.{Count}
 use Rattle.readers.specs.declared.abbreviations.Count.the-variants.{Of, Unreadable as Uncounted}
@@ -330,17 +332,6 @@ chain-search {s} {a} {b} to code (link {d = d} {c = c} {ds = ds} e k) h =
 chain-searched : {s : List ℕ} {a b : ℕ} {ds : List Placed} (code : ℕ) → Chain s a ds b → searchAt s b code a ≡ declaredIn ds code
 chain-searched {s} {a} {b} {ds} code k =
     chain-search b code k (omega arith) ∙ ap (orElse (declaredIn ds code)) (sym (search-end s b code b (omega arith))) ∙ else-nothing (declaredIn ds code)
-
-pub declared-code : (ds : List Placed) (code : ℕ) (d : Declaration) → declaredIn ds code ≡ Found′ d → d .code ≡ code
-unfolding declaredIn
-declared-code [] code d e = let z : _≡_ {A = ℕ} 0 1 = cc in absurd (omega arith)
-declared-code (p ∷ ds) code d e =
-    ⊎-elim
-    (λ t. let q : Found′ (p .1) ≡ Found′ d = sym (pick-yes _ _ _ t) ∙ e in
-    let q′ : p .1 ≡ d = cc in
-    ap (λ (x : Declaration). x .code) (sym q′) ∙ eqb-yes t)
-    (λ t. declared-code ds code d (sym (pick-no _ _ _ t) ∙ e))
-    (either (eqb (p .1 .code) code))
 
 -- ---- no code twice
 
@@ -819,7 +810,7 @@ module _ (s : List ℕ) (from : ℕ) where
     listed-coded : Coded s ds
     listed-coded = chain-coded (closed-of s ds from end g .chain)
 
-    module _ (m : List ℕ) (o : Ordered s (slotsOf ds) m Accepted) where
+    module _ (m : List ℕ) (o : Ordered s (slotsOf ds) m Ascending) where
       ordered-slots : m ≡ slotsOf (byCode ds)
       ordered-slots =
           let q : Drawn (slotsOf ds) m = drawn-of (o .swaps) in
@@ -836,7 +827,7 @@ module _ (s : List ℕ) (from : ℕ) where
           bind-at checkDistinct g
           ∙ check-yes _ _ (order-distinct s ds listed-coded (subst (Strict (slotCode s)) ordered-slots (strict-of (slotCode s) m (o .ascending refl))))
 
-    ordered-refused : (m : List ℕ) → Ordered s (slotsOf ds) m Refused → abbreviationsOf s from ≡ none
+    ordered-refused : (m : List ℕ) → Ordered s (slotsOf ds) m Repeated → abbreviationsOf s from ≡ none
     unfolding abbreviationsOf checkDistinct
     ordered-refused m o =
         let q : Drawn (slotsOf ds) m = drawn-of (o .swaps) in
@@ -863,25 +854,25 @@ module _ (s : List ℕ) (from : ℕ) where
         below a b h d = ⊎-elim (λ t. ltb-yes {a = a} {b = b} t) (λ t. let u : b ≤ a = ltb-no {a = a} {b = b} t in absurd (d (omega arith))) (either (ltb a b))
 
     -- what the slots are in order, and the rest of the index
-    ordered-index : (m : List ℕ) (n : ℕ) (r : Checked) → Ordered s (slotsOf ds) m r → length ds ≤ n
-        → (r ≡ checkedOf s from) × (r ≡ Accepted → m ++ drop (length ds) (zeros n) ≡ indexOf s from n)
-    unfolding checkedOf asChecked indexOf indexFor indexed
-    ordered-index m n Accepted o h =
+    ordered-index : (m : List ℕ) (n : ℕ) (a : Arranged) → Ordered s (slotsOf ds) m a → length ds ≤ n
+        → (accepted a ≡ checkedOf s from) × (accepted a ≡ Accepted → m ++ drop (length ds) (zeros n) ≡ indexOf s from n)
+    unfolding checkedOf asChecked accepted indexOf indexFor indexed
+    ordered-index m n Ascending o h =
         let a : abbreviationsOf s from ≡ some ds = ordered-accepted m o in (
           sym (ap asChecked a),
           λ _. ap (λ (l : List ℕ). l ++ drop (length ds) (zeros n)) (ordered-slots m o)
               ∙ sym (ap (indexFor n) a ∙ pick-yes _ _ _ (yes-leb {a = length ds} {b = length (zeros n)} (omega (arith, length-replicate {A = ℕ} n 0)))),
         )
-    ordered-index m n Refused o h = (sym (ap asChecked (ordered-refused m o)), λ e. absurd (refused-not e))
+    ordered-index m n Repeated o h = (sym (ap asChecked (ordered-refused m o)), λ e. absurd (refused-not e))
 
 module _ (s : List ℕ) (from count : ℕ) (l₀ l : List ℕ) (same : length l ≡ length l₀) (h : Of count ≡ countOf (declarationsFrom s from)) where
   pub over-filled : (m : List ℕ) → length l < count → m ≡ zeros (length l) → m ≡ indexOf s from (length l₀)
   over-filled m g e = e ∙ ap zeros same ∙ over-index s from count (length l₀) h (omega arith)
 
   -- the slots ordered in their part of the index
-  pub filled-index : (m : List ℕ) (r : Checked) → l₀ ≡ zeros (length l₀) → Gathered s from l₀ l → count ≤ length l → Ordered s (take count l) m r
-      → (r ≡ checkedOf s from) × (r ≡ Accepted → m ++ drop count l ≡ indexOf s from (length l₀))
-  filled-index m r z w i o =
+  pub filled-index : (m : List ℕ) (r : Checked) (a : Arranged) → l₀ ≡ zeros (length l₀) → Gathered s from l₀ l → count ≤ length l
+      → Ordered s (take count l) m a → r ≡ accepted a → (r ≡ checkedOf s from) × (r ≡ Accepted → m ++ drop count l ≡ indexOf s from (length l₀))
+  filled-index m r a z w i o u =
       let n : ℕ = length l₀ in
       let q : (r : Scanned Placed ℕ) × (declarationsFrom s from ≡ some r) × (count ≡ length (r .0)) = counted-list s from count (declarationsFrom s from) h in
       let ds : List Placed = q .0 .0 in
@@ -890,9 +881,9 @@ module _ (s : List ℕ) (from count : ℕ) (l₀ l : List ℕ) (same : length l 
       let c : length (slotsOf ds) ≡ count = slots-length ds ∙ k in
       let t : take count l ≡ slotsOf ds = ap (take count) e ∙ take-at (slotsOf ds) (drop (length ds) (zeros n)) count c in
       let d : drop count l ≡ drop (length ds) (zeros n) = ap (drop count) e ∙ drop-at (slotsOf ds) (drop (length ds) (zeros n)) count c in
-      let x : (r ≡ checkedOf s from) × (r ≡ Accepted → m ++ drop (length ds) (zeros n) ≡ indexOf s from n) =
-      ordered-index s from ds (q .0 .1) (q .1) m n r (subst (λ (y : List ℕ). Ordered s y m r) t o) (omega arith) in
-      (x .0, λ a. ap (λ (y : List ℕ). m ++ y) d ∙ x .1 a)
+      let x : (accepted a ≡ checkedOf s from) × (accepted a ≡ Accepted → m ++ drop (length ds) (zeros n) ≡ indexOf s from n) =
+      ordered-index s from ds (q .0 .1) (q .1) m n a (subst (λ (y : List ℕ). Ordered s y m a) t o) (omega arith) in
+      (u ∙ x .0, λ b. ap (λ (y : List ℕ). m ++ y) d ∙ x .1 (sym u ∙ b))
 
 -- ---- lookup
 
@@ -1028,27 +1019,7 @@ find-plain s from n ds h code =
     ∙ through-else (getD (indexed (zeros n) ds) (code - 1) 0) code _ k (q .once) (index-slots n (code - 1) ds)
     (through-else (getD (indexed (zeros n) ds) (slotOf s (indexed (zeros n) ds) code) 0) code _ k (q .once) (index-slots n (slotOf s (indexed (zeros n) ds) code) ds) f)
 
-find-found : (s : List ℕ) (from : ℕ) (index : List ℕ) (code : ℕ) → FoundLaw s (findAt s from index code)
-unfolding through
-find-found s from index code =
-    subst (FoundLaw s) (sym (find-whole s from index code))
-    (pick-either (FoundLaw s) (holdsCode s (getD index (code - 1) 0) code) _ _
-    (λ _. step-found s (getD index (code - 1) 0 - 1) (declarationAt s (getD index (code - 1) 0 - 1)) refl)
-    (λ _. pick-either (FoundLaw s) (holdsCode s (getD index (slotOf s index code) 0) code) _ _
-    (λ _. step-found s (getD index (slotOf s index code) 0 - 1) (declarationAt s (getD index (slotOf s index code) 0 - 1)) refl)
-    (λ _. search-found s (length s) code from)))
-
 -- what the reader of a head finds is, where it is whole, what is found
 pub found-at : (s : List ℕ) (from : ℕ) (index : List ℕ) (code : ℕ) (f : Found) → f ≡ findHead s from index code → wholeFound s f ≡ findAt s from index code
 unfolding findAt
 found-at s from index code f q = ap (wholeFound s) q
-
-pub find-somewhere : (s : List ℕ) (from : ℕ) (index : List ℕ) (code : ℕ) (d : Declaration) → findAt s from index code ≡ Found′ d → Somewhere s d
-unfolding FoundLaw
-find-somewhere s from index code d e = subst (FoundLaw s) e (find-found s from index code)
-
-pub find-attributes : (s : List ℕ) (from : ℕ) (index : List ℕ) (code : ℕ) (d : Declaration) → findAt s from index code ≡ Found′ d
-    → (q : Somewhere s d) × Past s (d .attributes .at) (q .next)
-find-attributes s from index code d e =
-    let q : Somewhere s d = find-somewhere s from index code d e in
-    (q, declaration-inside s (q .place) d (q .next) (q .is) .past)

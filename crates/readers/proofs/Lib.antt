@@ -1,4 +1,5 @@
 pub mod Constants
+pub mod FormKinds
 pub mod Widths
 pub mod Lebs
 pub mod Tokens
@@ -9,6 +10,7 @@ pub mod Specs
 pub mod SlotOrders
 pub mod Declarations
 pub mod Values
+pub mod EntryAttributes
 pub mod Streams
 pub mod Nesting
 pub mod OperationReads

@@ -539,14 +539,6 @@ module _ (e : Encoding) (s : List ℕ) (at l : ℕ) (r : Row) where
       let q : Fields e s at l r = row-fields x in
       (field-inside e s at (r .first) _ (q .first), field-inside e s (r .first .end) (r .second) _ (q .second), field-inside e s (r .second .end) (r .third) _ (q .third))
 
-  -- a row is read to at least its place, and inside the slice where its place is
-  pub row-end : rowAt e s at l ≡ Row′ r → (at ≤ r .third .end) × (r .third .end ≤ at + (length s - at))
-  row-end x =
-      let i : Inside s at (r .first) × Inside s (r .first .end) (r .second) × Inside s (r .second .end) (r .third) = row-inside x in (
-        omega (arith, i .0 .after, i .0 .forward, i .1 .after, i .1 .forward, i .2 .after, i .2 .forward),
-        omega (arith, i .0 .after, i .0 .forward, i .0 .within, i .1 .after, i .1 .forward, i .1 .within, i .2 .within),
-      )
-
 -- ---- the bytes of a field
 
 module _ (s : List ℕ) (f : Field) where

@@ -256,14 +256,6 @@ pub skip-to : (s : List ℕ) (at n : ℕ) → n ≤ length s - at → To (cursor
 unfolding skipAt
 skip-to s at n h = sym (pick-yes _ _ _ (yes-leb {a = n} {b = length s - at} h))
 
-pub skip-inside : (s : List ℕ) (at n : ℕ) (c : Cursor) → skipAt s at n ≡ To c → (c .at ≡ at + n) × (n ≤ length s - at)
-skip-inside s at n c e =
-    ⊎-elim
-    (λ h. let q : cursor (at + n) ≡ c = cc (skip-to s at n (leb-yes {a = n} {b = length s - at} h)) in
-    (ap (λ (d : Cursor). d .at) (sym q), leb-yes {a = n} {b = length s - at} h))
-    (λ h. let z : _≡_ {A = ℕ} 0 1 = cc (skip-over s at n (leb-no {a = n} {b = length s - at} h)) in absurd (omega arith))
-    (either (leb n (length s - at)))
-
 -- ---- a string
 
 module _ (s : List ℕ) (at : ℕ) where
@@ -288,18 +280,6 @@ module _ (s : List ℕ) (at : ℕ) where
       ∙ longer (getD s at 0) (stringIn (drop (suc at) s))
       ∙ ap (λ n. asMoved (at + 1) (stringIn (drop n s))) (sym (add-one at))
 
-string-took : (s : List ℕ) → All (λ r. (0 < length (r .0)) × (length (r .0) ≤ length s)) (stringIn s)
-unfolding stringIn
-string-took [] = all-none _
-string-took (b ∷ s) =
-    all-pick _ _ _ _
-    (λ _. all-some _ (let g : 0 < 1 = omega arith in g, let g : 1 ≤ suc (length s) = omega arith in g))
-    (λ _. all-bind _ _ (stringIn s) _ (string-took s)
-    (λ r e q. all-some _ (
-      let g : 0 < suc (length (r .0)) = omega arith in g,
-      let g : suc (length (r .0)) ≤ suc (length s) = (let h : length (r .0) ≤ length s = q .1 in omega arith) in g,
-    )))
-
 moved-inside : (n at : ℕ) (c : Cursor) (o : Option (List ℕ × List ℕ)) → All (λ r. (0 < length (r .0)) × (length (r .0) ≤ n)) o → asMoved at o ≡ To c → (at < c .at) × (c .at ≤ at + n)
 unfolding asMoved All
 moved-inside n at c none q e = let z : _≡_ {A = ℕ} 0 1 = cc in absurd (omega arith)
@@ -307,9 +287,3 @@ moved-inside n at c (some r) q e =
     let k : cursor (at + length (r .0)) ≡ c = cc in
     let k′ : at + length (r .0) ≡ c .at = ap (λ (d : Cursor). d .at) k in
     (omega (arith, q .0), omega (arith, q .1))
-
-pub string-inside : (s : List ℕ) (at : ℕ) (c : Cursor) → stringAt s at ≡ To c → (at < c .at) × (c .at ≤ length s)
-unfolding stringAt
-string-inside s at c e =
-    let q : (at < c .at) × (c .at ≤ at + length (drop at s)) = moved-inside (length (drop at s)) at c (stringIn (drop at s)) (string-took (drop at s)) e in
-    (q .0, omega (arith, q .0, q .1, length-drop at s))

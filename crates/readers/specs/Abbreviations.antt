@@ -8,6 +8,7 @@ use mathlib.Core.Option.{Option, none, some}
 use lib.ListN.{length, drop, getD}
 use lib.Dec.{ltb, leb, eqb}
 use Rattle.readers.specs.Choice.{pick, check, bind, _and_, zeros}
+use Rattle.readers.specs.Codes.{«DW_CHILDREN_yes», «DW_FORM_implicit_const»}
 use Rattle.readers.specs.Numbers.{uleb, sleb}
 use Rattle.readers.specs.Layout.{short}
 use Rattle.readers.specs.Scan.{Turn, more, stop, bad, Scanned, scan}
@@ -26,6 +27,8 @@ use Rattle.readers.specs.declared.abbreviations.DeclarationStep.{Declara
 use Rattle.readers.specs.declared.abbreviations.DeclarationStep.the-variants.{Declaration as Declared, Last, Unreadable as NoDeclaration}
 use Rattle.readers.specs.declared.abbreviations.Checked.{Checked}
 use Rattle.readers.specs.declared.abbreviations.Checked.the-variants.{Accepted, Refused}
+use Rattle.readers.specs.declared.slots.Arranged.{Arranged}
+use Rattle.readers.specs.declared.slots.Arranged.the-variants.{Ascending, Repeated}
 use Rattle.readers.specs.declared.abbreviations.Count.{Count}
 use Rattle.readers.specs.declared.abbreviations.Count.the-variants.{Of, Unreadable as Uncounted}
 use Rattle.readers.specs.declared.abbreviations.Found.{Found}
@@ -37,10 +40,10 @@ unfoldable pub numberSpec : Number → (ℕ → ℕ → SpecStep) → SpecStep
 numberSpec (Value v c) k = k v (c .at)
 numberSpec Unreadable k = NoSpec
 
--- implicit_const (0x21) has its value in the declaration
+-- implicit_const has its value in the declaration
 unfoldable pub implicitSpec : List ℕ → ℕ → ℕ → ℕ → SpecStep
 implicitSpec s name form at =
-    pick (eqb form 0x21)
+    pick (eqb form «DW_FORM_implicit_const»)
     (numberSpec (lebAt sleb s at) (λ v next. Attribute (record { name = name; form = form; implicit = v; next = cursor next })))
     (Attribute (record { name = name; form = form; implicit = 0; next = cursor at }))
 
@@ -79,7 +82,7 @@ unfoldable pub movedDeclaration : Moved → (Cursor → DeclarationStep) → Dec
 movedDeclaration (To c) k = k c
 movedDeclaration Nowhere k = NoDeclaration
 
--- a code, a tag, a children byte, and where the attribute specifications start; code 0 closes the list
+-- a code, a tag, a byte that is DW_CHILDREN_no (0) or DW_CHILDREN_yes (1), and where the attribute specifications start; code 0 closes the list
 unfoldable pub headAt : List ℕ → ℕ → DeclarationStep
 headAt s at =
     numberDeclaration (lebAt uleb s at) (λ code afterCode.
@@ -87,8 +90,13 @@ headAt s at =
     (numberDeclaration (lebAt short s afterCode) (λ tag afterTag.
     pick (eqb tag 0) NoDeclaration
     (numberDeclaration (fixedAt false 1 s afterTag) (λ children attributes.
-    pick (leb children 1)
-    (Declared (record { code = code; tag = tag; children = eqb children 1; attributes = cursor attributes }) (cursor attributes))
+    pick (leb children «DW_CHILDREN_yes»)
+    (Declared (record {
+      code = code;
+      tag = tag;
+      children = eqb children «DW_CHILDREN_yes»;
+      attributes = cursor attributes;
+    }) (cursor attributes))
     NoDeclaration)))))
 
 -- and the attribute specifications
@@ -139,6 +147,11 @@ asChecked (some ds) = Accepted
 
 unfoldable pub checkedOf : List ℕ → ℕ → Checked
 checkedOf s from = asChecked (abbreviationsOf s from)
+
+-- declarations whose codes ascend, or of which two have one code
+unfoldable pub accepted : Arranged → Checked
+accepted Ascending = Accepted
+accepted Repeated = Refused
 
 -- how many there are
 unfoldable pub countOf : Option (Scanned Placed ℕ) → Count

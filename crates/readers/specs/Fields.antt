@@ -8,7 +8,7 @@ use lib.Dec.{leb, eqb}
 use Rattle.readers.specs.Choice.{pick}
 use Rattle.readers.specs.Numbers.{uleb}
 use Rattle.readers.specs.Layout.{Encoded, Role, Piece, copied, linked, Read, ReadOf, RunOf, Token, expression, Layout, asBytes, bytesOf, tokenIn, readIn}
-use Rattle.readers.specs.Tokens.{plain, tokenOf}
+use Rattle.readers.specs.Tokens.{plain, bytes, address, offset, tokenOf}
 use Rattle.readers.specs.Operations.{rowLayout, rowOf}
 use Rattle.readers.specs.Cursors.{lebAt, fixedAt}
 use Rattle.readers.specs.declared.cursor.Encoding.{Encoding}
@@ -81,9 +81,9 @@ blockField s Unreadable = NoField
 -- a number by its token
 unfoldable pub numberAt : Encoding → List ℕ → ℕ → ℕ → Number
 numberAt e s at t =
-    pick (leb t 8) (fixedAt (e .«big_endian») t s at)
-    (pick (eqb t 9) (fixedAt (e .«big_endian») (e .«address_size») s at)
-    (pick (eqb t 10) (fixedAt (e .«big_endian») (e .«offset_size») s at)
+    pick (leb t (bytes 8)) (fixedAt (e .«big_endian») t s at)
+    (pick (eqb t address) (fixedAt (e .«big_endian») (e .«address_size») s at)
+    (pick (eqb t offset) (fixedAt (e .«big_endian») (e .«offset_size») s at)
     (lebAt uleb s at)))
 
 -- an exprloc (7.5.5, class exprloc): a length, and that many bytes

@@ -11,6 +11,7 @@ use lib.Seq.{length-take-le, take-at, drop-at, take-append-le, take-take, take-a
 use lib.Dec.{T, leb, ltb, eqb}
 use mir.Facts.{yes-ltb, ltb-yes, yes-leb, leb-yes}
 use Rattle.readers.specs.Choice.{pick, pick-yes, pick-no, check, check-yes, bind, bind-at, bind-none, bind-cong, All, all-some, all-none, all-of, all-pick, all-check, all-bind, all-map, all-triv, Took, took-none, took-add, took-length}
+use Rattle.readers.specs.Codes.{«DW_FORM_indirect»}
 use Rattle.readers.specs.Numbers.{Groups, groups, GroupsLaw, groups-law, groups-padded, uleb, unsigned64, sleb, signed64, padded, length-padded, fixedBytes, fixedValue, length-fixed, fixed-value}
 
 -- ---- what a layout is made of
@@ -101,7 +102,7 @@ within16 t = check (ltb (t .1) (2 ^ 16)) (some t)
 unfoldable pub short : List ℕ → Option Groups
 short s = bind (groups 3 s) within16
 
--- 7.5.3, DW_FORM_indirect (0x16): the form of the value stands in the entry, and may be indirect again.
+-- 7.5.3, DW_FORM_indirect: the form of the value stands in the entry, and may be indirect again.
 -- How many bytes the form numbers take, and the form that they end in; at most k numbers.
 unfoldable pub afterForm : Groups → ℕ × ℕ → Option (ℕ × ℕ)
 afterForm t r = some (suc (t .0) + r .0, r .1)
@@ -109,7 +110,7 @@ afterForm t r = some (suc (t .0) + r .0, r .1)
 unfoldable pub formsWithin : ℕ → List ℕ → Option (ℕ × ℕ)
 formsWithin zero s = none
 formsWithin (suc k) s =
-    bind (short s) (λ t. pick (eqb (t .1) 0x16) (bind (formsWithin k (t .2)) (afterForm t)) (some (suc (t .0), t .1)))
+    bind (short s) (λ t. pick (eqb (t .1) «DW_FORM_indirect») (bind (formsWithin k (t .2)) (afterForm t)) (some (suc (t .0), t .1)))
 
 unfoldable pub formsIn : List ℕ → Option (ℕ × ℕ)
 formsIn s = formsWithin (length s) s

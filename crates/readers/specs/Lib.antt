@@ -1,4 +1,5 @@
 pub mod Choice
+pub mod Codes
 pub mod Numbers
 pub mod Layout
 pub mod Tokens
@@ -16,6 +17,7 @@ pub mod Lists
 pub mod Slots
 pub mod Abbreviations
 pub mod Entries
+pub mod EntryAttributes
 pub mod Stream
 pub mod Nesting
 pub mod Refusals

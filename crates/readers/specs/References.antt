@@ -8,6 +8,8 @@ use lib.ListN.{length, drop}
 use lib.Dec.{ltb, leb, eqb}
 use Rattle.readers.specs.Choice.{pick, _or_, zeros}
 use Rattle.readers.specs.Header.{encodingOf}
+use Rattle.readers.specs.Operations.{row-reference2, row-reference4, row-type, row-bytes1-type, row-type-block1}
+use Rattle.readers.specs.Operations.{row-expression, row-offset, row-offset-sleb128}
 use Rattle.readers.specs.Layout.{Encoded, infixed, inleb, width, Role, reference, typeReference, sibling, index, absolute, Piece, copied, linked, pieceBytes}
 use Rattle.readers.specs.Expression.{expressionIn}
 use Rattle.readers.specs.Scan.{Turn, more, stop, Scanned, scan}
@@ -76,31 +78,33 @@ named f b c = Yielded (record { place = f .start; target = record { 0 = f .value
 unfoldable pub namedType : Field → Cursor → Yield
 namedType f c = pick (eqb (f .value) 0) End (named f true c)
 
--- by the rows of Operations.antt: 12 and 13 name an entry, 14 and 17 a type by their first operand, 15 and 16 by their second
+-- By the rows of Operations.antt, in their order: two name an entry, four a type, by their first or their second operand.
 unfoldable pub referenceOf : Operation → Yield
 referenceOf op =
-    pick (ltb (op .row) 12) End
-    (pick (leb (op .row) 13) (named (op .first) false (op .next))
-    (pick (eqb (op .row) 14) (namedType (op .first) (op .next))
-    (pick (leb (op .row) 16) (namedType (op .second) (op .next))
-    (pick (eqb (op .row) 17) (namedType (op .first) (op .next))
+    pick (ltb (op .row) row-reference2) End
+    (pick (leb (op .row) row-reference4) (named (op .first) false (op .next))
+    (pick (eqb (op .row) row-type) (namedType (op .first) (op .next))
+    (pick (leb (op .row) row-bytes1-type) (namedType (op .second) (op .next))
+    (pick (eqb (op .row) row-type-block1) (namedType (op .first) (op .next))
     End))))
 
 unfoldable pub counted : Yield → ℕ
 counted (Yielded r) = 1
 counted End = 0
 
--- an operation by itself; rows 20 and 21 hold an offset in the section
+-- an operation by itself; two rows hold an offset in the section
 unfoldable pub ownWalk : Operation → Walk
-ownWalk op = pick (eqb (op .row) 20 or eqb (op .row) 21) (Walked 0 true) (Walked (counted (referenceOf op)) false)
+ownWalk op =
+    pick (eqb (op .row) row-offset or eqb (op .row) row-offset-sleb128) (Walked 0 true) (Walked (counted (referenceOf op)) false)
 
 unfoldable pub yieldTurn : Yield → Cursor → Turn (Unit {0}) Yield
 yieldTurn (Yielded r) c = stop (Yielded r)
 yieldTurn End c = more tt (c .at)
 
--- row 19 is an entry value
+-- the one row that holds an expression is an entry value's
 unfoldable pub operationTurn : OperationRead → Turn (Unit {0}) Yield
-operationTurn (Operation′ op) = pick (eqb (op .row) 19) (more tt (op .first .start)) (yieldTurn (referenceOf op) (op .next))
+operationTurn (Operation′ op) =
+    pick (eqb (op .row) row-expression) (more tt (op .first .start)) (yieldTurn (referenceOf op) (op .next))
 operationTurn NoOperation = stop End
 
 unfoldable pub walkTurn : Encoding → List ℕ → ℕ → Turn (Unit {0}) Yield
@@ -133,7 +137,8 @@ pub data Yields (e : Encoding) (s : List ℕ) : ℕ → List Named → Type 0 wh
       → Yields e s at ((r .place, r .target .0, encodedBy (r .leb) (r .width)) ∷ rs)
 
 unfoldable pub flatOperation : OperationRead → Turn (List Named) (Unit {0})
-flatOperation (Operation′ op) = pick (eqb (op .row) 19) (more [] (op .first .start)) (more (namesOf (referenceOf op)) (op .next .at))
+flatOperation (Operation′ op) =
+    pick (eqb (op .row) row-expression) (more [] (op .first .start)) (more (namesOf (referenceOf op)) (op .next .at))
 flatOperation NoOperation = stop tt
 
 unfoldable pub flatTurn : Encoding → List ℕ → ℕ → Turn (List Named) (Unit {0})

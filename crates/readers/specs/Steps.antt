@@ -6,6 +6,7 @@ use mathlib.Core.Option.{Option, none, some}
 use lib.ListN.{length, drop}
 use lib.Dec.{ltb, eqb}
 use Rattle.readers.specs.Choice.{pick}
+use Rattle.readers.specs.Codes.{«DW_RLE_end_of_list»}
 use Rattle.readers.specs.Layout.{fixed, number, Layout, done, field, Read, RunOf, asBytes, readIn}
 use Rattle.readers.specs.Operations.{rowLayout, rowOf, operation, operationRow, listRow}
 use Rattle.readers.specs.Cursors.{cursor}
@@ -43,9 +44,9 @@ operationAt e s at = asOperation (e .«big_endian») at (readIn (e .«big_endian
 
 -- ---- list entries
 
--- 7.7.3, 7.25: a kind of one byte and its operands; kind 0 ends the list
+-- 7.7.3, 7.25: a kind of one byte and its operands; DW_RLE_end_of_list, which DW_LLE_end_of_list is too, ends the list
 unfoldable pub listEntry : Encoding → Bool → Layout
-listEntry e location = field (number (fixed 1)) (λ k. pick (eqb k 0) done (rowLayout e (rowOf (listRow location k))))
+listEntry e location = field (number (fixed 1)) (λ k. pick (eqb k «DW_RLE_end_of_list») done (rowLayout e (rowOf (listRow location k))))
 
 unfoldable pub rowEntry : ℕ → RowRead → ListStep
 rowEntry kind (Row′ r) = Entry (record { kind = kind; first = r .first; second = r .second; third = r .third; next = cursor (r .third .end) })
@@ -54,7 +55,7 @@ rowEntry kind NoRow = NoEntry
 module _ (big : Bool) where
   unfoldable pub entryOfReads : ℕ → List Read → ListStep
   entryOfReads at [] = NoEntry
-  entryOfReads at (k ∷ rs) = pick (eqb (k .seen) 0) End (rowEntry (k .seen) (rowOfReads big (at + size big k) rs))
+  entryOfReads at (k ∷ rs) = pick (eqb (k .seen) «DW_RLE_end_of_list») End (rowEntry (k .seen) (rowOfReads big (at + size big k) rs))
 
   unfoldable pub asListStep : ℕ → Option RunOf → ListStep
   asListStep at none = NoEntry

@@ -3,11 +3,14 @@ ghost use mathlib.Core.Path.{_≡_};
 ghost use Prim.Native.Nat.{_-_};
 ghost use lib.ListN.{length, getD};
 ghost use Rattle.readers.specs.Choice.{zeros};
-ghost use Rattle.readers.specs.Abbreviations.{specAt, implicitSpec, pastAttributes, headAt, declarationAt, declarationsFrom, searchAt, checkedOf, countOf, Gathered, indexOf, holdsCode, headIn, findHead};
+ghost use Rattle.readers.specs.Abbreviations.{specAt, implicitSpec, pastAttributes, headAt, declarationAt, declarationsFrom, searchAt, checkedOf, accepted, countOf, Gathered, indexOf, holdsCode, headIn, findHead};
 ghost use Rattle.readers.specs.declared.abbreviations.Checked.the-variants.{Accepted};
+use crate::codes::DW_CHILDREN_yes;
+use crate::codes::DW_FORM_implicit_const;
 use crate::cursor::Cursor;
 use crate::cursor::Moved;
 use crate::cursor::Number;
+use crate::slots::Arranged;
 use crate::slots::order;
 use crate::slots::slot_code;
 use crate::slots::slot_of;
@@ -64,7 +67,7 @@ pub enum Found {
 fn implicit_spec(s: &[u8], name: u64, form: u64, c: Cursor) -> SpecStep
     ensures { λ r. ⌜ r ≡ implicitSpec (now (s .entry)) name form (c .at) ⌝ }
 {
-    if form != 0x21 {
+    if form != DW_FORM_implicit_const {
         return SpecStep::Attribute(AttributeSpec {
             name,
             form,
@@ -146,14 +149,14 @@ impl Cursor {
         let Number::Value(children, attributes) = after_tag.fixed(s, 1, false) else {
             return DeclarationStep::Unreadable;
         };
-        if children > 1 {
+        if children > DW_CHILDREN_yes {
             return DeclarationStep::Unreadable;
         }
         DeclarationStep::Declaration(
             Declaration {
                 code,
                 tag,
-                children: children == 1,
+                children: children == DW_CHILDREN_yes,
                 attributes,
             },
             attributes,
@@ -255,6 +258,16 @@ fn check_plain(s: &[u8], start: usize) -> Checked
     }
 }
 
+// Declarations are accepted where their codes can be brought in ascending order.
+fn accept(a: Arranged) -> Checked
+    ensures { λ r. ⌜ r ≡ accepted a ⌝ }
+{
+    match a {
+        Arranged::Ascending => Checked::Accepted,
+        Arranged::Repeated => Checked::Refused,
+    }
+}
+
 // Fills an index that holds zeros, as far as the declarations are accepted.
 fn fill_index(s: &[u8], start: usize, index: &mut [u64]) -> Checked
     requires { ⌜ now index ≡ zeros (length (now index)) ⌝ }
@@ -268,7 +281,7 @@ fn fill_index(s: &[u8], start: usize, index: &mut [u64]) -> Checked
         clear(index);
         return check_plain(s, start);
     }
-    order(s, &mut index[..count])
+    accept(order(s, &mut index[..count]))
 }
 
 // Checks the whole list of declarations that starts at an offset, and fills an index of them: one more than the place of each, in ascending order of

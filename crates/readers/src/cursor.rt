@@ -6,6 +6,7 @@ ghost use lib.ListN.{length};
 ghost use Rattle.readers.specs.Numbers.{uleb, sleb};
 ghost use Rattle.readers.specs.Layout.{short};
 ghost use Rattle.readers.specs.Cursors.{groupsAt, lebAt, fixedAt, skipAt, stringAt, formsAt};
+use crate::codes::DW_FORM_indirect;
 
 // What a unit's fields are read by; the header makes it.
 pub struct Encoding {
@@ -341,7 +342,7 @@ impl Cursor {
         loop {
             match c.short(s) {
                 Number::Value(form, next) => {
-                    if form != 0x16 {
+                    if form != DW_FORM_indirect {
                         return Number::Value(form, next);
                     }
                     c = next;

@@ -9,6 +9,7 @@ ghost use Rattle.readers.specs.References.{walkOf, ownWalk, named, named
 use crate::cursor::Cursor;
 use crate::cursor::Encoding;
 use crate::fields::Field;
+use crate::layouts::*;
 use crate::offsets::UnitOffset;
 use crate::operations::Operation;
 use crate::operations::OperationRead;
@@ -80,19 +81,19 @@ fn reference_of(op: Operation) -> Yield
     let first = op.first;
     let second = op.second;
     let next = op.next;
-    if row < 12 {
+    if row < ROW_REFERENCE2 {
         return Yield::End;
     }
-    if row <= 13 {
+    if row <= ROW_REFERENCE4 {
         return named(first, false, next);
     }
-    if row == 14 {
+    if row == ROW_TYPE {
         return named_type(first, next);
     }
-    if row <= 16 {
+    if row <= ROW_BYTES1_TYPE {
         return named_type(second, next);
     }
-    if row == 17 {
+    if row == ROW_TYPE_BLOCK1 {
         return named_type(first, next);
     }
     Yield::End
@@ -103,13 +104,13 @@ fn own_walk(op: Operation) -> Walk
     ensures { λ r. ⌜ r ≡ ownWalk op ⌝ }
 {
     let row = op.row;
-    if row == 20 {
+    if row == ROW_OFFSET {
         return Walk::Walked {
             references: 0,
             absolute: true,
         };
     }
-    if row == 21 {
+    if row == ROW_OFFSET_SLEB128 {
         return Walk::Walked {
             references: 0,
             absolute: true,
@@ -151,7 +152,7 @@ pub fn walk_expression(s: &[u8], e: Encoding) -> Walk
         let row = op.row;
         let first = op.first;
         let next = op.next;
-        if row == 19 {
+        if row == ROW_EXPRESSION {
             let Walk::Walked {
                 references: more,
                 absolute: named,
@@ -197,7 +198,7 @@ impl Cursor {
             let row = op.row;
             let first = op.first;
             let next = op.next;
-            if row == 19 {
+            if row == ROW_EXPRESSION {
                 c = Cursor { at: first.start };
             } else {
                 match reference_of(op) {

@@ -2,6 +2,8 @@
 ghost use mathlib.Core.Path.{_≡_};
 ghost use lib.ListN.{take};
 ghost use Rattle.readers.specs.Header.{headerOf, headerFields};
+use crate::codes::DW_UT_compile;
+use crate::codes::DW_UT_split_compile;
 use crate::cursor::Cursor;
 use crate::cursor::Encoding;
 use crate::cursor::Number;
@@ -39,8 +41,8 @@ fn header_fields(unit: &[u8]) -> HeaderRead
         return HeaderRead::Refused(1);
     }
     let unit_type = unit[6];
-    if unit_type != 1 {
-        if unit_type != 5 {
+    if unit_type != DW_UT_compile {
+        if unit_type != DW_UT_split_compile {
             return HeaderRead::Refused(2);
         }
     }
@@ -62,7 +64,7 @@ fn header_fields(unit: &[u8]) -> HeaderRead
         address_size,
         big_endian: false,
     };
-    if unit_type == 1 {
+    if unit_type == DW_UT_compile {
         return HeaderRead::Unit(UnitHeader {
             encoding,
             unit_type,
