@@ -1,10 +1,7 @@
-//! Takes gc.rs from the papers beside the repository, applies the patches below and writes the result into OUT_DIR.
+//! Takes gc.rs (oracle/build says from where), applies the patches below and writes the result into OUT_DIR.
 //! Each patch names how often its text must be found; any other count stops the build. README.md gives the reasons.
 
 use std::{env, fs, path::Path};
-
-/// Where gc.rs is, from the repository's top.
-const SOURCE: &str = "../shared/docs/src/src--thorin--src--gc.rs.txt";
 
 /// Text in gc.rs, what stands there instead, how often. No patch changes the number of lines, so places that a panic
 /// names are those of gc.rs.
@@ -59,13 +56,16 @@ fn module(out: &str, name: &str, text: &str) -> String {
 
 fn main() {
     let here = env::var("CARGO_MANIFEST_DIR").unwrap();
-    let source = Path::new(&here).join("..").join(SOURCE);
-    println!("cargo:rerun-if-changed={}", source.display());
+    let source = env::var("GC_RS").unwrap_or_default();
+    println!("cargo:rerun-if-env-changed=GC_RS");
+    println!("cargo:rerun-if-changed={source}");
     println!("cargo:rerun-if-changed=build.rs");
     println!("cargo:rerun-if-changed=src/probe.rs");
 
-    let text = fs::read_to_string(&source)
-        .unwrap_or_else(|e| panic!("{}: {e}", source.display()));
+    let Ok(text) = fs::read_to_string(&source) else {
+        eprintln!("no source of the original: the variable GC_RS names it, and oracle/build sets it");
+        std::process::exit(1);
+    };
     // Without the hook: what is measured.
     let plain = patch(text, PATCHES);
     let mut text = patch(plain.clone(), HOOKS);
