@@ -1,5 +1,5 @@
--- Abbreviation declarations (DWARF 5, 7.5.3; document 01, "Readers": tag, name and form nonzero, within 16 bits and at most three bytes each, children
--- byte 0 or 1, no code twice, the list closed by code 0).
+-- Abbreviation declarations (DWARF 5, 7.5.3; document 01, "Readers": tag, name and form nonzero, within 16 bits and
+-- at most three bytes each, children byte 0 or 1, no code twice, the list closed by code 0).
 use Prim.Native.Nat.{ℕ, suc, _+_, _-_, _≤_}
 use mathlib.Core.Bool.{Bool, true, false, not}
 use mathlib.Core.Path.{_≡_}
@@ -44,7 +44,8 @@ numberSpec Unreadable k = NoSpec
 unfoldable pub implicitSpec : List ℕ → ℕ → ℕ → ℕ → SpecStep
 implicitSpec s name form at =
     pick (eqb form «DW_FORM_implicit_const»)
-    (numberSpec (lebAt sleb s at) (λ v next. Attribute (record { name = name; form = form; implicit = v; next = cursor next })))
+    (numberSpec (lebAt sleb s at) (λ v next.
+    Attribute (record { name = name; form = form; implicit = v; next = cursor next })))
     (Attribute (record { name = name; form = form; implicit = 0; next = cursor at }))
 
 -- a name and a form; both 0 close the list
@@ -82,7 +83,8 @@ unfoldable pub movedDeclaration : Moved → (Cursor → DeclarationStep) → Dec
 movedDeclaration (To c) k = k c
 movedDeclaration Nowhere k = NoDeclaration
 
--- a code, a tag, a byte that is DW_CHILDREN_no (0) or DW_CHILDREN_yes (1), and where the attribute specifications start; code 0 closes the list
+-- a code, a tag, a byte that is DW_CHILDREN_no (0) or DW_CHILDREN_yes (1), and where the attribute specifications
+-- start; code 0 closes the list
 unfoldable pub headAt : List ℕ → ℕ → DeclarationStep
 headAt s at =
     numberDeclaration (lebAt uleb s at) (λ code afterCode.
@@ -174,7 +176,9 @@ slotsOf (d ∷ ds) = (d .0 + 1) ∷ slotsOf ds
 
 -- from l to m the slots of the declarations are written, if there is room for them
 abbrev pub Gathered : List ℕ → ℕ → List ℕ → List ℕ → Type 0
-Gathered s at l m = (ds : List Placed) (e : ℕ) → declarationsFrom s at ≡ some (ds, e) → length ds ≤ length l → m ≡ slotsOf ds ++ drop (length ds) l
+Gathered s at l m =
+    (ds : List Placed) (e : ℕ) → declarationsFrom s at ≡ some (ds, e) → length ds ≤ length l
+    → m ≡ slotsOf ds ++ drop (length ds) l
 
 -- an index that is too short for the declarations stays as it is
 unfoldable pub indexed : List ℕ → List Placed → List ℕ
@@ -200,7 +204,8 @@ foundBy (some r) = r .1
 
 -- the first declaration with a code that starts before `to`
 unfoldable pub searchAt : List ℕ → ℕ → ℕ → ℕ → Found
-searchAt s to code at = foundBy (scan (length s) (λ n. pick (ltb n to) (searchTurn code (declarationAt s n)) (stop Nothing)) at)
+searchAt s to code at =
+    foundBy (scan (length s) (λ n. pick (ltb n to) (searchTurn code (declarationAt s n)) (stop Nothing)) at)
 
 unfoldable pub declarationFound : DeclarationStep → Found
 declarationFound (Declared d c) = Found′ d
@@ -220,7 +225,8 @@ holdsCode s slot code = pick (eqb slot 0) false (eqb (slotCode s slot) code)
 unfoldable pub headIn : List ℕ → ℕ → Found
 headIn s slot = declarationFound (headAt s (slot - 1))
 
--- the head of a code's declaration: at the slot that a code has where they are numbered from 1 on; else at the one where it stands by halves; else by the plain search
+-- the head of a code's declaration: at the slot that a code has where they are numbered from 1 on; else at the one
+-- where it stands by halves; else by the plain search
 unfoldable pub findHead : List ℕ → ℕ → List ℕ → ℕ → Found
 findHead s from index code =
     pick (holdsCode s (getD index (code - 1) 0) code) (headIn s (getD index (code - 1) 0))

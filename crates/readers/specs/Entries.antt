@@ -1,4 +1,5 @@
--- Entries of a unit (DWARF 5, 2.2, 2.3 and 7.5.2 to 7.5.4): an abbreviation code and the values of the declaration's attributes; code 0 is a terminator.
+-- Entries of a unit (DWARF 5, 2.2, 2.3 and 7.5.2 to 7.5.4): an abbreviation code and the values of the declaration's
+-- attributes; code 0 is a terminator.
 use Prim.Native.Nat.{ℕ, _+_}
 use mathlib.Core.Bool.{Bool}
 use mathlib.Core.List.{List, [], _∷_}
@@ -40,14 +41,17 @@ module _ (big : Bool) where
   unfoldable pub attributeOfReads : ℕ → ℕ → List Read → AttributeRead
   attributeOfReads form at [] = NoAttribute
   attributeOfReads form at (v ∷ []) = Attribute′ (record { form = form; field = fieldOf big at v })
-  attributeOfReads form at (f ∷ v ∷ rs) = Attribute′ (record { form = f .seen; field = fieldOf big (at + size big f) v })
+  attributeOfReads form at (f ∷ v ∷ rs) =
+      Attribute′ (record { form = f .seen; field = fieldOf big (at + size big f) v })
 
   unfoldable pub asAttribute : ℕ → ℕ → Option RunOf → AttributeRead
   asAttribute form at none = NoAttribute
   asAttribute form at (some r) = attributeOfReads form at (r .0)
 
 unfoldable pub attributeAt : Encoding → List ℕ → ℕ → ℕ → ℕ → AttributeRead
-attributeAt e s at name form = asAttribute (e .«big_endian») form at (readIn (e .«big_endian») asBytes (attributeLayout e name form) (drop at s))
+attributeAt e s at name form =
+    asAttribute (e .«big_endian») form at
+    (readIn (e .«big_endian») asBytes (attributeLayout e name form) (drop at s))
 
 -- where it ends
 unfoldable pub attributeEnd : AttributeRead → Moved
@@ -77,7 +81,8 @@ asPast big at (some r) = To (cursor (at + length (writeAll big (r .0))))
 -- past the values of the attributes whose specifications start at a place of the abbreviations
 unfoldable pub valuesAt : Encoding → List ℕ → ℕ → List ℕ → ℕ → Moved
 valuesAt e abbreviations specs unit at =
-    asPast (e .«big_endian») at (readIn (e .«big_endian») asBytes (specsLayout e (attributesFrom abbreviations specs)) (drop at unit))
+    asPast (e .«big_endian») at
+    (readIn (e .«big_endian») asBytes (specsLayout e (attributesFrom abbreviations specs)) (drop at unit))
 
 -- ---- entries and terminators
 
@@ -92,13 +97,16 @@ module _ (e : Encoding) (abbreviations : List ℕ) (look : ℕ → Found) where
 
   unfoldable pub entryFound : ℕ → ℕ → ℕ → Found → Step
   entryFound at values next Nothing = Unreadable
-  entryFound at values next (Found′ d) = Entry′ (record { offset = record { 0 = at }; declaration = d; values = cursor values; next = cursor next })
+  entryFound at values next (Found′ d) =
+      Entry′ (record { offset = record { 0 = at }; declaration = d; values = cursor values; next = cursor next })
 
   unfoldable pub stepOfReads : ℕ → List Read → Step
   stepOfReads at [] = Unreadable
   stepOfReads at (c ∷ rs) =
       pick (eqb (c .seen) 0) (Terminator (cursor (at + size (e .«big_endian») c)))
-      (entryFound at (at + size (e .«big_endian») c) (at + size (e .«big_endian») c + length (writeAll (e .«big_endian») rs)) (look (c .seen)))
+      (entryFound at (at + size (e .«big_endian») c)
+      (at + size (e .«big_endian») c + length (writeAll (e .«big_endian») rs))
+      (look (c .seen)))
 
   unfoldable pub asStep : ℕ → Option RunOf → Step
   asStep at none = Unreadable
@@ -106,7 +114,8 @@ module _ (e : Encoding) (abbreviations : List ℕ) (look : ℕ → Found) where
 
   -- the entry or terminator at a place of the unit; its end ends the stream
   unfoldable pub stepAt : List ℕ → ℕ → Step
-  stepAt unit at = pick (ltb at (length unit)) (asStep at (readIn (e .«big_endian») asBytes entryLayout (drop at unit))) End
+  stepAt unit at =
+      pick (ltb at (length unit)) (asStep at (readIn (e .«big_endian») asBytes entryLayout (drop at unit))) End
 
 -- ---- the head of an entry: its code and what that declares, the values of its attributes unread
 

@@ -29,10 +29,11 @@ onAttribute a NoAttribute k = []
 
 unfoldable pub valuesOf : Encoding → List ℕ → List AttributeSpec → ℕ → List Valued
 valuesOf e unit [] at = []
-valuesOf e unit (a ∷ rest) at = onAttribute a (attributeAt e unit at (a .name) (a .form)) (λ next. valuesOf e unit rest next)
+valuesOf e unit (a ∷ rest) at =
+    onAttribute a (attributeAt e unit at (a .name) (a .form)) (λ next. valuesOf e unit rest next)
 
--- the specifications from a place on, up to the pair of zeros or to one that can't be read: what stands before that one counts, since
--- a test may be decided there. A checked abbreviation list has none such, and there these are all.
+-- the specifications from a place on, up to the pair of zeros or to one that can't be read: what stands before that
+-- one counts, since a test may be decided there. A checked abbreviation list has none such, and there these are all.
 unfoldable pub onSpec : SpecStep → (AttributeSpec → List AttributeSpec) → List AttributeSpec
 onSpec (Spec a) k = k a
 onSpec (LastSpec c) k = []

@@ -1,4 +1,5 @@
--- Worked examples: tables 7.7 and 7.8 of DWARF 5, and what document 01 says of numbers, headers, abbreviations and expressions, computed by the definitions.
+-- Worked examples: tables 7.7 and 7.8 of DWARF 5, and what document 01 says of numbers, headers, abbreviations and
+-- expressions, computed by the definitions.
 use mathlib.Core.Path.{_≡_, refl}
 use Prim.Native.Nat.{ℕ, _^_, _-_}
 use mathlib.Core.Bool.{Bool, true, false}
@@ -11,7 +12,11 @@ use Rattle.readers.specs.Layout.{short, within16, numberIn, width}
 use Rattle.readers.specs.Cursors.{fixedAt, asFixed, lebAt, asLebNumber}
 use Rattle.readers.specs.Scan.{push, onTurn, scanWithin, scan}
 use Rattle.readers.specs.Slots.{codeOf, slotCode, slotWithin, slotOf}
-use Rattle.readers.specs.Abbreviations.{numberSpec, implicitSpec, specAt, specTurn, attributesFrom, scannedTo, pastAttributes, numberDeclaration, movedDeclaration, headAt, wholeDeclaration, declarationAt, declarationTurn, declarationsFrom, declaredIn, isFound, distinct, checkDistinct, abbreviationsOf, insertByCode, byCode, slotsOf, indexed, indexFor, indexOf}
+use Rattle.readers.specs.Abbreviations.{numberSpec, implicitSpec, specAt, specTurn, attributesFrom, scannedTo}
+use Rattle.readers.specs.Abbreviations.{pastAttributes, numberDeclaration, movedDeclaration, headAt}
+use Rattle.readers.specs.Abbreviations.{wholeDeclaration, declarationAt, declarationTurn, declarationsFrom}
+use Rattle.readers.specs.Abbreviations.{declaredIn, isFound, distinct, checkDistinct, abbreviationsOf}
+use Rattle.readers.specs.Abbreviations.{insertByCode, byCode, slotsOf, indexed, indexFor, indexOf}
 use Rattle.readers.specs.Header.{present, right, encodingOf, headerMade, headerFields, headerOf}
 use Rattle.readers.specs.declared.header.HeaderRead.the-variants.{Empty, Refused}
 
@@ -76,7 +81,8 @@ headers :
     × (headerOf (0x08 ∷ 0 ∷ 0 ∷ 0 ∷ 5 ∷ 0 ∷ 2 ∷ 8 ∷ 0 ∷ 0 ∷ 0 ∷ 0 ∷ []) ≡ Refused 2)
     × (headerOf (0x08 ∷ 0 ∷ 0 ∷ 0 ∷ 5 ∷ 0 ∷ 1 ∷ 3 ∷ 0 ∷ 0 ∷ 0 ∷ 0 ∷ []) ≡ Refused 2)
     × (headerOf (0x08 ∷ 0 ∷ 0 ∷ 0 ∷ 5 ∷ 0 ∷ 5 ∷ 8 ∷ 0 ∷ 0 ∷ 0 ∷ 0 ∷ []) ≡ Refused 1)
-unfolding headerOf headerFields present right headerMade encodingOf fixedAt asFixed numberIn width fixedValue ordered littleValue pick check _or_
+unfolding headerOf headerFields present right headerMade encodingOf fixedAt asFixed numberIn width fixedValue
+    ordered littleValue pick check _or_
 headers = (refl, refl, refl, refl, refl, refl, refl, refl, refl)
 
 -- ---- the index: declarations with the codes 9, 2 and 5 at 0, 5 and 10 in the order of their codes; zeros where it has no room for them
@@ -90,5 +96,9 @@ indices :
     × (slotOf nine-two-five (6 ∷ 11 ∷ 1 ∷ 0 ∷ 0 ∷ []) 2 ≡ 0)
     × (slotOf nine-two-five (6 ∷ 11 ∷ 1 ∷ 0 ∷ 0 ∷ []) 5 ≡ 1)
     × (slotOf nine-two-five (6 ∷ 11 ∷ 1 ∷ 0 ∷ 0 ∷ []) 9 ≡ 2)
-unfolding nine-two-five indexOf indexFor indexed slotsOf byCode insertByCode abbreviationsOf checkDistinct distinct isFound declaredIn declarationsFrom declarationTurn declarationAt headAt wholeDeclaration movedDeclaration numberDeclaration pastAttributes scannedTo attributesFrom specTurn specAt implicitSpec numberSpec slotOf slotWithin slotCode codeOf scan scanWithin onTurn push lebAt asLebNumber short within16 uleb groups below unsigned64 fixedAt asFixed numberIn width fixedValue ordered littleValue pick check bind _and_ _or_
+unfolding nine-two-five indexOf indexFor indexed slotsOf byCode insertByCode abbreviationsOf checkDistinct distinct
+    isFound declaredIn declarationsFrom declarationTurn declarationAt headAt wholeDeclaration movedDeclaration
+    numberDeclaration pastAttributes scannedTo attributesFrom specTurn specAt implicitSpec numberSpec slotOf
+    slotWithin slotCode codeOf scan scanWithin onTurn push lebAt asLebNumber short within16 uleb groups below
+    unsigned64 fixedAt asFixed numberIn width fixedValue ordered littleValue pick check bind _and_ _or_
 indices = (refl, refl, refl, refl, refl)

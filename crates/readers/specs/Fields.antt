@@ -1,4 +1,5 @@
--- What the readers of tokens and rows answer: what the layouts read (Layout.antt), from a place of a slice on, an expression as its bytes.
+-- What the readers of tokens and rows answer: what the layouts read (Layout.antt), from a place of a slice on, an
+-- expression as its bytes.
 use Prim.Native.Nat.{ℕ, _+_, _-_}
 use mathlib.Core.Bool.{Bool}
 use mathlib.Core.List.{List, [], _∷_}
@@ -75,7 +76,8 @@ boundedField at (Value v c) = pick (leb v 65535) (Field′ (record { value = v; 
 boundedField at Unreadable = NoField
 
 unfoldable pub blockField : List ℕ → Number → FieldRead
-blockField s (Value v c) = pick (leb v (length s - c .at)) (Field′ (record { value = 0; start = c .at; end = c .at + v })) NoField
+blockField s (Value v c) =
+    pick (leb v (length s - c .at)) (Field′ (record { value = 0; start = c .at; end = c .at + v })) NoField
 blockField s Unreadable = NoField
 
 -- a number by its token

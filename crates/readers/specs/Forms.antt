@@ -4,21 +4,22 @@ use mathlib.Core.List.{List, [], _∷_}
 use Prim.Native.Nat.{ℕ}
 use lib.Dec.{eqb, leb}
 use Rattle.readers.specs.Choice.{pick, _and_, _or_}
-use Rattle.readers.specs.Codes.{«DW_AT_sibling»}
-use Rattle.readers.specs.Codes.{«DW_FORM_addr», «DW_FORM_block2», «DW_FORM_block4», «DW_FORM_data2», «DW_FORM_data4»}
-use Rattle.readers.specs.Codes.{«DW_FORM_data8», «DW_FORM_string», «DW_FORM_block», «DW_FORM_block1», «DW_FORM_data1»}
-use Rattle.readers.specs.Codes.{«DW_FORM_flag», «DW_FORM_sdata», «DW_FORM_strp», «DW_FORM_udata», «DW_FORM_ref_addr»}
-use Rattle.readers.specs.Codes.{«DW_FORM_ref1», «DW_FORM_ref2», «DW_FORM_ref4», «DW_FORM_ref8», «DW_FORM_ref_udata»}
-use Rattle.readers.specs.Codes.{«DW_FORM_indirect», «DW_FORM_sec_offset», «DW_FORM_exprloc», «DW_FORM_flag_present»}
-use Rattle.readers.specs.Codes.{«DW_FORM_strx», «DW_FORM_addrx», «DW_FORM_ref_sup4», «DW_FORM_strp_sup»}
-use Rattle.readers.specs.Codes.{«DW_FORM_data16», «DW_FORM_line_strp», «DW_FORM_ref_sig8», «DW_FORM_implicit_const»}
-use Rattle.readers.specs.Codes.{«DW_FORM_loclistx», «DW_FORM_rnglistx», «DW_FORM_ref_sup8», «DW_FORM_strx1»}
-use Rattle.readers.specs.Codes.{«DW_FORM_strx2», «DW_FORM_strx3», «DW_FORM_strx4», «DW_FORM_addrx1», «DW_FORM_addrx2»}
-use Rattle.readers.specs.Codes.{«DW_FORM_addrx3», «DW_FORM_addrx4», «DW_FORM_GNU_str_index»}
+use Rattle.readers.specs.Codes.{«DW_AT_sibling», «DW_FORM_addr», «DW_FORM_block2», «DW_FORM_block4»}
+use Rattle.readers.specs.Codes.{«DW_FORM_data2», «DW_FORM_data4», «DW_FORM_data8», «DW_FORM_string»}
+use Rattle.readers.specs.Codes.{«DW_FORM_block», «DW_FORM_block1», «DW_FORM_data1», «DW_FORM_flag»}
+use Rattle.readers.specs.Codes.{«DW_FORM_sdata», «DW_FORM_strp», «DW_FORM_udata», «DW_FORM_ref_addr»}
+use Rattle.readers.specs.Codes.{«DW_FORM_ref1», «DW_FORM_ref2», «DW_FORM_ref4», «DW_FORM_ref8»}
+use Rattle.readers.specs.Codes.{«DW_FORM_ref_udata», «DW_FORM_indirect», «DW_FORM_sec_offset», «DW_FORM_exprloc»}
+use Rattle.readers.specs.Codes.{«DW_FORM_flag_present», «DW_FORM_strx», «DW_FORM_addrx», «DW_FORM_ref_sup4»}
+use Rattle.readers.specs.Codes.{«DW_FORM_strp_sup», «DW_FORM_data16», «DW_FORM_line_strp», «DW_FORM_ref_sig8»}
+use Rattle.readers.specs.Codes.{«DW_FORM_implicit_const», «DW_FORM_loclistx», «DW_FORM_rnglistx»}
+use Rattle.readers.specs.Codes.{«DW_FORM_ref_sup8», «DW_FORM_strx1», «DW_FORM_strx2», «DW_FORM_strx3»}
+use Rattle.readers.specs.Codes.{«DW_FORM_strx4», «DW_FORM_addrx1», «DW_FORM_addrx2», «DW_FORM_addrx3»}
+use Rattle.readers.specs.Codes.{«DW_FORM_addrx4», «DW_FORM_GNU_str_index»}
 use Rattle.readers.specs.Layout.{Role, reference, sibling, index, absolute, Token, forms, unknown, Layout, done, field}
-use Rattle.readers.specs.Tokens.{Use, plain, as′, tokenOf}
-use Rattle.readers.specs.Tokens.{no-bytes, bytes, address, offset, uleb128, sleb128, null-terminated, data16, unreadable}
-use Rattle.readers.specs.Tokens.{block1, block2, block4, block-uleb128, exprloc}
+use Rattle.readers.specs.Tokens.{Use, plain, as′, tokenOf, no-bytes, bytes, address, offset, uleb128, sleb128}
+use Rattle.readers.specs.Tokens.{null-terminated, data16, unreadable, block1, block2, block4, block-uleb128}
+use Rattle.readers.specs.Tokens.{exprloc}
 use Rattle.readers.specs.Operations.{Codes, code}
 use Rattle.readers.specs.declared.cursor.Encoding.{Encoding}
 
@@ -78,18 +79,21 @@ tokenAmong (x ∷ xs) f = pick (eqb (x .from) f) (x .row) (tokenAmong xs f)
 unfoldable pub formToken : ℕ → ℕ
 formToken f = tokenAmong formTokens f
 
--- What a rewriting may change in a value: the references within the unit (ref1 to ref8, ref_udata), as siblings under DW_AT_sibling; indices
--- by their form alone (document 01, "Rewriting"): rnglistx, loclistx, and strx, strx1 to strx4 and GNU_str_index.
+-- What a rewriting may change in a value: the references within the unit (ref1 to ref8, ref_udata), as siblings under
+-- DW_AT_sibling; indices by their form alone (document 01, "Rewriting"): rnglistx, loclistx, and strx, strx1 to strx4
+-- and GNU_str_index.
 unfoldable pub useOf : ℕ → ℕ → Use
 useOf name f =
     pick (leb «DW_FORM_ref1» f and leb f «DW_FORM_ref_udata») (as′ (pick (eqb name «DW_AT_sibling») sibling reference))
     (pick (eqb f «DW_FORM_ref_addr») (as′ absolute)
     (pick (eqb f «DW_FORM_rnglistx») (as′ (index 0))
     (pick (eqb f «DW_FORM_loclistx») (as′ (index 1))
-    (pick (eqb f «DW_FORM_strx» or (leb «DW_FORM_strx1» f and leb f «DW_FORM_strx4») or eqb f «DW_FORM_GNU_str_index») (as′ (index 2))
+    (pick (eqb f «DW_FORM_strx» or (leb «DW_FORM_strx1» f and leb f «DW_FORM_strx4») or eqb f «DW_FORM_GNU_str_index»)
+    (as′ (index 2))
     plain))))
 
--- The list that an index of a form counts in: rnglistx 0; loclistx 1; strx, strx1 to strx4 and GNU_str_index 2; 3 for a form that is no index.
+-- The list that an index of a form counts in: rnglistx 0; loclistx 1; strx, strx1 to strx4 and GNU_str_index 2; 3 for
+-- a form that is no index.
 unfoldable pub listForm : ℕ → ℕ
 listForm f =
     pick (eqb f «DW_FORM_rnglistx») 0

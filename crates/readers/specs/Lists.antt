@@ -20,7 +20,8 @@ unfoldable pub fromBase : List ℕ → ℕ → Number → ListOffset
 fromBase s base (Value v c) = listStart s (base + v)
 fromBase s base Unreadable = Unresolved
 
--- The offset with an index stands in the table at the base, a section offset an index, and counts from the base. Sums and products have no bound here:
--- above 64 bits they lie past every section's end.
+-- The offset with an index stands in the table at the base, a section offset an index, and counts from the base. Sums
+-- and products have no bound here: above 64 bits they lie past every section's end.
 unfoldable pub listOffset : Encoding → List ℕ → ℕ → ℕ → ListOffset
-listOffset e s base index = fromBase s base (fixedAt (e .«big_endian») (e .«offset_size») s (base + index * e .«offset_size»))
+listOffset e s base index =
+    fromBase s base (fixedAt (e .«big_endian») (e .«offset_size») s (base + index * e .«offset_size»))

@@ -1,5 +1,5 @@
--- The operand layout of every operation (DWARF 5, 7.7.1, table 7.9, and the GNU codes of document 01), and the layouts of range and location
--- list entries (7.25, 7.7.3): each a row of tokens, by its number.
+-- The operand layout of every operation (DWARF 5, 7.7.1, table 7.9, and the GNU codes of document 01), and the
+-- layouts of range and location list entries (7.25, 7.7.3): each a row of tokens, by its number.
 use mathlib.Core.Bool.{Bool}
 use mathlib.Core.List.{List, [], _∷_}
 use Prim.Native.Nat.{ℕ, suc}
@@ -7,32 +7,34 @@ use lib.ListN.{getD}
 use lib.Dec.{leb}
 use Rattle.readers.specs.Choice.{pick, _and_}
 use Rattle.readers.specs.Codes.{«DW_OP_addr», «DW_OP_deref», «DW_OP_const1u», «DW_OP_const1s», «DW_OP_const2u»}
-use Rattle.readers.specs.Codes.{«DW_OP_const2s», «DW_OP_const4u», «DW_OP_const4s», «DW_OP_const8u», «DW_OP_const8s»}
-use Rattle.readers.specs.Codes.{«DW_OP_constu», «DW_OP_consts», «DW_OP_dup», «DW_OP_drop», «DW_OP_over», «DW_OP_pick»}
-use Rattle.readers.specs.Codes.{«DW_OP_swap», «DW_OP_rot», «DW_OP_xderef», «DW_OP_abs», «DW_OP_and», «DW_OP_div»}
-use Rattle.readers.specs.Codes.{«DW_OP_minus», «DW_OP_mod», «DW_OP_mul», «DW_OP_neg», «DW_OP_not», «DW_OP_or», «DW_OP_plus»}
-use Rattle.readers.specs.Codes.{«DW_OP_plus_uconst», «DW_OP_shl», «DW_OP_shr», «DW_OP_shra», «DW_OP_xor», «DW_OP_bra»}
-use Rattle.readers.specs.Codes.{«DW_OP_eq», «DW_OP_ge», «DW_OP_gt», «DW_OP_le», «DW_OP_lt», «DW_OP_ne», «DW_OP_skip»}
-use Rattle.readers.specs.Codes.{«DW_OP_lit0», «DW_OP_lit31», «DW_OP_reg0», «DW_OP_reg31», «DW_OP_breg0», «DW_OP_breg31»}
-use Rattle.readers.specs.Codes.{«DW_OP_regx», «DW_OP_fbreg», «DW_OP_bregx», «DW_OP_piece», «DW_OP_deref_size»}
-use Rattle.readers.specs.Codes.{«DW_OP_xderef_size», «DW_OP_nop», «DW_OP_push_object_address», «DW_OP_call2»}
-use Rattle.readers.specs.Codes.{«DW_OP_call4», «DW_OP_call_ref», «DW_OP_form_tls_address», «DW_OP_call_frame_cfa»}
-use Rattle.readers.specs.Codes.{«DW_OP_bit_piece», «DW_OP_implicit_value», «DW_OP_stack_value»}
-use Rattle.readers.specs.Codes.{«DW_OP_implicit_pointer», «DW_OP_addrx», «DW_OP_constx», «DW_OP_entry_value»}
-use Rattle.readers.specs.Codes.{«DW_OP_const_type», «DW_OP_regval_type», «DW_OP_deref_type», «DW_OP_xderef_type»}
-use Rattle.readers.specs.Codes.{«DW_OP_convert», «DW_OP_reinterpret», «DW_OP_GNU_push_tls_address»}
-use Rattle.readers.specs.Codes.{«DW_OP_GNU_implicit_pointer», «DW_OP_GNU_entry_value», «DW_OP_GNU_const_type»}
-use Rattle.readers.specs.Codes.{«DW_OP_GNU_regval_type», «DW_OP_GNU_deref_type», «DW_OP_GNU_convert»}
-use Rattle.readers.specs.Codes.{«DW_OP_GNU_reinterpret», «DW_OP_GNU_parameter_ref», «DW_OP_GNU_addr_index»}
-use Rattle.readers.specs.Codes.{«DW_OP_GNU_const_index», «DW_OP_GNU_variable_value»}
-use Rattle.readers.specs.Codes.{«DW_RLE_base_addressx», «DW_RLE_startx_endx», «DW_RLE_startx_length»}
-use Rattle.readers.specs.Codes.{«DW_RLE_offset_pair», «DW_RLE_base_address», «DW_RLE_start_end», «DW_RLE_start_length»}
-use Rattle.readers.specs.Codes.{«DW_LLE_base_addressx», «DW_LLE_startx_endx», «DW_LLE_startx_length»}
-use Rattle.readers.specs.Codes.{«DW_LLE_offset_pair», «DW_LLE_default_location», «DW_LLE_base_address»}
-use Rattle.readers.specs.Codes.{«DW_LLE_start_end», «DW_LLE_start_length»}
+use Rattle.readers.specs.Codes.{«DW_OP_const2s», «DW_OP_const4u», «DW_OP_const4s», «DW_OP_const8u»}
+use Rattle.readers.specs.Codes.{«DW_OP_const8s», «DW_OP_constu», «DW_OP_consts», «DW_OP_dup», «DW_OP_drop»}
+use Rattle.readers.specs.Codes.{«DW_OP_over», «DW_OP_pick», «DW_OP_swap», «DW_OP_rot», «DW_OP_xderef»}
+use Rattle.readers.specs.Codes.{«DW_OP_abs», «DW_OP_and», «DW_OP_div», «DW_OP_minus», «DW_OP_mod», «DW_OP_mul»}
+use Rattle.readers.specs.Codes.{«DW_OP_neg», «DW_OP_not», «DW_OP_or», «DW_OP_plus», «DW_OP_plus_uconst»}
+use Rattle.readers.specs.Codes.{«DW_OP_shl», «DW_OP_shr», «DW_OP_shra», «DW_OP_xor», «DW_OP_bra», «DW_OP_eq»}
+use Rattle.readers.specs.Codes.{«DW_OP_ge», «DW_OP_gt», «DW_OP_le», «DW_OP_lt», «DW_OP_ne», «DW_OP_skip»}
+use Rattle.readers.specs.Codes.{«DW_OP_lit0», «DW_OP_lit31», «DW_OP_reg0», «DW_OP_reg31», «DW_OP_breg0»}
+use Rattle.readers.specs.Codes.{«DW_OP_breg31», «DW_OP_regx», «DW_OP_fbreg», «DW_OP_bregx», «DW_OP_piece»}
+use Rattle.readers.specs.Codes.{«DW_OP_deref_size», «DW_OP_xderef_size», «DW_OP_nop», «DW_OP_push_object_address»}
+use Rattle.readers.specs.Codes.{«DW_OP_call2», «DW_OP_call4», «DW_OP_call_ref», «DW_OP_form_tls_address»}
+use Rattle.readers.specs.Codes.{«DW_OP_call_frame_cfa», «DW_OP_bit_piece», «DW_OP_implicit_value»}
+use Rattle.readers.specs.Codes.{«DW_OP_stack_value», «DW_OP_implicit_pointer», «DW_OP_addrx», «DW_OP_constx»}
+use Rattle.readers.specs.Codes.{«DW_OP_entry_value», «DW_OP_const_type», «DW_OP_regval_type», «DW_OP_deref_type»}
+use Rattle.readers.specs.Codes.{«DW_OP_xderef_type», «DW_OP_convert», «DW_OP_reinterpret»}
+use Rattle.readers.specs.Codes.{«DW_OP_GNU_push_tls_address», «DW_OP_GNU_implicit_pointer»}
+use Rattle.readers.specs.Codes.{«DW_OP_GNU_entry_value», «DW_OP_GNU_const_type», «DW_OP_GNU_regval_type»}
+use Rattle.readers.specs.Codes.{«DW_OP_GNU_deref_type», «DW_OP_GNU_convert», «DW_OP_GNU_reinterpret»}
+use Rattle.readers.specs.Codes.{«DW_OP_GNU_parameter_ref», «DW_OP_GNU_addr_index», «DW_OP_GNU_const_index»}
+use Rattle.readers.specs.Codes.{«DW_OP_GNU_variable_value», «DW_RLE_base_addressx», «DW_RLE_startx_endx»}
+use Rattle.readers.specs.Codes.{«DW_RLE_startx_length», «DW_RLE_offset_pair», «DW_RLE_base_address»}
+use Rattle.readers.specs.Codes.{«DW_RLE_start_end», «DW_RLE_start_length», «DW_LLE_base_addressx»}
+use Rattle.readers.specs.Codes.{«DW_LLE_startx_endx», «DW_LLE_startx_length», «DW_LLE_offset_pair»}
+use Rattle.readers.specs.Codes.{«DW_LLE_default_location», «DW_LLE_base_address», «DW_LLE_start_end»}
+use Rattle.readers.specs.Codes.{«DW_LLE_start_length»}
 use Rattle.readers.specs.Layout.{fixed, Role, reference, typeReference, absolute, number, Layout, done, field}
-use Rattle.readers.specs.Tokens.{Use, plain, as′, tokenOf}
-use Rattle.readers.specs.Tokens.{no-bytes, bytes, address, offset, uleb128, sleb128, block1, block-uleb128, exprloc, register, unreadable}
+use Rattle.readers.specs.Tokens.{Use, plain, as′, tokenOf, no-bytes, bytes, address, offset, uleb128, sleb128}
+use Rattle.readers.specs.Tokens.{block1, block-uleb128, exprloc, register, unreadable}
 use Rattle.readers.specs.declared.cursor.Encoding.{Encoding}
 
 -- ---- rows: up to three tokens, by the numbers of Tokens.antt, and what the first two are used as
@@ -58,10 +60,12 @@ row0 = row1 no-bytes
 
 -- the first, or the second, names something
 abbrev first-as : Role → Row → Row
-first-as role r = record { first = r .first; second = r .second; third = r .third; firstUse = as′ role; secondUse = r .secondUse }
+first-as role r =
+    record { first = r .first; second = r .second; third = r .third; firstUse = as′ role; secondUse = r .secondUse }
 
 abbrev second-as : Role → Row → Row
-second-as role r = record { first = r .first; second = r .second; third = r .third; firstUse = r .firstUse; secondUse = as′ role }
+second-as role r =
+    record { first = r .first; second = r .second; third = r .third; firstUse = r .firstUse; secondUse = as′ role }
 
 unfoldable pub unreadableRow : Row
 unreadableRow = row1 unreadable
@@ -307,7 +311,7 @@ operationRow c = rowAmong operations c
 unfoldable pub operation : Encoding → Layout
 operation e = field (number (fixed 1)) (λ c. rowLayout e (rowOf (operationRow c)))
 
--- ---- list entries: a kind of one byte, and its operands. DW_RLE_end_of_list and DW_LLE_end_of_list end a list and are none of these.
+-- ---- list entries: a kind of one byte, and its operands. An end of list has no row.
 
 -- 7.25, table 7.30
 unfoldable pub rangeEntries : List Codes

@@ -10,7 +10,8 @@ use Rattle.readers.specs.Choice.{pick, _or_, zeros}
 use Rattle.readers.specs.Header.{encodingOf}
 use Rattle.readers.specs.Operations.{row-reference2, row-reference4, row-type, row-bytes1-type, row-type-block1}
 use Rattle.readers.specs.Operations.{row-expression, row-offset, row-offset-sleb128}
-use Rattle.readers.specs.Layout.{Encoded, infixed, inleb, width, Role, reference, typeReference, sibling, index, absolute, Piece, copied, linked, pieceBytes}
+use Rattle.readers.specs.Layout.{Encoded, infixed, inleb, width, Role, reference, typeReference, sibling, index}
+use Rattle.readers.specs.Layout.{absolute, Piece, copied, linked, pieceBytes}
 use Rattle.readers.specs.Expression.{expressionIn}
 use Rattle.readers.specs.Scan.{Turn, more, stop, Scanned, scan}
 use Rattle.readers.specs.Steps.{operationAt}
@@ -73,12 +74,14 @@ walkOf e s = asWalk (e .«big_endian») (expressionIn e s)
 
 -- the entry that an operand names; b: whether the operand is a ULEB128 number
 unfoldable pub named : Field → Bool → Cursor → Yield
-named f b c = Yielded (record { place = f .start; target = record { 0 = f .value }; leb = b; width = f .end - f .start; next = c })
+named f b c =
+    Yielded (record { place = f .start; target = record { 0 = f .value }; leb = b; width = f .end - f .start; next = c })
 
 unfoldable pub namedType : Field → Cursor → Yield
 namedType f c = pick (eqb (f .value) 0) End (named f true c)
 
--- By the rows of Operations.antt, in their order: two name an entry, four a type, by their first or their second operand.
+-- By the rows of Operations.antt, in their order: two name an entry, four a type, by their first or their second
+-- operand.
 unfoldable pub referenceOf : Operation → Yield
 referenceOf op =
     pick (ltb (op .row) row-reference2) End
@@ -95,7 +98,9 @@ counted End = 0
 -- an operation by itself; two rows hold an offset in the section
 unfoldable pub ownWalk : Operation → Walk
 ownWalk op =
-    pick (eqb (op .row) row-offset or eqb (op .row) row-offset-sleb128) (Walked 0 true) (Walked (counted (referenceOf op)) false)
+    pick (eqb (op .row) row-offset or eqb (op .row) row-offset-sleb128)
+    (Walked 0 true)
+    (Walked (counted (referenceOf op)) false)
 
 unfoldable pub yieldTurn : Yield → Cursor → Turn (Unit {0}) Yield
 yieldTurn (Yielded r) c = stop (Yielded r)
@@ -128,9 +133,9 @@ unfoldable pub namesOf : Yield → List Named
 namesOf (Yielded r) = (r .place, r .target .0, encodedBy (r .leb) (r .width)) ∷ []
 namesOf End = []
 
--- Reference after reference from a place on, each from where the one before it ends, until there is none. From the start of an expression
--- that can be read these are its references (`walked-yields`, proofs/Answers.antt). From any other place they are what the bytes there say,
--- read as operations: nothing tells where a nested part ends.
+-- Reference after reference from a place on, each from where the one before it ends, until there is none. From the
+-- start of an expression that can be read these are its references (`walked-yields`, proofs/Answers.antt). From any
+-- other place they are what the bytes there say, read as operations: nothing tells where a nested part ends.
 pub data Yields (e : Encoding) (s : List ℕ) : ℕ → List Named → Type 0 where
   no-more : {at : ℕ} → nextReference e s at ≡ End → Yields e s at []
   one-more : {at : ℕ} {rs : List Named} (r : Reference) → nextReference e s at ≡ Yielded r → Yields e s (r .next .at) rs
@@ -164,7 +169,8 @@ walkAnswer room (Walked n true) = Refused (refusalOfWalk (Walked n true))
 walkAnswer room (Walked n false) = pick (leb n room) (Count n) (Refused 11)
 
 unfoldable pub referencesAnswer : ℕ → ℕ → List ℕ → References
-referencesAnswer n numbers s = pick (eqb n 4 or eqb n 8) (walkAnswer (numbers / 3) (walkOf (encodingOf n) s)) (Refused 2)
+referencesAnswer n numbers s =
+    pick (eqb n 4 or eqb n 8) (walkAnswer (numbers / 3) (walkOf (encodingOf n) s)) (Refused 2)
 
 -- three numbers each: the place, the offset, the width in bytes
 unfoldable pub numbersOf : List Named → List ℕ

@@ -1,5 +1,5 @@
--- Reading one thing after another: at a place there is one more thing and the place past it, or the end, or something unreadable.
--- A count bounds how often; the equation `scan-step` is free of it.
+-- Reading one thing after another: at a place there is one more thing and the place past it, or the end, or something
+-- unreadable. A count bounds how often; the equation `scan-step` is free of it.
 use mathlib.Core.Path.{_≡_, refl, ap, sym, _∙_}
 use Prim.Native.Nat.{ℕ, zero, suc, _+_, _-_, _≤_, _<_}
 use native.Mathlib.Omega.{arith}

@@ -1,4 +1,5 @@
--- The entries and terminators of a unit, one after the other (DWARF 5, 2.3 and 7.5.2): from a place on, up to the unit's end or to what can't be read.
+-- The entries and terminators of a unit, one after the other (DWARF 5, 2.3 and 7.5.2): from a place on, up to the
+-- unit's end or to what can't be read.
 use Prim.Native.Nat.{ℕ, zero, suc, _-_}
 use mathlib.Core.Bool.{Bool, true, false}
 use mathlib.Core.List.{List, [], _∷_}

@@ -1,4 +1,5 @@
--- The tokens that forms, operations and list entries are laid out by, each by a number, so that constant tables can name them.
+-- The tokens that forms, operations and list entries are laid out by, each by a number, so that constant tables can
+-- name them.
 use Prim.Native.Nat.{ℕ, suc}
 use mathlib.Core.Bool.{Bool}
 use lib.Dec.{eqb, leb}

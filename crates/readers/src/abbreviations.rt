@@ -3,7 +3,9 @@ ghost use mathlib.Core.Path.{_≡_};
 ghost use Prim.Native.Nat.{_-_};
 ghost use lib.ListN.{length, getD};
 ghost use Rattle.readers.specs.Choice.{zeros};
-ghost use Rattle.readers.specs.Abbreviations.{specAt, implicitSpec, pastAttributes, headAt, declarationAt, declarationsFrom, searchAt, checkedOf, accepted, countOf, Gathered, indexOf, holdsCode, headIn, findHead};
+ghost use Rattle.readers.specs.Abbreviations.{specAt, implicitSpec, pastAttributes, headAt, declarationAt};
+ghost use Rattle.readers.specs.Abbreviations.{declarationsFrom, searchAt, checkedOf, accepted, countOf, Gathered};
+ghost use Rattle.readers.specs.Abbreviations.{indexOf, holdsCode, headIn, findHead};
 ghost use Rattle.readers.specs.declared.abbreviations.Checked.the-variants.{Accepted};
 use crate::codes::DW_CHILDREN_yes;
 use crate::codes::DW_FORM_implicit_const;
@@ -130,7 +132,8 @@ impl Cursor {
         }
     }
 
-    // The head of the declaration at a place: its code, tag and children byte, and the cursor to its attribute specifications.
+    // The head of the declaration at a place: its code, tag and children byte, and the cursor to its attribute
+    // specifications.
     pub fn head(self, s: &[u8]) -> DeclarationStep
         ensures { λ r. ⌜ r ≡ headAt (now (s .entry)) (self .at) ⌝ }
     {
@@ -205,7 +208,8 @@ impl Cursor {
     }
 }
 
-// Writes one more than the place of each declaration into the slots of an index, in their order, as far as there is room, and counts them.
+// Writes one more than the place of each declaration into the slots of an index, in their order, as far as there is
+// room, and counts them.
 fn gather(s: &[u8], start: usize, index: &mut [u64]) -> Count
     ensures counted { λ r. ⌜ r ≡ countOf (declarationsFrom (now (s .entry)) start) ⌝ }
     ensures gathered { λ r. ⌜ Gathered (now (s .entry)) start (now (index .entry)) (now (index .exit)) ⌝ }
@@ -234,8 +238,8 @@ fn gather(s: &[u8], start: usize, index: &mut [u64]) -> Count
     }
 }
 
-// Whether the declarations can be read and no code is declared twice, by a search for each: as many steps as the square of their number. Only for an
-// index that is too short for them.
+// Whether the declarations can be read and no code is declared twice, by a search for each: as many steps as the
+// square of their number. Only for an index that is too short for them.
 fn check_plain(s: &[u8], start: usize) -> Checked
     ensures { λ r. ⌜ r ≡ checkedOf (now (s .entry)) start ⌝ }
 {
@@ -272,7 +276,8 @@ fn accept(a: Arranged) -> Checked
 fn fill_index(s: &[u8], start: usize, index: &mut [u64]) -> Checked
     requires { ⌜ now index ≡ zeros (length (now index)) ⌝ }
     ensures answer { λ r. ⌜ r ≡ checkedOf (now (s .entry)) start ⌝ }
-    ensures filled { λ r. ⌜ (r ≡ Accepted → now (index .exit) ≡ indexOf (now (s .entry)) start (length (now (index .entry)))) ⌝ }
+    ensures filled { λ r. ⌜
+        (r ≡ Accepted → now (index .exit) ≡ indexOf (now (s .entry)) start (length (now (index .entry)))) ⌝ }
 {
     let Count::Of(count) = gather(s, start, index) else {
         return Checked::Refused;
@@ -284,8 +289,9 @@ fn fill_index(s: &[u8], start: usize, index: &mut [u64]) -> Checked
     accept(order(s, &mut index[..count]))
 }
 
-// Checks the whole list of declarations that starts at an offset, and fills an index of them: one more than the place of each, in ascending order of
-// their codes, then zeros. An index with fewer numbers than there are declarations holds zeros alone, and so does one of a list that is refused.
+// Checks the whole list of declarations that starts at an offset, and fills an index of them: one more than the place
+// of each, in ascending order of their codes, then zeros. An index with fewer numbers than there are declarations
+// holds zeros alone, and so does one of a list that is refused.
 pub fn check_abbreviations(s: &[u8], from: u64, index: &mut [u64]) -> Checked
     ensures answer { λ r. ⌜ r ≡ checkedOf (now (s .entry)) from ⌝ }
     ensures filled { λ r. ⌜ now (index .exit) ≡ indexOf (now (s .entry)) from (length (now (index .entry))) ⌝ }
@@ -339,9 +345,10 @@ fn head_in(s: &[u8], slot: u64) -> Found
     }
 }
 
-// The declaration with a code: through the slot that it has where compilers number from 1 on, else through the one that a search by halves ends at,
-// else by the plain search, which is left for a code that is not declared and for an index that is too short. Its head alone is read: whoever reads an
-// entry's values reads the attribute specifications, and finds out whether that is possible.
+// The declaration with a code: through the slot that it has where compilers number from 1 on, else through the one
+// that a search by halves ends at, else by the plain search, which is left for a code that is not declared and for an
+// index that is too short. Its head alone is read: whoever reads an entry's values reads the attribute
+// specifications, and finds out whether that is possible.
 pub fn find_declaration(s: &[u8], from: u64, index: &[u64], code: u64) -> Found
     ensures { λ r. ⌜ r ≡ findHead (now (s .entry)) from (now (index .entry)) code ⌝ }
 {

@@ -121,7 +121,8 @@ pub fn list_of(form: u64) -> u8
 }
 
 impl Cursor {
-    // A value in a form that is not DW_FORM_indirect. A sibling in exprloc, and implicit_const under indirect, are unreadable.
+    // A value in a form that is not DW_FORM_indirect. A sibling in exprloc, and implicit_const under indirect, are
+    // unreadable.
     fn value(self, s: &[u8], indirect: bool, name: u64, form: u64, e: Encoding) -> FieldRead
         ensures { λ r. ⌜ r ≡ tokenAt e (now (s .entry)) (self .at) (valueToken e indirect name form) ⌝ }
     {
@@ -157,7 +158,8 @@ impl Cursor {
         AttributeRead::Read(Attribute { form: found, field })
     }
 
-    // The value of an attribute of a name and a declared form. Most are of a fixed width or ULEB128 numbers, which no name makes unreadable.
+    // The value of an attribute of a name and a declared form. Most are of a fixed width or ULEB128 numbers, which no
+    // name makes unreadable.
     pub fn attribute(self, s: &[u8], name: u64, form: u64, e: Encoding) -> AttributeRead
         ensures { λ r. ⌜ r ≡ attributeAt e (now (s .entry)) (self .at) name form ⌝ }
     {

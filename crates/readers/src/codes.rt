@@ -1,4 +1,5 @@
-// The codes of the standard, by its own names: those that the code uses. Operations stand in the table of operations.rt.
+// The codes of the standard, by its own names: those that the code uses. Operations stand in the table of
+// operations.rt.
 
 // Tags (DWARF 5, 7.5.3, table 7.3).
 pub const DW_TAG_compile_unit: u64 = 0x11;

@@ -1,4 +1,5 @@
-// Where a reader stands, what it reads by, and the numbers that DWARF is made of. Each read takes the cursor and hands the next one back.
+// Where a reader stands, what it reads by, and the numbers that DWARF is made of. Each read takes the cursor and
+// hands the next one back.
 ghost use mathlib.Core.Path.{_≡_};
 ghost use Prim.Native.Nat.{_+_, _*_, _-_, _<_};
 ghost use mathlib.Core.Bool.{Bool};
@@ -27,7 +28,8 @@ pub enum Number {
     Unreadable,
 }
 
-// The groups of a LEB128 number of at most ten bytes: its value is low + high * 2^63, and weight is 128 to the number of bytes before the last.
+// The groups of a LEB128 number of at most ten bytes: its value is low + high * 2^63, and weight is 128 to the number
+// of bytes before the last.
 pub enum Groups {
     Whole {
         low: u64,

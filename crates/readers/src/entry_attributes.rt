@@ -7,8 +7,8 @@ use crate::attributes::AttributeRead;
 use crate::cursor::Cursor;
 use crate::cursor::Encoding;
 
-// An attribute of an entry: its name, the form that it is declared with, its value, the cursor past its specification, and the cursor
-// past its value.
+// An attribute of an entry: its name, the form that it is declared with, its value, the cursor past its
+// specification, and the cursor past its value.
 pub struct EntryAttribute {
     pub name: u64,
     pub declared: u64,

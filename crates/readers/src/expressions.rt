@@ -5,7 +5,8 @@ ghost use Prim.Native.Nat.{_*_, _-_};
 ghost use lib.ListN.{length};
 ghost use Rattle.readers.specs.Choice.{_or_};
 ghost use Rattle.readers.specs.Choice.{zeros};
-ghost use Rattle.readers.specs.References.{walkOf, ownWalk, named, namedType, referenceOf, nextReference, flatFrom, referencesAnswer, referencesTable, numbersOf, Room};
+ghost use Rattle.readers.specs.References.{walkOf, ownWalk, named, namedType, referenceOf, nextReference};
+ghost use Rattle.readers.specs.References.{flatFrom, referencesAnswer, referencesTable, numbersOf, Room};
 use crate::cursor::Cursor;
 use crate::cursor::Encoding;
 use crate::fields::Field;
@@ -15,15 +16,15 @@ use crate::operations::Operation;
 use crate::operations::OperationRead;
 use crate::tables::clear;
 
-// What a walk of a whole expression finds, nested ones included: how many references it holds, and whether it names anything by an offset in the
-// section.
+// What a walk of a whole expression finds, nested ones included: how many references it holds, and whether it names
+// anything by an offset in the section.
 pub enum Walk {
     Walked { references: usize, absolute: bool },
     Unreadable,
 }
 
-// A reference of an expression: where its operand stands, the offset that it names, how its operand is written (`leb`: as a ULEB128 number) and in how
-// many bytes, and where the walk goes on.
+// A reference of an expression: where its operand stands, the offset that it names, how its operand is written
+// (`leb`: as a ULEB128 number) and in how many bytes, and where the walk goes on.
 pub struct Reference {
     pub place: usize,
     pub target: UnitOffset,
@@ -183,10 +184,11 @@ pub fn walk_expression(s: &[u8], e: Encoding) -> Walk
 }
 
 impl Cursor {
-    // The next reference of an expression, at or after a place. The walk goes on inside an entry value, so that it passes each byte once.
-    // It must start at 0 of an expression that walk_expression walked to its end, and go on from each reference's `next`: then it yields the
-    // expression's references, each once, in their order (`walked-yields` in proofs/Answers.antt). From any other place it yields what the bytes
-    // there say, read as operations: it can't tell where a nested part ends.
+    // The next reference of an expression, at or after a place. The walk goes on inside an entry value, so that it
+    // passes each byte once. It must start at 0 of an expression that walk_expression walked to its end, and go on
+    // from each reference's `next`: then it yields the expression's references, each once, in their order
+    // (`walked-yields` in proofs/Answers.antt). From any other place it yields what the bytes there say, read as
+    // operations: it can't tell where a nested part ends.
     pub fn next_reference(self, s: &[u8], e: Encoding) -> Yield
         ensures { λ r. ⌜ r ≡ nextReference e (now (s .entry)) (self .at) ⌝ }
     {
@@ -215,11 +217,13 @@ impl Cursor {
     }
 }
 
-// The references of an expression, in walk order: three numbers each, where its operand stands, the offset that it names, and the operand's width.
-// Refused with 2 for an address size other than 4 and 8, 5 for an unreadable expression, 7 for an offset in the section, 11 for a table that is too short.
+// The references of an expression, in walk order: three numbers each, where its operand stands, the offset that it
+// names, and the operand's width. Refused with 2 for an address size other than 4 and 8, 5 for an unreadable
+// expression, 7 for an offset in the section, 11 for a table that is too short.
 pub fn references_of_expression(s: &[u8], address_size: u8, table: &mut [u64]) -> References
     ensures answer { λ r. ⌜ r ≡ referencesAnswer «address_size» (length (now (table .entry))) (now (s .entry)) ⌝ }
-    ensures filled { λ r. ⌜ now (table .exit) ≡ referencesTable «address_size» (length (now (table .entry))) (now (s .entry)) ⌝ }
+    ensures filled { λ r. ⌜ now (table .exit)
+        ≡ referencesTable «address_size» (length (now (table .entry))) (now (s .entry)) ⌝ }
 {
     clear(table);
     if address_size != 4 {
@@ -253,7 +257,8 @@ pub fn references_of_expression(s: &[u8], address_size: u8, table: &mut [u64]) -
 // Writes the references into a cleared table that has room for them.
 fn fill_references(s: &[u8], e: Encoding, table: &mut [u64], count: usize)
     requires { ⌜ Room (flatFrom e (now s) 0) (now table) count ⌝ }
-    ensures { λ _. ⌜ now (table .exit) ≡ numbersOf (flatFrom e (now (s .entry)) 0) ++ zeros (length (now (table .entry)) - 3 * count) ⌝ }
+    ensures { λ _. ⌜ now (table .exit)
+        ≡ numbersOf (flatFrom e (now (s .entry)) 0) ++ zeros (length (now (table .entry)) - 3 * count) ⌝ }
 {
     let mut c = Cursor { at: 0 };
     let mut i: usize = 0;

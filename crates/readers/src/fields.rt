@@ -9,7 +9,8 @@ use crate::cursor::Number;
 use crate::cursor::left;
 use crate::layouts::*;
 
-// What a token read: its number (0 where it is none), and where its payload starts and ends. The payload of a block or an expression follows its length.
+// What a token read: its number (0 where it is none), and where its payload starts and ends. The payload of a block
+// or an expression follows its length.
 pub struct Field {
     pub value: u64,
     pub start: usize,
@@ -291,8 +292,8 @@ impl Cursor {
         })
     }
 
-    // An exprloc: a length, and that many bytes. Unreadable where its length is, or where the bytes are not there; so an unreadable one is told from one
-    // of no bytes.
+    // An exprloc: a length, and that many bytes. Unreadable where its length is, or where the bytes are not there; so
+    // an unreadable one is told from one of no bytes.
     pub fn exprloc(self, s: &[u8]) -> FieldRead
         ensures { λ r. ⌜ r ≡ exprlocAt (now (s .entry)) (self .at) ⌝ }
     {
@@ -301,7 +302,8 @@ impl Cursor {
 }
 
 impl Field {
-    // The part of the slice that the field's payload is, as far as the slice has it: of an exprloc the expression after its length.
+    // The part of the slice that the field's payload is, as far as the slice has it: of an exprloc the expression
+    // after its length.
     pub fn expression<'a>(self, s: &'a [u8]) -> &'a [u8]
         ensures { λ r. ⌜ now r ≡ partOf (now (s .entry)) self ⌝ }
     {

@@ -10,8 +10,8 @@ use crate::cursor::Number;
 use crate::cursor::left;
 use crate::offsets::UnitOffset;
 
-// A unit's header: what its fields are read by, its type, where its abbreviations start in their section, where its first entry starts, and where the
-// unit ends in the section.
+// A unit's header: what its fields are read by, its type, where its abbreviations start in their section, where its
+// first entry starts, and where the unit ends in the section.
 pub struct UnitHeader {
     pub encoding: Encoding,
     pub unit_type: u8,
@@ -20,7 +20,8 @@ pub struct UnitHeader {
     pub end: usize,
 }
 
-// The header of the first unit of a section, or why it is refused: 1 where it is cut short, 2 for a value outside the domain.
+// The header of the first unit of a section, or why it is refused: 1 where it is cut short, 2 for a value outside the
+// domain.
 pub enum HeaderRead {
     Unit(UnitHeader),
     Empty,

@@ -1,5 +1,5 @@
-// The tokens that forms, operations and list entries are laid out by, and the rows of tokens that are operands, each by its number
-// (specs/Tokens.antt, specs/Operations.antt): one more than the one before it.
+// The tokens that forms, operations and list entries are laid out by, and the rows of tokens that are operands, each
+// by its number (specs/Tokens.antt, specs/Operations.antt): one more than the one before it.
 
 // Tokens. Numbers of 1 to 8 bytes have the numbers 1 to 8.
 pub const NO_BYTES: u8 = 0;

@@ -1,4 +1,5 @@
-// Readers of DWARF 5 units: numbers, headers, abbreviations, attributes, entries, expressions and lists, over lent slices.
+// Readers of DWARF 5 units: numbers, headers, abbreviations, attributes, entries, expressions and lists, over lent
+// slices.
 pub mod abbreviations;
 pub mod attributes;
 pub mod codes;

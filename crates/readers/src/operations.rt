@@ -269,7 +269,8 @@ const OPERATIONS: [u8; 256] = [
     ROW_UNREADABLE, // 0xff
 ];
 
-// The same for the kinds of range list entries, and of location list entries. No row is read for the kind that ends a list.
+// The same for the kinds of range list entries, and of location list entries. No row is read for the kind that ends a
+// list.
 const RANGE_ENTRIES: [u8; 8] = [
     ROW_UNREADABLE, // 0x00 DW_RLE_end_of_list
     ROW_ULEB128, // 0x01 DW_RLE_base_addressx
