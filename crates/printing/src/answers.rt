@@ -183,8 +183,8 @@ fn line(
 
 // ---- bundles
 
-// The unit of given sections: tables of 2,048 entries and 8,192 references, 4,096 map places, 8,192 numbers a list, 65,536 output bytes. What is lent for
-// the answer holds no zeros before the call.
+// The unit of given sections: tables of 2,048 entries and 8,192 references, 4,096 map places, 8,192 numbers a list,
+// 65,536 output bytes. What is lent for the answer holds no zeros before the call.
 fn unit(
     section: &[u8],
     abbreviations: &[u8],
@@ -299,7 +299,8 @@ fn of_bundle(s: &[u8], whole: bool) {
     );
 }
 
-// Prints the entries of a bundle's unit with their marks and new offsets; `refused` and a number; `bundle` where it is none.
+// Prints the entries of a bundle's unit with their marks and new offsets; `refused` and a number; `bundle` where it is
+// none.
 pub fn thin(s: &[u8]) {
     of_bundle(s, false);
 }

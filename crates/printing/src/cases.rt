@@ -1,10 +1,12 @@
-// Cases of collect that say what they lend: settings, then a bundle. Nothing that is lent holds zeros before the call; after it all of the map, the lists and the output is printed.
+// Cases of collect that say what they lend: settings, then a bundle. Nothing that is lent holds zeros before the call;
+// after it all of the map, the lists and the output is printed.
 ghost use Prim.Native.Nat.{_≤_};
 use crate::answers::hex;
 use crate::answers::refused;
 use crate::size;
 use crate::text::number;
 use crate::text::text;
+use bundle::Bundle;
 use bundle::BundleRead;
 use bundle::section_bytes;
 use readers::cursor::Cursor;
@@ -68,7 +70,7 @@ fn lent(settings: &[u8], at: usize, most: usize) -> usize
 
 // ---- the call
 
-// The answer for the bundle's unit, which the caller has read before.
+// The answer for the bundle's unit.
 fn collect_bundle(
     settings: &[u8],
     s: &[u8],
@@ -85,11 +87,9 @@ fn collect_bundle(
     location_list: &mut [u8],
     string_list: &mut [u8],
     out: &mut [u8],
+    b: Bundle,
 ) -> Collected {
     let mut work = [0xa5a5_a5a5u32; 4096];
-    let BundleRead::Read(b) = bundle::read_bundle(s) else {
-        return Collected::Refused(0);
-    };
     rewriting::collect::collect(
         section_bytes(s, b.unit),
         section_bytes(s, b.abbreviations),
@@ -132,6 +132,7 @@ fn lend(
     location_list: &mut [u8],
     string_list: &mut [u8],
     out: &mut [u8],
+    b: Bundle,
 ) -> Collected {
     let of_index = lent(settings, INDEX, index.len());
     let of_offsets = lent(settings, OFFSETS, offsets.len());
@@ -162,6 +163,7 @@ fn lend(
         &mut location_list[..of_location_list],
         &mut string_list[..of_string_list],
         &mut out[..of_out],
+        b,
     )
 }
 
@@ -356,7 +358,7 @@ fn lent_bytes(
 
 // ---- cases
 
-fn unit(settings: &[u8], s: &[u8]) {
+fn unit(settings: &[u8], s: &[u8], b: Bundle) {
     let mut index = [0xa5a5_a5a5_a5a5_a5a5u64; 1024];
     let mut offsets = [0xa5a5_a5a5_a5a5_a5a5u64; 2048];
     let mut parents = [0xa5a5_a5a5u32; 2048];
@@ -386,6 +388,7 @@ fn unit(settings: &[u8], s: &[u8]) {
         &mut location_list,
         &mut string_list,
         &mut out,
+        b,
     ));
     lent_bytes(
         settings,
@@ -435,8 +438,8 @@ fn case(settings: &[u8], s: &[u8]) {
         BundleRead::Wrong => {
             text(b"bundle\n");
         }
-        BundleRead::Read(_) => {
-            unit(settings, s);
+        BundleRead::Read(b) => {
+            unit(settings, s, b);
         }
     }
 }

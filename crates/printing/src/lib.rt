@@ -153,8 +153,8 @@ fn argument_at(i: usize, what: u8) -> u8 {
     argument(&word[..length], what)
 }
 
-// Prints what the program's arguments ask for: `# ..` is a heading, printed as it is; `dump`, `marks`, `thin`, `collect` or `cases` says
-// what is printed of the files that the arguments after it name.
+// Prints what the program's arguments ask for: `# ..` is a heading, printed as it is; `dump`, `marks`, `thin`,
+// `collect` or `cases` says what is printed of the files that the arguments after it name.
 pub fn arguments() {
     let mut what = DUMP;
     let mut i: usize = 1;

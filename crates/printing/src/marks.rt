@@ -1,4 +1,5 @@
-// The marks of a bundle's unit: how many entries it has and how many are kept, then a line for each entry, its offset and its mark.
+// The marks of a bundle's unit: how many entries it has and how many are kept, then a line for each entry, its offset
+// and its mark.
 use crate::text::number;
 use crate::text::text;
 use bundle::BundleRead;
@@ -31,7 +32,8 @@ fn lines(offsets: &[u64], marks: &[u8], entries: usize) {
     }
 }
 
-// Marks the unit of given sections, with tables of 8,192 references and as many entries as the caller has offsets and marks for, 2,048 at most.
+// Marks the unit of given sections, with tables of 8,192 references and as many entries as the caller has offsets and
+// marks for, 2,048 at most.
 pub fn mark(
     section: &[u8],
     abbreviations: &[u8],

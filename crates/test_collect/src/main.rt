@@ -1,4 +1,5 @@
-// Prints what the arguments ask for, of kept cases, cases made by hand and bundles that thin reads; then padded numbers.
+// Prints what the arguments ask for, of kept cases, cases made by hand and bundles that thin reads; then padded
+// numbers.
 use printing::text::number;
 use printing::text::text;
 use rewriting::numbers::Padded;
