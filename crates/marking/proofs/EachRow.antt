@@ -20,7 +20,7 @@ use Rattle.marking.specs.EntryReferences.{Found, found, refused as refus
 use Rattle.marking.specs.declared.roots.Verdict.{Verdict}
 use Rattle.marking.specs.declared.roots.Verdict.the-variants.{Live, Dead, Refused as Failed}
 use Rattle.marking.specs.Analysis.{Sections, Rooms, Row, Analysed, analysed, onVerdict, onFound, Reached, reached, startOf, analyseItems, onDeclared, unitAnalysed, headerAnalysed, analysisOf, rootOf, namesOf, baseOf}
-use Rattle.marking.specs.UnitSurvivors.{Tested, RowOf, RowsOf, unitItems}
+use Rattle.marking.specs.EntryRows.{Tested, RowOf, RowsOf, unitItems}
 use Rattle.marking.proofs.Rows.{Gives, gives-of, gives-onto, gives-map, gives-refused, UnitRows, unit-rows}
 
 gives-names : (P : List Row → Type 0) (f : Found) (k : List ℕ → Analysed) → ((names : List ℕ) → f ≡ found names → Gives P (k names)) → Gives P (onFound f k)

@@ -15,7 +15,6 @@ pub mod Survivors
 pub mod Markings
 pub mod Rounds
 pub mod Letters
-pub mod Laws
 pub mod Passes
 pub mod Spreads
 pub mod Settled
@@ -31,10 +30,4 @@ pub mod Pairs
 pub mod Columned
 pub mod UnitMarkings
 pub mod Members
-pub mod GraphLaws
-pub mod UnitSurvivors
-pub mod KeptMarks
 pub mod EachRow
-pub mod UnitLaws
-pub mod Refusals
-pub mod TableRoom

@@ -10,7 +10,7 @@ use Rattle.readers.specs.Choice.{pick, zeros}
 use Rattle.readers.specs.Header.{headerOf}
 use Rattle.readers.specs.declared.header.HeaderRead.{HeaderRead}
 use Rattle.readers.specs.declared.header.HeaderRead.the-variants.{Unit as Unit′, Empty, Refused as Unheaded}
-use Rattle.marking.specs.Graph.{Graph, graph}
+use Rattle.marking.specs.Graph.{Graph, graph, size}
 use Rattle.marking.specs.Marks.{marksOf, keptCount, answerOf as markedOf, endMarks}
 use Rattle.marking.specs.Analysis.{Sections, Rooms, Row, Analysed, analysed, refused, headerAnalysed, analysisOf}
 use Rattle.marking.specs.Columns.{offsetsIn, parentsIn, rootsIn, namesIn, endsIn, padTo, column, least, roomsOf, unitRooms, indexAfter, answerOf}
@@ -270,3 +270,12 @@ module _ (x : Sections) (section : List ℕ) (nm nq nf np nr ne nt k : ℕ) (ind
               ),
             ),
           )
+
+-- an entry of the graph for each row, and a mark for each
+pub graph-size : (rows : List Row) → size (graphOf rows) ≡ length rows
+unfolding graphOf
+graph-size rows = length-parents rows
+
+pub marks-each : (rows : List Row) → length (marksIn rows) ≡ length rows
+unfolding marksIn
+marks-each rows = length-marks (graphOf rows) ∙ graph-size rows

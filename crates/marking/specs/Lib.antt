@@ -1,4 +1,3 @@
-pub mod RefusalNumbers
 pub mod Addresses
 pub mod Walking
 pub mod Roots
@@ -17,6 +16,5 @@ pub mod Analysis
 pub mod Columns
 pub mod Resolution
 pub mod Members
-pub mod UnitSurvivors
 pub mod Refusals
-pub mod TableRoom
+pub mod EntryRows

@@ -21,4 +21,3 @@ pub mod Yields
 pub mod OwnReferences
 pub mod ReferenceTables
 pub mod Answers
-pub mod Refusals

@@ -12,7 +12,6 @@ pub mod Fields
 pub mod Steps
 pub mod References
 pub mod Header
-pub mod RefusalNumbers
 pub mod Lists
 pub mod Slots
 pub mod Abbreviations

@@ -25,7 +25,7 @@ use Rattle.rewriting.specs.Leaving.{Accepts, Answers, ownUnit, Tabled, B
 use Rattle.rewriting.specs.declared.collect.Counts.{Counts}
 use Rattle.rewriting.specs.declared.collect.Collected.{Collected as Answer}
 use Rattle.rewriting.specs.declared.collect.Collected.the-variants.{Untouched, Rewritten, Refused}
-use Rattle.marking.proofs.UnitLaws.{marks-each}
+use Rattle.marking.proofs.UnitMarkings.{marks-each}
 
 -- ---- the answer says what there is
 

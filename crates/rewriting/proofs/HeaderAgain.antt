@@ -21,7 +21,7 @@ use Rattle.readers.specs.declared.cursor.Number.the-variants.{Value, Unreadable
 use Rattle.readers.specs.declared.header.UnitHeader.{UnitHeader}
 use Rattle.readers.specs.declared.header.HeaderRead.{HeaderRead}
 use Rattle.readers.specs.declared.header.HeaderRead.the-variants.{Unit as Unit′, Empty, Refused}
-pub use Rattle.rewriting.specs.Thinned.{withEnd}
+use Rattle.rewriting.specs.Rewriting.{withEnd}
 
 -- a header, where there is one
 unfoldable pub Reads : (UnitHeader → Type 0) → HeaderRead → Type 0

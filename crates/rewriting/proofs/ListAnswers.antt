@@ -26,8 +26,7 @@ use Rattle.rewriting.specs.IndexLists.{Filled, ReadAs, Found, AllRead, P
 use Rattle.rewriting.specs.declared.kept.Reading.{Reading}
 use Rattle.rewriting.specs.declared.lists.ListCount.{ListCount}
 use Rattle.rewriting.specs.declared.lists.ListCount.the-variants.{Present, Absent}
-use Rattle.rewriting.proofs.ItemsStand.{Every}
-use Rattle.rewriting.proofs.Rereading.{Readable}
+use Rattle.rewriting.proofs.ItemsStand.{Every, Readable}
 use Rattle.rewriting.proofs.IndexTurns.{absent-plain, absent-named}
 
 -- ---- a unit as the code reads it

@@ -41,12 +41,10 @@ use Rattle.marking.specs.EntryReferences.{Found, found, refused, after, andThen
 use Rattle.marking.proofs.Attributes.{specs-all}
 use Rattle.marking.specs.Analysis.{Sections, Row, valuesOfEntry, namesOf, baseOf}
 use Rattle.rewriting.specs.Places.{Standing, keptFrom, offsetOf}
-use Rattle.rewriting.specs.Rewriting.{Unit as Unit′, itemsIn, Room}
-use Rattle.rewriting.proofs.ItemsStand.{EveryItem, Every, every-kept, Stands, items-stand}
-use Rattle.rewriting.proofs.Rereading.{deepAt, Readable}
-use Rattle.rewriting.proofs.Accepted.{unitOf, Accepted}
-use Rattle.marking.specs.UnitSurvivors.{RowOf, RowsOf}
-use Rattle.rewriting.proofs.Following.{accepted-follow}
+use Rattle.rewriting.specs.Rewriting.{Unit as Unit′, itemsIn, Room, unitOf}
+use Rattle.rewriting.proofs.ItemsStand.{EveryItem, Every, every-kept, Stands, items-stand, deepAt, Readable}
+use Rattle.marking.specs.EntryRows.{RowOf, RowsOf}
+use Rattle.rewriting.proofs.Following.{accepted-follow, Accepted}
 use Rattle.rewriting.proofs.Expressions.{isExpression, value-exprloc}
 
 -- something was read

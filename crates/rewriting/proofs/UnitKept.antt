@@ -20,8 +20,7 @@ use Rattle.rewriting.specs.Parents.{parentsFrom, HoldsFrom}
 use Rattle.rewriting.specs.Measures.{ColumnsHeld, keptOfUnit}
 use Rattle.rewriting.specs.MapFilled.{Fills}
 use Rattle.rewriting.specs.declared.kept.Reading.{Reading}
-use Rattle.rewriting.proofs.Maps.{olds-ascending}
-use Rattle.rewriting.proofs.Sizes.{items-ascending}
+use Rattle.rewriting.proofs.Ascending.{items-ascending, olds-ascending}
 use Rattle.rewriting.proofs.ParentsOf.{parents-held}
 
 abbrev pub reading : ℕ → Encoding → Reading

@@ -42,8 +42,7 @@ use Rattle.rewriting.specs.declared.collect.Collected.{Collected as Answ
 use Rattle.rewriting.specs.declared.collect.Collected.the-variants.{Untouched, Rewritten, Refused}
 use Rattle.rewriting.proofs.Emissions.{EmitsAt}
 use Rattle.rewriting.proofs.DeepReads.{like-width, like-patched, deep-ends}
-use Rattle.rewriting.proofs.ItemsStand.{Every, every-kept, Stands, items-stand}
-use Rattle.rewriting.proofs.Rereading.{StandsThere, deepAt, size-of}
+use Rattle.rewriting.proofs.ItemsStand.{Every, every-kept, Stands, items-stand, StandsThere, deepAt, size-of}
 use Rattle.rewriting.proofs.Putting.{drop-zeros}
 use Rattle.rewriting.proofs.Tables.{length-run}
 use Rattle.rewriting.proofs.Places.{length-columns}

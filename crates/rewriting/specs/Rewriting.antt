@@ -233,3 +233,7 @@ module _ (x : Sections) (room : Room) where
   -- THE answer of collect
   unfoldable pub collectOf : Bool → List ℕ → Collected
   collectOf typeUnits section = headerCollected typeUnits section (headerOf section)
+
+-- the same header of a unit of another length
+abbrev pub withEnd : UnitHeader → ℕ → UnitHeader
+withEnd h n = record { encoding = h .encoding; «unit_type» = h .«unit_type»; abbreviations = h .abbreviations; first = h .first; end = n }
