@@ -62,7 +62,8 @@ Left f n (analysed rows) now = now ≡ padTo n (f rows)
 Left f n (refused k) now = length now ≡ n
 
 -- the columns of a table, as they are lent and as they are left
-pub record Outcome (a : Analysed) (offsets₀ parents₀ roots₀ ends₀ targets₀ offsets parents roots ends targets : List ℕ) : Type 0 where
+pub record Outcome (a : Analysed) (offsets₀ parents₀ roots₀ ends₀ targets₀ : List ℕ)
+    (offsets parents roots ends targets : List ℕ) : Type 0 where
   pub offsets-left : Left offsetsIn (length offsets₀) a offsets
   pub parents-left : Left parentsIn (length parents₀) a parents
   pub roots-left : Left rootsIn (length roots₀) a roots
@@ -70,7 +71,8 @@ pub record Outcome (a : Analysed) (offsets₀ parents₀ roots₀ ends₀ target
   pub targets-left : Left namesIn (length targets₀) a targets
 
 -- cleared columns with room for so many entries and references, and the index of declarations that were checked
-pub record Ready (abbreviations index : List ℕ) (from : ℕ) (unit : List ℕ) (entryRoom referenceRoom : ℕ) (offsets parents roots ends targets : List ℕ) : Type 0 where
+pub record Ready (abbreviations index : List ℕ) (from : ℕ) (unit : List ℕ) (entryRoom referenceRoom : ℕ)
+    (offsets parents roots ends targets : List ℕ) : Type 0 where
   pub accepted : checkedOf abbreviations from ≡ Accepted
   pub indexed : index ≡ indexOf abbreviations from (length index)
   pub small : length unit < 0xffffffff
@@ -90,7 +92,8 @@ unfoldable pub least : ℕ → ℕ → ℕ
 least a b = pick (leb a b) a b
 
 unfoldable pub roomsOf : ℕ → ℕ → ℕ → ℕ → ℕ → ℕ → ℕ → Rooms
-roomsOf entries references offsets parents roots ends targets = rooms (least entries (least (least offsets parents) (least roots ends))) (least references targets)
+roomsOf entries references offsets parents roots ends targets =
+    rooms (least entries (least (least offsets parents) (least roots ends))) (least references targets)
 
 -- with the marks in the entry table, and the pairs in the reference table
 unfoldable pub unitRooms : ℕ → ℕ → ℕ → ℕ → ℕ → ℕ → ℕ → Rooms

@@ -35,7 +35,8 @@ isLive g m i = isTop g m i or any (size g) (λ r. isTop g m r and isDescendant g
 unfoldable pub justified : Graph → (ℕ → Bool) → ℕ → Bool
 justified g m i = eqb i 0 or any (size g) (λ j. isParent g i j and m j) or isLive g m i
 
--- the marking of entry i: "where that is unmarked and is .. it becomes marked and the others stay as they were; else the marking is refused and nothing changes"
+-- the marking of entry i: "where that is unmarked and is .. it becomes marked and the others stay as they were; else
+-- the marking is refused and nothing changes"
 unfoldable pub accepts : Graph → (ℕ → Bool) → ℕ → Bool
 accepts g m i = ltb i (size g) and not (m i) and justified g m i
 
@@ -50,7 +51,8 @@ run g m (i ∷ is) = run g (step g m i) is
 unfoldable pub nothing : ℕ → Bool
 nothing i = false
 
--- demand 3 of what is marked: "only survivors are marked, and all of them exactly when every further marking would be refused"
+-- demand 3 of what is marked: "only survivors are marked, and all of them exactly when every further marking would be
+-- refused"
 pub record MarksSurvivors (g : Graph) (m : ℕ → Bool) : Type 0 where
   pub only : (i : ℕ) → m i ≡ true → Kept g i
   pub all : ((i : ℕ) → Kept g i → m i ≡ true) ↔ ((i : ℕ) → accepts g m i ≡ false)

@@ -11,8 +11,8 @@ RootRefusal n = OneOf (5 ∷ 6 ∷ []) n
 abbrev pub ScanRefusal : ℕ → Type 0
 ScanRefusal n = OneOf (5 ∷ 7 ∷ []) n
 
--- "Then entry by entry: 4 unreadable entry; 10 entry table full; root test ..; references ..; once the entry's references
--- are read, 11 reference table full."
+-- "Then entry by entry: 4 unreadable entry; 10 entry table full; root test ..; references ..; once the entry's
+-- references are read, 11 reference table full."
 abbrev pub EntriesRefusal : ℕ → Type 0
 EntriesRefusal n = OneOf (4 ∷ 10 ∷ 5 ∷ 6 ∷ 7 ∷ 11 ∷ []) n
 

@@ -93,13 +93,14 @@ module _ (e : Encoding) (x : Sections) (unit : List ℕ) where
   RowsOf k stack rb lb (entry y ∷ rest) [] = ⊥
   RowsOf k stack rb lb (entry y ∷ rest) (r ∷ rows) =
       RowOf stack rb lb y r
-      × RowsOf (suc k) (open′ (y .declaration .children) k stack) (baseOf e x unit 0x74 rb y) (baseOf e x unit 0x8c lb y)
-      rest rows
+      × RowsOf (suc k) (open′ (y .declaration .children) k stack)
+      (baseOf e x unit 0x74 rb y) (baseOf e x unit 0x8c lb y) rest rows
 
 -- the items of a unit: from its first entry on, inside its own bytes, by its declarations; and whether the unit's end
 -- is what follows them
 abbrev pub unitItems : Sections → List ℕ → UnitHeader → List Placed → Items
-unitItems x section h ds = itemsFrom (h .encoding) (x .abbreviations) (declaredIn ds) (take (h .end) section) (h .first .0)
+unitItems x section h ds =
+    itemsFrom (h .encoding) (x .abbreviations) (declaredIn ds) (take (h .end) section) (h .first .0)
 
 -- the first unit of a section, by the header and the declarations that are found: its items are read to its end, and
 -- the rows are those of its entries. At first no entry is open and the list bases are 12.
@@ -109,7 +110,9 @@ pub record FirstUnit (x : Sections) (section : List ℕ) (rows : List Row) : Typ
   pub header-is : headerOf section ≡ Unit′ header
   pub declared-is : abbreviationsOf (x .abbreviations) (header .abbreviations) ≡ some declared
   pub whole : unitItems x section header declared .1 ≡ true
-  pub each : RowsOf (header .encoding) x (take (header .end) section) 0 [] 12 12 (unitItems x section header declared .0) rows
+  pub each :
+      RowsOf (header .encoding) x (take (header .end) section) 0 [] 12 12
+      (unitItems x section header declared .0) rows
 
 -- the graph that is marked says what the rows say
 pub record GraphSays (rows : List Row) (g : Graph) : Type 0 where
