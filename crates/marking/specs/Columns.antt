@@ -7,13 +7,15 @@ use lib.Dec.{leb}
 use Rattle.readers.specs.Choice.{pick, zeros}
 use Rattle.readers.specs.Abbreviations.{checkedOf, indexOf}
 use Rattle.readers.specs.Entries.{entryOf}
-use Rattle.readers.specs.Refusals.{refusalOfValues}
-use Rattle.readers.specs.declared.abbreviations.Checked.the-variants.{Accepted}
+use Rattle.readers.specs.Refusals.{refusalOfChecked, refusalOfValues}
+use Rattle.readers.specs.declared.abbreviations.Checked.{Checked}
+use Rattle.readers.specs.declared.abbreviations.Checked.the-variants.{Accepted, Refused as Undeclared}
 use Rattle.readers.specs.declared.cursor.Cursor.{Cursor}
 use Rattle.readers.specs.declared.cursor.Moved.{Moved}
 use Rattle.readers.specs.declared.cursor.Moved.the-variants.{To, Unreadable as Nowhere}
 use Rattle.readers.specs.declared.entries.Entry.{Entry}
 use Rattle.readers.specs.declared.entries.EntryHead.{EntryHead}
+use Rattle.readers.specs.declared.header.UnitHeader.{UnitHeader}
 use Rattle.readers.specs.declared.header.HeaderRead.{HeaderRead}
 use Rattle.readers.specs.declared.header.HeaderRead.the-variants.{Unit as Unit′, Empty, Refused}
 use Rattle.marking.specs.EntryReferences.{Found, found, refused as refusedAfter}
@@ -25,6 +27,8 @@ use Rattle.marking.specs.declared.analysis.EntryAnalysis.{EntryAnalysis}
 use Rattle.marking.specs.declared.analysis.EntryAnalysis.the-variants.{Found as RowFound, Refused as NoRow}
 use Rattle.marking.specs.declared.analysis.Analysis.{Analysis}
 use Rattle.marking.specs.declared.analysis.Analysis.the-variants.{Entries, Refused as Refused′}
+use Rattle.marking.specs.declared.analysis.UnitFound.{UnitFound}
+use Rattle.marking.specs.declared.analysis.UnitFound.the-variants.{Unit as Found′, Answered}
 
 unfoldable pub offsetsIn : List Row → List ℕ
 offsetsIn [] = []
@@ -109,6 +113,21 @@ indexAfter abbreviations (Unit′ h) n = indexOf abbreviations (h .abbreviations
 unfoldable pub answerOf : Analysed → Analysis
 answerOf (analysed rows) = Entries (length rows) (length (namesIn rows))
 answerOf (refused n) = Refused′ n
+
+-- what an answer leaves of a column: zeros after a refusal
+unfoldable pub leftBy : Analysis → List ℕ → List ℕ
+leftBy (Entries n m) col = col
+leftBy (Refused′ n) col = zeros (length col)
+
+-- what is to be analysed, by the header and the check of the declarations
+unfoldable pub unitChecked : UnitHeader → Checked → UnitFound
+unitChecked h Accepted = Found′ h
+unitChecked h Undeclared = Answered (Refused′ (refusalOfChecked Undeclared))
+
+unfoldable pub unitFound : List ℕ → HeaderRead → UnitFound
+unitFound abbreviations Empty = Answered (Entries 0 0)
+unitFound abbreviations (Refused n) = Answered (Refused′ n)
+unitFound abbreviations (Unit′ h) = unitChecked h (checkedOf abbreviations (h .abbreviations))
 
 -- an entry by its head alone: where it ends is not asked by its root test, nor by its references
 abbrev pub headed : EntryHead → Entry

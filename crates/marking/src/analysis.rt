@@ -7,7 +7,7 @@ ghost use Rattle.readers.specs.Header.{headerOf};
 ghost use Rattle.marking.specs.Analysis.{sections, rooms, rootOf, namesOf, unitAnalysed, analysisOf};
 ghost use Rattle.marking.specs.Columns.{offsetsIn, parentsIn, rootsIn, endsIn, namesIn, column, least, roomsOf};
 ghost use Rattle.marking.specs.Columns.{indexAfter, Ready, Outcome, answerOf, headed, refusalOf, entryAnswer};
-ghost use Rattle.marking.specs.Columns.{entryTable};
+ghost use Rattle.marking.specs.Columns.{entryTable, leftBy, unitFound};
 use crate::columns::clear_bytes;
 use crate::columns::clear_indexes;
 use crate::references::EntryScan;
@@ -41,6 +41,12 @@ pub enum EntryAnalysis {
 pub enum Analysis {
     Entries { entries: usize, references: usize },
     Refused(u8),
+}
+
+// What is to be analysed: a unit whose declarations were checked, or the answer where there is none.
+pub enum UnitFound {
+    Unit(UnitHeader),
+    Answered(Analysis),
 }
 
 // The number of a refusal of an entry: 4 where its values can't be read, which comes before any other.
@@ -259,6 +265,16 @@ fn least_of(a: usize, b: usize) -> usize
     if a <= b { a } else { b }
 }
 
+// How many entries a table has room for: at most so many, and as many as its shortest column has.
+fn entry_room(entries: usize, offsets: usize, parents: usize, roots: usize, ends: usize) -> usize
+    ensures { λ r. ⌜ r ≡ least entries (least (least offsets parents) (least roots ends)) ⌝ }
+{
+    least_of(
+        entries,
+        least_of(least_of(offsets, parents), least_of(roots, ends)),
+    )
+}
+
 // Makes every column zeros.
 pub fn clear_columns(
     offsets: &mut [u64],
@@ -278,6 +294,39 @@ pub fn clear_columns(
     clear_bytes(roots);
     clear(ends);
     clear(targets);
+}
+
+// Makes every column zeros after a refusal.
+fn clear_refused(
+    answer: Analysis,
+    offsets: &mut [u64],
+    parents: &mut [u32],
+    roots: &mut [u8],
+    ends: &mut [u64],
+    targets: &mut [u64],
+) -> Analysis
+    ensures { λ r. ⌜
+        (r ≡ answer)
+        × ((now (offsets .exit) ≡ leftBy answer (now (offsets .entry)))
+        × ((now (parents .exit) ≡ leftBy answer (now (parents .entry)))
+        × ((now (roots .exit) ≡ leftBy answer (now (roots .entry)))
+        × ((now (ends .exit) ≡ leftBy answer (now (ends .entry)))
+        × (now (targets .exit) ≡ leftBy answer (now (targets .entry)))))))
+        ⌝ }
+{
+    match answer {
+        Analysis::Entries {
+            entries,
+            references,
+        } => Analysis::Entries {
+            entries,
+            references,
+        },
+        Analysis::Refused(n) => {
+            clear_columns(offsets, parents, roots, ends, targets);
+            Analysis::Refused(n)
+        }
+    }
 }
 
 // A unit whose declarations were checked, into cleared columns; zeros after a refusal.
@@ -314,7 +363,7 @@ fn analyse_unit(
         ) ⌝ }
 {
     let first = h.first;
-    match analyse_entries(
+    let answer = analyse_entries(
         unit_part(section, h),
         abbreviations,
         h.abbreviations,
@@ -334,19 +383,32 @@ fn analyse_unit(
         roots,
         ends,
         targets,
-    ) {
-        Analysis::Entries {
-            entries,
-            references,
-        } => {
-            Analysis::Entries {
-                entries,
-                references,
-            }
-        }
-        Analysis::Refused(n) => {
-            clear_columns(offsets, parents, roots, ends, targets);
-            Analysis::Refused(n)
+    );
+    clear_refused(answer, offsets, parents, roots, ends, targets)
+}
+
+// The unit of a section, its declarations checked and the index of them filled: 1 and 2 of the header, 3 of the
+// abbreviations. An empty section has no entries.
+fn find_unit(section: &[u8], abbreviations: &[u8], index: &mut [u64]) -> UnitFound
+    ensures { λ r. ⌜ (
+        let header = headerOf (now (section .entry)) in
+        (r ≡ unitFound (now (abbreviations .entry)) header)
+        × (now (index .exit) ≡ indexAfter (now (abbreviations .entry)) header (length (now (index .entry))))
+        ) ⌝ }
+{
+    clear(index);
+    match unit_header(section) {
+        HeaderRead::Empty => UnitFound::Answered(Analysis::Entries {
+            entries: 0,
+            references: 0,
+        }),
+        HeaderRead::Refused(n) => UnitFound::Answered(Analysis::Refused(n)),
+        HeaderRead::Unit(h) => {
+            let Checked::Accepted = check_abbreviations(abbreviations, h.abbreviations, index)
+            else {
+                return UnitFound::Answered(Analysis::Refused(3));
+            };
+            UnitFound::Unit(h)
         }
     }
 }
@@ -388,27 +450,16 @@ pub fn analyse(
         × (now (targets .exit) ≡ column namesIn (length (now (targets .entry))) found))))))
         ) ⌝ }
 {
-    clear(index);
     clear_columns(offsets, parents, roots, ends, targets);
-    match unit_header(section) {
-        HeaderRead::Empty => {
-            Analysis::Entries {
-                entries: 0,
-                references: 0,
-            }
-        }
-        HeaderRead::Refused(n) => Analysis::Refused(n),
-        HeaderRead::Unit(h) => {
-            let Checked::Accepted = check_abbreviations(abbreviations, h.abbreviations, index)
-            else {
-                return Analysis::Refused(3);
-            };
-            let entry_room = least_of(
+    match find_unit(section, abbreviations, index) {
+        UnitFound::Answered(answer) => answer,
+        UnitFound::Unit(h) => {
+            let room = entry_room(
                 entries,
-                least_of(
-                    least_of(offsets.len(), parents.len()),
-                    least_of(roots.len(), ends.len()),
-                ),
+                offsets.len(),
+                parents.len(),
+                roots.len(),
+                ends.len(),
             );
             analyse_unit(
                 section,
@@ -419,7 +470,7 @@ pub fn analyse(
                 ranges,
                 addresses,
                 ranges_base,
-                entry_room,
+                room,
                 least_of(references, targets.len()),
                 offsets,
                 parents,
