@@ -1,5 +1,5 @@
--- What an analysis asks of the lent tables (document 01, "collect"): each "full" means that the count up to and including
--- the present entry exceeds the lent length.
+-- What an analysis asks of the lent tables (document 01, "collect"): each "full" means that the count up to and
+-- including the present entry exceeds the lent length.
 use mathlib.Core.Path.{_≡_}
 use Prim.Native.Nat.{ℕ, suc, _+_, _≤_, _<_}
 use mathlib.Core.List.{List, [], _∷_}
@@ -24,8 +24,8 @@ pub record TablesWithin (need lent : Rooms) : Type 0 where
 abbrev pub tablesFor : List Row → Rooms
 tablesFor rows = rooms (length rows) (length (namesIn rows))
 
--- what an analysis that gave these rows answers with other tables: the same with those that the rows need; 10 at the first
--- entry that the table has no room for, where the references of those before it fit; 11 where these do not
+-- what an analysis that gave these rows answers with other tables: the same with those that the rows need; 10 at the
+-- first entry that the table has no room for, where the references of those before it fit; 11 where these do not
 pub record TableLaw (x : Sections) (section : List ℕ) (rows : List Row) : Type 0 where
   pub enough : (lent : Rooms) → TablesWithin (tablesFor rows) lent → analysisOf x section lent ≡ analysed rows
   pub full-entries : (lent : Rooms) → lent .entries < length rows
@@ -64,7 +64,8 @@ unfoldable pub headerTables : Sections → List ℕ → HeaderRead → Rooms
 headerTables x section Empty = rooms 0 0
 headerTables x section (Refused n) = rooms 0 0
 headerTables x section (Unit′ h) =
-    declaredTables (h .encoding) x (take (h .end) section) (h .first .0) (abbreviationsOf (x .abbreviations) (h .abbreviations))
+    declaredTables (h .encoding) x (take (h .end) section) (h .first .0)
+    (abbreviationsOf (x .abbreviations) (h .abbreviations))
 
 -- THE tables that are enough for the first unit of a section
 unfoldable pub enoughTables : Sections → List ℕ → Rooms

@@ -1,5 +1,6 @@
--- The analysis of a unit (document 01, "collect"): entry by entry 4 unreadable, 10 entry table full, 5 or 6 of the root test, 5 or 7 of the references in attribute
--- order, 11 reference table full. "Full" is that the count up to and including the present entry exceeds what is lent.
+-- The analysis of a unit (document 01, "collect"): entry by entry 4 unreadable, 10 entry table full, 5 or 6 of the root
+-- test, 5 or 7 of the references in attribute order, 11 reference table full. "Full" is that the count up to and
+-- including the present entry exceeds what is lent.
 use Prim.Native.Nat.{ℕ, suc, _+_}
 use mathlib.Core.Bool.{Bool, true, false}
 use mathlib.Core.List.{List, [], _∷_}
@@ -42,7 +43,8 @@ pub record Rooms : Type 0 where
 abbrev pub rooms : ℕ → ℕ → Rooms
 rooms n m = record { entries = n; references = m }
 
--- what is found of an entry: where it starts, its parent (0xffffffff for none), 1 for a root or 0, and the offsets that it names
+-- what is found of an entry: where it starts, its parent (0xffffffff for none), 1 for a root or 0, and the offsets that
+-- it names
 pub record Row : Type 0 where
   pub offset : ℕ
   pub parent : ℕ
@@ -66,7 +68,8 @@ unfoldable pub onFound : Found → (List ℕ → Analysed) → Analysed
 onFound (found xs) k = k xs
 onFound (refusedAfter xs n) k = refused n
 
--- where an analysis stands: how many entries and references there were, which entries are open (the innermost first), and the list bases
+-- where an analysis stands: how many entries and references there were, which entries are open (the innermost first),
+-- and the list bases
 pub record Reached : Type 0 where
   pub count : ℕ
   pub references : ℕ
@@ -103,7 +106,10 @@ module _ (e : Encoding) (x : Sections) (unit : List ℕ) where
     unfoldable pub analyseItems : Reached → List Item → Bool → Analysed
     analyseItems p [] true = analysed []
     analyseItems p [] false = refused (refusalOfStep Unreadable)
-    analyseItems p (terminator a b ∷ rest) whole = analyseItems (reached (p .count) (p .references) (close (p .stack)) (p .rnglistsBase) (p .loclistsBase)) rest whole
+    analyseItems p (terminator a b ∷ rest) whole =
+        analyseItems
+        (reached (p .count) (p .references) (close (p .stack)) (p .rnglistsBase) (p .loclistsBase))
+        rest whole
     analyseItems p (entry y ∷ rest) whole =
         pick (ltb (p .count) (room .entries))
         (onVerdict (rootOf (baseOf 0x74 (p .rnglistsBase) y) y) (λ root.
@@ -111,7 +117,9 @@ module _ (e : Encoding) (x : Sections) (unit : List ℕ) where
         pick (leb (p .references + length names) (room .references))
         (onto (record { offset = y .offset .0; parent = top (p .stack); root = root; names = names })
         (analyseItems
-        (reached (suc (p .count)) (p .references + length names) (open′ (y .declaration .children) (p .count) (p .stack)) (baseOf 0x74 (p .rnglistsBase) y) (baseOf 0x8c (p .loclistsBase) y))
+        (reached (suc (p .count)) (p .references + length names)
+        (open′ (y .declaration .children) (p .count) (p .stack))
+        (baseOf 0x74 (p .rnglistsBase) y) (baseOf 0x8c (p .loclistsBase) y))
         rest whole))
         (refused 11))))
         (refused 10)
@@ -126,13 +134,16 @@ onDeclared (some ds) k = k ds
 unfoldable pub unitAnalysed : Encoding → Sections → List ℕ → Rooms → ℕ → ℕ → Analysed
 unitAnalysed e x unit room from first =
     onDeclared (abbreviationsOf (x .abbreviations) from)
-    (λ ds. analyseItems e x unit room startOf (itemsFrom e (x .abbreviations) (declaredIn ds) unit first .0) (itemsFrom e (x .abbreviations) (declaredIn ds) unit first .1))
+    (λ ds.
+    let items = itemsFrom e (x .abbreviations) (declaredIn ds) unit first in
+    analyseItems e x unit room startOf (items .0) (items .1))
 
 -- an empty section has no entries; 1 and 2 of the header, then 3
 unfoldable pub headerAnalysed : Sections → List ℕ → Rooms → HeaderRead → Analysed
 headerAnalysed x section room Empty = analysed []
 headerAnalysed x section room (Refused n) = refused n
-headerAnalysed x section room (Unit′ h) = unitAnalysed (h .encoding) x (take (h .end) section) room (h .abbreviations) (h .first .0)
+headerAnalysed x section room (Unit′ h) =
+    unitAnalysed (h .encoding) x (take (h .end) section) room (h .abbreviations) (h .first .0)
 
 -- THE analysis of the first unit of a section
 unfoldable pub analysisOf : Sections → List ℕ → Rooms → Analysed

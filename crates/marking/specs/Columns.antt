@@ -7,13 +7,15 @@ use lib.Dec.{leb}
 use Rattle.readers.specs.Choice.{pick, zeros}
 use Rattle.readers.specs.Abbreviations.{checkedOf, indexOf}
 use Rattle.readers.specs.Entries.{entryOf}
-use Rattle.readers.specs.Refusals.{refusalOfValues}
-use Rattle.readers.specs.declared.abbreviations.Checked.the-variants.{Accepted}
+use Rattle.readers.specs.Refusals.{refusalOfChecked, refusalOfValues}
+use Rattle.readers.specs.declared.abbreviations.Checked.{Checked}
+use Rattle.readers.specs.declared.abbreviations.Checked.the-variants.{Accepted, Refused as Undeclared}
 use Rattle.readers.specs.declared.cursor.Cursor.{Cursor}
 use Rattle.readers.specs.declared.cursor.Moved.{Moved}
 use Rattle.readers.specs.declared.cursor.Moved.the-variants.{To, Unreadable as Nowhere}
 use Rattle.readers.specs.declared.entries.Entry.{Entry}
 use Rattle.readers.specs.declared.entries.EntryHead.{EntryHead}
+use Rattle.readers.specs.declared.header.UnitHeader.{UnitHeader}
 use Rattle.readers.specs.declared.header.HeaderRead.{HeaderRead}
 use Rattle.readers.specs.declared.header.HeaderRead.the-variants.{Unit as Unit′, Empty, Refused}
 use Rattle.marking.specs.EntryReferences.{Found, found, refused as refusedAfter}
@@ -25,6 +27,8 @@ use Rattle.marking.specs.declared.analysis.EntryAnalysis.{EntryAnalysis}
 use Rattle.marking.specs.declared.analysis.EntryAnalysis.the-variants.{Found as RowFound, Refused as NoRow}
 use Rattle.marking.specs.declared.analysis.Analysis.{Analysis}
 use Rattle.marking.specs.declared.analysis.Analysis.the-variants.{Entries, Refused as Refused′}
+use Rattle.marking.specs.declared.analysis.UnitFound.{UnitFound}
+use Rattle.marking.specs.declared.analysis.UnitFound.the-variants.{Unit as Found′, Answered}
 
 unfoldable pub offsetsIn : List Row → List ℕ
 offsetsIn [] = []
@@ -62,7 +66,8 @@ Left f n (analysed rows) now = now ≡ padTo n (f rows)
 Left f n (refused k) now = length now ≡ n
 
 -- the columns of a table, as they are lent and as they are left
-pub record Outcome (a : Analysed) (offsets₀ parents₀ roots₀ ends₀ targets₀ offsets parents roots ends targets : List ℕ) : Type 0 where
+pub record Outcome (a : Analysed) (offsets₀ parents₀ roots₀ ends₀ targets₀ : List ℕ)
+    (offsets parents roots ends targets : List ℕ) : Type 0 where
   pub offsets-left : Left offsetsIn (length offsets₀) a offsets
   pub parents-left : Left parentsIn (length parents₀) a parents
   pub roots-left : Left rootsIn (length roots₀) a roots
@@ -70,7 +75,8 @@ pub record Outcome (a : Analysed) (offsets₀ parents₀ roots₀ ends₀ target
   pub targets-left : Left namesIn (length targets₀) a targets
 
 -- cleared columns with room for so many entries and references, and the index of declarations that were checked
-pub record Ready (abbreviations index : List ℕ) (from : ℕ) (unit : List ℕ) (entryRoom referenceRoom : ℕ) (offsets parents roots ends targets : List ℕ) : Type 0 where
+pub record Ready (abbreviations index : List ℕ) (from : ℕ) (unit : List ℕ) (entryRoom referenceRoom : ℕ)
+    (offsets parents roots ends targets : List ℕ) : Type 0 where
   pub accepted : checkedOf abbreviations from ≡ Accepted
   pub indexed : index ≡ indexOf abbreviations from (length index)
   pub small : length unit < 0xffffffff
@@ -90,7 +96,8 @@ unfoldable pub least : ℕ → ℕ → ℕ
 least a b = pick (leb a b) a b
 
 unfoldable pub roomsOf : ℕ → ℕ → ℕ → ℕ → ℕ → ℕ → ℕ → Rooms
-roomsOf entries references offsets parents roots ends targets = rooms (least entries (least (least offsets parents) (least roots ends))) (least references targets)
+roomsOf entries references offsets parents roots ends targets =
+    rooms (least entries (least (least offsets parents) (least roots ends))) (least references targets)
 
 -- with the marks in the entry table, and the pairs in the reference table
 unfoldable pub unitRooms : ℕ → ℕ → ℕ → ℕ → ℕ → ℕ → ℕ → Rooms
@@ -106,6 +113,21 @@ indexAfter abbreviations (Unit′ h) n = indexOf abbreviations (h .abbreviations
 unfoldable pub answerOf : Analysed → Analysis
 answerOf (analysed rows) = Entries (length rows) (length (namesIn rows))
 answerOf (refused n) = Refused′ n
+
+-- what an answer leaves of a column: zeros after a refusal
+unfoldable pub leftBy : Analysis → List ℕ → List ℕ
+leftBy (Entries n m) col = col
+leftBy (Refused′ n) col = zeros (length col)
+
+-- what is to be analysed, by the header and the check of the declarations
+unfoldable pub unitChecked : UnitHeader → Checked → UnitFound
+unitChecked h Accepted = Found′ h
+unitChecked h Undeclared = Answered (Refused′ (refusalOfChecked Undeclared))
+
+unfoldable pub unitFound : List ℕ → HeaderRead → UnitFound
+unitFound abbreviations Empty = Answered (Entries 0 0)
+unitFound abbreviations (Refused n) = Answered (Refused′ n)
+unitFound abbreviations (Unit′ h) = unitChecked h (checkedOf abbreviations (h .abbreviations))
 
 -- an entry by its head alone: where it ends is not asked by its root test, nor by its references
 abbrev pub headed : EntryHead → Entry

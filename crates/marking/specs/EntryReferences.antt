@@ -1,5 +1,5 @@
--- The references of an entry (document 01, "References"; gc.rs: `scan_live_die_attrs`, `scan_loclist_for_refs`): every one that its attributes hold, in attribute
--- order, repeats and dangling ones included; 5 and 7 as they are met.
+-- The references of an entry (document 01, "References"; gc.rs: `scan_live_die_attrs`, `scan_loclist_for_refs`): every
+-- one that its attributes hold, in attribute order, repeats and dangling ones included; 5 and 7 as they are met.
 use mathlib.Core.Path.{_≡_, refl}
 use Prim.Native.Nat.{ℕ}
 use mathlib.Core.Bool.{Bool, true, false, not}
@@ -93,8 +93,9 @@ abbrev pub locationsBy : List ℕ → List ℕ → ℕ → Locations
 locationsBy unit locations base = record { unit = unit; locations = locations; loclistsBase = base }
 
 module _ (e : Encoding) (x : Locations) where
-  -- Sibling attributes (0x01) name nothing. ref_addr (0x10) is 7 where it is declared; behind indirect it is copied. ref1 to ref8 and ref_udata (0x11 to 0x15) name
-  -- their value, behind indirect too. exprloc (0x18) by its expression. Location lists count only under DW_AT_location (0x02): loclistx (0x22), sec_offset (0x17).
+  -- Sibling attributes (0x01) name nothing. ref_addr (0x10) is 7 where it is declared; behind indirect it is copied.
+  -- ref1 to ref8 and ref_udata (0x11 to 0x15) name their value, behind indirect too. exprloc (0x18) by its expression.
+  -- Location lists count only under DW_AT_location (0x02): loclistx (0x22), sec_offset (0x17).
   unfoldable pub attributeFound : Valued → Found
   attributeFound a =
       pick (eqb (a .name) 0x01) (found [])

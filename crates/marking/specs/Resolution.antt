@@ -91,7 +91,8 @@ pub record Resolvable (offsets ends : List ℕ) (n : ℕ) (targets pairs : List 
   pub held : Held rows offsets ends n targets pairs
 
 -- all columns of rows, cleared tables with room for their marks and pairs, and a graph that marking takes
-pub record Laid (rows : List Row) (offsets parents roots ends : List ℕ) (n : ℕ) (marks targets pairs : List ℕ) : Type 0 where
+pub record Laid (rows : List Row) (offsets parents roots ends : List ℕ) (n : ℕ)
+    (marks targets pairs : List ℕ) : Type 0 where
   pub held : Held rows offsets ends n targets pairs
   pub parented : take n parents ≡ parentsIn rows
   pub rooted : take n roots ≡ rootsIn rows

@@ -1,23 +1,32 @@
--- The root test computed, by the definitions alone: range lists, the older test, locations, entries and list bases, with decided points of document 01 (docs/DECISIONS.md).
+-- The root test computed, by the definitions alone: range lists, the older test, locations, entries and list bases,
+-- with decided points of document 01 (docs/DECISIONS.md).
 use mathlib.Core.Path.{_≡_, refl}
 use Prim.Native.Nat.{ℕ}
 use mathlib.Core.List.{List, [], _∷_}
 use Rattle.readers.specs.Choice.{pick, check, bind, _and_, _or_}
-use Rattle.readers.specs.Numbers.{groups, below, uleb, unsigned64, sleb, signed64, negative, padded, ordered, littleValue, fixedValue}
-use Rattle.readers.specs.Layout.{within16, short, asBytes, width, asLeb, stringIn, copy, asNumber, asLink, asBounded, asSigned, asString, asBlock, asExpression, before, numberIn, tokenIn, readIn, numberBytes, pieceBytes, bytesOf}
+use Rattle.readers.specs.Numbers.{groups, below, uleb, unsigned64, sleb, signed64, negative, padded, ordered}
+use Rattle.readers.specs.Numbers.{littleValue, fixedValue}
+use Rattle.readers.specs.Layout.{within16, short, asBytes, width, asLeb, stringIn, copy, asNumber, asLink, asBounded}
+use Rattle.readers.specs.Layout.{asSigned, asString, asBlock, asExpression, before, numberIn, tokenIn, readIn}
+use Rattle.readers.specs.Layout.{numberBytes, pieceBytes, bytesOf}
 use Rattle.readers.specs.Tokens.{numberAs, tokenOf}
-use Rattle.readers.specs.Operations.{unreadableRow, rows, rowOf, rowLayout, operations, rowAmong, operationRow, operation, rangeEntries, locationEntries, listRow}
+use Rattle.readers.specs.Operations.{unreadableRow, rows, rowOf, rowLayout, operations, rowAmong, operationRow}
+use Rattle.readers.specs.Operations.{operation, rangeEntries, locationEntries, listRow}
 use Rattle.readers.specs.Forms.{formTokens, tokenAmong, formToken, useOf, valueToken, attributeLayout}
 use Rattle.readers.specs.Cursors.{asLebNumber, lebAt, fixedAt, asFixed}
 use Rattle.readers.specs.Fields.{linkedValue, size, fieldOf, rowOfReads, partOf}
-use Rattle.readers.specs.Steps.{rowOperation, operationOfReads, asOperation, operationAt, listEntry, rowEntry, entryOfReads, asListStep, listEntryAt}
+use Rattle.readers.specs.Steps.{rowOperation, operationOfReads, asOperation, operationAt, listEntry, rowEntry}
+use Rattle.readers.specs.Steps.{entryOfReads, asListStep, listEntryAt}
 use Rattle.readers.specs.Lists.{listStart, fromBase, listOffset}
 use Rattle.readers.specs.Header.{encodingOf}
 use Rattle.readers.specs.Abbreviations.{numberSpec, implicitSpec, specAt}
 use Rattle.readers.specs.Entries.{attributeOfReads, asAttribute, attributeAt}
 use Rattle.marking.specs.Addresses.{isTombstone, byteLiveness, lookupAt}
 use Rattle.marking.specs.Walking.{onNext, walkWithin, walk}
-use Rattle.marking.specs.Roots.{orElse, onLookup, rangeEntry, rangeStep, rangesLive, operationStep, locationLive, olderStep, olderLive, lowPc, Valued, onAttribute, valuesOf, onSpec, specsWithin, specsFrom, entryValues, lowPcs, locations, rangesBy, otherRanges, rangesOf, firstRanges, rootTest, baseFrom, baseAfter}
+use Rattle.marking.specs.Roots.{orElse, onLookup, rangeEntry, rangeStep, rangesLive, operationStep, locationLive}
+use Rattle.marking.specs.Roots.{olderStep, olderLive, lowPc, Valued, onAttribute, valuesOf, onSpec, specsWithin}
+use Rattle.marking.specs.Roots.{specsFrom, entryValues, lowPcs, locations, rangesBy, otherRanges, rangesOf}
+use Rattle.marking.specs.Roots.{firstRanges, rootTest, baseFrom, baseAfter}
 use Rattle.marking.specs.declared.roots.Verdict.{Verdict}
 use Rattle.marking.specs.declared.roots.Verdict.the-variants.{Live, Dead, Refused}
 
@@ -38,7 +47,11 @@ range-lists :
     × (ranged (0 ∷ []) (1 ∷ 0 ∷ 4 ∷ 0 ∷ 1 ∷ 0 ∷ []) ≡ Dead)  -- a pair after a dead base
     × (ranged (1 ∷ []) (1 ∷ 0 ∷ 4 ∷ 0 ∷ 1 ∷ 0 ∷ []) ≡ Live)
     × (ranged (0 ∷ []) (3 ∷ 0 ∷ 1 ∷ 0 ∷ []) ≡ Dead)
-unfolding ranged rangesLive rangeStep rangeEntry onLookup lookupAt byteLiveness isTombstone walk walkWithin onNext listOffset fromBase listStart fixedAt asFixed encodingOf listEntryAt asListStep entryOfReads rowEntry listEntry listRow rangeEntries rowAmong rowOf rows unreadableRow rowLayout tokenOf numberAs readIn tokenIn numberIn before asNumber asBounded asLink asBlock asExpression asLeb asBytes copy uleb groups below unsigned64 fixedValue ordered littleValue width size bytesOf pieceBytes numberBytes fieldOf linkedValue rowOfReads pick check bind _and_ _or_
+unfolding ranged rangesLive rangeStep rangeEntry onLookup lookupAt byteLiveness isTombstone walk walkWithin onNext
+    listOffset fromBase listStart fixedAt asFixed encodingOf listEntryAt asListStep entryOfReads rowEntry listEntry
+    listRow rangeEntries rowAmong rowOf rows unreadableRow rowLayout tokenOf numberAs readIn tokenIn numberIn before
+    asNumber asBounded asLink asBlock asExpression asLeb asBytes copy uleb groups below unsigned64 fixedValue ordered
+    littleValue width size bytesOf pieceBytes numberBytes fieldOf linkedValue rowOfReads pick check bind _and_ _or_
 range-lists = (refl, refl, refl, refl, refl, refl, refl, refl)
 
 -- a location is read to its end though a live index was met; a nested entry value is stepped over; constx asks nothing
@@ -49,7 +62,11 @@ locations-live :
     × (locationLive (encodingOf 8) [] (0xa2 ∷ 7 ∷ []) ≡ Dead)
     × (locationLive (encodingOf 8) [] (0x03 ∷ 1 ∷ 0 ∷ 0 ∷ 0 ∷ 0 ∷ 0 ∷ 0 ∷ 0 ∷ []) ≡ Dead)
     × (locationLive (encodingOf 8) [] (0xff ∷ []) ≡ Refused 5)
-unfolding locationLive operationStep onLookup lookupAt byteLiveness walk walkWithin onNext encodingOf operationAt asOperation operationOfReads rowOperation operation operationRow operations rowAmong rowOf rows unreadableRow rowLayout tokenOf numberAs readIn tokenIn numberIn before asNumber asBounded asLink asBlock asExpression asLeb asBytes copy uleb groups below unsigned64 fixedValue ordered littleValue width size bytesOf pieceBytes numberBytes fieldOf linkedValue rowOfReads pick check bind _and_ _or_
+unfolding locationLive operationStep onLookup lookupAt byteLiveness walk walkWithin onNext encodingOf operationAt
+    asOperation operationOfReads rowOperation operation operationRow operations rowAmong rowOf rows unreadableRow
+    rowLayout tokenOf numberAs readIn tokenIn numberIn before asNumber asBounded asLink asBlock asExpression asLeb
+    asBytes copy uleb groups below unsigned64 fixedValue ordered littleValue width size bytesOf pieceBytes numberBytes
+    fieldOf linkedValue rowOfReads pick check bind _and_ _or_
 locations-live = (refl, refl, refl, refl, refl, refl)
 
 -- ---- entries, from the bytes of their specifications and of their values
@@ -82,7 +99,15 @@ entries :
     × (tested [] 0x34 (0x02 ∷ 0x18 ∷ 0 ∷ 0 ∷ []) (0 ∷ []) ≡ Dead)  -- one of no bytes
     × (tested (1 ∷ []) 0x34 (0x11 ∷ 0x1b ∷ 0 ∷ 0 ∷ []) (0 ∷ []) ≡ Dead)  -- a variable's low_pc is not asked
     × (tested [] 0x11 (0x11 ∷ 0x1b ∷ 0 ∷ 0 ∷ []) (0 ∷ []) ≡ Dead)  -- another tag asks nothing
-unfolding tested rootTest orElse lowPcs lowPc firstRanges rangesOf otherRanges olderLive olderStep rangesLive rangeStep rangeEntry listOffset fromBase listStart fixedAt asFixed listEntryAt asListStep entryOfReads rowEntry listEntry listRow rangeEntries rowAmong rowOf rows unreadableRow rowLayout locations partOf locationLive operationStep operationAt asOperation operationOfReads rowOperation operation operationRow operations onLookup lookupAt byteLiveness walk walkWithin onNext entryOf entryValues valuesOf onAttribute specsFrom specsWithin onSpec specAt implicitSpec numberSpec lebAt asLebNumber short within16 attributeAt asAttribute attributeOfReads attributeLayout valueToken useOf formToken tokenAmong formTokens encodingOf tokenOf numberAs readIn tokenIn numberIn before asNumber asLink asExpression asLeb asBytes copy uleb groups below unsigned64 fixedValue ordered littleValue width size bytesOf pieceBytes numberBytes padded fieldOf linkedValue rowOfReads pick check bind _and_ _or_
+unfolding tested rootTest orElse lowPcs lowPc firstRanges rangesOf otherRanges olderLive olderStep rangesLive rangeStep
+    rangeEntry listOffset fromBase listStart fixedAt asFixed listEntryAt asListStep entryOfReads rowEntry listEntry
+    listRow rangeEntries rowAmong rowOf rows unreadableRow rowLayout locations partOf locationLive operationStep
+    operationAt asOperation operationOfReads rowOperation operation operationRow operations onLookup lookupAt
+    byteLiveness walk walkWithin onNext entryOf entryValues valuesOf onAttribute specsFrom specsWithin onSpec specAt
+    implicitSpec numberSpec lebAt asLebNumber short within16 attributeAt asAttribute attributeOfReads attributeLayout
+    valueToken useOf formToken tokenAmong formTokens encodingOf tokenOf numberAs readIn tokenIn numberIn before asNumber
+    asLink asExpression asLeb asBytes copy uleb groups below unsigned64 fixedValue ordered littleValue width size
+    bytesOf pieceBytes numberBytes padded fieldOf linkedValue rowOfReads pick check bind _and_ _or_
 entries = (refl, refl, refl, refl, refl, refl, refl, refl, refl, refl, refl, refl, refl, refl, refl, refl, refl)
 
 -- rnglists_base in sec_offset: of several the last counts; another form, another name and another tag leave the base
@@ -91,5 +116,9 @@ list-bases :
     × (baseAfter 0x74 12 0x11 (entryOf (0x74 ∷ 0x17 ∷ 0x74 ∷ 0x06 ∷ 0 ∷ 0 ∷ []) (16 ∷ 0 ∷ 0 ∷ 0 ∷ 20 ∷ 0 ∷ 0 ∷ 0 ∷ [])) ≡ 16)
     × (baseAfter 0x8c 12 0x11 (entryOf (0x74 ∷ 0x17 ∷ 0 ∷ 0 ∷ []) (16 ∷ 0 ∷ 0 ∷ 0 ∷ [])) ≡ 12)
     × (baseAfter 0x74 12 0x2e (entryOf (0x74 ∷ 0x17 ∷ 0 ∷ 0 ∷ []) (16 ∷ 0 ∷ 0 ∷ 0 ∷ [])) ≡ 12)
-unfolding baseAfter baseFrom entryOf entryValues valuesOf onAttribute specsFrom specsWithin onSpec specAt implicitSpec numberSpec lebAt asLebNumber short within16 attributeAt asAttribute attributeOfReads attributeLayout valueToken useOf formToken tokenAmong formTokens encodingOf tokenOf numberAs readIn tokenIn numberIn before asNumber copy groups below fixedValue ordered littleValue width size bytesOf pieceBytes fieldOf linkedValue pick check bind _and_ _or_
+unfolding baseAfter baseFrom entryOf entryValues valuesOf onAttribute specsFrom specsWithin onSpec specAt implicitSpec
+    numberSpec lebAt asLebNumber short within16 attributeAt asAttribute attributeOfReads attributeLayout valueToken
+    useOf formToken tokenAmong formTokens encodingOf tokenOf numberAs readIn tokenIn numberIn before asNumber copy
+    groups below fixedValue ordered littleValue width size bytesOf pieceBytes fieldOf linkedValue pick check bind _and_
+    _or_
 list-bases = (refl, refl, refl, refl)

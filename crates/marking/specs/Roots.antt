@@ -1,4 +1,5 @@
--- Which entries are roots (document 01, "Roots"; gc.rs: `is_root`, `rnglist_has_live_entry`, `ranges_has_live_entry`, `location_expr_live`).
+-- Which entries are roots (document 01, "Roots"; gc.rs: `is_root`, `rnglist_has_live_entry`, `ranges_has_live_entry`,
+-- `location_expr_live`).
 use Prim.Native.Nat.{ℕ, zero, suc, _+_, _-_}
 use mathlib.Core.Bool.{Bool, true, false}
 use mathlib.Core.List.{List, [], _∷_}
@@ -16,7 +17,8 @@ use Rattle.readers.specs.declared.cursor.Encoding.{Encoding}
 use Rattle.readers.specs.declared.cursor.Cursor.{Cursor}
 use Rattle.readers.specs.declared.abbreviations.AttributeSpec.{AttributeSpec}
 use Rattle.readers.specs.declared.abbreviations.SpecStep.{SpecStep}
-use Rattle.readers.specs.declared.abbreviations.SpecStep.the-variants.{Attribute as Spec, Last as LastSpec, Unreadable as NoSpec}
+use Rattle.readers.specs.declared.abbreviations.SpecStep.the-variants.{Attribute as Spec, Last as LastSpec}
+use Rattle.readers.specs.declared.abbreviations.SpecStep.the-variants.{Unreadable as NoSpec}
 use Rattle.readers.specs.declared.attributes.Attribute.{Attribute}
 use Rattle.readers.specs.declared.attributes.AttributeRead.{AttributeRead}
 use Rattle.readers.specs.declared.attributes.AttributeRead.the-variants.{Read as Attribute′, Unreadable as NoAttribute}
@@ -141,8 +143,8 @@ unfoldable pub valuesOf : Encoding → List ℕ → List AttributeSpec → ℕ �
 valuesOf e unit [] at = []
 valuesOf e unit (a ∷ rest) at = onAttribute a (attributeAt e unit at (a .name) (a .form)) (λ next. valuesOf e unit rest next)
 
--- the specifications from a place on, up to the pair of zeros or to one that can't be read: what stands before that one counts, since a test may be decided
--- there. A checked abbreviation list has none such, and there these are all.
+-- the specifications from a place on, up to the pair of zeros or to one that can't be read: what stands before that one
+-- counts, since a test may be decided there. A checked abbreviation list has none such, and there these are all.
 unfoldable pub onSpec : SpecStep → (AttributeSpec → List AttributeSpec) → List AttributeSpec
 onSpec (Spec a) k = k a
 onSpec (LastSpec c) k = []
@@ -196,7 +198,8 @@ pub record Ranges : Type 0 where
 abbrev pub rangesBy : List ℕ → List ℕ → ℕ → ℕ → Ranges
 rangesBy ranges table rangesBase rnglistsBase = record { ranges = ranges; table = table; rangesBase = rangesBase; rnglistsBase = rnglistsBase }
 
--- DW_AT_ranges not in rnglistx: sec_offset (0x17) by the older test, another form live. The sum has no bound here: above 64 bits it lies past the section's end.
+-- DW_AT_ranges not in rnglistx: sec_offset (0x17) by the older test, another form live. The sum has no bound here:
+-- above 64 bits it lies past the section's end.
 unfoldable pub otherRanges : Encoding → List ℕ → ℕ → Attribute → Verdict
 otherRanges e ranges base v = pick (eqb (v .form) 0x17) (olderLive e ranges (listStart ranges (base + v .field .value))) isLive
 

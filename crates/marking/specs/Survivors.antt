@@ -1,5 +1,5 @@
--- Survivors, as demand 3 has them: "the least set holding the first entry and all roots, the parent of each survivor, every entry a survivor's non-sibling
--- reference names, and all descendants of roots and of entries so named".
+-- Survivors, as demand 3 has them: "the least set holding the first entry and all roots, the parent of each survivor,
+-- every entry a survivor's non-sibling reference names, and all descendants of roots and of entries so named".
 use Prim.Native.Nat.{ℕ, _<_}
 use mathlib.Core.Path.{_≡_}
 use mathlib.Core.Bool.{true}

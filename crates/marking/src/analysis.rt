@@ -5,7 +5,9 @@ ghost use Rattle.readers.specs.Choice.{zeros};
 ghost use Rattle.readers.specs.Entries.{headEnd};
 ghost use Rattle.readers.specs.Header.{headerOf};
 ghost use Rattle.marking.specs.Analysis.{sections, rooms, rootOf, namesOf, unitAnalysed, analysisOf};
-ghost use Rattle.marking.specs.Columns.{offsetsIn, parentsIn, rootsIn, endsIn, namesIn, column, least, roomsOf, indexAfter, Ready, Outcome, answerOf, headed, refusalOf, entryAnswer, entryTable};
+ghost use Rattle.marking.specs.Columns.{offsetsIn, parentsIn, rootsIn, endsIn, namesIn, column, least, roomsOf};
+ghost use Rattle.marking.specs.Columns.{indexAfter, Ready, Outcome, answerOf, headed, refusalOf, entryAnswer};
+ghost use Rattle.marking.specs.Columns.{entryTable, leftBy, unitFound};
 use crate::columns::clear_bytes;
 use crate::columns::clear_indexes;
 use crate::references::EntryScan;
@@ -28,7 +30,8 @@ use readers::header::unit_part;
 use readers::offsets::EntryIndex;
 use readers::tables::clear;
 
-// What is found of an entry: 1 for a root, else 0, the place past its references in the table, and the cursor past it; or the number of a refusal.
+// What is found of an entry: 1 for a root, else 0, the place past its references in the table, and the cursor past it;
+// or the number of a refusal.
 pub enum EntryAnalysis {
     Found { root: u8, to: usize, next: Cursor },
     Refused(u8),
@@ -38,6 +41,12 @@ pub enum EntryAnalysis {
 pub enum Analysis {
     Entries { entries: usize, references: usize },
     Refused(u8),
+}
+
+// What is to be analysed: a unit whose declarations were checked, or the answer where there is none.
+pub enum UnitFound {
+    Unit(UnitHeader),
+    Answered(Analysis),
 }
 
 // The number of a refusal of an entry: 4 where its values can't be read, which comes before any other.
@@ -67,8 +76,15 @@ fn analyse_entry(
     targets: &mut [u64],
     at: usize,
 ) -> EntryAnalysis
-    ensures answer { λ r. ⌜ r ≡ entryAnswer (length (now (targets .entry))) at (headEnd e (now (abbreviations .entry)) (now (unit .entry)) x) (rootOf e (sections (now (abbreviations .entry)) (now (locations .entry)) (now (ranges .entry)) (now (addresses .entry)) «ranges_base») (now (unit .entry)) «rnglists_base» (headed x)) (namesOf e (sections (now (abbreviations .entry)) (now (locations .entry)) (now (ranges .entry)) (now (addresses .entry)) «ranges_base») (now (unit .entry)) «loclists_base» (headed x)) ⌝ }
-    ensures table { λ _. ⌜ now (targets .exit) ≡ entryTable (now (targets .entry)) at (rootOf e (sections (now (abbreviations .entry)) (now (locations .entry)) (now (ranges .entry)) (now (addresses .entry)) «ranges_base») (now (unit .entry)) «rnglists_base» (headed x)) (namesOf e (sections (now (abbreviations .entry)) (now (locations .entry)) (now (ranges .entry)) (now (addresses .entry)) «ranges_base») (now (unit .entry)) «loclists_base» (headed x)) ⌝ }
+    ensures { λ r. ⌜ (
+        let lent = sections (now (abbreviations .entry)) (now (locations .entry)) (now (ranges .entry))
+        (now (addresses .entry)) «ranges_base» in
+        let end = headEnd e (now (abbreviations .entry)) (now (unit .entry)) x in
+        let root = rootOf e lent (now (unit .entry)) «rnglists_base» (headed x) in
+        let names = namesOf e lent (now (unit .entry)) «loclists_base» (headed x) in
+        (r ≡ entryAnswer (length (now (targets .entry))) at end root names)
+        × (now (targets .exit) ≡ entryTable (now (targets .entry)) at root names)
+        ) ⌝ }
 {
     let declaration = x.declaration;
     let specs = declaration.attributes;
@@ -139,9 +155,17 @@ fn analyse_entries(
     ends: &mut [u64],
     targets: &mut [u64],
 ) -> Analysis
-    requires { ⌜ Ready (now abbreviations) (now index) from (now unit) «entry_room» «reference_room» (now offsets) (now parents) (now roots) (now ends) (now targets) ⌝ }
-    ensures answer { λ r. ⌜ r ≡ answerOf (unitAnalysed e (sections (now (abbreviations .entry)) (now (locations .entry)) (now (ranges .entry)) (now (addresses .entry)) «ranges_base») (now (unit .entry)) (rooms «entry_room» «reference_room») from (first .at)) ⌝ }
-    ensures columns { λ _. ⌜ Outcome (unitAnalysed e (sections (now (abbreviations .entry)) (now (locations .entry)) (now (ranges .entry)) (now (addresses .entry)) «ranges_base») (now (unit .entry)) (rooms «entry_room» «reference_room») from (first .at)) (now (offsets .entry)) (now (parents .entry)) (now (roots .entry)) (now (ends .entry)) (now (targets .entry)) (now (offsets .exit)) (now (parents .exit)) (now (roots .exit)) (now (ends .exit)) (now (targets .exit)) ⌝ }
+    requires { ⌜ Ready (now abbreviations) (now index) from (now unit) «entry_room» «reference_room»
+        (now offsets) (now parents) (now roots) (now ends) (now targets) ⌝ }
+    ensures { λ r. ⌜ (
+        let lent = sections (now (abbreviations .entry)) (now (locations .entry)) (now (ranges .entry))
+        (now (addresses .entry)) «ranges_base» in
+        let found = unitAnalysed e lent (now (unit .entry)) (rooms «entry_room» «reference_room») from (first .at) in
+        (r ≡ answerOf found)
+        × Outcome found
+        (now (offsets .entry)) (now (parents .entry)) (now (roots .entry)) (now (ends .entry)) (now (targets .entry))
+        (now (offsets .exit)) (now (parents .exit)) (now (roots .exit)) (now (ends .exit)) (now (targets .exit))
+        ) ⌝ }
 {
     let mut c = first;
     let mut count: usize = 0;
@@ -241,6 +265,16 @@ fn least_of(a: usize, b: usize) -> usize
     if a <= b { a } else { b }
 }
 
+// How many entries a table has room for: at most so many, and as many as its shortest column has.
+fn entry_room(entries: usize, offsets: usize, parents: usize, roots: usize, ends: usize) -> usize
+    ensures { λ r. ⌜ r ≡ least entries (least (least offsets parents) (least roots ends)) ⌝ }
+{
+    least_of(
+        entries,
+        least_of(least_of(offsets, parents), least_of(roots, ends)),
+    )
+}
+
 // Makes every column zeros.
 pub fn clear_columns(
     offsets: &mut [u64],
@@ -262,6 +296,39 @@ pub fn clear_columns(
     clear(targets);
 }
 
+// Makes every column zeros after a refusal.
+fn clear_refused(
+    answer: Analysis,
+    offsets: &mut [u64],
+    parents: &mut [u32],
+    roots: &mut [u8],
+    ends: &mut [u64],
+    targets: &mut [u64],
+) -> Analysis
+    ensures { λ r. ⌜
+        (r ≡ answer)
+        × ((now (offsets .exit) ≡ leftBy answer (now (offsets .entry)))
+        × ((now (parents .exit) ≡ leftBy answer (now (parents .entry)))
+        × ((now (roots .exit) ≡ leftBy answer (now (roots .entry)))
+        × ((now (ends .exit) ≡ leftBy answer (now (ends .entry)))
+        × (now (targets .exit) ≡ leftBy answer (now (targets .entry)))))))
+        ⌝ }
+{
+    match answer {
+        Analysis::Entries {
+            entries,
+            references,
+        } => Analysis::Entries {
+            entries,
+            references,
+        },
+        Analysis::Refused(n) => {
+            clear_columns(offsets, parents, roots, ends, targets);
+            Analysis::Refused(n)
+        }
+    }
+}
+
 // A unit whose declarations were checked, into cleared columns; zeros after a refusal.
 fn analyse_unit(
     section: &[u8],
@@ -280,16 +347,23 @@ fn analyse_unit(
     ends: &mut [u64],
     targets: &mut [u64],
 ) -> Analysis
-    requires { ⌜ Ready (now abbreviations) (now index) (h .abbreviations) (take (h .end) (now section)) «entry_room» «reference_room» (now offsets) (now parents) (now roots) (now ends) (now targets) ⌝ }
-    ensures answer { λ r. ⌜ r ≡ answerOf (unitAnalysed (h .encoding) (sections (now (abbreviations .entry)) (now (locations .entry)) (now (ranges .entry)) (now (addresses .entry)) «ranges_base») (take (h .end) (now (section .entry))) (rooms «entry_room» «reference_room») (h .abbreviations) (h .first .0)) ⌝ }
-    ensures offsets { λ _. ⌜ now (offsets .exit) ≡ column offsetsIn (length (now (offsets .entry))) (unitAnalysed (h .encoding) (sections (now (abbreviations .entry)) (now (locations .entry)) (now (ranges .entry)) (now (addresses .entry)) «ranges_base») (take (h .end) (now (section .entry))) (rooms «entry_room» «reference_room») (h .abbreviations) (h .first .0)) ⌝ }
-    ensures parents { λ _. ⌜ now (parents .exit) ≡ column parentsIn (length (now (parents .entry))) (unitAnalysed (h .encoding) (sections (now (abbreviations .entry)) (now (locations .entry)) (now (ranges .entry)) (now (addresses .entry)) «ranges_base») (take (h .end) (now (section .entry))) (rooms «entry_room» «reference_room») (h .abbreviations) (h .first .0)) ⌝ }
-    ensures roots { λ _. ⌜ now (roots .exit) ≡ column rootsIn (length (now (roots .entry))) (unitAnalysed (h .encoding) (sections (now (abbreviations .entry)) (now (locations .entry)) (now (ranges .entry)) (now (addresses .entry)) «ranges_base») (take (h .end) (now (section .entry))) (rooms «entry_room» «reference_room») (h .abbreviations) (h .first .0)) ⌝ }
-    ensures ends { λ _. ⌜ now (ends .exit) ≡ column (endsIn 0) (length (now (ends .entry))) (unitAnalysed (h .encoding) (sections (now (abbreviations .entry)) (now (locations .entry)) (now (ranges .entry)) (now (addresses .entry)) «ranges_base») (take (h .end) (now (section .entry))) (rooms «entry_room» «reference_room») (h .abbreviations) (h .first .0)) ⌝ }
-    ensures targets { λ _. ⌜ now (targets .exit) ≡ column namesIn (length (now (targets .entry))) (unitAnalysed (h .encoding) (sections (now (abbreviations .entry)) (now (locations .entry)) (now (ranges .entry)) (now (addresses .entry)) «ranges_base») (take (h .end) (now (section .entry))) (rooms «entry_room» «reference_room») (h .abbreviations) (h .first .0)) ⌝ }
+    requires { ⌜ Ready (now abbreviations) (now index) (h .abbreviations) (take (h .end) (now section))
+        «entry_room» «reference_room» (now offsets) (now parents) (now roots) (now ends) (now targets) ⌝ }
+    ensures { λ r. ⌜ (
+        let lent = sections (now (abbreviations .entry)) (now (locations .entry)) (now (ranges .entry))
+        (now (addresses .entry)) «ranges_base» in
+        let found = unitAnalysed (h .encoding) lent (take (h .end) (now (section .entry)))
+        (rooms «entry_room» «reference_room») (h .abbreviations) (h .first .0) in
+        (r ≡ answerOf found)
+        × ((now (offsets .exit) ≡ column offsetsIn (length (now (offsets .entry))) found)
+        × ((now (parents .exit) ≡ column parentsIn (length (now (parents .entry))) found)
+        × ((now (roots .exit) ≡ column rootsIn (length (now (roots .entry))) found)
+        × ((now (ends .exit) ≡ column (endsIn 0) (length (now (ends .entry))) found)
+        × (now (targets .exit) ≡ column namesIn (length (now (targets .entry))) found)))))
+        ) ⌝ }
 {
     let first = h.first;
-    match analyse_entries(
+    let answer = analyse_entries(
         unit_part(section, h),
         abbreviations,
         h.abbreviations,
@@ -309,27 +383,41 @@ fn analyse_unit(
         roots,
         ends,
         targets,
-    ) {
-        Analysis::Entries {
-            entries,
-            references,
-        } => {
-            Analysis::Entries {
-                entries,
-                references,
-            }
-        }
-        Analysis::Refused(n) => {
-            clear_columns(offsets, parents, roots, ends, targets);
-            Analysis::Refused(n)
+    );
+    clear_refused(answer, offsets, parents, roots, ends, targets)
+}
+
+// The unit of a section, its declarations checked and the index of them filled: 1 and 2 of the header, 3 of the
+// abbreviations. An empty section has no entries.
+fn find_unit(section: &[u8], abbreviations: &[u8], index: &mut [u64]) -> UnitFound
+    ensures { λ r. ⌜ (
+        let header = headerOf (now (section .entry)) in
+        (r ≡ unitFound (now (abbreviations .entry)) header)
+        × (now (index .exit) ≡ indexAfter (now (abbreviations .entry)) header (length (now (index .entry))))
+        ) ⌝ }
+{
+    clear(index);
+    match unit_header(section) {
+        HeaderRead::Empty => UnitFound::Answered(Analysis::Entries {
+            entries: 0,
+            references: 0,
+        }),
+        HeaderRead::Refused(n) => UnitFound::Answered(Analysis::Refused(n)),
+        HeaderRead::Unit(h) => {
+            let Checked::Accepted = check_abbreviations(abbreviations, h.abbreviations, index)
+            else {
+                return UnitFound::Answered(Analysis::Refused(3));
+            };
+            UnitFound::Unit(h)
         }
     }
 }
 
-// The analysis of the first unit of a section, into the columns of an entry table (where each entry starts, its parent, 1 for a root or 0, the number of references up
-// to and with its own) and of a reference table (the offsets that are named). At most so many entries and references, and as many as the shortest column has. The
-// index of the declarations is for finding them, and stays filled; its length changes no answer. A refusal leaves zeros in the columns: 1 and 2 of the header, 3 of
-// the abbreviations, then entry by entry 4, 10, 5 or 6, 5 or 7, 11.
+// The analysis of the first unit of a section, into the columns of an entry table (where each entry starts, its parent,
+// 1 for a root or 0, the number of references up to and with its own) and of a reference table (the offsets that are
+// named). At most so many entries and references, and as many as the shortest column has. The index of the declarations
+// is for finding them, and stays filled; its length changes no answer. A refusal leaves zeros in the columns: 1 and 2
+// of the header, 3 of the abbreviations, then entry by entry 4, 10, 5 or 6, 5 or 7, 11.
 pub fn analyse(
     section: &[u8],
     abbreviations: &[u8],
@@ -346,35 +434,32 @@ pub fn analyse(
     ends: &mut [u64],
     targets: &mut [u64],
 ) -> Analysis
-    ensures answer { λ r. ⌜ r ≡ answerOf (analysisOf (sections (now (abbreviations .entry)) (now (locations .entry)) (now (ranges .entry)) (now (addresses .entry)) «ranges_base») (now (section .entry)) (roomsOf entries references (length (now (offsets .entry))) (length (now (parents .entry))) (length (now (roots .entry))) (length (now (ends .entry))) (length (now (targets .entry))))) ⌝ }
-    ensures index { λ _. ⌜ now (index .exit) ≡ indexAfter (now (abbreviations .entry)) (headerOf (now (section .entry))) (length (now (index .entry))) ⌝ }
-    ensures offsets { λ _. ⌜ now (offsets .exit) ≡ column offsetsIn (length (now (offsets .entry))) (analysisOf (sections (now (abbreviations .entry)) (now (locations .entry)) (now (ranges .entry)) (now (addresses .entry)) «ranges_base») (now (section .entry)) (roomsOf entries references (length (now (offsets .entry))) (length (now (parents .entry))) (length (now (roots .entry))) (length (now (ends .entry))) (length (now (targets .entry))))) ⌝ }
-    ensures parents { λ _. ⌜ now (parents .exit) ≡ column parentsIn (length (now (parents .entry))) (analysisOf (sections (now (abbreviations .entry)) (now (locations .entry)) (now (ranges .entry)) (now (addresses .entry)) «ranges_base») (now (section .entry)) (roomsOf entries references (length (now (offsets .entry))) (length (now (parents .entry))) (length (now (roots .entry))) (length (now (ends .entry))) (length (now (targets .entry))))) ⌝ }
-    ensures roots { λ _. ⌜ now (roots .exit) ≡ column rootsIn (length (now (roots .entry))) (analysisOf (sections (now (abbreviations .entry)) (now (locations .entry)) (now (ranges .entry)) (now (addresses .entry)) «ranges_base») (now (section .entry)) (roomsOf entries references (length (now (offsets .entry))) (length (now (parents .entry))) (length (now (roots .entry))) (length (now (ends .entry))) (length (now (targets .entry))))) ⌝ }
-    ensures ends { λ _. ⌜ now (ends .exit) ≡ column (endsIn 0) (length (now (ends .entry))) (analysisOf (sections (now (abbreviations .entry)) (now (locations .entry)) (now (ranges .entry)) (now (addresses .entry)) «ranges_base») (now (section .entry)) (roomsOf entries references (length (now (offsets .entry))) (length (now (parents .entry))) (length (now (roots .entry))) (length (now (ends .entry))) (length (now (targets .entry))))) ⌝ }
-    ensures targets { λ _. ⌜ now (targets .exit) ≡ column namesIn (length (now (targets .entry))) (analysisOf (sections (now (abbreviations .entry)) (now (locations .entry)) (now (ranges .entry)) (now (addresses .entry)) «ranges_base») (now (section .entry)) (roomsOf entries references (length (now (offsets .entry))) (length (now (parents .entry))) (length (now (roots .entry))) (length (now (ends .entry))) (length (now (targets .entry))))) ⌝ }
+    ensures { λ r. ⌜ (
+        let lent = sections (now (abbreviations .entry)) (now (locations .entry)) (now (ranges .entry))
+        (now (addresses .entry)) «ranges_base» in
+        let room = roomsOf entries references (length (now (offsets .entry))) (length (now (parents .entry)))
+        (length (now (roots .entry))) (length (now (ends .entry))) (length (now (targets .entry))) in
+        let found = analysisOf lent (now (section .entry)) room in
+        let header = headerOf (now (section .entry)) in
+        (r ≡ answerOf found)
+        × ((now (index .exit) ≡ indexAfter (now (abbreviations .entry)) header (length (now (index .entry))))
+        × ((now (offsets .exit) ≡ column offsetsIn (length (now (offsets .entry))) found)
+        × ((now (parents .exit) ≡ column parentsIn (length (now (parents .entry))) found)
+        × ((now (roots .exit) ≡ column rootsIn (length (now (roots .entry))) found)
+        × ((now (ends .exit) ≡ column (endsIn 0) (length (now (ends .entry))) found)
+        × (now (targets .exit) ≡ column namesIn (length (now (targets .entry))) found))))))
+        ) ⌝ }
 {
-    clear(index);
     clear_columns(offsets, parents, roots, ends, targets);
-    match unit_header(section) {
-        HeaderRead::Empty => {
-            Analysis::Entries {
-                entries: 0,
-                references: 0,
-            }
-        }
-        HeaderRead::Refused(n) => Analysis::Refused(n),
-        HeaderRead::Unit(h) => {
-            let Checked::Accepted = check_abbreviations(abbreviations, h.abbreviations, index)
-            else {
-                return Analysis::Refused(3);
-            };
-            let entry_room = least_of(
+    match find_unit(section, abbreviations, index) {
+        UnitFound::Answered(answer) => answer,
+        UnitFound::Unit(h) => {
+            let room = entry_room(
                 entries,
-                least_of(
-                    least_of(offsets.len(), parents.len()),
-                    least_of(roots.len(), ends.len()),
-                ),
+                offsets.len(),
+                parents.len(),
+                roots.len(),
+                ends.len(),
             );
             analyse_unit(
                 section,
@@ -385,7 +470,7 @@ pub fn analyse(
                 ranges,
                 addresses,
                 ranges_base,
-                entry_room,
+                room,
                 least_of(references, targets.len()),
                 offsets,
                 parents,

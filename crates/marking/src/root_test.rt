@@ -1,6 +1,7 @@
 // The root test of an entry, over its attributes.
 ghost use mathlib.Core.Path.{_≡_};
-ghost use Rattle.marking.specs.Roots.{nextAttribute, lowPcs, locations, otherRanges, rangesBy, firstRanges, rootTest, baseAfter, entryValues};
+ghost use Rattle.marking.specs.Roots.{nextAttribute, lowPcs, locations, otherRanges, rangesBy, firstRanges};
+ghost use Rattle.marking.specs.Roots.{rootTest, baseAfter, entryValues};
 use crate::roots::RangeTurn;
 use crate::roots::Verdict;
 use crate::roots::location_expr_live;
@@ -17,7 +18,8 @@ use readers::lists::list_offset;
 use readers::lists::list_start;
 use readers::operations::ListStep;
 
-// An attribute of an entry: its name, the form that it is declared with, its value, the cursor past its specification, and the cursor past its value.
+// An attribute of an entry: its name, the form that it is declared with, its value, the cursor past its specification,
+// and the cursor past its value.
 pub struct EntryAttribute {
     pub name: u64,
     pub declared: u64,
@@ -73,7 +75,10 @@ pub fn low_pcs(
     table: &[u8],
     e: Encoding,
 ) -> Verdict
-    ensures { λ r. ⌜ r ≡ lowPcs e (now (table .entry)) (entryValues e (now (abbreviations .entry)) (specs .at) (now (unit .entry)) (values .at)) ⌝ }
+    ensures { λ r. ⌜ (
+        let attributes = entryValues e (now (abbreviations .entry)) (specs .at) (now (unit .entry)) (values .at) in
+        r ≡ lowPcs e (now (table .entry)) attributes
+        ) ⌝ }
 {
     let mut p = specs;
     let mut c = values;
@@ -109,7 +114,10 @@ pub fn locations_live(
     table: &[u8],
     e: Encoding,
 ) -> Verdict
-    ensures { λ r. ⌜ r ≡ locations e (now (table .entry)) (now (unit .entry)) (entryValues e (now (abbreviations .entry)) (specs .at) (now (unit .entry)) (values .at)) ⌝ }
+    ensures { λ r. ⌜ (
+        let attributes = entryValues e (now (abbreviations .entry)) (specs .at) (now (unit .entry)) (values .at) in
+        r ≡ locations e (now (table .entry)) (now (unit .entry)) attributes
+        ) ⌝ }
 {
     let mut p = specs;
     let mut c = values;
@@ -139,7 +147,8 @@ pub fn locations_live(
     }
 }
 
-// Ranges that are not in rnglistx: a section offset from the base by the older test; what can't be resolved, and any other form, is live.
+// Ranges that are not in rnglistx: a section offset from the base by the older test; what can't be resolved, and any
+// other form, is live.
 pub fn other_ranges(v: Attribute, ranges: &[u8], ranges_base: u64, e: Encoding) -> Verdict
     ensures { λ r. ⌜ r ≡ otherRanges e (now (ranges .entry)) «ranges_base» v ⌝ }
 {
@@ -161,8 +170,8 @@ pub fn other_ranges(v: Attribute, ranges: &[u8], ranges_base: u64, e: Encoding) 
     ranges_has_live_entry(ranges, start, e)
 }
 
-// The first ranges attribute of an entry. Its list is read as gc.rs's `rnglist_has_live_entry` does, entry by entry: what decides it leaves the list and the
-// attributes with the verdict.
+// The first ranges attribute of an entry. Its list is read as gc.rs's `rnglist_has_live_entry` does, entry by entry:
+// what decides it leaves the list and the attributes with the verdict.
 pub fn first_ranges(
     unit: &[u8],
     abbreviations: &[u8],
@@ -174,7 +183,11 @@ pub fn first_ranges(
     rnglists_base: u64,
     e: Encoding,
 ) -> Verdict
-    ensures { λ r. ⌜ r ≡ firstRanges e (rangesBy (now (ranges .entry)) (now (table .entry)) «ranges_base» «rnglists_base») (entryValues e (now (abbreviations .entry)) (specs .at) (now (unit .entry)) (values .at)) ⌝ }
+    ensures { λ r. ⌜ (
+        let lists = rangesBy (now (ranges .entry)) (now (table .entry)) «ranges_base» «rnglists_base» in
+        let attributes = entryValues e (now (abbreviations .entry)) (specs .at) (now (unit .entry)) (values .at) in
+        r ≡ firstRanges e lists attributes
+        ) ⌝ }
 {
     let mut p = specs;
     let mut c = values;
@@ -226,7 +239,8 @@ pub fn first_ranges(
     verdict
 }
 
-// The root test of an entry with a tag (gc.rs: `is_root`): a subprogram by its low_pc and its ranges, a variable by its location; other tags never.
+// The root test of an entry with a tag (gc.rs: `is_root`): a subprogram by its low_pc and its ranges, a variable by its
+// location; other tags never.
 pub fn is_root(
     unit: &[u8],
     abbreviations: &[u8],
@@ -239,7 +253,11 @@ pub fn is_root(
     rnglists_base: u64,
     e: Encoding,
 ) -> Verdict
-    ensures { λ r. ⌜ r ≡ rootTest e (rangesBy (now (ranges .entry)) (now (table .entry)) «ranges_base» «rnglists_base») (now (unit .entry)) tag (entryValues e (now (abbreviations .entry)) (specs .at) (now (unit .entry)) (values .at)) ⌝ }
+    ensures { λ r. ⌜ (
+        let lists = rangesBy (now (ranges .entry)) (now (table .entry)) «ranges_base» «rnglists_base» in
+        let attributes = entryValues e (now (abbreviations .entry)) (specs .at) (now (unit .entry)) (values .at) in
+        r ≡ rootTest e lists (now (unit .entry)) tag attributes
+        ) ⌝ }
 {
     if tag == 0x2e {
         return match low_pcs(unit, abbreviations, specs, values, table, e) {
@@ -264,7 +282,8 @@ pub fn is_root(
     Verdict::Dead
 }
 
-// A list base after an entry with a tag: a compile unit's own attribute of that name in sec_offset replaces it; of several the last counts.
+// A list base after an entry with a tag: a compile unit's own attribute of that name in sec_offset replaces it; of
+// several the last counts.
 pub fn base_after(
     unit: &[u8],
     abbreviations: &[u8],
@@ -275,7 +294,10 @@ pub fn base_after(
     base: u64,
     e: Encoding,
 ) -> u64
-    ensures { λ r. ⌜ r ≡ baseAfter name base tag (entryValues e (now (abbreviations .entry)) (specs .at) (now (unit .entry)) (values .at)) ⌝ }
+    ensures { λ r. ⌜ (
+        let attributes = entryValues e (now (abbreviations .entry)) (specs .at) (now (unit .entry)) (values .at) in
+        r ≡ baseAfter name base tag attributes
+        ) ⌝ }
 {
     if tag != 0x11 {
         return base;

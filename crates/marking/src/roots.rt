@@ -1,4 +1,5 @@
-// The root test: what is live by itself. ranges_has_live_entry and location_expr_live have the names of their originals in gc.rs.
+// The root test: what is live by itself. ranges_has_live_entry and location_expr_live have the names of their originals
+// in gc.rs.
 ghost use mathlib.Core.Path.{_≡_};
 ghost use Rattle.marking.specs.Roots.{turnOf, rangeEntry, olderLive, locationLive, lowPc};
 ghost use Rattle.readers.specs.declared.lists.ListOffset.the-variants.{At};
@@ -25,7 +26,8 @@ pub enum RangeTurn {
     Decided(Verdict),
 }
 
-// An entry of a range list, whose latest base was dead or not: one turn of gc.rs's `rnglist_has_live_entry`, whose loop is in first_ranges.
+// An entry of a range list, whose latest base was dead or not: one turn of gc.rs's `rnglist_has_live_entry`, whose loop
+// is in first_ranges.
 pub fn range_entry(table: &[u8], dead: bool, x: ListEntry, e: Encoding) -> RangeTurn
     ensures { λ r. ⌜ r ≡ turnOf (rangeEntry e (now (table .entry)) dead x) ⌝ }
 {
@@ -84,7 +86,8 @@ pub fn ranges_has_live_entry(ranges: &[u8], start: Cursor, e: Encoding) -> Verdi
     }
 }
 
-// Whether a variable's location holds a live index of the address table. It is read to its end; nested entry values are stepped over.
+// Whether a variable's location holds a live index of the address table. It is read to its end; nested entry values are
+// stepped over.
 pub fn location_expr_live(s: &[u8], table: &[u8], e: Encoding) -> Verdict
     ensures { λ r. ⌜ r ≡ locationLive e (now (table .entry)) (now (s .entry)) ⌝ }
 {

@@ -6,8 +6,10 @@ ghost use lib.ListN.{length, take, drop};
 ghost use Rattle.readers.specs.Choice.{zeros};
 ghost use Rattle.readers.specs.Header.{headerOf};
 ghost use Rattle.marking.specs.Analysis.{Row, analysed, sections, analysisOf};
-ghost use Rattle.marking.specs.Columns.{padTo, column, offsetsIn, parentsIn, rootsIn, endsIn, namesIn, unitRooms, indexAfter};
-ghost use Rattle.marking.specs.Resolution.{asEntry, entryFrom, pairsOfEntry, pairsIn, marksIn, unitMarks, put, Searched, Ready, Held, Resolvable, Laid, Markable};
+ghost use Rattle.marking.specs.Columns.{padTo, column, offsetsIn, parentsIn, rootsIn, endsIn, namesIn, unitRooms};
+ghost use Rattle.marking.specs.Columns.{indexAfter};
+ghost use Rattle.marking.specs.Resolution.{asEntry, entryFrom, pairsOfEntry, pairsIn, marksIn, unitMarks, put};
+ghost use Rattle.marking.specs.Resolution.{Searched, Ready, Held, Resolvable, Laid, Markable};
 use crate::analysis::Analysis;
 use crate::analysis::analyse;
 use crate::columns::clear_bytes;
@@ -63,8 +65,11 @@ fn resolve_entry(
     at: usize,
 ) -> usize
     requires { ⌜ Ready (now offsets) entries (now targets) from to (now pairs) at ⌝ }
-    ensures answer { λ r. ⌜ 2 * r ≡ 2 * at + length (pairsOfEntry (take entries (now (offsets .entry))) (holder .0) (take (to - from) (drop from (now (targets .entry))))) ⌝ }
-    ensures filled { λ r. ⌜ now (pairs .exit) ≡ put (now (pairs .entry)) (2 * at) (pairsOfEntry (take entries (now (offsets .entry))) (holder .0) (take (to - from) (drop from (now (targets .entry))))) ⌝ }
+    ensures { λ r. ⌜ (
+        let names = take (to - from) (drop from (now (targets .entry))) in
+        let found = pairsOfEntry (take entries (now (offsets .entry))) (holder .0) names in
+        (2 * r ≡ 2 * at + length found) × (now (pairs .exit) ≡ put (now (pairs .entry)) (2 * at) found)
+        ) ⌝ }
 {
     let mut place = at;
     let mut j = from;
@@ -91,8 +96,12 @@ fn resolve(
     pairs: &mut [u32],
 ) -> usize
     requires { ⌜ Resolvable (now offsets) (now ends) entries (now targets) (now pairs) ⌝ }
-    ensures answer { λ r. ⌜ ((rows : List Row) → Held rows (now (offsets .entry)) (now (ends .entry)) entries (now (targets .entry)) (now (pairs .entry)) → 2 * r ≡ length (pairsIn rows)) ⌝ }
-    ensures filled { λ r. ⌜ ((rows : List Row) → Held rows (now (offsets .entry)) (now (ends .entry)) entries (now (targets .entry)) (now (pairs .entry)) → now (pairs .exit) ≡ padTo (length (now (pairs .entry))) (pairsIn rows)) ⌝ }
+    ensures answer { λ r. ⌜ ((rows : List Row)
+        → Held rows (now (offsets .entry)) (now (ends .entry)) entries (now (targets .entry)) (now (pairs .entry))
+        → 2 * r ≡ length (pairsIn rows)) ⌝ }
+    ensures filled { λ r. ⌜ ((rows : List Row)
+        → Held rows (now (offsets .entry)) (now (ends .entry)) entries (now (targets .entry)) (now (pairs .entry))
+        → now (pairs .exit) ≡ padTo (length (now (pairs .entry))) (pairsIn rows)) ⌝ }
 {
     let mut place: usize = 0;
     let mut from: usize = 0;
@@ -119,10 +128,20 @@ fn mark_rows(
     pairs: &mut [u32],
     work: &mut [u32],
 ) -> UnitMarks
-    requires { ⌜ Markable (now offsets) (now parents) (now roots) (now ends) entries (now marks) (now targets) (now pairs) ⌝ }
-    ensures answer { λ r. ⌜ ((rows : List Row) → Laid rows (now (offsets .entry)) (now (parents .entry)) (now (roots .entry)) (now (ends .entry)) entries (now (marks .entry)) (now (targets .entry)) (now (pairs .entry)) → r ≡ unitMarks (analysed rows)) ⌝ }
-    ensures marks { λ r. ⌜ ((rows : List Row) → Laid rows (now (offsets .entry)) (now (parents .entry)) (now (roots .entry)) (now (ends .entry)) entries (now (marks .entry)) (now (targets .entry)) (now (pairs .entry)) → now (marks .exit) ≡ padTo (length (now (marks .entry))) (marksIn rows)) ⌝ }
-    ensures pairs { λ r. ⌜ ((rows : List Row) → Laid rows (now (offsets .entry)) (now (parents .entry)) (now (roots .entry)) (now (ends .entry)) entries (now (marks .entry)) (now (targets .entry)) (now (pairs .entry)) → now (pairs .exit) ≡ padTo (length (now (pairs .entry))) (pairsIn rows)) ⌝ }
+    requires { ⌜ Markable (now offsets) (now parents) (now roots) (now ends) entries (now marks) (now targets)
+        (now pairs) ⌝ }
+    ensures answer { λ r. ⌜ ((rows : List Row)
+        → Laid rows (now (offsets .entry)) (now (parents .entry)) (now (roots .entry)) (now (ends .entry)) entries
+        (now (marks .entry)) (now (targets .entry)) (now (pairs .entry))
+        → r ≡ unitMarks (analysed rows)) ⌝ }
+    ensures marks { λ r. ⌜ ((rows : List Row)
+        → Laid rows (now (offsets .entry)) (now (parents .entry)) (now (roots .entry)) (now (ends .entry)) entries
+        (now (marks .entry)) (now (targets .entry)) (now (pairs .entry))
+        → now (marks .exit) ≡ padTo (length (now (marks .entry))) (marksIn rows)) ⌝ }
+    ensures pairs { λ r. ⌜ ((rows : List Row)
+        → Laid rows (now (offsets .entry)) (now (parents .entry)) (now (roots .entry)) (now (ends .entry)) entries
+        (now (marks .entry)) (now (targets .entry)) (now (pairs .entry))
+        → now (pairs .exit) ≡ padTo (length (now (pairs .entry))) (pairsIn rows)) ⌝ }
     ensures work { λ _. ⌜ now (work .exit) ≡ zeros (length (now (work .entry))) ⌝ }
 {
     let n = resolve(offsets, ends, entries, targets, pairs);
@@ -141,8 +160,9 @@ fn mark_rows(
     }
 }
 
-// Marks the entries of the first unit of a section: 1 dead, 2 retained, 3 live. The columns are those of `analyse`, with the marks among those of the entry table and the
-// pairs among those of the reference table, two numbers each. A refusal is the analysis's, and leaves zeros. The work column is scratch, zeros on every answer; its length, best two
+// Marks the entries of the first unit of a section: 1 dead, 2 retained, 3 live. The columns are those of `analyse`,
+// with the marks among those of the entry table and the pairs among those of the reference table, two numbers each. A
+// refusal is the analysis's, and leaves zeros. The work column is scratch, zeros on every answer; its length, best two
 // numbers an entry, changes the time alone.
 pub fn mark_unit(
     section: &[u8],
@@ -161,16 +181,25 @@ pub fn mark_unit(
     pairs: &mut [u32],
     work: &mut [u32],
 ) -> UnitMarks
-    ensures answer { λ r. ⌜ r ≡ unitMarks (analysisOf (sections (now (abbreviations .entry)) (now (locations .entry)) (now (ranges .entry)) (now (addresses .entry)) «ranges_base») (now (section .entry)) (unitRooms (length (now (marks .entry))) (length (now (pairs .entry))) (length (now (offsets .entry))) (length (now (parents .entry))) (length (now (roots .entry))) (length (now (ends .entry))) (length (now (targets .entry))))) ⌝ }
-    ensures index { λ _. ⌜ now (index .exit) ≡ indexAfter (now (abbreviations .entry)) (headerOf (now (section .entry))) (length (now (index .entry))) ⌝ }
-    ensures offsets { λ _. ⌜ now (offsets .exit) ≡ column offsetsIn (length (now (offsets .entry))) (analysisOf (sections (now (abbreviations .entry)) (now (locations .entry)) (now (ranges .entry)) (now (addresses .entry)) «ranges_base») (now (section .entry)) (unitRooms (length (now (marks .entry))) (length (now (pairs .entry))) (length (now (offsets .entry))) (length (now (parents .entry))) (length (now (roots .entry))) (length (now (ends .entry))) (length (now (targets .entry))))) ⌝ }
-    ensures parents { λ _. ⌜ now (parents .exit) ≡ column parentsIn (length (now (parents .entry))) (analysisOf (sections (now (abbreviations .entry)) (now (locations .entry)) (now (ranges .entry)) (now (addresses .entry)) «ranges_base») (now (section .entry)) (unitRooms (length (now (marks .entry))) (length (now (pairs .entry))) (length (now (offsets .entry))) (length (now (parents .entry))) (length (now (roots .entry))) (length (now (ends .entry))) (length (now (targets .entry))))) ⌝ }
-    ensures roots { λ _. ⌜ now (roots .exit) ≡ column rootsIn (length (now (roots .entry))) (analysisOf (sections (now (abbreviations .entry)) (now (locations .entry)) (now (ranges .entry)) (now (addresses .entry)) «ranges_base») (now (section .entry)) (unitRooms (length (now (marks .entry))) (length (now (pairs .entry))) (length (now (offsets .entry))) (length (now (parents .entry))) (length (now (roots .entry))) (length (now (ends .entry))) (length (now (targets .entry))))) ⌝ }
-    ensures ends { λ _. ⌜ now (ends .exit) ≡ column (endsIn 0) (length (now (ends .entry))) (analysisOf (sections (now (abbreviations .entry)) (now (locations .entry)) (now (ranges .entry)) (now (addresses .entry)) «ranges_base») (now (section .entry)) (unitRooms (length (now (marks .entry))) (length (now (pairs .entry))) (length (now (offsets .entry))) (length (now (parents .entry))) (length (now (roots .entry))) (length (now (ends .entry))) (length (now (targets .entry))))) ⌝ }
-    ensures marks { λ _. ⌜ now (marks .exit) ≡ column marksIn (length (now (marks .entry))) (analysisOf (sections (now (abbreviations .entry)) (now (locations .entry)) (now (ranges .entry)) (now (addresses .entry)) «ranges_base») (now (section .entry)) (unitRooms (length (now (marks .entry))) (length (now (pairs .entry))) (length (now (offsets .entry))) (length (now (parents .entry))) (length (now (roots .entry))) (length (now (ends .entry))) (length (now (targets .entry))))) ⌝ }
-    ensures targets { λ _. ⌜ now (targets .exit) ≡ column namesIn (length (now (targets .entry))) (analysisOf (sections (now (abbreviations .entry)) (now (locations .entry)) (now (ranges .entry)) (now (addresses .entry)) «ranges_base») (now (section .entry)) (unitRooms (length (now (marks .entry))) (length (now (pairs .entry))) (length (now (offsets .entry))) (length (now (parents .entry))) (length (now (roots .entry))) (length (now (ends .entry))) (length (now (targets .entry))))) ⌝ }
-    ensures pairs { λ _. ⌜ now (pairs .exit) ≡ column pairsIn (length (now (pairs .entry))) (analysisOf (sections (now (abbreviations .entry)) (now (locations .entry)) (now (ranges .entry)) (now (addresses .entry)) «ranges_base») (now (section .entry)) (unitRooms (length (now (marks .entry))) (length (now (pairs .entry))) (length (now (offsets .entry))) (length (now (parents .entry))) (length (now (roots .entry))) (length (now (ends .entry))) (length (now (targets .entry))))) ⌝ }
-    ensures work { λ _. ⌜ now (work .exit) ≡ zeros (length (now (work .entry))) ⌝ }
+    ensures { λ r. ⌜ (
+        let lent = sections (now (abbreviations .entry)) (now (locations .entry)) (now (ranges .entry))
+        (now (addresses .entry)) «ranges_base» in
+        let room = unitRooms (length (now (marks .entry))) (length (now (pairs .entry)))
+        (length (now (offsets .entry))) (length (now (parents .entry))) (length (now (roots .entry)))
+        (length (now (ends .entry))) (length (now (targets .entry))) in
+        let found = analysisOf lent (now (section .entry)) room in
+        let header = headerOf (now (section .entry)) in
+        (r ≡ unitMarks found)
+        × ((now (index .exit) ≡ indexAfter (now (abbreviations .entry)) header (length (now (index .entry))))
+        × ((now (offsets .exit) ≡ column offsetsIn (length (now (offsets .entry))) found)
+        × ((now (parents .exit) ≡ column parentsIn (length (now (parents .entry))) found)
+        × ((now (roots .exit) ≡ column rootsIn (length (now (roots .entry))) found)
+        × ((now (ends .exit) ≡ column (endsIn 0) (length (now (ends .entry))) found)
+        × ((now (marks .exit) ≡ column marksIn (length (now (marks .entry))) found)
+        × ((now (targets .exit) ≡ column namesIn (length (now (targets .entry))) found)
+        × ((now (pairs .exit) ≡ column pairsIn (length (now (pairs .entry))) found)
+        × (now (work .exit) ≡ zeros (length (now (work .entry))))))))))))
+        ) ⌝ }
 {
     clear_indexes(pairs);
     clear_bytes(marks);
