@@ -123,6 +123,13 @@ place old new depth = record { old = old; new = new; depth = depth }
 abbrev pub withPlace : List Place → Place → List Place
 withPlace ps p = ps ++ (p ∷ [])
 
+-- one place more in a map that has room for it, each of its numbers within four bytes
+abbrev pub WithPlace : ℕ → ℕ → ℕ → ℕ → List ℕ → List ℕ → Type 0
+WithPlace i old new depth map after =
+    (ps : List Place) → Held 4 (columns ps) map → i ≡ length ps → i < length map / 12
+    → old < 4294967296 → new < 4294967296 → depth < 4294967296
+    → Held 4 (columns (withPlace ps (place old new depth))) after
+
 pub record MapHeld (ps : List Place) (bytes : List ℕ) : Type 0 where
   pub held : Held 4 (columns ps) bytes
   pub ascending : Ascending (oldOffsets ps)
@@ -141,18 +148,21 @@ newAt map i = inRoom i (length map / 12) (numberAt 4 map (12 * i + 4))
 unfoldable pub depthAt : List ℕ → ℕ → ℕ
 depthAt map i = inRoom i (length map / 12) (numberAt 4 map (12 * i + 8))
 
--- where the halving of the places from low to high ends, by what is read at each: at the first that is not below v, where the numbers ascend;
--- n halvings are enough for n places
+-- where the halving of the places from low to high ends, by what is read at each: at the first that is not below v,
+-- where the numbers ascend; n halvings are enough for n places
 unfoldable pub halved : ℕ → (ℕ → ℕ) → ℕ → ℕ → ℕ → ℕ
 halved zero at v low high = low
 halved (suc n) at v low high =
     pick (ltb low high)
-    (pick (ltb (at (low + (high - low) / 2)) v) (halved n at v (low + (high - low) / 2 + 1) high) (halved n at v low (low + (high - low) / 2)))
+    (pick (ltb (at (low + (high - low) / 2)) v)
+    (halved n at v (low + (high - low) / 2 + 1) high)
+    (halved n at v low (low + (high - low) / 2)))
     low
 
 -- what is found at place i of the first places of a map
 unfoldable pub foundAt : List ℕ → ℕ → ℕ → ℕ → Mapped
-foundAt map places v i = pick (ltb i places) (pick (eqb (oldAt map i) v) (To (record { 0 = newAt map i })) Nothing) Nothing
+foundAt map places v i =
+    pick (ltb i places) (pick (eqb (oldAt map i) v) (To (record { 0 = newAt map i })) Nothing) Nothing
 
 -- the new offset of an old one, by the first places of any map
 unfoldable pub lookedUp : List ℕ → ℕ → ℕ → Mapped
