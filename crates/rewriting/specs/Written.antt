@@ -23,7 +23,8 @@ use Rattle.rewriting.specs.declared.map.Mapped.the-variants.{To, Nothing
 
 -- ---- numbers
 
--- whether a number goes into so many bytes of a part of n: as a ULEB128 number of at most ten bytes, in a fixed width of at most eight, as one or the other
+-- whether a number goes into so many bytes of a part of n: as a ULEB128 number of at most ten bytes, in a fixed width
+-- of at most eight, as one or the other
 unfoldable pub groupsFit : ℕ → ℕ → ℕ → Bool
 groupsFit value width n = ltb 0 width and leb width 10 and leb width n and ltb value (128 ^ width)
 
@@ -38,7 +39,8 @@ unfoldable pub unfit : Bool → ℕ → List ℕ → List ℕ
 unfit isLeb width out = pick (isLeb and leb width (length out)) (zeros width ++ drop width out) out
 
 -- a writer's answer, and the part after it: the bytes at its start where they fit, and else another
-pub record Put (fit : Bool) (bytes : List ℕ) (width : ℕ) (out other : List ℕ) (answer : Bool) (after : List ℕ) : Type 0 where
+pub record Put (fit : Bool) (bytes : List ℕ) (width : ℕ) (out other : List ℕ) (answer : Bool) (after : List ℕ)
+    : Type 0 where
   pub told : answer ≡ fit
   pub left : after ≡ pick fit (bytes ++ drop width out) other
 
@@ -97,6 +99,10 @@ pub record Held (width : ℕ) (xs bytes : List ℕ) : Type 0 where
 
 abbrev pub listBytes : List ℕ → List ℕ
 listBytes xs = runBytes 8 xs
+
+-- what any list has at a place
+abbrev pub listAt : List ℕ → ℕ → ℕ
+listAt list i = inRoom i (length list / 8) (numberAt 8 list (8 * i))
 
 pub record ListHeld (xs bytes : List ℕ) : Type 0 where
   pub held : Held 8 xs bytes

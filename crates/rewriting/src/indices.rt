@@ -351,7 +351,7 @@ fn table_declares(abbreviations: &[u8], from: u64, name: u64) -> bool
 }
 
 // Whether a list is absent: where an entry declares the attribute of a name in sec_offset. A list without such an
-// attribute has the name 0. No entry does where no declaration of the unit does, and then the unit is not looked through.
+// attribute has the name 0. No entry does where no declaration of the unit does: then the unit is not looked through.
 fn is_absent(
     unit: &[u8],
     abbreviations: &[u8],

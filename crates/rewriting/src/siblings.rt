@@ -1,7 +1,7 @@
 // The new place of a sibling's target. Where the target is not in the map, the first place after it that is no deeper
-// than the sibling's owner is searched for, past whole blocks of deeper places. For that there is a table of bounds, two
-// numbers for each eight places: where the block that begins there ends, in eights, and a depth that no place of the
-// block is below. Blocks that hold others make a tree. How long the table is changes the time alone.
+// than the sibling's owner is searched for, past whole blocks of deeper places. For that there is a table of bounds,
+// two numbers for each eight places: where the block that begins there ends, in eights, and a depth that no place of
+// the block is below. Blocks that hold others make a tree. How long the table is changes the time alone.
 ghost use mathlib.Core.Path.{_≡_};
 ghost use Prim.Native.Nat.{_+_, _*_, _/_, _<_, _≤_};
 ghost use mathlib.Core.List.{List};
