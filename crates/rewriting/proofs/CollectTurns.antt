@@ -2,7 +2,7 @@
 use mathlib.Core.Path.{_≡_, refl, ap, ap₂, sym, _∙_, subst}
 use Prim.Native.Nat.{ℕ, _-_, _<_}
 use native.Mathlib.Omega.{arith}
-use mathlib.Core.Bool.{Bool, true, false}
+use mathlib.Core.Bool.{true, false}
 use mathlib.Core.List.{List, [], _∷_, _++_}
 use lib.ListN.{length}
 use Rattle.readers.specs.Abbreviations.{declaredIn, findAt}
@@ -23,7 +23,8 @@ use Rattle.rewriting.specs.Parents.{Chained}
 use Rattle.rewriting.specs.Indices.{readIndices}
 use Rattle.rewriting.specs.Rewriting.{Unit as Unit′, readsOr, readsAt, indicesFrom}
 use Rattle.rewriting.specs.NextKept.{openKept, itemsBy, ShowsItem, Forward, Stood, keptAt, NextItem, Next, Answers}
-use Rattle.rewriting.specs.IndexLists.{valueIndices, PutsOn, ReadAs, Found, ReadDeep, AllRead, Passable, Gathers}
+use Rattle.rewriting.specs.Gathering.{Gathers}
+use Rattle.rewriting.specs.IndexLists.{valueIndices, ReadAs, Found, ReadDeep, AllRead, Passable, Puts}
 use Rattle.rewriting.specs.declared.kept.Reading.{Reading}
 use Rattle.rewriting.specs.declared.kept.Stand.{Stand}
 use Rattle.rewriting.specs.declared.kept.Kept.{Kept}
@@ -31,7 +32,8 @@ use Rattle.rewriting.specs.declared.kept.KeptStep.{KeptStep}
 use Rattle.rewriting.specs.declared.kept.KeptStep.the-variants.{Item as Item′, End}
 use Rattle.rewriting.proofs.ItemsStand.{Every, Stands, kept-stand}
 use Rattle.rewriting.proofs.EntryIndices.{StepIndices, deep-indices}
-use Rattle.rewriting.proofs.Holdings.{holding-none, Onward, onward-start, onward-on, onward-more, onward-end}
+use Rattle.rewriting.proofs.GatherLaws.{gathered-none}
+use Rattle.rewriting.proofs.Holdings.{Onward, onward-start, onward-on, onward-more, onward-end}
 
 module _ (r : Reading) (s table unit : List ℕ) (k : ℕ) where
   abbrev look : ℕ → Declared
@@ -91,7 +93,7 @@ module _ (r : Reading) (s table unit : List ℕ) (k : ℕ) where
 
   -- ---- the loop
 
-  module _ (ordered : Bool) (parents ends marks : List ℕ) (first : ℕ) where
+  module _ (parents ends marks : List ℕ) (first : ℕ) where
     abbrev items : ℕ → List Item
     items at = itemsBy r s table unit at
 
@@ -103,7 +105,7 @@ module _ (r : Reading) (s table unit : List ℕ) (k : ℕ) where
       pub stack : List ℕ
       pub stood : Stood items parents ends t stack
       pub deep : AllRead x u (keptAt items parents ends marks t stack)
-      pub onward : Onward ordered (indicesFrom x u k all-kept) 0 list₀ (indicesFrom x u k (keptAt items parents ends marks t stack)) n list
+      pub onward : Onward (indicesFrom x u k all-kept) 0 list₀ (indicesFrom x u k (keptAt items parents ends marks t stack)) n list
 
     abbrev pub Collecting : List ℕ → Stand → List ℕ → ℕ → Type 0
     Collecting list₀ t list n =
@@ -117,7 +119,7 @@ module _ (r : Reading) (s table unit : List ℕ) (k : ℕ) where
         stack = [];
         stood = record { nested = m; chained = tt; counted = omega arith; passed = omega arith; holds = p .holds; ends-hold = p .ends-hold };
         deep = p .deep;
-        onward = onward-start _ _ _ _;
+        onward = onward-start _ _ _;
       },
     )
 
@@ -129,12 +131,12 @@ module _ (r : Reading) (s table unit : List ℕ) (k : ℕ) where
           omega (arith, i .0, i .1, i .2, i .3)
 
       module _ (list₀ list : List ℕ) (n : ℕ) (g : Collecting list₀ t list n) where
-        pub collect-end : o ≡ End → k < 3 → Gathers k ordered r s table unit parents ends marks first list₀ n list
+        pub collect-end : o ≡ End → k < 3 → Puts k r s table unit parents ends marks first list₀ n list
         unfolding Next indicesFrom
         collect-end q l x u p h =
             let v : Passing x u list₀ t list n = g .1 x u p l in
             let e : keptAt items parents ends marks t (v .stack) ≡ [] = subst (Next items parents ends marks t (v .stack)) q (a .next (v .stack) (p .small) (v .stood)) in
-            onward-end _ _ _ _ _ _ _ (v .onward) (ap (indicesFrom x u k) e) [] (holding-none ordered list₀ h)
+            onward-end _ _ _ _ _ _ (v .onward) (ap (indicesFrom x u k) e) [] (gathered-none list₀ h)
 
         module _ (y : Kept) (q : o ≡ Item′ y) where
           module _ (x : Sections) (u : Unit′) (p : Passable x u r s table unit parents ends marks first) (l : k < 3) where
@@ -181,13 +183,13 @@ module _ (r : Reading) (s table unit : List ℕ) (k : ℕ) where
                   stack = i .after;
                   stood = i .stood;
                   deep = deep-after x u p l;
-                  onward = onward-on _ _ _ _ _ _ _ (now x u p l .onward) _ (turn x u p l [] (shown-terminator y (i .standing .item) _ (i .shows) b (indices-here x u p l)));
+                  onward = onward-on _ _ _ _ _ _ (now x u p l .onward) _ (turn x u p l [] (shown-terminator y (i .standing .item) _ (i .shows) b (indices-here x u p l)));
                 },
           )
 
           -- an entry, whose indices were put into the list
           pub collect-entry : y .«is_entry» ≡ true → (m : ℕ) (after : List ℕ) → length after ≡ length list
-              → PutsOn ordered (valueIndices k (entryValues (r .encoding) s (y .specs .at) unit (y .values .at))) n list m after → Collecting list₀ (y .next) after m
+              → Gathers (valueIndices k (entryValues (r .encoding) s (y .specs .at) unit (y .values .at))) n list m after → Collecting list₀ (y .next) after m
           collect-entry b m after e d = (
             e ∙ g .0,
             λ x u p l.
@@ -196,6 +198,6 @@ module _ (r : Reading) (s table unit : List ℕ) (k : ℕ) where
                   stack = i .after;
                   stood = i .stood;
                   deep = deep-after x u p l;
-                  onward = onward-more _ _ _ _ _ _ _ (now x u p l .onward) _ _ (turn x u p l _ (shown-entry y (i .standing .item) _ (i .shows) b (indices-here x u p l))) m after d;
+                  onward = onward-more _ _ _ _ _ _ (now x u p l .onward) _ _ (turn x u p l _ (shown-entry y (i .standing .item) _ (i .shows) b (indices-here x u p l))) m after d;
                 },
           )

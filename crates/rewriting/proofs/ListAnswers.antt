@@ -22,7 +22,8 @@ use Rattle.rewriting.specs.Indices.{countOf}
 use Rattle.rewriting.specs.Rewriting.{Unit as Unit′, itemsIn, listOf, listsOf}
 use Rattle.rewriting.specs.NextKept.{itemsBy}
 use Rattle.rewriting.specs.Written.{runBytes, ListHeld}
-use Rattle.rewriting.specs.IndexLists.{Filled, ReadAs, Found, AllRead, Passable, isAbsent, ListAnswer, isShort}
+use Rattle.rewriting.specs.Gathering.{Filled}
+use Rattle.rewriting.specs.IndexLists.{ReadAs, Found, AllRead, Passable, isAbsent, ListAnswer, isShort}
 use Rattle.rewriting.specs.declared.kept.Reading.{Reading}
 use Rattle.rewriting.specs.declared.lists.ListCount.{ListCount}
 use Rattle.rewriting.specs.declared.lists.ListCount.the-variants.{Present, Absent}

@@ -17,7 +17,8 @@ use Rattle.rewriting.specs.Indices.{countOf}
 use Rattle.rewriting.specs.Rewriting.{Unit as Unit′, Lists, itemsIn, listOf, listsOf}
 use Rattle.rewriting.specs.NextKept.{itemsBy}
 use Rattle.rewriting.specs.Written.{runBytes, ListHeld}
-use Rattle.rewriting.specs.IndexLists.{Filled, ReadAs, Found, Passable, Listing, isAbsent, ListAnswer, isShort}
+use Rattle.rewriting.specs.Gathering.{Filled}
+use Rattle.rewriting.specs.IndexLists.{ReadAs, Found, Passable, Listing, isAbsent, ListAnswer, isShort}
 use Rattle.rewriting.specs.Emission.{Lent, Lends}
 use Rattle.rewriting.specs.Outputs.{listCount, listOr, rangesIn, locationsIn, stringsIn}
 use Rattle.rewriting.specs.Leaving.{haveRoom, ListsAnswer}

@@ -105,6 +105,14 @@ insert-grows v (x ∷ xs) =
     (λ t. omega arith)
     (λ t. pick-either (λ (l : List ℕ). length (x ∷ xs) ≤ length l) (eqb v x) (x ∷ xs) (x ∷ insert v xs) (λ u. omega arith) (λ u. omega (arith, insert-grows v xs)))
 
+pub insert-most : (v : ℕ) (xs : List ℕ) → length (insert v xs) ≤ suc (length xs)
+unfolding insert
+insert-most v [] = omega arith
+insert-most v (x ∷ xs) =
+    pick-either (λ (l : List ℕ). length l ≤ suc (length (x ∷ xs))) (ltb v x) (v ∷ x ∷ xs) (pick (eqb v x) (x ∷ xs) (x ∷ insert v xs))
+    (λ t. omega arith)
+    (λ t. pick-either (λ (l : List ℕ). length l ≤ suc (length (x ∷ xs))) (eqb v x) (x ∷ xs) (x ∷ insert v xs) (λ u. omega arith) (λ u. omega (arith, insert-most v xs)))
+
 pub all-grow : (vs xs : List ℕ) → length xs ≤ length (insertAll vs xs)
 unfolding insertAll
 all-grow [] xs = omega arith

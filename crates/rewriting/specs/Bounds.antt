@@ -1,4 +1,4 @@
--- The table of bounds of the map's depths: rows of two numbers, one row for each eight places.
+-- The table of bounds of the map's depths: two numbers for each eight places.
 use Prim.Native.Nat.{ℕ, _+_, _*_, _≤_, _<_}
 use mathlib.Core.List.{List}
 use lib.ListN.{length, getD}
@@ -9,9 +9,9 @@ use Rattle.rewriting.specs.Written.{place}
 pub record AsDeep (ps : List Place) (depth from to : ℕ) : Type 0 where
   pub deep : (j : ℕ) → from ≤ j → j < to → j < length ps → depth ≤ (getD ps j (place 0 0 0)) .depth
 
--- each row from k on: where its block ends, and how deep the block's places are at least
+-- of each block from k on: where it ends, in eights, and how deep its places are at least
 pub record BoundsFrom (k : ℕ) (ps : List Place) (table : List ℕ) : Type 0 where
-  pub row : (g : ℕ) → k ≤ g → AsDeep ps (getD table (2 * g + 1) 0) (8 * g) (8 * getD table (2 * g) 0)
+  pub block : (g : ℕ) → k ≤ g → AsDeep ps (getD table (2 * g + 1) 0) (8 * g) (8 * getD table (2 * g) 0)
 
 abbrev pub Bounds : List Place → List ℕ → Type 0
 Bounds ps table = BoundsFrom 0 ps table

@@ -14,5 +14,6 @@ endNumber end children = pick children (2 * end + 1) (2 * end)
 -- a column holds those of the entries from index k on, and then 0 or nothing
 unfoldable pub EndsHeld : List ℕ → ℕ → List Item → Type 0
 EndsHeld column k [] = getD column k 0 ≡ 0
-EndsHeld column k (entry x ∷ rest) = (getD column k 0 ≡ endNumber (x .next .at) (x .declaration .children)) × EndsHeld column (suc k) rest
+EndsHeld column k (entry x ∷ rest) =
+    (getD column k 0 ≡ endNumber (x .next .at) (x .declaration .children)) × EndsHeld column (suc k) rest
 EndsHeld column k (terminator a b ∷ rest) = EndsHeld column k rest

@@ -1,12 +1,12 @@
 -- What the functions of the index lists answer.
 use mathlib.Core.Path.{_≡_}
 use Prim.Native.Nat.{ℕ, _/_, _^_, _≤_, _<_}
-use mathlib.Core.Bool.{Bool, true, false}
+use mathlib.Core.Bool.{Bool, false}
 use mathlib.Core.List.{List, [], _∷_, _++_}
 use mathlib.Core.Option.{Option, none, some}
 use lib.ListN.{length, drop}
 use lib.Dec.{ltb, eqb}
-use Rattle.readers.specs.Choice.{pick}
+use Rattle.readers.specs.Choice.{pick, zeros}
 use Rattle.readers.specs.Layout.{Role, reference, typeReference, sibling, index, absolute, RunOf, readIn}
 use Rattle.readers.specs.Expression.{expressionIn}
 use Rattle.readers.specs.Entries.{entryLayout}
@@ -24,13 +24,8 @@ use Rattle.rewriting.specs.Parents.{parentsFrom, HoldsFrom}
 use Rattle.rewriting.specs.Ends.{EndsHeld}
 use Rattle.rewriting.specs.NextKept.{itemsBy}
 use Rattle.rewriting.specs.Written.{ListHeld}
-use Rattle.rewriting.specs.Gathering.{Gathered}
+use Rattle.rewriting.specs.Gathering.{Gathered, Filled}
 use Rattle.rewriting.specs.declared.kept.Reading.{Reading}
-use Rattle.rewriting.specs.declared.indices.Lengths.{Lengths}
-use Rattle.rewriting.specs.declared.indices.ListFinished.{ListFinished}
-use Rattle.rewriting.specs.declared.indices.ListFinished.the-variants.{Length, Unsure}
-use Rattle.rewriting.specs.declared.indices.ListsFinished.{ListsFinished}
-use Rattle.rewriting.specs.declared.indices.ListsFinished.the-variants.{All, Unsure as Unsure′}
 use Rattle.rewriting.specs.declared.lists.ListCount.{ListCount}
 use Rattle.rewriting.specs.declared.lists.ListCount.the-variants.{Present, Absent}
 
@@ -64,33 +59,6 @@ unfoldable pub valueIndices : ℕ → List Valued → List ℕ
 valueIndices k [] = []
 valueIndices k (a ∷ rest) = valueIndex k (a .value) ++ valueIndices k rest
 
--- ---- a list that is to hold some numbers
-
--- how many it has, and what it holds, where it has room for them; else more than it has room for
-pub record Filled (ys list : List ℕ) (count : ℕ) (after : List ℕ) : Type 0 where
-  pub counted : length ys ≤ length list / 8 → count ≡ length ys
-  pub holds : length ys ≤ length list / 8 → ListHeld ys after
-  pub short : length list / 8 < length ys → length list / 8 < count
-
--- a list that some values were put into, one after the other: each in its place, or gathered in any order
-pub record Holding (ordered : Bool) (vs : List ℕ) (count : ℕ) (list : List ℕ) : Type 0 where
-  pub filled : ordered ≡ true → Filled (insertAll vs []) list count list
-  pub gathered : ordered ≡ false → Gathered vs list count
-
--- these values were put into it, after whatever was
-abbrev pub PutsOn : Bool → List ℕ → ℕ → List ℕ → ℕ → List ℕ → Type 0
-PutsOn ordered ws count list count′ list′ = (vs : List ℕ) → Holding ordered vs count list → Holding ordered (vs ++ ws) count′ list′
-
--- a gathered list that was finished: how many numbers it has, and which; nothing is said where it is not certain
-unfoldable pub FinishedTo : List ℕ → List ℕ → ListFinished → List ℕ → Type 0
-FinishedTo ys list (Length n) after = Filled ys list n after
-FinishedTo ys list Unsure after = Unit {0}
-
--- one of three
-unfoldable pub FinishedIn : (Lengths → ℕ) → List ℕ → List ℕ → ListsFinished → List ℕ → Type 0
-FinishedIn length-of ys list (All n) after = Filled ys list (length-of n) after
-FinishedIn length-of ys list Unsure′ after = Unit {0}
-
 -- ---- a unit as the code reads it
 
 pub record ReadAs (x : Sections) (u : Unit′) (r : Reading) (abbreviations unit : List ℕ) : Type 0 where
@@ -107,14 +75,18 @@ module _ (x : Sections) (u : Unit′) where
   -- what stands at a place can be read, its expressions operation by operation
   pub record ReadDeep (at : ℕ) : Type 0 where
     pub run : RunOf
-    pub is : readIn (u .header .encoding .«big_endian») (expressionIn (u .header .encoding)) (entryLayout (u .header .encoding) (x .abbreviations) (declaredIn (u .declared))) (drop at (u .bytes)) ≡ some run
+    pub is : readIn (u .header .encoding .«big_endian») (expressionIn (u .header .encoding))
+        (entryLayout (u .header .encoding) (x .abbreviations) (declaredIn (u .declared))) (drop at (u .bytes))
+        ≡ some run
 
   unfoldable pub AllRead : List Standing → Type 0
   AllRead [] = Unit {0}
   AllRead (s ∷ rest) = ReadDeep (offsetOf (s .item)) × AllRead rest
 
--- what a pass through the kept items of a unit asks for: a unit below 4 GiB, its parents and ends, each kept item readable
-pub record Passable (x : Sections) (u : Unit′) (r : Reading) (abbreviations table unit parents ends marks : List ℕ) (first : ℕ) : Type 0 where
+-- what a pass through the kept items of a unit asks for: a unit below 4 GiB, its parents and ends, each kept item
+-- readable
+pub record Passable (x : Sections) (u : Unit′) (r : Reading) (abbreviations table unit parents ends marks : List ℕ)
+    (first : ℕ) : Type 0 where
   pub small : length unit < 2 ^ 32
   pub read : ReadAs x u r abbreviations unit
   pub found : Found u r abbreviations table
@@ -125,22 +97,19 @@ pub record Passable (x : Sections) (u : Unit′) (r : Reading) (abbreviations ta
 -- ---- one list
 
 -- what a pass puts into the list of a kind
-abbrev pub Gathers : ℕ → Bool → Reading → List ℕ → List ℕ → List ℕ → List ℕ → List ℕ → List ℕ → ℕ → List ℕ → ℕ → List ℕ → Type 0
-Gathers k ordered r abbreviations table unit parents ends marks first list count after =
+abbrev pub Puts : ℕ → Reading → List ℕ → List ℕ → List ℕ → List ℕ → List ℕ → List ℕ → ℕ → List ℕ → ℕ → List ℕ
+    → Type 0
+Puts k r abbreviations table unit parents ends marks first list count after =
     (x : Sections) (u : Unit′) → Passable x u r abbreviations table unit parents ends marks first → ListHeld [] list
-    → Holding ordered (indicesFrom x u k (keptFrom marks 0 [] (itemsBy r abbreviations table unit first))) count after
+    → Gathered (indicesFrom x u k (keptFrom marks 0 [] (itemsBy r abbreviations table unit first))) after count
 
 -- what the list of a kind is at the end
-abbrev pub Listing : ℕ → Reading → List ℕ → List ℕ → List ℕ → List ℕ → List ℕ → List ℕ → ℕ → List ℕ → ℕ → List ℕ → Type 0
+abbrev pub Listing : ℕ → Reading → List ℕ → List ℕ → List ℕ → List ℕ → List ℕ → List ℕ → ℕ → List ℕ → ℕ → List ℕ
+    → Type 0
 Listing k r abbreviations table unit parents ends marks first list count after =
     (x : Sections) (u : Unit′) → Passable x u r abbreviations table unit parents ends marks first → ListHeld [] list
-    → Filled (insertAll (indicesFrom x u k (keptFrom marks 0 [] (itemsBy r abbreviations table unit first))) []) list count after
-
--- the same of a list that may hold anything before
-abbrev pub Refilling : ℕ → Reading → List ℕ → List ℕ → List ℕ → List ℕ → List ℕ → List ℕ → ℕ → List ℕ → ℕ → List ℕ → Type 0
-Refilling k r abbreviations table unit parents ends marks first list count after =
-    (x : Sections) (u : Unit′) → Passable x u r abbreviations table unit parents ends marks first
-    → Filled (insertAll (indicesFrom x u k (keptFrom marks 0 [] (itemsBy r abbreviations table unit first))) []) list count after
+    → Filled (insertAll (indicesFrom x u k (keptFrom marks 0 [] (itemsBy r abbreviations table unit first))) [])
+    list count after
 
 -- where an entry declares the attribute of a name; a list without such an attribute has the name 0
 unfoldable pub isAbsent : Sections → Unit′ → ℕ → List Item → Bool
@@ -151,6 +120,13 @@ ListAnswer none list Absent after = after ≡ list
 ListAnswer none list (Present n) after = ⊥
 ListAnswer (some ys) list Absent after = ⊥
 ListAnswer (some ys) list (Present n) after = Filled ys list n after
+
+-- what is answered for a list that was gathered into zeros: absent, and zeros again, or its count
+abbrev pub Settles : Reading → List ℕ → List ℕ → List ℕ → ℕ → ℕ → ℕ → List ℕ → ListCount → List ℕ → Type 0
+Settles r abbreviations table unit first name count list c after =
+    (x : Sections) (u : Unit′) (ys list₀ : List ℕ) → ReadAs x u r abbreviations unit → Found u r abbreviations table
+    → list₀ ≡ zeros (length list) → Filled ys list₀ count list
+    → ListAnswer (pick (isAbsent x u name (itemsBy r abbreviations table unit first)) none (some ys)) list₀ c after
 
 unfoldable pub isShort : ListCount → ℕ → Bool
 isShort (Present n) room = ltb room n

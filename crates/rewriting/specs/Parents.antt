@@ -9,7 +9,8 @@ use Rattle.readers.specs.Stream.{Item, entry, terminator}
 -- the parent of each entry from number k on, 0xffffffff for none; these are open, the innermost first
 unfoldable pub parentsFrom : ℕ → List ℕ → List Item → List ℕ
 parentsFrom k stack [] = []
-parentsFrom k stack (entry x ∷ rest) = top stack ∷ parentsFrom (suc k) (open′ (x .declaration .children) k stack) rest
+parentsFrom k stack (entry x ∷ rest) =
+    top stack ∷ parentsFrom (suc k) (open′ (x .declaration .children) k stack) rest
 parentsFrom k stack (terminator a b ∷ rest) = parentsFrom k (close stack) rest
 
 -- how many entries there are

@@ -23,7 +23,8 @@ use Rattle.rewriting.specs.declared.map.Mapped.the-variants.{To, Nothing
 
 -- ---- numbers
 
--- whether a number goes into so many bytes of a part of n: as a ULEB128 number of at most ten bytes, in a fixed width of at most eight, as one or the other
+-- whether a number goes into so many bytes of a part of n: as a ULEB128 number of at most ten bytes, in a fixed width
+-- of at most eight, as one or the other
 unfoldable pub groupsFit : ℕ → ℕ → ℕ → Bool
 groupsFit value width n = ltb 0 width and leb width 10 and leb width n and ltb value (128 ^ width)
 
@@ -38,7 +39,8 @@ unfoldable pub unfit : Bool → ℕ → List ℕ → List ℕ
 unfit isLeb width out = pick (isLeb and leb width (length out)) (zeros width ++ drop width out) out
 
 -- a writer's answer, and the part after it: the bytes at its start where they fit, and else another
-pub record Put (fit : Bool) (bytes : List ℕ) (width : ℕ) (out other : List ℕ) (answer : Bool) (after : List ℕ) : Type 0 where
+pub record Put (fit : Bool) (bytes : List ℕ) (width : ℕ) (out other : List ℕ) (answer : Bool) (after : List ℕ)
+    : Type 0 where
   pub told : answer ≡ fit
   pub left : after ≡ pick fit (bytes ++ drop width out) other
 
@@ -98,6 +100,10 @@ pub record Held (width : ℕ) (xs bytes : List ℕ) : Type 0 where
 abbrev pub listBytes : List ℕ → List ℕ
 listBytes xs = runBytes 8 xs
 
+-- what any list has at a place
+abbrev pub listAt : List ℕ → ℕ → ℕ
+listAt list i = inRoom i (length list / 8) (numberAt 8 list (8 * i))
+
 pub record ListHeld (xs bytes : List ℕ) : Type 0 where
   pub held : Held 8 xs bytes
   pub ascending : Ascending xs
@@ -123,6 +129,13 @@ place old new depth = record { old = old; new = new; depth = depth }
 abbrev pub withPlace : List Place → Place → List Place
 withPlace ps p = ps ++ (p ∷ [])
 
+-- one place more in a map that has room for it, each of its numbers within four bytes
+abbrev pub WithPlace : ℕ → ℕ → ℕ → ℕ → List ℕ → List ℕ → Type 0
+WithPlace i old new depth map after =
+    (ps : List Place) → Held 4 (columns ps) map → i ≡ length ps → i < length map / 12
+    → old < 4294967296 → new < 4294967296 → depth < 4294967296
+    → Held 4 (columns (withPlace ps (place old new depth))) after
+
 pub record MapHeld (ps : List Place) (bytes : List ℕ) : Type 0 where
   pub held : Held 4 (columns ps) bytes
   pub ascending : Ascending (oldOffsets ps)
@@ -141,18 +154,21 @@ newAt map i = inRoom i (length map / 12) (numberAt 4 map (12 * i + 4))
 unfoldable pub depthAt : List ℕ → ℕ → ℕ
 depthAt map i = inRoom i (length map / 12) (numberAt 4 map (12 * i + 8))
 
--- where the halving of the places from low to high ends, by what is read at each: at the first that is not below v, where the numbers ascend;
--- n halvings are enough for n places
+-- where the halving of the places from low to high ends, by what is read at each: at the first that is not below v,
+-- where the numbers ascend; n halvings are enough for n places
 unfoldable pub halved : ℕ → (ℕ → ℕ) → ℕ → ℕ → ℕ → ℕ
 halved zero at v low high = low
 halved (suc n) at v low high =
     pick (ltb low high)
-    (pick (ltb (at (low + (high - low) / 2)) v) (halved n at v (low + (high - low) / 2 + 1) high) (halved n at v low (low + (high - low) / 2)))
+    (pick (ltb (at (low + (high - low) / 2)) v)
+    (halved n at v (low + (high - low) / 2 + 1) high)
+    (halved n at v low (low + (high - low) / 2)))
     low
 
 -- what is found at place i of the first places of a map
 unfoldable pub foundAt : List ℕ → ℕ → ℕ → ℕ → Mapped
-foundAt map places v i = pick (ltb i places) (pick (eqb (oldAt map i) v) (To (record { 0 = newAt map i })) Nothing) Nothing
+foundAt map places v i =
+    pick (ltb i places) (pick (eqb (oldAt map i) v) (To (record { 0 = newAt map i })) Nothing) Nothing
 
 -- the new offset of an old one, by the first places of any map
 unfoldable pub lookedUp : List ℕ → ℕ → ℕ → Mapped

@@ -5,7 +5,7 @@ ghost use mathlib.Core.List.{List};
 ghost use lib.ListN.{length};
 ghost use lib.Dec.{eqb};
 ghost use Rattle.rewriting.specs.Places.{Place};
-ghost use Rattle.rewriting.specs.Written.{Held, columns, place, withPlace, oldAt, newAt, depthAt, halved, lookedUp};
+ghost use Rattle.rewriting.specs.Written.{oldAt, newAt, depthAt, halved, lookedUp, WithPlace};
 use crate::numbers::big_endian_at;
 use crate::numbers::put_big_endian;
 use readers::offsets::UnitOffset;
@@ -60,7 +60,7 @@ pub fn has_old(map: &[u8], i: usize, old: UnitOffset) -> bool
 
 // One place more, where there is room for it.
 pub(crate) fn put_place(map: &mut [u8], i: usize, old: UnitOffset, new: UnitOffset, depth: u64)
-    ensures { λ _. ⌜ ((ps : List Place) → Held 4 (columns ps) (now (map .entry)) → i ≡ length ps → i < length (now (map .entry)) / 12 → old .0 < 4294967296 → new .0 < 4294967296 → depth < 4294967296 → Held 4 (columns (withPlace ps (place (old .0) (new .0) depth))) (now (map .exit))) ⌝ }
+    ensures { λ _. ⌜ WithPlace i (old .0) (new .0) depth (now (map .entry)) (now (map .exit)) ⌝ }
 {
     if i >= room(map) {
         return;
