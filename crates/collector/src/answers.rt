@@ -42,7 +42,10 @@ fn presence(list: ListCount) -> u64
 
 // Writes numbers of so many big-endian bytes each, one after the other, from a place on.
 fn put_run(numbers: &[u64], width: usize, at: usize, counts: &mut [u8])
-    ensures { λ _. ⌜ (at + width * length (now (numbers .entry)) ≤ length (now (counts .entry)) → now (counts .exit) ≡ put (now (counts .entry)) at (runBytes width (now (numbers .entry)))) ⌝ }
+    ensures { λ _. ⌜
+        (at + width * length (now (numbers .entry)) ≤ length (now (counts .entry))
+        → now (counts .exit) ≡ put (now (counts .entry)) at (runBytes width (now (numbers .entry))))
+        ⌝ }
 {
     let mut to = at;
     let mut i: usize = 0;
@@ -61,7 +64,10 @@ fn put_run(numbers: &[u64], width: usize, at: usize, counts: &mut [u8])
 
 // The counts, in their order, and for each list whether it is present.
 fn put_counts(c: Counts, counts: &mut [u8])
-    ensures { λ _. ⌜ (59 ≤ length (now (counts .entry)) → now (counts .entry) ≡ zeros (length (now (counts .entry))) → now (counts .exit) ≡ padTo (length (now (counts .entry))) (countBytes c)) ⌝ }
+    ensures { λ _. ⌜
+        (59 ≤ length (now (counts .entry)) → now (counts .entry) ≡ zeros (length (now (counts .entry)))
+        → now (counts .exit) ≡ padTo (length (now (counts .entry))) (countBytes c))
+        ⌝ }
 {
     let ranges = c.ranges;
     let locations = c.locations;
@@ -83,7 +89,10 @@ fn put_counts(c: Counts, counts: &mut [u8])
 // An accepted answer, with the counts where they have room, and another number where they have none.
 fn accepted(number: u64, uncounted: u64, c: Counts, counts: &mut [u8]) -> u64
     ensures answer { λ r. ⌜ r ≡ pick (isUncounted (length (now (counts .entry)))) uncounted number ⌝ }
-    ensures counts { λ _. ⌜ (now (counts .entry) ≡ zeros (length (now (counts .entry))) → now (counts .exit) ≡ acceptedCounts (length (now (counts .entry))) c) ⌝ }
+    ensures counts { λ _. ⌜
+        (now (counts .entry) ≡ zeros (length (now (counts .entry)))
+        → now (counts .exit) ≡ acceptedCounts (length (now (counts .entry))) c)
+        ⌝ }
 {
     if counts.len() < COUNTS {
         return uncounted;

@@ -2,8 +2,10 @@
 ghost use mathlib.Core.Path.{_≡_};
 ghost use lib.ListN.{length};
 ghost use Rattle.readers.specs.Choice.{zeros};
+ghost use Rattle.marking.specs.Analysis.{sections};
+ghost use Rattle.rewriting.specs.Rewriting.{collectOf};
 ghost use Rattle.rewriting.specs.Outputs.{roomOf, answerFor, mapFor, listFor, outputFor, rangesIn, locationsIn, stringsIn};
-ghost use Rattle.collector.specs.Call.{numberFor, countsFor, collectedOf, ownRoom};
+ghost use Rattle.collector.specs.Call.{numberFor, countsFor, isYes, ownRoom};
 use crate::answers::give;
 use rewriting::collect::collect;
 
@@ -33,22 +35,33 @@ pub extern "C" fn collector_collect_lent(
     out: &mut [u8],
     counts: &mut [u8],
 ) -> u64
-    ensures answer { λ r. ⌜ r ≡ numberFor (length (now (counts .entry))) (answerFor (collectedOf (now (section .entry)) (now (abbreviations .entry)) (now (locations .entry)) (now (ranges .entry)) (now (addresses .entry)) «ranges_base» «type_units» (roomOf (length (now (marks .entry))) (length (now (pairs .entry))) (length (now (offsets .entry))) (length (now (parents .entry))) (length (now (roots .entry))) (length (now (ends .entry))) (length (now (targets .entry))) (length (now (map .entry))) (length (now («range_list» .entry))) (length (now («location_list» .entry))) (length (now («string_list» .entry))) (length (now (out .entry)))))) ⌝ }
-    ensures counts { λ _. ⌜ now (counts .exit) ≡ countsFor (length (now (counts .entry))) (answerFor (collectedOf (now (section .entry)) (now (abbreviations .entry)) (now (locations .entry)) (now (ranges .entry)) (now (addresses .entry)) «ranges_base» «type_units» (roomOf (length (now (marks .entry))) (length (now (pairs .entry))) (length (now (offsets .entry))) (length (now (parents .entry))) (length (now (roots .entry))) (length (now (ends .entry))) (length (now (targets .entry))) (length (now (map .entry))) (length (now («range_list» .entry))) (length (now («location_list» .entry))) (length (now («string_list» .entry))) (length (now (out .entry)))))) ⌝ }
-    ensures map { λ _. ⌜ now (map .exit) ≡ mapFor (length (now (map .entry))) (collectedOf (now (section .entry)) (now (abbreviations .entry)) (now (locations .entry)) (now (ranges .entry)) (now (addresses .entry)) «ranges_base» «type_units» (roomOf (length (now (marks .entry))) (length (now (pairs .entry))) (length (now (offsets .entry))) (length (now (parents .entry))) (length (now (roots .entry))) (length (now (ends .entry))) (length (now (targets .entry))) (length (now (map .entry))) (length (now («range_list» .entry))) (length (now («location_list» .entry))) (length (now («string_list» .entry))) (length (now (out .entry))))) ⌝ }
-    ensures ranges { λ _. ⌜ now («range_list» .exit) ≡ listFor rangesIn (length (now («range_list» .entry))) (collectedOf (now (section .entry)) (now (abbreviations .entry)) (now (locations .entry)) (now (ranges .entry)) (now (addresses .entry)) «ranges_base» «type_units» (roomOf (length (now (marks .entry))) (length (now (pairs .entry))) (length (now (offsets .entry))) (length (now (parents .entry))) (length (now (roots .entry))) (length (now (ends .entry))) (length (now (targets .entry))) (length (now (map .entry))) (length (now («range_list» .entry))) (length (now («location_list» .entry))) (length (now («string_list» .entry))) (length (now (out .entry))))) ⌝ }
-    ensures locations { λ _. ⌜ now («location_list» .exit) ≡ listFor locationsIn (length (now («location_list» .entry))) (collectedOf (now (section .entry)) (now (abbreviations .entry)) (now (locations .entry)) (now (ranges .entry)) (now (addresses .entry)) «ranges_base» «type_units» (roomOf (length (now (marks .entry))) (length (now (pairs .entry))) (length (now (offsets .entry))) (length (now (parents .entry))) (length (now (roots .entry))) (length (now (ends .entry))) (length (now (targets .entry))) (length (now (map .entry))) (length (now («range_list» .entry))) (length (now («location_list» .entry))) (length (now («string_list» .entry))) (length (now (out .entry))))) ⌝ }
-    ensures strings { λ _. ⌜ now («string_list» .exit) ≡ listFor stringsIn (length (now («string_list» .entry))) (collectedOf (now (section .entry)) (now (abbreviations .entry)) (now (locations .entry)) (now (ranges .entry)) (now (addresses .entry)) «ranges_base» «type_units» (roomOf (length (now (marks .entry))) (length (now (pairs .entry))) (length (now (offsets .entry))) (length (now (parents .entry))) (length (now (roots .entry))) (length (now (ends .entry))) (length (now (targets .entry))) (length (now (map .entry))) (length (now («range_list» .entry))) (length (now («location_list» .entry))) (length (now («string_list» .entry))) (length (now (out .entry))))) ⌝ }
-    ensures output { λ _. ⌜ now (out .exit) ≡ outputFor (length (now (out .entry))) (collectedOf (now (section .entry)) (now (abbreviations .entry)) (now (locations .entry)) (now (ranges .entry)) (now (addresses .entry)) «ranges_base» «type_units» (roomOf (length (now (marks .entry))) (length (now (pairs .entry))) (length (now (offsets .entry))) (length (now (parents .entry))) (length (now (roots .entry))) (length (now (ends .entry))) (length (now (targets .entry))) (length (now (map .entry))) (length (now («range_list» .entry))) (length (now («location_list» .entry))) (length (now («string_list» .entry))) (length (now (out .entry))))) ⌝ }
-    ensures index { λ _. ⌜ now (index .exit) ≡ zeros (length (now (index .entry))) ⌝ }
-    ensures offsets { λ _. ⌜ now (offsets .exit) ≡ zeros (length (now (offsets .entry))) ⌝ }
-    ensures parents { λ _. ⌜ now (parents .exit) ≡ zeros (length (now (parents .entry))) ⌝ }
-    ensures roots { λ _. ⌜ now (roots .exit) ≡ zeros (length (now (roots .entry))) ⌝ }
-    ensures ends { λ _. ⌜ now (ends .exit) ≡ zeros (length (now (ends .entry))) ⌝ }
-    ensures marks { λ _. ⌜ now (marks .exit) ≡ zeros (length (now (marks .entry))) ⌝ }
-    ensures targets { λ _. ⌜ now (targets .exit) ≡ zeros (length (now (targets .entry))) ⌝ }
-    ensures pairs { λ _. ⌜ now (pairs .exit) ≡ zeros (length (now (pairs .entry))) ⌝ }
-    ensures work { λ _. ⌜ now (work .exit) ≡ zeros (length (now (work .entry))) ⌝ }
+    ensures { λ r. ⌜
+        (let x =
+        sections (now (abbreviations .entry)) (now (locations .entry)) (now (ranges .entry))
+        (now (addresses .entry)) «ranges_base» in
+        let room =
+        roomOf (length (now (marks .entry))) (length (now (pairs .entry))) (length (now (offsets .entry)))
+        (length (now (parents .entry))) (length (now (roots .entry))) (length (now (ends .entry)))
+        (length (now (targets .entry))) (length (now (map .entry))) (length (now («range_list» .entry)))
+        (length (now («location_list» .entry))) (length (now («string_list» .entry))) (length (now (out .entry))) in
+        let answer = collectOf x room (isYes «type_units») (now (section .entry)) in
+        (r ≡ numberFor (length (now (counts .entry))) (answerFor answer))
+        × (now (counts .exit) ≡ countsFor (length (now (counts .entry))) (answerFor answer))
+        × (now (map .exit) ≡ mapFor (length (now (map .entry))) answer)
+        × (now («range_list» .exit) ≡ listFor rangesIn (length (now («range_list» .entry))) answer)
+        × (now («location_list» .exit) ≡ listFor locationsIn (length (now («location_list» .entry))) answer)
+        × (now («string_list» .exit) ≡ listFor stringsIn (length (now («string_list» .entry))) answer)
+        × (now (out .exit) ≡ outputFor (length (now (out .entry))) answer)
+        × (now (index .exit) ≡ zeros (length (now (index .entry))))
+        × (now (offsets .exit) ≡ zeros (length (now (offsets .entry))))
+        × (now (parents .exit) ≡ zeros (length (now (parents .entry))))
+        × (now (roots .exit) ≡ zeros (length (now (roots .entry))))
+        × (now (ends .exit) ≡ zeros (length (now (ends .entry))))
+        × (now (marks .exit) ≡ zeros (length (now (marks .entry))))
+        × (now (targets .exit) ≡ zeros (length (now (targets .entry))))
+        × (now (pairs .exit) ≡ zeros (length (now (pairs .entry))))
+        × (now (work .exit) ≡ zeros (length (now (work .entry)))))
+        ⌝ }
 {
     let answer = collect(
         section,
@@ -93,13 +106,22 @@ pub extern "C" fn collector_collect(
     out: &mut [u8],
     counts: &mut [u8],
 ) -> u64
-    ensures answer { λ r. ⌜ r ≡ numberFor (length (now (counts .entry))) (answerFor (collectedOf (now (section .entry)) (now (abbreviations .entry)) (now (locations .entry)) (now (ranges .entry)) (now (addresses .entry)) «ranges_base» «type_units» (ownRoom (length (now (map .entry))) (length (now («range_list» .entry))) (length (now («location_list» .entry))) (length (now («string_list» .entry))) (length (now (out .entry)))))) ⌝ }
-    ensures counts { λ _. ⌜ now (counts .exit) ≡ countsFor (length (now (counts .entry))) (answerFor (collectedOf (now (section .entry)) (now (abbreviations .entry)) (now (locations .entry)) (now (ranges .entry)) (now (addresses .entry)) «ranges_base» «type_units» (ownRoom (length (now (map .entry))) (length (now («range_list» .entry))) (length (now («location_list» .entry))) (length (now («string_list» .entry))) (length (now (out .entry)))))) ⌝ }
-    ensures map { λ _. ⌜ now (map .exit) ≡ mapFor (length (now (map .entry))) (collectedOf (now (section .entry)) (now (abbreviations .entry)) (now (locations .entry)) (now (ranges .entry)) (now (addresses .entry)) «ranges_base» «type_units» (ownRoom (length (now (map .entry))) (length (now («range_list» .entry))) (length (now («location_list» .entry))) (length (now («string_list» .entry))) (length (now (out .entry))))) ⌝ }
-    ensures ranges { λ _. ⌜ now («range_list» .exit) ≡ listFor rangesIn (length (now («range_list» .entry))) (collectedOf (now (section .entry)) (now (abbreviations .entry)) (now (locations .entry)) (now (ranges .entry)) (now (addresses .entry)) «ranges_base» «type_units» (ownRoom (length (now (map .entry))) (length (now («range_list» .entry))) (length (now («location_list» .entry))) (length (now («string_list» .entry))) (length (now (out .entry))))) ⌝ }
-    ensures locations { λ _. ⌜ now («location_list» .exit) ≡ listFor locationsIn (length (now («location_list» .entry))) (collectedOf (now (section .entry)) (now (abbreviations .entry)) (now (locations .entry)) (now (ranges .entry)) (now (addresses .entry)) «ranges_base» «type_units» (ownRoom (length (now (map .entry))) (length (now («range_list» .entry))) (length (now («location_list» .entry))) (length (now («string_list» .entry))) (length (now (out .entry))))) ⌝ }
-    ensures strings { λ _. ⌜ now («string_list» .exit) ≡ listFor stringsIn (length (now («string_list» .entry))) (collectedOf (now (section .entry)) (now (abbreviations .entry)) (now (locations .entry)) (now (ranges .entry)) (now (addresses .entry)) «ranges_base» «type_units» (ownRoom (length (now (map .entry))) (length (now («range_list» .entry))) (length (now («location_list» .entry))) (length (now («string_list» .entry))) (length (now (out .entry))))) ⌝ }
-    ensures output { λ _. ⌜ now (out .exit) ≡ outputFor (length (now (out .entry))) (collectedOf (now (section .entry)) (now (abbreviations .entry)) (now (locations .entry)) (now (ranges .entry)) (now (addresses .entry)) «ranges_base» «type_units» (ownRoom (length (now (map .entry))) (length (now («range_list» .entry))) (length (now («location_list» .entry))) (length (now («string_list» .entry))) (length (now (out .entry))))) ⌝ }
+    ensures { λ r. ⌜
+        (let x =
+        sections (now (abbreviations .entry)) (now (locations .entry)) (now (ranges .entry))
+        (now (addresses .entry)) «ranges_base» in
+        let room =
+        ownRoom (length (now (map .entry))) (length (now («range_list» .entry)))
+        (length (now («location_list» .entry))) (length (now («string_list» .entry))) (length (now (out .entry))) in
+        let answer = collectOf x room (isYes «type_units») (now (section .entry)) in
+        (r ≡ numberFor (length (now (counts .entry))) (answerFor answer))
+        × (now (counts .exit) ≡ countsFor (length (now (counts .entry))) (answerFor answer))
+        × (now (map .exit) ≡ mapFor (length (now (map .entry))) answer)
+        × (now («range_list» .exit) ≡ listFor rangesIn (length (now («range_list» .entry))) answer)
+        × (now («location_list» .exit) ≡ listFor locationsIn (length (now («location_list» .entry))) answer)
+        × (now («string_list» .exit) ≡ listFor stringsIn (length (now («string_list» .entry))) answer)
+        × (now (out .exit) ≡ outputFor (length (now (out .entry))) answer))
+        ⌝ }
 {
     let mut index = [0u64; 1024];
     let mut offsets = [0u64; 2048];

@@ -34,7 +34,8 @@ use readers::header::unit_part;
 use readers::offsets::UnitOffset;
 use readers::tables::clear;
 
-// What an accepted answer counts: entries, kept ones, map places, output bytes (both 0 where untouched), and the numbers of each list.
+// What an accepted answer counts: entries, kept ones, map places, output bytes (both 0 where untouched), and the numbers
+// of each list.
 pub struct Counts {
     pub entries: usize,
     pub kept: usize,
@@ -126,7 +127,18 @@ fn index_lists(
     location_list: &mut [u8],
     string_list: &mut [u8],
 ) -> Listed
-    ensures { λ c. ⌜ ((x : Sections) (u : Unit′) → Passable x u r (now (abbreviations .entry)) (now (index .entry)) (now (unit .entry)) (now (parents .entry)) (now (ends .entry)) (now (marks .entry)) (first .0) → first .0 ≡ u .header .first .0 → now («range_list» .entry) ≡ zeros (length (now («range_list» .entry))) → now («location_list» .entry) ≡ zeros (length (now («location_list» .entry))) → now («string_list» .entry) ≡ zeros (length (now («string_list» .entry))) → ListsAnswer (listsOf x u «type_units» (keptFrom (now (marks .entry)) 0 [] (itemsIn x u))) (length (now («range_list» .entry))) (length (now («location_list» .entry))) (length (now («string_list» .entry))) c (now («range_list» .exit)) (now («location_list» .exit)) (now («string_list» .exit))) ⌝ }
+    ensures { λ c. ⌜
+        ((x : Sections) (u : Unit′)
+        → Passable x u r (now (abbreviations .entry)) (now (index .entry)) (now (unit .entry)) (now (parents .entry))
+        (now (ends .entry)) (now (marks .entry)) (first .0)
+        → first .0 ≡ u .header .first .0
+        → now («range_list» .entry) ≡ zeros (length (now («range_list» .entry)))
+        → now («location_list» .entry) ≡ zeros (length (now («location_list» .entry)))
+        → now («string_list» .entry) ≡ zeros (length (now («string_list» .entry)))
+        → ListsAnswer (listsOf x u «type_units» (keptFrom (now (marks .entry)) 0 [] (itemsIn x u)))
+        (length (now («range_list» .entry))) (length (now («location_list» .entry))) (length (now («string_list» .entry)))
+        c (now («range_list» .exit)) (now («location_list» .exit)) (now («string_list» .exit)))
+        ⌝ }
 {
     if type_units {
         return Listed::Made {
@@ -194,7 +206,8 @@ fn index_lists(
     }
 }
 
-// Map and output of a unit where something is dead. The work column, whatever it holds, is filled with the bounds of the map's depths.
+// Map and output of a unit where something is dead. The work column, whatever it holds, is filled with the bounds of the
+// map's depths.
 fn write_unit(
     unit: &[u8],
     abbreviations: &[u8],
@@ -216,7 +229,16 @@ fn write_unit(
     map: &mut [u8],
     out: &mut [u8],
 ) -> Collected
-    ensures { λ c. ⌜ ((x : Sections) (u : Unit′) (lists : Lists) (room : Room) → Passable x u r (now (abbreviations .entry)) (now (index .entry)) (now (unit .entry)) (now (parents .entry)) (now (ends .entry)) (now (marks .entry)) (first .0) → Lends lists (now («range_list» .entry)) ranges (now («location_list» .entry)) locations (now («string_list» .entry)) strings → Writable u room (now (unit .entry)) (first .0) (now (map .entry)) (now (out .entry)) → WriteAnswer (rewriteOf x room u entries kept lists (keptFrom (now (marks .entry)) 0 [] (itemsIn x u))) c (length (now (map .entry))) (length (now (out .entry))) (now (map .exit)) (now (out .exit))) ⌝ }
+    ensures { λ c. ⌜
+        ((x : Sections) (u : Unit′) (lists : Lists) (room : Room)
+        → Passable x u r (now (abbreviations .entry)) (now (index .entry)) (now (unit .entry)) (now (parents .entry))
+        (now (ends .entry)) (now (marks .entry)) (first .0)
+        → Lends lists (now («range_list» .entry)) ranges (now («location_list» .entry)) locations
+        (now («string_list» .entry)) strings
+        → Writable u room (now (unit .entry)) (first .0) (now (map .entry)) (now (out .entry))
+        → WriteAnswer (rewriteOf x room u entries kept lists (keptFrom (now (marks .entry)) 0 [] (itemsIn x u)))
+        c (length (now (map .entry))) (length (now (out .entry))) (now (map .exit)) (now (out .exit)))
+        ⌝ }
 {
     let size = place_items(
         unit,
@@ -291,7 +313,20 @@ fn rewrite_unit(
     string_list: &mut [u8],
     out: &mut [u8],
 ) -> Collected
-    ensures { λ c. ⌜ ((x : Sections) (tables : Rooms) (ds : List Placed) (rows : List Row) → Tabled x tables (now (section .entry)) h ds rows (now (abbreviations .entry)) (now (index .entry)) (now (parents .entry)) (now (ends .entry)) (now (marks .entry)) entries kept → Blank (now (map .entry)) (now («range_list» .entry)) (now («location_list» .entry)) (now («string_list» .entry)) (now (out .entry)) → Answers (markedOf x (roomBy tables (length (now (map .entry))) (length (now («range_list» .entry))) (length (now («location_list» .entry))) (length (now («string_list» .entry))) (length (now (out .entry)))) «type_units» (ownUnit h (now (section .entry)) ds) rows) c (length (now (map .entry))) (length (now («range_list» .entry))) (length (now («location_list» .entry))) (length (now («string_list» .entry))) (length (now (out .entry))) (now (map .exit)) (now («range_list» .exit)) (now («location_list» .exit)) (now («string_list» .exit)) (now (out .exit))) ⌝ }
+    ensures { λ c. ⌜
+        ((x : Sections) (tables : Rooms) (ds : List Placed) (rows : List Row)
+        → Tabled x tables (now (section .entry)) h ds rows (now (abbreviations .entry)) (now (index .entry))
+        (now (parents .entry)) (now (ends .entry)) (now (marks .entry)) entries kept
+        → Blank (now (map .entry)) (now («range_list» .entry)) (now («location_list» .entry))
+        (now («string_list» .entry)) (now (out .entry))
+        → let room =
+        roomBy tables (length (now (map .entry))) (length (now («range_list» .entry)))
+        (length (now («location_list» .entry))) (length (now («string_list» .entry))) (length (now (out .entry))) in
+        Answers (markedOf x room «type_units» (ownUnit h (now (section .entry)) ds) rows) c (length (now (map .entry)))
+        (length (now («range_list» .entry))) (length (now («location_list» .entry)))
+        (length (now («string_list» .entry))) (length (now (out .entry)))
+        (now (map .exit)) (now («range_list» .exit)) (now («location_list» .exit)) (now («string_list» .exit)) (now (out .exit)))
+        ⌝ }
 {
     let encoding = h.encoding;
     let r = Reading {
@@ -396,7 +431,20 @@ fn collect_unit(
     string_list: &mut [u8],
     out: &mut [u8],
 ) -> Collected
-    ensures { λ r. ⌜ Answers (collectOf (sections (now (abbreviations .entry)) (now (locations .entry)) (now (ranges .entry)) (now (addresses .entry)) «ranges_base») (roomOf (length (now (marks .entry))) (length (now (pairs .entry))) (length (now (offsets .entry))) (length (now (parents .entry))) (length (now (roots .entry))) (length (now (ends .entry))) (length (now (targets .entry))) (length (now (map .entry))) (length (now («range_list» .entry))) (length (now («location_list» .entry))) (length (now («string_list» .entry))) (length (now (out .entry)))) «type_units» (now (section .entry))) r (length (now (map .entry))) (length (now («range_list» .entry))) (length (now («location_list» .entry))) (length (now («string_list» .entry))) (length (now (out .entry))) (now (map .exit)) (now («range_list» .exit)) (now («location_list» .exit)) (now («string_list» .exit)) (now (out .exit)) ⌝ }
+    ensures { λ r. ⌜
+        (let x =
+        sections (now (abbreviations .entry)) (now (locations .entry)) (now (ranges .entry))
+        (now (addresses .entry)) «ranges_base» in
+        let room =
+        roomOf (length (now (marks .entry))) (length (now (pairs .entry))) (length (now (offsets .entry)))
+        (length (now (parents .entry))) (length (now (roots .entry))) (length (now (ends .entry)))
+        (length (now (targets .entry))) (length (now (map .entry))) (length (now («range_list» .entry)))
+        (length (now («location_list» .entry))) (length (now («string_list» .entry))) (length (now (out .entry))) in
+        Answers (collectOf x room «type_units» (now (section .entry))) r (length (now (map .entry)))
+        (length (now («range_list» .entry))) (length (now («location_list» .entry)))
+        (length (now («string_list» .entry))) (length (now (out .entry)))
+        (now (map .exit)) (now («range_list» .exit)) (now («location_list» .exit)) (now («string_list» .exit)) (now (out .exit)))
+        ⌝ }
 {
     clear_outputs(map, range_list, location_list, string_list, out);
     match mark_unit(
@@ -447,9 +495,12 @@ fn collect_unit(
     }
 }
 
-// Thins the first unit of a section. The sections and the address table are read; the tables (entries: `offsets`, `parents`, `roots`, `ends`, `marks`; references: `targets`, `pairs`; the index of the
-// declarations, and the work column of the marking and of the search for siblings, best two numbers an entry, whose lengths change the time alone) are scratch, zeros on every answer. The map has 12 bytes a place (old offset, new
-// offset, depth), a list 8 bytes a number, all big-endian. Refused with a number of document 01; then map, lists and output are zeros.
+// Thins the first unit of a section, which is read with the other sections and the address table. The map has 12 bytes a
+// place (old offset, new offset, depth), a list 8 bytes a number, all big-endian. Refused with a number of document 01;
+// then map, lists and output are zeros. The tables are scratch, zeros on every answer: the index of the declarations,
+// those of the entries (`offsets`, `parents`, `roots`, `ends`, `marks`) and of the references (`targets`, `pairs`), and the
+// work column of the marking and of the search for siblings, best two numbers an entry. The lengths of the index and of
+// the work column change the time alone.
 pub fn collect(
     section: &[u8],
     abbreviations: &[u8],
@@ -473,21 +524,32 @@ pub fn collect(
     string_list: &mut [u8],
     out: &mut [u8],
 ) -> Collected
-    ensures answer { λ r. ⌜ r ≡ answerFor (collectOf (sections (now (abbreviations .entry)) (now (locations .entry)) (now (ranges .entry)) (now (addresses .entry)) «ranges_base») (roomOf (length (now (marks .entry))) (length (now (pairs .entry))) (length (now (offsets .entry))) (length (now (parents .entry))) (length (now (roots .entry))) (length (now (ends .entry))) (length (now (targets .entry))) (length (now (map .entry))) (length (now («range_list» .entry))) (length (now («location_list» .entry))) (length (now («string_list» .entry))) (length (now (out .entry)))) «type_units» (now (section .entry))) ⌝ }
-    ensures map { λ _. ⌜ now (map .exit) ≡ mapFor (length (now (map .entry))) (collectOf (sections (now (abbreviations .entry)) (now (locations .entry)) (now (ranges .entry)) (now (addresses .entry)) «ranges_base») (roomOf (length (now (marks .entry))) (length (now (pairs .entry))) (length (now (offsets .entry))) (length (now (parents .entry))) (length (now (roots .entry))) (length (now (ends .entry))) (length (now (targets .entry))) (length (now (map .entry))) (length (now («range_list» .entry))) (length (now («location_list» .entry))) (length (now («string_list» .entry))) (length (now (out .entry)))) «type_units» (now (section .entry))) ⌝ }
-    ensures ranges { λ _. ⌜ now («range_list» .exit) ≡ listFor rangesIn (length (now («range_list» .entry))) (collectOf (sections (now (abbreviations .entry)) (now (locations .entry)) (now (ranges .entry)) (now (addresses .entry)) «ranges_base») (roomOf (length (now (marks .entry))) (length (now (pairs .entry))) (length (now (offsets .entry))) (length (now (parents .entry))) (length (now (roots .entry))) (length (now (ends .entry))) (length (now (targets .entry))) (length (now (map .entry))) (length (now («range_list» .entry))) (length (now («location_list» .entry))) (length (now («string_list» .entry))) (length (now (out .entry)))) «type_units» (now (section .entry))) ⌝ }
-    ensures locations { λ _. ⌜ now («location_list» .exit) ≡ listFor locationsIn (length (now («location_list» .entry))) (collectOf (sections (now (abbreviations .entry)) (now (locations .entry)) (now (ranges .entry)) (now (addresses .entry)) «ranges_base») (roomOf (length (now (marks .entry))) (length (now (pairs .entry))) (length (now (offsets .entry))) (length (now (parents .entry))) (length (now (roots .entry))) (length (now (ends .entry))) (length (now (targets .entry))) (length (now (map .entry))) (length (now («range_list» .entry))) (length (now («location_list» .entry))) (length (now («string_list» .entry))) (length (now (out .entry)))) «type_units» (now (section .entry))) ⌝ }
-    ensures strings { λ _. ⌜ now («string_list» .exit) ≡ listFor stringsIn (length (now («string_list» .entry))) (collectOf (sections (now (abbreviations .entry)) (now (locations .entry)) (now (ranges .entry)) (now (addresses .entry)) «ranges_base») (roomOf (length (now (marks .entry))) (length (now (pairs .entry))) (length (now (offsets .entry))) (length (now (parents .entry))) (length (now (roots .entry))) (length (now (ends .entry))) (length (now (targets .entry))) (length (now (map .entry))) (length (now («range_list» .entry))) (length (now («location_list» .entry))) (length (now («string_list» .entry))) (length (now (out .entry)))) «type_units» (now (section .entry))) ⌝ }
-    ensures output { λ _. ⌜ now (out .exit) ≡ outputFor (length (now (out .entry))) (collectOf (sections (now (abbreviations .entry)) (now (locations .entry)) (now (ranges .entry)) (now (addresses .entry)) «ranges_base») (roomOf (length (now (marks .entry))) (length (now (pairs .entry))) (length (now (offsets .entry))) (length (now (parents .entry))) (length (now (roots .entry))) (length (now (ends .entry))) (length (now (targets .entry))) (length (now (map .entry))) (length (now («range_list» .entry))) (length (now («location_list» .entry))) (length (now («string_list» .entry))) (length (now (out .entry)))) «type_units» (now (section .entry))) ⌝ }
-    ensures index { λ _. ⌜ now (index .exit) ≡ zeros (length (now (index .entry))) ⌝ }
-    ensures offsets { λ _. ⌜ now (offsets .exit) ≡ zeros (length (now (offsets .entry))) ⌝ }
-    ensures parents { λ _. ⌜ now (parents .exit) ≡ zeros (length (now (parents .entry))) ⌝ }
-    ensures roots { λ _. ⌜ now (roots .exit) ≡ zeros (length (now (roots .entry))) ⌝ }
-    ensures ends { λ _. ⌜ now (ends .exit) ≡ zeros (length (now (ends .entry))) ⌝ }
-    ensures marks { λ _. ⌜ now (marks .exit) ≡ zeros (length (now (marks .entry))) ⌝ }
-    ensures targets { λ _. ⌜ now (targets .exit) ≡ zeros (length (now (targets .entry))) ⌝ }
-    ensures pairs { λ _. ⌜ now (pairs .exit) ≡ zeros (length (now (pairs .entry))) ⌝ }
-    ensures work { λ _. ⌜ now (work .exit) ≡ zeros (length (now (work .entry))) ⌝ }
+    ensures { λ r. ⌜
+        (let x =
+        sections (now (abbreviations .entry)) (now (locations .entry)) (now (ranges .entry))
+        (now (addresses .entry)) «ranges_base» in
+        let room =
+        roomOf (length (now (marks .entry))) (length (now (pairs .entry))) (length (now (offsets .entry)))
+        (length (now (parents .entry))) (length (now (roots .entry))) (length (now (ends .entry)))
+        (length (now (targets .entry))) (length (now (map .entry))) (length (now («range_list» .entry)))
+        (length (now («location_list» .entry))) (length (now («string_list» .entry))) (length (now (out .entry))) in
+        let answer = collectOf x room «type_units» (now (section .entry)) in
+        (r ≡ answerFor answer)
+        × (now (map .exit) ≡ mapFor (length (now (map .entry))) answer)
+        × (now («range_list» .exit) ≡ listFor rangesIn (length (now («range_list» .entry))) answer)
+        × (now («location_list» .exit) ≡ listFor locationsIn (length (now («location_list» .entry))) answer)
+        × (now («string_list» .exit) ≡ listFor stringsIn (length (now («string_list» .entry))) answer)
+        × (now (out .exit) ≡ outputFor (length (now (out .entry))) answer)
+        × (now (index .exit) ≡ zeros (length (now (index .entry))))
+        × (now (offsets .exit) ≡ zeros (length (now (offsets .entry))))
+        × (now (parents .exit) ≡ zeros (length (now (parents .entry))))
+        × (now (roots .exit) ≡ zeros (length (now (roots .entry))))
+        × (now (ends .exit) ≡ zeros (length (now (ends .entry))))
+        × (now (marks .exit) ≡ zeros (length (now (marks .entry))))
+        × (now (targets .exit) ≡ zeros (length (now (targets .entry))))
+        × (now (pairs .exit) ≡ zeros (length (now (pairs .entry))))
+        × (now (work .exit) ≡ zeros (length (now (work .entry)))))
+        ⌝ }
 {
     let answer = collect_unit(
         section,

@@ -1,4 +1,5 @@
-// Writes the kept entries and terminators of a unit, each at its own width, with new values for its references, siblings and indices.
+// Writes the kept entries and terminators of a unit, each at its own width, with new values for its references, siblings
+// and indices.
 ghost use mathlib.Core.Path.{_≡_};
 ghost use mathlib.Core.List.{List};
 ghost use mathlib.Core.Option.{Option, some};
@@ -19,7 +20,8 @@ ghost use Rattle.rewriting.specs.Indices.{rankOr};
 ghost use Rattle.rewriting.specs.Written.{asMapped, MapHeld, over};
 ghost use Rattle.rewriting.specs.Bounds.{Bounds};
 ghost use Rattle.rewriting.specs.Rewriting.{Lists, newValue, readsRefusal, piecesRefusal, orSelf};
-ghost use Rattle.rewriting.specs.Emission.{between, copiedCount, Emits, Within, onward, Wide, numberRefusal, offsetRefusal, listForm, lebForm, Lent, Lends};
+ghost use Rattle.rewriting.specs.Emission.{between, copiedCount, Emits, Within, onward, Wide};
+ghost use Rattle.rewriting.specs.Emission.{numberRefusal, offsetRefusal, listForm, lebForm, Lent, Lends};
 ghost use Rattle.rewriting.specs.declared.emit.Emitted.the-variants.{To};
 use crate::lists::ListCount;
 use crate::lists::rank;
@@ -85,7 +87,11 @@ fn after(done: usize, rest: Emitted) -> Emitted
 // A number in so many bytes: 9 where it does not fit.
 fn emit_number(value: u64, width: usize, leb: bool, out: &mut [u8]) -> Emitted
     ensures within { λ r. ⌜ Within (now (out .entry)) r (now (out .exit)) ⌝ }
-    ensures bytes { λ r. ⌜ (Wide leb width → Emits (numberRefusal (encodedBy leb width) value) (numberBytes false (encodedBy leb width) value) (now (out .entry)) r (now (out .exit))) ⌝ }
+    ensures bytes { λ r. ⌜
+        (Wide leb width
+        → let e = encodedBy leb width in
+        Emits (numberRefusal e value) (numberBytes false e value) (now (out .entry)) r (now (out .exit)))
+        ⌝ }
 {
     if put_number(value, width, leb, out) {
         return Emitted::To(width);
@@ -96,7 +102,11 @@ fn emit_number(value: u64, width: usize, leb: bool, out: &mut [u8]) -> Emitted
 // The new offset in the old one's place: 8 where it has none (gc.rs: `write_ref_value`).
 fn emit_offset(new: Mapped, width: usize, leb: bool, out: &mut [u8]) -> Emitted
     ensures within { λ r. ⌜ Within (now (out .entry)) r (now (out .exit)) ⌝ }
-    ensures bytes { λ r. ⌜ ((o : Option ℕ) (v : ℕ) → new ≡ asMapped o → Wide leb width → Emits (offsetRefusal (encodedBy leb width) v o) (numberBytes false (encodedBy leb width) (orSelf v o)) (now (out .entry)) r (now (out .exit))) ⌝ }
+    ensures bytes { λ r. ⌜
+        ((o : Option ℕ) (v : ℕ) → new ≡ asMapped o → Wide leb width
+        → let e = encodedBy leb width in
+        Emits (offsetRefusal e v o) (numberBytes false e (orSelf v o)) (now (out .entry)) r (now (out .exit)))
+        ⌝ }
 {
     match new {
         Mapped::To(value) => emit_number(value.0, width, leb, out),
@@ -107,7 +117,13 @@ fn emit_offset(new: Mapped, width: usize, leb: bool, out: &mut [u8]) -> Emitted
 // An expression with the new offsets of the entries that it names, nested ones too (gc.rs: `emit_expression`).
 fn emit_expression(s: &[u8], e: Encoding, map: &[u8], places: usize, out: &mut [u8]) -> Emitted
     ensures within { λ r. ⌜ Within (now (out .entry)) r (now (out .exit)) ⌝ }
-    ensures bytes { λ r. ⌜ ((lists : Lists) (ps : List Place) (depth : ℕ) (pieces : List Piece) → e .«big_endian» ≡ false → MapHeld ps (now (map .entry)) → places ≡ length ps → expressionIn e (now (s .entry)) ≡ some pieces → Emits (piecesRefusal lists ps depth pieces) (bytesOf false (patchPieces (newValue lists ps depth) pieces)) (now (out .entry)) r (now (out .exit))) ⌝ }
+    ensures bytes { λ r. ⌜
+        ((lists : Lists) (ps : List Place) (depth : ℕ) (pieces : List Piece)
+        → e .«big_endian» ≡ false → MapHeld ps (now (map .entry)) → places ≡ length ps
+        → expressionIn e (now (s .entry)) ≡ some pieces
+        → Emits (piecesRefusal lists ps depth pieces) (bytesOf false (patchPieces (newValue lists ps depth) pieces))
+        (now (out .entry)) r (now (out .exit)))
+        ⌝ }
 {
     let mut from = Cursor { at: 0 };
     let mut copied: usize = 0;
@@ -219,7 +235,19 @@ fn emit_attribute(
     out: &mut [u8],
 ) -> Emitted
     ensures within { λ r. ⌜ Within (now (out .entry)) r (now (out .exit)) ⌝ }
-    ensures bytes { λ r. ⌜ ((lists : Lists) (ps : List Place) (rs : List Read) (rest : List ℕ) → e .«big_endian» ≡ false → MapHeld ps (now (map .entry)) → places ≡ length ps → Bounds ps (now (bounds .entry)) → Lends lists (now (ranges .entry)) «ranges_count» (now (locations .entry)) «locations_count» (now (strings .entry)) «strings_count» → values .at ≤ length (now (unit .entry)) → attributeAt e (now (unit .entry)) (values .at) (a .name) (a .declared) ≡ Attribute′ (a .value) → readIn false (expressionIn e) (attributeLayout e (a .name) (a .declared)) (drop (values .at) (now (unit .entry))) ≡ some (rs, rest) → Emits (readsRefusal lists ps depth rs) (writeAll false (patchAll (newValue lists ps depth) rs)) (now (out .entry)) r (now (out .exit))) ⌝ }
+    ensures bytes { λ r. ⌜
+        ((lists : Lists) (ps : List Place) (rs : List Read) (rest : List ℕ)
+        → e .«big_endian» ≡ false
+        → MapHeld ps (now (map .entry)) → places ≡ length ps → Bounds ps (now (bounds .entry))
+        → Lends lists (now (ranges .entry)) «ranges_count» (now (locations .entry)) «locations_count»
+        (now (strings .entry)) «strings_count»
+        → values .at ≤ length (now (unit .entry))
+        → attributeAt e (now (unit .entry)) (values .at) (a .name) (a .declared) ≡ Attribute′ (a .value)
+        → readIn false (expressionIn e) (attributeLayout e (a .name) (a .declared))
+        (drop (values .at) (now (unit .entry))) ≡ some (rs, rest)
+        → Emits (readsRefusal lists ps depth rs) (writeAll false (patchAll (newValue lists ps depth) rs))
+        (now (out .entry)) r (now (out .exit)))
+        ⌝ }
 {
     let v = a.value;
     let field = v.field;
@@ -315,7 +343,19 @@ pub(crate) fn emit_entry(
     out: &mut [u8],
 ) -> Emitted
     ensures within { λ r. ⌜ Within (now (out .entry)) r (now (out .exit)) ⌝ }
-    ensures bytes { λ r. ⌜ ((lists : Lists) (ps : List Place) (look : ℕ → Found) (x : Entry) (rs : List Read) (rest : List ℕ) → e .«big_endian» ≡ false → MapHeld ps (now (map .entry)) → places ≡ length ps → Bounds ps (now (bounds .entry)) → Lends lists (now (ranges .entry)) «ranges_count» (now (locations .entry)) «locations_count» (now (strings .entry)) «strings_count» → stepAt e (now (abbreviations .entry)) look (now (unit .entry)) (start .0) ≡ Entry′ x → specs ≡ x .declaration .attributes → values ≡ x .values → readIn false (expressionIn e) (entryLayout e (now (abbreviations .entry)) look) (drop (start .0) (now (unit .entry))) ≡ some (rs, rest) → Emits (readsRefusal lists ps depth rs) (writeAll false (patchAll (newValue lists ps depth) rs)) (now (out .entry)) r (now (out .exit))) ⌝ }
+    ensures bytes { λ r. ⌜
+        ((lists : Lists) (ps : List Place) (look : ℕ → Found) (x : Entry) (rs : List Read) (rest : List ℕ)
+        → e .«big_endian» ≡ false
+        → MapHeld ps (now (map .entry)) → places ≡ length ps → Bounds ps (now (bounds .entry))
+        → Lends lists (now (ranges .entry)) «ranges_count» (now (locations .entry)) «locations_count»
+        (now (strings .entry)) «strings_count»
+        → stepAt e (now (abbreviations .entry)) look (now (unit .entry)) (start .0) ≡ Entry′ x
+        → specs ≡ x .declaration .attributes → values ≡ x .values
+        → readIn false (expressionIn e) (entryLayout e (now (abbreviations .entry)) look)
+        (drop (start .0) (now (unit .entry))) ≡ some (rs, rest)
+        → Emits (readsRefusal lists ps depth rs) (writeAll false (patchAll (newValue lists ps depth) rs))
+        (now (out .entry)) r (now (out .exit)))
+        ⌝ }
 {
     let mut p = specs;
     let mut from = values;

@@ -30,7 +30,8 @@ pub struct Stand {
     pub nesting: Nesting,
 }
 
-// A kept item: its offset, the cursor past it, its depth, for an entry where its specifications and its values start, and where the pass goes on.
+// A kept item: its offset, the cursor past it, its depth, for an entry where its specifications and its values start, and
+// where the pass goes on.
 pub struct Kept {
     pub start: UnitOffset,
     pub end: Cursor,
@@ -102,7 +103,11 @@ pub(crate) fn fill_ends(
     first: UnitOffset,
     ends: &mut [u64],
 )
-    ensures { λ _. ⌜ (length (now (unit .entry)) < 2 ^ 32 → entriesIn (itemsBy r (now (abbreviations .entry)) (now (index .entry)) (now (unit .entry)) (first .0)) ≤ length (now (ends .entry)) → EndsHeld (now (ends .exit)) 0 (itemsBy r (now (abbreviations .entry)) (now (index .entry)) (now (unit .entry)) (first .0))) ⌝ }
+    ensures { λ _. ⌜
+        (let items = itemsBy r (now (abbreviations .entry)) (now (index .entry)) (now (unit .entry)) (first .0) in
+        length (now (unit .entry)) < 2 ^ 32 → entriesIn items ≤ length (now (ends .entry))
+        → EndsHeld (now (ends .exit)) 0 items)
+        ⌝ }
 {
     let mut at = Cursor {
         at: first.0 as usize,
@@ -150,7 +155,8 @@ fn end_at(ends: &[u64], i: EntryIndex) -> u64
     ends[k]
 }
 
-// The next kept item, by the column of ends: of a dead entry the code alone is read. A unit below 4 GiB has fewer entries than a u32 can count.
+// The next kept item, by the column of ends: of a dead entry the code alone is read. A unit below 4 GiB has fewer entries
+// than a u32 can count.
 pub(crate) fn next_kept(
     unit: &[u8],
     abbreviations: &[u8],
@@ -161,7 +167,10 @@ pub(crate) fn next_kept(
     marks: &[u8],
     s: Stand,
 ) -> KeptStep
-    ensures { λ x. ⌜ Answers (itemsBy r (now (abbreviations .entry)) (now (index .entry)) (now (unit .entry))) (now (parents .entry)) (now (ends .entry)) (now (marks .entry)) (now (unit .entry)) s x ⌝ }
+    ensures { λ x. ⌜
+        (let items = itemsBy r (now (abbreviations .entry)) (now (index .entry)) (now (unit .entry)) in
+        Answers items (now (parents .entry)) (now (ends .entry)) (now (marks .entry)) (now (unit .entry)) s x)
+        ⌝ }
 {
     let mut at = s.at;
     let mut count = s.count;

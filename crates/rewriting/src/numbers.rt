@@ -9,7 +9,8 @@ ghost use Rattle.readers.specs.Choice.{zeros};
 ghost use Rattle.readers.specs.Numbers.{padded, fixedBytes};
 ghost use Rattle.readers.specs.Layout.{numberBytes};
 ghost use Rattle.readers.specs.References.{encodedBy};
-ghost use Rattle.rewriting.specs.Written.{groupsFit, bytesFit, numberFits, unfit, Put, paddedAnswer, paddedOut, over, putIn, numberThere};
+ghost use Rattle.rewriting.specs.Written.{groupsFit, bytesFit, numberFits, unfit, Put, paddedAnswer, paddedOut};
+ghost use Rattle.rewriting.specs.Written.{over, putIn, numberThere};
 use readers::cursor::Cursor;
 use readers::cursor::Number;
 
@@ -62,7 +63,9 @@ fn groups_fit(value: u64, width: usize, room: usize) -> bool
 
 // A ULEB128 number in exactly so many bytes, each but the last with its high bit set, zeros after them.
 fn uleb128_padded(value: u64, width: usize) -> [u8; 10]
-    ensures { λ r. ⌜ (0 < width → width ≤ 10 → value < 128 ^ width → r ≡ padded (width - 1) value ++ zeros (10 - width)) ⌝ }
+    ensures { λ r. ⌜
+        (0 < width → width ≤ 10 → value < 128 ^ width → r ≡ padded (width - 1) value ++ zeros (10 - width))
+        ⌝ }
 {
     let mut number = [0u8; 10];
     if width == 0 {
@@ -85,7 +88,10 @@ fn uleb128_padded(value: u64, width: usize) -> [u8; 10]
 
 // Copies the first bytes of a number into the start of a part that has room for them.
 fn copy_number(number: &[u8; 10], width: usize, out: &mut [u8])
-    ensures { λ _. ⌜ (length (now (number .entry)) ≡ 10 → width ≤ 10 → width ≤ length (now (out .entry)) → now (out .exit) ≡ take width (now (number .entry)) ++ drop width (now (out .entry))) ⌝ }
+    ensures { λ _. ⌜
+        (length (now (number .entry)) ≡ 10 → width ≤ 10 → width ≤ length (now (out .entry))
+        → now (out .exit) ≡ take width (now (number .entry)) ++ drop width (now (out .entry)))
+        ⌝ }
 {
     if width > 10 {
         return;
@@ -102,7 +108,10 @@ fn copy_number(number: &[u8; 10], width: usize, out: &mut [u8])
 
 // A little-endian number in so many bytes, at most eight: whether it fits.
 fn put_fixed(value: u64, width: usize, out: &mut [u8]) -> bool
-    ensures { λ r. ⌜ Put (bytesFit value width (length (now (out .entry)))) (fixedBytes false width value) width (now (out .entry)) (now (out .entry)) r (now (out .exit)) ⌝ }
+    ensures { λ r. ⌜
+        Put (bytesFit value width (length (now (out .entry)))) (fixedBytes false width value) width
+        (now (out .entry)) (now (out .entry)) r (now (out .exit))
+        ⌝ }
 {
     if width > 8 {
         return false;
@@ -138,9 +147,13 @@ pub fn write_uleb128_padded(value: u64, width: usize, out: &mut [u8]) -> Padded
     Padded::Written
 }
 
-// Writes a number in its own encoding at the start of a part: whether it fits. A padded number has a part of exactly its width.
+// Writes a number in its own encoding at the start of a part: whether it fits. A padded number has a part of exactly its
+// width.
 pub(crate) fn put_number(value: u64, width: usize, leb: bool, out: &mut [u8]) -> bool
-    ensures { λ r. ⌜ Put (numberFits leb value width (length (now (out .entry)))) (numberBytes false (encodedBy leb width) value) width (now (out .entry)) (unfit leb width (now (out .entry))) r (now (out .exit)) ⌝ }
+    ensures { λ r. ⌜
+        Put (numberFits leb value width (length (now (out .entry)))) (numberBytes false (encodedBy leb width) value) width
+        (now (out .entry)) (unfit leb width (now (out .entry))) r (now (out .exit))
+        ⌝ }
 {
     if leb {
         if width > out.len() {

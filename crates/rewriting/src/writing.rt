@@ -48,7 +48,17 @@ pub(crate) fn emit_dies(
     out: &mut [u8],
 ) -> Emitted
     ensures within { λ t. ⌜ Within (now (out .entry)) t (now (out .exit)) ⌝ }
-    ensures bytes { λ t. ⌜ ((x : Sections) (u : Unit′) (lists : Lists) (ps : List Place) → Passable x u r (now (abbreviations .entry)) (now (index .entry)) (now (unit .entry)) (now (parents .entry)) (now (ends .entry)) (now (marks .entry)) (first .0) → first .0 ≡ u .header .first .0 → r .encoding .«big_endian» ≡ false → MapHeld ps (now (map .entry)) → places ≡ length ps → Bounds ps (now (bounds .entry)) → Lends lists (now (ranges .entry)) «ranges_count» (now (locations .entry)) «locations_count» (now (strings .entry)) «strings_count» → Emits (refusalFrom x u lists ps (keptFrom (now (marks .entry)) 0 [] (itemsIn x u))) (bytesFrom x u lists ps (keptFrom (now (marks .entry)) 0 [] (itemsIn x u))) (now (out .entry)) t (now (out .exit))) ⌝ }
+    ensures bytes { λ t. ⌜
+        ((x : Sections) (u : Unit′) (lists : Lists) (ps : List Place)
+        → Passable x u r (now (abbreviations .entry)) (now (index .entry)) (now (unit .entry)) (now (parents .entry))
+        (now (ends .entry)) (now (marks .entry)) (first .0)
+        → first .0 ≡ u .header .first .0 → r .encoding .«big_endian» ≡ false
+        → MapHeld ps (now (map .entry)) → places ≡ length ps → Bounds ps (now (bounds .entry))
+        → Lends lists (now (ranges .entry)) «ranges_count» (now (locations .entry)) «locations_count»
+        (now (strings .entry)) «strings_count»
+        → let items = keptFrom (now (marks .entry)) 0 [] (itemsIn x u) in
+        Emits (refusalFrom x u lists ps items) (bytesFrom x u lists ps items) (now (out .entry)) t (now (out .exit)))
+        ⌝ }
 {
     let mut s = Stand {
         at: Cursor {

@@ -54,7 +54,7 @@ same-length-6 c = c .before .before .before .before .before .before .before .bef
 returns : tie.Need-returns
 returns c =
     let e = c .before .before .before .before .before .before .before .before .before .before .before .before .before .before .before .before .before .before .before .before .before .collector-collect-lent in
-    (e .ensures .0, (e .ensures .1 .0, (e .ensures .1 .1 .0, (e .ensures .1 .1 .1 .0, (e .ensures .1 .1 .1 .1 .0, (e .ensures .1 .1 .1 .1 .1 .0, e .ensures .1 .1 .1 .1 .1 .1 .0))))))
+    (e .ensures .0, e .ensures .1, e .ensures .2, e .ensures .3, e .ensures .4, e .ensures .5, e .ensures .6)
 
 pub collector-collect-spec : {M : Type 1} → statement M
 collector-collect-spec =

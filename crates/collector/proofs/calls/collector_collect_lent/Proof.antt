@@ -60,7 +60,7 @@ returns : tie.Need-returns
 returns c =
     let e = c .before .before .before .before .before .before .before .before .before .before .before .before .before .before .before .before .before .before .before .before .before .before .before .before .before .before .before .before .before .before .before .before .collect in
     let g = c .before .before .give in
-    (g .ensures .0 ∙ ap (numberFor _) (e .ensures .0), (g .ensures .1 ∙ ap (countsFor _) (e .ensures .0), (e .ensures .1 .0, (e .ensures .1 .1 .0, (e .ensures .1 .1 .1 .0, (e .ensures .1 .1 .1 .1 .0, (e .ensures .1 .1 .1 .1 .1 .0, (e .ensures .1 .1 .1 .1 .1 .1 .0, (e .ensures .1 .1 .1 .1 .1 .1 .1 .0, (e .ensures .1 .1 .1 .1 .1 .1 .1 .1 .0, (e .ensures .1 .1 .1 .1 .1 .1 .1 .1 .1 .0, (e .ensures .1 .1 .1 .1 .1 .1 .1 .1 .1 .1 .0, (e .ensures .1 .1 .1 .1 .1 .1 .1 .1 .1 .1 .1 .0, (e .ensures .1 .1 .1 .1 .1 .1 .1 .1 .1 .1 .1 .1 .0, (e .ensures .1 .1 .1 .1 .1 .1 .1 .1 .1 .1 .1 .1 .1 .0, e .ensures .1 .1 .1 .1 .1 .1 .1 .1 .1 .1 .1 .1 .1 .1)))))))))))))))
+    (g .ensures .0 ∙ ap (numberFor _) (e .ensures .0), g .ensures .1 ∙ ap (countsFor _) (e .ensures .0), e .ensures .1, e .ensures .2, e .ensures .3, e .ensures .4, e .ensures .5, e .ensures .6, e .ensures .7, e .ensures .8, e .ensures .9, e .ensures .10, e .ensures .11, e .ensures .12, e .ensures .13, e .ensures .14)
 
 pub collector-collect-lent-spec : {M : Type 1} → statement M
 collector-collect-lent-spec =

@@ -29,11 +29,11 @@ clear-outputs-requires c κs = search needs
 abbrev start-of : tie.After-clear-tables → tie.Start
 start-of k = k .before .before .before .before .before .before .before .before .before .before .before .before .before .before .before .before .before .before .before .before .before .before .before .before .before .before .before .before .before .before .before .before .before .before .before .before .before .before .before .before .before .before .before .before .before .before .before .before .before .before .before .before .before .before .before .before .before .before .before .before .before .before .before .before .before .before .before .before .before .before .before .before
 
-tables : (k : tie.After-clear-tables) → (k .clear-tables .last .0 ≡ zeros (length (start-of k .args .index .now))) × ((k .clear-tables .last .1 .0 ≡ zeros (length (start-of k .args .offsets .now))) × ((k .clear-tables .last .1 .1 .0 ≡ zeros (length (start-of k .args .parents .now))) × ((k .clear-tables .last .1 .1 .1 .0 ≡ zeros (length (start-of k .args .roots .now))) × ((k .clear-tables .last .1 .1 .1 .1 .0 ≡ zeros (length (start-of k .args .ends .now))) × ((k .clear-tables .last .1 .1 .1 .1 .1 .0 ≡ zeros (length (start-of k .args .marks .now))) × ((k .clear-tables .last .1 .1 .1 .1 .1 .1 .0 ≡ zeros (length (start-of k .args .targets .now))) × ((k .clear-tables .last .1 .1 .1 .1 .1 .1 .1 .0 ≡ zeros (length (start-of k .args .pairs .now))) × (k .clear-tables .last .1 .1 .1 .1 .1 .1 .1 .1 .0 ≡ zeros (length (start-of k .args .work .now))))))))))
+tables : (k : tie.After-clear-tables) → (k .clear-tables .last .0 ≡ zeros (length (start-of k .args .index .now))) × (k .clear-tables .last .1 .0 ≡ zeros (length (start-of k .args .offsets .now))) × (k .clear-tables .last .1 .1 .0 ≡ zeros (length (start-of k .args .parents .now))) × (k .clear-tables .last .1 .1 .1 .0 ≡ zeros (length (start-of k .args .roots .now))) × (k .clear-tables .last .1 .1 .1 .1 .0 ≡ zeros (length (start-of k .args .ends .now))) × (k .clear-tables .last .1 .1 .1 .1 .1 .0 ≡ zeros (length (start-of k .args .marks .now))) × (k .clear-tables .last .1 .1 .1 .1 .1 .1 .0 ≡ zeros (length (start-of k .args .targets .now))) × (k .clear-tables .last .1 .1 .1 .1 .1 .1 .1 .0 ≡ zeros (length (start-of k .args .pairs .now))) × (k .clear-tables .last .1 .1 .1 .1 .1 .1 .1 .1 .0 ≡ zeros (length (start-of k .args .work .now)))
 tables k =
     let a = k .before .before .before .before .before .before .before .before .before .before .before .before .before .before .before .before .before .before .before .before .before .before .before .before .before .before .before .before .before .before .before .before .before .before .before .before .before .before .collect-unit in
     let z = k .clear-tables in
-    (cleared _ _ _ (z .ensures .0) (a .kept .1 .1 .1 .1 .1 .1 .1 .0), (cleared _ _ _ (z .ensures .1 .0) (a .kept .1 .1 .1 .1 .1 .1 .1 .1 .0), (cleared _ _ _ (z .ensures .1 .1 .0) (a .kept .1 .1 .1 .1 .1 .1 .1 .1 .1 .0), (cleared _ _ _ (z .ensures .1 .1 .1 .0) (a .kept .1 .1 .1 .1 .1 .1 .1 .1 .1 .1 .0), (cleared _ _ _ (z .ensures .1 .1 .1 .1 .0) (a .kept .1 .1 .1 .1 .1 .1 .1 .1 .1 .1 .1 .0), (cleared _ _ _ (z .ensures .1 .1 .1 .1 .1 .0) (a .kept .1 .1 .1 .1 .1 .1 .1 .1 .1 .1 .1 .1 .0), (cleared _ _ _ (z .ensures .1 .1 .1 .1 .1 .1 .0) (a .kept .1 .1 .1 .1 .1 .1 .1 .1 .1 .1 .1 .1 .1 .0), (cleared _ _ _ (z .ensures .1 .1 .1 .1 .1 .1 .1 .0) (a .kept .1 .1 .1 .1 .1 .1 .1 .1 .1 .1 .1 .1 .1 .1 .0), cleared _ _ _ (z .ensures .1 .1 .1 .1 .1 .1 .1 .1) (a .kept .1 .1 .1 .1 .1 .1 .1 .1 .1 .1 .1 .1 .1 .1 .1 .0)))))))))
+    (cleared _ _ _ (z .ensures .0) (a .kept .1 .1 .1 .1 .1 .1 .1 .0), cleared _ _ _ (z .ensures .1 .0) (a .kept .1 .1 .1 .1 .1 .1 .1 .1 .0), cleared _ _ _ (z .ensures .1 .1 .0) (a .kept .1 .1 .1 .1 .1 .1 .1 .1 .1 .0), cleared _ _ _ (z .ensures .1 .1 .1 .0) (a .kept .1 .1 .1 .1 .1 .1 .1 .1 .1 .1 .0), cleared _ _ _ (z .ensures .1 .1 .1 .1 .0) (a .kept .1 .1 .1 .1 .1 .1 .1 .1 .1 .1 .1 .0), cleared _ _ _ (z .ensures .1 .1 .1 .1 .1 .0) (a .kept .1 .1 .1 .1 .1 .1 .1 .1 .1 .1 .1 .1 .0), cleared _ _ _ (z .ensures .1 .1 .1 .1 .1 .1 .0) (a .kept .1 .1 .1 .1 .1 .1 .1 .1 .1 .1 .1 .1 .1 .0), cleared _ _ _ (z .ensures .1 .1 .1 .1 .1 .1 .1 .0) (a .kept .1 .1 .1 .1 .1 .1 .1 .1 .1 .1 .1 .1 .1 .1 .0), cleared _ _ _ (z .ensures .1 .1 .1 .1 .1 .1 .1 .1) (a .kept .1 .1 .1 .1 .1 .1 .1 .1 .1 .1 .1 .1 .1 .1 .1 .0))
 
 same-length : tie.Need-same-length
 same-length c = c .before .before .before .before .before .before .before .before .before .before .before .before .before .before .before .before .before .before .before .before .before .clear-tables .kept .0 ∙ c .before .before .before .before .before .before .before .before .before .before .before .before .before .before .before .before .before .before .before .before .before .before .before .before .before .before .before .before .before .before .before .before .before .before .before .before .before .before .before .before .before .before .before .before .before .before .before .before .before .before .before .before .before .before .before .before .before .before .before .collect-unit .kept .1 .1 .1 .1 .1 .1 .1 .0
@@ -81,24 +81,23 @@ returns : tie.Need-returns
 returns c =
     let a = c .before .before .before .before .before .before .before .before .before .before .before .before .before .before .before .before .before .before .before .before .before .before .before .before .before .before .before .before .before .before .before .before .before .before .before .before .before .before .before .before .before .before .before .before .before .before .before .before .before .before .before .before .before .before .before .before .before .before .before .collect-unit in
     let r = c .before .answer .given .1 in
-    let y = accepts-untouched _ _ _ (a .ensures .told) r in (
+    let y = accepts-untouched _ _ _ (a .ensures .told) r in
+    let t = tables (c .before .before .before .before .before .before .before .before .before .before .before .before .before .before .before .before .before .before .before .before .before) in (
       sym r ∙ a .ensures .told,
-      (
-        a .ensures .map-left y,
-        (
-          a .ensures .ranges-left y,
-          (
-            a .ensures .locations-left y,
-            (
-              a .ensures .strings-left y,
-              (
-                a .ensures .out-left y,
-                tables (c .before .before .before .before .before .before .before .before .before .before .before .before .before .before .before .before .before .before .before .before .before),
-              ),
-            ),
-          ),
-        ),
-      ),
+      a .ensures .map-left y,
+      a .ensures .ranges-left y,
+      a .ensures .locations-left y,
+      a .ensures .strings-left y,
+      a .ensures .out-left y,
+      t .0,
+      t .1,
+      t .2,
+      t .3,
+      t .4,
+      t .5,
+      t .6,
+      t .7,
+      t .8,
     )
 
 same-length-15 : tie.Need-same-length-15
@@ -147,24 +146,23 @@ returns-2 : tie.Need-returns-2
 returns-2 c =
     let a = c .before .before .before .before .before .before .before .before .before .before .before .before .before .before .before .before .before .before .before .before .before .before .before .before .before .before .before .before .before .before .before .before .before .before .before .before .before .before .before .before .before .before .before .before .before .before .before .before .before .before .before .before .before .before .before .before .before .before .before .collect-unit in
     let r = c .before .answer2 .given .1 in
-    let y = accepts-rewritten _ _ _ (a .ensures .told) r in (
+    let y = accepts-rewritten _ _ _ (a .ensures .told) r in
+    let t = tables (c .before .before .before .before .before .before .before .before .before .before .before .before .before .before .before .before .before .before .before .before .before) in (
       sym r ∙ a .ensures .told,
-      (
-        a .ensures .map-left y,
-        (
-          a .ensures .ranges-left y,
-          (
-            a .ensures .locations-left y,
-            (
-              a .ensures .strings-left y,
-              (
-                a .ensures .out-left y,
-                tables (c .before .before .before .before .before .before .before .before .before .before .before .before .before .before .before .before .before .before .before .before .before),
-              ),
-            ),
-          ),
-        ),
-      ),
+      a .ensures .map-left y,
+      a .ensures .ranges-left y,
+      a .ensures .locations-left y,
+      a .ensures .strings-left y,
+      a .ensures .out-left y,
+      t .0,
+      t .1,
+      t .2,
+      t .3,
+      t .4,
+      t .5,
+      t .6,
+      t .7,
+      t .8,
     )
 
 same-length-29 : tie.Need-same-length-29
@@ -214,24 +212,23 @@ returns-3 c =
     let a = c .before .before .before .before .before .before .before .before .before .before .before .before .before .before .before .before .before .before .before .before .before .before .before .before .before .before .before .before .before .before .before .before .before .before .before .before .before .before .before .before .before .before .before .before .before .before .before .before .before .before .before .before .before .before .before .before .before .before .before .before .before .before .before .before .before .before .before .before .before .before .before .before .before .before .before .collect-unit in
     let o = c .before .before .before .before .before .before .before .before .before .before .clear-outputs in
     let r = c .before .before .before .before .before .before .before .before .before .before .before .before .before .before .before .before .before .answer3 .given .1 in
-    let y = is-refused _ _ _ (a .ensures .told) r in (
+    let y = is-refused _ _ _ (a .ensures .told) r in
+    let t = tables (c .before .before .before .before .before .before .before .before .before .before .before .before .before .before .before .before .before .before .before .before .before .before .before .before .before .before .before .before .before .before .before .before .before .before .before .before .before) in (
       sym r ∙ a .ensures .told,
-      (
-        map-cleared _ _ y _ _ _ (o .ensures .0) (a .kept .1 .1 .1 .1 .1 .1 .1 .1 .1 .1 .1 .1 .1 .1 .1 .1 .0),
-        (
-          ranges-cleared _ _ y _ _ _ (o .ensures .1 .0) (a .kept .1 .1 .1 .1 .1 .1 .1 .1 .1 .1 .1 .1 .1 .1 .1 .1 .1 .0),
-          (
-            locations-cleared _ _ y _ _ _ (o .ensures .1 .1 .0) (a .kept .1 .1 .1 .1 .1 .1 .1 .1 .1 .1 .1 .1 .1 .1 .1 .1 .1 .1 .0),
-            (
-              strings-cleared _ _ y _ _ _ (o .ensures .1 .1 .1 .0) (a .kept .1 .1 .1 .1 .1 .1 .1 .1 .1 .1 .1 .1 .1 .1 .1 .1 .1 .1 .1 .0),
-              (
-                output-cleared _ _ y _ _ _ (o .ensures .1 .1 .1 .1) (a .kept .1 .1 .1 .1 .1 .1 .1 .1 .1 .1 .1 .1 .1 .1 .1 .1 .1 .1 .1 .1 .0),
-                tables (c .before .before .before .before .before .before .before .before .before .before .before .before .before .before .before .before .before .before .before .before .before .before .before .before .before .before .before .before .before .before .before .before .before .before .before .before .before),
-              ),
-            ),
-          ),
-        ),
-      ),
+      map-cleared _ _ y _ _ _ (o .ensures .0) (a .kept .1 .1 .1 .1 .1 .1 .1 .1 .1 .1 .1 .1 .1 .1 .1 .1 .0),
+      ranges-cleared _ _ y _ _ _ (o .ensures .1 .0) (a .kept .1 .1 .1 .1 .1 .1 .1 .1 .1 .1 .1 .1 .1 .1 .1 .1 .1 .0),
+      locations-cleared _ _ y _ _ _ (o .ensures .1 .1 .0) (a .kept .1 .1 .1 .1 .1 .1 .1 .1 .1 .1 .1 .1 .1 .1 .1 .1 .1 .1 .0),
+      strings-cleared _ _ y _ _ _ (o .ensures .1 .1 .1 .0) (a .kept .1 .1 .1 .1 .1 .1 .1 .1 .1 .1 .1 .1 .1 .1 .1 .1 .1 .1 .1 .0),
+      output-cleared _ _ y _ _ _ (o .ensures .1 .1 .1 .1) (a .kept .1 .1 .1 .1 .1 .1 .1 .1 .1 .1 .1 .1 .1 .1 .1 .1 .1 .1 .1 .1 .0),
+      t .0,
+      t .1,
+      t .2,
+      t .3,
+      t .4,
+      t .5,
+      t .6,
+      t .7,
+      t .8,
     )
 
 pub collect-spec : {M : Type 1} → statement M
