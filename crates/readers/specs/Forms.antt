@@ -92,7 +92,7 @@ useOf name f =
     (as′ (index 2))
     plain))))
 
--- The list that an index of a form counts in: rnglistx 0; loclistx 1; strx, strx1 to strx4 and GNU_str_index 2; 3 for
+-- The list that an index counts in, by its form: rnglistx 0; loclistx 1; strx, strx1 to strx4 and GNU_str_index 2; 3 for
 -- a form that is no index.
 unfoldable pub listForm : ℕ → ℕ
 listForm f =
