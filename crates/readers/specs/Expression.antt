@@ -1,19 +1,17 @@
 -- Expressions (DWARF 5, 2.5): operations up to the end of the bytes; an entry value (2.5.1.7) holds an expression.
 -- The laws of layouts hold of expressions too, nested ones included.
-use mathlib.Core.Path.{_≡_, refl, ap, ap₂, sym, _∙_, subst}
-use Prim.Native.Nat.{ℕ, zero, suc, _+_, _-_, _≤_, _<_}
-use mathlib.Core.Bool.{Bool, true, false, not}
+use mathlib.Core.Path.{_≡_, refl, ap, ap₂, sym, _∙_}
+use Prim.Native.Nat.{ℕ, zero, suc, _+_, _≤_, _<_}
+use mathlib.Core.Bool.{Bool}
 use mathlib.Core.Option.{Option, none, some}
-use mathlib.Core.List.{List, [], _∷_, _++_, append-assoc}
+use mathlib.Core.List.{List, [], _∷_, _++_}
 use native.Mathlib.Omega.{arith}
 use lib.ListN.{length, take, drop, length-append, length-take}
 use lib.Seq.{length-take-le}
-use lib.Dec.{T, leb}
-use mir.Facts.{leb-yes}
-use Rattle.readers.specs.Choice.{check, bind, bind-at, bind-cong, check-cong, All, all-some, all-none, all-of, all-bind, all-both, all-map, all-triv, Took, took-length}
+use Rattle.readers.specs.Choice.{bind, bind-at, bind-cong, check-cong, All, all-some, all-none, all-bind, all-both, all-map, all-triv, took-length}
 use Rattle.readers.specs.Numbers.{uleb}
-use Rattle.readers.specs.Layout.{Kind, fixed, leb128, kindOf, width, Encoded, infixed, inleb, Token, nothing, number, bounded, forms, signed, link, string, run, block, expression, unknown, Layout, done, fail, field, Piece, Read, ReadOf, RunOf, ExpressionReader, NumberLaw, number-law, numberIn, asNumber, copy, LebLaw, uleb-law, asExpression, tokenIn, TokenLaw, token-law, readIn, before, ReadLaw, read-law, bytesOf, pieceBytes, writeAll, Patch, patchPieces, patchRead, patchAll, FitPieces, FitAll, WholeLaw, ExpressionLaw, bytes-append, patch-append, fit-append, same-size}
-use Rattle.readers.specs.Operations.{operation, rowLayout, rowOf, operationRow}
+use Rattle.readers.specs.Layout.{fixed, kindOf, width, Encoded, infixed, inleb, Token, nothing, number, bounded, forms, signed, link, string, run, block, expression, unknown, Layout, done, fail, field, Piece, Read, ReadOf, RunOf, ExpressionReader, NumberLaw, number-law, numberIn, asNumber, copy, LebLaw, uleb-law, asExpression, tokenIn, TokenLaw, token-law, readIn, before, ReadLaw, read-law, bytesOf, pieceBytes, writeAll, Patch, patchPieces, patchRead, patchAll, FitPieces, FitAll, WholeLaw, ExpressionLaw, bytes-append, patch-append, fit-append, same-size}
+use Rattle.readers.specs.Operations.{operation}
 use Rattle.readers.specs.declared.cursor.Encoding.{Encoding}
 
 -- ---- the pieces of what was read

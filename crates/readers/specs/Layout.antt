@@ -1,13 +1,13 @@
 -- Layouts: what stands in the bytes, as data. One reader reads every layout, and the laws of reading are proved here once, for all of them:
 -- what was read takes so many bytes; it is read so again whatever follows; and patched at its own width it is read again as patched.
 use mathlib.Core.Path.{_≡_, refl, ap, ap₂, sym, _∙_, subst}
-use Prim.Native.Nat.{ℕ, zero, suc, _+_, _*_, _-_, _^_, _≤_, _<_}
-use mathlib.Core.Bool.{Bool, true, false, not}
+use Prim.Native.Nat.{ℕ, zero, suc, _+_, _^_, _≤_, _<_}
+use mathlib.Core.Bool.{Bool, not}
 use mathlib.Core.Option.{Option, none, some}
 use mathlib.Core.List.{List, [], _∷_, _++_, append-assoc, append-nil}
 use native.Mathlib.Omega.{arith}
-use lib.ListN.{length, take, drop, length-append, length-take, length-drop, take-append-drop}
-use lib.Seq.{length-take-le, take-at, drop-at, take-append-le, take-take, take-add, drop-drop}
+use lib.ListN.{length, take, drop, length-append, length-drop}
+use lib.Seq.{length-take-le, take-at, drop-at, take-append-le, take-take, take-add}
 use lib.Dec.{T, leb, ltb, eqb}
 use mir.Facts.{yes-ltb, ltb-yes, yes-leb, leb-yes}
 use Rattle.readers.specs.Choice.{pick, pick-yes, pick-no, check, check-yes, bind, bind-at, bind-none, bind-cong, All, all-some, all-none, all-of, all-pick, all-check, all-bind, all-map, all-triv, Took, took-none, took-add, took-length}

@@ -1,15 +1,15 @@
 -- Numbers as DWARF 5 writes them: LEB128 (7.6), and fixed widths in either byte order (7.5 and its forms).
-use mathlib.Core.Path.{_≡_, refl, ap, ap₂, sym, _∙_, subst}
+use mathlib.Core.Path.{_≡_, refl, ap, ap₂, sym, _∙_}
 use Prim.Native.Nat.{ℕ, zero, suc, _+_, _*_, _-_, _^_, _/_, _%_, _≤_, _<_}
-use mathlib.Core.Bool.{Bool, true, false, not}
+use mathlib.Core.Bool.{Bool, true, false}
 use mathlib.Core.Option.{Option, none, some}
-use mathlib.Core.List.{List, [], _∷_, _++_, reverse, append-assoc, reverse-reverse, reverse-cons}
+use mathlib.Core.List.{List, [], _∷_, _++_, reverse, reverse-reverse, reverse-cons}
 use native.Mathlib.Omega.{arith}
-use lib.ListN.{length, take, drop, length-append, length-reverse}
+use lib.ListN.{length, take, drop, length-reverse}
 use lib.Dec.{T, leb, ltb, lt→ltb}
 use mir.Facts.{yes-ltb, no-ltb, ltb-yes, ltb-no, and-yes, yes-and}
 use lib.Pow.{areBytes}
-use Rattle.readers.specs.Choice.{pick, pick-yes, pick-no, check, check-yes, bind, bind-at, All, all-some, all-none, all-pick, all-check, all-bind}
+use Rattle.readers.specs.Choice.{pick, pick-yes, pick-no, check, bind, bind-at, All, all-some, all-none, all-pick, all-bind}
 
 -- ---- LEB128
 
