@@ -92,8 +92,8 @@ useOf name f =
     (as′ (index 2))
     plain))))
 
--- The list that an index counts in, by its form: rnglistx 0; loclistx 1; strx, strx1 to strx4 and GNU_str_index 2; 3 for
--- a form that is no index.
+-- The list that an index counts in, by its form: rnglistx 0; loclistx 1; strx, strx1 to strx4 and GNU_str_index 2; 3
+-- for a form that is no index.
 unfoldable pub listForm : ℕ → ℕ
 listForm f =
     pick (eqb f «DW_FORM_rnglistx») 0

@@ -67,7 +67,8 @@ groups-padded (suc k) (suc n) v rest hk hv =
     ∙ bind-at (below (128 + v % 128)) (groups-padded k n (v / 128) rest (omega arith) (omega arith))
     ∙ ap (λ (x : ℕ). some (suc n, x, rest)) (omega arith)
 
--- what a number that was read says of the bytes before it: it took suc (t .0) of them, and these, before anything else, are read so again
+-- what a number that was read says of the bytes before it: it took suc (t .0) of them, and these, before anything
+-- else, are read so again
 abbrev pub GroupsLaw : ℕ → List ℕ → Groups → Type 0
 GroupsLaw k s t =
     (t .0 < k) × (suc (t .0) ≤ length s) × (t .2 ≡ drop (suc (t .0)) s)
@@ -192,5 +193,6 @@ pub fixed-bytes : (big : Bool) (s : List ℕ) → T (areBytes s) → (fixedBytes
 unfolding fixedBytes fixedValue
 fixed-bytes big s h =
     let l : length (ordered big s) ≡ length s = length-ordered big s in
-    let p : (littleBytes (length (ordered big s)) (littleValue (ordered big s)) ≡ ordered big s) × (littleValue (ordered big s) < 256 ^ length (ordered big s)) = little-bytes (ordered big s) (are-ordered big s h) in
+    let p : (littleBytes (length (ordered big s)) (littleValue (ordered big s)) ≡ ordered big s)
+    × (littleValue (ordered big s) < 256 ^ length (ordered big s)) = little-bytes (ordered big s) (are-ordered big s h) in
     (ap (λ n. ordered big (littleBytes n (littleValue (ordered big s)))) (sym l) ∙ ap (ordered big) (p .0) ∙ ordered-ordered big s, rw l at (p .1))
