@@ -1,9 +1,9 @@
 -- What references_of_expression answers, return by return (specs/References.antt: referencesAnswer, referencesTable).
 use mathlib.Core.Path.{_≡_, refl, ap, ap₂, sym, _∙_, subst}
-use Prim.Native.Nat.{ℕ, _+_, _*_, _-_, _/_, _≤_, _<_}
-use mathlib.Core.Bool.{Bool, true, false, not}
+use Prim.Native.Nat.{ℕ, _*_, _-_, _/_, _≤_, _<_}
+use mathlib.Core.Bool.{Bool, true, false}
 use mathlib.Core.Option.{Option, none, some}
-use mathlib.Core.List.{List, [], _∷_, _++_}
+use mathlib.Core.List.{List, _++_}
 use native.Mathlib.Omega.{arith}
 use lib.ListN.{length, length-replicate}
 use lib.Dec.{T, leb, eqb}
@@ -12,7 +12,7 @@ use Rattle.readers.specs.Choice.{pick, pick-yes, pick-no, _or_, zeros}
 use Rattle.readers.specs.Layout.{Piece}
 use Rattle.readers.specs.Expression.{expressionIn}
 use Rattle.readers.specs.Header.{encodingOf}
-use Rattle.readers.specs.References.{Named, namesIn, asWalk, walkOf, walkAnswer, referencesAnswer, numbersOf, Room, namesOr, referencesIn, answerTable, referencesTable, Yields, flatFrom}
+use Rattle.readers.specs.References.{namesIn, asWalk, walkOf, walkAnswer, referencesAnswer, numbersOf, Room, namesOr, referencesIn, answerTable, referencesTable, Yields, flatFrom}
 use Rattle.readers.specs.declared.cursor.Encoding.{Encoding}
 use Rattle.readers.specs.declared.expressions.Walk.{Walk}
 use Rattle.readers.specs.declared.expressions.Walk.the-variants.{Walked, Unreadable}

@@ -10,7 +10,7 @@ use lib.ListN.{length, set, drop, take, length-set, length-append, length-drop, 
 use lib.Seq.{drop-cons, set-at, take-at, drop-at, append-snoc}
 use lib.Dec.{T, eqb, leb, ltb}
 use mir.Facts.{yes-eqb, no-eqb, eqb-yes, eqb-no, yes-leb, no-leb, leb-yes, yes-ltb, no-ltb, ltb-yes, ltb-no}
-use Rattle.readers.specs.Choice.{pick, pick-yes, pick-no, pick-either, either, check, check-yes, check-no, bind, bind-at, bind-none, _and_, zeros}
+use Rattle.readers.specs.Choice.{pick, pick-yes, pick-no, pick-either, either, check-yes, check-no, bind, bind-at, bind-none, _and_, zeros}
 use Rattle.readers.specs.Numbers.{uleb}
 use Rattle.readers.specs.Layout.{short}
 use Rattle.readers.specs.Scan.{Turn, more, stop, bad, Scanned, push, onTurn, scanWithin, scan, Goes, scan-stop, scan-bad, scan-more}
@@ -30,7 +30,6 @@ use Rattle.readers.specs.declared.abbreviations.Checked.{Checked}
 use Rattle.readers.specs.declared.slots.Arranged.{Arranged}
 use Rattle.readers.specs.declared.slots.Arranged.the-variants.{Ascending, Repeated}
 use Rattle.readers.specs.declared.abbreviations.Checked.the-variants.{Accepted, Refused}
-use Rattle.readers.specs.declared.abbreviations.Count.{Count}
 use Rattle.readers.specs.declared.abbreviations.Count.the-variants.{Of, Unreadable as Uncounted}
 use Rattle.readers.specs.declared.abbreviations.Found.{Found}
 use Rattle.readers.specs.declared.abbreviations.Found.the-variants.{Declaration as Found′, Nothing}

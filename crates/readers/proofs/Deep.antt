@@ -1,25 +1,25 @@
 -- One step of an expression that is read to its end: an operation's own pieces, or those of the expression that an entry value holds, and then the rest.
 use mathlib.Core.Path.{_≡_, refl, ap, ap₂, sym, _∙_, subst}
-use Prim.Native.Nat.{ℕ, zero, suc, _+_, _-_, _≤_, _<_}
+use Prim.Native.Nat.{ℕ, suc, _+_, _-_, _≤_}
 use mathlib.Core.Bool.{Bool, true, false, not}
 use mathlib.Core.Option.{Option, none, some}
-use mathlib.Core.List.{List, [], _∷_, _++_, append-assoc, append-nil}
+use mathlib.Core.List.{List, [], _∷_, _++_, append-nil}
 use native.Mathlib.Omega.{arith}
 use lib.ListN.{length, take, drop, length-append}
 use lib.Seq.{length-take-le, drop-drop}
 use lib.Dec.{T, leb, eqb}
 use mir.Facts.{leb-yes, yes-leb, eqb-yes}
-use Rattle.readers.specs.Choice.{pick, check, check-yes, bind, bind-at, bind-none, _or_, All, all-some, all-of, all-check, all-bind, all-none, Took, took-length}
+use Rattle.readers.specs.Choice.{pick, check, check-yes, bind, bind-at, bind-none, _or_, All, all-some, all-of, all-check, all-bind}
 use Rattle.readers.specs.Numbers.{Groups, uleb}
 use Rattle.readers.specs.Layout.{fixed, Token, nothing, number, bounded, forms, signed, link, string, run, block, expression, unknown, Layout, done, fail, field, Piece, copied, Read, ReadOf, RunOf, ExpressionReader, asBytes, LebLaw, uleb-law, asExpression, tokenIn, readIn, before, bytesOf, pieceBytes, bytes-append}
 use Rattle.readers.specs.Tokens.{tokenOf, numberAs}
 use Rattle.readers.specs.Operations.{rows, unreadableRow, rowOf, rowLayout, operation, operationRow}
 use Rattle.readers.specs.Fields.{size, fieldOf}
 use Rattle.readers.specs.Expression.{allPieces, andRest, expressionIn, expression-more}
-use Rattle.readers.specs.References.{Named, namesIn, nameIn, anyAbsolute, isAbsolute, referenceOf, namesOf}
+use Rattle.readers.specs.References.{namesIn, nameIn, anyAbsolute, isAbsolute, referenceOf, namesOf}
 use Rattle.readers.specs.declared.cursor.Encoding.{Encoding}
 use Rattle.readers.specs.declared.operations.Operation.{Operation}
-use Rattle.readers.proofs.OperationReads.{token1, token2, token3, madeOf, Held, read-four, span, code-is, first-from, rest-is, past, starts, ends}
+use Rattle.readers.proofs.OperationReads.{token1, token2, token3, madeOf, Held, read-four, span, code-is, first-from, past, starts, ends}
 use Rattle.readers.proofs.OperationPieces.{names-append, absolute-append, tokenNames, tokenAbsolute, Names, token-names, row-below, row-names, row-absolute, Wide, row-wide, isExpression, row-plain}
 
 -- ---- tokens that are no expression are read alike by all

@@ -3,26 +3,24 @@ use mathlib.Core.Path.{_≡_, refl, ap, ap₂, sym, _∙_, subst}
 use Prim.Native.Nat.{ℕ, zero, suc, _+_, _-_, _≤_, _<_}
 use mathlib.Core.Bool.{Bool, true, false, not}
 use mathlib.Core.Logic.{⊎-elim, _≢_}
-use mathlib.Core.Option.{Option, none, some}
 use mathlib.Core.List.{List, [], _∷_, _++_, append-assoc, append-nil}
 use native.Mathlib.Omega.{arith}
-use lib.ListN.{length, take, drop, getD, length-append}
+use lib.ListN.{length, length-append}
 use lib.Dec.{T, leb, ltb, eqb}
 use mir.Facts.{ltb-yes, eqb-yes, eqb-no}
-use Rattle.readers.specs.Choice.{pick, pick-either, either, check, bind, _and_, _or_, All, all-some, all-none, all-of, all-check, all-bind, all-triv}
+use Rattle.readers.specs.Choice.{pick, pick-either, either, bind, _and_, _or_, All, all-some, all-none, all-check, all-bind, all-triv}
 use Rattle.readers.specs.Numbers.{uleb, sleb}
-use Rattle.readers.specs.Layout.{fixed, leb128, Kind, Encoded, infixed, inleb, Role, reference, typeReference, sibling, index, absolute, Token, nothing, number, bounded, forms, signed, link, string, run, block, expression, unknown, Piece, copied, linked, Read, ReadOf, asBytes, width, kindOf, NumberLaw, number-law, numberIn, formsIn, stringIn, asNumber, asBounded, asForms, asSigned, asLink, asString, asBlock, asExpression, copy, tokenIn, bytesOf, pieceBytes, numberBytes, length-number}
-use Rattle.readers.specs.Tokens.{Use, plain, as′, numberAs, tokenOf}
-use Rattle.readers.specs.Operations.{Row, rows, unreadableRow, rowOf, Codes, operations, rowAmong, operationRow}
+use Rattle.readers.specs.Layout.{fixed, leb128, Kind, Encoded, infixed, inleb, Role, reference, typeReference, sibling, index, absolute, Token, nothing, number, bounded, forms, signed, link, string, run, block, expression, unknown, Piece, copied, linked, ReadOf, asBytes, width, kindOf, NumberLaw, number-law, numberIn, formsIn, stringIn, asNumber, asBounded, asForms, asSigned, asLink, asString, asBlock, asExpression, copy, tokenIn, bytesOf, pieceBytes, numberBytes, length-number}
+use Rattle.readers.specs.Tokens.{numberAs, tokenOf}
+use Rattle.readers.specs.Operations.{rows, unreadableRow, rowOf, Codes, operations, rowAmong, operationRow}
 use Rattle.readers.specs.Fields.{size, fieldOf, linkedValue}
 use Rattle.readers.specs.References.{Named, nameIn, namesIn, isAbsolute, anyAbsolute, named, namedType, referenceOf, encodedBy, namesOf}
 use Rattle.readers.specs.declared.cursor.Encoding.{Encoding}
 use Rattle.readers.specs.declared.cursor.Cursor.{Cursor}
 use Rattle.readers.specs.declared.fields.Field.{Field}
-use Rattle.readers.specs.declared.operations.Operation.{Operation}
 use Rattle.readers.specs.declared.expressions.Yield.{Yield}
 use Rattle.readers.specs.declared.expressions.Yield.the-variants.{Reference as Yielded, End}
-use Rattle.readers.proofs.OperationReads.{token1, token2, token3, Held}
+use Rattle.readers.proofs.OperationReads.{token1, token2, token3}
 
 -- ---- names and section offsets of pieces in a row
 

@@ -1,25 +1,23 @@
 -- What an operation that was read is: its code, its three tokens, and the fields that they give (specs/Steps.antt).
-use mathlib.Core.Path.{_≡_, refl, ap, ap₂, sym, _∙_, subst}
-use Prim.Native.Nat.{ℕ, zero, suc, _+_, _-_, _≤_, _<_}
-use mathlib.Core.Bool.{Bool, true, false, not}
-use mathlib.Core.Logic.{_⊎_, inl, inr, ⊎-elim}
+use mathlib.Core.Path.{_≡_, refl, ap, sym, _∙_, subst}
+use Prim.Native.Nat.{ℕ, suc, _+_, _≤_, _<_}
+use mathlib.Core.Bool.{Bool}
 use mathlib.Core.Option.{Option, none, some}
-use mathlib.Core.List.{List, [], _∷_, _++_, append-assoc, append-nil}
+use mathlib.Core.List.{List, [], _∷_, _++_}
 use native.Mathlib.Omega.{arith}
-use lib.ListN.{length, take, drop, getD, length-append, length-take, length-drop}
-use lib.Seq.{length-take-le, drop-drop}
-use lib.Dec.{T, leb, ltb, eqb}
-use mir.Facts.{leb-yes, yes-leb}
-use Rattle.readers.specs.Choice.{pick, pick-yes, pick-no, check, bind, bind-at, bind-none, All, all-some, all-none, all-of, all-check, all-bind, all-triv, Took, took-none, took-add, took-length}
+use lib.ListN.{length, take, drop, length-append, length-drop}
+use lib.Seq.{length-take-le}
+use lib.Dec.{leb}
+use mir.Facts.{leb-yes}
+use Rattle.readers.specs.Choice.{check, bind, bind-at, bind-none, All, all-some, all-none, all-of, all-check, all-bind, all-triv, Took, took-add, took-length}
 use Rattle.readers.specs.Numbers.{Groups, uleb, sleb, fixedValue}
-use Rattle.readers.specs.Layout.{fixed, infixed, Kind, Token, nothing, number, bounded, forms, signed, link, string, run, block, expression, unknown, Layout, done, fail, field, Piece, copied, Read, ReadOf, RunOf, ExpressionReader, asBytes, width, kindOf, NumberLaw, number-law, numberIn, LebLaw, uleb-law, formsIn, stringIn, asNumber, asBounded, asForms, asSigned, asLink, asString, asBlock, asExpression, copy, tokenIn, TokenLaw, token-law, readIn, before, bytesOf, pieceBytes, writeAll, as-bytes-law}
+use Rattle.readers.specs.Layout.{fixed, infixed, Token, nothing, number, bounded, forms, signed, link, string, run, block, expression, unknown, copied, Read, ReadOf, ExpressionReader, asBytes, width, NumberLaw, number-law, numberIn, LebLaw, uleb-law, formsIn, stringIn, asNumber, asBounded, asForms, asSigned, asLink, asString, asBlock, asExpression, copy, tokenIn, TokenLaw, token-law, readIn, before, bytesOf, pieceBytes, as-bytes-law}
 use Rattle.readers.specs.Tokens.{tokenOf, plain}
-use Rattle.readers.specs.Operations.{Row, rowLayout, rowOf, operation, operationRow}
+use Rattle.readers.specs.Operations.{rowLayout, rowOf, operation, operationRow}
 use Rattle.readers.specs.Cursors.{cursor}
 use Rattle.readers.specs.Fields.{size, fieldOf, rowOfReads}
 use Rattle.readers.specs.Steps.{rowOperation, operationOfReads, asOperation, operationAt}
 use Rattle.readers.specs.declared.cursor.Encoding.{Encoding}
-use Rattle.readers.specs.declared.fields.Field.{Field}
 use Rattle.readers.specs.declared.operations.Operation.{Operation}
 use Rattle.readers.specs.declared.operations.OperationRead.{OperationRead}
 use Rattle.readers.specs.declared.operations.OperationRead.the-variants.{Read as Operation′, Unreadable as NoOperation}

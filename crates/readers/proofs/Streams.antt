@@ -2,7 +2,7 @@
 use mathlib.Core.Path.{_≡_, refl, ap, sym, _∙_, subst}
 use Prim.Native.Nat.{ℕ, zero, suc, _+_, _-_, _≤_, _<_}
 use native.Mathlib.Omega.{arith}
-use mathlib.Core.List.{List, [], _∷_}
+use mathlib.Core.List.{List}
 use mathlib.Core.Option.{Option, none, some}
 use mathlib.Core.Logic.{⊎-elim}
 use lib.ListN.{length, drop, length-drop}
@@ -10,7 +10,7 @@ use lib.Dec.{ltb, eqb}
 use mir.Facts.{ltb-yes, ltb-no}
 use Rattle.readers.specs.Choice.{pick, pick-either, either, All}
 use Rattle.readers.specs.Numbers.{uleb}
-use Rattle.readers.specs.Layout.{RunOf, Layout, asBytes, readIn, writeAll, ReadLaw, read-law, as-bytes-law}
+use Rattle.readers.specs.Layout.{RunOf, Layout, asBytes, writeAll, ReadLaw, read-law, as-bytes-law}
 use Rattle.readers.specs.Abbreviations.{attributesFrom}
 use Rattle.readers.specs.Cursors.{cursor, lebAt}
 use Rattle.readers.specs.Entries.{specsLayout, asPast, valuesAt, stepAt}
@@ -28,7 +28,7 @@ use Rattle.readers.specs.declared.abbreviations.Found.the-variants.{Decl
 use Rattle.readers.specs.declared.entries.Entry.{Entry}
 use Rattle.readers.specs.declared.entries.Step.{Step}
 use Rattle.readers.specs.declared.entries.Step.the-variants.{Entry as Entry′, Terminator, End, Unreadable}
-use Rattle.readers.specs.Stream.{Item, entry, terminator, Items, push, onStep, itemsWithin, itemsFrom}
+use Rattle.readers.specs.Stream.{entry, terminator, Items, push, onStep, itemsWithin, itemsFrom}
 
 -- ---- how far values come
 

@@ -1,16 +1,16 @@
 -- One reference after the other (specs/References.antt): together they are the references of the whole expression, nested ones included.
 use mathlib.Core.Path.{_≡_, refl, ap, ap₂, sym, _∙_, subst}
 use Prim.Native.Nat.{ℕ, zero, suc, _+_, _-_, _≤_, _<_}
-use mathlib.Core.Bool.{Bool, true, false, not}
+use mathlib.Core.Bool.{Bool, not}
 use mathlib.Core.Logic.{⊎-elim, _≢_}
 use mathlib.Core.Option.{Option, none, some}
 use mathlib.Core.List.{List, [], _∷_, _++_, append-assoc, append-nil}
 use native.Mathlib.Omega.{arith}
-use lib.ListN.{length, take, drop, length-append, length-drop, drop-of-length-le, take-append-drop}
+use lib.ListN.{length, take, drop, length-append, length-drop, take-append-drop}
 use lib.Seq.{drop-drop, length-take-le, take-take, take-nil, take-length}
 use lib.Dec.{T, leb, ltb, eqb}
-use mir.Facts.{leb-yes, eqb-yes, eqb-no, yes-eqb, no-eqb, no-ltb, yes-ltb, ltb-yes, ltb-no}
-use Rattle.readers.specs.Choice.{pick, pick-yes, pick-no, pick-either, either, bind, bind-at, bind-none, All, all-some, all-none, all-of, all-bind, all-both, all-map, Took, took-length}
+use mir.Facts.{eqb-yes, eqb-no, yes-eqb, no-eqb, no-ltb, yes-ltb, ltb-yes, ltb-no}
+use Rattle.readers.specs.Choice.{pick-yes, pick-no, pick-either, either, bind, bind-none, All, all-some, all-none, all-of, all-bind, all-both, all-map}
 use Rattle.readers.specs.Scan.{Turn, more, stop, bad, Scanned, push, scan, Goes, scan-stop, scan-more}
 use Rattle.readers.specs.Layout.{Piece, width, Read, asBytes, bytesOf, bytes-append, writeAll, readIn, ReadLaw, read-law, as-bytes-law, WholeLaw}
 use Rattle.readers.specs.Operations.{operation}
@@ -27,7 +27,7 @@ use Rattle.readers.specs.declared.operations.OperationRead.the-variants.
 use Rattle.readers.specs.declared.expressions.Reference.{Reference}
 use Rattle.readers.specs.declared.expressions.Yield.{Yield}
 use Rattle.readers.specs.declared.expressions.Yield.the-variants.{Reference as Yielded, End}
-use Rattle.readers.proofs.OperationReads.{Held, Cases, cases, read-four, span, rest-is, past, held-inside, code-is, operation-held, operation-none, operation-inside}
+use Rattle.readers.proofs.OperationReads.{Held, Cases, cases, read-four, span, rest-is, past, held-inside, code-is, operation-held, operation-inside}
 use Rattle.readers.proofs.OperationPieces.{names-append, Wide}
 use Rattle.readers.proofs.Deep.{own, own-names, own-wide, own-size, deep-plain, lead, inner, deep-entry, lead-names, lead-size, inner-size, inner-is, inner-ends, unreadable}
 

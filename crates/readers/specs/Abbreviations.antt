@@ -1,6 +1,6 @@
 -- Abbreviation declarations (DWARF 5, 7.5.3; document 01, "Readers": tag, name and form nonzero, within 16 bits and
 -- at most three bytes each, children byte 0 or 1, no code twice, the list closed by code 0).
-use Prim.Native.Nat.{ℕ, suc, _+_, _-_, _≤_}
+use Prim.Native.Nat.{ℕ, _+_, _-_, _≤_}
 use mathlib.Core.Bool.{Bool, true, false, not}
 use mathlib.Core.Path.{_≡_}
 use mathlib.Core.List.{List, [], _∷_, _++_}

@@ -1,5 +1,5 @@
--- What the definitions are written with: a choice by a Bool, a test that must hold, one reading after another; and laws of readings that may fail,
--- as `All P o`: P holds of what the Option o holds, if it holds something.
+-- What the definitions are written with: a choice by a Bool, a test that must hold, one reading after another; and
+-- laws of readings that may fail, as `All P o`: P holds of what the Option o holds, if it holds something.
 use mathlib.Core.Path.{_≡_, refl, ap, subst, _∙_}
 use mathlib.Core.Bool.{Bool, true, false, not}
 use mathlib.Core.Logic.{_⊎_, inl, inr}
@@ -89,12 +89,14 @@ pub bind-none {ℓ κ} : {A : Type ℓ} {B : Type κ} {o : Option A} (f : A → 
 unfolding bind
 bind-none f e = ap (λ o. bind o f) e
 
-pub bind-cong {ℓ κ} : {A : Type ℓ} {B : Type κ} (P : A → Type 0) (o : Option A) (f g : A → Option B) → All P o → ((a : A) → o ≡ some a → P a → f a ≡ g a) → bind o f ≡ bind o g
+pub bind-cong {ℓ κ} : {A : Type ℓ} {B : Type κ} (P : A → Type 0) (o : Option A) (f g : A → Option B)
+    → All P o → ((a : A) → o ≡ some a → P a → f a ≡ g a) → bind o f ≡ bind o g
 unfolding bind All
 bind-cong P none f g h k = refl
 bind-cong P (some a) f g h k = k a refl h
 
-pub bind-bind {ℓ κ μ} : {A : Type ℓ} {B : Type κ} {C : Type μ} (o : Option A) (f : A → Option B) (g : B → Option C) → bind (bind o f) g ≡ bind o (λ a. bind (f a) g)
+pub bind-bind {ℓ κ μ} : {A : Type ℓ} {B : Type κ} {C : Type μ} (o : Option A) (f : A → Option B) (g : B → Option C)
+    → bind (bind o f) g ≡ bind o (λ a. bind (f a) g)
 unfolding bind
 bind-bind none f g = refl
 bind-bind (some a) f g = refl

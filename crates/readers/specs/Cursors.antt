@@ -1,5 +1,5 @@
 -- What the cursor's methods answer: the definitions, read from a place of a slice on.
-use Prim.Native.Nat.{ℕ, suc, _+_, _*_, _-_, _^_, _/_, _%_}
+use Prim.Native.Nat.{ℕ, suc, _+_, _-_, _^_, _/_, _%_}
 use mathlib.Core.Bool.{Bool}
 use mathlib.Core.List.{List}
 use mathlib.Core.Option.{Option, none, some}

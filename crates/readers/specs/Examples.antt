@@ -2,12 +2,11 @@
 -- expressions, computed by the definitions.
 use mathlib.Core.Path.{_≡_, refl}
 use Prim.Native.Nat.{ℕ, _^_, _-_}
-use mathlib.Core.Bool.{Bool, true, false}
+use mathlib.Core.Bool.{true, false}
 use mathlib.Core.List.{List, [], _∷_}
-use mathlib.Core.Option.{Option, none, some}
-use lib.ListN.{replicate}
+use mathlib.Core.Option.{none, some}
 use Rattle.readers.specs.Choice.{pick, check, bind, _and_, _or_}
-use Rattle.readers.specs.Numbers.{groups, below, uleb, unsigned64, sleb, signed64, negative, ordered, littleValue, fixedValue, padded}
+use Rattle.readers.specs.Numbers.{groups, below, uleb, unsigned64, sleb, signed64, negative, ordered, littleValue, fixedValue}
 use Rattle.readers.specs.Layout.{short, within16, numberIn, width}
 use Rattle.readers.specs.Cursors.{fixedAt, asFixed, lebAt, asLebNumber}
 use Rattle.readers.specs.Scan.{push, onTurn, scanWithin, scan}

@@ -1,19 +1,23 @@
 -- Expressions (DWARF 5, 2.5): operations up to the end of the bytes; an entry value (2.5.1.7) holds an expression.
 -- The laws of layouts hold of expressions too, nested ones included.
-use mathlib.Core.Path.{_≡_, refl, ap, ap₂, sym, _∙_, subst}
-use Prim.Native.Nat.{ℕ, zero, suc, _+_, _-_, _≤_, _<_}
-use mathlib.Core.Bool.{Bool, true, false, not}
+use mathlib.Core.Path.{_≡_, refl, ap, ap₂, sym, _∙_}
+use Prim.Native.Nat.{ℕ, zero, suc, _+_, _≤_, _<_}
+use mathlib.Core.Bool.{Bool}
 use mathlib.Core.Option.{Option, none, some}
-use mathlib.Core.List.{List, [], _∷_, _++_, append-assoc}
+use mathlib.Core.List.{List, [], _∷_, _++_}
 use native.Mathlib.Omega.{arith}
 use lib.ListN.{length, take, drop, length-append, length-take}
 use lib.Seq.{length-take-le}
-use lib.Dec.{T, leb}
-use mir.Facts.{leb-yes}
-use Rattle.readers.specs.Choice.{check, bind, bind-at, bind-cong, check-cong, All, all-some, all-none, all-of, all-bind, all-both, all-map, all-triv, Took, took-length}
+use Rattle.readers.specs.Choice.{bind, bind-at, bind-cong, check-cong, All, all-some, all-none, all-bind, all-both, all-map, all-triv, took-length}
 use Rattle.readers.specs.Numbers.{uleb}
-use Rattle.readers.specs.Layout.{Kind, fixed, leb128, kindOf, width, Encoded, infixed, inleb, Token, nothing, number, bounded, forms, signed, link, string, run, block, expression, unknown, Layout, done, fail, field, Piece, Read, ReadOf, RunOf, ExpressionReader, NumberLaw, number-law, numberIn, asNumber, copy, LebLaw, uleb-law, asExpression, tokenIn, TokenLaw, token-law, readIn, before, ReadLaw, read-law, bytesOf, pieceBytes, writeAll, Patch, patchPieces, patchRead, patchAll, FitPieces, FitAll, WholeLaw, ExpressionLaw, bytes-append, patch-append, fit-append, same-size}
-use Rattle.readers.specs.Operations.{operation, rowLayout, rowOf, operationRow}
+use Rattle.readers.specs.Layout.{fixed, kindOf, width, Encoded, infixed, inleb, Token, nothing, number, bounded}
+use Rattle.readers.specs.Layout.{forms, signed, link, string, run, block, expression, unknown, Layout, done, fail}
+use Rattle.readers.specs.Layout.{field, Piece, Read, ReadOf, RunOf, ExpressionReader, NumberLaw, number-law}
+use Rattle.readers.specs.Layout.{numberIn, asNumber, copy, LebLaw, uleb-law, asExpression, tokenIn, TokenLaw}
+use Rattle.readers.specs.Layout.{token-law, readIn, before, ReadLaw, read-law, bytesOf, pieceBytes, writeAll}
+use Rattle.readers.specs.Layout.{Patch, patchPieces, patchRead, patchAll, FitPieces, FitAll, WholeLaw}
+use Rattle.readers.specs.Layout.{ExpressionLaw, bytes-append, patch-append, fit-append, same-size}
+use Rattle.readers.specs.Operations.{operation}
 use Rattle.readers.specs.declared.cursor.Encoding.{Encoding}
 
 -- ---- the pieces of what was read
@@ -55,7 +59,9 @@ patch-pieces f (r ∷ rs) = patch-append f (r .pieces) (allPieces rs) ∙ ap (λ
 pub fit-pieces : (f : Patch) (rs : List Read) → FitPieces f (allPieces rs) → FitAll f rs
 unfolding allPieces FitAll FitPieces
 fit-pieces f [] h = tt
-fit-pieces f (r ∷ rs) h = let q : FitPieces f (r .pieces) × FitPieces f (allPieces rs) = fit-append f (r .pieces) (allPieces rs) h in (q .0, fit-pieces f rs (q .1))
+fit-pieces f (r ∷ rs) h =
+    let q : FitPieces f (r .pieces) × FitPieces f (allPieces rs) = fit-append f (r .pieces) (allPieces rs) h in
+    (q .0, fit-pieces f rs (q .1))
 
 -- ---- an operation takes at least its code
 
@@ -71,7 +77,8 @@ module _ (b : Bool) (ex : ExpressionReader) where
       all-bind (λ r. 0 < length (bytesOf b (r .0 .pieces))) _ (tokenIn b ex (number (fixed 1)) s) _
       (all-bind (NumberLaw b (fixed 1) s) _ (numberIn b (fixed 1) s) _ (number-law b (fixed 1) s)
       (λ t e q. all-some (λ r. 0 < length (bytesOf b (r .0 .pieces)))
-      (let w : 0 < width (t .0) = one-wide (t .0) (q .0) in omega (arith, length-append (take (width (t .0)) s) [], length-take-le (width (t .0)) s (q .1 .0)))))
+      (let w : 0 < width (t .0) = one-wide (t .0) (q .0) in
+      omega (arith, length-append (take (width (t .0)) s) [], length-take-le (width (t .0)) s (q .1 .0)))))
       (λ r e q. all-bind (λ r′. Unit {0}) _ (readIn b ex (k (r .0 .seen)) (r .1)) _ (all-triv _)
       (λ r′ e′ q′. all-some (λ z. 0 < length (writeAll b (z .0))) (omega (arith, length-append (bytesOf b (r .0 .pieces)) (writeAll b (r′ .0))))))
 
@@ -112,10 +119,16 @@ module _ (e : Encoding) where
             let hh : FitPieces p (allPieces (r .0)) × FitPieces p qs = fit-append p (allPieces (r .0)) qs h in
             let a : List ℕ = writeAll (big e) (patchAll p (r .0)) in
             let b : List ℕ = bytesOf (big e) (patchPieces p qs) in
-            let ea : bytesOf (big e) (patchPieces p (allPieces (r .0))) ≡ a = ap (bytesOf (big e)) (patch-pieces p (r .0)) ∙ write-pieces (big e) (patchAll p (r .0)) in
-            let la : length a ≡ length (writeAll (big e) (r .0)) = ap length (sym ea) ∙ same-size (big e) p (allPieces (r .0)) ∙ ap length (write-pieces (big e) (r .0)) in
-            let en : patchPieces p (allPieces (r .0) ++ qs) ≡ allPieces (patchAll p (r .0)) ++ patchPieces p qs = patch-append p (allPieces (r .0)) qs ∙ ap (λ x. x ++ patchPieces p qs) (patch-pieces p (r .0)) in
-            ap (expressionWithin e (suc f)) (ap (bytesOf (big e)) (patch-append p (allPieces (r .0)) qs) ∙ bytes-append (big e) (patchPieces p (allPieces (r .0))) (patchPieces p qs) ∙ ap (λ x. x ++ b) ea)
+            let ea : bytesOf (big e) (patchPieces p (allPieces (r .0))) ≡ a =
+            ap (bytesOf (big e)) (patch-pieces p (r .0)) ∙ write-pieces (big e) (patchAll p (r .0)) in
+            let la : length a ≡ length (writeAll (big e) (r .0)) =
+            ap length (sym ea) ∙ same-size (big e) p (allPieces (r .0)) ∙ ap length (write-pieces (big e) (r .0)) in
+            let en : patchPieces p (allPieces (r .0) ++ qs) ≡ allPieces (patchAll p (r .0)) ++ patchPieces p qs =
+            patch-append p (allPieces (r .0)) qs ∙ ap (λ x. x ++ patchPieces p qs) (patch-pieces p (r .0)) in
+            ap (expressionWithin e (suc f))
+            (ap (bytesOf (big e)) (patch-append p (allPieces (r .0)) qs)
+            ∙ bytes-append (big e) (patchPieces p (allPieces (r .0))) (patchPieces p qs)
+            ∙ ap (λ x. x ++ b) ea)
             ∙ within-step f (a ++ b) (omega (arith, length-append a b))
             ∙ bind-at _ (q .0 .1 p b (fit-pieces p (r .0) (hh .0)))
             ∙ bind-at _ (q′ .1 p (hh .1))
@@ -156,7 +169,10 @@ module _ (b : Bool) (ex ex′ : ExpressionReader) (lawless : ExpressionLaw b ex�
   token-same n h (block k) s l = refl
   token-same n h expression s l =
       bind-cong (LebLaw uleb s) (uleb s) _ _ (uleb-law s)
-      (λ t e q. check-cong _ _ _ (λ u. ap (λ o. bind o (λ ps. some (record { seen = 0; start = suc (t .0); pieces = Rattle.readers.specs.Layout.copied (take (suc (t .0)) s) ∷ ps }, drop (t .1) (t .2))))
+      (λ t e q. check-cong _ _ _ (λ u. ap (λ o. bind o (λ ps. some (
+        record { seen = 0; start = suc (t .0); pieces = Rattle.readers.specs.Layout.copied (take (suc (t .0)) s) ∷ ps },
+        drop (t .1) (t .2),
+      )))
       (h (take (t .1) (t .2)) (omega (arith, length-take (t .1) (t .2), took-length s (suc (t .0)) (t .2) (q .0))))))
   token-same n h unknown s l = refl
 
@@ -177,7 +193,9 @@ module _ (b : Bool) (ex ex′ : ExpressionReader) (lawless : ExpressionLaw b ex�
       bind-cong (λ r. length (r .1) < length s) (bind (numberIn b (fixed 1) s) (asNumber s)) _ _
       (all-bind (NumberLaw b (fixed 1) s) _ (numberIn b (fixed 1) s) _ (number-law b (fixed 1) s)
       (λ t e q. all-some (λ (r : ReadOf). length (r .1) < length s)
-      (let w : 0 < width (t .0) = one-wide (t .0) (q .0) in let h : width (t .0) ≤ length s = q .1 .0 in omega (arith, lib.ListN.length-drop (width (t .0)) s))))
+      (let w : 0 < width (t .0) = one-wide (t .0) (q .0) in
+      let h : width (t .0) ≤ length s = q .1 .0 in
+      omega (arith, lib.ListN.length-drop (width (t .0)) s))))
       (λ r e q. ap (λ o. bind o (before (r .0))) (read-same (length (r .1)) (λ t l. h t (omega arith)) (k (r .0 .seen)) (r .1) (omega arith)))
 
 module _ (e : Encoding) where

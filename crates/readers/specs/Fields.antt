@@ -8,18 +8,16 @@ use lib.ListN.{length, take, drop}
 use lib.Dec.{leb, eqb}
 use Rattle.readers.specs.Choice.{pick}
 use Rattle.readers.specs.Numbers.{uleb}
-use Rattle.readers.specs.Layout.{Encoded, Role, Piece, copied, linked, Read, ReadOf, RunOf, Token, expression, Layout, asBytes, bytesOf, tokenIn, readIn}
+use Rattle.readers.specs.Layout.{Piece, copied, linked, Read, ReadOf, RunOf, Token, asBytes, bytesOf, tokenIn, readIn}
 use Rattle.readers.specs.Tokens.{plain, bytes, address, offset, tokenOf}
 use Rattle.readers.specs.Operations.{rowLayout, rowOf}
 use Rattle.readers.specs.Cursors.{lebAt, fixedAt}
 use Rattle.readers.specs.declared.cursor.Encoding.{Encoding}
-use Rattle.readers.specs.declared.cursor.Cursor.{Cursor}
 use Rattle.readers.specs.declared.cursor.Number.{Number}
 use Rattle.readers.specs.declared.cursor.Number.the-variants.{Value, Unreadable}
 use Rattle.readers.specs.declared.fields.Field.{Field}
 use Rattle.readers.specs.declared.fields.FieldRead.{FieldRead}
 use Rattle.readers.specs.declared.fields.FieldRead.the-variants.{Read as Field′, Unreadable as NoField}
-use Rattle.readers.specs.declared.fields.Row.{Row}
 use Rattle.readers.specs.declared.fields.RowRead.{RowRead}
 use Rattle.readers.specs.declared.fields.RowRead.the-variants.{Read as Row′, Unreadable as NoRow}
 

@@ -16,7 +16,7 @@ use Rattle.readers.specs.Codes.{«DW_FORM_implicit_const», «DW_FORM_lo
 use Rattle.readers.specs.Codes.{«DW_FORM_ref_sup8», «DW_FORM_strx1», «DW_FORM_strx2», «DW_FORM_strx3»}
 use Rattle.readers.specs.Codes.{«DW_FORM_strx4», «DW_FORM_addrx1», «DW_FORM_addrx2», «DW_FORM_addrx3»}
 use Rattle.readers.specs.Codes.{«DW_FORM_addrx4», «DW_FORM_GNU_str_index»}
-use Rattle.readers.specs.Layout.{Role, reference, sibling, index, absolute, Token, forms, unknown, Layout, done, field}
+use Rattle.readers.specs.Layout.{reference, sibling, index, absolute, Token, forms, unknown, Layout, done, field}
 use Rattle.readers.specs.Tokens.{Use, plain, as′, tokenOf, no-bytes, bytes, address, offset, uleb128, sleb128}
 use Rattle.readers.specs.Tokens.{null-terminated, data16, unreadable, block1, block2, block4, block-uleb128}
 use Rattle.readers.specs.Tokens.{exprloc}
@@ -92,8 +92,8 @@ useOf name f =
     (as′ (index 2))
     plain))))
 
--- The list that an index of a form counts in: rnglistx 0; loclistx 1; strx, strx1 to strx4 and GNU_str_index 2; 3 for
--- a form that is no index.
+-- The list that an index counts in, by its form: rnglistx 0; loclistx 1; strx, strx1 to strx4 and GNU_str_index 2; 3
+-- for a form that is no index.
 unfoldable pub listForm : ℕ → ℕ
 listForm f =
     pick (eqb f «DW_FORM_rnglistx») 0

@@ -1,18 +1,23 @@
--- Layouts: what stands in the bytes, as data. One reader reads every layout, and the laws of reading are proved here once, for all of them:
--- what was read takes so many bytes; it is read so again whatever follows; and patched at its own width it is read again as patched.
+-- Layouts: what stands in the bytes, as data. One reader reads every layout, and the laws of reading are proved here
+-- once, for all of them: what was read takes so many bytes; it is read so again whatever follows; and patched at its
+-- own width it is read again as patched.
 use mathlib.Core.Path.{_≡_, refl, ap, ap₂, sym, _∙_, subst}
-use Prim.Native.Nat.{ℕ, zero, suc, _+_, _*_, _-_, _^_, _≤_, _<_}
-use mathlib.Core.Bool.{Bool, true, false, not}
+use Prim.Native.Nat.{ℕ, zero, suc, _+_, _^_, _≤_, _<_}
+use mathlib.Core.Bool.{Bool, not}
 use mathlib.Core.Option.{Option, none, some}
 use mathlib.Core.List.{List, [], _∷_, _++_, append-assoc, append-nil}
 use native.Mathlib.Omega.{arith}
-use lib.ListN.{length, take, drop, length-append, length-take, length-drop, take-append-drop}
-use lib.Seq.{length-take-le, take-at, drop-at, take-append-le, take-take, take-add, drop-drop}
+use lib.ListN.{length, take, drop, length-append, length-drop}
+use lib.Seq.{length-take-le, take-at, drop-at, take-append-le, take-take, take-add}
 use lib.Dec.{T, leb, ltb, eqb}
 use mir.Facts.{yes-ltb, ltb-yes, yes-leb, leb-yes}
-use Rattle.readers.specs.Choice.{pick, pick-yes, pick-no, check, check-yes, bind, bind-at, bind-none, bind-cong, All, all-some, all-none, all-of, all-pick, all-check, all-bind, all-map, all-triv, Took, took-none, took-add, took-length}
+use Rattle.readers.specs.Choice.{pick, pick-yes, pick-no, check, check-yes, bind, bind-at, bind-none, bind-cong}
+use Rattle.readers.specs.Choice.{All, all-some, all-none, all-of, all-pick, all-check, all-bind, all-map}
+use Rattle.readers.specs.Choice.{all-triv, Took, took-none, took-add, took-length}
 use Rattle.readers.specs.Codes.{«DW_FORM_indirect»}
-use Rattle.readers.specs.Numbers.{Groups, groups, GroupsLaw, groups-law, groups-padded, uleb, unsigned64, sleb, signed64, padded, length-padded, fixedBytes, fixedValue, length-fixed, fixed-value}
+use Rattle.readers.specs.Numbers.{Groups, groups, GroupsLaw, groups-law, groups-padded, uleb, unsigned64, sleb}
+use Rattle.readers.specs.Numbers.{signed64, padded, length-padded, fixedBytes, fixedValue, length-fixed}
+use Rattle.readers.specs.Numbers.{fixed-value}
 
 -- ---- what a layout is made of
 
@@ -26,9 +31,9 @@ pub data Encoded : Type 0 where
   infixed : ℕ → Encoded
   inleb : ℕ → Encoded
 
--- What a number that a rewriting may change stands for: the offset of an entry; such an offset or 0 for none (the type operands of
--- 2.5.1.1 to 2.5.1.3 and 2.5.1.6); DW_AT_sibling's offset; an index into the ranges, locations or strings (0, 1, 2); an offset from
--- the section's start, which no rewriting changes.
+-- What a number that a rewriting may change stands for: the offset of an entry; such an offset or 0 for none (the
+-- type operands of 2.5.1.1 to 2.5.1.3 and 2.5.1.6); DW_AT_sibling's offset; an index into the ranges, locations or
+-- strings (0, 1, 2); an offset from the section's start, which no rewriting changes.
 pub data Role : Type 0 where
   reference : Role
   typeReference : Role
@@ -285,7 +290,8 @@ module _ (big : Bool) where
         λ rest.
             check-yes _ _ u8
             ∙ check-yes _ _ (yes-leb {a = w} {b = length (take w s ++ rest)} (kept-fits s rest w (leb-yes u)))
-            ∙ ap₂ (λ (x : List ℕ) (y : List ℕ). some (infixed w, fixedValue big x, y)) (take-at (take w s) rest w (length-take-le w s (leb-yes u))) (kept-drop s rest w (leb-yes u)),
+            ∙ ap₂ (λ (x : List ℕ) (y : List ℕ). some (infixed w, fixedValue big x, y))
+            (take-at (take w s) rest w (length-take-le w s (leb-yes u))) (kept-drop s rest w (leb-yes u)),
       )))
   number-law leb128 s =
       all-bind (λ t. GroupsLaw 10 s t × (t .1 < 2 ^ 64)) _ (uleb s) _
@@ -362,7 +368,8 @@ short-nil (b ∷ s) h = absurd (let g : suc (length s) ≤ 0 = h in omega arith)
 abbrev pub FormsLaw : List ℕ → ℕ × ℕ → Type 0
 FormsLaw s r = (r .0 ≤ length s) × ((k : ℕ) (rest : List ℕ) → r .0 ≤ k → formsWithin k (take (r .0) s ++ rest) ≡ some (r .0, r .1))
 
-forms-last : (s : List ℕ) (t : Groups) → LebLaw short s t → T (not (eqb (t .1) 0x16)) → (k : ℕ) (rest : List ℕ) → suc (t .0) ≤ k → formsWithin k (take (suc (t .0)) s ++ rest) ≡ some (suc (t .0), t .1)
+forms-last : (s : List ℕ) (t : Groups) → LebLaw short s t → T (not (eqb (t .1) 0x16)) → (k : ℕ) (rest : List ℕ)
+    → suc (t .0) ≤ k → formsWithin k (take (suc (t .0)) s ++ rest) ≡ some (suc (t .0), t .1)
 unfolding formsWithin
 forms-last s t q u zero rest h = absurd (omega arith)
 forms-last s t q u (suc k) rest h = bind-at _ (q .1 rest) ∙ pick-no _ _ _ u
@@ -430,7 +437,9 @@ ExpressionLaw big ex = (s : List ℕ) → All (WholeLaw big ex s) (ex s)
 pub bytes-append : (big : Bool) (ps qs : List Piece) → bytesOf big (ps ++ qs) ≡ bytesOf big ps ++ bytesOf big qs
 unfolding bytesOf
 bytes-append big [] qs = refl
-bytes-append big (p ∷ ps) qs = ap (λ x. pieceBytes big p ++ x) (bytes-append big ps qs) ∙ sym (append-assoc (pieceBytes big p) (bytesOf big ps) (bytesOf big qs))
+bytes-append big (p ∷ ps) qs =
+    ap (λ x. pieceBytes big p ++ x) (bytes-append big ps qs)
+    ∙ sym (append-assoc (pieceBytes big p) (bytesOf big ps) (bytesOf big qs))
 
 pub patch-append : (f : Patch) (ps qs : List Piece) → patchPieces f (ps ++ qs) ≡ patchPieces f ps ++ patchPieces f qs
 unfolding patchPieces
@@ -461,7 +470,8 @@ module _ (big : Bool) where
       → tokenIn big ex t (bytesOf big (patchPieces f (r .0 .pieces)) ++ rest) ≡ some (patchRead f (r .0), rest))
       × ((rest : List ℕ) → tokenIn big ex t (take (length (bytesOf big (r .0 .pieces))) s ++ rest) ≡ some (r .0, rest))
 
-  -- Layouts: what was read is as wide as what was taken; patched it is read again as patched, whatever follows; and it is read so again whatever follows.
+  -- Layouts: what was read is as wide as what was taken; patched it is read again as patched, whatever follows; and
+  -- it is read so again whatever follows.
   abbrev pub ReadLaw : ExpressionReader → Layout → List ℕ → RunOf → Type 0
   ReadLaw ex g s r =
       Took s (length (writeAll big (r .0))) (r .1)
@@ -476,7 +486,9 @@ module _ (big : Bool) where
       let one : take n s ++ [] ≡ take n s = append-nil (take n s) in
       let l : length (take n s ++ []) ≡ n = ap length one ∙ length-take-le n s h in
       let same : (rest : List ℕ) → tokenIn big ex t (take n s ++ rest) ≡ some (record { seen = v; start = k; pieces = copied (take n s) ∷ [] }, rest) =
-      (λ rest. again rest ∙ ap₂ (λ (x y : List ℕ). some (record { seen = v; start = k; pieces = copied x ∷ [] }, y)) (kept-take s rest n h n (omega arith)) (kept-drop s rest n h)) in (
+      (λ rest. again rest
+      ∙ ap₂ (λ (x y : List ℕ). some (record { seen = v; start = k; pieces = copied x ∷ [] }, y))
+      (kept-take s rest n h n (omega arith)) (kept-drop s rest n h)) in (
         rw l (h, refl),
         (λ f rest _. ap (λ x. tokenIn big ex t (x ++ rest)) one ∙ same rest),
         (λ rest. ap (λ m. tokenIn big ex t (take m s ++ rest)) l ∙ same rest),
@@ -489,7 +501,8 @@ module _ (big : Bool) where
 
   -- a length and so many bytes, before any rest
   again-block : (ex : ExpressionReader) (k : Kind) (s : List ℕ) (r : Found) → NumberLaw big k s r → r .1 ≤ length (r .2)
-      → (rest : List ℕ) → tokenIn big ex (block k) (take (width (r .0) + r .1) s ++ rest) ≡ some (copy 0 (width (r .0)) (width (r .0) + r .1) (take (width (r .0) + r .1) s ++ rest))
+      → (rest : List ℕ) → tokenIn big ex (block k) (take (width (r .0) + r .1) s ++ rest)
+      ≡ some (copy 0 (width (r .0)) (width (r .0) + r .1) (take (width (r .0) + r .1) s ++ rest))
   unfolding tokenIn asBlock
   again-block ex k s r q h rest =
       let w : ℕ = width (r .0) in
@@ -541,7 +554,8 @@ module _ (big : Bool) where
         → TokenLaw ex (link k role) s (record { seen = 0; start = 0; pieces = linked (r .0) role (r .1) ∷ [] }, r .2)
     unfolding tokenIn asLink bytesOf pieceBytes patchPieces patchPiece patchRead FitPieces FitPiece
     link-law k role s r q =
-        let n : (v : ℕ) → length (numberBytes big (r .0) v ++ []) ≡ width (r .0) = (λ v. ap length (append-nil (numberBytes big (r .0) v)) ∙ length-number big (r .0) v) in (
+        let n : (v : ℕ) → length (numberBytes big (r .0) v ++ []) ≡ width (r .0) =
+        (λ v. ap length (append-nil (numberBytes big (r .0) v)) ∙ length-number big (r .0) v) in (
           rw (n (r .1)) (q .1),
           (λ f rest fit.
               ap (λ x. bind (numberIn big k (x ++ rest)) (asLink role)) (append-nil (numberBytes big (r .0) (f role (r .1))))
@@ -608,7 +622,9 @@ module _ (big : Bool) where
               ∙ bind-at _ (q′ .1 f rest (h .1))),
           (λ rest.
               ap (λ m. readIn big ex (field t k) (take m s ++ rest)) n
-              ∙ ap (readIn big ex (field t k)) (prefix-split s rest (length a) (length b) (omega arith) ∙ ap (λ x. take (length a) s ++ (take (length b) x ++ rest)) (sym (q .0 .1)))
+              ∙ ap (readIn big ex (field t k))
+              (prefix-split s rest (length a) (length b) (omega arith)
+              ∙ ap (λ x. take (length a) s ++ (take (length b) x ++ rest)) (sym (q .0 .1)))
               ∙ bind-at _ (q .2 (take (length b) (r .1) ++ rest))
               ∙ bind-at _ (q′ .2 rest)),
         )))

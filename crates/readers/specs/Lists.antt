@@ -1,6 +1,5 @@
 -- Where a list starts (DWARF 5, 7.28 and 7.29; document 01, "Roots": what can't be resolved).
 use Prim.Native.Nat.{ℕ, _+_, _*_}
-use mathlib.Core.Bool.{Bool}
 use mathlib.Core.List.{List}
 use lib.ListN.{length}
 use lib.Dec.{leb}

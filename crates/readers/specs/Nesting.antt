@@ -1,7 +1,6 @@
 -- How entries nest (DWARF 5, 2.3): an entry whose declaration says so opens a list of children, a terminator closes
 -- the innermost open one, and one that closes none changes nothing.
-use mathlib.Core.Path.{_≡_, refl, ap, sym, _∙_}
-use Prim.Native.Nat.{ℕ, suc, _+_, _-_, _^_, _≤_, _<_}
+use Prim.Native.Nat.{ℕ, _+_, _-_, _^_}
 use mathlib.Core.Bool.{Bool, true, false}
 use mathlib.Core.List.{List, [], _∷_}
 use lib.ListN.{length, getD}

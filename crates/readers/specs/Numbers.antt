@@ -1,15 +1,15 @@
 -- Numbers as DWARF 5 writes them: LEB128 (7.6), and fixed widths in either byte order (7.5 and its forms).
-use mathlib.Core.Path.{_≡_, refl, ap, ap₂, sym, _∙_, subst}
+use mathlib.Core.Path.{_≡_, refl, ap, ap₂, sym, _∙_}
 use Prim.Native.Nat.{ℕ, zero, suc, _+_, _*_, _-_, _^_, _/_, _%_, _≤_, _<_}
-use mathlib.Core.Bool.{Bool, true, false, not}
+use mathlib.Core.Bool.{Bool, true, false}
 use mathlib.Core.Option.{Option, none, some}
-use mathlib.Core.List.{List, [], _∷_, _++_, reverse, append-assoc, reverse-reverse, reverse-cons}
+use mathlib.Core.List.{List, [], _∷_, _++_, reverse, reverse-reverse, reverse-cons}
 use native.Mathlib.Omega.{arith}
-use lib.ListN.{length, take, drop, length-append, length-reverse}
+use lib.ListN.{length, take, drop, length-reverse}
 use lib.Dec.{T, leb, ltb, lt→ltb}
 use mir.Facts.{yes-ltb, no-ltb, ltb-yes, ltb-no, and-yes, yes-and}
 use lib.Pow.{areBytes}
-use Rattle.readers.specs.Choice.{pick, pick-yes, pick-no, check, check-yes, bind, bind-at, All, all-some, all-none, all-pick, all-check, all-bind}
+use Rattle.readers.specs.Choice.{pick, pick-yes, pick-no, check, bind, bind-at, All, all-some, all-none, all-pick, all-bind}
 
 -- ---- LEB128
 
@@ -67,7 +67,8 @@ groups-padded (suc k) (suc n) v rest hk hv =
     ∙ bind-at (below (128 + v % 128)) (groups-padded k n (v / 128) rest (omega arith) (omega arith))
     ∙ ap (λ (x : ℕ). some (suc n, x, rest)) (omega arith)
 
--- what a number that was read says of the bytes before it: it took suc (t .0) of them, and these, before anything else, are read so again
+-- what a number that was read says of the bytes before it: it took suc (t .0) of them, and these, before anything
+-- else, are read so again
 abbrev pub GroupsLaw : ℕ → List ℕ → Groups → Type 0
 GroupsLaw k s t =
     (t .0 < k) × (suc (t .0) ≤ length s) × (t .2 ≡ drop (suc (t .0)) s)
@@ -192,5 +193,6 @@ pub fixed-bytes : (big : Bool) (s : List ℕ) → T (areBytes s) → (fixedBytes
 unfolding fixedBytes fixedValue
 fixed-bytes big s h =
     let l : length (ordered big s) ≡ length s = length-ordered big s in
-    let p : (littleBytes (length (ordered big s)) (littleValue (ordered big s)) ≡ ordered big s) × (littleValue (ordered big s) < 256 ^ length (ordered big s)) = little-bytes (ordered big s) (are-ordered big s h) in
+    let p : (littleBytes (length (ordered big s)) (littleValue (ordered big s)) ≡ ordered big s)
+    × (littleValue (ordered big s) < 256 ^ length (ordered big s)) = little-bytes (ordered big s) (are-ordered big s h) in
     (ap (λ n. ordered big (littleBytes n (littleValue (ordered big s)))) (sym l) ∙ ap (ordered big) (p .0) ∙ ordered-ordered big s, rw l at (p .1))

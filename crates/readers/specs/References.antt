@@ -4,13 +4,13 @@ use Prim.Native.Nat.{ℕ, _+_, _*_, _-_, _/_, _≤_}
 use mathlib.Core.Bool.{Bool, true, false}
 use mathlib.Core.List.{List, [], _∷_, _++_}
 use mathlib.Core.Option.{Option, none, some}
-use lib.ListN.{length, drop}
+use lib.ListN.{length}
 use lib.Dec.{ltb, leb, eqb}
 use Rattle.readers.specs.Choice.{pick, _or_, zeros}
 use Rattle.readers.specs.Header.{encodingOf}
 use Rattle.readers.specs.Operations.{row-reference2, row-reference4, row-type, row-bytes1-type, row-type-block1}
 use Rattle.readers.specs.Operations.{row-expression, row-offset, row-offset-sleb128}
-use Rattle.readers.specs.Layout.{Encoded, infixed, inleb, width, Role, reference, typeReference, sibling, index}
+use Rattle.readers.specs.Layout.{Encoded, infixed, inleb, width, reference, typeReference, sibling, index}
 use Rattle.readers.specs.Layout.{absolute, Piece, copied, linked, pieceBytes}
 use Rattle.readers.specs.Expression.{expressionIn}
 use Rattle.readers.specs.Scan.{Turn, more, stop, Scanned, scan}

@@ -1,11 +1,11 @@
 -- Reading one thing after another: at a place there is one more thing and the place past it, or the end, or something
 -- unreadable. A count bounds how often; the equation `scan-step` is free of it.
-use mathlib.Core.Path.{_≡_, refl, ap, sym, _∙_}
+use mathlib.Core.Path.{_≡_, refl, ap, _∙_}
 use Prim.Native.Nat.{ℕ, zero, suc, _+_, _-_, _≤_, _<_}
 use native.Mathlib.Omega.{arith}
 use mathlib.Core.Option.{Option, none, some}
 use mathlib.Core.List.{List, [], _∷_}
-use Rattle.readers.specs.Choice.{bind, bind-at}
+use Rattle.readers.specs.Choice.{bind}
 
 pub data Turn (A B : Type 0) : Type 0 where
   more : A → ℕ → Turn A B

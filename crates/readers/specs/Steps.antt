@@ -10,15 +10,12 @@ use Rattle.readers.specs.Codes.{«DW_RLE_end_of_list»}
 use Rattle.readers.specs.Layout.{fixed, number, Layout, done, field, Read, RunOf, asBytes, readIn}
 use Rattle.readers.specs.Operations.{rowLayout, rowOf, operation, operationRow, listRow}
 use Rattle.readers.specs.Cursors.{cursor}
-use Rattle.readers.specs.Fields.{size, fieldOf, rowOfReads}
+use Rattle.readers.specs.Fields.{size, rowOfReads}
 use Rattle.readers.specs.declared.cursor.Encoding.{Encoding}
-use Rattle.readers.specs.declared.fields.Row.{Row}
 use Rattle.readers.specs.declared.fields.RowRead.{RowRead}
 use Rattle.readers.specs.declared.fields.RowRead.the-variants.{Read as Row′, Unreadable as NoRow}
-use Rattle.readers.specs.declared.operations.Operation.{Operation}
 use Rattle.readers.specs.declared.operations.OperationRead.{OperationRead}
 use Rattle.readers.specs.declared.operations.OperationRead.the-variants.{Read as Operation′, Unreadable as NoOperation}
-use Rattle.readers.specs.declared.operations.ListEntry.{ListEntry}
 use Rattle.readers.specs.declared.operations.ListStep.{ListStep}
 use Rattle.readers.specs.declared.operations.ListStep.the-variants.{Entry, End, Unreadable as NoEntry}
 

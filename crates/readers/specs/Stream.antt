@@ -6,7 +6,6 @@ use mathlib.Core.List.{List, [], _∷_}
 use lib.ListN.{length}
 use Rattle.readers.specs.Entries.{stepAt}
 use Rattle.readers.specs.declared.cursor.Encoding.{Encoding}
-use Rattle.readers.specs.declared.cursor.Cursor.{Cursor}
 use Rattle.readers.specs.declared.abbreviations.Found.{Found}
 use Rattle.readers.specs.declared.entries.Entry.{Entry}
 use Rattle.readers.specs.declared.entries.Step.{Step}

@@ -1,9 +1,8 @@
 -- The tokens that forms, operations and list entries are laid out by, each by a number, so that constant tables can
 -- name them.
 use Prim.Native.Nat.{ℕ, suc}
-use mathlib.Core.Bool.{Bool}
 use lib.Dec.{eqb, leb}
-use Rattle.readers.specs.Choice.{pick, _or_}
+use Rattle.readers.specs.Choice.{pick}
 use Rattle.readers.specs.Layout.{Kind, fixed, leb128, Role, Token, nothing, number, bounded, signed, link, string, run, block, expression, unknown}
 use Rattle.readers.specs.declared.cursor.Encoding.{Encoding}
 

@@ -1,5 +1,5 @@
 -- `fill_index` meets its contract. Assumes nothing.
-use mathlib.Core.Path.{ap, sym, _∙_}
+use mathlib.Core.Path.{sym, _∙_}
 use lib.Seq.{length-take-le}
 use Rattle.readers.proofs.Declarations.{refused-not, unreadable-refused, over-filled, filled-index}
 use borrow.Author.Needs.{needs}
