@@ -3,7 +3,7 @@ ghost use mathlib.Core.Path.{_≡_};
 ghost use Prim.Native.Nat.{ℕ, _^_, _≤_, _<_};
 ghost use lib.ListN.{length, getD};
 ghost use Rattle.marking.specs.Marks.{isKept};
-ghost use Rattle.rewriting.specs.Parents.{entriesIn};
+ghost use Rattle.marking.specs.TableRoom.{entryCount};
 ghost use Rattle.rewriting.specs.Ends.{endNumber, EndsHeld};
 ghost use Rattle.rewriting.specs.NextKept.{closesKept, itemsBy, Answers};
 use marking::columns::place;
@@ -102,7 +102,7 @@ pub(crate) fn fill_ends(
     first: UnitOffset,
     ends: &mut [u64],
 )
-    ensures { λ _. ⌜ (length (now (unit .entry)) < 2 ^ 32 → entriesIn (itemsBy r (now (abbreviations .entry)) (now (index .entry)) (now (unit .entry)) (first .0)) ≤ length (now (ends .entry)) → EndsHeld (now (ends .exit)) 0 (itemsBy r (now (abbreviations .entry)) (now (index .entry)) (now (unit .entry)) (first .0))) ⌝ }
+    ensures { λ _. ⌜ (length (now (unit .entry)) < 2 ^ 32 → entryCount (itemsBy r (now (abbreviations .entry)) (now (index .entry)) (now (unit .entry)) (first .0)) ≤ length (now (ends .entry)) → EndsHeld (now (ends .exit)) 0 (itemsBy r (now (abbreviations .entry)) (now (index .entry)) (now (unit .entry)) (first .0))) ⌝ }
 {
     let mut at = Cursor {
         at: first.0 as usize,
