@@ -14,7 +14,7 @@ use Rattle.rewriting.specs.Ascending.{Ascending}
 use Rattle.rewriting.specs.Indices.{rankIn}
 use Rattle.rewriting.specs.Places.{Place, newOf, firstFrom, orElse, siblingOf}
 use Rattle.rewriting.specs.Maps.{oldOffsets}
-use Rattle.rewriting.specs.Written.{numberAt, MapHeld, place, asMapped}
+use Rattle.rewriting.specs.Written.{numberAt, MapHeld, asMapped}
 use Rattle.rewriting.specs.Bounds.{AsDeep, BoundsFrom, Bounds}
 use Rattle.readers.specs.declared.offsets.UnitOffset.{UnitOffset}
 use Rattle.rewriting.specs.declared.map.Mapped.the-variants.{To, Nothing}

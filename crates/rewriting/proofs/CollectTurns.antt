@@ -19,7 +19,7 @@ use Rattle.readers.specs.declared.entries.Step.the-variants.{Entry as Entry′,
 use Rattle.marking.specs.Roots.{entryValues}
 use Rattle.marking.specs.Analysis.{Sections}
 use Rattle.rewriting.specs.Places.{Standing, keptFrom, offsetOf}
-use Rattle.rewriting.specs.Parents.{Chained}
+use Rattle.readers.proofs.Nesting.{Chain}
 use Rattle.rewriting.specs.Indices.{readIndices}
 use Rattle.rewriting.specs.Rewriting.{Unit as Unit′, readsOr, readsAt, indicesFrom}
 use Rattle.rewriting.specs.NextKept.{openKept, itemsBy, ShowsItem, Forward, Stood, keptAt, NextItem, Next, Answers}
@@ -112,7 +112,7 @@ module _ (r : Reading) (s table unit : List ℕ) (k : ℕ) where
         (length list ≡ length list₀) × ((x : Sections) (u : Unit′) → Passable x u r s table unit parents ends marks first → k < 3 → Passing x u list₀ t list n)
 
     pub collecting-start : (list₀ : List ℕ) (n : Nesting) → n ≡ nestingOf [] → Collecting list₀ (record { at = record { at = first }; count = record { 0 = 0 }; nesting = n }) list₀ 0
-    unfolding openKept Chained
+    unfolding openKept Chain
     collecting-start list₀ n m = (
       refl,
       λ x u p l. record {

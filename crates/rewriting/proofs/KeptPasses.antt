@@ -8,7 +8,7 @@ use Rattle.readers.specs.Nesting.{nestingOf}
 use Rattle.readers.specs.Stream.{Item, entry, terminator}
 use Rattle.readers.specs.declared.entries.Nesting.{Nesting}
 use Rattle.rewriting.specs.Places.{Standing, offsetOf, sizeOf, sizeFrom}
-use Rattle.rewriting.specs.Parents.{Chained}
+use Rattle.readers.proofs.Nesting.{Chain}
 use Rattle.rewriting.specs.NextKept.{openKept, ShowsItem, Forward, Stood, keptAt, NextItem, Next, Answers}
 use Rattle.rewriting.specs.Measures.{ColumnsHeld, keptOfUnit, Measures}
 use Rattle.rewriting.specs.declared.kept.Stand.{Stand}
@@ -61,7 +61,7 @@ module _ (items : ℕ → List Item) (parents ends marks unit : List ℕ) where
   -- ---- the start
 
   pub stood-start : (first : ℕ) (n : Nesting) → n ≡ nestingOf [] → ColumnsHeld items parents ends first → Stood items parents ends (stand first 0 n) []
-  unfolding Chained
+  unfolding Chain
   stood-start first n m h =
       record { nested = m; chained = tt; counted = (let z : 0 ≤ 0 = omega arith in z); passed = omega arith; holds = h .0; ends-hold = h .1 }
 

@@ -37,7 +37,7 @@ use Rattle.readers.specs.declared.entries.Step.{Step}
 use Rattle.readers.specs.declared.entries.Step.the-variants.{Entry as Entry′, Terminator, End as StepEnd, Unreadable}
 use Rattle.marking.specs.Marks.{isKept}
 use Rattle.rewriting.specs.Places.{Standing, opened, closed, innermost, withIf, keptFrom}
-use Rattle.rewriting.specs.Parents.{parentsFrom, HoldsFrom, Chained}
+use Rattle.rewriting.specs.Parents.{parentsFrom, HoldsFrom}
 use Rattle.rewriting.specs.Ends.{endNumber, EndsHeld}
 use Rattle.rewriting.specs.NextKept.{openKept, closesKept, ShowsItem, Forward, Stood, keptAt, Next, Answers}
 use Rattle.rewriting.specs.declared.kept.Stand.{Stand}
@@ -89,19 +89,14 @@ open-innermost marks [] = sym (closes-outside marks (nestingOf []) refl)
 open-innermost marks (k ∷ stack) =
     sym (closes-inside marks (nestingOf (k ∷ stack)) _ (λ q. absurd (let z : suc (length stack) ≡ 0 = q in omega arith)) refl)
 
-chain-of : (parents stack : List ℕ) → Chained parents stack → Chain parents stack
-unfolding Chained Chain
-chain-of parents [] h = tt
-chain-of parents (k ∷ stack) h = (h .0, chain-of parents stack (h .1))
-
-chained-open : (parents : List ℕ) (children : Bool) (k : ℕ) (stack : List ℕ) → getD parents k 4294967295 ≡ top stack → Chained parents stack
-    → Chained parents (open′ children k stack)
-unfolding Chained open′
+chained-open : (parents : List ℕ) (children : Bool) (k : ℕ) (stack : List ℕ) → getD parents k 4294967295 ≡ top stack → Chain parents stack
+    → Chain parents (open′ children k stack)
+unfolding Chain open′
 chained-open parents true k stack e h = (e, h)
 chained-open parents false k stack e h = h
 
-chained-close : (parents stack : List ℕ) → Chained parents stack → Chained parents (close stack)
-unfolding Chained close
+chained-close : (parents stack : List ℕ) → Chain parents stack → Chain parents (close stack)
+unfolding Chain close
 chained-close parents [] h = tt
 chained-close parents (k ∷ stack) h = h .1
 
@@ -261,7 +256,7 @@ module _ (e : Encoding) (abbreviations : List ℕ) (look : ℕ → Found) (unit 
     terminator-stood t stack c n q m s =
         let i = terminator-inside e abbreviations look unit (t .at .at) c q in
         record {
-          nested = m ∙ ap (closedBy parents) (s .nested) ∙ closed-is parents stack (chain-of parents stack (s .chained));
+          nested = m ∙ ap (closedBy parents) (s .nested) ∙ closed-is parents stack (s .chained);
           chained = chained-close parents stack (s .chained);
           counted = omega (arith, length-close stack, s .counted);
           passed = omega (arith, s .passed, i .0);

@@ -19,7 +19,7 @@ use Rattle.rewriting.specs.NextKept.{itemsBy}
 use Rattle.rewriting.specs.Written.{runBytes, ListHeld}
 use Rattle.rewriting.specs.Gathering.{Filled}
 use Rattle.rewriting.specs.IndexLists.{ReadAs, Found, Passable, Listing, isAbsent, ListAnswer, isShort}
-use Rattle.rewriting.specs.Emission.{Lent, Lends}
+use Rattle.rewriting.specs.Emission.{Lent}
 use Rattle.rewriting.specs.Outputs.{listCount, listOr, rangesIn, locationsIn, stringsIn}
 use Rattle.rewriting.specs.Leaving.{haveRoom, ListsAnswer}
 use Rattle.rewriting.specs.declared.kept.Reading.{Reading}

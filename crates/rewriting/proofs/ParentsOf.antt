@@ -19,7 +19,8 @@ use Rattle.marking.specs.declared.roots.Verdict.{Verdict}
 use Rattle.marking.specs.declared.roots.Verdict.the-variants.{Live, Dead, Refused as Failed}
 use Rattle.marking.specs.Analysis.{Sections, Rooms, Row, Analysed, analysed, refused, onto, onVerdict, onFound, Reached, reached, startOf, rootOf, namesOf, baseOf, analyseItems, onDeclared, unitAnalysed}
 use Rattle.marking.specs.Columns.{parentsIn, padTo}
-use Rattle.rewriting.specs.Parents.{parentsFrom, entriesIn, HoldsFrom}
+use Rattle.marking.specs.TableRoom.{entryCount}
+use Rattle.rewriting.specs.Parents.{parentsFrom, HoldsFrom}
 
 -- ---- what holds of the rows of an analysis, if it has any
 
@@ -53,11 +54,11 @@ rows-map P Q (refused n) h q = tt
 -- the rows of items from entry k on
 pub record RowsOf (k : ℕ) (stack : List ℕ) (items : List Item) (rows : List Row) : Type 0 where
   pub parents : parentsIn rows ≡ parentsFrom k stack items
-  pub many : length rows ≡ entriesIn items
+  pub many : length rows ≡ entryCount items
 
 module _ (e : Encoding) (x : Sections) (unit : List ℕ) (room : Rooms) where
   rows-of : (p : Reached) (items : List Item) (whole : Bool) → Rows (RowsOf (p .count) (p .stack) items) (analyseItems e x unit room p items whole)
-  unfolding Rows analyseItems parentsIn parentsFrom entriesIn
+  unfolding Rows analyseItems parentsIn parentsFrom entryCount
   rows-of p [] true = record { parents = refl; many = refl }
   rows-of p [] false = tt
   rows-of p (terminator a b ∷ rest) whole =

@@ -21,7 +21,7 @@ use Rattle.rewriting.specs.Maps.{oldOffsets}
 use Rattle.rewriting.specs.Written.{put, numberAt, Held, columns, MapHeld, place, withPlace, asMapped, oldAt, newAt, depthAt, halved, foundAt, lookedUp}
 use Rattle.readers.specs.declared.offsets.UnitOffset.{UnitOffset}
 use Rattle.rewriting.specs.declared.map.Mapped.the-variants.{To, Nothing}
-use Rattle.rewriting.proofs.Tables.{in-room, room-in, no-room, held-at, held-more, length-put}
+use Rattle.rewriting.proofs.Tables.{in-room, held-at, held-more, length-put}
 use Rattle.rewriting.proofs.Ranks.{rank-is, rank-most, halved-rank}
 
 -- ---- columns

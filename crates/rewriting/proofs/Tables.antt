@@ -13,7 +13,7 @@ use mir.Facts.{yes-ltb, no-ltb}
 use Rattle.readers.specs.Choice.{pick-yes, pick-no, zeros}
 use Rattle.readers.specs.Numbers.{fixedBytes, fixedValue, length-fixed, fixed-value}
 use Rattle.marking.specs.Members.{Member, here, there}
-use Rattle.rewriting.specs.Written.{put, numberAt, inRoom, runBytes, Held}
+use Rattle.rewriting.specs.Written.{put, numberAt, inRoom, runBytes, Held, oldAt}
 use Rattle.marking.proofs.Members.{nothing-in}
 use Rattle.rewriting.proofs.Putting.{drop-zeros}
 
@@ -40,6 +40,11 @@ no-room i n x h = sym (pick-no _ _ _ (no-ltb {a = i} {b = n} h))
 -- of an index list
 pub number-there : (list : List ℕ) (i r : ℕ) → r ≡ inRoom i (length list / 8) (numberAt 8 list (8 * i)) → i < length list / 8 → r ≡ numberAt 8 list (8 * i)
 number-there list i r e h = in-room i (length list / 8) _ r e h
+
+-- of a map, at the first byte of a place
+pub first-byte : (map : List ℕ) (i r : ℕ) → r ≡ inRoom i (length map / 12) (numberAt 4 map (12 * i + 0)) → r ≡ oldAt map i
+unfolding oldAt
+first-byte map i r q = q ∙ ap (λ n. inRoom i (length map / 12) (numberAt 4 map n)) (let e : 12 * i + 0 ≡ 12 * i = omega arith in e)
 
 module _ (w : ℕ) where
   pub length-run : (xs : List ℕ) → length (runBytes w xs) ≡ w * length xs

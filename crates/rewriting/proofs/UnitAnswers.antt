@@ -20,7 +20,8 @@ use Rattle.marking.proofs.Rows.{unit-rows}
 use Rattle.marking.specs.Marks.{isKept, keptCount}
 use Rattle.marking.specs.Resolution.{marksIn}
 use Rattle.rewriting.specs.Places.{Standing, withIf, opened, closed, innermost, keptFrom}
-use Rattle.rewriting.specs.Parents.{parentsFrom, entriesIn, HoldsFrom}
+use Rattle.marking.specs.TableRoom.{entryCount}
+use Rattle.rewriting.specs.Parents.{parentsFrom, HoldsFrom}
 use Rattle.rewriting.specs.Ends.{EndsHeld}
 use Rattle.rewriting.specs.NextKept.{itemsBy}
 use Rattle.rewriting.specs.Rewriting.{Unit as Unit′, Lists, Room, Collected, untouched, rewritten, refused, itemsIn, listsOf, listsFit, orRefused, rewriteOf, marksCollected}
@@ -136,17 +137,17 @@ module _ (x : Sections) (tables : Rooms) (section : List ℕ) (h : UnitHeader) (
   below = let l : length (take (h .end) section) < 0xfffffff4 = law .short in let z : length unit < 2 ^ 32 = omega (arith, length-unit) in z
 
   -- the column of ends has room for all entries
-  entries-fit : entriesIn (itemsBy how s index unit (h .first .0)) ≤ length ends
+  entries-fit : entryCount (itemsBy how s index unit (h .first .0)) ≤ length ends
   unfolding itemsIn
   entries-fit =
-      let many : length rows ≡ entriesIn (itemsIn x own) =
+      let many : length rows ≡ entryCount (itemsIn x own) =
       parents-of (h .encoding) x (take (h .end) section) tables (h .abbreviations) (h .first .0) rows unit-analysed ds (w .declared-are) .many in
       let few : length rows ≤ tables .entries = unit-rows (h .encoding) x (take (h .end) section) tables (h .abbreviations) (h .first .0) rows unit-analysed .entries in
-      let same : entriesIn (itemsBy how s index unit (h .first .0)) ≡ entriesIn (itemsIn x own) = ap entriesIn (items-are x own how s index unit read-as found) in
+      let same : entryCount (itemsBy how s index unit (h .first .0)) ≡ entryCount (itemsIn x own) = ap entryCount (items-are x own how s index unit read-as found) in
       omega (arith, w .ends-room)
 
   abbrev pub FilledBy : List ℕ → Type 0
-  FilledBy ends′ = length unit < 2 ^ 32 → entriesIn (itemsBy how s index unit (h .first .0)) ≤ length ends → EndsHeld ends′ 0 (itemsBy how s index unit (h .first .0))
+  FilledBy ends′ = length unit < 2 ^ 32 → entryCount (itemsBy how s index unit (h .first .0)) ≤ length ends → EndsHeld ends′ 0 (itemsBy how s index unit (h .first .0))
 
   pub unit-passes : (ends′ : List ℕ) → FilledBy ends′ → Passable x own how s index unit parents ends′ marks (h .first .0)
   unit-passes ends′ fe =
@@ -185,7 +186,7 @@ rewrite-lists x room u entries kept l items f n =
 
 module _ (t : Bool) (section : List ℕ) (h : UnitHeader) (s index parents ends marks : List ℕ) (entries kept : ℕ) (map ranges locations strings out unit : List ℕ) (is : unit ≡ take (h .end) section)
     (ends′ : List ℕ)
-    (fe : length unit < 2 ^ 32 → entriesIn (itemsBy (reading (h .abbreviations) (h .encoding)) s index unit (h .first .0)) ≤ length ends → EndsHeld ends′ 0 (itemsBy (reading (h .abbreviations) (h .encoding)) s index unit (h .first .0)))
+    (fe : length unit < 2 ^ 32 → entryCount (itemsBy (reading (h .abbreviations) (h .encoding)) s index unit (h .first .0)) ≤ length ends → EndsHeld ends′ 0 (itemsBy (reading (h .abbreviations) (h .encoding)) s index unit (h .first .0)))
     (listed : Listed) (ranges′ locations′ strings′ : List ℕ)
     (il : (x : Sections) (u : Unit′) → Passable x u (reading (h .abbreviations) (h .encoding)) s index unit parents ends′ marks (h .first .0) → h .first .0 ≡ u .header .first .0
     → ranges ≡ zeros (length ranges) → locations ≡ zeros (length locations) → strings ≡ zeros (length strings)

@@ -7,12 +7,13 @@ use lib.ListN.{length}
 use lib.Dec.{eqb}
 use Rattle.readers.specs.Choice.{pick}
 use Rattle.readers.specs.Nesting.{nestingOf}
+use Rattle.readers.proofs.Nesting.{Chain}
 use Rattle.readers.specs.Abbreviations.{findAt}
 use Rattle.readers.specs.Stream.{Item, entry, terminator, itemsFrom}
 use Rattle.readers.specs.declared.entries.Nesting.{Nesting}
 use Rattle.marking.specs.Marks.{isKept}
 use Rattle.rewriting.specs.Places.{Standing, keptFrom}
-use Rattle.rewriting.specs.Parents.{parentsFrom, HoldsFrom, Chained}
+use Rattle.rewriting.specs.Parents.{parentsFrom, HoldsFrom}
 use Rattle.rewriting.specs.Ends.{EndsHeld}
 use Rattle.rewriting.specs.declared.kept.Reading.{Reading}
 use Rattle.rewriting.specs.declared.kept.Stand.{Stand}
@@ -47,7 +48,7 @@ module _ (items : ℕ → List Item) (parents ends : List ℕ) where
   -- a pass stands where these entries are open, the innermost first, and the columns hold the parents and the ends from here on
   pub record Stood (s : Stand) (stack : List ℕ) : Type 0 where
     pub nested : s .nesting ≡ nestingOf stack
-    pub chained : Chained parents stack
+    pub chained : Chain parents stack
     pub counted : length stack ≤ s .count .0
     pub passed : s .count .0 ≤ s .at .at
     pub holds : HoldsFrom parents (s .count .0) (parentsFrom (s .count .0) stack (items (s .at .at)))

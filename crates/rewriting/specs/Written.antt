@@ -108,6 +108,12 @@ pub record ListHeld (xs bytes : List ℕ) : Type 0 where
   pub held : Held 8 xs bytes
   pub ascending : Ascending xs
 
+-- the last number moves down to a place, and those from there on move up
+abbrev pub MovesLast : ℕ → ℕ → List ℕ → List ℕ → Type 0
+MovesLast at count list after =
+    (xs : List ℕ) (v : ℕ) → Held 8 (xs ++ (v ∷ [])) list → count ≡ suc (length xs) → at ≤ length xs
+    → Held 8 (take at xs ++ (v ∷ drop at xs)) after
+
 -- one number more: how many there are then, and the list, which is as it was where it has no room
 pub record Inserted (xs : List ℕ) (value : ℕ) (list : List ℕ) (count : ℕ) (after : List ℕ) : Type 0 where
   pub counted : count ≡ length (insert value xs)

@@ -3,7 +3,7 @@ ghost use mathlib.Core.Path.{_≡_};
 ghost use Prim.Native.Nat.{ℕ, _^_, _≤_, _<_};
 ghost use lib.ListN.{length, getD};
 ghost use Rattle.marking.specs.Marks.{isKept};
-ghost use Rattle.rewriting.specs.Parents.{entriesIn};
+ghost use Rattle.marking.specs.TableRoom.{entryCount};
 ghost use Rattle.rewriting.specs.Ends.{endNumber, EndsHeld};
 ghost use Rattle.rewriting.specs.NextKept.{closesKept, itemsBy, Answers};
 use marking::columns::place;
@@ -105,7 +105,7 @@ pub(crate) fn fill_ends(
 )
     ensures { λ _. ⌜
         (let items = itemsBy r (now (abbreviations .entry)) (now (index .entry)) (now (unit .entry)) (first .0) in
-        length (now (unit .entry)) < 2 ^ 32 → entriesIn items ≤ length (now (ends .entry))
+        length (now (unit .entry)) < 2 ^ 32 → entryCount items ≤ length (now (ends .entry))
         → EndsHeld (now (ends .exit)) 0 items)
         ⌝ }
 {
