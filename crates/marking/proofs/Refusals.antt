@@ -1,13 +1,13 @@
 -- "A refusal carries a number of document 01": the root test's is 5 or 6, the references' 5 or 7, the analysis' one of 1 to 7, 10 and 11, `mark`'s 16. Assumes nothing.
 use mathlib.Core.Path.{_≡_, refl, ap, sym, _∙_, subst}
-use Prim.Native.Nat.{ℕ, zero, suc, _+_}
+use Prim.Native.Nat.{ℕ, zero, suc}
 use native.Mathlib.Omega.{arith}
 use mathlib.Core.Bool.{Bool, true, false}
 use mathlib.Core.List.{List, [], _∷_}
 use mathlib.Core.Option.{Option, none, some}
-use lib.ListN.{length, take}
-use lib.Dec.{T, ltb, leb}
-use Rattle.readers.specs.Choice.{pick, pick-either, _and_, _or_}
+use lib.ListN.{take}
+use lib.Dec.{T}
+use Rattle.readers.specs.Choice.{pick-either, _and_, _or_}
 use Rattle.readers.specs.RefusalNumbers.{OneOf}
 use Rattle.readers.specs.Header.{headerOf}
 use Rattle.readers.specs.Abbreviations.{Placed, declaredIn, abbreviationsOf}
@@ -30,8 +30,8 @@ use Rattle.readers.specs.declared.attributes.Attribute.{Attribute}
 use Rattle.readers.proofs.Refusals.{isOneOf, areOf, one-of, wider, HeaderNumbered, header-numbered}
 use Rattle.marking.specs.declared.addresses.AddressLookup.{AddressLookup}
 use Rattle.marking.specs.declared.addresses.AddressLookup.the-variants.{Live as Alive, Dead as NotAlive, Fails}
-use Rattle.marking.specs.declared.roots.Verdict.{Verdict}
-use Rattle.marking.specs.declared.roots.Verdict.the-variants.{Live, Dead, Refused as Failed}
+use Rattle.marking.specs.declared.root_test.Verdict.{Verdict}
+use Rattle.marking.specs.declared.root_test.Verdict.the-variants.{Live, Dead, Refused as Failed}
 use Rattle.marking.specs.declared.units.UnitMarks.{UnitMarks}
 use Rattle.marking.specs.declared.units.UnitMarks.the-variants.{Marked, Refused as Refused″}
 use Rattle.marking.specs.declared.marks.Marked.{Marked as Marked′}

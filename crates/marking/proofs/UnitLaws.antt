@@ -33,8 +33,8 @@ use Rattle.marking.specs.Analysis.{Sections, Rooms, Row, Analysed, analy
 use Rattle.marking.specs.Columns.{offsetsIn}
 use Rattle.marking.specs.Resolution.{graphOf, marksIn, unitMarks, Ascending}
 use Rattle.marking.specs.UnitSurvivors.{Tested, RowOf, RowsOf, unitItems, FirstUnit, GraphSays, SurvivorsOf, MarkedUnit}
-use Rattle.marking.specs.declared.roots.Verdict.{Verdict}
-use Rattle.marking.specs.declared.roots.Verdict.the-variants.{Live, Dead}
+use Rattle.marking.specs.declared.root_test.Verdict.{Verdict}
+use Rattle.marking.specs.declared.root_test.Verdict.the-variants.{Live, Dead}
 use Rattle.marking.specs.declared.units.UnitMarks.the-variants.{Marked}
 use Rattle.marking.proofs.Graphs.{WellFormed, well-formed}
 use Rattle.marking.proofs.KeptMarks.{marked-kept, kept-marked}

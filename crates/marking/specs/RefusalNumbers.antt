@@ -1,6 +1,6 @@
 -- The numbers that the calls of this crate refuse with (document 01, "Operations and their numbers").
 use Prim.Native.Nat.{ℕ}
-use mathlib.Core.List.{List, [], _∷_}
+use mathlib.Core.List.{[], _∷_}
 use Rattle.readers.specs.RefusalNumbers.{OneOf}
 
 -- "root test 5 (unreadable list or expression) or 6 (address table fails)"

@@ -25,8 +25,8 @@ use Rattle.marking.specs.Marks.{isKept, keptCount, Says}
 use Rattle.marking.specs.EntryReferences.{found}
 use Rattle.marking.specs.Analysis.{Sections, Rooms, Row, analysed, analysisOf, rootOf, namesOf, baseOf}
 use Rattle.marking.specs.Resolution.{graphOf, marksIn}
-use Rattle.marking.specs.declared.roots.Verdict.{Verdict}
-use Rattle.marking.specs.declared.roots.Verdict.the-variants.{Live, Dead}
+use Rattle.marking.specs.declared.root_test.Verdict.{Verdict}
+use Rattle.marking.specs.declared.root_test.Verdict.the-variants.{Live, Dead}
 
 -- ---- the least set, by the rows
 
