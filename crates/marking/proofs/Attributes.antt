@@ -16,7 +16,6 @@ use Rattle.readers.proofs.Values as Values
 use Rattle.readers.proofs.Values.{behindForms, attribute-direct, attribute-indirect}
 use Rattle.readers.specs.declared.cursor.Number.{Number}
 use Rattle.readers.specs.declared.cursor.Number.the-variants.{Value, Unreadable as NoNumber}
-use Rattle.readers.specs.declared.fields.Field.{Field}
 use Rattle.readers.specs.declared.fields.FieldRead.{FieldRead}
 use Rattle.readers.specs.declared.fields.FieldRead.the-variants.{Read as Field′, Unreadable as NoField}
 use Rattle.readers.specs.Entries.{attributeAt, valuesAt}
@@ -35,7 +34,6 @@ use Rattle.readers.specs.declared.attributes.AttributeRead.the-variants.{Read a
 use Rattle.marking.specs.Roots.{Valued, onSpec, specsWithin, specsFrom, onAttribute, valuesOf, entryValues, taken, takenBy, nextAttribute}
 use Rattle.marking.specs.ReferenceTable.{endBy}
 use Rattle.marking.specs.declared.root_test.EntryAttribute.{EntryAttribute}
-use Rattle.marking.specs.declared.root_test.NextAttribute.{NextAttribute}
 use Rattle.marking.specs.declared.root_test.NextAttribute.the-variants.{More, NoMore}
 
 -- ---- specifications

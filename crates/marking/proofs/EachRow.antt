@@ -17,8 +17,8 @@ use Rattle.readers.specs.declared.entries.Entry.{Entry}
 use Rattle.readers.specs.declared.header.UnitHeader.{UnitHeader}
 use Rattle.readers.specs.declared.header.HeaderRead.the-variants.{Unit as Unit′}
 use Rattle.marking.specs.EntryReferences.{Found, found, refused as refusedAfter}
-use Rattle.marking.specs.declared.roots.Verdict.{Verdict}
-use Rattle.marking.specs.declared.roots.Verdict.the-variants.{Live, Dead, Refused as Failed}
+use Rattle.marking.specs.declared.root_test.Verdict.{Verdict}
+use Rattle.marking.specs.declared.root_test.Verdict.the-variants.{Live, Dead, Refused as Failed}
 use Rattle.marking.specs.Analysis.{Sections, Rooms, Row, Analysed, analysed, onVerdict, onFound, Reached, reached, startOf, analyseItems, onDeclared, unitAnalysed, headerAnalysed, analysisOf, rootOf, namesOf, baseOf}
 use Rattle.marking.specs.EntryRows.{Tested, RowOf, RowsOf, unitItems}
 use Rattle.marking.proofs.Rows.{Gives, gives-of, gives-onto, gives-map, gives-refused, UnitRows, unit-rows}

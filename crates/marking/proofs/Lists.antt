@@ -24,10 +24,10 @@ use Rattle.marking.specs.Walking.{go, stop, onNext, walk, Forward, walk-
 use Rattle.marking.specs.Roots.{Flagged, place, Turn, toward, turnOf, onLookup, rangeEntry, rangeStep, rangesLive, olderStep, olderLive, operationStep, locationLive}
 use Rattle.marking.specs.declared.addresses.AddressLookup.{AddressLookup}
 use Rattle.marking.specs.declared.addresses.AddressLookup.the-variants.{Live, Dead, Fails}
-use Rattle.marking.specs.declared.roots.RangeTurn.{RangeTurn}
-use Rattle.marking.specs.declared.roots.RangeTurn.the-variants.{On, Decided}
-use Rattle.marking.specs.declared.roots.Verdict.{Verdict}
-use Rattle.marking.specs.declared.roots.Verdict.the-variants.{Live as isLive, Dead as isDead, Refused as refused}
+use Rattle.marking.specs.declared.root_test.RangeTurn.{RangeTurn}
+use Rattle.marking.specs.declared.root_test.RangeTurn.the-variants.{On, Decided}
+use Rattle.marking.specs.declared.root_test.Verdict.{Verdict}
+use Rattle.marking.specs.declared.root_test.Verdict.the-variants.{Live as isLive, Dead as isDead, Refused as refused}
 
 -- ---- the older test
 

@@ -1,8 +1,8 @@
 -- The root test's loops over an entry's attributes, one turn at a time. Assumes nothing.
-use mathlib.Core.Path.{_≡_, refl, ap, sym, _∙_}
-use Prim.Native.Nat.{ℕ, _+_, _-_, _≤_, _<_}
+use mathlib.Core.Path.{_≡_, ap, sym, _∙_}
+use Prim.Native.Nat.{ℕ, _+_, _-_, _<_}
 use native.Mathlib.Omega.{arith}
-use mathlib.Core.Bool.{Bool, true, false}
+use mathlib.Core.Bool.{Bool, false}
 use mathlib.Core.List.{List, [], _∷_}
 use lib.ListN.{length}
 use lib.Dec.{eqb}
@@ -20,8 +20,8 @@ use Rattle.marking.specs.Roots.{Valued, orElse, lowPc, lowPcs, locationL
 use Rattle.marking.specs.declared.root_test.EntryAttribute.{EntryAttribute}
 use Rattle.marking.specs.declared.root_test.NextAttribute.{NextAttribute}
 use Rattle.marking.specs.declared.root_test.NextAttribute.the-variants.{More, NoMore}
-use Rattle.marking.specs.declared.roots.Verdict.{Verdict}
-use Rattle.marking.specs.declared.roots.Verdict.the-variants.{Live as isLive, Dead as isDead, Refused as refused}
+use Rattle.marking.specs.declared.root_test.Verdict.{Verdict}
+use Rattle.marking.specs.declared.root_test.Verdict.the-variants.{Live as isLive, Dead as isDead, Refused as refused}
 use Rattle.readers.proofs.Tokens.{Inside}
 use Rattle.marking.proofs.Attributes.{valued, stepped, stepped-on, no-more}
 use Rattle.marking.proofs.Lists.{rangesFrom, ranges-start}

@@ -20,8 +20,8 @@ use Rattle.readers.specs.declared.header.HeaderRead.{HeaderRead}
 use Rattle.readers.specs.declared.header.HeaderRead.the-variants.{Unit as Unit′, Empty, Refused}
 use Rattle.marking.specs.Roots.{Valued, rangesBy, rootTest, baseAfter, entryValues}
 use Rattle.marking.specs.EntryReferences.{Found, found, refused as refusedAfter, locationsBy, attributesFound}
-use Rattle.marking.specs.declared.roots.Verdict.{Verdict}
-use Rattle.marking.specs.declared.roots.Verdict.the-variants.{Live, Dead, Refused as Failed}
+use Rattle.marking.specs.declared.root_test.Verdict.{Verdict}
+use Rattle.marking.specs.declared.root_test.Verdict.the-variants.{Live, Dead, Refused as Failed}
 use Rattle.readers.specs.Stream.{Item, entry, terminator, itemsFrom}
 
 -- what a unit is read by: the other sections, already relocated, the address table, and the base of older range lists

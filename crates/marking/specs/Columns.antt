@@ -19,8 +19,8 @@ use Rattle.readers.specs.declared.header.UnitHeader.{UnitHeader}
 use Rattle.readers.specs.declared.header.HeaderRead.{HeaderRead}
 use Rattle.readers.specs.declared.header.HeaderRead.the-variants.{Unit as Unit′, Empty, Refused}
 use Rattle.marking.specs.EntryReferences.{Found, found, refused as refusedAfter}
-use Rattle.marking.specs.declared.roots.Verdict.{Verdict}
-use Rattle.marking.specs.declared.roots.Verdict.the-variants.{Live, Dead, Refused as Failed}
+use Rattle.marking.specs.declared.root_test.Verdict.{Verdict}
+use Rattle.marking.specs.declared.root_test.Verdict.the-variants.{Live, Dead, Refused as Failed}
 use Rattle.marking.specs.ReferenceTable.{placed, tableAfter}
 use Rattle.marking.specs.Analysis.{Rooms, rooms, Row, Analysed, analysed, refused}
 use Rattle.marking.specs.declared.analysis.EntryAnalysis.{EntryAnalysis}

@@ -1,8 +1,7 @@
 -- The references of an entry (document 01, "References"; gc.rs: `scan_live_die_attrs`, `scan_loclist_for_refs`): every
 -- one that its attributes hold, in attribute order, repeats and dangling ones included; 5 and 7 as they are met.
-use mathlib.Core.Path.{_≡_, refl}
 use Prim.Native.Nat.{ℕ}
-use mathlib.Core.Bool.{Bool, true, false, not}
+use mathlib.Core.Bool.{true, false, not}
 use mathlib.Core.List.{List, [], _∷_, _++_}
 use lib.ListN.{length}
 use lib.Dec.{leb, eqb}

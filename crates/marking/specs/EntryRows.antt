@@ -12,8 +12,8 @@ use Rattle.readers.specs.declared.entries.Entry.{Entry}
 use Rattle.readers.specs.declared.header.UnitHeader.{UnitHeader}
 use Rattle.marking.specs.EntryReferences.{found}
 use Rattle.marking.specs.Analysis.{Sections, Row, rootOf, namesOf, baseOf}
-use Rattle.marking.specs.declared.roots.Verdict.{Verdict}
-use Rattle.marking.specs.declared.roots.Verdict.the-variants.{Live, Dead}
+use Rattle.marking.specs.declared.root_test.Verdict.{Verdict}
+use Rattle.marking.specs.declared.root_test.Verdict.the-variants.{Live, Dead}
 
 -- a root test's verdict as a row has it: 1 for a root, 0 for none; a refusal has no row
 abbrev pub Tested : Verdict → ℕ → Type 0

@@ -1,13 +1,13 @@
 -- The scan of references computed, by the definitions alone (docs/DECISIONS.md has the points).
 use mathlib.Core.Path.{_≡_, refl}
-use mathlib.Core.List.{List, [], _∷_, _++_}
+use mathlib.Core.List.{[], _∷_}
 use Rattle.readers.specs.Choice.{pick, check, bind, _and_, _or_}
 use Rattle.readers.specs.Numbers.{groups, below, uleb, unsigned64, ordered, littleValue, fixedValue}
 use Rattle.readers.specs.Layout.{asBytes, width, asLeb, copy, asNumber, asLink, asBounded, asBlock, asExpression}
 use Rattle.readers.specs.Layout.{before, numberIn, tokenIn, readIn, numberBytes, pieceBytes, bytesOf}
 use Rattle.readers.specs.Tokens.{numberAs, tokenOf}
 use Rattle.readers.specs.Operations.{unreadableRow, rows, rowOf, rowLayout, operations, rowAmong, operationRow}
-use Rattle.readers.specs.Operations.{operation, rangeEntries, locationEntries, listRow}
+use Rattle.readers.specs.Operations.{operation, locationEntries, listRow}
 use Rattle.readers.specs.Expression.{allPieces, andRest, expressionWithin, expressionIn}
 use Rattle.readers.specs.References.{nameIn, namesIn, isAbsolute, anyAbsolute, asWalk, walkOf, namesOr, referencesIn}
 use Rattle.readers.specs.Cursors.{cursor}

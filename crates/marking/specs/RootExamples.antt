@@ -4,14 +4,14 @@ use mathlib.Core.Path.{_≡_, refl}
 use Prim.Native.Nat.{ℕ}
 use mathlib.Core.List.{List, [], _∷_}
 use Rattle.readers.specs.Choice.{pick, check, bind, _and_, _or_}
-use Rattle.readers.specs.Numbers.{groups, below, uleb, unsigned64, sleb, signed64, negative, padded, ordered}
+use Rattle.readers.specs.Numbers.{groups, below, uleb, unsigned64, padded, ordered}
 use Rattle.readers.specs.Numbers.{littleValue, fixedValue}
-use Rattle.readers.specs.Layout.{within16, short, asBytes, width, asLeb, stringIn, copy, asNumber, asLink, asBounded}
-use Rattle.readers.specs.Layout.{asSigned, asString, asBlock, asExpression, before, numberIn, tokenIn, readIn}
+use Rattle.readers.specs.Layout.{within16, short, asBytes, width, asLeb, copy, asNumber, asLink, asBounded}
+use Rattle.readers.specs.Layout.{asBlock, asExpression, before, numberIn, tokenIn, readIn}
 use Rattle.readers.specs.Layout.{numberBytes, pieceBytes, bytesOf}
 use Rattle.readers.specs.Tokens.{numberAs, tokenOf}
 use Rattle.readers.specs.Operations.{unreadableRow, rows, rowOf, rowLayout, operations, rowAmong, operationRow}
-use Rattle.readers.specs.Operations.{operation, rangeEntries, locationEntries, listRow}
+use Rattle.readers.specs.Operations.{operation, rangeEntries, listRow}
 use Rattle.readers.specs.Forms.{formTokens, tokenAmong, formToken, useOf, valueToken, attributeLayout}
 use Rattle.readers.specs.Cursors.{asLebNumber, lebAt, fixedAt, asFixed}
 use Rattle.readers.specs.Fields.{linkedValue, size, fieldOf, rowOfReads, partOf}
@@ -27,8 +27,8 @@ use Rattle.marking.specs.Roots.{orElse, onLookup, rangeEntry, rangeStep,
 use Rattle.marking.specs.Roots.{olderStep, olderLive, lowPc, Valued, onAttribute, valuesOf, onSpec, specsWithin}
 use Rattle.marking.specs.Roots.{specsFrom, entryValues, lowPcs, locations, rangesBy, otherRanges, rangesOf}
 use Rattle.marking.specs.Roots.{firstRanges, rootTest, baseFrom, baseAfter}
-use Rattle.marking.specs.declared.roots.Verdict.{Verdict}
-use Rattle.marking.specs.declared.roots.Verdict.the-variants.{Live, Dead, Refused}
+use Rattle.marking.specs.declared.root_test.Verdict.{Verdict}
+use Rattle.marking.specs.declared.root_test.Verdict.the-variants.{Live, Dead, Refused}
 
 -- the list with index 0 of a section: a header of twelve bytes, a table of one offset, and the list
 ranged : List ℕ → List ℕ → Verdict

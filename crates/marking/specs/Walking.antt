@@ -1,6 +1,6 @@
 -- Going on from one state to the next until an answer: a list or an expression that is read up to what decides. A count
 -- bounds how often; the equation `walk-step` is free of it.
-use mathlib.Core.Path.{_≡_, refl, ap, sym, _∙_}
+use mathlib.Core.Path.{_≡_, refl}
 use Prim.Native.Nat.{ℕ, zero, suc, _+_, _-_, _≤_, _<_}
 use native.Mathlib.Omega.{arith}
 

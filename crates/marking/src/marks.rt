@@ -6,12 +6,13 @@ ghost use lib.ListN.{length, replicate};
 ghost use Rattle.marking.specs.Below.{every, tab};
 ghost use Rattle.marking.specs.Graph.{graph, parentFits, pairFits, rootFits, takes as takesOf};
 ghost use Rattle.marking.specs.Marks.{answerOf, endMarks, keptCount};
-ghost use Rattle.marking.specs.Passes.{Pass, WithParents, WithPairs, WithBoth, DownAt, AlongAt, UpAt, Down};
-ghost use Rattle.marking.specs.Passes.{Along, Up, Settled, ParentsFit, PairsFit, startMark, namesFirst, endFirst};
+ghost use Rattle.marking.specs.Passes.{Pass, WithParents, WithPairs, WithBoth, Along, Up, Settled, ParentsFit};
+ghost use Rattle.marking.specs.Passes.{PairsFit, startMark, namesFirst, endFirst};
+use crate::rules::NO_PARENT;
+use crate::rules::along_at;
+use crate::rules::down;
+use crate::rules::up_at;
 use crate::spread::spread;
-
-// What stands for the parent of an entry that has none.
-const NO_PARENT: u32 = 0xffff_ffff;
 
 // ---- what is taken
 
@@ -87,93 +88,7 @@ fn takes(parents: &[u32], pairs: &[u32], roots: &[u8], n: usize) -> bool
     roots_fit(roots)
 }
 
-// ---- one mark
-
-// Entry i becomes live where its parent is.
-pub(crate) fn down_at(parents: &[u32], marks: &mut [u8], i: usize) -> bool
-    requires { ⌜ ParentsFit (now parents) (now marks) ⌝ }
-    requires { ⌜ i < length (now marks) ⌝ }
-    ensures { λ r. ⌜ Pass (WithParents (now (parents .entry)))
-        (DownAt (now (parents .entry)) (now (marks .entry)) i)
-        (now (marks .entry)) (now (marks .exit)) r ⌝ }
-{
-    let p = parents[i];
-    if p == NO_PARENT {
-        return false;
-    }
-    let q = p as usize;
-    if marks[q] < 3 {
-        return false;
-    }
-    if marks[i] >= 3 {
-        return false;
-    }
-    marks[i] = 3;
-    true
-}
-
-// What reference j names becomes live where its holder is kept, retained or live.
-pub(crate) fn along_at(pairs: &[u32], marks: &mut [u8], j: usize) -> bool
-    requires { ⌜ PairsFit (now pairs) (now marks) ⌝ }
-    requires { ⌜ j < length (now pairs) / 2 ⌝ }
-    ensures { λ r. ⌜ Pass (WithPairs (now (pairs .entry)))
-        (AlongAt (now (pairs .entry)) (now (marks .entry)) j)
-        (now (marks .entry)) (now (marks .exit)) r ⌝ }
-{
-    let s = pairs[2 * j] as usize;
-    if marks[s] < 2 {
-        return false;
-    }
-    let t = pairs[2 * j + 1] as usize;
-    if marks[t] >= 3 {
-        return false;
-    }
-    marks[t] = 3;
-    true
-}
-
-// The parent of entry i is retained where i is kept.
-pub(crate) fn up_at(parents: &[u32], marks: &mut [u8], i: usize) -> bool
-    requires { ⌜ ParentsFit (now parents) (now marks) ⌝ }
-    requires { ⌜ i < length (now marks) ⌝ }
-    ensures { λ r. ⌜ Pass (WithParents (now (parents .entry)))
-        (UpAt (now (parents .entry)) (now (marks .entry)) i)
-        (now (marks .entry)) (now (marks .exit)) r ⌝ }
-{
-    if marks[i] < 2 {
-        return false;
-    }
-    let p = parents[i];
-    if p == NO_PARENT {
-        return false;
-    }
-    let q = p as usize;
-    if marks[q] >= 2 {
-        return false;
-    }
-    marks[q] = 2;
-    true
-}
-
 // ---- one pass; each answers whether a mark rose
-
-// From parent to child, the first entry first, so that one pass reaches every depth.
-pub(crate) fn down(parents: &[u32], marks: &mut [u8]) -> bool
-    requires { ⌜ ParentsFit (now parents) (now marks) ⌝ }
-    ensures { λ r. ⌜ Pass (WithParents (now (parents .entry)))
-        (Down (now (parents .entry)) (now (marks .entry)))
-        (now (marks .entry)) (now (marks .exit)) r ⌝ }
-{
-    let mut changed = false;
-    let mut i = 0;
-    while i < marks.len() {
-        if down_at(parents, marks, i) {
-            changed = true;
-        }
-        i += 1;
-    }
-    changed
-}
 
 // Along the references, in their order.
 fn along(pairs: &[u32], marks: &mut [u8]) -> bool

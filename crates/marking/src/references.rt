@@ -1,7 +1,6 @@
 // The references of an entry, into a lent table of offsets. scan_live_die_attrs and scan_loclist_for_refs have the
 // names of their originals in gc.rs.
 ghost use mathlib.Core.Path.{_≡_};
-ghost use mathlib.Core.List.{[], _∷_};
 ghost use lib.ListN.{length, set};
 ghost use Rattle.readers.specs.Abbreviations.{specAt};
 ghost use Rattle.readers.specs.Entries.{valuesAt};

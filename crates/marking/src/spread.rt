@@ -1,15 +1,14 @@
 // The marks of a unit spread by a work list, so that the rounds that follow find nothing to do. What is proved of it is
 // that each mark it raises is justified; that it raises all of them is left to the rounds. So nothing is known of what
 // the work column holds: each number taken from it is tested.
-ghost use mathlib.Core.Path.{_≡_};
 ghost use Prim.Native.Nat.{_/_, _<_, _≤_};
 ghost use lib.ListN.{length};
 ghost use Rattle.marking.specs.Passes.{WithParents, WithBoth, ParentsFit, PairsFit, Spread};
 use crate::columns::place;
-use crate::marks::along_at;
-use crate::marks::down;
-use crate::marks::down_at;
-use crate::marks::up_at;
+use crate::rules::along_at;
+use crate::rules::down;
+use crate::rules::down_at;
+use crate::rules::up_at;
 use readers::offsets::EntryIndex;
 
 // ---- the work column: for each entry the end of its descendants, then a stack of entries; `top` is past the stack

@@ -15,8 +15,8 @@ use Rattle.readers.specs.declared.cursor.Encoding.{Encoding}
 use Rattle.readers.proofs.Declarations.{find-plain}
 use Rattle.readers.proofs.Streams.{items-look}
 use Rattle.marking.specs.EntryReferences.{Found, found, refused as refusedAfter}
-use Rattle.marking.specs.declared.roots.Verdict.{Verdict}
-use Rattle.marking.specs.declared.roots.Verdict.the-variants.{Live, Dead, Refused as Failed}
+use Rattle.marking.specs.declared.root_test.Verdict.{Verdict}
+use Rattle.marking.specs.declared.root_test.Verdict.the-variants.{Live, Dead, Refused as Failed}
 use Rattle.marking.specs.Analysis.{Sections, Rooms, Row, Analysed, analysed, refused, onto, onVerdict, onFound, Reached, reached, startOf, rootOf, namesOf, baseOf, analyseItems, onDeclared, unitAnalysed}
 use Rattle.marking.specs.Columns.{parentsIn, padTo}
 use Rattle.marking.specs.TableRoom.{entryCount}

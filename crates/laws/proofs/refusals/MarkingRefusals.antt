@@ -30,8 +30,8 @@ use Rattle.readers.specs.declared.attributes.Attribute.{Attribute}
 use Rattle.laws.proofs.refusals.ReaderRefusals.{isOneOf, areOf, one-of, wider, HeaderNumbered, header-numbered}
 use Rattle.marking.specs.declared.addresses.AddressLookup.{AddressLookup}
 use Rattle.marking.specs.declared.addresses.AddressLookup.the-variants.{Live as Alive, Dead as NotAlive, Fails}
-use Rattle.marking.specs.declared.roots.Verdict.{Verdict}
-use Rattle.marking.specs.declared.roots.Verdict.the-variants.{Live, Dead, Refused as Failed}
+use Rattle.marking.specs.declared.root_test.Verdict.{Verdict}
+use Rattle.marking.specs.declared.root_test.Verdict.the-variants.{Live, Dead, Refused as Failed}
 use Rattle.marking.specs.declared.units.UnitMarks.{UnitMarks}
 use Rattle.marking.specs.declared.units.UnitMarks.the-variants.{Marked, Refused as Refused″}
 use Rattle.marking.specs.declared.marks.Marked.{Marked as Marked′}

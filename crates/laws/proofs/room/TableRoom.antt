@@ -23,8 +23,8 @@ use Rattle.readers.specs.declared.header.HeaderRead.{HeaderRead}
 use Rattle.readers.specs.declared.header.HeaderRead.the-variants.{Unit as Unit′, Empty, Refused}
 use Rattle.laws.proofs.refusals.ReaderRefusals.{isOneOf, areOf, one-of, wider, HeaderNumbered, header-numbered}
 use Rattle.marking.specs.EntryReferences.{Found, found, refused as refusedAfter}
-use Rattle.marking.specs.declared.roots.Verdict.{Verdict}
-use Rattle.marking.specs.declared.roots.Verdict.the-variants.{Live, Dead, Refused as Failed}
+use Rattle.marking.specs.declared.root_test.Verdict.{Verdict}
+use Rattle.marking.specs.declared.root_test.Verdict.the-variants.{Live, Dead, Refused as Failed}
 use Rattle.marking.specs.Analysis.{Sections, Rooms, Row, Analysed, analysed, refused, onto, onVerdict, onFound, Reached, reached, startOf, rootOf, namesOf, baseOf, analyseItems, onDeclared, unitAnalysed, headerAnalysed, analysisOf}
 use Rattle.marking.specs.Columns.{namesIn}
 use Rattle.laws.specs.RefusalNumbers.{InputRefusal}

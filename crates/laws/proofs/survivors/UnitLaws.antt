@@ -35,8 +35,8 @@ use Rattle.marking.specs.Columns.{offsetsIn}
 use Rattle.marking.specs.Resolution.{graphOf, marksIn, unitMarks, Ascending}
 use Rattle.laws.specs.UnitSurvivors.{FirstUnit, GraphSays, SurvivorsOf, MarkedUnit}
 use Rattle.marking.specs.EntryRows.{Tested, RowOf, RowsOf, unitItems}
-use Rattle.marking.specs.declared.roots.Verdict.{Verdict}
-use Rattle.marking.specs.declared.roots.Verdict.the-variants.{Live, Dead}
+use Rattle.marking.specs.declared.root_test.Verdict.{Verdict}
+use Rattle.marking.specs.declared.root_test.Verdict.the-variants.{Live, Dead}
 use Rattle.marking.specs.declared.units.UnitMarks.the-variants.{Marked}
 use Rattle.marking.proofs.Graphs.{WellFormed, well-formed}
 use Rattle.laws.proofs.survivors.KeptMarks.{marked-kept, kept-marked}

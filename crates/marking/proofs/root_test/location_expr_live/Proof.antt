@@ -5,8 +5,8 @@ use lib.ListN.{length}
 use borrow.Author.Needs.{needs}
 use Rattle.marking.specs.Roots.{locationLive}
 use Rattle.marking.proofs.Lists.{locationFrom, location-start, location-live, location-dead, location-none, location-less, location-on, index-met, index-passed, index-refused}
-use Rattle.marking.proofs.roots.location_expr_live.Statement.{statement}
-use Rattle.marking.proofs.roots.location_expr_live.Tie as tie
+use Rattle.marking.proofs.root_test.location_expr_live.Statement.{statement}
+use Rattle.marking.proofs.root_test.location_expr_live.Tie as tie
 
 abbrev Inv-loop : tie.InvT-loop
 Inv-loop s table e c₀ live₀ c live = locationLive e table s ≡ locationFrom e table s (c .at) live

@@ -4,8 +4,8 @@ use Prim.Native.Nat.{_-_}
 use lib.ListN.{length}
 use borrow.Author.Needs.{needs}
 use Rattle.marking.proofs.Lists.{olderFrom, older-on, older-less, older-other, older-end, older-none}
-use Rattle.marking.proofs.roots.ranges_has_live_entry.Statement.{statement}
-use Rattle.marking.proofs.roots.ranges_has_live_entry.Tie as tie
+use Rattle.marking.proofs.root_test.ranges_has_live_entry.Statement.{statement}
+use Rattle.marking.proofs.root_test.ranges_has_live_entry.Tie as tie
 
 abbrev Inv-loop : tie.InvT-loop
 Inv-loop ranges e c₀ c = olderFrom e ranges (c₀ .at) ≡ olderFrom e ranges (c .at)

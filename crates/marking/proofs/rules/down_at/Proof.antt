@@ -2,8 +2,8 @@
 use native.Mathlib.Omega.{arith}
 use borrow.Author.Needs.{needs}
 use Rattle.marking.proofs.Passes.{parent-before, down-none, down-low, down-high, down-raise}
-use Rattle.marking.proofs.marks.down_at.Statement.{statement}
-use Rattle.marking.proofs.marks.down_at.Tie as tie
+use Rattle.marking.proofs.rules.down_at.Statement.{statement}
+use Rattle.marking.proofs.rules.down_at.Tie as tie
 
 mul-p : tie.Need-mul-p
 mul-p c = search needs

@@ -1,8 +1,8 @@
 -- `range_entry` answers an entry of a range list by its kind. Assumes nothing.
 use borrow.Author.Needs.{needs}
 use Rattle.marking.proofs.Verdicts.{base-live, base-dead, base-fails, start-live, start-dead, start-fails, pair-dead, pair-live, base-address, left-out, kept}
-use Rattle.marking.proofs.roots.range_entry.Statement.{statement}
-use Rattle.marking.proofs.roots.range_entry.Tie as tie
+use Rattle.marking.proofs.root_test.range_entry.Statement.{statement}
+use Rattle.marking.proofs.root_test.range_entry.Tie as tie
 
 lookup-requires : tie.Need-lookup-requires
 lookup-requires c κs = search needs

@@ -2,8 +2,8 @@
 use mathlib.Core.Logic.{⊎-elim}
 use borrow.Author.Needs.{needs}
 use Rattle.marking.proofs.Verdicts.{address-dead, address-live, form-low, form-high, form-addrx, form-sized, index-live, index-dead, index-fails}
-use Rattle.marking.proofs.roots.low_pc.Statement.{statement}
-use Rattle.marking.proofs.roots.low_pc.Tie as tie
+use Rattle.marking.proofs.root_test.low_pc.Statement.{statement}
+use Rattle.marking.proofs.root_test.low_pc.Tie as tie
 
 is-tombstone-requires : tie.Need-is-tombstone-requires
 is-tombstone-requires c κs = search needs

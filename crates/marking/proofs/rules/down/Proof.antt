@@ -6,8 +6,8 @@ use native.Mathlib.Omega.{arith}
 use lib.ListN.{length}
 use Rattle.marking.specs.Passes.{Pass, WithParents, DownAt}
 use Rattle.marking.proofs.Passes.{idle, turned, weaken, or-now, or-then}
-use Rattle.marking.proofs.marks.down.Statement.{statement}
-use Rattle.marking.proofs.marks.down.Tie as tie
+use Rattle.marking.proofs.rules.down.Statement.{statement}
+use Rattle.marking.proofs.rules.down.Tie as tie
 
 abbrev Inv-loop : tie.InvT-loop
 Inv-loop parents marks₀ changed₀ i₀ marks changed i = (i ≤ length marks₀) × (length marks ≡ length marks₀) × Pass (WithParents parents) ((k : ℕ) → k < i → DownAt parents marks₀ k) marks₀ marks changed

@@ -3,8 +3,8 @@ use Prim.Native.Nat.{_+_, _*_}
 use native.Mathlib.Omega.{arith}
 use borrow.Author.Needs.{needs}
 use Rattle.marking.proofs.Passes.{pair-inside, along-low, along-high, along-raise}
-use Rattle.marking.proofs.marks.along_at.Statement.{statement}
-use Rattle.marking.proofs.marks.along_at.Tie as tie
+use Rattle.marking.proofs.rules.along_at.Statement.{statement}
+use Rattle.marking.proofs.rules.along_at.Tie as tie
 
 mul-s : tie.Need-mul-s
 mul-s c = search needs

@@ -2,8 +2,8 @@
 use native.Mathlib.Omega.{arith}
 use borrow.Author.Needs.{needs}
 use Rattle.marking.proofs.Passes.{parent-before, up-none, up-low, up-high, up-raise}
-use Rattle.marking.proofs.marks.up_at.Statement.{statement}
-use Rattle.marking.proofs.marks.up_at.Tie as tie
+use Rattle.marking.proofs.rules.up_at.Statement.{statement}
+use Rattle.marking.proofs.rules.up_at.Tie as tie
 
 slice-read-if1 : tie.Need-slice-read-if1
 slice-read-if1 c = search needs
