@@ -6,9 +6,9 @@ use mathlib.Core.Bool.{Bool}
 use mathlib.Core.List.{List, [], _∷_}
 use mathlib.Core.Option.{Option, none, some}
 use lib.ListN.{length}
-use lib.Dec.{leb}
-use mir.Facts.{leb-yes, leb-no}
-use Rattle.readers.specs.Choice.{pick-either, zeros}
+use lib.Dec.{leb, eqb}
+use mir.Facts.{leb-yes, leb-no, eqb-yes, eqb-no, yes-eqb, no-eqb}
+use Rattle.readers.specs.Choice.{pick-yes, pick-no, pick-either, zeros}
 use Rattle.readers.specs.Abbreviations.{Placed, abbreviationsOf, indexOf}
 use Rattle.readers.specs.Header.{headerOf}
 use Rattle.readers.specs.declared.header.UnitHeader.{UnitHeader}
@@ -18,61 +18,57 @@ use Rattle.marking.specs.Analysis.{Sections, Rooms, Row, Analysed, analysed, re
 use Rattle.marking.specs.Columns.{padTo, column, parentsIn, indexAfter, least, roomsOf, unitRooms}
 use Rattle.marking.specs.Marks.{keptCount}
 use Rattle.marking.specs.Resolution.{marksIn, unitMarks}
+use Rattle.marking.specs.declared.units.UnitMarks.{UnitMarks}
 use Rattle.marking.specs.declared.units.UnitMarks.the-variants.{Marked, Refused as NotMarked}
 use Rattle.rewriting.specs.Rewriting.{Room, Collected, untouched, rewritten, refused, noLists, rowsCollected, analysedCollected, declaredCollected, headerCollected, collectOf}
 use Rattle.rewriting.specs.Outputs.{roomBy, answerFor, mapFor, outputFor, listOr, listFor, rangesIn, locationsIn, stringsIn}
-use Rattle.rewriting.specs.Leaving.{Accepts, Answers, ownUnit, Tabled, Blank, markedOf}
+use Rattle.rewriting.specs.Leaving.{Accepts, Answers, leftBy, headerTask, taskOf, MarkedTables, ownUnit, Tabled, Blank, markedOf}
 use Rattle.rewriting.specs.declared.collect.Counts.{Counts}
 use Rattle.rewriting.specs.declared.collect.Collected.{Collected as Answer}
 use Rattle.rewriting.specs.declared.collect.Collected.the-variants.{Untouched, Rewritten, Refused}
+use Rattle.rewriting.specs.declared.collect.Task.{Task}
+use Rattle.rewriting.specs.declared.collect.Task.the-variants.{Done, Rewrite}
 use Rattle.marking.proofs.UnitMarkings.{marks-each}
-
--- ---- the answer says what there is
-
-pub accepts-untouched : (c : Collected) (r : Answer) (k : Counts) → r ≡ answerFor c → r ≡ Untouched k → Accepts c
-unfolding answerFor Accepts
-accepts-untouched (untouched n l) r k p q = tt
-accepts-untouched (rewritten w) r k p q = tt
-accepts-untouched (refused n) r k p q = let z : _≡_ {A = ℕ} 0 1 = cc in absurd (omega arith)
-
-pub accepts-rewritten : (c : Collected) (r : Answer) (k : Counts) → r ≡ answerFor c → r ≡ Rewritten k → Accepts c
-unfolding answerFor Accepts
-accepts-rewritten (untouched n l) r k p q = tt
-accepts-rewritten (rewritten w) r k p q = tt
-accepts-rewritten (refused n) r k p q = let z : _≡_ {A = ℕ} 0 1 = cc in absurd (omega arith)
-
-pub is-refused : (c : Collected) (r : Answer) (k : ℕ) → r ≡ answerFor c → r ≡ Refused k → c ≡ refused k
-unfolding answerFor
-is-refused (untouched n l) r k p q = let z : _≡_ {A = ℕ} 0 1 = cc in absurd (omega arith)
-is-refused (rewritten w) r k p q = let z : _≡_ {A = ℕ} 0 1 = cc in absurd (omega arith)
-is-refused (refused n) r k p q = let z : n ≡ k = cc in ap (λ (m : ℕ). refused m) z
 
 -- ---- slices that were cleared
 
 pub cleared : (n m : ℕ) (s : List ℕ) → s ≡ zeros n → n ≡ m → s ≡ zeros m
 cleared n m s p q = p ∙ ap (λ (k : ℕ). zeros k) q
 
--- after a refusal
-module _ (c : Collected) (k : ℕ) (h : c ≡ refused k) (n m : ℕ) (s : List ℕ) (z : s ≡ zeros n) (q : n ≡ m) where
-  pub map-cleared : s ≡ mapFor m c
-  unfolding mapFor
-  map-cleared = cleared n m s z q ∙ sym (ap (mapFor m) h)
+module _ (r : Answer) where
+  pub left-untouched : (k : Counts) → r ≡ Untouched k → (s : List ℕ) → s ≡ leftBy r s
+  unfolding leftBy
+  left-untouched k q s = sym (ap (λ (y : Answer). leftBy y s) q)
 
-  pub ranges-cleared : s ≡ listFor rangesIn m c
-  unfolding listFor
-  ranges-cleared = cleared n m s z q ∙ sym (ap (listFor rangesIn m) h)
+  pub left-rewritten : (k : Counts) → r ≡ Rewritten k → (s : List ℕ) → s ≡ leftBy r s
+  unfolding leftBy
+  left-rewritten k q s = sym (ap (λ (y : Answer). leftBy y s) q)
 
-  pub locations-cleared : s ≡ listFor locationsIn m c
-  unfolding listFor
-  locations-cleared = cleared n m s z q ∙ sym (ap (listFor locationsIn m) h)
+  pub left-refused : (k : ℕ) → r ≡ Refused k → (s s′ : List ℕ) → s′ ≡ zeros (length s) → s′ ≡ leftBy r s
+  unfolding leftBy
+  left-refused k q s s′ z = z ∙ sym (ap (λ (y : Answer). leftBy y s) q)
 
-  pub strings-cleared : s ≡ listFor stringsIn m c
-  unfolding listFor
-  strings-cleared = cleared n m s z q ∙ sym (ap (listFor stringsIn m) h)
+-- a slice that holds what is said of an accepted answer, and is zeros after a refusal
+left-as : (f : Collected → List ℕ) (n : ℕ) → ((k : ℕ) → f (refused k) ≡ zeros n) → (c : Collected) (r : Answer) → r ≡ answerFor c
+    → (s : List ℕ) → length s ≡ n → (Accepts c → s ≡ f c) → leftBy r s ≡ f c
+unfolding leftBy answerFor Accepts
+left-as f n z (untouched k l) r p s q a = ap (λ (y : Answer). leftBy y s) p ∙ a tt
+left-as f n z (rewritten w) r p s q a = ap (λ (y : Answer). leftBy y s) p ∙ a tt
+left-as f n z (refused k) r p s q a = ap (λ (y : Answer). leftBy y s) p ∙ ap (λ (y : ℕ). zeros y) q ∙ sym (z k)
 
-  pub output-cleared : s ≡ outputFor m c
-  unfolding outputFor
-  output-cleared = cleared n m s z q ∙ sym (ap (outputFor m) h)
+pub outputs-left : (c : Collected) (r : Answer) (m rs ls ss o : ℕ) (map ranges locations strings out : List ℕ)
+    → Answers c r m rs ls ss o map ranges locations strings out
+    → length map ≡ m → length ranges ≡ rs → length locations ≡ ls → length strings ≡ ss → length out ≡ o
+    → (leftBy r map ≡ mapFor m c) × (leftBy r ranges ≡ listFor rangesIn rs c) × (leftBy r locations ≡ listFor locationsIn ls c)
+    × (leftBy r strings ≡ listFor stringsIn ss c) × (leftBy r out ≡ outputFor o c)
+unfolding mapFor listFor outputFor
+outputs-left c r m rs ls ss o map ranges locations strings out a em er el es eo = (
+  left-as (mapFor m) m (λ k. refl) c r (a .told) map em (a .map-left),
+  left-as (listFor rangesIn rs) rs (λ k. refl) c r (a .told) ranges er (a .ranges-left),
+  left-as (listFor locationsIn ls) ls (λ k. refl) c r (a .told) locations el (a .locations-left),
+  left-as (listFor stringsIn ss) ss (λ k. refl) c r (a .told) strings es (a .strings-left),
+  left-as (outputFor o) o (λ k. refl) c r (a .told) out eo (a .out-left),
+)
 
 -- ---- the parts
 
@@ -240,68 +236,178 @@ ends-enough marks pairs offsets parents roots ends targets =
     let z : least marks (least (least offsets parents) (least roots ends)) ≤ ends = omega arith in
     z
 
--- the tables that marking leaves
-module _ (x : Sections) (tables : Rooms) (section : List ℕ) (h : UnitHeader) (ds : List Placed) (rows : List Row) (q : headerOf section ≡ Header′ h)
-    (d : abbreviationsOf (x .abbreviations) (h .abbreviations) ≡ some ds) (a : analysisOf x section tables ≡ analysed rows) where
-  pub tabled : (n index : _) → index ≡ indexAfter (x .abbreviations) (headerOf section) n → length index ≡ n
-      → (m parents : _) → parents ≡ column parentsIn m (analysisOf x section tables) → length parents ≡ m
-      → (k marks : _) → marks ≡ column marksIn k (analysisOf x section tables) → length marks ≡ k
-      → (entries kept : ℕ) → entries ≡ length (marksIn rows) → kept ≡ keptCount (marksIn rows)
-      → (ends : List ℕ) → tables .entries ≤ length ends → Tabled x tables section h ds rows (x .abbreviations) index parents ends marks entries kept
-  unfolding indexAfter column
-  tabled n index i il m parents p pl k marks w wl entries kept e f ends g =
-      record {
-        abbreviations-are = refl;
-        header-is = q;
-        declared-are = d;
-        analysis-is = a;
-        index-is = i ∙ ap (λ (o : HeaderRead). indexAfter (x .abbreviations) o n) q ∙ ap (indexOf (x .abbreviations) (h .abbreviations)) (sym il);
-        parents-are = p ∙ ap (column parentsIn m) a ∙ ap (λ (z : ℕ). padTo z (parentsIn rows)) (sym pl);
-        marks-are = w ∙ ap (column marksIn k) a ∙ ap (λ (z : ℕ). padTo z (marksIn rows)) (sym wl);
-        ends-room = g;
-        entries-are = e;
-        kept-are = f;
-      }
+-- ---- by the tables that marking leaves
 
-pub blank : (m r l s o : ℕ) (map ranges locations strings out : List ℕ) → map ≡ zeros m → length map ≡ m → ranges ≡ zeros r → length ranges ≡ r → locations ≡ zeros l → length locations ≡ l
-    → strings ≡ zeros s → length strings ≡ s → out ≡ zeros o → length out ≡ o → Blank map ranges locations strings out
-blank m r l s o map ranges locations strings out a a′ b b′ c c′ d d′ e e′ =
-    record {
-      map-blank = cleared m (length map) map a (sym a′);
-      ranges-blank = cleared r (length ranges) ranges b (sym b′);
-      locations-blank = cleared l (length locations) locations c (sym c′);
-      strings-blank = cleared s (length strings) strings d (sym d′);
-      out-blank = cleared o (length out) out e (sym e′);
-    }
+-- what is to be done, by the marks and the header
+pub task-refused : (o : HeaderRead) (m : UnitMarks) (k : ℕ) → m ≡ NotMarked k → Done (Refused k) ≡ taskOf o m
+unfolding taskOf
+task-refused o m k q = sym (ap (taskOf o) q)
+
+pub task-none : (o : HeaderRead) (m : UnitMarks) (n k : ℕ) (a : Answer) → m ≡ Marked n k → n ≡ 0 → a ≡ answerFor (untouched 0 noLists) → Done a ≡ taskOf o m
+unfolding taskOf
+task-none o m n k a q z e =
+    ap (λ (b : Answer). Done b) e ∙ sym (ap (taskOf o) q ∙ pick-yes (eqb n 0) _ _ (yes-eqb {a = n} {b = 0} z))
+
+pub task-some : (o : HeaderRead) (m : UnitMarks) (n k : ℕ) (t : Task) → m ≡ Marked n k → (n ≡ 0 → ⊥) → t ≡ headerTask o n k → t ≡ taskOf o m
+unfolding taskOf
+task-some o m n k t q z e = e ∙ sym (ap (taskOf o) q ∙ pick-no (eqb n 0) _ _ (no-eqb {a = n} {b = 0} z))
+
+pub task-empty : (o : HeaderRead) (n k : ℕ) (a : Answer) → o ≡ Empty → a ≡ answerFor (untouched 0 noLists) → Done a ≡ headerTask o n k
+unfolding headerTask
+task-empty o n k a q e = ap (λ (b : Answer). Done b) e ∙ sym (ap (λ (h : HeaderRead). headerTask h n k) q)
+
+pub task-no-header : (o : HeaderRead) (n k j : ℕ) → o ≡ NoHeader j → Done (Refused j) ≡ headerTask o n k
+unfolding headerTask
+task-no-header o n k j q = sym (ap (λ (h : HeaderRead). headerTask h n k) q)
+
+pub task-header : (o : HeaderRead) (n k : ℕ) (h : UnitHeader) → o ≡ Header′ h → Rewrite h n k ≡ headerTask o n k
+unfolding headerTask
+task-header o n k h q = sym (ap (λ (h : HeaderRead). headerTask h n k) q)
+
+-- what is to be done is to rewrite a unit
+task-rewrite : (o : HeaderRead) (m : UnitMarks) (h : UnitHeader) (entries kept : ℕ) → taskOf o m ≡ Rewrite h entries kept
+    → (o ≡ Header′ h) × (m ≡ Marked entries kept) × (entries ≡ 0 → ⊥)
+unfolding taskOf headerTask
+task-rewrite o (NotMarked n) h entries kept e = let z : _≡_ {A = ℕ} 0 1 = cc in absurd (omega arith)
+task-rewrite Empty (Marked n k) h entries kept e =
+    let P : Task → Type 0 = (λ w. w ≡ Rewrite h entries kept → ⊥) in
+    absurd (pick-either P (eqb n 0) _ _ (λ t d. let z : _≡_ {A = ℕ} 0 1 = cc in omega arith) (λ t d. let z : _≡_ {A = ℕ} 0 1 = cc in omega arith) e)
+task-rewrite (NoHeader j) (Marked n k) h entries kept e =
+    let P : Task → Type 0 = (λ w. w ≡ Rewrite h entries kept → ⊥) in
+    absurd (pick-either P (eqb n 0) _ _ (λ t d. let z : _≡_ {A = ℕ} 0 1 = cc in omega arith) (λ t d. let z : _≡_ {A = ℕ} 0 1 = cc in omega arith) e)
+task-rewrite (Header′ g) (Marked n k) h entries kept e =
+    let P : Task → Type 0 = (λ w. w ≡ Rewrite h entries kept → (Header′ g ≡ Header′ h) × (Marked n k ≡ Marked entries kept) × (entries ≡ 0 → ⊥)) in
+    pick-either P (eqb n 0) _ _ (λ t d. let z : _≡_ {A = ℕ} 0 1 = cc in absurd (omega arith))
+    (λ t d. (cc, cc, let y : n ≡ entries = cc in λ i. eqb-no {a = n} {b = 0} t (y ∙ i))) e
+
+module _ (x : Sections) (tables : Rooms) (t : Bool) (section : List ℕ) (task : Task) (s index parents ends marks : List ℕ) (w : MarkedTables x tables section task s index parents ends marks)
+    (map ranges locations strings out : List ℕ) (b : Blank map ranges locations strings out) where
+  abbrev room : Room
+  room = roomBy tables (length map) (length ranges) (length locations) (length strings) (length out)
+
+  abbrev Answered : Answer → List ℕ → List ℕ → List ℕ → List ℕ → List ℕ → Type 0
+  Answered a map′ ranges′ locations′ strings′ out′ =
+      Answers (collectOf x room t section) a (length map) (length ranges) (length locations) (length strings) (length out) map′ ranges′ locations′ strings′ out′
+
+  -- nothing more is to be done
+  no-unit : (k : ℕ) → collectOf x room t section ≡ refused k → (a : Answer) → Done (Refused k) ≡ Done a → Answered a map ranges locations strings out
+  no-unit k q a e = refused-answers _ _ _ _ _ _ _ _ _ _ _ _ k q (let z : a ≡ Refused k = cc in z)
+
+  no-entries : collectOf x room t section ≡ untouched 0 noLists → (a : Answer) → Done (answerFor (untouched 0 noLists)) ≡ Done a → Answered a map ranges locations strings out
+  no-entries q a e =
+      nothing-answers _ _ _ _ _ _ _ _ _ _ _ _ q (let z : a ≡ answerFor (untouched 0 noLists) = cc in z) (b .map-blank) (b .ranges-blank) (b .locations-blank) (b .strings-blank) (b .out-blank)
+
+  by-task : (m : UnitMarks) → unitMarks (analysisOf x section tables) ≡ m → (o : HeaderRead) → headerOf section ≡ o → (a : Answer) → taskOf o m ≡ Done a → Answered a map ranges locations strings out
+  unfolding taskOf headerTask
+  by-task (NotMarked k) u o q a = no-unit k (collected-refused x room t section k u) a
+  by-task (Marked n k) u Empty q a =
+      pick-either (λ (z : Task). z ≡ Done a → Answered a map ranges locations strings out) (eqb n 0) _ _
+      (λ y. no-entries (collected-none x room t section n k u (eqb-yes {a = n} {b = 0} y)) a) (λ y. no-entries (collected-empty x room t section q) a)
+  by-task (Marked n k) u (NoHeader j) q a =
+      pick-either (λ (z : Task). z ≡ Done a → Answered a map ranges locations strings out) (eqb n 0) _ _
+      (λ y. no-entries (collected-none x room t section n k u (eqb-yes {a = n} {b = 0} y)) a) (λ y. no-unit j (collected-no x room t section j q) a)
+  by-task (Marked n k) u (Header′ h) q a =
+      pick-either (λ (z : Task). z ≡ Done a → Answered a map ranges locations strings out) (eqb n 0) _ _
+      (λ y. no-entries (collected-none x room t section n k u (eqb-yes {a = n} {b = 0} y)) a) (λ y e. let z : _≡_ {A = ℕ} 0 1 = cc in absurd (omega arith))
+
+  done-answers : (a : Answer) → task ≡ Done a → Answered a map ranges locations strings out
+  done-answers a e = by-task (unitMarks (analysisOf x section tables)) refl (headerOf section) refl a (sym (w .task-is) ∙ e)
+
+  -- a unit that has entries
+  module _ (h : UnitHeader) (entries kept : ℕ) (e : task ≡ Rewrite h entries kept) where
+    task-parts : (headerOf section ≡ Header′ h) × (unitMarks (analysisOf x section tables) ≡ Marked entries kept) × (entries ≡ 0 → ⊥)
+    task-parts = task-rewrite (headerOf section) (unitMarks (analysisOf x section tables)) h entries kept (sym (w .task-is) ∙ e)
+
+    marked : Marking x room t section h entries kept
+    marked = marking x room t section h (task-parts .0) entries kept (task-parts .1) (task-parts .2)
+
+    tabled : Tabled x tables section h (marked .declared) (marked .rows) s index parents ends marks entries kept
+    unfolding indexAfter column
+    tabled =
+        record {
+          abbreviations-are = w .abbreviations-are;
+          header-is = task-parts .0;
+          declared-are = marked .declared-are;
+          analysis-is = marked .analysis-is;
+          index-is = w .index-is ∙ ap (λ (o : HeaderRead). indexAfter (x .abbreviations) o (length index)) (task-parts .0);
+          parents-are = w .parents-are ∙ ap (column parentsIn (length parents)) (marked .analysis-is);
+          marks-are = w .marks-are ∙ ap (column marksIn (length marks)) (marked .analysis-is);
+          ends-room = w .ends-room;
+          entries-are = marked .entries-are;
+          kept-are = marked .kept-are;
+        }
+
+    rewrite-answers : (a : Answer) (map′ ranges′ locations′ strings′ out′ : List ℕ)
+        → ((x′ : Sections) (tables′ : Rooms) (ds : List Placed) (rows : List Row) → Tabled x′ tables′ section h ds rows s index parents ends marks entries kept → Blank map ranges locations strings out
+        → Answers (markedOf x′ (roomBy tables′ (length map) (length ranges) (length locations) (length strings) (length out)) t (ownUnit h section ds) rows) a (length map) (length ranges) (length locations) (length strings) (length out) map′ ranges′ locations′ strings′ out′)
+        → Answered a map′ ranges′ locations′ strings′ out′
+    rewrite-answers a map′ ranges′ locations′ strings′ out′ f =
+        subst (λ (z : Collected). Answers z a (length map) (length ranges) (length locations) (length strings) (length out) map′ ranges′ locations′ strings′ out′) (sym (marked .collected))
+        (f x tables (marked .declared) (marked .rows) tabled b)
+
+-- what `collect_marked` answers for such tables
+module _ (t : Bool) (section : List ℕ) (task : Task) (s index parents ends marks map ranges locations strings out : List ℕ) where
+  abbrev Wanted : Answer → List ℕ → List ℕ → List ℕ → List ℕ → List ℕ → Type 0
+  Wanted a map′ ranges′ locations′ strings′ out′ =
+      (x : Sections) (tables : Rooms) → MarkedTables x tables section task s index parents ends marks → Blank map ranges locations strings out
+      → Answers (collectOf x (roomBy tables (length map) (length ranges) (length locations) (length strings) (length out)) t section) a (length map) (length ranges) (length locations) (length strings) (length out) map′ ranges′ locations′ strings′ out′
+
+  pub marked-done : (a : Answer) → task ≡ Done a → Wanted a map ranges locations strings out
+  marked-done a e x tables w b = done-answers x tables t section task s index parents ends marks w map ranges locations strings out b a e
+
+  pub marked-rewrite : (h : UnitHeader) (entries kept : ℕ) → task ≡ Rewrite h entries kept → (a : Answer) (map′ ranges′ locations′ strings′ out′ : List ℕ)
+      → ((x : Sections) (tables : Rooms) (ds : List Placed) (rows : List Row) → Tabled x tables section h ds rows s index parents ends marks entries kept → Blank map ranges locations strings out
+      → Answers (markedOf x (roomBy tables (length map) (length ranges) (length locations) (length strings) (length out)) t (ownUnit h section ds) rows) a (length map) (length ranges) (length locations) (length strings) (length out) map′ ranges′ locations′ strings′ out′)
+      → Wanted a map′ ranges′ locations′ strings′ out′
+  marked-rewrite h entries kept e a map′ ranges′ locations′ strings′ out′ f x tables w b =
+      rewrite-answers x tables t section task s index parents ends marks w map ranges locations strings out b h entries kept e a map′ ranges′ locations′ strings′ out′ f
+
+-- ---- the tables and outputs of a call
+
+-- a slice made by its own length
+by-own : (f : ℕ → List ℕ) (n : ℕ) (s : List ℕ) → s ≡ f n → length s ≡ n → s ≡ f (length s)
+by-own f n s p q = p ∙ ap f (sym q)
 
 -- the same answer by the lengths before
-pub by-lengths : (f : ℕ → ℕ → ℕ → ℕ → ℕ → Collected) (c : Collected) (a : Answer) (map′ ranges′ locations′ strings′ out′ : List ℕ) (m m₀ r r₀ l l₀ s s₀ o o₀ : ℕ)
-    → m ≡ m₀ → r ≡ r₀ → l ≡ l₀ → s ≡ s₀ → o ≡ o₀ → c ≡ f m₀ r₀ l₀ s₀ o₀
-    → Answers (f m r l s o) a m r l s o map′ ranges′ locations′ strings′ out′ → Answers c a m₀ r₀ l₀ s₀ o₀ map′ ranges′ locations′ strings′ out′
-by-lengths f c a map′ ranges′ locations′ strings′ out′ m m₀ r r₀ l l₀ s s₀ o o₀ em er el es eo ec h =
-    subst (λ (z : Collected). Answers z a m₀ r₀ l₀ s₀ o₀ map′ ranges′ locations′ strings′ out′) (sym ec)
-    (subst (λ (z : ℕ). Answers (f m₀ r₀ l₀ s₀ z) a m₀ r₀ l₀ s₀ z map′ ranges′ locations′ strings′ out′) eo
+by-lengths : (f : ℕ → ℕ → ℕ → ℕ → ℕ → Collected) (a : Answer) (map′ ranges′ locations′ strings′ out′ : List ℕ) (m m₀ r r₀ l l₀ s s₀ o o₀ : ℕ)
+    → m ≡ m₀ → r ≡ r₀ → l ≡ l₀ → s ≡ s₀ → o ≡ o₀
+    → Answers (f m r l s o) a m r l s o map′ ranges′ locations′ strings′ out′ → Answers (f m₀ r₀ l₀ s₀ o₀) a m₀ r₀ l₀ s₀ o₀ map′ ranges′ locations′ strings′ out′
+by-lengths f a map′ ranges′ locations′ strings′ out′ m m₀ r r₀ l l₀ s s₀ o o₀ em er el es eo h =
+    subst (λ (z : ℕ). Answers (f m₀ r₀ l₀ s₀ z) a m₀ r₀ l₀ s₀ z map′ ranges′ locations′ strings′ out′) eo
     (subst (λ (z : ℕ). Answers (f m₀ r₀ l₀ z o) a m₀ r₀ l₀ z o map′ ranges′ locations′ strings′ out′) es
     (subst (λ (z : ℕ). Answers (f m₀ r₀ z s o) a m₀ r₀ z s o map′ ranges′ locations′ strings′ out′) el
     (subst (λ (z : ℕ). Answers (f m₀ z l s o) a m₀ z l s o map′ ranges′ locations′ strings′ out′) er
-    (subst (λ (z : ℕ). Answers (f z r l s o) a z r l s o map′ ranges′ locations′ strings′ out′) em h)))))
+    (subst (λ (z : ℕ). Answers (f z r l s o) a z r l s o map′ ranges′ locations′ strings′ out′) em h))))
 
--- a unit that has entries
-pub unit-answers : (x : Sections) (tables : Rooms) (t : Bool) (section : List ℕ) (h : UnitHeader) (entries kept n k p e₀ m₀ r₀ l₀ s₀ o₀ : ℕ) (index parents ends marks map ranges locations strings out map′ ranges′ locations′ strings′ out′ : List ℕ) (a : Answer)
-    → headerOf section ≡ Header′ h → unitMarks (analysisOf x section tables) ≡ Marked entries kept → (entries ≡ 0 → ⊥)
+-- the answer for marked tables and cleared outputs
+pub unit-answers : (x : Sections) (tables : Rooms) (t : Bool) (section : List ℕ) (task : Task) (u : UnitMarks) (n p e k m r l s o : ℕ)
+    (index parents ends marks map ranges locations strings out map′ ranges′ locations′ strings′ out′ : List ℕ) (a : Answer)
+    → task ≡ taskOf (headerOf section) u → u ≡ unitMarks (analysisOf x section tables)
     → index ≡ indexAfter (x .abbreviations) (headerOf section) n → length index ≡ n
     → parents ≡ column parentsIn p (analysisOf x section tables) → length parents ≡ p
-    → length ends ≡ e₀ → tables .entries ≤ e₀
+    → length ends ≡ e → tables .entries ≤ e
     → marks ≡ column marksIn k (analysisOf x section tables) → length marks ≡ k
-    → map ≡ zeros m₀ → length map ≡ m₀ → ranges ≡ zeros r₀ → length ranges ≡ r₀ → locations ≡ zeros l₀ → length locations ≡ l₀
-    → strings ≡ zeros s₀ → length strings ≡ s₀ → out ≡ zeros o₀ → length out ≡ o₀
-    → ((x′ : Sections) (tables′ : Rooms) (ds : List Placed) (rows : List Row) → Tabled x′ tables′ section h ds rows (x .abbreviations) index parents ends marks entries kept → Blank map ranges locations strings out
-    → Answers (markedOf x′ (roomBy tables′ (length map) (length ranges) (length locations) (length strings) (length out)) t (ownUnit h section ds) rows) a (length map) (length ranges) (length locations) (length strings) (length out) map′ ranges′ locations′ strings′ out′)
-    → Answers (collectOf x (roomBy tables m₀ r₀ l₀ s₀ o₀) t section) a m₀ r₀ l₀ s₀ o₀ map′ ranges′ locations′ strings′ out′
-unit-answers x tables t section h entries kept n k p e₀ m₀ r₀ l₀ s₀ o₀ index parents ends marks map ranges locations strings out map′ ranges′ locations′ strings′ out′ a q u z i il ps pl le en ms ml em m er r el l es s eo o f =
-    let w : Marking x (roomBy tables m₀ r₀ l₀ s₀ o₀) t section h entries kept = marking x (roomBy tables m₀ r₀ l₀ s₀ o₀) t section h q entries kept u z in
-    by-lengths (λ m r l s o. markedOf x (roomBy tables m r l s o) t (ownUnit h section (w .declared)) (w .rows)) (collectOf x (roomBy tables m₀ r₀ l₀ s₀ o₀) t section) a map′ ranges′ locations′ strings′ out′
-    (length map) m₀ (length ranges) r₀ (length locations) l₀ (length strings) s₀ (length out) o₀ m r l s o (w .collected)
-    (f x tables (w .declared) (w .rows)
-    (tabled x tables section h (w .declared) (w .rows) q (w .declared-are) (w .analysis-is) n index i il p parents ps pl k marks ms ml entries kept (w .entries-are) (w .kept-are) ends (let g : tables .entries ≤ length ends = omega (arith, en) in g))
-    (blank m₀ r₀ l₀ s₀ o₀ map ranges locations strings out em m er r el l es s eo o))
+    → map ≡ zeros m → length map ≡ m → ranges ≡ zeros r → length ranges ≡ r → locations ≡ zeros l → length locations ≡ l
+    → strings ≡ zeros s → length strings ≡ s → out ≡ zeros o → length out ≡ o
+    → ((x′ : Sections) (tables′ : Rooms) → MarkedTables x′ tables′ section task (x .abbreviations) index parents ends marks → Blank map ranges locations strings out
+    → Answers (collectOf x′ (roomBy tables′ (length map) (length ranges) (length locations) (length strings) (length out)) t section) a (length map) (length ranges) (length locations) (length strings) (length out) map′ ranges′ locations′ strings′ out′)
+    → Answers (collectOf x (roomBy tables m r l s o) t section) a m r l s o map′ ranges′ locations′ strings′ out′
+unit-answers x tables t section task u n p e k m r l s o index parents ends marks map ranges locations strings out map′ ranges′ locations′ strings′ out′ a q uq i il ps pl le en ms ml z₁ l₁ z₂ l₂ z₃ l₃ z₄ l₄ z₅ l₅ f =
+    by-lengths (λ m r l s o. collectOf x (roomBy tables m r l s o) t section) a map′ ranges′ locations′ strings′ out′
+    (length map) m (length ranges) r (length locations) l (length strings) s (length out) o l₁ l₂ l₃ l₄ l₅
+    (f x tables
+    (record {
+      abbreviations-are = refl;
+      task-is = q ∙ ap (taskOf (headerOf section)) uq;
+      index-is = by-own (indexAfter (x .abbreviations) (headerOf section)) n index i il;
+      parents-are = by-own (λ (z : ℕ). column parentsIn z (analysisOf x section tables)) p parents ps pl;
+      marks-are = by-own (λ (z : ℕ). column marksIn z (analysisOf x section tables)) k marks ms ml;
+      ends-room = let g : tables .entries ≤ length ends = omega (arith, en) in g;
+    })
+    (record {
+      map-blank = by-own zeros m map z₁ l₁;
+      ranges-blank = by-own zeros r ranges z₂ l₂;
+      locations-blank = by-own zeros l locations z₃ l₃;
+      strings-blank = by-own zeros s strings z₄ l₄;
+      out-blank = by-own zeros o out z₅ l₅;
+    }))

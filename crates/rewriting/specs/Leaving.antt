@@ -5,24 +5,30 @@ use mathlib.Core.Bool.{Bool, true, false}
 use mathlib.Core.List.{List, []}
 use mathlib.Core.Option.{some}
 use lib.ListN.{length, take}
-use lib.Dec.{leb}
-use Rattle.readers.specs.Choice.{_and_, zeros}
+use lib.Dec.{leb, eqb}
+use Rattle.readers.specs.Choice.{pick, _and_, zeros}
 use Rattle.readers.specs.Abbreviations.{Placed, abbreviationsOf, indexOf}
 use Rattle.readers.specs.Header.{headerOf}
 use Rattle.readers.specs.declared.header.UnitHeader.{UnitHeader}
-use Rattle.readers.specs.declared.header.HeaderRead.the-variants.{Unit as Header′}
+use Rattle.readers.specs.declared.header.HeaderRead.{HeaderRead}
+use Rattle.readers.specs.declared.header.HeaderRead.the-variants.{Unit as Header′, Empty, Refused as NoHeader}
 use Rattle.marking.specs.Analysis.{Sections, Rooms, Row, analysed, analysisOf}
-use Rattle.marking.specs.Columns.{padTo, parentsIn}
+use Rattle.marking.specs.Columns.{padTo, column, parentsIn, indexAfter}
 use Rattle.marking.specs.Marks.{keptCount}
-use Rattle.marking.specs.Resolution.{marksIn}
+use Rattle.marking.specs.Resolution.{marksIn, unitMarks}
+use Rattle.marking.specs.declared.units.UnitMarks.{UnitMarks}
+use Rattle.marking.specs.declared.units.UnitMarks.the-variants.{Marked, Refused as NotMarked}
 use Rattle.rewriting.specs.Places.{Standing, keptFrom}
 use Rattle.rewriting.specs.Indices.{countOf}
-use Rattle.rewriting.specs.Rewriting.{Unit as Unit′, itemsIn, Lists, Room, Collected, untouched, rewritten, refused, marksCollected}
+use Rattle.rewriting.specs.Rewriting.{Unit as Unit′, itemsIn, Lists, Room, Collected, untouched, rewritten, refused, noLists, marksCollected}
 use Rattle.rewriting.specs.Emission.{Lends}
 use Rattle.rewriting.specs.Outputs.{listCount, answerFor, mapFor, outputFor, listOr, listFor, rangesIn, locationsIn, stringsIn}
 use Rattle.rewriting.specs.declared.collect.Listed.{Listed}
 use Rattle.rewriting.specs.declared.collect.Listed.the-variants.{Made, Short}
 use Rattle.rewriting.specs.declared.collect.Collected.{Collected as Answer}
+use Rattle.rewriting.specs.declared.collect.Collected.the-variants.{Untouched, Rewritten, Refused}
+use Rattle.rewriting.specs.declared.collect.Task.{Task}
+use Rattle.rewriting.specs.declared.collect.Task.the-variants.{Done, Rewrite}
 
 -- ---- the whole
 
@@ -33,13 +39,41 @@ Accepts (rewritten w) = Unit {0}
 Accepts (refused n) = ⊥
 
 -- the answer, and the slices as they are left, by their lengths
-pub record Answers (c : Collected) (r : Answer) (map ranges locations strings out : ℕ) (map′ ranges′ locations′ strings′ out′ : List ℕ) : Type 0 where
+pub record Answers (c : Collected) (r : Answer) (map ranges locations strings out : ℕ)
+    (map′ ranges′ locations′ strings′ out′ : List ℕ) : Type 0 where
   pub told : r ≡ answerFor c
   pub map-left : Accepts c → map′ ≡ mapFor map c
   pub ranges-left : Accepts c → ranges′ ≡ listFor rangesIn ranges c
   pub locations-left : Accepts c → locations′ ≡ listFor locationsIn locations c
   pub strings-left : Accepts c → strings′ ≡ listFor stringsIn strings c
   pub out-left : Accepts c → out′ ≡ outputFor out c
+
+-- a slice once an answer is known: zeros after a refusal
+unfoldable pub leftBy : Answer → List ℕ → List ℕ
+leftBy (Untouched c) s = s
+leftBy (Rewritten c) s = s
+leftBy (Refused n) s = zeros (length s)
+
+-- ---- what is to be done once the entries are marked
+
+unfoldable pub headerTask : HeaderRead → ℕ → ℕ → Task
+headerTask Empty entries kept = Done (answerFor (untouched 0 noLists))
+headerTask (NoHeader n) entries kept = Done (Refused n)
+headerTask (Header′ h) entries kept = Rewrite h entries kept
+
+unfoldable pub taskOf : HeaderRead → UnitMarks → Task
+taskOf o (NotMarked n) = Done (Refused n)
+taskOf o (Marked entries kept) = pick (eqb entries 0) (Done (answerFor (untouched 0 noLists))) (headerTask o entries kept)
+
+-- the tables that marking leaves, and what is to be done
+pub record MarkedTables (x : Sections) (tables : Rooms) (section : List ℕ) (task : Task)
+    (abbreviations index parents ends marks : List ℕ) : Type 0 where
+  pub abbreviations-are : x .abbreviations ≡ abbreviations
+  pub task-is : task ≡ taskOf (headerOf section) (unitMarks (analysisOf x section tables))
+  pub index-is : index ≡ indexAfter (x .abbreviations) (headerOf section) (length index)
+  pub parents-are : parents ≡ column parentsIn (length parents) (analysisOf x section tables)
+  pub marks-are : marks ≡ column marksIn (length marks) (analysisOf x section tables)
+  pub ends-room : tables .entries ≤ length ends
 
 -- ---- a unit whose entries were marked
 
@@ -48,7 +82,8 @@ abbrev pub ownUnit : UnitHeader → List ℕ → List Placed → Unit′
 ownUnit h section ds = record { header = h; bytes = take (h .end) section; declared = ds }
 
 -- the tables that marking leaves, and its counts
-pub record Tabled (x : Sections) (tables : Rooms) (section : List ℕ) (h : UnitHeader) (ds : List Placed) (rows : List Row) (abbreviations index parents ends marks : List ℕ) (entries kept : ℕ) : Type 0 where
+pub record Tabled (x : Sections) (tables : Rooms) (section : List ℕ) (h : UnitHeader) (ds : List Placed) (rows : List Row)
+    (abbreviations index parents ends marks : List ℕ) (entries kept : ℕ) : Type 0 where
   pub abbreviations-are : x .abbreviations ≡ abbreviations
   pub header-is : headerOf section ≡ Header′ h
   pub declared-are : abbreviationsOf (x .abbreviations) (h .abbreviations) ≡ some ds

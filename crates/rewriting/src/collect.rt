@@ -4,6 +4,7 @@ ghost use mathlib.Core.List.{List, []};
 ghost use lib.ListN.{length};
 ghost use Rattle.readers.specs.Choice.{zeros};
 ghost use Rattle.readers.specs.Abbreviations.{Placed};
+ghost use Rattle.readers.specs.Header.{headerOf};
 ghost use Rattle.marking.specs.Analysis.{Sections, Rooms, Row, sections};
 ghost use Rattle.rewriting.specs.Places.{keptFrom};
 ghost use Rattle.rewriting.specs.Rewriting.{Unit as Unit′, Lists, Room, itemsIn, listsOf, noLists, untouched, rewriteOf, collectOf};
@@ -11,6 +12,7 @@ ghost use Rattle.rewriting.specs.IndexLists.{Passable};
 ghost use Rattle.rewriting.specs.Emission.{Lends};
 ghost use Rattle.rewriting.specs.Outputs.{roomBy, roomOf, listCount, answerFor, mapFor, listFor, outputFor, rangesIn, locationsIn, stringsIn};
 ghost use Rattle.rewriting.specs.Leaving.{Answers, ownUnit, Tabled, Blank, markedOf, ListsAnswer, Writable, WriteAnswer};
+ghost use Rattle.rewriting.specs.Leaving.{leftBy, taskOf, MarkedTables};
 use crate::emit::Emitted;
 use crate::indices::is_short;
 use crate::indices::settle;
@@ -71,6 +73,32 @@ fn clear_outputs(
     clear_bytes(locations);
     clear_bytes(strings);
     clear_bytes(out);
+}
+
+// Makes map, lists and output zeros after a refusal.
+fn clear_refused(
+    answer: Collected,
+    map: &mut [u8],
+    ranges: &mut [u8],
+    locations: &mut [u8],
+    strings: &mut [u8],
+    out: &mut [u8],
+)
+    ensures { λ _. ⌜
+        (now (map .exit) ≡ leftBy answer (now (map .entry)))
+        × (now (ranges .exit) ≡ leftBy answer (now (ranges .entry)))
+        × (now (locations .exit) ≡ leftBy answer (now (locations .entry)))
+        × (now (strings .exit) ≡ leftBy answer (now (strings .entry)))
+        × (now (out .exit) ≡ leftBy answer (now (out .entry)))
+        ⌝ }
+{
+    match answer {
+        Collected::Untouched(_) => {}
+        Collected::Rewritten(_) => {}
+        Collected::Refused(_) => {
+            clear_outputs(map, ranges, locations, strings, out);
+        }
+    }
 }
 
 // Makes the tables zeros.
@@ -407,6 +435,97 @@ fn nothing() -> Collected
     })
 }
 
+// What is to be done once a unit's entries are marked: nothing more, or the unit of a header is rewritten.
+pub enum Task {
+    Done(Collected),
+    Rewrite {
+        header: UnitHeader,
+        entries: usize,
+        kept: usize,
+    },
+}
+
+fn task_of(section: &[u8], marks: UnitMarks) -> Task
+    ensures { λ r. ⌜ r ≡ taskOf (headerOf (now (section .entry))) marks ⌝ }
+{
+    match marks {
+        UnitMarks::Refused(n) => Task::Done(Collected::Refused(n)),
+        UnitMarks::Marked { entries, kept } => {
+            if entries == 0 {
+                return Task::Done(nothing());
+            }
+            match unit_header(section) {
+                HeaderRead::Unit(header) => Task::Rewrite {
+                    header,
+                    entries,
+                    kept,
+                },
+                HeaderRead::Empty => Task::Done(nothing()),
+                HeaderRead::Refused(n) => Task::Done(Collected::Refused(n)),
+            }
+        }
+    }
+}
+
+// The answer for marked tables.
+fn collect_marked(
+    section: &[u8],
+    task: Task,
+    abbreviations: &[u8],
+    index: &[u64],
+    parents: &[u32],
+    ends: &mut [u64],
+    marks: &[u8],
+    type_units: bool,
+    work: &mut [u32],
+    map: &mut [u8],
+    range_list: &mut [u8],
+    location_list: &mut [u8],
+    string_list: &mut [u8],
+    out: &mut [u8],
+) -> Collected
+    ensures { λ c. ⌜
+        ((x : Sections) (tables : Rooms)
+        → MarkedTables x tables (now (section .entry)) task (now (abbreviations .entry)) (now (index .entry))
+        (now (parents .entry)) (now (ends .entry)) (now (marks .entry))
+        → Blank (now (map .entry)) (now («range_list» .entry)) (now («location_list» .entry))
+        (now («string_list» .entry)) (now (out .entry))
+        → let room =
+        roomBy tables (length (now (map .entry))) (length (now («range_list» .entry)))
+        (length (now («location_list» .entry))) (length (now («string_list» .entry))) (length (now (out .entry))) in
+        Answers (collectOf x room «type_units» (now (section .entry))) c (length (now (map .entry)))
+        (length (now («range_list» .entry))) (length (now («location_list» .entry)))
+        (length (now («string_list» .entry))) (length (now (out .entry)))
+        (now (map .exit)) (now («range_list» .exit)) (now («location_list» .exit)) (now («string_list» .exit)) (now (out .exit)))
+        ⌝ }
+{
+    match task {
+        Task::Done(answer) => answer,
+        Task::Rewrite {
+            header,
+            entries,
+            kept,
+        } => rewrite_unit(
+            section,
+            header,
+            abbreviations,
+            index,
+            parents,
+            ends,
+            marks,
+            entries,
+            kept,
+            type_units,
+            work,
+            map,
+            range_list,
+            location_list,
+            string_list,
+            out,
+        ),
+    }
+}
+
 // The answer, with tables as they are left, and after a refusal also map, lists and output.
 fn collect_unit(
     section: &[u8],
@@ -447,7 +566,7 @@ fn collect_unit(
         ⌝ }
 {
     clear_outputs(map, range_list, location_list, string_list, out);
-    match mark_unit(
+    let marked = mark_unit(
         section,
         abbreviations,
         locations,
@@ -463,36 +582,24 @@ fn collect_unit(
         targets,
         pairs,
         work,
-    ) {
-        UnitMarks::Refused(n) => Collected::Refused(n),
-        UnitMarks::Marked { entries, kept } => {
-            if entries == 0 {
-                return nothing();
-            }
-            match unit_header(section) {
-                HeaderRead::Unit(h) => rewrite_unit(
-                    section,
-                    h,
-                    abbreviations,
-                    index,
-                    parents,
-                    ends,
-                    marks,
-                    entries,
-                    kept,
-                    type_units,
-                    work,
-                    map,
-                    range_list,
-                    location_list,
-                    string_list,
-                    out,
-                ),
-                HeaderRead::Empty => nothing(),
-                HeaderRead::Refused(n) => Collected::Refused(n),
-            }
-        }
-    }
+    );
+    let task = task_of(section, marked);
+    collect_marked(
+        section,
+        task,
+        abbreviations,
+        index,
+        parents,
+        ends,
+        marks,
+        type_units,
+        work,
+        map,
+        range_list,
+        location_list,
+        string_list,
+        out,
+    )
 }
 
 // Thins the first unit of a section, which is read with the other sections and the address table. The map has 12 bytes a
@@ -585,12 +692,6 @@ pub fn collect(
         pairs,
         work,
     );
-    match answer {
-        Collected::Untouched(c) => Collected::Untouched(c),
-        Collected::Rewritten(c) => Collected::Rewritten(c),
-        Collected::Refused(n) => {
-            clear_outputs(map, range_list, location_list, string_list, out);
-            Collected::Refused(n)
-        }
-    }
+    clear_refused(answer, map, range_list, location_list, string_list, out);
+    answer
 }
