@@ -173,18 +173,19 @@ module _ (r : Reading) (s table unit : List ℕ) (k : ℕ) where
                 ap (indicesFrom x u k) (next-item .whole)
                 ∙ ap (λ (js : List ℕ). js ++ indicesFrom x u k (keptAt items parents ends marks (y .next) (next-item .after))) e
 
+            passing-on : (m : ℕ) (after : List ℕ)
+                → Onward (indicesFrom x u k all-kept) 0 list₀ (indicesFrom x u k (keptAt items parents ends marks (y .next) (next-item .after))) m after
+                → Passing x u list₀ (y .next) after m
+            passing-on m after o = record { stack = next-item .after; stood = next-item .stood; deep = deep-after; onward = o }
+
           -- a terminator
           pub collect-terminator : y .«is_entry» ≡ false → Collecting list₀ (y .next) list n
           collect-terminator b = (
             g .0,
             λ x u p l.
                 let i = next-item x u p l in
-                record {
-                  stack = i .after;
-                  stood = i .stood;
-                  deep = deep-after x u p l;
-                  onward = onward-on _ _ _ _ _ _ (now x u p l .onward) _ (turn x u p l [] (shown-terminator y (i .standing .item) _ (i .shows) b (indices-here x u p l)));
-                },
+                passing-on x u p l n list
+                (onward-on _ _ _ _ _ _ (now x u p l .onward) _ (turn x u p l [] (shown-terminator y (i .standing .item) _ (i .shows) b (indices-here x u p l)))),
           )
 
           -- an entry, whose indices were put into the list
@@ -194,10 +195,6 @@ module _ (r : Reading) (s table unit : List ℕ) (k : ℕ) where
             e ∙ g .0,
             λ x u p l.
                 let i = next-item x u p l in
-                record {
-                  stack = i .after;
-                  stood = i .stood;
-                  deep = deep-after x u p l;
-                  onward = onward-more _ _ _ _ _ _ (now x u p l .onward) _ _ (turn x u p l _ (shown-entry y (i .standing .item) _ (i .shows) b (indices-here x u p l))) m after d;
-                },
+                passing-on x u p l m after
+                (onward-more _ _ _ _ _ _ (now x u p l .onward) _ _ (turn x u p l _ (shown-entry y (i .standing .item) _ (i .shows) b (indices-here x u p l))) m after d),
           )

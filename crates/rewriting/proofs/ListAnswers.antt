@@ -8,7 +8,8 @@ use mathlib.Core.Option.{Option, none, some}
 use mathlib.Core.Logic.{⊎-elim}
 use lib.ListN.{length}
 use lib.Dec.{T, ltb, leb}
-use mir.Facts.{ltb-yes, ltb-no, yes-ltb, no-ltb, leb-yes, leb-no}
+use mir.Facts.{ltb-yes, ltb-no, leb-yes, leb-no}
+use borrow.Author.Tests.{lt-ltb, le-ltb}
 use Rattle.readers.specs.Choice.{pick, either, _or_, zeros}
 use Rattle.readers.specs.Abbreviations.{declaredIn, findAt}
 use Rattle.readers.specs.Stream.{Item, Items, itemsFrom}
@@ -97,22 +98,14 @@ module _ (x : Sections) (u : Unit′) where
 
 -- ---- whether a list is too short, and what it holds where it is not
 
-is-yes : (b : Bool) → T b → b ≡ true
-is-yes true h = refl
-is-yes false h = absurd h
-
-is-no : (b : Bool) → T (not b) → b ≡ false
-is-no true h = absurd h
-is-no false h = refl
-
 same-test : (a b c d : ℕ) → (a < b → c < d) → (c < d → a < b) → ltb a b ≡ ltb c d
 same-test a b c d f g =
-    ⊎-elim (λ t. is-yes (ltb a b) t ∙ sym (is-yes (ltb c d) (yes-ltb {a = c} {b = d} (f (ltb-yes {a = a} {b = b} t)))))
-    (λ t. is-no (ltb a b) t ∙ sym (is-no (ltb c d) (no-ltb {a = c} {b = d} (below t))))
+    ⊎-elim (λ t. let h : a < b = ltb-yes t in lt-ltb a b h ∙ sym (lt-ltb c d (f h)))
+    (λ t. let h : b ≤ a = ltb-no {a = a} {b = b} t in le-ltb a b h ∙ sym (le-ltb c d (below h)))
     (either (ltb a b))
   where
-    below : T (not (ltb a b)) → d ≤ c
-    below t = ⊎-elim (λ (v : T (ltb c d)). absurd (let z : a < b = g (ltb-yes {a = c} {b = d} v) in omega (arith, ltb-no {a = a} {b = b} t))) (λ (v : T (not (ltb c d))). ltb-no {a = c} {b = d} v) (either (ltb c d))
+    below : b ≤ a → d ≤ c
+    below h = ⊎-elim (λ (v : T (ltb c d)). absurd (let z : a < b = g (ltb-yes v) in omega arith)) (λ (v : T (not (ltb c d))). ltb-no {a = c} {b = d} v) (either (ltb c d))
 
 filled-short : (ys list : List ℕ) (n : ℕ) (after : List ℕ) → Filled ys list n after → ltb (length list / 8) n ≡ ltb (length list / 8) (length ys)
 filled-short ys list n after f =
@@ -125,7 +118,7 @@ filled-short ys list n after f =
 pub answer-short : (o : Option (List ℕ)) (list : List ℕ) (c : ListCount) (after : List ℕ) → ListAnswer o list c after
     → isShort c (length list / 8) ≡ ltb (length list / 8) (countOf o)
 unfolding ListAnswer isShort countOf
-answer-short none list Absent after h = sym (is-no (ltb (length list / 8) 0) (no-ltb {a = length list / 8} {b = 0} (omega arith)))
+answer-short none list Absent after h = sym (le-ltb (length list / 8) 0 (omega arith))
 answer-short none list (Present n) after h = absurd h
 answer-short (some ys) list Absent after h = absurd h
 answer-short (some ys) list (Present n) after h = filled-short ys list n after h

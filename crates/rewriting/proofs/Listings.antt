@@ -8,7 +8,7 @@ use mathlib.Core.Option.{Option, none, some}
 use lib.ListN.{length}
 use lib.Dec.{ltb, leb}
 use borrow.Author.Tests.{ltb-true, ltb-false, leb-true, le-leb, lt-leb}
-use Rattle.readers.specs.Choice.{pick, _and_, zeros}
+use Rattle.readers.specs.Choice.{_and_, zeros}
 use Rattle.readers.specs.Stream.{Item}
 use Rattle.marking.specs.Analysis.{Sections}
 use Rattle.marking.specs.Columns.{padTo}
@@ -17,8 +17,7 @@ use Rattle.rewriting.specs.Indices.{countOf}
 use Rattle.rewriting.specs.Rewriting.{Unit as Unit′, Lists, itemsIn, listOf, listsOf}
 use Rattle.rewriting.specs.NextKept.{itemsBy}
 use Rattle.rewriting.specs.Written.{runBytes, ListHeld}
-use Rattle.rewriting.specs.Gathering.{Filled}
-use Rattle.rewriting.specs.IndexLists.{ReadAs, Found, Passable, Listing, isAbsent, ListAnswer, isShort}
+use Rattle.rewriting.specs.IndexLists.{Passable, Listing, isAbsent, ListAnswer, Settles, isShort}
 use Rattle.rewriting.specs.Emission.{Lent}
 use Rattle.rewriting.specs.Outputs.{listCount, listOr, rangesIn, locationsIn, stringsIn}
 use Rattle.rewriting.specs.Leaving.{haveRoom, ListsAnswer}
@@ -111,11 +110,7 @@ module _ (t : Bool) (r : Reading) (s table unit parents ends marks : List ℕ) (
 
   -- it was gathered and settled
   module _ (h : t ≡ false) (list : List ℕ) (n : ℕ) (mid : List ℕ) (l : length mid ≡ length list) (c : ListCount) (after : List ℕ) where
-    abbrev Settled : ℕ → Type 0
-    Settled name = (x : Sections) (u : Unit′) (ys list₀ : List ℕ) → ReadAs x u r s unit → Found u r s table → list₀ ≡ zeros (length mid) → Filled ys list₀ n mid
-        → ListAnswer (pick (isAbsent x u name items) none (some ys)) list₀ c after
-
-    settled : (k name : ℕ) → Listing k r s table unit parents ends marks first list n mid → Settled name
+    settled : (k name : ℕ) → Listing k r s table unit parents ends marks first list n mid → Settles r s table unit first name n mid c after
         → (x : Sections) (u : Unit′) → Passable x u r s table unit parents ends marks first → first ≡ u .header .first .0 → list ≡ zeros (length list)
         → ListAnswer (listOf x u (isAbsent x u name (itemsIn x u)) k (keptFrom marks 0 [] (itemsIn x u))) list c after
     unfolding listOf
@@ -123,13 +118,13 @@ module _ (t : Bool) (r : Reading) (s table unit parents ends marks : List ℕ) (
         subst (λ (is : List Item). ListAnswer (listOf x u (isAbsent x u name is) k (keptFrom marks 0 [] is)) list c after) (items-here x u p f)
         (s x u _ list (p .read) (p .found) (z ∙ ap zeros (sym l)) (g x u p (subst (ListHeld []) (sym z) (list-none (length list)))))
 
-    pub settled-ranges : Listing 0 r s table unit parents ends marks first list n mid → Settled 0x55 → Answered rangesIn list c after
+    pub settled-ranges : Listing 0 r s table unit parents ends marks first list n mid → Settles r s table unit first 0x55 n mid c after → Answered rangesIn list c after
     settled-ranges g s x u p f z = subst (λ (o : Option (List ℕ)). ListAnswer o list c after) (ranges-are x u t _ h) (settled 0 0x55 g s x u p f z)
 
-    pub settled-locations : Listing 1 r s table unit parents ends marks first list n mid → Settled 0x02 → Answered locationsIn list c after
+    pub settled-locations : Listing 1 r s table unit parents ends marks first list n mid → Settles r s table unit first 0x02 n mid c after → Answered locationsIn list c after
     settled-locations g s x u p f z = subst (λ (o : Option (List ℕ)). ListAnswer o list c after) (locations-are x u t _ h) (settled 1 0x02 g s x u p f z)
 
-    pub settled-strings : Listing 2 r s table unit parents ends marks first list n mid → Settled 0 → Answered stringsIn list c after
+    pub settled-strings : Listing 2 r s table unit parents ends marks first list n mid → Settles r s table unit first 0 n mid c after → Answered stringsIn list c after
     settled-strings g s x u p f z = subst (λ (o : Option (List ℕ)). ListAnswer o list c after) (strings-are x u t _ h) (settled 2 0 g s x u p f z)
 
   abbrev Wanted : List ℕ → List ℕ → List ℕ → Listed → List ℕ → List ℕ → List ℕ → Type 0

@@ -3,7 +3,7 @@ use Prim.Native.Nat.{ℕ, zero, suc, _+_, _-_, _*_, _/_, _^_, _≤_, _<_}
 use mathlib.Core.Path.{_≡_, refl, ap, ap₂, sym, _∙_}
 use mathlib.Core.Bool.{true}
 use mathlib.Core.List.{List, [], _∷_, _++_, append-assoc, append-nil}
-use mathlib.Core.Logic.{_⊎_, inl, inr, ⊎-elim}
+use mathlib.Core.Logic.{⊎-elim}
 use native.Mathlib.Nat.{mul-suc, mul-zero}
 use native.Mathlib.Numerals.{add-one}
 use native.Mathlib.Omega.{arith}
@@ -16,6 +16,7 @@ use Rattle.marking.specs.Members.{Member, here, there}
 use Rattle.rewriting.specs.Written.{put, numberAt, inRoom, runBytes, Held, oldAt}
 use Rattle.marking.proofs.Members.{nothing-in}
 use Rattle.rewriting.proofs.Putting.{drop-zeros}
+use Rattle.rewriting.proofs.IndexMembers.{in-either}
 
 -- every number of a list is below a bound
 abbrev pub Small : ℕ → List ℕ → Type 0
@@ -112,13 +113,8 @@ length-put xs n ys h =
     let b : length (ys ++ drop (n + length ys) xs) ≡ length ys + length (drop (n + length ys) xs) = length-append ys (drop (n + length ys) xs) in
     let d : length (drop (n + length ys) xs) ≡ length xs - (n + length ys) = length-drop (n + length ys) xs in omega arith)
 
-member-append : (v : ℕ) (xs ys : List ℕ) → Member v (xs ++ ys) → Member v xs ⊎ Member v ys
-member-append v [] ys m = inr m
-member-append v (x ∷ xs) ys (here e) = inl (here e)
-member-append v (x ∷ xs) ys (there m) = ⊎-elim (λ (a : Member v xs). inl (there a)) (λ (b : Member v ys). inr b) (member-append v xs ys m)
-
 pub small-append : (n : ℕ) (xs ys : List ℕ) → Small n xs → Small n ys → Small n (xs ++ ys)
-small-append n xs ys f g v m = ⊎-elim (λ (a : Member v xs). f v a) (λ (b : Member v ys). g v b) (member-append v xs ys m)
+small-append n xs ys f g v m = ⊎-elim (λ (a : Member v xs). f v a) (λ (b : Member v ys). g v b) (in-either v xs ys m)
 
 pub small-one : (n x : ℕ) → x < n → Small n (x ∷ [])
 small-one n x h v (here e) = rw e h

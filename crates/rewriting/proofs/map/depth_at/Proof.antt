@@ -1,6 +1,5 @@
 -- `depth_at` meets its contract.
 use native.Mathlib.Omega.{arith}
-use borrow.Author.Needs.{needs}
 use Rattle.rewriting.specs.Written.{depthAt}
 use Rattle.rewriting.proofs.map.depth_at.Statement.{statement}
 use Rattle.rewriting.proofs.map.depth_at.Tie as tie

@@ -1,6 +1,5 @@
 -- `new_at` meets its contract.
 use native.Mathlib.Omega.{arith}
-use borrow.Author.Needs.{needs}
 use Rattle.rewriting.specs.Written.{newAt}
 use Rattle.rewriting.proofs.map.new_at.Statement.{statement}
 use Rattle.rewriting.proofs.map.new_at.Tie as tie
