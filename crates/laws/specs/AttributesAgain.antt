@@ -8,6 +8,7 @@ use mathlib.Core.Option.{some}
 use lib.ListN.{length}
 use lib.Dec.{T}
 use lib.Pow.{areBytes}
+use Rattle.readers.specs.Codes.{«DW_FORM_exprloc»}
 use Rattle.readers.specs.Layout.{Piece, Patch, bytesOf, patchPieces}
 use Rattle.readers.specs.Tokens.{Use, plain, as′}
 use Rattle.readers.specs.Forms.{useOf}
@@ -59,9 +60,9 @@ module _ (f : Patch) where
       pub end : b .value .field .end + old ≡ a .value .field .end + new
       pub number : b .value .field .value ≡ newNumber (useIn a) (a .value .field .value)
       -- constants, strings, addresses, flags, blocks: byte by byte
-      pub bytes : useIn a ≡ plain → (a .value .form ≡ 0x18 → ⊥) → payload output b ≡ payload unit a
+      pub bytes : useIn a ≡ plain → (a .value .form ≡ «DW_FORM_exprloc» → ⊥) → payload output b ≡ payload unit a
       -- exprloc
-      pub operations : a .value .form ≡ 0x18 → SameOperations (payload unit a) (payload output b)
+      pub operations : a .value .form ≡ «DW_FORM_exprloc» → SameOperations (payload unit a) (payload output b)
 
     -- one by one: as many, in the same order
     unfoldable pub SameAttributes : ℕ → ℕ → List ℕ → List ℕ → List Valued → List Valued → Type 0

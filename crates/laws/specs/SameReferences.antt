@@ -10,6 +10,9 @@ use mathlib.Core.Option.{some}
 use lib.Dec.{eqb}
 use Rattle.readers.specs.Abbreviations.{Placed, abbreviationsOf}
 use Rattle.readers.specs.Choice.{pick}
+use Rattle.readers.specs.Codes.{«DW_AT_location», «DW_AT_loclists_base», «DW_AT_sibling», «DW_FORM_exprloc»}
+use Rattle.readers.specs.Codes.{«DW_FORM_loclistx», «DW_FORM_ref1», «DW_FORM_ref_udata», «DW_FORM_sec_offset»}
+use Rattle.readers.specs.Codes.{«DW_LLE_default_location»}
 use Rattle.readers.specs.Header.{headerOf}
 use Rattle.readers.specs.Layout.{Encoded, Role, reference, typeReference, sibling, index, absolute, Piece, linked, Read}
 use Rattle.readers.specs.Expression.{expressionIn}
@@ -60,22 +63,22 @@ pub record RoleReference (rs : List Read) (v : ℕ) : Type 0 where
 -- ---- by forms and operations: what is named in the unit
 
 module _ (e : Encoding) (unit : List ℕ) (v : ℕ) where
-  -- ref1 to ref8 and ref_udata (0x11 to 0x15), behind indirect too, name their number
+  -- ref1 to ref8 and ref_udata, behind indirect too, name their number
   pub record FormNames (a : Attribute) : Type 0 where
-    pub from : 0x11 ≤ a .form
-    pub upto : a .form ≤ 0x15
+    pub from : «DW_FORM_ref1» ≤ a .form
+    pub upto : a .form ≤ «DW_FORM_ref_udata»
     pub is : v ≡ a .field .value
 
-  -- exprloc (0x18) names what its operations do, one after the other, those of entry values included
+  -- exprloc names what its operations do, one after the other, those of entry values included
   pub record ExprlocNames (a : Attribute) : Type 0 where
-    pub exprloc : a .form ≡ 0x18
+    pub exprloc : a .form ≡ «DW_FORM_exprloc»
     pub among : Member v (targets (flatFrom e (partOf unit (a .field)) 0))
 
-  -- v is so named by one of the attributes, not by DW_AT_sibling (0x01)
+  -- v is so named by one of the attributes, not by DW_AT_sibling
   pub record FormReference (values : List Valued) : Type 0 where
     pub attribute : Valued
     pub among : Member attribute values
-    pub no-sibling : attribute .name ≡ 0x01 → ⊥
+    pub no-sibling : attribute .name ≡ «DW_AT_sibling» → ⊥
     pub named : FormNames (attribute .value) ⊎ ExprlocNames (attribute .value)
 
 -- ---- by location lists: what is named in their section s
@@ -91,22 +94,22 @@ module _ (e : Encoding) (s : List ℕ) (v : ℕ) where
   pub record InEntry (x : ListEntry) : Type 0 where
     pub no-index : x .kind ≡ 1 → ⊥
     pub no-address : x .kind ≡ 6 → ⊥
-    pub inside : InExpression (pick (eqb (x .kind) 5) (x .first) (x .third))
+    pub inside : InExpression (pick (eqb (x .kind) «DW_LLE_default_location») (x .first) (x .third))
 
   -- an entry of the list from a place on does
   pub data InList : ℕ → Type 0 where
     this : {at : ℕ} (x : ListEntry) → listEntryAt e true s at ≡ Entry′ x → InEntry x → InList at
     later : {at : ℕ} (x : ListEntry) → listEntryAt e true s at ≡ Entry′ x → InList (x .next .at) → InList at
 
-  -- where a value's list starts: loclistx (0x22) by its index, sec_offset (0x17) by its offset
+  -- where a value's list starts: loclistx by its index, sec_offset by its offset
   unfoldable pub locationList : ℕ → Attribute → ListOffset
   locationList base a =
-      pick (eqb (a .form) 0x22) (listOffset e s base (a .field .value))
-      (pick (eqb (a .form) 0x17) (listStart s (a .field .value)) Unresolved)
+      pick (eqb (a .form) «DW_FORM_loclistx») (listOffset e s base (a .field .value))
+      (pick (eqb (a .form) «DW_FORM_sec_offset») (listStart s (a .field .value)) Unresolved)
 
-  -- the list of a DW_AT_location (0x02)
+  -- the list of a DW_AT_location
   pub record ListedBy (base : ℕ) (a : Valued) : Type 0 where
-    pub location : a .name ≡ 0x02
+    pub location : a .name ≡ «DW_AT_location»
     pub start : Cursor
     pub starts : locationList base (a .value) ≡ At start
     pub inside : InList (start .at)
@@ -125,9 +128,9 @@ module _ (x : Sections) (u : Unit′) where
   abbrev pub readsIn : Entry → List Read
   readsIn y = readsAt x u (y .offset .0)
 
-  -- DW_AT_loclists_base (0x8c): from this entry on
+  -- DW_AT_loclists_base: from this entry on
   abbrev pub baseAt : ℕ → Entry → ℕ
-  baseAt base y = baseOf (u .header .encoding) x (u .bytes) 0x8c base y
+  baseAt base y = baseOf (u .header .encoding) x (u .bytes) «DW_AT_loclists_base» base y
 
   -- the names of an entry's row, which keep entries, given the base of location lists that holds at it
   pub record SameReferences (base : ℕ) (y : Entry) (names : List ℕ) (v : ℕ) : Type 0 where

@@ -5,6 +5,7 @@ use mathlib.Core.Path.{_≡_}
 use mathlib.Core.List.{List}
 use mathlib.Core.Logic.{_↔_}
 use mathlib.Core.Option.{some}
+use Rattle.readers.specs.Codes.{«DW_AT_sibling», «DW_FORM_ref1», «DW_FORM_ref_udata»}
 use Rattle.readers.specs.Abbreviations.{Placed, abbreviationsOf}
 use Rattle.readers.specs.Header.{headerOf}
 use Rattle.readers.specs.Layout.{Encoded, Role, sibling, index, linked, Read}
@@ -38,13 +39,13 @@ pub record FormIndex (values : List Valued) (k v : ℕ) : Type 0 where
   pub form-is : listForm (attribute .value .form) ≡ k
   pub is : v ≡ attribute .value .field .value
 
--- v is in a DW_AT_sibling (0x01), in ref1 to ref8 or ref_udata (0x11 to 0x15), behind indirect too
+-- v is in a DW_AT_sibling, in ref1 to ref8 or ref_udata, behind indirect too
 pub record FormSibling (values : List Valued) (v : ℕ) : Type 0 where
   pub attribute : Valued
   pub among : Member attribute values
-  pub name-is : attribute .name ≡ 0x01
-  pub from : 0x11 ≤ attribute .value .form
-  pub upto : attribute .value .form ≤ 0x15
+  pub name-is : attribute .name ≡ «DW_AT_sibling»
+  pub from : «DW_FORM_ref1» ≤ attribute .value .form
+  pub upto : attribute .value .form ≤ «DW_FORM_ref_udata»
   pub is : v ≡ attribute .value .field .value
 
 -- ---- an entry, a unit

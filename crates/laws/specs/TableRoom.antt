@@ -5,6 +5,7 @@ use Prim.Native.Nat.{ℕ, suc, _+_, _≤_, _<_}
 use mathlib.Core.List.{List, [], _∷_}
 use mathlib.Core.Option.{Option, none, some}
 use lib.ListN.{length, take}
+use Rattle.readers.specs.Codes.{«DW_AT_loclists_base»}
 use Rattle.readers.specs.Abbreviations.{Placed, declaredIn, abbreviationsOf}
 use Rattle.readers.specs.Header.{headerOf}
 use Rattle.readers.specs.Stream.{Item, entry, terminator, itemsFrom}
@@ -51,7 +52,7 @@ module _ (e : Encoding) (x : Sections) (unit : List ℕ) where
   referenceCount base [] = 0
   referenceCount base (terminator a b ∷ rest) = referenceCount base rest
   referenceCount base (entry y ∷ rest) =
-      foundCount (namesOf e x unit (baseOf e x unit 0x8c base y) y) + referenceCount (baseOf e x unit 0x8c base y) rest
+      foundCount (namesOf e x unit (baseOf e x unit «DW_AT_loclists_base» base y) y) + referenceCount (baseOf e x unit «DW_AT_loclists_base» base y) rest
 
   abbrev pub itemTables : List Item → Rooms
   itemTables items = rooms (entryCount items) (referenceCount 12 items)

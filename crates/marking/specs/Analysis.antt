@@ -8,6 +8,7 @@ use mathlib.Core.Option.{Option, none, some}
 use lib.ListN.{length, take}
 use lib.Dec.{ltb, leb}
 use Rattle.readers.specs.Choice.{pick}
+use Rattle.readers.specs.Codes.{«DW_AT_loclists_base», «DW_AT_rnglists_base»}
 use Rattle.readers.specs.Header.{headerOf}
 use Rattle.readers.specs.Abbreviations.{Placed, declaredIn, abbreviationsOf}
 use Rattle.readers.specs.Refusals.{refusalOfChecked, refusalOfStep}
@@ -91,7 +92,7 @@ module _ (e : Encoding) (x : Sections) (unit : List ℕ) where
   unfoldable pub valuesOfEntry : Entry → List Valued
   valuesOfEntry y = entryValues e (x .abbreviations) (y .declaration .attributes .at) unit (y .values .at)
 
-  -- DW_AT_rnglists_base 0x74, DW_AT_loclists_base 0x8c: from this entry's root test on
+  -- DW_AT_rnglists_base, DW_AT_loclists_base: from this entry's root test on
   unfoldable pub rootOf : ℕ → Entry → Verdict
   rootOf base y = rootTest e (rangesBy (x .ranges) (x .addresses) (x .rangesBase) base) unit (tagOf y) (valuesOfEntry y)
 
@@ -112,14 +113,14 @@ module _ (e : Encoding) (x : Sections) (unit : List ℕ) where
         rest whole
     analyseItems p (entry y ∷ rest) whole =
         pick (ltb (p .count) (room .entries))
-        (onVerdict (rootOf (baseOf 0x74 (p .rnglistsBase) y) y) (λ root.
-        onFound (namesOf (baseOf 0x8c (p .loclistsBase) y) y) (λ names.
+        (onVerdict (rootOf (baseOf «DW_AT_rnglists_base» (p .rnglistsBase) y) y) (λ root.
+        onFound (namesOf (baseOf «DW_AT_loclists_base» (p .loclistsBase) y) y) (λ names.
         pick (leb (p .references + length names) (room .references))
         (onto (record { offset = y .offset .0; parent = top (p .stack); root = root; names = names })
         (analyseItems
         (reached (suc (p .count)) (p .references + length names)
         (open′ (y .declaration .children) (p .count) (p .stack))
-        (baseOf 0x74 (p .rnglistsBase) y) (baseOf 0x8c (p .loclistsBase) y))
+        (baseOf «DW_AT_rnglists_base» (p .rnglistsBase) y) (baseOf «DW_AT_loclists_base» (p .loclistsBase) y))
         rest whole))
         (refused 11))))
         (refused 10)

@@ -6,6 +6,9 @@ use mathlib.Core.List.{List, [], _∷_, _++_}
 use lib.ListN.{length}
 use lib.Dec.{leb, eqb}
 use Rattle.readers.specs.Choice.{pick, _and_, _or_}
+use Rattle.readers.specs.Codes.{«DW_AT_location», «DW_AT_sibling», «DW_FORM_exprloc», «DW_FORM_loclistx»}
+use Rattle.readers.specs.Codes.{«DW_FORM_ref1», «DW_FORM_ref_addr», «DW_FORM_ref_udata», «DW_FORM_sec_offset»}
+use Rattle.readers.specs.Codes.{«DW_LLE_base_address», «DW_LLE_base_addressx», «DW_LLE_default_location»}
 unfoldable pub use Rattle.readers.specs.Fields.{partOf}
 use Rattle.readers.specs.Steps.{listEntryAt}
 use Rattle.readers.specs.Refusals.{refusalOfWalk, refusalOfList, refusalOfLocations}
@@ -62,8 +65,8 @@ reachedAt p = p .at
 -- 7.7.3: base_addressx 1 and base_address 6 have no expression, default_location 5 has it first, the others third
 unfoldable pub locationFound : Encoding → List ℕ → ListEntry → Found
 locationFound e s x =
-    pick (eqb (x .kind) 1 or eqb (x .kind) 6) (found [])
-    (expressionFound e (partOf s (pick (eqb (x .kind) 5) (x .first) (x .third))))
+    pick (eqb (x .kind) «DW_LLE_base_addressx» or eqb (x .kind) «DW_LLE_base_address») (found [])
+    (expressionFound e (partOf s (pick (eqb (x .kind) «DW_LLE_default_location») (x .first) (x .third))))
 
 unfoldable pub onFound : List ℕ → ListEntry → Found → Next Reached Found
 onFound sofar x (found ys) = go (record { at = x .next .at; sofar = sofar ++ ys })
@@ -92,18 +95,18 @@ abbrev pub locationsBy : List ℕ → List ℕ → ℕ → Locations
 locationsBy unit locations base = record { unit = unit; locations = locations; loclistsBase = base }
 
 module _ (e : Encoding) (x : Locations) where
-  -- Sibling attributes (0x01) name nothing. ref_addr (0x10) is 7 where it is declared; behind indirect it is copied.
-  -- ref1 to ref8 and ref_udata (0x11 to 0x15) name their value, behind indirect too. exprloc (0x18) by its expression.
-  -- Location lists count only under DW_AT_location (0x02): loclistx (0x22), sec_offset (0x17).
+  -- Sibling attributes name nothing. ref_addr is 7 where it is declared; behind indirect it is copied.
+  -- ref1 to ref8 and ref_udata name their value, behind indirect too. exprloc by its expression.
+  -- Location lists count only under DW_AT_location: loclistx, sec_offset.
   unfoldable pub attributeFound : Valued → Found
   attributeFound a =
-      pick (eqb (a .name) 0x01) (found [])
-      (pick (eqb (a .declared) 0x10) (refused [] 7)
-      (pick (leb 0x11 (a .value .form) and leb (a .value .form) 0x15) (found (a .value .field .value ∷ []))
-      (pick (eqb (a .value .form) 0x18) (expressionFound e (partOf (x .unit) (a .value .field)))
-      (pick (not (eqb (a .name) 0x02)) (found [])
-      (pick (eqb (a .value .form) 0x22) (listFound e (x .locations) (listOffset e (x .locations) (x .loclistsBase) (a .value .field .value)))
-      (pick (eqb (a .value .form) 0x17) (listFound e (x .locations) (listStart (x .locations) (a .value .field .value)))
+      pick (eqb (a .name) «DW_AT_sibling») (found [])
+      (pick (eqb (a .declared) «DW_FORM_ref_addr») (refused [] 7)
+      (pick (leb «DW_FORM_ref1» (a .value .form) and leb (a .value .form) «DW_FORM_ref_udata») (found (a .value .field .value ∷ []))
+      (pick (eqb (a .value .form) «DW_FORM_exprloc») (expressionFound e (partOf (x .unit) (a .value .field)))
+      (pick (not (eqb (a .name) «DW_AT_location»)) (found [])
+      (pick (eqb (a .value .form) «DW_FORM_loclistx») (listFound e (x .locations) (listOffset e (x .locations) (x .loclistsBase) (a .value .field .value)))
+      (pick (eqb (a .value .form) «DW_FORM_sec_offset») (listFound e (x .locations) (listStart (x .locations) (a .value .field .value)))
       (found [])))))))
 
   -- THE references of an entry, by its attributes

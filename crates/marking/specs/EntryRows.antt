@@ -4,6 +4,7 @@ use Prim.Native.Nat.{ℕ, suc}
 use mathlib.Core.List.{List, [], _∷_}
 use mathlib.Core.Logic.{_⊎_}
 use lib.ListN.{take}
+use Rattle.readers.specs.Codes.{«DW_AT_loclists_base», «DW_AT_rnglists_base»}
 use Rattle.readers.specs.Abbreviations.{Placed, declaredIn}
 use Rattle.readers.specs.Nesting.{open′, close, top}
 use Rattle.readers.specs.Stream.{Item, entry, terminator, Items, itemsFrom}
@@ -22,12 +23,12 @@ Tested v root = ((v ≡ Live) × (root ≡ 1)) ⊎ ((v ≡ Dead) × (root ≡ 0)
 module _ (e : Encoding) (x : Sections) (unit : List ℕ) where
   -- the row of an entry inside these open ones, rb and lb being the list bases before it: where it starts, the
   -- innermost open entry as its parent, what the root test finds by table and lists, and all references that it
-  -- holds; by the list bases as its own DW_AT_rnglists_base (0x74) and DW_AT_loclists_base (0x8c) leave them
+  -- holds; by the list bases as its own DW_AT_rnglists_base and DW_AT_loclists_base leave them
   pub record RowOf (stack : List ℕ) (rb lb : ℕ) (y : Entry) (r : Row) : Type 0 where
     pub offset-is : r .offset ≡ y .offset .0
     pub parent-is : r .parent ≡ top stack
-    pub root-is : Tested (rootOf e x unit (baseOf e x unit 0x74 rb y) y) (r .root)
-    pub names-are : namesOf e x unit (baseOf e x unit 0x8c lb y) y ≡ found (r .names)
+    pub root-is : Tested (rootOf e x unit (baseOf e x unit «DW_AT_rnglists_base» rb y) y) (r .root)
+    pub names-are : namesOf e x unit (baseOf e x unit «DW_AT_loclists_base» lb y) y ≡ found (r .names)
 
   -- each row is that of its entry, and there is one for each: items and rows from entry k on, given the open
   -- entries, the innermost first, and the list bases
@@ -37,7 +38,7 @@ module _ (e : Encoding) (x : Sections) (unit : List ℕ) where
   RowsOf k stack rb lb (entry y ∷ rest) [] = ⊥
   RowsOf k stack rb lb (entry y ∷ rest) (r ∷ rows) =
       RowOf stack rb lb y r
-      × RowsOf (suc k) (open′ (y .declaration .children) k stack) (baseOf e x unit 0x74 rb y) (baseOf e x unit 0x8c lb y)
+      × RowsOf (suc k) (open′ (y .declaration .children) k stack) (baseOf e x unit «DW_AT_rnglists_base» rb y) (baseOf e x unit «DW_AT_loclists_base» lb y)
       rest rows
 
 -- the items of a unit: from its first entry on, inside its own bytes, by its declarations; and whether the unit's end

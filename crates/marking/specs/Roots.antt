@@ -6,6 +6,12 @@ use mathlib.Core.List.{List, [], _∷_}
 use lib.ListN.{length}
 use lib.Dec.{ltb, leb, eqb}
 use Rattle.readers.specs.Choice.{pick, _and_, _or_}
+use Rattle.readers.specs.Codes.{«DW_AT_location», «DW_AT_low_pc», «DW_AT_ranges», «DW_FORM_addr», «DW_FORM_addrx»}
+use Rattle.readers.specs.Codes.{«DW_FORM_addrx1», «DW_FORM_addrx4», «DW_FORM_exprloc», «DW_FORM_rnglistx»}
+use Rattle.readers.specs.Codes.{«DW_FORM_sec_offset», «DW_RLE_base_address», «DW_RLE_base_addressx»}
+use Rattle.readers.specs.Codes.{«DW_RLE_offset_pair», «DW_RLE_startx_length», «DW_TAG_compile_unit»}
+use Rattle.readers.specs.Codes.{«DW_TAG_subprogram», «DW_TAG_variable»}
+use Rattle.readers.specs.Operations.{row-address-index}
 use Rattle.readers.specs.Cursors.{cursor}
 use Rattle.readers.specs.Fields.{partOf}
 use Rattle.readers.specs.Steps.{operationAt, listEntryAt}
@@ -76,10 +82,10 @@ module _ (e : Encoding) (table : List ℕ) where
   -- 7.25: base_addressx 1, startx_endx 2, startx_length 3, offset_pair 4, base_address 5, start_end 6, start_length 7
   unfoldable pub rangeEntry : Bool → ListEntry → Turn
   rangeEntry dead x =
-      pick (eqb (x .kind) 1) (onLookup (lookupAt table (x .first .value)) stop (toward x false) (toward x true))
-      (pick (leb (x .kind) 3) (onLookup (lookupAt table (x .first .value)) stop (stop isLive) (toward x dead))
-      (pick (eqb (x .kind) 4) (pick dead (toward x dead) (stop isLive))
-      (pick (eqb (x .kind) 5) (toward x (isTombstone (x .first .value) (e .«address_size»)))
+      pick (eqb (x .kind) «DW_RLE_base_addressx») (onLookup (lookupAt table (x .first .value)) stop (toward x false) (toward x true))
+      (pick (leb (x .kind) «DW_RLE_startx_length») (onLookup (lookupAt table (x .first .value)) stop (stop isLive) (toward x dead))
+      (pick (eqb (x .kind) «DW_RLE_offset_pair») (pick dead (toward x dead) (stop isLive))
+      (pick (eqb (x .kind) «DW_RLE_base_address») (toward x (isTombstone (x .first .value) (e .«address_size»)))
       (pick (isTombstone (x .first .value) (e .«address_size»)) (toward x dead) (stop isLive)))))
 
   unfoldable pub rangeStep : Bool → ListStep → Turn
@@ -96,7 +102,7 @@ module _ (e : Encoding) (table : List ℕ) where
   -- addrx and GNU_addr_index are row 22
   unfoldable pub operationStep : Bool → OperationRead → Turn
   operationStep live (Operation′ op) =
-      pick (eqb (op .row) 22)
+      pick (eqb (op .row) row-address-index)
       (onLookup (lookupAt table (op .first .value)) stop (go (record { at = op .next .at; flag = true })) (go (record { at = op .next .at; flag = live })))
       (go (record { at = op .next .at; flag = live }))
   operationStep live NoOperation = stop (refused (refusalOfOperation NoOperation))
@@ -110,7 +116,7 @@ module _ (e : Encoding) (table : List ℕ) where
 
 -- the older test, version 5: base_address only is skipped; every other entry is live
 unfoldable pub olderStep : ListStep → Turn
-olderStep (Entry x) = pick (eqb (x .kind) 5) (toward x false) (stop isLive)
+olderStep (Entry x) = pick (eqb (x .kind) «DW_RLE_base_address») (toward x false) (stop isLive)
 olderStep End = stop isDead
 olderStep NoEntry = stop (refused (refusalOfList NoEntry))
 
@@ -118,12 +124,12 @@ unfoldable pub olderLive : Encoding → List ℕ → ListOffset → Verdict
 olderLive e s (At c) = walk place (length s) (λ (p : Flagged). olderStep (listEntryAt e false s (p .at))) isDead (record { at = c .at; flag = false })
 olderLive e s Unresolved = isLive
 
--- DW_AT_low_pc: addrx (0x1b, 0x29 to 0x2c) asks the table, addr (0x01) the tombstone test, any other form is live
+-- DW_AT_low_pc: addrx asks the table, addr the tombstone test, any other form is live
 unfoldable pub lowPc : Encoding → List ℕ → Attribute → Verdict
 lowPc e table v =
-    pick (eqb (v .form) 0x1b or (leb 0x29 (v .form) and leb (v .form) 0x2c))
+    pick (eqb (v .form) «DW_FORM_addrx» or (leb «DW_FORM_addrx1» (v .form) and leb (v .form) «DW_FORM_addrx4»))
     (onLookup (lookupAt table (v .field .value)) (λ r. r) isLive isDead)
-    (pick (eqb (v .form) 0x01) (pick (isTombstone (v .field .value) (e .«address_size»)) isDead isLive) isLive)
+    (pick (eqb (v .form) «DW_FORM_addr») (pick (isTombstone (v .field .value) (e .«address_size»)) isDead isLive) isLive)
 
 -- ---- the attributes of an entry
 
@@ -176,13 +182,13 @@ nextAttribute e abbreviations specs unit at = takenBy e unit at (specAt abbrevia
 -- each low_pc in turn
 unfoldable pub lowPcs : Encoding → List ℕ → List Valued → Verdict
 lowPcs e table [] = isDead
-lowPcs e table (a ∷ rest) = pick (eqb (a .name) 0x11) (orElse (lowPc e table (a .value)) (lowPcs e table rest)) (lowPcs e table rest)
+lowPcs e table (a ∷ rest) = pick (eqb (a .name) «DW_AT_low_pc») (orElse (lowPc e table (a .value)) (lowPcs e table rest)) (lowPcs e table rest)
 
--- DW_AT_location in exprloc (0x18), each in turn
+-- DW_AT_location in exprloc, each in turn
 unfoldable pub locations : Encoding → List ℕ → List ℕ → List Valued → Verdict
 locations e table unit [] = isDead
 locations e table unit (a ∷ rest) =
-    pick (eqb (a .name) 0x02 and eqb (a .value .form) 0x18)
+    pick (eqb (a .name) «DW_AT_location» and eqb (a .value .form) «DW_FORM_exprloc»)
     (orElse (locationLive e table (partOf unit (a .value .field))) (locations e table unit rest))
     (locations e table unit rest)
 
@@ -196,35 +202,35 @@ pub record Ranges : Type 0 where
 abbrev pub rangesBy : List ℕ → List ℕ → ℕ → ℕ → Ranges
 rangesBy ranges table rangesBase rnglistsBase = record { ranges = ranges; table = table; rangesBase = rangesBase; rnglistsBase = rnglistsBase }
 
--- DW_AT_ranges not in rnglistx: sec_offset (0x17) by the older test, another form live. The sum has no bound here:
+-- DW_AT_ranges not in rnglistx: sec_offset by the older test, another form live. The sum has no bound here:
 -- above 64 bits it lies past the section's end.
 unfoldable pub otherRanges : Encoding → List ℕ → ℕ → Attribute → Verdict
-otherRanges e ranges base v = pick (eqb (v .form) 0x17) (olderLive e ranges (listStart ranges (base + v .field .value))) isLive
+otherRanges e ranges base v = pick (eqb (v .form) «DW_FORM_sec_offset») (olderLive e ranges (listStart ranges (base + v .field .value))) isLive
 
 module _ (e : Encoding) (x : Ranges) where
-  -- DW_AT_ranges: rnglistx (0x23) by its list
+  -- DW_AT_ranges: rnglistx by its list
   unfoldable pub rangesOf : Attribute → Verdict
   rangesOf v =
-      pick (eqb (v .form) 0x23) (rangesLive e (x .table) (x .ranges) (listOffset e (x .ranges) (x .rnglistsBase) (v .field .value)))
+      pick (eqb (v .form) «DW_FORM_rnglistx») (rangesLive e (x .table) (x .ranges) (listOffset e (x .ranges) (x .rnglistsBase) (v .field .value)))
       (otherRanges e (x .ranges) (x .rangesBase) v)
 
   -- the first ranges attribute decides
   unfoldable pub firstRanges : List Valued → Verdict
   firstRanges [] = isDead
-  firstRanges (a ∷ rest) = pick (eqb (a .name) 0x55) (rangesOf (a .value)) (firstRanges rest)
+  firstRanges (a ∷ rest) = pick (eqb (a .name) «DW_AT_ranges») (rangesOf (a .value)) (firstRanges rest)
 
-  -- THE root test of an entry: a subprogram (0x2e), a variable (0x34); other tags never
+  -- THE root test of an entry: a subprogram, a variable; other tags never
   unfoldable pub rootTest : List ℕ → ℕ → List Valued → Verdict
   rootTest unit tag attributes =
-      pick (eqb tag 0x2e) (orElse (lowPcs e (x .table) attributes) (firstRanges attributes))
-      (pick (eqb tag 0x34) (locations e (x .table) unit attributes) isDead)
+      pick (eqb tag «DW_TAG_subprogram») (orElse (lowPcs e (x .table) attributes) (firstRanges attributes))
+      (pick (eqb tag «DW_TAG_variable») (locations e (x .table) unit attributes) isDead)
 
 -- ---- list bases: 12, or what a compile unit entry's own attribute in sec_offset says, from that entry on; of several the last counts
 
 unfoldable pub baseFrom : ℕ → ℕ → List Valued → ℕ
 baseFrom name base [] = base
-baseFrom name base (a ∷ rest) = baseFrom name (pick (eqb (a .name) name and eqb (a .value .form) 0x17) (a .value .field .value) base) rest
+baseFrom name base (a ∷ rest) = baseFrom name (pick (eqb (a .name) name and eqb (a .value .form) «DW_FORM_sec_offset») (a .value .field .value) base) rest
 
--- DW_AT_rnglists_base 0x74, DW_AT_loclists_base 0x8c; DW_TAG_compile_unit 0x11
+-- DW_AT_rnglists_base, DW_AT_loclists_base; DW_TAG_compile_unit
 unfoldable pub baseAfter : ℕ → ℕ → ℕ → List Valued → ℕ
-baseAfter name base tag attributes = pick (eqb tag 0x11) (baseFrom name base attributes) base
+baseAfter name base tag attributes = pick (eqb tag «DW_TAG_compile_unit») (baseFrom name base attributes) base

@@ -17,6 +17,8 @@ use crate::root_test::base_after;
 use crate::root_test::is_root;
 use readers::abbreviations::Checked;
 use readers::abbreviations::check_abbreviations;
+use readers::codes::DW_AT_loclists_base;
+use readers::codes::DW_AT_rnglists_base;
 use readers::cursor::Cursor;
 use readers::cursor::Encoding;
 use readers::cursor::Moved;
@@ -189,7 +191,7 @@ fn analyse_entries(
                     specs,
                     x.values,
                     declaration.tag,
-                    0x74,
+                    DW_AT_rnglists_base,
                     rnglists_base,
                     e,
                 );
@@ -199,7 +201,7 @@ fn analyse_entries(
                     specs,
                     x.values,
                     declaration.tag,
-                    0x8c,
+                    DW_AT_loclists_base,
                     loclists_base,
                     e,
                 );

@@ -15,6 +15,17 @@ use crate::root_test::EntryAttribute;
 use crate::root_test::NextAttribute;
 use crate::root_test::next_attribute;
 use readers::abbreviations::SpecStep;
+use readers::codes::DW_AT_location;
+use readers::codes::DW_AT_sibling;
+use readers::codes::DW_FORM_exprloc;
+use readers::codes::DW_FORM_loclistx;
+use readers::codes::DW_FORM_ref_addr;
+use readers::codes::DW_FORM_ref_udata;
+use readers::codes::DW_FORM_ref1;
+use readers::codes::DW_FORM_sec_offset;
+use readers::codes::DW_LLE_base_address;
+use readers::codes::DW_LLE_base_addressx;
+use readers::codes::DW_LLE_default_location;
 use readers::cursor::Cursor;
 use readers::cursor::Encoding;
 use readers::cursor::Moved;
@@ -102,13 +113,13 @@ fn scan_location(s: &[u8], x: ListEntry, e: Encoding, targets: &mut [u64], at: u
         × (now (targets .exit) ≡ tableAfter (now (targets .entry)) at found)
         ) ⌝ }
 {
-    if x.kind == 1 {
+    if x.kind == DW_LLE_base_addressx {
         return Scanned::To(at);
     }
-    if x.kind == 6 {
+    if x.kind == DW_LLE_base_address {
         return Scanned::To(at);
     }
-    if x.kind == 5 {
+    if x.kind == DW_LLE_default_location {
         let first = x.first;
         return scan_expression(first.expression(s), e, targets, at);
     }
@@ -196,24 +207,24 @@ fn scan_attribute(
     let v = a.value;
     let field = v.field;
     let form = v.form;
-    if a.name == 0x01 {
+    if a.name == DW_AT_sibling {
         return Scanned::To(at);
     }
-    if a.declared == 0x10 {
+    if a.declared == DW_FORM_ref_addr {
         return Scanned::Refused(7);
     }
-    if form == 0x18 {
+    if form == DW_FORM_exprloc {
         return scan_expression(field.expression(unit), e, targets, at);
     }
-    if form >= 0x11 {
-        if form <= 0x15 {
+    if form >= DW_FORM_ref1 {
+        if form <= DW_FORM_ref_udata {
             return Scanned::To(put(targets, at, UnitOffset(field.value)));
         }
     }
-    if a.name != 0x02 {
+    if a.name != DW_AT_location {
         return Scanned::To(at);
     }
-    if form == 0x22 {
+    if form == DW_FORM_loclistx {
         return scan_loclist_at(
             locations,
             list_offset(locations, loclists_base, field.value, e),
@@ -222,7 +233,7 @@ fn scan_attribute(
             at,
         );
     }
-    if form == 0x17 {
+    if form == DW_FORM_sec_offset {
         return scan_loclist_at(
             locations,
             list_start(locations, field.value),

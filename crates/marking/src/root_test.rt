@@ -11,8 +11,26 @@ use crate::addresses::lookup;
 use readers::abbreviations::SpecStep;
 use readers::attributes::Attribute;
 use readers::attributes::AttributeRead;
+use readers::codes::DW_AT_location;
+use readers::codes::DW_AT_low_pc;
+use readers::codes::DW_AT_ranges;
+use readers::codes::DW_FORM_addr;
+use readers::codes::DW_FORM_addrx;
+use readers::codes::DW_FORM_addrx1;
+use readers::codes::DW_FORM_addrx4;
+use readers::codes::DW_FORM_exprloc;
+use readers::codes::DW_FORM_rnglistx;
+use readers::codes::DW_FORM_sec_offset;
+use readers::codes::DW_RLE_base_address;
+use readers::codes::DW_RLE_base_addressx;
+use readers::codes::DW_RLE_offset_pair;
+use readers::codes::DW_RLE_startx_length;
+use readers::codes::DW_TAG_compile_unit;
+use readers::codes::DW_TAG_subprogram;
+use readers::codes::DW_TAG_variable;
 use readers::cursor::Cursor;
 use readers::cursor::Encoding;
+use readers::layouts::ROW_ADDRESS_INDEX;
 use readers::lists::ListOffset;
 use readers::lists::list_offset;
 use readers::lists::list_start;
@@ -42,28 +60,28 @@ pub fn range_entry(table: &[u8], dead: bool, x: ListEntry, e: Encoding) -> Range
 {
     let first = x.first;
     let kind = x.kind;
-    if kind == 1 {
+    if kind == DW_RLE_base_addressx {
         return match lookup(table, first.value) {
             AddressLookup::Live => RangeTurn::On(false),
             AddressLookup::Dead => RangeTurn::On(true),
             AddressLookup::Fails => RangeTurn::Decided(Verdict::Refused(6)),
         };
     }
-    if kind <= 3 {
+    if kind <= DW_RLE_startx_length {
         return match lookup(table, first.value) {
             AddressLookup::Live => RangeTurn::Decided(Verdict::Live),
             AddressLookup::Dead => RangeTurn::On(dead),
             AddressLookup::Fails => RangeTurn::Decided(Verdict::Refused(6)),
         };
     }
-    if kind == 4 {
+    if kind == DW_RLE_offset_pair {
         if dead {
             return RangeTurn::On(dead);
         }
         return RangeTurn::Decided(Verdict::Live);
     }
     let left_out = is_tombstone(first.value, e.address_size);
-    if kind == 5 {
+    if kind == DW_RLE_base_address {
         return RangeTurn::On(left_out);
     }
     if left_out {
@@ -80,7 +98,7 @@ pub fn ranges_has_live_entry(ranges: &[u8], start: Cursor, e: Encoding) -> Verdi
     loop {
         match c.list_entry(ranges, false, e) {
             ListStep::Entry(x) => {
-                if x.kind != 5 {
+                if x.kind != DW_RLE_base_address {
                     return Verdict::Live;
                 }
                 c = x.next;
@@ -109,7 +127,7 @@ pub fn location_expr_live(s: &[u8], table: &[u8], e: Encoding) -> Verdict
         let row = op.row;
         let first = op.first;
         let next = op.next;
-        if row == 22 {
+        if row == ROW_ADDRESS_INDEX {
             match lookup(table, first.value) {
                 AddressLookup::Live => {
                     live = true;
@@ -134,17 +152,17 @@ pub fn low_pc(v: Attribute, table: &[u8], e: Encoding) -> Verdict
 {
     let field = v.field;
     let form = v.form;
-    if form == 0x01 {
+    if form == DW_FORM_addr {
         if is_tombstone(field.value, e.address_size) {
             return Verdict::Dead;
         }
         return Verdict::Live;
     }
-    if form != 0x1b {
-        if form < 0x29 {
+    if form != DW_FORM_addrx {
+        if form < DW_FORM_addrx1 {
             return Verdict::Live;
         }
-        if form > 0x2c {
+        if form > DW_FORM_addrx4 {
             return Verdict::Live;
         }
     }
@@ -228,7 +246,7 @@ pub fn low_pcs(
         let v = a.value;
         let next = a.next;
         let past = a.values;
-        if a.name == 0x11 {
+        if a.name == DW_AT_low_pc {
             match low_pc(v, table, e) {
                 Verdict::Live => {
                     return Verdict::Live;
@@ -268,8 +286,8 @@ pub fn locations_live(
         let field = v.field;
         let next = a.next;
         let past = a.values;
-        if a.name == 0x02 {
-            if v.form == 0x18 {
+        if a.name == DW_AT_location {
+            if v.form == DW_FORM_exprloc {
                 match location_expr_live(field.expression(unit), table, e) {
                     Verdict::Live => {
                         return Verdict::Live;
@@ -292,7 +310,7 @@ pub fn other_ranges(v: Attribute, ranges: &[u8], ranges_base: u64, e: Encoding) 
     ensures { λ r. ⌜ r ≡ otherRanges e (now (ranges .entry)) «ranges_base» v ⌝ }
 {
     let field = v.field;
-    if v.form != 0x17 {
+    if v.form != DW_FORM_sec_offset {
         return Verdict::Live;
     }
     let len = ranges.len() as u64;
@@ -339,8 +357,8 @@ pub fn first_ranges(
         let field = v.field;
         let next = a.next;
         let past = a.values;
-        if a.name == 0x55 {
-            if v.form != 0x23 {
+        if a.name == DW_AT_ranges {
+            if v.form != DW_FORM_rnglistx {
                 return other_ranges(v, ranges, ranges_base, e);
             }
             let ListOffset::At(start) = list_offset(ranges, rnglists_base, field.value, e) else {
@@ -398,7 +416,7 @@ pub fn is_root(
         r ≡ rootTest e lists (now (unit .entry)) tag attributes
         ) ⌝ }
 {
-    if tag == 0x2e {
+    if tag == DW_TAG_subprogram {
         return match low_pcs(unit, abbreviations, specs, values, table, e) {
             Verdict::Live => Verdict::Live,
             Verdict::Dead => first_ranges(
@@ -415,7 +433,7 @@ pub fn is_root(
             Verdict::Refused(n) => Verdict::Refused(n),
         };
     }
-    if tag == 0x34 {
+    if tag == DW_TAG_variable {
         return locations_live(unit, abbreviations, specs, values, table, e);
     }
     Verdict::Dead
@@ -438,7 +456,7 @@ pub fn base_after(
         r ≡ baseAfter name base tag attributes
         ) ⌝ }
 {
-    if tag != 0x11 {
+    if tag != DW_TAG_compile_unit {
         return base;
     }
     let mut p = specs;
@@ -453,7 +471,7 @@ pub fn base_after(
         let next = a.next;
         let past = a.values;
         if a.name == name {
-            if v.form == 0x17 {
+            if v.form == DW_FORM_sec_offset {
                 latest = field.value;
             }
         }

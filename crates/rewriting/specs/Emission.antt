@@ -7,6 +7,8 @@ use mathlib.Core.Option.{Option, none, some}
 use lib.ListN.{length, take, drop}
 use lib.Dec.{ltb, leb, eqb}
 use Rattle.readers.specs.Choice.{pick, _and_, _or_}
+use Rattle.readers.specs.Codes.{«DW_FORM_GNU_str_index», «DW_FORM_loclistx», «DW_FORM_ref_udata», «DW_FORM_rnglistx»}
+use Rattle.readers.specs.Codes.{«DW_FORM_strx», «DW_FORM_strx1», «DW_FORM_strx4»}
 use Rattle.readers.specs.Numbers.{fixedBytes}
 use Rattle.readers.specs.Layout.{Encoded}
 use Rattle.rewriting.specs.Written.{ListHeld}
@@ -85,14 +87,14 @@ offsetRefusal e v o = pick (isSome o) (numberRefusal e (orSelf v o)) 8
 -- rnglistx 0; loclistx 1; strx, strx1 to strx4 and GNU_str_index 2; no index 3
 unfoldable pub listForm : ℕ → ℕ
 listForm f =
-    pick (eqb f 0x23) 0
-    (pick (eqb f 0x22) 1
-    (pick (eqb f 0x1a or (leb 0x25 f and leb f 0x28) or eqb f 0x1f02) 2
+    pick (eqb f «DW_FORM_rnglistx») 0
+    (pick (eqb f «DW_FORM_loclistx») 1
+    (pick (eqb f «DW_FORM_strx» or (leb «DW_FORM_strx1» f and leb f «DW_FORM_strx4») or eqb f «DW_FORM_GNU_str_index») 2
     3))
 
 -- ref_udata, strx, loclistx, rnglistx, GNU_str_index
 unfoldable pub lebForm : ℕ → Bool
-lebForm f = eqb f 0x15 or eqb f 0x1a or eqb f 0x22 or eqb f 0x23 or eqb f 0x1f02
+lebForm f = eqb f «DW_FORM_ref_udata» or eqb f «DW_FORM_strx» or eqb f «DW_FORM_loclistx» or eqb f «DW_FORM_rnglistx» or eqb f «DW_FORM_GNU_str_index»
 
 -- ---- lists as they are lent
 

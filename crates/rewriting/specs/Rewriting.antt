@@ -6,6 +6,7 @@ use mathlib.Core.Option.{Option, none, some}
 use lib.ListN.{length, take, drop}
 use lib.Dec.{ltb, leb, eqb}
 use Rattle.readers.specs.Choice.{pick, _and_, _or_}
+use Rattle.readers.specs.Codes.{«DW_AT_location», «DW_AT_ranges»}
 use Rattle.readers.specs.Numbers.{fixedBytes}
 use Rattle.readers.specs.Layout.{Encoded, infixed, inleb, Role, reference, typeReference, sibling, index, absolute, Piece, copied, linked, Read, RunOf, Patch, patchAll, readIn, writeAll}
 use Rattle.readers.specs.Expression.{expressionIn}
@@ -79,12 +80,12 @@ module _ (x : Sections) (u : Unit) where
   unfoldable pub listOf : Bool → ℕ → List Standing → Option (List ℕ)
   listOf absent k kept = pick absent none (some (insertAll (indicesFrom k kept) []))
 
-  -- DW_AT_ranges 0x55, DW_AT_location 0x02
+  -- DW_AT_ranges, DW_AT_location
   unfoldable pub listsOf : Bool → List Standing → Lists
   listsOf typeUnits kept =
       record {
-        ranges = listOf (typeUnits or anyDeclares 0x55 (itemsIn x u)) 0 kept;
-        locations = listOf (typeUnits or anyDeclares 0x02 (itemsIn x u)) 1 kept;
+        ranges = listOf (typeUnits or anyDeclares «DW_AT_ranges» (itemsIn x u)) 0 kept;
+        locations = listOf (typeUnits or anyDeclares «DW_AT_location» (itemsIn x u)) 1 kept;
         strings = listOf typeUnits 2 kept;
       }
 

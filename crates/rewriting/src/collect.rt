@@ -29,6 +29,8 @@ use marking::columns::clear_bytes;
 use marking::columns::clear_indexes;
 use marking::units::UnitMarks;
 use marking::units::mark_unit;
+use readers::codes::DW_AT_location;
+use readers::codes::DW_AT_ranges;
 use readers::header::HeaderRead;
 use readers::header::UnitHeader;
 use readers::header::unit_header;
@@ -194,7 +196,7 @@ fn index_lists(
         r,
         index,
         first,
-        0x55,
+        DW_AT_ranges,
         g.ranges,
         range_list,
     );
@@ -207,7 +209,7 @@ fn index_lists(
         r,
         index,
         first,
-        0x02,
+        DW_AT_location,
         g.locations,
         location_list,
     );

@@ -33,6 +33,16 @@ use crate::siblings::sibling_offset;
 use marking::root_test::EntryAttribute;
 use marking::root_test::NextAttribute;
 use marking::root_test::next_attribute;
+use readers::codes::DW_AT_sibling;
+use readers::codes::DW_FORM_GNU_str_index;
+use readers::codes::DW_FORM_exprloc;
+use readers::codes::DW_FORM_loclistx;
+use readers::codes::DW_FORM_ref_udata;
+use readers::codes::DW_FORM_ref1;
+use readers::codes::DW_FORM_rnglistx;
+use readers::codes::DW_FORM_strx;
+use readers::codes::DW_FORM_strx1;
+use readers::codes::DW_FORM_strx4;
 use readers::cursor::Cursor;
 use readers::cursor::Encoding;
 use readers::expressions::Yield;
@@ -160,22 +170,22 @@ fn emit_expression(s: &[u8], e: Encoding, map: &[u8], places: usize, out: &mut [
 pub fn list_of(form: u64) -> u8
     ensures { λ r. ⌜ r ≡ listForm form ⌝ }
 {
-    if form == 0x23 {
+    if form == DW_FORM_rnglistx {
         return 0;
     }
-    if form == 0x22 {
+    if form == DW_FORM_loclistx {
         return 1;
     }
-    if form == 0x1a {
+    if form == DW_FORM_strx {
         return 2;
     }
-    if form < 0x25 {
+    if form < DW_FORM_strx1 {
         return 3;
     }
-    if form <= 0x28 {
+    if form <= DW_FORM_strx4 {
         return 2;
     }
-    if form == 0x1f02 {
+    if form == DW_FORM_GNU_str_index {
         return 2;
     }
     3
@@ -185,19 +195,19 @@ pub fn list_of(form: u64) -> u8
 fn is_leb(form: u64) -> bool
     ensures { λ r. ⌜ r ≡ lebForm form ⌝ }
 {
-    if form == 0x15 {
+    if form == DW_FORM_ref_udata {
         return true;
     }
-    if form == 0x1a {
+    if form == DW_FORM_strx {
         return true;
     }
-    if form == 0x22 {
+    if form == DW_FORM_loclistx {
         return true;
     }
-    if form == 0x23 {
+    if form == DW_FORM_rnglistx {
         return true;
     }
-    form == 0x1f02
+    form == DW_FORM_GNU_str_index
 }
 
 // An index by its rank; as it is where its list is absent.
@@ -254,15 +264,15 @@ fn emit_attribute(
     let form = v.form;
     let to = emit_bytes(bytes_between(unit, values.at, field.start), out);
     let leb = is_leb(form);
-    if form == 0x18 {
+    if form == DW_FORM_exprloc {
         return after(
             to,
             emit_expression(field.expression(unit), e, map, places, &mut out[to..]),
         );
     }
-    if form >= 0x11 {
-        if form <= 0x15 {
-            if a.name == 0x01 {
+    if form >= DW_FORM_ref1 {
+        if form <= DW_FORM_ref_udata {
+            if a.name == DW_AT_sibling {
                 return after(
                     to,
                     emit_offset(

@@ -26,6 +26,7 @@ use marking::root_test::NextAttribute;
 use marking::root_test::next_attribute;
 use readers::abbreviations::DeclarationStep;
 use readers::abbreviations::SpecStep;
+use readers::codes::DW_FORM_sec_offset;
 use readers::cursor::Cursor;
 use readers::cursor::Encoding;
 use readers::entries::Nesting;
@@ -54,7 +55,7 @@ fn entry_declares(
         p = a.next;
         from = a.values;
         if a.name == name {
-            if a.declared == 0x17 {
+            if a.declared == DW_FORM_sec_offset {
                 return true;
             }
         }
@@ -310,7 +311,7 @@ fn specs_declare(abbreviations: &[u8], specs: Cursor, name: u64) -> bool
             SpecStep::Attribute(a) => {
                 p = a.next;
                 if a.name == name {
-                    if a.form == 0x17 {
+                    if a.form == DW_FORM_sec_offset {
                         return true;
                     }
                 }
