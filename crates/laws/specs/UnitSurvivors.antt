@@ -15,7 +15,7 @@ use Rattle.readers.specs.declared.header.HeaderRead.the-variants.{Unit as Unit�
 use Rattle.marking.specs.Members.{Member, Nth}
 use Rattle.marking.specs.Below.{Number}
 use Rattle.marking.specs.Graph.{Graph, size, noParent, isParent, isRoot, names}
-use Rattle.marking.specs.Survivors.{Kept}
+use Rattle.marking.specs.Survivors.{Kept, ClosedBy, LeastBy}
 use Rattle.laws.specs.Markings.{run, nothing, MarksSurvivors}
 use Rattle.marking.specs.Marks.{isKept, keptCount}
 use Rattle.laws.specs.Marks.{Says}
@@ -51,18 +51,11 @@ pub data Below (rows : List Row) : ℕ → ℕ → Type 0 where
   deeper : {r p d : ℕ} → Below rows r p → ParentIn rows p d → Below rows r d
 
 -- S holds all that survivors must
-pub record ClosedRows (rows : List Row) (S : ℕ → Type 0) : Type 0 where
-  pub has-first : 0 < length rows → S 0
-  pub has-roots : (i : ℕ) → RootIn rows i → S i
-  pub has-parents : (p i : ℕ) → ParentIn rows p i → S i → S p
-  pub has-named : (s t : ℕ) → NamesIn rows s t → S s → S t
-  pub has-under-roots : (r d : ℕ) → RootIn rows r → Below rows r d → S d
-  pub has-under-named : (s t d : ℕ) → NamesIn rows s t → S s → Below rows t d → S d
+abbrev pub ClosedRows : List Row → (ℕ → Type 0) → Type 0
+ClosedRows rows S = ClosedBy (length rows) (RootIn rows) (ParentIn rows) (Below rows) (NamesIn rows) S
 
--- "every other set like that contains it"
-pub record LeastRows (rows : List Row) (S : ℕ → Type 0) : Type 1 where
-  pub closed : ClosedRows rows S
-  pub least : (R : ℕ → Type 0) → ClosedRows rows R → (i : ℕ) → S i → R i
+abbrev pub LeastRows : List Row → (ℕ → Type 0) → Type 1
+LeastRows rows S = LeastBy (length rows) (RootIn rows) (ParentIn rows) (Below rows) (NamesIn rows) S
 
 -- ---- what the rows say of the entries
 

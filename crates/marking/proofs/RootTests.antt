@@ -22,7 +22,6 @@ use Rattle.marking.specs.declared.root_test.NextAttribute.{NextAttribute
 use Rattle.marking.specs.declared.root_test.NextAttribute.the-variants.{More, NoMore}
 use Rattle.marking.specs.declared.root_test.Verdict.{Verdict}
 use Rattle.marking.specs.declared.root_test.Verdict.the-variants.{Live as isLive, Dead as isDead, Refused as refused}
-use Rattle.readers.proofs.Tokens.{Inside}
 use Rattle.marking.proofs.Attributes.{valued, stepped, stepped-on, no-more}
 use Rattle.marking.proofs.Lists.{rangesFrom, ranges-start}
 
@@ -31,9 +30,6 @@ use Rattle.marking.proofs.Lists.{rangesFrom, ranges-start}
 module _ (e : Encoding) (s unit : List ℕ) (p at : ℕ) (n : NextAttribute) (q : n ≡ nextAttribute e s p unit at) where
   pub attributes-less : (x : EntryAttribute) → n ≡ More x → length s - x .next .at < length s - p
   attributes-less x r = omega (arith, stepped e s p unit at x (sym q ∙ r) .ahead, stepped e s p unit at x (sym q ∙ r) .inside)
-
-  pub attributes-within : (x : EntryAttribute) → n ≡ More x → Inside unit at (x .value .field)
-  attributes-within x r = stepped e s p unit at x (sym q ∙ r) .within
 
   module _ {X : Type 0} (test : List Valued → X) where
     attributes-end : n ≡ NoMore → test (entryValues e s p unit at) ≡ test []

@@ -24,17 +24,16 @@ pub record Sound (g : Graph) (m : List ℕ) : Type 0 where
   pub roots : (i : ℕ) → isRoot g i ≡ true → 3 ≤ getD m i 0
   pub first : 0 < size g → 2 ≤ getD m 0 0
 
--- from the marks m to the marks m′, for the graphs of which On holds. r says whether a mark rose; if none did, Done
--- holds.
-pub record Pass (On : Graph → Type 0) (Done : Type 0) (m m′ : List ℕ) (r : Bool) : Type 0 where
+-- from the marks m to the marks m′, for the graphs of which On holds
+pub record Spread (On : Graph → Type 0) (m m′ : List ℕ) : Type 0 where
   pub sound : (g : Graph) → On g → Sound g m → Sound g m′
+
+-- the same, where r says whether a mark rose; if none did, Done holds
+pub record Pass (On : Graph → Type 0) (Done : Type 0) (m m′ : List ℕ) (r : Bool) : Type 0 where
+  pub spread : Spread On m m′
   pub more : r ≡ true → sum m < sum m′
   pub same : r ≡ false → m′ ≡ m
   pub done : r ≡ false → Done
-
--- the same, where only the marks count
-pub record Spread (On : Graph → Type 0) (m m′ : List ℕ) : Type 0 where
-  pub sound : (g : Graph) → On g → Sound g m → Sound g m′
 
 abbrev pub WithParents : List ℕ → Graph → Type 0
 WithParents ps g = g .parents ≡ ps

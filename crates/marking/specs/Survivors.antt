@@ -26,16 +26,30 @@ pub data Live (g : Graph) : ℕ → Type 0 where
   live-under-root : {r d : ℕ} → isRoot g r ≡ true → Descendant g r d → Live g d
   live-under-named : {s t d : ℕ} → names g s t ≡ true → Kept g s → Descendant g t d → Live g d
 
--- S holds what demand 3 says of survivors
-pub record Closed (g : Graph) (S : ℕ → Type 0) : Type 0 where
-  pub has-first : 0 < size g → S 0
-  pub has-roots : (i : ℕ) → isRoot g i ≡ true → S i
-  pub has-parents : (p i : ℕ) → isParent g p i ≡ true → S i → S p
-  pub has-named : (s t : ℕ) → names g s t ≡ true → S s → S t
-  pub has-under-roots : (r d : ℕ) → isRoot g r ≡ true → Descendant g r d → S d
-  pub has-under-named : (s t d : ℕ) → names g s t ≡ true → S s → Descendant g t d → S d
+-- S holds what demand 3 says of survivors: by how many entries there are, which are roots, whose parent and whose
+-- descendant is which, and what a reference of which names
+pub record ClosedBy (entries : ℕ) (Root : ℕ → Type 0) (Parent Under Names : ℕ → ℕ → Type 0)
+    (S : ℕ → Type 0) : Type 0 where
+  pub has-first : 0 < entries → S 0
+  pub has-roots : (i : ℕ) → Root i → S i
+  pub has-parents : (p i : ℕ) → Parent p i → S i → S p
+  pub has-named : (s t : ℕ) → Names s t → S s → S t
+  pub has-under-roots : (r d : ℕ) → Root r → Under r d → S d
+  pub has-under-named : (s t d : ℕ) → Names s t → S s → Under t d → S d
 
 -- "every other set like that contains it"
-pub record Least (g : Graph) (S : ℕ → Type 0) : Type 1 where
-  pub closed : Closed g S
-  pub least : (R : ℕ → Type 0) → Closed g R → (i : ℕ) → S i → R i
+pub record LeastBy (entries : ℕ) (Root : ℕ → Type 0) (Parent Under Names : ℕ → ℕ → Type 0)
+    (S : ℕ → Type 0) : Type 1 where
+  pub closed : ClosedBy entries Root Parent Under Names S
+  pub least : (R : ℕ → Type 0) → ClosedBy entries Root Parent Under Names R → (i : ℕ) → S i → R i
+
+-- by a graph
+abbrev pub Closed : Graph → (ℕ → Type 0) → Type 0
+Closed g S =
+    ClosedBy (size g) (λ i. isRoot g i ≡ true) (λ p i. isParent g p i ≡ true)
+    (Descendant g) (λ s t. names g s t ≡ true) S
+
+abbrev pub Least : Graph → (ℕ → Type 0) → Type 1
+Least g S =
+    LeastBy (size g) (λ i. isRoot g i ≡ true) (λ p i. isParent g p i ≡ true)
+    (Descendant g) (λ s t. names g s t ≡ true) S

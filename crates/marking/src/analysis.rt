@@ -154,19 +154,21 @@ fn analyse_entries(
     offsets: &mut [u64],
     parents: &mut [u32],
     roots: &mut [u8],
-    ends: &mut [u64],
+    reference_ends: &mut [u64],
     targets: &mut [u64],
 ) -> Analysis
     requires { ⌜ Ready (now abbreviations) (now index) from (now unit) «entry_room» «reference_room»
-        (now offsets) (now parents) (now roots) (now ends) (now targets) ⌝ }
+        (now offsets) (now parents) (now roots) (now «reference_ends») (now targets) ⌝ }
     ensures { λ r. ⌜ (
         let lent = sections (now (abbreviations .entry)) (now (locations .entry)) (now (ranges .entry))
         (now (addresses .entry)) «ranges_base» in
         let found = unitAnalysed e lent (now (unit .entry)) (rooms «entry_room» «reference_room») from (first .at) in
         (r ≡ answerOf found)
         × Outcome found
-        (now (offsets .entry)) (now (parents .entry)) (now (roots .entry)) (now (ends .entry)) (now (targets .entry))
-        (now (offsets .exit)) (now (parents .exit)) (now (roots .exit)) (now (ends .exit)) (now (targets .exit))
+        (now (offsets .entry)) (now (parents .entry)) (now (roots .entry)) (now («reference_ends» .entry))
+        (now (targets .entry))
+        (now (offsets .exit)) (now (parents .exit)) (now (roots .exit)) (now («reference_ends» .exit))
+        (now (targets .exit))
         ) ⌝ }
 {
     let mut c = first;
@@ -233,7 +235,7 @@ fn analyse_entries(
                         offsets[count] = offset.0;
                         parents[count] = parent.0;
                         roots[count] = root;
-                        ends[count] = place as u64;
+                        reference_ends[count] = place as u64;
                         nesting = nesting.after_entry(
                             EntryIndex(count as u32),
                             declaration.children,
@@ -268,12 +270,18 @@ fn least_of(a: usize, b: usize) -> usize
 }
 
 // How many entries a table has room for: at most so many, and as many as its shortest column has.
-fn entry_room(entries: usize, offsets: usize, parents: usize, roots: usize, ends: usize) -> usize
-    ensures { λ r. ⌜ r ≡ least entries (least (least offsets parents) (least roots ends)) ⌝ }
+fn entry_room(
+    entries: usize,
+    offsets: usize,
+    parents: usize,
+    roots: usize,
+    reference_ends: usize,
+) -> usize
+    ensures { λ r. ⌜ r ≡ least entries (least (least offsets parents) (least roots «reference_ends»)) ⌝ }
 {
     least_of(
         entries,
-        least_of(least_of(offsets, parents), least_of(roots, ends)),
+        least_of(least_of(offsets, parents), least_of(roots, reference_ends)),
     )
 }
 
@@ -282,19 +290,21 @@ pub fn clear_columns(
     offsets: &mut [u64],
     parents: &mut [u32],
     roots: &mut [u8],
-    ends: &mut [u64],
+    reference_ends: &mut [u64],
     targets: &mut [u64],
 )
-    ensures offsets { λ _. ⌜ now (offsets .exit) ≡ zeros (length (now (offsets .entry))) ⌝ }
-    ensures parents { λ _. ⌜ now (parents .exit) ≡ zeros (length (now (parents .entry))) ⌝ }
-    ensures roots { λ _. ⌜ now (roots .exit) ≡ zeros (length (now (roots .entry))) ⌝ }
-    ensures ends { λ _. ⌜ now (ends .exit) ≡ zeros (length (now (ends .entry))) ⌝ }
-    ensures targets { λ _. ⌜ now (targets .exit) ≡ zeros (length (now (targets .entry))) ⌝ }
+    ensures { λ _. ⌜
+        (now (offsets .exit) ≡ zeros (length (now (offsets .entry))))
+        × ((now (parents .exit) ≡ zeros (length (now (parents .entry))))
+        × ((now (roots .exit) ≡ zeros (length (now (roots .entry))))
+        × ((now («reference_ends» .exit) ≡ zeros (length (now («reference_ends» .entry))))
+        × (now (targets .exit) ≡ zeros (length (now (targets .entry)))))))
+        ⌝ }
 {
     clear(offsets);
     clear_indexes(parents);
     clear_bytes(roots);
-    clear(ends);
+    clear(reference_ends);
     clear(targets);
 }
 
@@ -304,7 +314,7 @@ fn clear_refused(
     offsets: &mut [u64],
     parents: &mut [u32],
     roots: &mut [u8],
-    ends: &mut [u64],
+    reference_ends: &mut [u64],
     targets: &mut [u64],
 ) -> Analysis
     ensures { λ r. ⌜
@@ -312,7 +322,7 @@ fn clear_refused(
         × ((now (offsets .exit) ≡ leftBy answer (now (offsets .entry)))
         × ((now (parents .exit) ≡ leftBy answer (now (parents .entry)))
         × ((now (roots .exit) ≡ leftBy answer (now (roots .entry)))
-        × ((now (ends .exit) ≡ leftBy answer (now (ends .entry)))
+        × ((now («reference_ends» .exit) ≡ leftBy answer (now («reference_ends» .entry)))
         × (now (targets .exit) ≡ leftBy answer (now (targets .entry)))))))
         ⌝ }
 {
@@ -325,7 +335,7 @@ fn clear_refused(
             references,
         },
         Analysis::Refused(n) => {
-            clear_columns(offsets, parents, roots, ends, targets);
+            clear_columns(offsets, parents, roots, reference_ends, targets);
             Analysis::Refused(n)
         }
     }
@@ -346,11 +356,11 @@ fn analyse_unit(
     offsets: &mut [u64],
     parents: &mut [u32],
     roots: &mut [u8],
-    ends: &mut [u64],
+    reference_ends: &mut [u64],
     targets: &mut [u64],
 ) -> Analysis
     requires { ⌜ Ready (now abbreviations) (now index) (h .abbreviations) (take (h .end) (now section))
-        «entry_room» «reference_room» (now offsets) (now parents) (now roots) (now ends) (now targets) ⌝ }
+        «entry_room» «reference_room» (now offsets) (now parents) (now roots) (now «reference_ends») (now targets) ⌝ }
     ensures { λ r. ⌜ (
         let lent = sections (now (abbreviations .entry)) (now (locations .entry)) (now (ranges .entry))
         (now (addresses .entry)) «ranges_base» in
@@ -360,7 +370,7 @@ fn analyse_unit(
         × ((now (offsets .exit) ≡ column offsetsIn (length (now (offsets .entry))) found)
         × ((now (parents .exit) ≡ column parentsIn (length (now (parents .entry))) found)
         × ((now (roots .exit) ≡ column rootsIn (length (now (roots .entry))) found)
-        × ((now (ends .exit) ≡ column (endsIn 0) (length (now (ends .entry))) found)
+        × ((now («reference_ends» .exit) ≡ column (endsIn 0) (length (now («reference_ends» .entry))) found)
         × (now (targets .exit) ≡ column namesIn (length (now (targets .entry))) found)))))
         ) ⌝ }
 {
@@ -383,10 +393,10 @@ fn analyse_unit(
         offsets,
         parents,
         roots,
-        ends,
+        reference_ends,
         targets,
     );
-    clear_refused(answer, offsets, parents, roots, ends, targets)
+    clear_refused(answer, offsets, parents, roots, reference_ends, targets)
 }
 
 // The unit of a section, its declarations checked and the index of them filled: 1 and 2 of the header, 3 of the
@@ -433,14 +443,14 @@ pub fn analyse(
     offsets: &mut [u64],
     parents: &mut [u32],
     roots: &mut [u8],
-    ends: &mut [u64],
+    reference_ends: &mut [u64],
     targets: &mut [u64],
 ) -> Analysis
     ensures { λ r. ⌜ (
         let lent = sections (now (abbreviations .entry)) (now (locations .entry)) (now (ranges .entry))
         (now (addresses .entry)) «ranges_base» in
         let room = roomsOf entries references (length (now (offsets .entry))) (length (now (parents .entry)))
-        (length (now (roots .entry))) (length (now (ends .entry))) (length (now (targets .entry))) in
+        (length (now (roots .entry))) (length (now («reference_ends» .entry))) (length (now (targets .entry))) in
         let found = analysisOf lent (now (section .entry)) room in
         let header = headerOf (now (section .entry)) in
         (r ≡ answerOf found)
@@ -448,11 +458,11 @@ pub fn analyse(
         × ((now (offsets .exit) ≡ column offsetsIn (length (now (offsets .entry))) found)
         × ((now (parents .exit) ≡ column parentsIn (length (now (parents .entry))) found)
         × ((now (roots .exit) ≡ column rootsIn (length (now (roots .entry))) found)
-        × ((now (ends .exit) ≡ column (endsIn 0) (length (now (ends .entry))) found)
+        × ((now («reference_ends» .exit) ≡ column (endsIn 0) (length (now («reference_ends» .entry))) found)
         × (now (targets .exit) ≡ column namesIn (length (now (targets .entry))) found))))))
         ) ⌝ }
 {
-    clear_columns(offsets, parents, roots, ends, targets);
+    clear_columns(offsets, parents, roots, reference_ends, targets);
     match find_unit(section, abbreviations, index) {
         UnitFound::Answered(answer) => answer,
         UnitFound::Unit(h) => {
@@ -461,7 +471,7 @@ pub fn analyse(
                 offsets.len(),
                 parents.len(),
                 roots.len(),
-                ends.len(),
+                reference_ends.len(),
             );
             analyse_unit(
                 section,
@@ -477,7 +487,7 @@ pub fn analyse(
                 offsets,
                 parents,
                 roots,
-                ends,
+                reference_ends,
                 targets,
             )
         }

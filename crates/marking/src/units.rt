@@ -90,17 +90,19 @@ fn resolve_entry(
 // The pairs of all references.
 fn resolve(
     offsets: &[u64],
-    ends: &[u64],
+    reference_ends: &[u64],
     entries: usize,
     targets: &[u64],
     pairs: &mut [u32],
 ) -> usize
-    requires { ⌜ Resolvable (now offsets) (now ends) entries (now targets) (now pairs) ⌝ }
+    requires { ⌜ Resolvable (now offsets) (now «reference_ends») entries (now targets) (now pairs) ⌝ }
     ensures answer { λ r. ⌜ ((rows : List Row)
-        → Held rows (now (offsets .entry)) (now (ends .entry)) entries (now (targets .entry)) (now (pairs .entry))
+        → Held rows (now (offsets .entry)) (now («reference_ends» .entry)) entries
+        (now (targets .entry)) (now (pairs .entry))
         → 2 * r ≡ length (pairsIn rows)) ⌝ }
     ensures filled { λ r. ⌜ ((rows : List Row)
-        → Held rows (now (offsets .entry)) (now (ends .entry)) entries (now (targets .entry)) (now (pairs .entry))
+        → Held rows (now (offsets .entry)) (now («reference_ends» .entry)) entries
+        (now (targets .entry)) (now (pairs .entry))
         → now (pairs .exit) ≡ padTo (length (now (pairs .entry))) (pairsIn rows)) ⌝ }
 {
     let mut place: usize = 0;
@@ -108,7 +110,7 @@ fn resolve(
     let mut i = EntryIndex(0);
     while (i.0 as usize) < entries {
         let k = i.0 as usize;
-        let to = ends[k] as usize;
+        let to = reference_ends[k] as usize;
         place = resolve_entry(offsets, entries, targets, from, to, i, pairs, place);
         from = to;
         i = EntryIndex(i.0 + 1);
@@ -121,30 +123,33 @@ fn mark_rows(
     offsets: &[u64],
     parents: &[u32],
     roots: &[u8],
-    ends: &[u64],
+    reference_ends: &[u64],
     entries: usize,
     marks: &mut [u8],
     targets: &[u64],
     pairs: &mut [u32],
     work: &mut [u32],
 ) -> UnitMarks
-    requires { ⌜ Markable (now offsets) (now parents) (now roots) (now ends) entries (now marks) (now targets)
-        (now pairs) ⌝ }
+    requires { ⌜ Markable (now offsets) (now parents) (now roots) (now «reference_ends») entries (now marks)
+        (now targets) (now pairs) ⌝ }
     ensures answer { λ r. ⌜ ((rows : List Row)
-        → Laid rows (now (offsets .entry)) (now (parents .entry)) (now (roots .entry)) (now (ends .entry)) entries
+        → Laid rows (now (offsets .entry)) (now (parents .entry)) (now (roots .entry))
+        (now («reference_ends» .entry)) entries
         (now (marks .entry)) (now (targets .entry)) (now (pairs .entry))
         → r ≡ unitMarks (analysed rows)) ⌝ }
     ensures marks { λ r. ⌜ ((rows : List Row)
-        → Laid rows (now (offsets .entry)) (now (parents .entry)) (now (roots .entry)) (now (ends .entry)) entries
+        → Laid rows (now (offsets .entry)) (now (parents .entry)) (now (roots .entry))
+        (now («reference_ends» .entry)) entries
         (now (marks .entry)) (now (targets .entry)) (now (pairs .entry))
         → now (marks .exit) ≡ padTo (length (now (marks .entry))) (marksIn rows)) ⌝ }
     ensures pairs { λ r. ⌜ ((rows : List Row)
-        → Laid rows (now (offsets .entry)) (now (parents .entry)) (now (roots .entry)) (now (ends .entry)) entries
+        → Laid rows (now (offsets .entry)) (now (parents .entry)) (now (roots .entry))
+        (now («reference_ends» .entry)) entries
         (now (marks .entry)) (now (targets .entry)) (now (pairs .entry))
         → now (pairs .exit) ≡ padTo (length (now (pairs .entry))) (pairsIn rows)) ⌝ }
     ensures work { λ _. ⌜ now (work .exit) ≡ zeros (length (now (work .entry))) ⌝ }
 {
-    let n = resolve(offsets, ends, entries, targets, pairs);
+    let n = resolve(offsets, reference_ends, entries, targets, pairs);
     let m = 2 * n;
     let marked = mark_with(
         &parents[..entries],
@@ -175,7 +180,7 @@ pub fn mark_unit(
     offsets: &mut [u64],
     parents: &mut [u32],
     roots: &mut [u8],
-    ends: &mut [u64],
+    reference_ends: &mut [u64],
     marks: &mut [u8],
     targets: &mut [u64],
     pairs: &mut [u32],
@@ -186,7 +191,7 @@ pub fn mark_unit(
         (now (addresses .entry)) «ranges_base» in
         let room = unitRooms (length (now (marks .entry))) (length (now (pairs .entry)))
         (length (now (offsets .entry))) (length (now (parents .entry))) (length (now (roots .entry)))
-        (length (now (ends .entry))) (length (now (targets .entry))) in
+        (length (now («reference_ends» .entry))) (length (now (targets .entry))) in
         let found = analysisOf lent (now (section .entry)) room in
         let header = headerOf (now (section .entry)) in
         (r ≡ unitMarks found)
@@ -194,7 +199,7 @@ pub fn mark_unit(
         × ((now (offsets .exit) ≡ column offsetsIn (length (now (offsets .entry))) found)
         × ((now (parents .exit) ≡ column parentsIn (length (now (parents .entry))) found)
         × ((now (roots .exit) ≡ column rootsIn (length (now (roots .entry))) found)
-        × ((now (ends .exit) ≡ column (endsIn 0) (length (now (ends .entry))) found)
+        × ((now («reference_ends» .exit) ≡ column (endsIn 0) (length (now («reference_ends» .entry))) found)
         × ((now (marks .exit) ≡ column marksIn (length (now (marks .entry))) found)
         × ((now (targets .exit) ≡ column namesIn (length (now (targets .entry))) found)
         × ((now (pairs .exit) ≡ column pairsIn (length (now (pairs .entry))) found)
@@ -217,7 +222,7 @@ pub fn mark_unit(
         offsets,
         parents,
         roots,
-        ends,
+        reference_ends,
         targets,
     ) {
         Analysis::Refused(n) => UnitMarks::Refused(n),
@@ -229,7 +234,7 @@ pub fn mark_unit(
                 offsets,
                 parents,
                 roots,
-                ends,
+                reference_ends,
                 entries,
                 marks,
                 targets,

@@ -30,7 +30,7 @@ analyse-unit-requires c κs =
     let f = c .before .before .before .before .before .before .before .before .before .before .before .before .before .find-unit .ensures in
     unit-ready _ _ _ _ _
     (length (s .args .offsets .now)) (length (s .args .parents .now)) (length (s .args .roots .now))
-    (length (s .args .ends .now)) (length (s .args .targets .now)) _ _ _ _ _
+    (length (s .args .reference-ends .now)) (length (s .args .targets .now)) _ _ _ _ _
     (sym (c .before .before .before .before .before .before .before .before .before .h .given .1) ∙ f .0) (f .1) (record { rows = c .before .before .before .before .before .before .before .entry-room .ensures; names = c .before .before .before .before .before .least-of .ensures })
     (c .before .before .before .before .before .before .before .before .before .before .before .before .before .before .before .before .before .before .before .before .before .before .before .before .before .clear-columns .ensures)
 

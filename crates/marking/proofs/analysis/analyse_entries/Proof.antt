@@ -126,12 +126,12 @@ slice-write-parents c = omega (arith, c .before .before .before .before .before 
 slice-write-roots : tie.Need-slice-write-roots Inv-loop μ-loop
 slice-write-roots c = omega (arith, c .before .before .before .before .before .before .before .before .before .before .before .before .before .before .before .before .before .before .before .loop .inv .roots-are .size, c .before .before .before .before .before .before .before .before .before .before .before .before .before .before .before .before .before .before .before .loop .inv .roots-room, c .before .before .before .before .before .before .before .before .before .before .before .before .before .before .if1 .left)
 
-mul-ends : tie.Need-mul-ends Inv-loop μ-loop
+mul-reference-ends : tie.Need-mul-reference-ends Inv-loop μ-loop
 unfolding valuesOfEntry baseOf
-mul-ends c = omega (arith, head-ahead (c .before .before .before .before .before .before .before .before .before .before .before .before .before .before .before .before .before .before .before .loop .inv) _ _ (head-step _ _ _ _ _ _ (entry-headed _ _ _ _ _ _ _ (c .before .before .before .before .before .before .before .before .before .before .before .before .before .before .before .before .before .before .entry-head .ensures)) _ (c .before .before .before .before .before .before .before .before .before .before .before .before .before .before .before .before .x .given .1) _ refl) (c .before .before .before .before .before .before .before .before .before .before .before .before .before .before .if1 .left) _ _ (c .before .before .before .before .before .before .before .before .before .base-after .ensures) (c .before .before .before .before .before .before .before .before .base-after2 .ensures) _ (c .before .before .before .before .before .before .analyse-entry .ensures .1) _ _ _ (sym (c .before .before .root .given .1) ∙ c .before .before .before .before .before .before .analyse-entry .ensures .0) .2)
+mul-reference-ends c = omega (arith, head-ahead (c .before .before .before .before .before .before .before .before .before .before .before .before .before .before .before .before .before .before .before .loop .inv) _ _ (head-step _ _ _ _ _ _ (entry-headed _ _ _ _ _ _ _ (c .before .before .before .before .before .before .before .before .before .before .before .before .before .before .before .before .before .before .entry-head .ensures)) _ (c .before .before .before .before .before .before .before .before .before .before .before .before .before .before .before .before .x .given .1) _ refl) (c .before .before .before .before .before .before .before .before .before .before .before .before .before .before .if1 .left) _ _ (c .before .before .before .before .before .before .before .before .before .base-after .ensures) (c .before .before .before .before .before .before .before .before .base-after2 .ensures) _ (c .before .before .before .before .before .before .analyse-entry .ensures .1) _ _ _ (sym (c .before .before .root .given .1) ∙ c .before .before .before .before .before .before .analyse-entry .ensures .0) .2)
 
-slice-write-ends : tie.Need-slice-write-ends Inv-loop μ-loop
-slice-write-ends c = omega (arith, c .before .before .before .before .before .before .before .before .before .before .before .before .before .before .before .before .before .before .before .loop .inv .ends-are .size, c .before .before .before .before .before .before .before .before .before .before .before .before .before .before .before .before .before .before .before .loop .inv .ends-room, c .before .before .before .before .before .before .before .before .before .before .before .before .before .before .if1 .left)
+slice-write-reference-ends : tie.Need-slice-write-reference-ends Inv-loop μ-loop
+slice-write-reference-ends c = omega (arith, c .before .before .before .before .before .before .before .before .before .before .before .before .before .before .before .before .before .before .before .loop .inv .ends-are .size, c .before .before .before .before .before .before .before .before .before .before .before .before .before .before .before .before .before .before .before .loop .inv .ends-room, c .before .before .before .before .before .before .before .before .before .before .before .before .before .before .if1 .left)
 
 cast-t47 : tie.Need-cast-t47 Inv-loop μ-loop
 unfolding valuesOfEntry baseOf
@@ -245,8 +245,8 @@ analyse-entries-spec =
     mul-parents
     slice-write-parents
     slice-write-roots
-    mul-ends
-    slice-write-ends
+    mul-reference-ends
+    slice-write-reference-ends
     cast-t47
     after-entry-requires
     add-count

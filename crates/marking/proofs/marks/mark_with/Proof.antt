@@ -40,7 +40,7 @@ started c = let e = c .before .before in start-sound (G (start-of (e .before))) 
 
 -- after a round the marks are sound still
 sound : (c : tie.After-round Inv-loop μ-loop) → Sound (graph-of (c .before .before)) (c .round .last .1 .1 .0)
-sound c = let l = c .before .before in c .round .ensures .sound (graph-of l) (refl, refl) (l .loop .inv)
+sound c = let l = c .before .before in c .round .ensures .spread .sound (graph-of l) (refl, refl) (l .loop .inv)
 
 takes-requires : tie.Need-takes-requires Inv-loop μ-loop
 takes-requires c κs = search needs
