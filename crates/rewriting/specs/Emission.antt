@@ -40,11 +40,6 @@ unfoldable pub onward : ℕ → Emitted → Emitted
 onward done (To n) = To (done + n)
 onward done (Refused n) = Refused n
 
--- the number of a refusal; 0 where there is none
-unfoldable pub emittedRefusal : Emitted → ℕ
-emittedRefusal (To n) = 0
-emittedRefusal (Refused n) = n
-
 -- ---- the header: the new length, then as it was
 
 unfoldable pub headerBytes : List ℕ → ℕ → ℕ → List ℕ

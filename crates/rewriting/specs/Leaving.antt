@@ -18,7 +18,7 @@ use Rattle.marking.specs.Marks.{keptCount}
 use Rattle.marking.specs.Resolution.{marksIn, unitMarks}
 use Rattle.marking.specs.declared.units.UnitMarks.{UnitMarks}
 use Rattle.marking.specs.declared.units.UnitMarks.the-variants.{Marked, Refused as NotMarked}
-use Rattle.rewriting.specs.Places.{Standing, keptFrom}
+use Rattle.rewriting.specs.Places.{keptFrom}
 use Rattle.rewriting.specs.Indices.{countOf}
 use Rattle.rewriting.specs.Rewriting.{Unit as Unit′, itemsIn, Lists, Room, Collected, untouched, rewritten, refused, noLists, marksCollected}
 use Rattle.rewriting.specs.Emission.{Lends}
