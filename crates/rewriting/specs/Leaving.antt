@@ -110,7 +110,9 @@ markedOf x room typeUnits u rows = marksCollected x room typeUnits u (marksIn ro
 -- ---- its lists
 
 unfoldable pub haveRoom : Lists → ℕ → ℕ → ℕ → Bool
-haveRoom l ranges locations strings = leb (countOf (l .ranges)) (ranges / 8) and leb (countOf (l .locations)) (locations / 8) and leb (countOf (l .strings)) (strings / 8)
+haveRoom l ranges locations strings =
+    leb (countOf (l .ranges)) (ranges / 8) and leb (countOf (l .locations)) (locations / 8)
+    and leb (countOf (l .strings)) (strings / 8)
 
 pub record ListsAnswer (l : Lists) (ranges locations strings : ℕ) (r : Listed) (ranges′ locations′ strings′ : List ℕ) : Type 0 where
   pub short : haveRoom l ranges locations strings ≡ false → r ≡ Short
@@ -123,7 +125,8 @@ pub record ListsAnswer (l : Lists) (ranges locations strings : ℕ) (r : Listed)
 
 -- ---- its map and output
 
--- what writing asks for besides a pass and the lists: the first entry inside the unit, little-endian numbers, the room that there is, nothing written yet
+-- what writing asks for besides a pass and the lists: the first entry inside the unit, little-endian numbers, the room that
+-- there is, nothing written yet
 pub record Writable (u : Unit′) (room : Room) (unit : List ℕ) (first : ℕ) (map out : List ℕ) : Type 0 where
   pub first-is : first ≡ u .header .first .0
   pub twelve : 12 ≤ first
