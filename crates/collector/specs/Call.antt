@@ -1,5 +1,6 @@
--- What the calls for C answer: a number, and the counts as bytes (document 01, "collect": "An accepted answer says untouched or rewritten and gives the counts of entries, kept entries, map places and output bytes .. and of each list,
--- or that it is absent").
+-- What the calls for C answer: a number, and the counts as bytes (document 01, "collect": "An accepted answer says
+-- untouched or rewritten and gives the counts of entries, kept entries, map places and output bytes .. and of each list, or
+-- that it is absent").
 use Prim.Native.Nat.{ℕ}
 use mathlib.Core.Bool.{Bool}
 use mathlib.Core.List.{List, [], _∷_, _++_}
@@ -28,7 +29,8 @@ presenceOf Absent = 0
 
 -- the counts of an answer, in their order, and for each list whether it is present
 abbrev pub numbersOf : Counts → List ℕ
-numbersOf c = c .entries ∷ c .kept ∷ c .places ∷ c .bytes ∷ countOf (c .ranges) ∷ countOf (c .locations) ∷ countOf (c .strings) ∷ []
+numbersOf c =
+    c .entries ∷ c .kept ∷ c .places ∷ c .bytes ∷ countOf (c .ranges) ∷ countOf (c .locations) ∷ countOf (c .strings) ∷ []
 
 abbrev pub presencesOf : Counts → List ℕ
 presencesOf c = presenceOf (c .ranges) ∷ presenceOf (c .locations) ∷ presenceOf (c .strings) ∷ []
@@ -41,7 +43,8 @@ countBytes c = runBytes 8 (numbersOf c) ++ runBytes 1 (presencesOf c)
 unfoldable pub isUncounted : ℕ → Bool
 isUncounted n = ltb n 59
 
--- the number of an answer whose counts have n bytes of room: a refusal's own; else 256 untouched, 257 rewritten, and 2 more where the counts have no room
+-- the number of an answer whose counts have n bytes of room: a refusal's own; else 256 untouched, 257 rewritten, and 2
+-- more where the counts have no room
 unfoldable pub numberFor : ℕ → Answer → ℕ
 numberFor n (Untouched c) = pick (isUncounted n) 258 256
 numberFor n (Rewritten c) = pick (isUncounted n) 259 257
@@ -62,7 +65,8 @@ isYes n = ltb 0 n
 
 -- what collect makes of a call's sections and numbers
 abbrev pub collectedOf : List ℕ → List ℕ → List ℕ → List ℕ → List ℕ → ℕ → ℕ → Room → Collected
-collectedOf section abbreviations locations ranges addresses base typeUnits room = collectOf (sections abbreviations locations ranges addresses base) room (isYes typeUnits) section
+collectedOf section abbreviations locations ranges addresses base typeUnits room =
+    collectOf (sections abbreviations locations ranges addresses base) room (isYes typeUnits) section
 
 -- the room of the call's own tables, 2,048 entries and 8,192 references, with lent slices of some lengths
 abbrev pub ownRoom : ℕ → ℕ → ℕ → ℕ → ℕ → Room

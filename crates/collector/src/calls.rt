@@ -2,10 +2,8 @@
 ghost use mathlib.Core.Path.{_≡_};
 ghost use lib.ListN.{length};
 ghost use Rattle.readers.specs.Choice.{zeros};
-ghost use Rattle.marking.specs.Analysis.{sections};
-ghost use Rattle.rewriting.specs.Rewriting.{collectOf};
 ghost use Rattle.rewriting.specs.Outputs.{roomOf, answerFor, mapFor, listFor, outputFor, rangesIn, locationsIn, stringsIn};
-ghost use Rattle.collector.specs.Call.{numberFor, countsFor, isYes, ownRoom};
+ghost use Rattle.collector.specs.Call.{numberFor, countsFor, collectedOf, ownRoom};
 use crate::answers::give;
 use rewriting::collect::collect;
 
@@ -36,15 +34,14 @@ pub extern "C" fn collector_collect_lent(
     counts: &mut [u8],
 ) -> u64
     ensures { λ r. ⌜
-        (let x =
-        sections (now (abbreviations .entry)) (now (locations .entry)) (now (ranges .entry))
-        (now (addresses .entry)) «ranges_base» in
-        let room =
+        (let room =
         roomOf (length (now (marks .entry))) (length (now (pairs .entry))) (length (now (offsets .entry)))
         (length (now (parents .entry))) (length (now (roots .entry))) (length (now (ends .entry)))
         (length (now (targets .entry))) (length (now (map .entry))) (length (now («range_list» .entry)))
         (length (now («location_list» .entry))) (length (now («string_list» .entry))) (length (now (out .entry))) in
-        let answer = collectOf x room (isYes «type_units») (now (section .entry)) in
+        let answer =
+        collectedOf (now (section .entry)) (now (abbreviations .entry)) (now (locations .entry)) (now (ranges .entry))
+        (now (addresses .entry)) «ranges_base» «type_units» room in
         (r ≡ numberFor (length (now (counts .entry))) (answerFor answer))
         × (now (counts .exit) ≡ countsFor (length (now (counts .entry))) (answerFor answer))
         × (now (map .exit) ≡ mapFor (length (now (map .entry))) answer)
@@ -107,13 +104,12 @@ pub extern "C" fn collector_collect(
     counts: &mut [u8],
 ) -> u64
     ensures { λ r. ⌜
-        (let x =
-        sections (now (abbreviations .entry)) (now (locations .entry)) (now (ranges .entry))
-        (now (addresses .entry)) «ranges_base» in
-        let room =
+        (let room =
         ownRoom (length (now (map .entry))) (length (now («range_list» .entry)))
         (length (now («location_list» .entry))) (length (now («string_list» .entry))) (length (now (out .entry))) in
-        let answer = collectOf x room (isYes «type_units») (now (section .entry)) in
+        let answer =
+        collectedOf (now (section .entry)) (now (abbreviations .entry)) (now (locations .entry)) (now (ranges .entry))
+        (now (addresses .entry)) «ranges_base» «type_units» room in
         (r ≡ numberFor (length (now (counts .entry))) (answerFor answer))
         × (now (counts .exit) ≡ countsFor (length (now (counts .entry))) (answerFor answer))
         × (now (map .exit) ≡ mapFor (length (now (map .entry))) answer)

@@ -9,13 +9,13 @@ use lib.ListN.{length}
 use lib.Dec.{leb, eqb}
 use mir.Facts.{leb-yes, leb-no, eqb-yes, eqb-no, yes-eqb, no-eqb}
 use Rattle.readers.specs.Choice.{pick-yes, pick-no, pick-either, zeros}
-use Rattle.readers.specs.Abbreviations.{Placed, abbreviationsOf, indexOf}
+use Rattle.readers.specs.Abbreviations.{Placed, abbreviationsOf}
 use Rattle.readers.specs.Header.{headerOf}
 use Rattle.readers.specs.declared.header.UnitHeader.{UnitHeader}
 use Rattle.readers.specs.declared.header.HeaderRead.{HeaderRead}
 use Rattle.readers.specs.declared.header.HeaderRead.the-variants.{Unit as Header′, Empty, Refused as NoHeader}
 use Rattle.marking.specs.Analysis.{Sections, Rooms, Row, Analysed, analysed, refused as notAnalysed, onDeclared, unitAnalysed, headerAnalysed, analysisOf}
-use Rattle.marking.specs.Columns.{padTo, column, parentsIn, indexAfter, least, roomsOf, unitRooms}
+use Rattle.marking.specs.Columns.{column, parentsIn, indexAfter, least, roomsOf, unitRooms}
 use Rattle.marking.specs.Marks.{keptCount}
 use Rattle.marking.specs.Resolution.{marksIn, unitMarks}
 use Rattle.marking.specs.declared.units.UnitMarks.{UnitMarks}

@@ -17,7 +17,7 @@ use Rattle.rewriting.specs.Places.{Place}
 use Rattle.rewriting.specs.Indices.{rankIn, rankOr}
 use Rattle.rewriting.specs.Written.{groupsFit, bytesFit, numberFits, unfit, Put, over, put, asMapped, ListHeld}
 use Rattle.rewriting.specs.Rewriting.{Lists, fits, orNext, isSome, orSelf}
-use Rattle.rewriting.specs.Emission.{between, copiedCount, Emits, Within, onward, emittedRefusal, Wide, holds, numberRefusal, offsetRefusal, Lent}
+use Rattle.rewriting.specs.Emission.{between, copiedCount, Emits, Within, onward, Wide, holds, numberRefusal, offsetRefusal, Lent}
 use Rattle.rewriting.proofs.Putting.{fit-room, bytes-room}
 use Rattle.readers.specs.declared.offsets.UnitOffset.{UnitOffset}
 use Rattle.rewriting.specs.declared.emit.Emitted.{Emitted}
@@ -83,9 +83,6 @@ pub record EmitsAt (n : ℕ) (bytes out : List ℕ) (at : ℕ) (r : Emitted) (ou
 emitted-to : (a b : ℕ) → To a ≡ To b → a ≡ b
 emitted-to a b h = cc
 
-emitted-no : (a b : ℕ) → Refused a ≡ Refused b → a ≡ b
-emitted-no a b h = cc
-
 emitted-not : (a b : ℕ) → To a ≡ Refused b → ⊥
 emitted-not a b h = let z : _≡_ {A = ℕ} 0 1 = cc in absurd (omega arith)
 
@@ -96,13 +93,6 @@ emits-none out at =
       fine = λ _ _. (ap To (let h : at ≡ at + 0 = omega arith in h), sym (put-none out at));
       no = λ _ n. absurd (n refl);
     }
-
--- where there is no room nothing is said
-pub emits-short : (n : ℕ) (bytes out : List ℕ) (at : ℕ) (r : Emitted) → length out < at + length bytes → EmitsAt n bytes out at r out
-emits-short n bytes out at r h = record { size = refl; fine = λ room _. absurd (omega arith); no = λ room _. absurd (omega arith) }
-
-pub emits-no : (n : ℕ) (bytes out : List ℕ) (at : ℕ) (out′ : List ℕ) → (n ≡ 0 → ⊥) → length out′ ≡ length out → EmitsAt n bytes out at (Refused n) out′
-emits-no n bytes out at out′ h l = record { size = l; fine = λ _ z. absurd (h z); no = λ _ _. refl }
 
 pub emits-as : {n m : ℕ} {a b : List ℕ} {out : List ℕ} {at : ℕ} {r : Emitted} {out′ : List ℕ} → n ≡ m → a ≡ b → EmitsAt n a out at r out′ → EmitsAt m b out at r out′
 emits-as {m = m} {a = a} {out = out} {at = at} {r = r} {out′ = out′} p q h =
@@ -184,15 +174,6 @@ module _ {n : ℕ} {bytes out : List ℕ} {r : Emitted} {out′ : List ℕ} wher
         );
         no = λ room z. f .no (omega arith) z;
       }
-
--- the number of the refusal is the one that is asked for
-pub emits-refusal : {n : ℕ} {bytes out : List ℕ} {r : Emitted} {out′ : List ℕ} → Emits n bytes out r out′ → length bytes ≤ length out → emittedRefusal r ≡ n
-unfolding emittedRefusal
-emits-refusal {n = n} f room =
-    ⊎-elim
-    (λ t. let z : n ≡ 0 = eqb-yes {a = n} {b = 0} t in ap emittedRefusal (f .fine room z .0) ∙ sym z)
-    (λ t. ap emittedRefusal (f .no room (eqb-no {a = n} {b = 0} t)))
-    (either (eqb n 0))
 
 -- a part from `at` on, filled by another writer, and home again
 module _ (out : List ℕ) (at : ℕ) (i : at ≤ length out) (x : List ℕ) where

@@ -2,7 +2,7 @@
 use mathlib.Core.Path.{_≡_, refl, ap, sym, _∙_}
 use Prim.Native.Nat.{ℕ, _≤_, _<_}
 use native.Mathlib.Omega.{arith}
-use mathlib.Core.Bool.{true, false}
+use mathlib.Core.Bool.{true}
 use lib.Dec.{eqb}
 use borrow.Author.Tests.{ne-eqb, le-leb, lt-leb}
 use Rattle.readers.specs.Choice.{pick, _and_, _or_}
@@ -45,10 +45,6 @@ module _ (f : ℕ) where
   pub list-above : 0x28 < f → (f ≡ 0x1f02 → ⊥) → 3 ≡ listForm f
   list-above = list-high
 
-  pub leb-none : (f ≡ 0x15 → ⊥) → (f ≡ 0x1a → ⊥) → (f ≡ 0x22 → ⊥) → (f ≡ 0x23 → ⊥) → (f ≡ 0x1f02 → ⊥) → false ≡ lebForm f
-  unfolding lebForm _or_
-  leb-none a b c d g = rw (ne-eqb f 0x15 a, ne-eqb f 0x1a b, ne-eqb f 0x22 c, ne-eqb f 0x23 d, ne-eqb f 0x1f02 g)
-
   pub leb-last : (f ≡ 0x15 → ⊥) → (f ≡ 0x1a → ⊥) → (f ≡ 0x22 → ⊥) → (f ≡ 0x23 → ⊥) → eqb f 0x1f02 ≡ lebForm f
   unfolding lebForm _or_
   leb-last a b c d = rw (ne-eqb f 0x15 a, ne-eqb f 0x1a b, ne-eqb f 0x22 c, ne-eqb f 0x23 d)
@@ -71,7 +67,3 @@ module _ (f : ℕ) where
   pub leb-range : f ≡ 0x23 → true ≡ lebForm f
   unfolding lebForm _or_
   leb-range q = leb-is 0x23 refl q
-
-  pub leb-gnu : f ≡ 0x1f02 → true ≡ lebForm f
-  unfolding lebForm _or_
-  leb-gnu q = leb-is 0x1f02 refl q

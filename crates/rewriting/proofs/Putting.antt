@@ -14,12 +14,12 @@ use mir.Facts.{ltb-yes, ltb-no}
 use borrow.Author.Tests.{lt-ltb, le-ltb, le-leb, lt-leb, ltb-true, leb-true, eq-eqb, ne-eqb}
 use Rattle.readers.specs.Choice.{pick, _and_, zeros, either}
 use Rattle.readers.specs.Numbers.{padded, length-padded, littleBytes, ordered, fixedBytes, length-fixed}
-use Rattle.rewriting.specs.Written.{groupsFit, bytesFit, numberFits, unfit, Put, paddedAnswer, paddedRefusal, paddedOut, over, put, putIn, numberAt, valueOr, numberThere}
+use Rattle.rewriting.specs.Written.{groupsFit, bytesFit, numberFits, unfit, Put, paddedAnswer, paddedOut, over, put, putIn, numberAt, valueOr, numberThere}
 use Rattle.rewriting.specs.declared.numbers.Padded.{Padded}
 use Rattle.rewriting.specs.declared.numbers.Padded.the-variants.{Written, Refused}
 use Rattle.readers.specs.Layout.{numberBytes}
 use Rattle.readers.specs.References.{encodedBy}
-use Rattle.readers.specs.Cursors.{cursor, fixedAt}
+use Rattle.readers.specs.Cursors.{fixedAt}
 use Rattle.readers.proofs.Widths.{fixed-is}
 use Rattle.readers.specs.declared.cursor.Cursor.{Cursor}
 use Rattle.readers.specs.declared.cursor.Number.{Number}
@@ -61,23 +61,6 @@ putting-done whole out₀ out i n l p =
     p .out-is ∙ ap₂ (λ x m. x ++ drop m out₀) e k
 
 -- ---- zeros
-
-abbrev pub Clearing : List ℕ → List ℕ → ℕ → Type 0
-Clearing out₀ out i = Putting (zeros (length out₀)) out₀ (zeros (length out₀ - i)) out i
-
-pub clear-start : (out : List ℕ) → Clearing out out 0
-clear-start out = let e : length out ≡ length out - 0 = omega arith in rw (← e) (putting-start (zeros (length out)) out)
-
-pub clear-more : (out₀ out : List ℕ) (i : ℕ) → i < length out₀ → Clearing out₀ out i → Clearing out₀ (set out i 0) (i + 1)
-clear-more out₀ out i h p =
-    putting-more (zeros (length out₀)) out₀ (zeros (length out₀ - (i + 1))) out i 0 h
-    (subst (λ n. Putting (zeros (length out₀)) out₀ (zeros n) out i) (let e : length out₀ - i ≡ suc (length out₀ - (i + 1)) = omega arith in e) p)
-
-pub clear-done : (out₀ out : List ℕ) (i : ℕ) → length out₀ ≤ i → Clearing out₀ out i → out ≡ zeros (length out₀)
-clear-done out₀ out i h p =
-    putting-done (zeros (length out₀)) out₀ out i (length out₀) (length-replicate (length out₀) 0)
-    (subst (λ n. Putting (zeros (length out₀)) out₀ (zeros n) out i) (let e : length out₀ - i ≡ 0 = omega arith in e) p)
-    ∙ ap (λ l. zeros (length out₀) ++ l) (drop-of-length-le out₀ {i = length out₀} (omega arith)) ∙ append-nil (zeros (length out₀))
 
 pub drop-zeros : (n width : ℕ) → drop width (zeros n) ≡ zeros (n - width)
 drop-zeros n zero = ap (λ m. zeros m) (let e : n ≡ n - 0 = omega arith in e)
@@ -198,10 +181,6 @@ module _ (value width n : ℕ) where
   pub groups-beyond : n < width → groupsFit value width n ≡ false
   unfolding groupsFit
   groups-beyond h = and-second (ltb 0 width) _ (and-second (leb width 10) _ (and-first _ _ (lt-leb width n h)))
-
-  pub groups-large : ltb value (128 ^ width) ≡ false → groupsFit value width n ≡ false
-  unfolding groupsFit
-  groups-large e = and-second (ltb 0 width) _ (and-second (leb width 10) _ (and-second (leb width n) _ e))
 
   pub groups-rest : (width ≡ 0 → ⊥) → width ≤ 10 → width ≤ n → groupsFit value width n ≡ ltb value (128 ^ width)
   unfolding groupsFit _and_
@@ -491,15 +470,6 @@ module _ (value width : ℕ) (answer : Padded) (x : List ℕ) (told : answer ≡
   padded-zeros : (k : ℕ) → answer ≡ Refused k → x ≡ zeros width
   unfolding paddedOut pick
   padded-zeros k t = left ∙ ap (λ b. pick b (padded (width - 1) value ++ zeros (width - width)) (zeros width)) (padded-unfit k t)
-
--- the number of the refusal: 15, or none
-pub padded-refusal : (value width n : ℕ) → paddedRefusal (paddedAnswer value width n) ≡ pick (groupsFit value width n) 0 15
-unfolding paddedRefusal paddedAnswer pick
-padded-refusal value width n = by-fit (groupsFit value width n)
-  where
-    by-fit : (b : Bool) → paddedRefusal (pick b Written (Refused 15)) ≡ pick b 0 15
-    by-fit true = refl
-    by-fit false = refl
 
 pub taken-length : (out : List ℕ) (width : ℕ) → width ≤ length out → width ≡ length (take width out)
 taken-length out width h = sym (length-take-le width out h)

@@ -1,4 +1,5 @@
--- What emission writes: bytes at the start of the part of the output that begins at the next free byte, or nothing that counts and the number of a refusal.
+-- What emission writes: bytes at the start of the part of the output that begins at the next free byte, or nothing that
+-- counts and the number of a refusal.
 use mathlib.Core.Path.{_≡_}
 use Prim.Native.Nat.{ℕ, _+_, _-_, _^_, _≤_, _<_}
 use mathlib.Core.Bool.{Bool, true, false}
@@ -26,7 +27,8 @@ between s from to = take (to - from) (drop from s)
 unfoldable pub copiedCount : List ℕ → List ℕ → ℕ
 copiedCount bytes out = pick (leb (length bytes) (length out)) (length bytes) 0
 
--- `bytes` are to be written at the start of a part, or refused by n (0: they are not): what is answered and how the part then is, if it has room for them
+-- `bytes` are to be written at the start of a part, or refused by n (0: they are not): what is answered and how the part
+-- then is, if it has room for them
 pub record Emits (n : ℕ) (bytes out : List ℕ) (r : Emitted) (out′ : List ℕ) : Type 0 where
   pub size : length out′ ≡ length out
   pub fine : length bytes ≤ length out → n ≡ 0 → (r ≡ To (length bytes)) × (out′ ≡ bytes ++ drop (length bytes) out)
@@ -42,11 +44,6 @@ unfoldable pub onward : ℕ → Emitted → Emitted
 onward done (To n) = To (done + n)
 onward done (Refused n) = Refused n
 
--- the number of a refusal; 0 where there is none
-unfoldable pub emittedRefusal : Emitted → ℕ
-emittedRefusal (To n) = 0
-emittedRefusal (Refused n) = n
-
 -- ---- the header: the new length, then as it was
 
 unfoldable pub headerBytes : List ℕ → ℕ → ℕ → List ℕ
@@ -54,7 +51,8 @@ headerBytes unit first bytes = fixedBytes false 4 (bytes - 4) ++ drop 4 (take fi
 
 -- whether it is in the unit, has room and its length is a number of four bytes
 unfoldable pub headerFits : List ℕ → ℕ → ℕ → List ℕ → Bool
-headerFits unit first bytes out = leb 4 first and leb first (length unit) and leb first (length out) and leb 4 bytes and ltb (bytes - 4) (2 ^ 32)
+headerFits unit first bytes out =
+    leb 4 first and leb first (length unit) and leb first (length out) and leb 4 bytes and ltb (bytes - 4) (2 ^ 32)
 
 -- how many bytes are written, and the part then
 unfoldable pub headerCount : List ℕ → ℕ → ℕ → List ℕ → ℕ
@@ -106,7 +104,8 @@ Lent (some xs) list Absent = ⊥
 Lent (some xs) list (Present n) = ListHeld xs list × (n ≡ length xs)
 
 -- the three lists of a rewriting
-pub record Lends (lists : Lists) (ranges : List ℕ) (ranges′ : ListCount) (locations : List ℕ) (locations′ : ListCount) (strings : List ℕ) (strings′ : ListCount) : Type 0 where
+pub record Lends (lists : Lists) (ranges : List ℕ) (ranges′ : ListCount) (locations : List ℕ) (locations′ : ListCount)
+    (strings : List ℕ) (strings′ : ListCount) : Type 0 where
   pub those-ranges : Lent (lists .ranges) ranges ranges′
   pub those-locations : Lent (lists .locations) locations locations′
   pub those-strings : Lent (lists .strings) strings strings′

@@ -36,7 +36,9 @@ itemsBy r abbreviations index unit at = itemsFrom (r .encoding) abbreviations (f
 
 -- what an answer shows of an item
 unfoldable pub ShowsItem : Kept → Item → Type 0
-ShowsItem x (entry y) = (x .«is_entry» ≡ true) × (x .start .0 ≡ y .offset .0) × (x .end .at ≡ y .next .at) × (x .specs ≡ y .declaration .attributes) × (x .values ≡ y .values)
+ShowsItem x (entry y) =
+    (x .«is_entry» ≡ true) × (x .start .0 ≡ y .offset .0) × (x .end .at ≡ y .next .at)
+    × (x .specs ≡ y .declaration .attributes) × (x .values ≡ y .values)
 ShowsItem x (terminator a b) = (x .«is_entry» ≡ false) × (x .start .0 ≡ a) × (x .end .at ≡ b)
 
 -- an item takes some bytes of the unit, and the pass goes on after it

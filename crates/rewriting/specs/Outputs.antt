@@ -1,4 +1,5 @@
--- What collect leaves in the lent slices, and its answer in numbers (document 01, "collect"; demand 1: "Output, map and index lists hold the answer, and zeros everywhere else, for every input").
+-- What collect leaves in the lent slices, and its answer in numbers (document 01, "collect"; demand 1: "Output, map and
+-- index lists hold the answer, and zeros everywhere else, for every input").
 use Prim.Native.Nat.{ℕ, _/_}
 use mathlib.Core.List.{List, [], _∷_}
 use mathlib.Core.Option.{Option, none, some}
@@ -16,11 +17,20 @@ use Rattle.rewriting.specs.declared.collect.Collected.the-variants.{Unto
 
 -- what there is room for, by the lengths of the slices: 8 bytes a list number, 12 a map place
 abbrev pub roomBy : Rooms → ℕ → ℕ → ℕ → ℕ → ℕ → Room
-roomBy tables map ranges locations strings out = record { tables = tables; ranges = ranges / 8; locations = locations / 8; strings = strings / 8; places = map / 12; bytes = out }
+roomBy tables map ranges locations strings out =
+    record {
+      tables = tables;
+      ranges = ranges / 8;
+      locations = locations / 8;
+      strings = strings / 8;
+      places = map / 12;
+      bytes = out;
+    }
 
 -- what a call has room for: entries and references by their tables' shortest column
 abbrev pub roomOf : ℕ → ℕ → ℕ → ℕ → ℕ → ℕ → ℕ → ℕ → ℕ → ℕ → ℕ → ℕ → Room
-roomOf marks pairs offsets parents roots ends targets map ranges locations strings out = roomBy (unitRooms marks pairs offsets parents roots ends targets) map ranges locations strings out
+roomOf marks pairs offsets parents roots ends targets map ranges locations strings out =
+    roomBy (unitRooms marks pairs offsets parents roots ends targets) map ranges locations strings out
 
 unfoldable pub listCount : Option (List ℕ) → ListCount
 listCount none = Absent
@@ -28,7 +38,15 @@ listCount (some xs) = Present (length xs)
 
 abbrev pub countsOf : ℕ → ℕ → ℕ → ℕ → Lists → Counts
 countsOf entries kept places bytes l =
-    record { entries = entries; kept = kept; places = places; bytes = bytes; ranges = listCount (l .ranges); locations = listCount (l .locations); strings = listCount (l .strings) }
+    record {
+      entries = entries;
+      kept = kept;
+      places = places;
+      bytes = bytes;
+      ranges = listCount (l .ranges);
+      locations = listCount (l .locations);
+      strings = listCount (l .strings);
+    }
 
 unfoldable pub answerFor : Collected → Answer
 answerFor (untouched n l) = Untouched (countsOf n n 0 0 l)

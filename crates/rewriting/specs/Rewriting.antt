@@ -8,7 +8,8 @@ use lib.Dec.{ltb, leb, eqb}
 use Rattle.readers.specs.Choice.{pick, _and_, _or_}
 use Rattle.readers.specs.Codes.{«DW_AT_location», «DW_AT_ranges»}
 use Rattle.readers.specs.Numbers.{fixedBytes}
-use Rattle.readers.specs.Layout.{Encoded, infixed, inleb, Role, reference, typeReference, sibling, index, absolute, Piece, copied, linked, Read, RunOf, Patch, patchAll, readIn, writeAll}
+use Rattle.readers.specs.Layout.{Encoded, infixed, inleb, Role, reference, typeReference, sibling, index, absolute}
+use Rattle.readers.specs.Layout.{Piece, copied, linked, Read, RunOf, Patch, patchAll, readIn, writeAll}
 use Rattle.readers.specs.Expression.{expressionIn}
 use Rattle.readers.specs.Entries.{entryLayout}
 use Rattle.readers.specs.Header.{headerOf}
@@ -54,7 +55,10 @@ module _ (x : Sections) (u : Unit) where
   readsOr (some r) = r .0
 
   unfoldable pub readsAt : ℕ → List Read
-  readsAt at = readsOr (readIn (encoding .«big_endian») (expressionIn encoding) (entryLayout encoding (x .abbreviations) (declaredIn (u .declared))) (drop at (u .bytes)))
+  readsAt at =
+      readsOr
+      (readIn (encoding .«big_endian») (expressionIn encoding)
+      (entryLayout encoding (x .abbreviations) (declaredIn (u .declared))) (drop at (u .bytes)))
 
 -- ---- index lists
 
@@ -149,12 +153,15 @@ module _ (x : Sections) (u : Unit) (lists : Lists) (map : List Place) where
   -- the kept items written anew
   unfoldable pub bytesFrom : List Standing → List ℕ
   bytesFrom [] = []
-  bytesFrom (s ∷ rest) = writeAll (u .header .encoding .«big_endian») (patchAll (newValue lists map (s .depth)) (readsAt x u (offsetOf (s .item)))) ++ bytesFrom rest
+  bytesFrom (s ∷ rest) =
+      writeAll (u .header .encoding .«big_endian») (patchAll (newValue lists map (s .depth)) (readsAt x u (offsetOf (s .item))))
+      ++ bytesFrom rest
 
   -- "The length field is the new size less 4."
   unfoldable pub unitBytes : List Standing → List ℕ
   unitBytes kept =
-      fixedBytes (u .header .encoding .«big_endian») 4 (u .header .first .0 + sizeFrom kept - 4) ++ drop 4 (take (u .header .first .0) (u .bytes)) ++ bytesFrom kept
+      fixedBytes (u .header .encoding .«big_endian») 4 (u .header .first .0 + sizeFrom kept - 4)
+      ++ drop 4 (take (u .header .first .0) (u .bytes)) ++ bytesFrom kept
 
 -- ---- the answer
 
@@ -184,7 +191,9 @@ abbrev pub noLists : Lists
 noLists = record { ranges = none; locations = none; strings = none }
 
 unfoldable pub listsFit : Room → Lists → Bool
-listsFit room l = leb (countOf (l .ranges)) (room .ranges) and leb (countOf (l .locations)) (room .locations) and leb (countOf (l .strings)) (room .strings)
+listsFit room l =
+    leb (countOf (l .ranges)) (room .ranges) and leb (countOf (l .locations)) (room .locations)
+    and leb (countOf (l .strings)) (room .strings)
 
 module _ (x : Sections) (room : Room) where
   unfoldable pub orRefused : ℕ → Collected → Collected

@@ -51,11 +51,6 @@ over bytes out = pick (leb (length bytes) (length out)) (bytes ++ drop (length b
 unfoldable pub paddedAnswer : ℕ → ℕ → ℕ → Padded
 paddedAnswer value width n = pick (groupsFit value width n) Written (Refused 15)
 
--- document 01's number of an answer; 0 where nothing is refused
-unfoldable pub paddedRefusal : Padded → ℕ
-paddedRefusal Written = 0
-paddedRefusal (Refused n) = n
-
 unfoldable pub paddedOut : ℕ → ℕ → ℕ → List ℕ
 paddedOut value width n = pick (groupsFit value width n) (padded (width - 1) value ++ zeros (n - width)) (zeros n)
 

@@ -10,7 +10,7 @@ ghost use Rattle.rewriting.specs.Places.{keptFrom};
 ghost use Rattle.rewriting.specs.Rewriting.{Unit as Unit′, Lists, Room, itemsIn, listsOf, noLists, untouched, rewriteOf, collectOf};
 ghost use Rattle.rewriting.specs.IndexLists.{Passable};
 ghost use Rattle.rewriting.specs.Emission.{Lends};
-ghost use Rattle.rewriting.specs.Outputs.{roomBy, roomOf, listCount, answerFor, mapFor, listFor, outputFor, rangesIn, locationsIn, stringsIn};
+ghost use Rattle.rewriting.specs.Outputs.{roomBy, roomOf, answerFor, mapFor, listFor, outputFor, rangesIn, locationsIn, stringsIn};
 ghost use Rattle.rewriting.specs.Leaving.{Answers, ownUnit, Tabled, Blank, markedOf, ListsAnswer, Writable, WriteAnswer};
 ghost use Rattle.rewriting.specs.Leaving.{leftBy, taskOf, MarkedTables};
 use crate::emit::Emitted;

@@ -1,5 +1,5 @@
-// Writes the kept entries and terminators of a unit, each at its own width, with new values for its references, siblings
-// and indices.
+// Writes a kept entry: each value at its own width, with new values for references, siblings and indices (gc.rs:
+// `emit_attribute`).
 ghost use mathlib.Core.Path.{_≡_};
 ghost use mathlib.Core.List.{List};
 ghost use mathlib.Core.Option.{Option, some};

@@ -1,4 +1,4 @@
-// The kept entries and terminators of a unit, one after the other.
+// The kept entries and terminators of a unit, one after the other: the walk that every pass shares.
 ghost use mathlib.Core.Path.{_≡_};
 ghost use Prim.Native.Nat.{ℕ, _^_, _≤_, _<_};
 ghost use lib.ListN.{length, getD};

@@ -1,4 +1,4 @@
-// Rewriting: what is kept of a unit, index lists, the map, emission, collect.
+// Rewriting, by its passes: the kept items of a unit, index lists, new offsets (the map), emission; and collect.
 pub mod collect;
 pub mod emit;
 pub mod gathering;

@@ -11,6 +11,7 @@ ghost use Rattle.readers.specs.Layout.{numberBytes};
 ghost use Rattle.readers.specs.References.{encodedBy};
 ghost use Rattle.rewriting.specs.Written.{groupsFit, bytesFit, numberFits, unfit, Put, paddedAnswer, paddedOut};
 ghost use Rattle.rewriting.specs.Written.{over, putIn, numberThere};
+use marking::columns::clear_bytes;
 use readers::cursor::Cursor;
 use readers::cursor::Number;
 
@@ -32,17 +33,6 @@ fn fits(value: u64, base: u64, width: usize) -> bool
         i += 1;
     }
     rest == 0
-}
-
-// Makes a part zeros.
-fn clear(out: &mut [u8])
-    ensures { λ _. ⌜ now (out .exit) ≡ zeros (length (now (out .entry))) ⌝ }
-{
-    let mut i: usize = 0;
-    while i < out.len() {
-        out[i] = 0;
-        i += 1;
-    }
 }
 
 // Whether a ULEB128 number goes into exactly so many bytes of a part of so many.
@@ -138,7 +128,7 @@ pub fn write_uleb128_padded(value: u64, width: usize, out: &mut [u8]) -> Padded
     ensures answer { λ r. ⌜ r ≡ paddedAnswer value width (length (now (out .entry))) ⌝ }
     ensures bytes { λ _. ⌜ now (out .exit) ≡ paddedOut value width (length (now (out .entry))) ⌝ }
 {
-    clear(out);
+    clear_bytes(out);
     if !groups_fit(value, width, out.len()) {
         return Padded::Refused(15);
     }

@@ -1,4 +1,5 @@
-// The pass through the kept items that measures them and fills the map.
+// The pass through the kept items that measures them and fills the map (gc.rs: the offset-computation pass of
+// `rewrite_unit`).
 ghost use Rattle.rewriting.specs.NextKept.{itemsBy};
 ghost use Rattle.rewriting.specs.Measures.{Measures};
 ghost use Rattle.rewriting.specs.MapFilled.{Fills};

@@ -1,4 +1,5 @@
-// Writes a unit anew: its header with the new length, then the kept entries and terminators.
+// The pass that writes a unit anew: its header with the new length, then the kept entries and terminators (gc.rs:
+// `emit_dies`).
 ghost use mathlib.Core.Path.{_≡_};
 ghost use mathlib.Core.Bool.{false};
 ghost use mathlib.Core.List.{List, []};

@@ -21,7 +21,9 @@ counts-take c = refl
 
 -- what collect answers for the tables 01 00, 01 01, 02 00 and an empty section (`p1-to-p10`)
 abbrev thinned : Collected
-thinned = rewrite5 3 (place 12 12 0 ∷ place 13 13 1 ∷ place 17 16 1 ∷ place 21 17 1 ∷ []) (header5 0x0e ++ 0x01 ∷ 0x02 ∷ 0x00 ∷ 0x10 ∷ 0x03 ∷ 0x00 ∷ [])
+thinned =
+    rewrite5 3 (place 12 12 0 ∷ place 13 13 1 ∷ place 17 16 1 ∷ place 21 17 1 ∷ [])
+    (header5 0x0e ++ 0x01 ∷ 0x02 ∷ 0x00 ∷ 0x10 ∷ 0x03 ∷ 0x00 ∷ [])
 
 -- a small number in eight bytes
 abbrev eight : ℕ → List ℕ

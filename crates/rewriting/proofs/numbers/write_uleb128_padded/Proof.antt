@@ -6,8 +6,8 @@ use borrow.Author.Needs.{needs}
 use Rattle.rewriting.proofs.numbers.write_uleb128_padded.Statement.{statement}
 use Rattle.rewriting.proofs.numbers.write_uleb128_padded.Tie as tie
 
-clear-requires : tie.Need-clear-requires
-clear-requires c κs = search needs
+clear-bytes-requires : tie.Need-clear-bytes-requires
+clear-bytes-requires c κs = search needs
 
 groups-fit-requires : tie.Need-groups-fit-requires
 groups-fit-requires c κs = search needs
@@ -16,7 +16,7 @@ same-length : tie.Need-same-length
 same-length c = search needs
 
 returns : tie.Need-returns
-returns c = padded-refused _ _ _ _ _ _ (c .before .before .before .before .clear .ensures) (refused _ _ _ _ _ (sym (c .before .groups-fit .ensures) ∙ not-true _ (c .if1 .taken))) refl
+returns c = padded-refused _ _ _ _ _ _ (c .before .before .before .before .clear-bytes .ensures) (refused _ _ _ _ _ (sym (c .before .groups-fit .ensures) ∙ not-true _ (c .if1 .taken))) refl
 
 uleb128-padded-requires : tie.Need-uleb128-padded-requires
 uleb128-padded-requires c κs = search needs
@@ -29,7 +29,7 @@ same-length-2 c = search needs
 
 returns-2 : tie.Need-returns-2
 returns-2 c =
-    padded-written _ _ _ _ _ _ (c .before .before .before .before .before .before .before .before .before .before .clear .ensures)
+    padded-written _ _ _ _ _ _ (c .before .before .before .before .before .before .before .before .before .before .clear-bytes .ensures)
     (number-put _ _ _ _ _ (sym (c .before .before .before .before .before .before .before .groups-fit .ensures) ∙ not-false _ (c .before .before .before .before .before .before .if1 .left))
     (c .before .before .before .before .before .uleb128-padded .ensures) (c .before .before .copy-number .ensures))
     refl
@@ -38,7 +38,7 @@ pub write-uleb128-padded-spec : {M : Type 1} → statement M
 write-uleb128-padded-spec =
     tie.close
     (tie.spec
-    clear-requires
+    clear-bytes-requires
     groups-fit-requires
     same-length
     returns
