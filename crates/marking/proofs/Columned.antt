@@ -7,8 +7,8 @@ use lib.ListN.{length, getD, take, drop, length-append, take-append-drop}
 use lib.Seq.{getD-take, getD-at, take-at, drop-append-add, take-append-seam, drop-append-seam, append-snoc}
 use Rattle.readers.specs.Choice.{zeros}
 use Rattle.marking.specs.Analysis.{Row, Rooms}
-use Rattle.marking.specs.Columns.{offsetsIn, namesIn, endsIn, padTo}
-use Rattle.marking.specs.Resolution.{pairsOfEntry, pairsFrom, pairsIn, put, Ready, Held, Ascending}
+use Rattle.marking.specs.Columns.{offsetsIn, namesIn, endsIn, padTo, put}
+use Rattle.marking.specs.Resolution.{pairsOfEntry, pairsFrom, pairsIn, Ready, Held, Ascending}
 use Rattle.marking.proofs.Rows.{UnitRows, rowed-from, offsets-ascend, length-offsets}
 use Rattle.marking.proofs.Pairs.{pairs-few, length-put}
 

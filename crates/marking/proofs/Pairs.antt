@@ -7,7 +7,8 @@ use mathlib.Core.Option.{Option, none, some}
 use lib.ListN.{length, getD, take, drop, set, length-append, length-drop, length-set, take-append-drop}
 use lib.Seq.{length-take-le, take-suc, drop-cons, getD-drop, set-at, append-snoc}
 use Rattle.readers.specs.declared.offsets.EntryIndex.{EntryIndex}
-use Rattle.marking.specs.Resolution.{entryFrom, pairFor, pairsOfEntry, asEntry, put, Ready}
+use Rattle.marking.specs.Columns.{put}
+use Rattle.marking.specs.Resolution.{entryFrom, pairFor, pairsOfEntry, asEntry, Ready}
 use Rattle.marking.specs.declared.units.EntryFound.{EntryFound}
 use Rattle.marking.specs.declared.units.EntryFound.the-variants.{Entry, Nothing}
 

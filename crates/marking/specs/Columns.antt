@@ -2,7 +2,7 @@
 use mathlib.Core.Path.{_≡_}
 use Prim.Native.Nat.{ℕ, _+_, _-_, _/_, _≤_, _<_}
 use mathlib.Core.List.{List, [], _∷_, _++_}
-use lib.ListN.{length}
+use lib.ListN.{length, take, drop}
 use lib.Dec.{leb}
 use Rattle.readers.specs.Choice.{pick, zeros}
 use Rattle.readers.specs.Abbreviations.{checkedOf, indexOf}
@@ -55,6 +55,10 @@ endsIn m (r ∷ rs) = (m + length (r .names)) ∷ endsIn (m + length (r .names))
 -- a column of n numbers
 unfoldable pub padTo : ℕ → List ℕ → List ℕ
 padTo n xs = xs ++ zeros (n - length xs)
+
+-- numbers in place of those from n on
+unfoldable pub put : List ℕ → ℕ → List ℕ → List ℕ
+put xs n ys = take n xs ++ (ys ++ drop (n + length ys) xs)
 
 unfoldable pub column : (List Row → List ℕ) → ℕ → Analysed → List ℕ
 column f n (analysed rows) = padTo n (f rows)

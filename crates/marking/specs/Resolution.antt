@@ -4,7 +4,7 @@ use Prim.Native.Nat.{ℕ, suc, _+_, _*_, _-_, _^_, _≤_, _<_}
 use mathlib.Core.Bool.{true}
 use mathlib.Core.List.{List, [], _∷_, _++_}
 use mathlib.Core.Option.{Option, none, some}
-use lib.ListN.{length, take, drop}
+use lib.ListN.{length, take}
 use lib.Dec.{eqb}
 use Rattle.readers.specs.Choice.{pick, zeros}
 use Rattle.marking.specs.Graph.{Graph, graph, takes}
@@ -64,10 +64,6 @@ pub record Searched (offsets : List ℕ) (n : ℕ) : Type 0 where
   pub inside : n ≤ length offsets
   pub few : n < 2 ^ 32
   pub ascending : Ascending 0 (take n offsets)
-
--- numbers in place of those from n on
-unfoldable pub put : List ℕ → ℕ → List ℕ → List ℕ
-put xs n ys = take n xs ++ (ys ++ drop (n + length ys) xs)
 
 -- the references from one place to another, and room for their pairs
 pub record Ready (offsets : List ℕ) (n : ℕ) (targets : List ℕ) (from to : ℕ) (pairs : List ℕ) (at : ℕ) : Type 0 where

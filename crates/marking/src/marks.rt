@@ -2,12 +2,13 @@
 // the roots. A mark is what gc.rs has as `Liveness`: 1 dead, 2 retained, 3 live.
 ghost use mathlib.Core.Path.{_≡_};
 ghost use Prim.Native.Nat.{_/_, _<_};
-ghost use lib.ListN.{length, replicate};
+ghost use lib.ListN.{length};
 ghost use Rattle.marking.specs.Below.{every, tab};
 ghost use Rattle.marking.specs.Graph.{graph, parentFits, pairFits, rootFits, takes as takesOf};
 ghost use Rattle.marking.specs.Marks.{answerOf, endMarks, keptCount};
 ghost use Rattle.marking.specs.Passes.{Pass, WithParents, WithPairs, WithBoth, Along, Up, Settled, ParentsFit};
 ghost use Rattle.marking.specs.Passes.{PairsFit, startMark, namesFirst, endFirst};
+use crate::columns::clear_bytes;
 use crate::rules::NO_PARENT;
 use crate::rules::along_at;
 use crate::rules::down;
@@ -218,17 +219,6 @@ fn count_kept(marks: &[u8]) -> usize
     n
 }
 
-// Every mark becomes 0.
-fn clear(marks: &mut [u8])
-    ensures { λ _. ⌜ now (marks .exit) ≡ replicate (length (now (marks .entry))) 0 ⌝ }
-{
-    let mut i = 0;
-    while i < marks.len() {
-        marks[i] = 0;
-        i += 1;
-    }
-}
-
 // How many entries are kept, or the number of the refusal.
 pub enum Marked {
     Kept(usize),
@@ -252,7 +242,7 @@ pub(crate) fn mark_with(
         ) ⌝ }
 {
     if !takes(parents, pairs, roots, marks.len()) {
-        clear(marks);
+        clear_bytes(marks);
         return Marked::Refused(16);
     }
     start(roots, marks);

@@ -45,8 +45,8 @@ sound c = let l = c .before .before in c .round .ensures .spread .sound (graph-o
 takes-requires : tie.Need-takes-requires Inv-loop μ-loop
 takes-requires c κs = search needs
 
-clear-requires : tie.Need-clear-requires Inv-loop μ-loop
-clear-requires c κs = search needs
+clear-bytes-requires : tie.Need-clear-bytes-requires Inv-loop μ-loop
+clear-bytes-requires c κs = search needs
 
 same-length : tie.Need-same-length Inv-loop μ-loop
 same-length c = search needs
@@ -55,7 +55,7 @@ returns : tie.Need-returns Inv-loop μ-loop
 returns c =
     let b = c .before .before .before .before .before in
     let no = sym (b .takes .ensures) ∙ not-true _ (c .before .before .before .before .if1 .taken) in
-    (refused-answer (G (start-of b)) (length (start-of b .args .marks .now)) no, refused-marks (G (start-of b)) (length (start-of b .args .marks .now)) _ no (c .before .before .clear .ensures))
+    (refused-answer (G (start-of b)) (length (start-of b .args .marks .now)) no, refused-marks (G (start-of b)) (length (start-of b .args .marks .now)) _ no (c .before .before .clear-bytes .ensures))
 
 start-requires : tie.Need-start-requires Inv-loop μ-loop
 start-requires c κs = let k = known (c .before) in k .long ∙ sym (k .form .same-roots)
@@ -127,7 +127,7 @@ mark-with-spec =
     Inv-loop
     μ-loop
     takes-requires
-    clear-requires
+    clear-bytes-requires
     same-length
     returns
     start-requires
