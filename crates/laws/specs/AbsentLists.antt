@@ -7,7 +7,7 @@ use Rattle.readers.specs.Codes.{«DW_AT_location», «DW_AT_ranges», «DW_FORM
 use Rattle.readers.specs.Stream.{entry}
 use Rattle.readers.specs.declared.entries.Entry.{Entry}
 use Rattle.marking.specs.Analysis.{Sections, valuesOfEntry}
-use Rattle.marking.specs.Roots.{Valued}
+use Rattle.readers.specs.EntryAttributes.{Valued}
 use Rattle.marking.specs.Members.{Member}
 use Rattle.rewriting.specs.Rewriting.{Unit as Unit′, itemsIn}
 

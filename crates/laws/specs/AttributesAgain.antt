@@ -16,7 +16,7 @@ use Rattle.readers.specs.Expression.{expressionIn}
 use Rattle.readers.specs.Stream.{Item, entry}
 use Rattle.readers.specs.declared.cursor.Encoding.{Encoding}
 use Rattle.readers.specs.declared.entries.Entry.{Entry}
-use Rattle.marking.specs.Roots.{Valued, specsFrom}
+use Rattle.readers.specs.EntryAttributes.{Valued, specsFrom}
 use Rattle.marking.specs.Analysis.{Sections, valuesOfEntry}
 use Rattle.rewriting.specs.Places.{Standing, Place}
 use Rattle.marking.specs.Members.{Nth}

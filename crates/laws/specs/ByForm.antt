@@ -9,13 +9,13 @@ use Rattle.readers.specs.Codes.{«DW_AT_sibling», «DW_FORM_exprloc», «DW_FO
 use Rattle.readers.specs.Codes.{«DW_FORM_ref_udata»}
 use Rattle.readers.specs.Stream.{entry}
 use Rattle.readers.specs.declared.entries.Entry.{Entry}
-use Rattle.marking.specs.Roots.{Valued, specsFrom}
+use Rattle.readers.specs.EntryAttributes.{Valued, specsFrom}
 use Rattle.marking.specs.Analysis.{Sections, valuesOfEntry}
 use Rattle.marking.specs.Members.{Nth}
 use Rattle.rewriting.specs.Places.{Standing, Place}
 use Rattle.laws.specs.Moved.{movedEntry}
 use Rattle.rewriting.specs.Rewriting.{Unit as Unit′, itemsIn, Lists, listAt}
-use Rattle.rewriting.specs.Emission.{listForm}
+use Rattle.readers.specs.Forms.{listForm}
 use Rattle.laws.specs.AttributesAgain.{payload}
 use Rattle.laws.specs.Thinned.{Pairwise, LandsOn, FirstFrom}
 

@@ -31,7 +31,7 @@ use Rattle.readers.specs.declared.lists.ListOffset.{ListOffset}
 use Rattle.readers.specs.declared.lists.ListOffset.the-variants.{At, Unresolved}
 use Rattle.readers.specs.declared.operations.ListEntry.{ListEntry}
 use Rattle.readers.specs.declared.operations.ListStep.the-variants.{Entry as Entry′}
-use Rattle.marking.specs.Roots.{Valued}
+use Rattle.readers.specs.EntryAttributes.{Valued}
 use Rattle.marking.specs.EntryReferences.{targets, partOf}
 use Rattle.marking.specs.Analysis.{Sections, Row, valuesOfEntry, baseOf}
 use Rattle.marking.specs.Members.{Member}

@@ -13,10 +13,10 @@ use Rattle.readers.specs.Stream.{entry}
 use Rattle.readers.specs.declared.entries.Entry.{Entry}
 use Rattle.readers.specs.declared.header.HeaderRead.the-variants.{Unit as Header′}
 use Rattle.readers.specs.declared.header.UnitHeader.{UnitHeader}
-use Rattle.marking.specs.Roots.{Valued}
+use Rattle.readers.specs.EntryAttributes.{Valued}
 use Rattle.marking.specs.Analysis.{Sections}
 use Rattle.marking.specs.Members.{Member}
-use Rattle.rewriting.specs.Emission.{listForm}
+use Rattle.readers.specs.Forms.{listForm}
 use Rattle.rewriting.specs.Rewriting.{Unit as Unit′, unitOf, itemsIn}
 use Rattle.laws.specs.SameReferences.{valuesIn, readsIn}
 

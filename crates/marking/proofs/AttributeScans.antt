@@ -14,13 +14,13 @@ use Rattle.readers.specs.Lists.{listOffset, listStart}
 use Rattle.readers.specs.declared.cursor.Moved.{Moved}
 use Rattle.readers.specs.declared.cursor.Encoding.{Encoding}
 use Rattle.readers.specs.declared.lists.ListOffset.{ListOffset}
-use Rattle.marking.specs.Roots.{Valued, entryValues, nextAttribute}
+use Rattle.readers.specs.EntryAttributes.{Valued, entryValues, nextAttribute, endBy}
 use Rattle.marking.specs.EntryReferences.{Found, found, refused, after, andThen, expressionFound, partOf, listFound, Locations, attributeFound, attributesFound}
-use Rattle.marking.specs.declared.root_test.EntryAttribute.{EntryAttribute}
-use Rattle.marking.specs.declared.root_test.NextAttribute.{NextAttribute}
-use Rattle.marking.specs.declared.root_test.NextAttribute.the-variants.{More, NoMore}
-use Rattle.marking.proofs.Attributes.{stepped, stepped-on, ends-on, no-more, stop-end}
-use Rattle.marking.specs.ReferenceTable.{nextPlace, written, tableAfter, scannedTo, entryScanned, endBy, valuedBy}
+use Rattle.readers.specs.declared.entry_attributes.EntryAttribute.{EntryAttribute}
+use Rattle.readers.specs.declared.entry_attributes.NextAttribute.{NextAttribute}
+use Rattle.readers.specs.declared.entry_attributes.NextAttribute.the-variants.{More, NoMore}
+use Rattle.readers.proofs.EntryAttributes.{stepped, stepped-on, ends-on, no-more, stop-end}
+use Rattle.marking.specs.ReferenceTable.{nextPlace, written, tableAfter, scannedTo, entryScanned, valuedBy}
 use Rattle.marking.specs.declared.references.Scanned.{Scanned}
 use Rattle.marking.specs.declared.references.Scanned.the-variants.{To, Refused}
 use Rattle.marking.specs.declared.references.EntryScan.{EntryScan}

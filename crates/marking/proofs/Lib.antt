@@ -1,7 +1,6 @@
 pub mod Lookups
 pub mod Verdicts
 pub mod Lists
-pub mod Attributes
 pub mod RootTests
 pub mod Placing
 pub mod NextOffsets

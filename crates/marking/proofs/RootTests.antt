@@ -16,13 +16,14 @@ use Rattle.readers.specs.declared.cursor.Cursor.{Cursor}
 use Rattle.readers.specs.declared.attributes.Attribute.{Attribute}
 use Rattle.readers.specs.declared.lists.ListOffset.{ListOffset}
 use Rattle.readers.specs.declared.lists.ListOffset.the-variants.{At, Unresolved}
-use Rattle.marking.specs.Roots.{Valued, orElse, lowPc, lowPcs, locationLive, locations, olderLive, otherRanges, Ranges, rangesBy, rangesLive, rangesOf, firstRanges, rootTest, baseFrom, baseAfter, entryValues, nextAttribute}
-use Rattle.marking.specs.declared.root_test.EntryAttribute.{EntryAttribute}
-use Rattle.marking.specs.declared.root_test.NextAttribute.{NextAttribute}
-use Rattle.marking.specs.declared.root_test.NextAttribute.the-variants.{More, NoMore}
+use Rattle.marking.specs.Roots.{orElse, lowPc, lowPcs, locationLive, locations, olderLive, otherRanges, Ranges, rangesBy, rangesLive, rangesOf, firstRanges, rootTest, baseFrom, baseAfter}
+use Rattle.readers.specs.EntryAttributes.{Valued, entryValues, nextAttribute}
+use Rattle.readers.specs.declared.entry_attributes.EntryAttribute.{EntryAttribute}
+use Rattle.readers.specs.declared.entry_attributes.NextAttribute.{NextAttribute}
+use Rattle.readers.specs.declared.entry_attributes.NextAttribute.the-variants.{More, NoMore}
 use Rattle.marking.specs.declared.root_test.Verdict.{Verdict}
 use Rattle.marking.specs.declared.root_test.Verdict.the-variants.{Live as isLive, Dead as isDead, Refused as refused}
-use Rattle.marking.proofs.Attributes.{valued, stepped, stepped-on, no-more}
+use Rattle.readers.proofs.EntryAttributes.{valued, stepped, stepped-on, no-more}
 use Rattle.marking.proofs.Lists.{rangesFrom, ranges-start}
 
 -- ---- any test over the attributes, from a specification and a value on

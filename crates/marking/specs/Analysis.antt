@@ -19,7 +19,8 @@ use Rattle.readers.specs.declared.cursor.Encoding.{Encoding}
 use Rattle.readers.specs.declared.entries.Entry.{Entry}
 use Rattle.readers.specs.declared.header.HeaderRead.{HeaderRead}
 use Rattle.readers.specs.declared.header.HeaderRead.the-variants.{Unit as Unit′, Empty, Refused}
-use Rattle.marking.specs.Roots.{Valued, rangesBy, rootTest, baseAfter, entryValues}
+use Rattle.marking.specs.Roots.{rangesBy, rootTest, baseAfter}
+use Rattle.readers.specs.EntryAttributes.{Valued, entryValues}
 use Rattle.marking.specs.EntryReferences.{Found, found, refused as refusedAfter, locationsBy, attributesFound}
 use Rattle.marking.specs.declared.root_test.Verdict.{Verdict}
 use Rattle.marking.specs.declared.root_test.Verdict.the-variants.{Live, Dead, Refused as Failed}

@@ -23,7 +23,7 @@ use Rattle.readers.specs.declared.operations.ListEntry.{ListEntry}
 use Rattle.readers.specs.declared.operations.ListStep.{ListStep}
 use Rattle.readers.specs.declared.operations.ListStep.the-variants.{Entry, End, Unreadable as NoEntry}
 use Rattle.marking.specs.Walking.{Next, go, stop, walk}
-use Rattle.marking.specs.Roots.{Valued}
+use Rattle.readers.specs.EntryAttributes.{Valued}
 
 -- the offsets that are named; on a refusal those named before it, and its number
 pub data Found : Type 0 where

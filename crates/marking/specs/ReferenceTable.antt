@@ -9,9 +9,9 @@ use Rattle.readers.specs.declared.abbreviations.SpecStep.{SpecStep}
 use Rattle.readers.specs.declared.abbreviations.SpecStep.the-variants.{Attribute, Last, Unreadable}
 use Rattle.readers.specs.declared.cursor.Moved.{Moved}
 use Rattle.readers.specs.declared.cursor.Moved.the-variants.{To as EndsAt, Unreadable as Nowhere}
-use Rattle.marking.specs.Roots.{Valued}
+use Rattle.readers.specs.EntryAttributes.{Valued}
 use Rattle.marking.specs.EntryReferences.{Found, found, refused}
-use Rattle.marking.specs.declared.root_test.EntryAttribute.{EntryAttribute}
+use Rattle.readers.specs.declared.entry_attributes.EntryAttribute.{EntryAttribute}
 use Rattle.marking.specs.declared.references.Scanned.{Scanned}
 use Rattle.marking.specs.declared.references.Scanned.the-variants.{To, Refused}
 use Rattle.marking.specs.declared.references.EntryScan.{EntryScan}
@@ -48,9 +48,3 @@ tableAfter table at (refused xs n) = written table at xs
 unfoldable pub entryScanned : Scanned → Moved → EntryScan
 entryScanned (To place) end = Through place end
 entryScanned (Refused n) end = Refused′ n
-
--- which is the place that no attribute was read at, where its specifications end there too
-unfoldable pub endBy : ℕ → SpecStep → Moved
-endBy at (Attribute a) = Nowhere
-endBy at (Last c) = EndsAt (cursor at)
-endBy at Unreadable = Nowhere

@@ -24,8 +24,9 @@ use Rattle.readers.specs.Entries.{attributeOfReads, asAttribute, attributeAt}
 use Rattle.marking.specs.Addresses.{isTombstone, byteLiveness, lookupAt}
 use Rattle.marking.specs.Walking.{onNext, walkWithin, walk}
 use Rattle.marking.specs.Roots.{orElse, onLookup, rangeEntry, rangeStep, rangesLive, operationStep, locationLive}
-use Rattle.marking.specs.Roots.{olderStep, olderLive, lowPc, Valued, onAttribute, valuesOf, onSpec, specsWithin}
-use Rattle.marking.specs.Roots.{specsFrom, entryValues, lowPcs, locations, rangesBy, otherRanges, rangesOf}
+use Rattle.marking.specs.Roots.{olderStep, olderLive, lowPc}
+use Rattle.readers.specs.EntryAttributes.{Valued, onAttribute, valuesOf, onSpec, specsWithin, specsFrom, entryValues}
+use Rattle.marking.specs.Roots.{lowPcs, locations, rangesBy, otherRanges, rangesOf}
 use Rattle.marking.specs.Roots.{firstRanges, rootTest, baseFrom, baseAfter}
 use Rattle.marking.specs.declared.root_test.Verdict.{Verdict}
 use Rattle.marking.specs.declared.root_test.Verdict.the-variants.{Live, Dead, Refused}

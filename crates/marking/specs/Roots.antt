@@ -41,10 +41,11 @@ use Rattle.marking.specs.declared.addresses.AddressLookup.{AddressLookup
 use Rattle.marking.specs.declared.addresses.AddressLookup.the-variants.{Live, Dead, Fails}
 use Rattle.marking.specs.declared.root_test.RangeTurn.{RangeTurn}
 use Rattle.marking.specs.declared.root_test.RangeTurn.the-variants.{On, Decided}
-use Rattle.marking.specs.declared.root_test.NextAttribute.{NextAttribute}
-use Rattle.marking.specs.declared.root_test.NextAttribute.the-variants.{More, NoMore}
+use Rattle.readers.specs.declared.entry_attributes.NextAttribute.{NextAttribute}
+use Rattle.readers.specs.declared.entry_attributes.NextAttribute.the-variants.{More, NoMore}
 use Rattle.marking.specs.declared.root_test.Verdict.{Verdict}
 use Rattle.marking.specs.declared.root_test.Verdict.the-variants.{Live as isLive, Dead as isDead, Refused as refused}
+use Rattle.readers.specs.EntryAttributes.{Valued}
 
 -- the first that does not say dead
 unfoldable pub orElse : Verdict → Verdict → Verdict
@@ -132,52 +133,6 @@ lowPc e table v =
     (pick (eqb (v .form) «DW_FORM_addr») (pick (isTombstone (v .field .value) (e .«address_size»)) isDead isLive) isLive)
 
 -- ---- the attributes of an entry
-
--- an attribute: its name, the form that it is declared with, and its value
-pub record Valued : Type 0 where
-  pub name : ℕ
-  pub declared : ℕ
-  pub value : Attribute
-
-unfoldable pub onAttribute : AttributeSpec → AttributeRead → (ℕ → List Valued) → List Valued
-onAttribute a (Attribute′ v) k = record { name = a .name; declared = a .form; value = v } ∷ k (v .field .end)
-onAttribute a NoAttribute k = []
-
-unfoldable pub valuesOf : Encoding → List ℕ → List AttributeSpec → ℕ → List Valued
-valuesOf e unit [] at = []
-valuesOf e unit (a ∷ rest) at = onAttribute a (attributeAt e unit at (a .name) (a .form)) (λ next. valuesOf e unit rest next)
-
--- the specifications from a place on, up to the pair of zeros or to one that can't be read: what stands before that one
--- counts, since a test may be decided there. A checked abbreviation list has none such, and there these are all.
-unfoldable pub onSpec : SpecStep → (AttributeSpec → List AttributeSpec) → List AttributeSpec
-onSpec (Spec a) k = k a
-onSpec (LastSpec c) k = []
-onSpec NoSpec k = []
-
--- a count bounds how often
-unfoldable pub specsWithin : ℕ → List ℕ → ℕ → List AttributeSpec
-specsWithin zero s at = []
-specsWithin (suc k) s at = onSpec (specAt s at) (λ a. a ∷ specsWithin k s (a .next .at))
-
-unfoldable pub specsFrom : List ℕ → ℕ → List AttributeSpec
-specsFrom s at = specsWithin (suc (length s - at)) s at
-
--- the attributes of an entry, from the place of its specifications and that of its values on
-unfoldable pub entryValues : Encoding → List ℕ → ℕ → List ℕ → ℕ → List Valued
-entryValues e abbreviations specs unit at = valuesOf e unit (specsFrom abbreviations specs) at
-
--- the attribute there, as the code reads it
-unfoldable pub taken : AttributeSpec → AttributeRead → NextAttribute
-taken a (Attribute′ v) = More (record { name = a .name; declared = a .form; value = v; next = a .next; values = cursor (v .field .end) })
-taken a NoAttribute = NoMore
-
-unfoldable pub takenBy : Encoding → List ℕ → ℕ → SpecStep → NextAttribute
-takenBy e unit at (Spec a) = taken a (attributeAt e unit at (a .name) (a .form))
-takenBy e unit at (LastSpec c) = NoMore
-takenBy e unit at NoSpec = NoMore
-
-unfoldable pub nextAttribute : Encoding → List ℕ → ℕ → List ℕ → ℕ → NextAttribute
-nextAttribute e abbreviations specs unit at = takenBy e unit at (specAt abbreviations specs)
 
 -- each low_pc in turn
 unfoldable pub lowPcs : Encoding → List ℕ → List Valued → Verdict

@@ -8,8 +8,6 @@ ghost use Rattle.marking.specs.Analysis.{sections, rooms, rootOf, namesO
 ghost use Rattle.marking.specs.Columns.{offsetsIn, parentsIn, rootsIn, endsIn, namesIn, column, least, roomsOf};
 ghost use Rattle.marking.specs.Columns.{indexAfter, Ready, Outcome, answerOf, headed, refusalOf, entryAnswer};
 ghost use Rattle.marking.specs.Columns.{entryTable, leftBy, unitFound};
-use crate::columns::clear_bytes;
-use crate::columns::clear_indexes;
 use crate::references::EntryScan;
 use crate::references::scan_live_die_attrs;
 use crate::root_test::Verdict;
@@ -31,6 +29,8 @@ use readers::header::unit_header;
 use readers::header::unit_part;
 use readers::offsets::EntryIndex;
 use readers::tables::clear;
+use readers::tables::clear_bytes;
+use readers::tables::clear_indexes;
 
 // What is found of an entry: 1 for a root, else 0, the place past its references in the table, and the cursor past it;
 // or the number of a refusal.

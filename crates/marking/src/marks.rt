@@ -8,12 +8,12 @@ ghost use Rattle.marking.specs.Graph.{graph, parentFits, pairFits, rootF
 ghost use Rattle.marking.specs.Marks.{answerOf, endMarks, keptCount};
 ghost use Rattle.marking.specs.Passes.{Pass, WithParents, WithPairs, WithBoth, Along, Up, Settled, ParentsFit};
 ghost use Rattle.marking.specs.Passes.{PairsFit, startMark, namesFirst, endFirst};
-use crate::columns::clear_bytes;
 use crate::rules::NO_PARENT;
 use crate::rules::along_at;
 use crate::rules::down;
 use crate::rules::up_at;
 use crate::spread::spread;
+use readers::tables::clear_bytes;
 
 // ---- what is taken
 

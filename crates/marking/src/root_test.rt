@@ -2,8 +2,9 @@
 // location_expr_live and is_root have the names of their originals in gc.rs.
 ghost use mathlib.Core.Path.{_≡_};
 ghost use Rattle.marking.specs.Roots.{turnOf, rangeEntry, olderLive, locationLive, lowPc};
-ghost use Rattle.marking.specs.Roots.{nextAttribute, lowPcs, locations, otherRanges, rangesBy, firstRanges};
-ghost use Rattle.marking.specs.Roots.{rootTest, baseAfter, entryValues};
+ghost use Rattle.marking.specs.Roots.{lowPcs, locations, otherRanges, rangesBy, firstRanges};
+ghost use Rattle.readers.specs.EntryAttributes.{nextAttribute, entryValues};
+ghost use Rattle.marking.specs.Roots.{rootTest, baseAfter};
 ghost use Rattle.readers.specs.declared.lists.ListOffset.the-variants.{At};
 use crate::addresses::AddressLookup;
 use crate::addresses::is_tombstone;
@@ -30,6 +31,8 @@ use readers::codes::DW_TAG_subprogram;
 use readers::codes::DW_TAG_variable;
 use readers::cursor::Cursor;
 use readers::cursor::Encoding;
+use readers::entry_attributes::NextAttribute;
+use readers::entry_attributes::next_attribute;
 use readers::layouts::ROW_ADDRESS_INDEX;
 use readers::lists::ListOffset;
 use readers::lists::list_offset;
@@ -174,54 +177,6 @@ pub fn low_pc(v: Attribute, table: &[u8], e: Encoding) -> Verdict
 }
 
 // ---- over the attributes of an entry
-
-// An attribute of an entry: its name, the form that it is declared with, its value, the cursor past its specification,
-// and the cursor past its value.
-pub struct EntryAttribute {
-    pub name: u64,
-    pub declared: u64,
-    pub value: Attribute,
-    pub next: Cursor,
-    pub values: Cursor,
-}
-
-pub enum NextAttribute {
-    More(EntryAttribute),
-    NoMore,
-}
-
-// The attribute at a specification and a value of an entry; none where one of them can't be read.
-pub fn next_attribute(
-    unit: &[u8],
-    abbreviations: &[u8],
-    specs: Cursor,
-    values: Cursor,
-    e: Encoding,
-) -> NextAttribute
-    ensures { λ r. ⌜ r ≡ nextAttribute e (now (abbreviations .entry)) (specs .at) (now (unit .entry)) (values .at) ⌝ }
-{
-    match specs.attribute_spec(abbreviations) {
-        SpecStep::Attribute(a) => {
-            let AttributeRead::Read(value) = values.attribute(unit, a.name, a.form, e) else {
-                return NextAttribute::NoMore;
-            };
-            let name = a.name;
-            let declared = a.form;
-            let next = a.next;
-            let field = value.field;
-            let values = field.next();
-            NextAttribute::More(EntryAttribute {
-                name,
-                declared,
-                value,
-                next,
-                values,
-            })
-        }
-        SpecStep::Last(_) => NextAttribute::NoMore,
-        SpecStep::Unreadable => NextAttribute::NoMore,
-    }
-}
 
 // Each low_pc of an entry in turn.
 pub fn low_pcs(

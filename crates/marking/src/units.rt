@@ -13,12 +13,12 @@ ghost use Rattle.marking.specs.Resolution.{asEntry, entryFrom, pairsOfEn
 ghost use Rattle.marking.specs.Resolution.{Searched, Ready, Held, Resolvable, Laid, Markable};
 use crate::analysis::Analysis;
 use crate::analysis::analyse;
-use crate::columns::clear_bytes;
-use crate::columns::clear_indexes;
 use crate::marks::Marked;
 use crate::marks::mark_with;
 use readers::offsets::EntryIndex;
 use readers::offsets::UnitOffset;
+use readers::tables::clear_bytes;
+use readers::tables::clear_indexes;
 
 // What marking a unit answers: how many entries it has and how many are kept, or the number of a refusal.
 pub enum UnitMarks {

@@ -12,7 +12,7 @@ use Rattle.readers.specs.Choice.{pick, pick-yes, pick-no, _and_}
 use Rattle.readers.specs.Layout.{index, Piece, Read, readIn, writeAll, patchAll, patchPieces, bytesOf, numberBytes}
 use Rattle.readers.specs.Expression.{expressionIn}
 use Rattle.readers.specs.References.{encodedBy}
-use Rattle.readers.specs.Forms.{useOf, formToken, attributeLayout}
+use Rattle.readers.specs.Forms.{useOf, formToken, attributeLayout, listForm}
 use Rattle.readers.specs.Entries.{attributeAt}
 use Rattle.readers.specs.declared.cursor.Encoding.{Encoding}
 use Rattle.readers.specs.declared.attributes.Attribute.{Attribute}
@@ -22,7 +22,7 @@ use Rattle.rewriting.specs.Places.{Place, newOf, siblingOf}
 use Rattle.rewriting.specs.Indices.{rankOr}
 use Rattle.rewriting.specs.Written.{asMapped}
 use Rattle.rewriting.specs.Rewriting.{Lists, newValue, piecesRefusal, readsRefusal, orSelf, listAt}
-use Rattle.rewriting.specs.Emission.{between, Wide, numberRefusal, offsetRefusal, listForm, lebForm, Lent}
+use Rattle.rewriting.specs.Emission.{between, Wide, numberRefusal, offsetRefusal, lebForm, Lent}
 use Rattle.rewriting.specs.declared.emit.Emitted.{Emitted}
 use Rattle.rewriting.specs.declared.emit.Emitted.the-variants.{To}
 use Rattle.rewriting.specs.declared.lists.ListCount.{ListCount}

@@ -16,7 +16,7 @@ use Rattle.readers.specs.declared.abbreviations.Found.{Found as Declared}
 use Rattle.readers.specs.declared.entries.Nesting.{Nesting}
 use Rattle.readers.specs.declared.entries.Step.{Step}
 use Rattle.readers.specs.declared.entries.Step.the-variants.{Entry as Entry′, Terminator}
-use Rattle.marking.specs.Roots.{entryValues}
+use Rattle.readers.specs.EntryAttributes.{entryValues}
 use Rattle.marking.specs.Analysis.{Sections}
 use Rattle.rewriting.specs.Places.{Standing, keptFrom, offsetOf}
 use Rattle.readers.proofs.Nesting.{Chain}

@@ -31,8 +31,8 @@ use Rattle.readers.specs.declared.attributes.AttributeRead.{AttributeRead}
 use Rattle.readers.specs.declared.attributes.AttributeRead.the-variants.{Read as Attribute′, Unreadable as NoAttribute}
 use Rattle.readers.specs.declared.entries.Step.{Step}
 use Rattle.readers.specs.declared.entries.Step.the-variants.{Entry as Entry′, Terminator, End, Unreadable}
-use Rattle.marking.specs.Roots.{Valued, onSpec, specsFrom, onAttribute, valuesOf, entryValues}
-use Rattle.marking.proofs.Attributes.{specs-step}
+use Rattle.readers.specs.EntryAttributes.{Valued, onSpec, specsFrom, onAttribute, valuesOf, entryValues}
+use Rattle.readers.proofs.EntryAttributes.{specs-step}
 use Rattle.marking.specs.Analysis.{Sections}
 use Rattle.rewriting.specs.Indices.{declares, specsDeclare, tableDeclares}
 use Rattle.rewriting.specs.Rewriting.{Unit as Unit′, itemDeclares, anyDeclares}

@@ -35,11 +35,11 @@ use Rattle.readers.specs.declared.entries.Entry.{Entry}
 use Rattle.readers.specs.declared.entries.Step.the-variants.{Entry as Entry′, Terminator}
 use Rattle.readers.proofs.Values.{joined, read-then}
 use Rattle.readers.proofs.Specs.{attributes-more, attributes-last, attributes-bad}
-use Rattle.marking.specs.Roots.{taken, takenBy, nextAttribute}
-use Rattle.marking.specs.declared.root_test.EntryAttribute.{EntryAttribute}
-use Rattle.marking.proofs.Attributes.{Stepped, stepped}
-use Rattle.marking.specs.declared.root_test.NextAttribute.{NextAttribute}
-use Rattle.marking.specs.declared.root_test.NextAttribute.the-variants.{More, NoMore}
+use Rattle.readers.specs.EntryAttributes.{taken, takenBy, nextAttribute}
+use Rattle.readers.specs.declared.entry_attributes.EntryAttribute.{EntryAttribute}
+use Rattle.readers.proofs.EntryAttributes.{Stepped, stepped}
+use Rattle.readers.specs.declared.entry_attributes.NextAttribute.{NextAttribute}
+use Rattle.readers.specs.declared.entry_attributes.NextAttribute.the-variants.{More, NoMore}
 use Rattle.rewriting.specs.Places.{Place}
 use Rattle.rewriting.specs.Rewriting.{Lists, newValue, readsRefusal, piecesRefusal, orNext}
 use Rattle.rewriting.specs.Emission.{between}

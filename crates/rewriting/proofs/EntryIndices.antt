@@ -16,7 +16,7 @@ use Rattle.readers.specs.Layout.{Kind, leb128, Role, reference, typeReference, 
 use Rattle.readers.specs.Expression.{allPieces, andRest, expressionWithin, expressionIn, expression-law}
 use Rattle.readers.specs.Operations.{Row, unreadableRow, rows, rowOf, rowLayout, operationRow, operation}
 use Rattle.readers.specs.Tokens.{Use, plain, as′, numberAs, tokenOf}
-use Rattle.readers.specs.Forms.{formTokens, tokenAmong, formToken, useOf, valueToken, attributeLayout}
+use Rattle.readers.specs.Forms.{formTokens, tokenAmong, formToken, useOf, valueToken, attributeLayout, listForm}
 use Rattle.readers.specs.Fields.{size, linkedValue, fieldOf, asField, tokenAt}
 use Rattle.readers.specs.Cursors.{formsAt, asFormNumber}
 use Rattle.readers.specs.Scan.{Scanned}
@@ -32,102 +32,12 @@ use Rattle.readers.specs.declared.attributes.AttributeRead.{AttributeRead}
 use Rattle.readers.specs.declared.attributes.AttributeRead.the-variants.{Read as Attribute′}
 use Rattle.readers.specs.declared.entries.Step.{Step}
 use Rattle.readers.specs.declared.entries.Step.the-variants.{Entry as Entry′, Terminator, End, Unreadable}
-use Rattle.marking.specs.Roots.{onAttribute, valuesOf, entryValues}
-use Rattle.marking.proofs.Attributes.{specs-all}
+use Rattle.readers.specs.EntryAttributes.{onAttribute, valuesOf, entryValues}
+use Rattle.readers.proofs.EntryAttributes.{specs-all}
 use Rattle.rewriting.specs.Indices.{indexIn, indicesIn, readIndices}
-use Rattle.rewriting.specs.IndexLists.{roleList, useList, formList, valueIndex, valueIndices}
-use Rattle.rewriting.specs.Emission.{listForm}
+use Rattle.rewriting.specs.IndexLists.{formList, valueIndex, valueIndices}
+use Rattle.readers.proofs.FormKinds.{roleList, useList}
 use Rattle.rewriting.proofs.DeepReads.{deep-step}
-use Rattle.rewriting.proofs.FormKinds as Kinds
-
--- ---- the list of a form
-
-module _ (name : ℕ) where
-  list-ranges : (f : ℕ) → f ≡ 0x23 → 0 ≡ useList (useOf name f)
-  unfolding useList roleList useOf pick _and_ _or_
-  list-ranges f h = sym (ap (λ (f : ℕ). useList (useOf name f)) h)
-
-  list-locations : (f : ℕ) → f ≡ 0x22 → 1 ≡ useList (useOf name f)
-  unfolding useList roleList useOf pick _and_ _or_
-  list-locations f h = sym (ap (λ (f : ℕ). useList (useOf name f)) h)
-
-  list-strx : (f : ℕ) → f ≡ 0x1a → 2 ≡ useList (useOf name f)
-  unfolding useList roleList useOf pick _and_ _or_
-  list-strx f h = sym (ap (λ (f : ℕ). useList (useOf name f)) h)
-
-  list-gnu : (f : ℕ) → f ≡ 0x1f02 → 2 ≡ useList (useOf name f)
-  unfolding useList roleList useOf pick _and_ _or_
-  list-gnu f h = sym (ap (λ (f : ℕ). useList (useOf name f)) h)
-
-  -- strx1 to strx4
-  list-strings : (f : ℕ) → 0x25 ≤ f → f ≤ 0x28 → 2 ≡ useList (useOf name f)
-  unfolding useList roleList useOf pick _and_ _or_
-  list-strings f h k =
-      ⊎-elim (λ t. sym (ap (λ (f : ℕ). useList (useOf name f)) (eqb-yes {a = f} {b = 0x25} t)))
-      (λ t. ⊎-elim (λ t′. sym (ap (λ (f : ℕ). useList (useOf name f)) (eqb-yes {a = f} {b = 0x26} t′)))
-      (λ t′. ⊎-elim (λ t″. sym (ap (λ (f : ℕ). useList (useOf name f)) (eqb-yes {a = f} {b = 0x27} t″)))
-      (λ t″. sym (ap (λ (f : ℕ). useList (useOf name f)) (let z : f ≡ 0x28 = omega (arith, eqb-no {a = f} {b = 0x25} t, eqb-no {a = f} {b = 0x26} t′, eqb-no {a = f} {b = 0x27} t″) in z)))
-      (either (eqb f 0x27)))
-      (either (eqb f 0x26)))
-      (either (eqb f 0x25))
-
-  module _ (f : ℕ) (r : f ≡ 0x23 → ⊥) (l : f ≡ 0x22 → ⊥) (s : f ≡ 0x1a → ⊥) (g : f ≡ 0x1f02 → ⊥) where
-    own : (b : Bool) → useList (as′ (pick b sibling reference)) ≡ 3
-    unfolding useList roleList pick
-    own true = refl
-    own false = refl
-
-    no-or : (a b c : Bool) → T (not a) → T (not b) → T (not c) → T (not (a or b or c))
-    unfolding _or_
-    no-or true b c h k m = absurd h
-    no-or false true c h k m = absurd k
-    no-or false false true h k m = absurd m
-    no-or false false false h k m = tt
-
-    other-list : T (not (leb 0x25 f and leb f 0x28)) → useList (useOf name f) ≡ 3
-    unfolding useOf useList roleList
-    other-list n =
-        pick-either (λ (u : Use). useList u ≡ 3) (leb 0x11 f and leb f 0x15) _ _ (λ _. own (eqb name 0x01))
-        (λ _. pick-either (λ (u : Use). useList u ≡ 3) (eqb f 0x10) _ _ (λ _. refl)
-        (λ _. ap useList
-        (pick-no _ _ _ (no-eqb {a = f} {b = 0x23} r)
-        ∙ pick-no _ _ _ (no-eqb {a = f} {b = 0x22} l)
-        ∙ pick-no _ _ _ (no-or (eqb f 0x1a) (leb 0x25 f and leb f 0x28) (eqb f 0x1f02) (no-eqb {a = f} {b = 0x1a} s) n (no-eqb {a = f} {b = 0x1f02} g)))))
-
-    no-and : (a b : Bool) → (T a → T b → ⊥) → T (not (a and b))
-    unfolding _and_
-    no-and true true h = h tt tt
-    no-and true false h = tt
-    no-and false b h = tt
-
-    list-below : f < 0x25 → 3 ≡ useList (useOf name f)
-    list-below h = sym (other-list (no-and (leb 0x25 f) (leb f 0x28) (λ t _. let z : 0x25 ≤ f = leb-yes {a = 0x25} {b = f} t in absurd (omega arith))))
-
-    list-above : 0x28 < f → 3 ≡ useList (useOf name f)
-    list-above h = sym (other-list (no-and (leb 0x25 f) (leb f 0x28) (λ _ t. let z : f ≤ 0x28 = leb-yes {a = f} {b = 0x28} t in absurd (omega arith))))
-
--- the list of a form (specs/Emission.antt) is that of its use, under any name
-pub form-list : (name f : ℕ) → listForm f ≡ useList (useOf name f)
-form-list name f =
-    ⊎-elim (λ a. sym (Kinds.list-ranges f (eqb-yes {a = f} {b = 0x23} a)) ∙ list-ranges name f (eqb-yes {a = f} {b = 0x23} a))
-    (λ a. ⊎-elim (λ b. sym (Kinds.list-locations f (eqb-yes {a = f} {b = 0x22} b)) ∙ list-locations name f (eqb-yes {a = f} {b = 0x22} b))
-    (λ b. ⊎-elim (λ c. sym (Kinds.list-strings f (eqb-yes {a = f} {b = 0x1a} c)) ∙ list-strx name f (eqb-yes {a = f} {b = 0x1a} c))
-    (λ c. ⊎-elim (λ d. sym (Kinds.list-gnu f (eqb-yes {a = f} {b = 0x1f02} d)) ∙ list-gnu name f (eqb-yes {a = f} {b = 0x1f02} d))
-    (λ d. ⊎-elim
-    (λ l. ⊎-elim
-    (λ h. sym (Kinds.list-fixed f (leb-yes {a = 0x25} {b = f} l) (leb-yes {a = f} {b = 0x28} h)) ∙ list-strings name f (leb-yes {a = 0x25} {b = f} l) (leb-yes {a = f} {b = 0x28} h))
-    (λ h. let z : 0x28 < f = leb-no {a = f} {b = 0x28} h in
-    sym (Kinds.list-above f z (eqb-no {a = f} {b = 0x1f02} d))
-    ∙ list-above name f (eqb-no {a = f} {b = 0x23} a) (eqb-no {a = f} {b = 0x22} b) (eqb-no {a = f} {b = 0x1a} c) (eqb-no {a = f} {b = 0x1f02} d) z)
-    (either (leb f 0x28)))
-    (λ l. let z : f < 0x25 = leb-no {a = 0x25} {b = f} l in
-    sym (Kinds.list-below f z (eqb-no {a = f} {b = 0x23} a) (eqb-no {a = f} {b = 0x22} b) (eqb-no {a = f} {b = 0x1a} c))
-    ∙ list-below name f (eqb-no {a = f} {b = 0x23} a) (eqb-no {a = f} {b = 0x22} b) (eqb-no {a = f} {b = 0x1a} c) (eqb-no {a = f} {b = 0x1f02} d) z)
-    (either (leb 0x25 f)))
-    (either (eqb f 0x1f02)))
-    (either (eqb f 0x1a)))
-    (either (eqb f 0x22)))
-    (either (eqb f 0x23))
 
 -- ---- indices of some pieces after others
 

@@ -36,9 +36,9 @@ use Rattle.readers.specs.declared.entries.Step.the-variants.{Entry as Entry′,
 use Rattle.readers.specs.declared.attributes.Attribute.{Attribute}
 use Rattle.readers.specs.declared.attributes.AttributeRead.{AttributeRead}
 use Rattle.readers.specs.declared.attributes.AttributeRead.the-variants.{Read as Attribute′}
-use Rattle.marking.specs.Roots.{Valued, onAttribute, valuesOf, entryValues}
+use Rattle.readers.specs.EntryAttributes.{Valued, onAttribute, valuesOf, entryValues}
 use Rattle.marking.specs.EntryReferences.{Found, found, refused, after, andThen, targets, walkFound, expressionFound, partOf, Locations, locationsBy, attributeFound, attributesFound}
-use Rattle.marking.proofs.Attributes.{specs-all}
+use Rattle.readers.proofs.EntryAttributes.{specs-all}
 use Rattle.marking.specs.Analysis.{Sections, Row, valuesOfEntry, namesOf, baseOf}
 use Rattle.rewriting.specs.Places.{Standing, keptFrom, offsetOf}
 use Rattle.rewriting.specs.Rewriting.{Unit as Unit′, itemsIn, Room, unitOf}

@@ -11,10 +11,10 @@ use Rattle.readers.specs.Choice.{pick, pick-yes, pick-no, pick-either, either, 
 use Rattle.readers.specs.Layout.{Kind, fixed, leb128, Role, reference, typeReference, sibling, index, absolute, Token, nothing, number, forms, link, expression}
 use Rattle.readers.specs.Tokens.{Use, plain, as′, numberAs, tokenOf}
 use Rattle.readers.specs.Operations.{Codes}
-use Rattle.readers.specs.Forms.{formTokens, tokenAmong, formToken, useOf}
+use Rattle.readers.specs.Forms.{formTokens, tokenAmong, formToken, useOf, listForm}
 use Rattle.readers.specs.declared.cursor.Encoding.{Encoding}
 use Rattle.readers.proofs.OperationPieces.{isLeb, isExpression}
-use Rattle.rewriting.specs.Emission.{listForm, lebForm}
+use Rattle.rewriting.specs.Emission.{lebForm}
 use Rattle.rewriting.proofs.Exact.{useOk}
 
 -- ---- Bools

@@ -82,14 +82,6 @@ offsetRefusal e v o = pick (isSome o) (numberRefusal e (orSelf v o)) 8
 
 -- ---- forms
 
--- rnglistx 0; loclistx 1; strx, strx1 to strx4 and GNU_str_index 2; no index 3
-unfoldable pub listForm : ℕ → ℕ
-listForm f =
-    pick (eqb f «DW_FORM_rnglistx») 0
-    (pick (eqb f «DW_FORM_loclistx») 1
-    (pick (eqb f «DW_FORM_strx» or (leb «DW_FORM_strx1» f and leb f «DW_FORM_strx4») or eqb f «DW_FORM_GNU_str_index») 2
-    3))
-
 -- ref_udata, strx, loclistx, rnglistx, GNU_str_index
 unfoldable pub lebForm : ℕ → Bool
 lebForm f = eqb f «DW_FORM_ref_udata» or eqb f «DW_FORM_strx» or eqb f «DW_FORM_loclistx» or eqb f «DW_FORM_rnglistx» or eqb f «DW_FORM_GNU_str_index»

@@ -15,7 +15,7 @@ use Rattle.readers.specs.Forms.{useOf}
 use Rattle.readers.specs.Abbreviations.{abbreviationsOf, declaredIn, findAt}
 use Rattle.readers.specs.Stream.{Item}
 use Rattle.readers.specs.declared.attributes.Attribute.{Attribute}
-use Rattle.marking.specs.Roots.{Valued}
+use Rattle.readers.specs.EntryAttributes.{Valued}
 use Rattle.marking.specs.Analysis.{Sections}
 use Rattle.rewriting.specs.Indices.{insertAll}
 use Rattle.rewriting.specs.Rewriting.{Unit as Unit′, anyDeclares, indicesFrom}
@@ -28,19 +28,9 @@ use Rattle.rewriting.specs.Gathering.{Gathered, Filled}
 use Rattle.rewriting.specs.declared.kept.Reading.{Reading}
 use Rattle.rewriting.specs.declared.lists.ListCount.{ListCount}
 use Rattle.rewriting.specs.declared.lists.ListCount.the-variants.{Present, Absent}
+use Rattle.readers.proofs.FormKinds.{useList}
 
 -- ---- the list of a number: 0 ranges, 1 locations, 2 strings; 3 for what is no index
-
-unfoldable pub roleList : Role → ℕ
-roleList reference = 3
-roleList typeReference = 3
-roleList sibling = 3
-roleList (index k) = k
-roleList absolute = 3
-
-unfoldable pub useList : Use → ℕ
-useList plain = 3
-useList (as′ r) = roleList r
 
 -- by its form alone
 unfoldable pub formList : ℕ → ℕ

@@ -25,8 +25,6 @@ use crate::siblings::fill_bounds;
 use crate::writing::emit_dies;
 use crate::writing::emit_header;
 use marking::analysis::clear_columns;
-use marking::columns::clear_bytes;
-use marking::columns::clear_indexes;
 use marking::units::UnitMarks;
 use marking::units::mark_unit;
 use readers::codes::DW_AT_location;
@@ -37,6 +35,8 @@ use readers::header::unit_header;
 use readers::header::unit_part;
 use readers::offsets::UnitOffset;
 use readers::tables::clear;
+use readers::tables::clear_bytes;
+use readers::tables::clear_indexes;
 
 // What an accepted answer counts: entries, kept ones, map places, output bytes (both 0 where untouched), and the numbers
 // of each list.

@@ -8,7 +8,7 @@ ghost use Prim.Native.Nat.{ℕ, _+_, _-_, _^_, _≤_, _<_};
 ghost use lib.ListN.{length, drop};
 ghost use Rattle.readers.specs.Layout.{Read, Piece, readIn, writeAll, patchAll, bytesOf, patchPieces, numberBytes};
 ghost use Rattle.readers.specs.Expression.{expressionIn};
-ghost use Rattle.readers.specs.Forms.{attributeLayout};
+ghost use Rattle.readers.specs.Forms.{attributeLayout, listForm};
 ghost use Rattle.readers.specs.Entries.{attributeAt, entryLayout, stepAt};
 ghost use Rattle.readers.specs.References.{encodedBy};
 ghost use Rattle.readers.specs.declared.abbreviations.Found.{Found};
@@ -21,7 +21,7 @@ ghost use Rattle.rewriting.specs.Written.{asMapped, MapHeld, over};
 ghost use Rattle.rewriting.specs.Bounds.{Bounds};
 ghost use Rattle.rewriting.specs.Rewriting.{Lists, newValue, readsRefusal, piecesRefusal, orSelf};
 ghost use Rattle.rewriting.specs.Emission.{between, copiedCount, Emits, Within, onward, Wide};
-ghost use Rattle.rewriting.specs.Emission.{numberRefusal, offsetRefusal, listForm, lebForm, Lent, Lends};
+ghost use Rattle.rewriting.specs.Emission.{numberRefusal, offsetRefusal, lebForm, Lent, Lends};
 ghost use Rattle.rewriting.specs.declared.emit.Emitted.the-variants.{To};
 use crate::lists::ListCount;
 use crate::lists::rank;
@@ -30,9 +30,7 @@ use crate::map::new_offset;
 use crate::numbers::put_bytes;
 use crate::numbers::put_number;
 use crate::siblings::sibling_offset;
-use marking::root_test::EntryAttribute;
-use marking::root_test::NextAttribute;
-use marking::root_test::next_attribute;
+use readers::attributes::list_of;
 use readers::codes::DW_AT_sibling;
 use readers::codes::DW_FORM_GNU_str_index;
 use readers::codes::DW_FORM_exprloc;
@@ -45,6 +43,9 @@ use readers::codes::DW_FORM_strx1;
 use readers::codes::DW_FORM_strx4;
 use readers::cursor::Cursor;
 use readers::cursor::Encoding;
+use readers::entry_attributes::EntryAttribute;
+use readers::entry_attributes::NextAttribute;
+use readers::entry_attributes::next_attribute;
 use readers::expressions::Yield;
 use readers::fields::Field;
 use readers::offsets::UnitOffset;
@@ -164,31 +165,6 @@ fn emit_expression(s: &[u8], e: Encoding, map: &[u8], places: usize, out: &mut [
         copied = place + r.width;
         from = next;
     }
-}
-
-// The number of the index list of a form: 0 ranges, 1 locations, 2 strings; 3 for a form that is no index.
-pub fn list_of(form: u64) -> u8
-    ensures { λ r. ⌜ r ≡ listForm form ⌝ }
-{
-    if form == DW_FORM_rnglistx {
-        return 0;
-    }
-    if form == DW_FORM_loclistx {
-        return 1;
-    }
-    if form == DW_FORM_strx {
-        return 2;
-    }
-    if form < DW_FORM_strx1 {
-        return 3;
-    }
-    if form <= DW_FORM_strx4 {
-        return 2;
-    }
-    if form == DW_FORM_GNU_str_index {
-        return 2;
-    }
-    3
 }
 
 // Whether a form's value is a ULEB128 number.

@@ -5,7 +5,7 @@ ghost use mathlib.Core.List.{List};
 ghost use mathlib.Core.Option.{some};
 ghost use lib.ListN.{length};
 ghost use Rattle.readers.specs.Abbreviations.{Placed, abbreviationsOf};
-ghost use Rattle.marking.specs.Roots.{specsFrom, entryValues};
+ghost use Rattle.readers.specs.EntryAttributes.{specsFrom, entryValues};
 ghost use Rattle.marking.specs.Analysis.{Sections};
 ghost use Rattle.rewriting.specs.Gathering.{Gathers};
 ghost use Rattle.rewriting.specs.Indices.{declares, specsDeclare, tableDeclares};
@@ -13,7 +13,6 @@ ghost use Rattle.rewriting.specs.Rewriting.{Unit as Unit′, anyDeclares
 ghost use Rattle.rewriting.specs.NextKept.{itemsBy};
 ghost use Rattle.rewriting.specs.IndexLists.{kindIndex, valueIndices, ReadAs, Found, Puts, Listing, isAbsent};
 ghost use Rattle.rewriting.specs.IndexLists.{isShort, Settles};
-use crate::emit::list_of;
 use crate::gathering::add;
 use crate::gathering::finish;
 use crate::kept::KeptStep;
@@ -21,18 +20,19 @@ use crate::kept::Reading;
 use crate::kept::Stand;
 use crate::kept::next_kept;
 use crate::lists::ListCount;
-use marking::columns::clear_bytes;
-use marking::root_test::NextAttribute;
-use marking::root_test::next_attribute;
 use readers::abbreviations::DeclarationStep;
 use readers::abbreviations::SpecStep;
+use readers::attributes::list_of;
 use readers::codes::DW_FORM_sec_offset;
 use readers::cursor::Cursor;
 use readers::cursor::Encoding;
 use readers::entries::Nesting;
 use readers::entries::Step;
+use readers::entry_attributes::NextAttribute;
+use readers::entry_attributes::next_attribute;
 use readers::offsets::EntryIndex;
 use readers::offsets::UnitOffset;
+use readers::tables::clear_bytes;
 
 // Whether an entry declares an attribute of a name in sec_offset.
 fn entry_declares(

@@ -24,9 +24,9 @@ use Rattle.readers.specs.declared.abbreviations.Found.{Found}
 use Rattle.readers.specs.declared.abbreviations.Found.the-variants.{Declaration as Found′, Nothing}
 use Rattle.readers.specs.declared.entries.Entry.{Entry}
 use Rattle.readers.specs.declared.entries.Step.the-variants.{Entry as Entry′}
-use Rattle.marking.specs.Roots.{Valued, valuesOf, specsFrom, entryValues}
+use Rattle.readers.specs.EntryAttributes.{Valued, valuesOf, specsFrom, entryValues}
 use Rattle.marking.specs.Analysis.{Sections, valuesOfEntry}
-use Rattle.marking.proofs.Attributes.{specs-all}
+use Rattle.readers.proofs.EntryAttributes.{specs-all}
 use Rattle.rewriting.specs.Places.{Standing, offsetOf, sizeOf, Place, placesFrom}
 use Rattle.marking.specs.Members.{Nth, now, later}
 use Rattle.laws.specs.Moved.{movedEntry, movedItem, movedFrom}

@@ -21,7 +21,7 @@ use Rattle.readers.specs.declared.attributes.Attribute.{Attribute}
 use Rattle.readers.specs.declared.attributes.AttributeRead.{AttributeRead}
 use Rattle.readers.specs.declared.attributes.AttributeRead.the-variants.{Read as Attribute′}
 use Rattle.readers.proofs.Values.{joined, read-then}
-use Rattle.marking.specs.Roots.{Valued, onAttribute, valuesOf}
+use Rattle.readers.specs.EntryAttributes.{Valued, onAttribute, valuesOf}
 use Rattle.rewriting.specs.Emission.{between}
 use Rattle.laws.specs.AttributesAgain.{payload, SameOperations, SameAttribute, SameAttributes}
 use Rattle.rewriting.proofs.Exact.{tokenOk}

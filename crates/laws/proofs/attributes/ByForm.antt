@@ -14,7 +14,7 @@ use Rattle.readers.specs.Choice.{pick, pick-yes, pick-no, either, _and_, _or_, 
 use Rattle.readers.specs.Layout.{Kind, Encoded, Role, reference, typeReference, sibling, index, absolute, Token, nothing, number, bounded, forms, signed, link, string, run, block, expression, unknown, Layout, linked, Read, ExpressionReader, asBytes, tokenIn, readIn, ReadLaw, read-law, bytesOf, writeAll, Patch}
 use Rattle.readers.specs.Expression.{expressionIn, expression-law}
 use Rattle.readers.specs.Tokens.{Use, plain, as′}
-use Rattle.readers.specs.Forms.{useOf, valueToken, attributeLayout}
+use Rattle.readers.specs.Forms.{useOf, valueToken, attributeLayout, listForm}
 use Rattle.readers.specs.Fields.{size, linkedValue, fieldOf}
 use Rattle.readers.specs.Abbreviations.{Placed, declaredIn}
 use Rattle.readers.specs.declared.header.UnitHeader.{UnitHeader}
@@ -27,20 +27,18 @@ use Rattle.readers.specs.declared.attributes.Attribute.{Attribute}
 use Rattle.readers.specs.declared.attributes.AttributeRead.the-variants.{Read as Attribute′}
 use Rattle.readers.specs.declared.entries.Entry.{Entry}
 use Rattle.readers.specs.declared.entries.Step.the-variants.{Entry as Entry′}
-use Rattle.marking.specs.Roots.{Valued, valuesOf, specsFrom, entryValues}
+use Rattle.readers.specs.EntryAttributes.{Valued, valuesOf, specsFrom, entryValues}
 use Rattle.marking.specs.Analysis.{Sections, valuesOfEntry}
 use Rattle.marking.specs.Members.{Member, here, there, Nth}
 use Rattle.marking.proofs.Members.{nothing-in}
 use Rattle.rewriting.specs.Places.{Standing, offsetOf}
 use Rattle.rewriting.specs.Rewriting.{Unit as Unit′, unitOf, itemsIn, readsAt, newValue, Room, Rewrite, rewritten, collectOf}
-use Rattle.rewriting.specs.Emission.{listForm}
-use Rattle.rewriting.specs.IndexLists.{roleList, useList}
+use Rattle.readers.proofs.FormKinds.{roleList, useList, form-list}
 use Rattle.laws.specs.AttributesAgain.{newNumber, useIn, SameAttribute, SameAttributes, EntryAgain}
 use Rattle.laws.specs.Thinned.{Pairwise, Becomes, thinnedOf, Thinned}
 use Rattle.laws.specs.ByForm.{formOf, numberOf, RefersInUnit, AttributeByForm, EntryByForm}
 use Rattle.rewriting.proofs.Expressions.{isExpression}
 use Rattle.rewriting.proofs.ValueForms.{own, LinkForm, and-both, reference-form, ranges-form, locations-form, strings-form}
-use Rattle.rewriting.proofs.EntryIndices.{form-list}
 use Rattle.laws.proofs.attributes.ValuesAgain.{same-reader, LinkRead, link-read, ExpressionRead, expression-read, token-known}
 use Rattle.laws.proofs.attributes.AttributesAgain.{Direct, direct-all, Indirect, indirect-all, shallow-one, shallow-two, Divided, divided, more}
 use Rattle.rewriting.proofs.ItemsStand.{Stands}

@@ -16,10 +16,10 @@ use Rattle.readers.specs.Numbers.{uleb, sleb}
 use Rattle.readers.specs.Layout.{Kind, Encoded, Role, index, Token, nothing, number, bounded, forms, signed, link, string, run, block, expression, unknown, Piece, copied, linked, Read, ReadOf, ExpressionReader, asBytes, copy, asNumber, asBounded, asForms, asSigned, asLink, asString, asBlock, asExpression, LebLaw, uleb-law, numberIn, formsIn, stringIn, tokenIn, TokenLaw, token-law, WholeLaw, bytesOf, pieceBytes, Patch, patchPiece, patchPieces, patchRead, FitPieces, same-size}
 use Rattle.readers.specs.Expression.{expressionIn, expression-law}
 use Rattle.readers.specs.Tokens.{Use, plain, as′, numberAs, tokenOf}
-use Rattle.readers.specs.Forms.{formToken, formTokens, tokenAmong, useOf, valueToken}
+use Rattle.readers.specs.Forms.{formToken, formTokens, tokenAmong, useOf, valueToken, listForm}
 use Rattle.readers.specs.Fields.{size, linkedValue}
 use Rattle.readers.specs.declared.cursor.Encoding.{Encoding}
-use Rattle.rewriting.specs.Emission.{between, listForm}
+use Rattle.rewriting.specs.Emission.{between}
 use Rattle.laws.specs.AttributesAgain.{newNumber, SameOperations}
 use Rattle.rewriting.proofs.Exact.{useOk, tokenOk, token-ok, Exactly, inExpression, expression-exactly}
 use Rattle.rewriting.proofs.Expressions.{isExpression}

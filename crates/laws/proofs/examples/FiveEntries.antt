@@ -23,7 +23,8 @@ use Rattle.readers.specs.Entries.{attributeOfReads, asAttribute, attributeAt, t
 use Rattle.readers.specs.Nesting.{open′, close, top, nestingOf, opened, closed}
 use Rattle.marking.specs.Addresses.{isTombstone, byteLiveness, lookupAt}
 use Rattle.marking.specs.Walking.{onNext, walkWithin, walk, Forward}
-use Rattle.marking.specs.Roots.{orElse, onLookup, turnOf, rangeEntry, rangeStep, rangesLive, operationStep, locationLive, olderStep, olderLive, lowPc, onAttribute, valuesOf, onSpec, specsWithin, specsFrom, entryValues, taken, takenBy, nextAttribute, lowPcs, locations, otherRanges, rangesOf, firstRanges, rootTest, baseFrom, baseAfter}
+use Rattle.marking.specs.Roots.{orElse, onLookup, turnOf, rangeEntry, rangeStep, rangesLive, operationStep, locationLive, olderStep, olderLive, lowPc, lowPcs, locations, otherRanges, rangesOf, firstRanges, rootTest, baseFrom, baseAfter}
+use Rattle.readers.specs.EntryAttributes.{onAttribute, valuesOf, onSpec, specsWithin, specsFrom, entryValues, taken, takenBy, nextAttribute}
 use Rattle.marking.specs.EntryReferences.{after, andThen, targets, walkFound, expressionFound, locationFound, onFound, locationStep, listFound, attributeFound, attributesFound}
 use Rattle.marking.specs.Below.{any, every, count, tab}
 use Rattle.marking.specs.Graph.{isParent, isRoot, references, names, parentFits, pairFits, rootFits, wellFormed, takes}

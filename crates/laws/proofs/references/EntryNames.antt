@@ -32,9 +32,9 @@ use Rattle.readers.specs.declared.attributes.AttributeRead.{AttributeRead}
 use Rattle.readers.specs.declared.attributes.AttributeRead.the-variants.{Read as Attribute′}
 use Rattle.readers.specs.declared.entries.Step.{Step}
 use Rattle.readers.specs.declared.entries.Step.the-variants.{Entry as Entry′, Terminator, End, Unreadable}
-use Rattle.marking.specs.Roots.{Valued, onAttribute, valuesOf, entryValues}
+use Rattle.readers.specs.EntryAttributes.{Valued, onAttribute, valuesOf, entryValues}
 use Rattle.marking.specs.EntryReferences.{partOf}
-use Rattle.marking.proofs.Attributes.{specs-all}
+use Rattle.readers.proofs.EntryAttributes.{specs-all}
 use Rattle.rewriting.proofs.DeepReads.{deep-step}
 use Rattle.rewriting.proofs.Expressions.{isExpression, value-exprloc}
 use Rattle.laws.proofs.references.NamedPieces.{roleNames, pieceNames, piecesNames, readsNames, namesOf, reads-append}

@@ -33,12 +33,12 @@ use Rattle.readers.specs.declared.attributes.AttributeRead.{AttributeRead}
 use Rattle.readers.specs.declared.attributes.AttributeRead.the-variants.{Read as Attribute′}
 use Rattle.readers.specs.declared.entries.Step.{Step}
 use Rattle.readers.specs.declared.entries.Step.the-variants.{Entry as Entry′, Terminator, End, Unreadable}
-use Rattle.marking.specs.Roots.{Valued, onAttribute, valuesOf, entryValues}
+use Rattle.readers.specs.EntryAttributes.{Valued, onAttribute, valuesOf, entryValues}
 use Rattle.marking.specs.Members.{Member, here, there}
 use Rattle.marking.proofs.Members.{nothing-in, in-left, in-right, in-either}
 use Rattle.laws.specs.SameRoles.{RoleRead}
 use Rattle.laws.proofs.references.NamedPieces.{only}
-use Rattle.marking.proofs.Attributes.{specs-all}
+use Rattle.readers.proofs.EntryAttributes.{specs-all}
 use Rattle.rewriting.proofs.DeepReads.{deep-step}
 
 -- ---- uses

@@ -25,7 +25,7 @@ use Rattle.readers.specs.declared.operations.ListEntry.{ListEntry}
 use Rattle.readers.specs.declared.operations.ListStep.{ListStep}
 use Rattle.readers.specs.declared.operations.ListStep.the-variants.{Entry, End, Unreadable as NoEntry}
 use Rattle.marking.specs.Walking.{Next, onNext, walk, Forward, walk-step}
-use Rattle.marking.specs.Roots.{Valued}
+use Rattle.readers.specs.EntryAttributes.{Valued}
 use Rattle.marking.specs.EntryReferences.{Found, found, refused, after, andThen, targets, expressionFound, partOf, Reached, reachedAt, locationFound, onFound, locationStep, listFound, Locations, locationsBy, attributeFound, attributesFound}
 use Rattle.marking.proofs.LocationLists.{listFrom, list-start}
 use Rattle.marking.specs.Members.{Member, here, there}

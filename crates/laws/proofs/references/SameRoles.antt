@@ -11,7 +11,7 @@ use lib.Dec.{T, eqb, leb}
 use mir.Facts.{eqb-yes, yes-eqb, leb-yes, leb-no, yes-leb}
 use Rattle.readers.specs.Choice.{pick, pick-yes, pick-either, either, _and_, _or_}
 use Rattle.readers.specs.Tokens.{Use, plain, as′}
-use Rattle.readers.specs.Forms.{useOf}
+use Rattle.readers.specs.Forms.{useOf, listForm}
 use Rattle.readers.specs.Layout.{Role, reference, typeReference, sibling, index, absolute, Read, RunOf, readIn}
 use Rattle.readers.specs.Expression.{expressionIn}
 use Rattle.readers.specs.Entries.{entryLayout, stepAt}
@@ -26,11 +26,10 @@ use Rattle.readers.specs.declared.entries.Step.the-variants.{Entry as Entry′}
 use Rattle.readers.specs.declared.header.HeaderRead.{HeaderRead}
 use Rattle.readers.specs.declared.header.HeaderRead.the-variants.{Unit as Header′, Empty, Refused}
 use Rattle.readers.specs.declared.header.UnitHeader.{UnitHeader}
-use Rattle.marking.specs.Roots.{Valued}
+use Rattle.readers.specs.EntryAttributes.{Valued}
 use Rattle.marking.specs.Analysis.{Sections, Rooms, Row, analysed, refused as notAnalysed, startOf, analyseItems, onDeclared, unitAnalysed, headerAnalysed, analysisOf, valuesOfEntry, baseOf}
 use Rattle.marking.specs.Members.{Member, here, there}
 use Rattle.marking.specs.EntryRows.{RowsOf}
-use Rattle.rewriting.specs.Emission.{listForm}
 use Rattle.rewriting.specs.Indices.{readIndices}
 use Rattle.rewriting.specs.IndexLists.{formList, valueIndex, valueIndices}
 use Rattle.rewriting.specs.Rewriting.{Unit as Unit′, itemsIn, readsOr, readsAt, Room, unitOf}
@@ -39,7 +38,8 @@ use Rattle.laws.specs.SameRoles.{RoleRead, FormIndex, FormSibling, SameR
 use Rattle.marking.proofs.Members.{nothing-in, in-left, in-right, in-either}
 use Rattle.laws.proofs.again.IndexMembers.{IndexRead, read-members}
 use Rattle.laws.proofs.references.NamedPieces.{only}
-use Rattle.rewriting.proofs.EntryIndices.{form-list, StepIndices, deep-indices}
+use Rattle.rewriting.proofs.EntryIndices.{StepIndices, deep-indices}
+use Rattle.readers.proofs.FormKinds.{form-list}
 use Rattle.laws.proofs.references.EntryRoles.{readsSought, useSought, ownSought, valuesSought, StepSought, deep-sought, reads-members}
 use Rattle.rewriting.proofs.ItemsStand.{EveryItem, Stands, items-stand}
 use Rattle.rewriting.proofs.ReadableItems.{Is, JudgedStep, step-deep}

@@ -37,7 +37,8 @@ use Rattle.marking.specs.declared.units.UnitMarks.the-variants.{Marked, Refused
 use Rattle.marking.specs.declared.marks.Marked.{Marked as Marked′}
 use Rattle.marking.specs.declared.marks.Marked.the-variants.{Kept as KeptCount, Refused as Refused′}
 use Rattle.marking.specs.Walking.{Next, go, stop, onNext, walkWithin, walk}
-use Rattle.marking.specs.Roots.{Valued, Flagged, place, Turn, Ranges, orElse, onLookup, rangeEntry, rangeStep, rangesLive, operationStep, locationLive, olderStep, olderLive, lowPc, lowPcs, locations, otherRanges, rangesOf, firstRanges, rootTest}
+use Rattle.marking.specs.Roots.{Flagged, place, Turn, Ranges, orElse, onLookup, rangeEntry, rangeStep, rangesLive, operationStep, locationLive, olderStep, olderLive, lowPc, lowPcs, locations, otherRanges, rangesOf, firstRanges, rootTest}
+use Rattle.readers.specs.EntryAttributes.{Valued}
 use Rattle.marking.specs.EntryReferences.{Found, found, refused as refusedAfter, after, andThen, walkFound, expressionFound, Reached as Along, locationFound, onFound as onLocation, locationStep, listFound, Locations, attributeFound, attributesFound}
 use Rattle.marking.specs.Analysis.{Sections, Rooms, Row, Analysed, analysed, refused as notAnalysed, onto, onVerdict, onFound, Reached, startOf, rootOf, namesOf, analyseItems, onDeclared, unitAnalysed, headerAnalysed, analysisOf}
 use Rattle.marking.specs.Graph.{Graph, takes}

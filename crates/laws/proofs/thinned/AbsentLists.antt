@@ -12,7 +12,7 @@ use Rattle.readers.specs.Choice.{pick, _and_, _or_}
 use Rattle.readers.specs.Stream.{Item, entry, terminator}
 use Rattle.readers.specs.declared.entries.Entry.{Entry}
 use Rattle.marking.specs.Analysis.{Sections, valuesOfEntry}
-use Rattle.marking.specs.Roots.{Valued}
+use Rattle.readers.specs.EntryAttributes.{Valued}
 use Rattle.marking.specs.Members.{Member, here, there}
 use Rattle.marking.proofs.Members.{nothing-in}
 use Rattle.marking.proofs.Tests.{and-out, and-in, or-out, or-inl, or-inr}

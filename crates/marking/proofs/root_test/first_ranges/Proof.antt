@@ -4,7 +4,8 @@ use mathlib.Core.Path.{_≡_, refl, _∙_}
 use Prim.Native.Nat.{_-_}
 use lib.ListN.{length}
 use borrow.Author.Needs.{needs}
-use Rattle.marking.specs.Roots.{rangesBy, firstRanges, entryValues}
+use Rattle.marking.specs.Roots.{rangesBy, firstRanges}
+use Rattle.readers.specs.EntryAttributes.{entryValues}
 use Rattle.marking.specs.declared.root_test.Verdict.the-variants.{Dead as isDead}
 use Rattle.marking.proofs.RootTests.{first-end, first-other, first-form, first-unresolved, first-decided}
 use Rattle.marking.proofs.RootTests as tests
