@@ -5,3 +5,4 @@ pub mod ListedNames
 pub mod SameReferences
 pub mod EntryRoles
 pub mod SameRoles
+pub mod Yields

@@ -18,7 +18,7 @@ use Rattle.readers.specs.declared.cursor.Encoding.{Encoding}
 use Rattle.readers.specs.declared.entries.Entry.{Entry}
 use Rattle.readers.specs.EntryAttributes.{Valued, specsFrom}
 use Rattle.marking.specs.Analysis.{Sections, valuesOfEntry}
-use Rattle.rewriting.specs.Places.{Standing, Place}
+use Rattle.rewriting.specs.Places.{NestedItem, Place}
 use Rattle.marking.specs.Members.{Nth}
 use Rattle.laws.specs.Moved.{movedEntry}
 use Rattle.rewriting.specs.Rewriting.{Lists, newValue}
@@ -79,7 +79,7 @@ module _ (f : Patch) where
 
 -- the m-th kept item, an entry: its place in the map, the item that stands there in the output, and its attributes there
 pub record EntryAgain (lists : Lists) (map : List Place) (e : Encoding) (x : Sections) (unit output : List ℕ) (items : List Item)
-    (m : ℕ) (s : Standing) (y : Entry) : Type 0 where
+    (m : ℕ) (s : NestedItem) (y : Entry) : Type 0 where
   pub new : ℕ
   pub place : Nth (record { old = y .offset .0; new = new; depth = s .depth }) m map
   pub item : Nth (entry (movedEntry new y)) m items

@@ -12,7 +12,7 @@ use Rattle.readers.specs.declared.entries.Entry.{Entry}
 use Rattle.readers.specs.EntryAttributes.{Valued, specsFrom}
 use Rattle.marking.specs.Analysis.{Sections, valuesOfEntry}
 use Rattle.marking.specs.Members.{Nth}
-use Rattle.rewriting.specs.Places.{Standing, Place}
+use Rattle.rewriting.specs.Places.{NestedItem, Place}
 use Rattle.laws.specs.Moved.{movedEntry}
 use Rattle.rewriting.specs.Rewriting.{Unit as Unit′, itemsIn, Lists, listAt}
 use Rattle.readers.specs.Forms.{listForm}
@@ -30,7 +30,7 @@ numberOf a = a .value .field .value
 abbrev pub RefersInUnit : ℕ → Type 0
 RefersInUnit f = («DW_FORM_ref1» ≤ f) × (f ≤ «DW_FORM_ref_udata»)
 
-module _ (x : Sections) (u new : Unit′) (lists : Lists) (map : List Place) (kept : List Standing) where
+module _ (x : Sections) (u new : Unit′) (lists : Lists) (map : List Place) (kept : List NestedItem) where
   -- an attribute a of an entry at a depth, and b in its place where the entry now stands
   pub record AttributeByForm (depth : ℕ) (a b : Valued) : Type 0 where
     pub name : b .name ≡ a .name
@@ -49,7 +49,7 @@ module _ (x : Sections) (u new : Unit′) (lists : Lists) (map : List Place) (ke
         → payload (new .bytes) b ≡ payload (u .bytes) a
 
   -- the m-th kept item, an entry: its place in the map, the item there in the new unit, and its attributes one by one
-  pub record EntryByForm (m : ℕ) (s : Standing) (y : Entry) : Type 0 where
+  pub record EntryByForm (m : ℕ) (s : NestedItem) (y : Entry) : Type 0 where
     pub at : ℕ
     pub place : Nth (record { old = y .offset .0; new = at; depth = s .depth }) m map
     pub item : Nth (entry (movedEntry at y)) m (itemsIn x new)

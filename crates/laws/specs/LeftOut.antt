@@ -5,9 +5,9 @@ use mathlib.Core.List.{List, [], _∷_}
 use lib.ListN.{length}
 use Rattle.marking.specs.Marks.{isKept}
 use Rattle.readers.specs.Stream.{Item, entry, terminator}
-use Rattle.rewriting.specs.Places.{Standing, opened, closed, innermost, withIf, sizeOf}
+use Rattle.rewriting.specs.Places.{NestedItem, opened, closed, innermost, withIf, sizeOf}
 
-unfoldable pub leftFrom : List ℕ → ℕ → List Bool → List Item → List Standing
+unfoldable pub leftFrom : List ℕ → ℕ → List Bool → List Item → List NestedItem
 leftFrom marks k stack [] = []
 leftFrom marks k stack (entry x ∷ rest) =
     withIf (not (isKept marks k)) (record { item = entry x; depth = length stack })

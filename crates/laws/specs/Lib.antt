@@ -1,4 +1,3 @@
-pub mod Maps
 pub mod Markings
 pub mod Marks
 pub mod RefusalNumbers
@@ -10,7 +9,6 @@ pub mod AbsentLists
 pub mod Around
 pub mod Moved
 pub mod LeftOut
-pub mod Landing
 pub mod AttributesAgain
 pub mod ByForm
 pub mod HostReads
@@ -20,3 +18,5 @@ pub mod RoomLaws
 pub mod RefusalStages
 pub mod TableRoom
 pub mod UnitSurvivors
+pub mod inner
+pub mod Yields

@@ -6,13 +6,13 @@ use mathlib.Core.Bool.{Bool, true, false}
 use mathlib.Core.List.{List}
 use mathlib.Core.Logic.{_⊎_, _↔_}
 use lib.ListN.{length}
-use Rattle.marking.specs.Analysis.{Row}
+use Rattle.marking.specs.Analysis.{EntryRow}
 use Rattle.laws.specs.Markings.{accepts, step}
 use Rattle.marking.specs.Resolution.{graphOf}
 use Rattle.laws.specs.UnitSurvivors.{ParentIn, RootIn, NamesIn, Below}
 
 -- "the first entry, a root, a marked one's parent, named by a marked one's reference, or a descendant of a root or of an entry so named"
-pub data ReasonIn (rows : List Row) (m : ℕ → Bool) : ℕ → Type 0 where
+pub data ReasonIn (rows : List EntryRow) (m : ℕ → Bool) : ℕ → Type 0 where
   is-first : ReasonIn rows m 0
   is-root : {i : ℕ} → RootIn rows i → ReasonIn rows m i
   is-parent : {p i : ℕ} → ParentIn rows p i → m i ≡ true → ReasonIn rows m p
@@ -21,7 +21,7 @@ pub data ReasonIn (rows : List Row) (m : ℕ → Bool) : ℕ → Type 0 where
   is-under-named : {s t d : ℕ} → NamesIn rows s t → m s ≡ true → Below rows t d → ReasonIn rows m d
 
 -- the marking of entry i, where m tells what is marked before it
-pub record MarkingSays (rows : List Row) (m : ℕ → Bool) (i : ℕ) : Type 0 where
+pub record MarkingSays (rows : List EntryRow) (m : ℕ → Bool) (i : ℕ) : Type 0 where
   -- "Where that is unmarked and is .. it becomes marked"; "else the marking is refused"
   pub accepted : (accepts (graphOf rows) m i ≡ true) ↔ ((i < length rows) × (m i ≡ false) × ReasonIn rows m i)
   -- what is marked after it: "it becomes marked and the others stay as they were; else .. nothing changes"

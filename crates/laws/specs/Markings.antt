@@ -7,7 +7,7 @@ use mathlib.Core.Logic.{_↔_}
 use lib.Dec.{ltb, eqb}
 use Rattle.readers.specs.Choice.{pick, _and_, _or_}
 use Rattle.marking.specs.Graph.{Graph, size}
-use Rattle.marking.specs.Survivors.{Kept}
+use Rattle.marking.specs.Survivors.{Survivor}
 use Rattle.marking.specs.Markings.{justified}
 
 -- the marking of entry i: "where that is unmarked and is .. it becomes marked and the others stay as they were; else the marking is refused and nothing changes"
@@ -27,5 +27,5 @@ nothing i = false
 
 -- demand 3 of what is marked: "only survivors are marked, and all of them exactly when every further marking would be refused"
 pub record MarksSurvivors (g : Graph) (m : ℕ → Bool) : Type 0 where
-  pub only : (i : ℕ) → m i ≡ true → Kept g i
-  pub all : ((i : ℕ) → Kept g i → m i ≡ true) ↔ ((i : ℕ) → accepts g m i ≡ false)
+  pub only : (i : ℕ) → m i ≡ true → Survivor g i
+  pub all : ((i : ℕ) → Survivor g i → m i ≡ true) ↔ ((i : ℕ) → accepts g m i ≡ false)

@@ -12,10 +12,10 @@ use Rattle.readers.specs.Header.{headerOf}
 use Rattle.readers.specs.Layout.{Piece}
 use Rattle.readers.specs.declared.header.UnitHeader.{UnitHeader}
 use Rattle.readers.specs.declared.header.HeaderRead.the-variants.{Unit as Header′, Refused}
-use Rattle.marking.specs.Analysis.{Sections, Row, analysed, refused as notAnalysed, analysisOf}
+use Rattle.marking.specs.Analysis.{Sections, EntryRow, analysed, refused as notAnalysed, analysisOf}
 use Rattle.marking.specs.Marks.{keptCount}
 use Rattle.marking.specs.Resolution.{marksIn}
-use Rattle.rewriting.specs.Places.{Standing, keptFrom, placesFrom, sizeFrom}
+use Rattle.rewriting.specs.Places.{NestedItem, keptFrom, placesFrom, sizeFrom}
 use Rattle.rewriting.specs.Rewriting.{Unit as Unit′, itemsIn, Lists, noLists, listsOf, unitBytes}
 use Rattle.rewriting.specs.Rewriting.{Room, Rewrite, untouched, rewritten, listsFit, collectOf}
 use Rattle.laws.specs.ValueRefusals.{AllFine, FirstUnplaced, FirstTooWide, NumberOf}
@@ -26,7 +26,7 @@ use Rattle.laws.specs.ValueRefusals.{AllFine, FirstUnplaced, FirstTooWid
 pub record UnitRead (x : Sections) (room : Room) (section : List ℕ) : Type 0 where
   pub header : UnitHeader
   pub declared : List Placed
-  pub rows : List Row
+  pub rows : List EntryRow
   pub header-is : headerOf section ≡ Header′ header
   pub declared-are : abbreviationsOf (x .abbreviations) (header .abbreviations) ≡ some declared
   pub rows-are : analysisOf x section (room .tables) ≡ analysed rows
@@ -36,7 +36,7 @@ module _ (x : Sections) (room : Room) (typeUnits : Bool) (section : List ℕ) wh
   unitRead u = record { header = u .header; bytes = take (u .header .end) section; declared = u .declared }
 
   -- what is kept of it, and its lists
-  abbrev pub keptIn : UnitRead x room section → List Standing
+  abbrev pub keptIn : UnitRead x room section → List NestedItem
   keptIn u = keptFrom (marksIn (u .rows)) 0 [] (itemsIn x (unitRead u))
 
   abbrev pub listsIn : UnitRead x room section → Lists
@@ -68,7 +68,7 @@ module _ (x : Sections) (room : Room) (typeUnits : Bool) (section : List ℕ) wh
         → FirstTooWide x (unitRead u) (listsIn u) (u .header .first .0) (keptIn u) → RefusedAt 9
 
   -- 8 and 9: a unit with a dead entry that has a number without a place, or one too wide
-  pub record RefusedNumber (Bad : Lists → ℕ → List Standing → ℕ → Piece → Type 0) : Type 0 where
+  pub record RefusedNumber (Bad : Lists → ℕ → List NestedItem → ℕ → Piece → Type 0) : Type 0 where
     pub u : UnitRead x room section
     pub thinnable : Thinnable u
     pub number : NumberOf x (unitRead u) (listsIn u) (u .header .first .0) (keptIn u) (Bad (listsIn u) (u .header .first .0) (keptIn u))

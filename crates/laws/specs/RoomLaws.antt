@@ -14,7 +14,7 @@ use Rattle.readers.specs.Stream.{Item}
 use Rattle.readers.specs.declared.header.UnitHeader.{UnitHeader}
 use Rattle.readers.specs.declared.header.HeaderRead.{HeaderRead}
 use Rattle.readers.specs.declared.header.HeaderRead.the-variants.{Unit as Header′, Empty, Refused}
-use Rattle.marking.specs.Analysis.{Sections, Rooms, rooms, Row, analysed, analysisOf}
+use Rattle.marking.specs.Analysis.{Sections, Rooms, rooms, EntryRow, analysed, analysisOf}
 use Rattle.marking.specs.Columns.{namesIn}
 use Rattle.laws.specs.TableRoom.{TablesWithin, enoughTables}
 use Rattle.rewriting.specs.Places.{offsetOf}
@@ -69,7 +69,7 @@ IsAccepted (refused n) = ⊥
 
 -- what is answered with other room for an input that was accepted, for every room: the same where there is what it needs; else
 -- the number of what is too short, the tables (`TableLaw`) before the lists, these before the map, and this before the output
-pub record RoomLaw (x : Sections) (typeUnits : Bool) (section : List ℕ) (c : Collected) (rows : List Row) (need : Room) : Type 0 where
+pub record RoomLaw (x : Sections) (typeUnits : Bool) (section : List ℕ) (c : Collected) (rows : List EntryRow) (need : Room) : Type 0 where
   pub enough : (lent : Room) → Within need lent → collectOf x lent typeUnits section ≡ c
   pub full-entries : (lent : Room) → lent .tables .entries < need .tables .entries
       → length (namesIn (take (lent .tables .entries) rows)) ≤ lent .tables .references
@@ -87,7 +87,7 @@ pub record RoomLaw (x : Sections) (typeUnits : Bool) (section : List ℕ) (c : C
 
 -- an accepted answer, the rows of its unit, which are as many as it counts entries, and that it was lent what it needs
 pub record Needs (x : Sections) (room : Room) (typeUnits : Bool) (section : List ℕ) (c : Collected) : Type 0 where
-  pub rows : List Row
+  pub rows : List EntryRow
   pub rows-are : analysisOf x section (room .tables) ≡ analysed rows
   pub counted : needOf (length (namesIn rows)) c .tables .entries ≡ length rows
   pub lent : Within (needOf (length (namesIn rows)) c) room

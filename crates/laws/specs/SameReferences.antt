@@ -14,7 +14,7 @@ use Rattle.readers.specs.Codes.{«DW_AT_location», «DW_AT_loclists_base», «
 use Rattle.readers.specs.Codes.{«DW_FORM_loclistx», «DW_FORM_ref1», «DW_FORM_ref_udata», «DW_FORM_sec_offset»}
 use Rattle.readers.specs.Codes.{«DW_LLE_default_location»}
 use Rattle.readers.specs.Header.{headerOf}
-use Rattle.readers.specs.Layout.{Encoded, Role, reference, typeReference, sibling, index, absolute, Piece, linked, Read}
+use Rattle.readers.specs.Layout.{Encoded, Role, reference, typeReference, sibling, index, absolute, Piece, patchable, Read}
 use Rattle.readers.specs.Expression.{expressionIn}
 use Rattle.readers.specs.Lists.{listOffset, listStart}
 use Rattle.readers.specs.References.{flatFrom}
@@ -33,7 +33,7 @@ use Rattle.readers.specs.declared.operations.ListEntry.{ListEntry}
 use Rattle.readers.specs.declared.operations.ListStep.the-variants.{Entry as Entry′}
 use Rattle.readers.specs.EntryAttributes.{Valued}
 use Rattle.marking.specs.EntryReferences.{targets, partOf}
-use Rattle.marking.specs.Analysis.{Sections, Row, valuesOfEntry, baseOf}
+use Rattle.marking.specs.Analysis.{Sections, EntryRow, valuesOfEntry, baseOf}
 use Rattle.marking.specs.Members.{Member}
 use Rattle.rewriting.specs.Rewriting.{Unit as Unit′, unitOf, itemsIn, readsAt}
 
@@ -52,7 +52,7 @@ pub record NamedIn (ps : List Piece) (v : ℕ) : Type 0 where
   pub encoded : Encoded
   pub role : Role
   pub names : Names role v
-  pub within : Member (linked encoded role v) ps
+  pub within : Member (patchable encoded role v) ps
 
 -- v is such a number, in one of the reads
 pub record RoleReference (rs : List Read) (v : ℕ) : Type 0 where
@@ -140,7 +140,7 @@ module _ (x : Sections) (u : Unit′) where
     pub patched : RoleReference (readsIn y) v ↔ FormReference (u .header .encoding) (u .bytes) v (valuesIn y)
 
   -- each row and its entry, given the base of location lists that was reached
-  unfoldable pub RowsReferences : ℕ → List Item → List Row → Type 0
+  unfoldable pub RowsReferences : ℕ → List Item → List EntryRow → Type 0
   RowsReferences base [] rows = rows ≡ []
   RowsReferences base (terminator a b ∷ rest) rows = RowsReferences base rest rows
   RowsReferences base (entry y ∷ rest) [] = ⊥
@@ -148,8 +148,8 @@ module _ (x : Sections) (u : Unit′) where
       ((v : ℕ) → SameReferences (baseAt base y) y (r .names) v) × RowsReferences (baseAt base y) rest rows
 
   -- an entry has a row that names its references; RowsReferences says by which base
-  pub record RowReferences (rows : List Row) (y : Entry) : Type 0 where
-    pub row : Row
+  pub record RowReferences (rows : List EntryRow) (y : Entry) : Type 0 where
+    pub row : EntryRow
     pub among : Member row rows
     pub offset-is : row .offset ≡ y .offset .0
     pub base : ℕ
@@ -157,7 +157,7 @@ module _ (x : Sections) (u : Unit′) where
 
 -- the first unit of a section, by the header and the declarations that are found: the rows of its analysis name the
 -- references of its entries
-pub record UnitReferences (x : Sections) (section : List ℕ) (rows : List Row) : Type 0 where
+pub record UnitReferences (x : Sections) (section : List ℕ) (rows : List EntryRow) : Type 0 where
   pub header : UnitHeader
   pub declared : List Placed
   pub header-is : headerOf section ≡ Header′ header

@@ -8,7 +8,7 @@ use mathlib.Core.Option.{some}
 use Rattle.readers.specs.Codes.{«DW_AT_sibling», «DW_FORM_ref1», «DW_FORM_ref_udata»}
 use Rattle.readers.specs.Abbreviations.{Placed, abbreviationsOf}
 use Rattle.readers.specs.Header.{headerOf}
-use Rattle.readers.specs.Layout.{Encoded, Role, sibling, index, linked, Read}
+use Rattle.readers.specs.Layout.{Encoded, Role, sibling, index, patchable, Read}
 use Rattle.readers.specs.Stream.{entry}
 use Rattle.readers.specs.declared.entries.Entry.{Entry}
 use Rattle.readers.specs.declared.header.HeaderRead.the-variants.{Unit as Header′}
@@ -27,7 +27,7 @@ pub record RoleRead (rs : List Read) (role : Role) (v : ℕ) : Type 0 where
   pub read : Read
   pub among : Member read rs
   pub encoded : Encoded
-  pub within : Member (linked encoded role v) (read .pieces)
+  pub within : Member (patchable encoded role v) (read .pieces)
 
 -- ---- by names and forms: what attributes hold
 

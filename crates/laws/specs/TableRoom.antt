@@ -12,8 +12,8 @@ use Rattle.readers.specs.Stream.{Item, entry, terminator, itemsFrom}
 use Rattle.readers.specs.declared.cursor.Encoding.{Encoding}
 use Rattle.readers.specs.declared.header.HeaderRead.{HeaderRead}
 use Rattle.readers.specs.declared.header.HeaderRead.the-variants.{Unit as Unit′, Empty, Refused}
-use Rattle.marking.specs.EntryReferences.{Found, found, refused as refusedAfter}
-use Rattle.marking.specs.Analysis.{Sections, Rooms, rooms, Row, analysed, refused, namesOf, baseOf, analysisOf}
+use Rattle.marking.specs.EntryReferences.{ReferencesFound, found, refused as refusedAfter}
+use Rattle.marking.specs.Analysis.{Sections, Rooms, rooms, EntryRow, analysed, refused, namesOf, baseOf, analysisOf}
 use Rattle.marking.specs.Columns.{namesIn}
 
 -- tables that are at least so long
@@ -22,12 +22,12 @@ pub record TablesWithin (need lent : Rooms) : Type 0 where
   pub references : need .references ≤ lent .references
 
 -- what rows need: an entry each, and all their references
-abbrev pub tablesFor : List Row → Rooms
+abbrev pub tablesFor : List EntryRow → Rooms
 tablesFor rows = rooms (length rows) (length (namesIn rows))
 
 -- what an analysis that gave these rows answers with other tables: the same with those that the rows need; 10 at the
 -- first entry that the table has no room for, where the references of those before it fit; 11 where these do not
-pub record TableLaw (x : Sections) (section : List ℕ) (rows : List Row) : Type 0 where
+pub record TableLaw (x : Sections) (section : List ℕ) (rows : List EntryRow) : Type 0 where
   pub enough : (lent : Rooms) → TablesWithin (tablesFor rows) lent → analysisOf x section lent ≡ analysed rows
   pub full-entries : (lent : Rooms) → lent .entries < length rows
       → length (namesIn (take (lent .entries) rows)) ≤ lent .references → analysisOf x section lent ≡ refused 10
@@ -42,7 +42,7 @@ entryCount (terminator a b ∷ rest) = entryCount rest
 entryCount (entry y ∷ rest) = suc (entryCount rest)
 
 -- the references of an entry that are read; none where they are refused
-unfoldable pub foundCount : Found → ℕ
+unfoldable pub foundCount : ReferencesFound → ℕ
 foundCount (found xs) = length xs
 foundCount (refusedAfter xs n) = 0
 

@@ -8,7 +8,7 @@ use mathlib.Core.List.{List, [], _∷_}
 use mathlib.Core.Logic.{_⊎_, _↔_}
 use mathlib.Core.Option.{Option, none, some}
 use lib.ListN.{length, take, drop}
-use Rattle.readers.specs.Layout.{Encoded, Role, reference, typeReference, sibling, index, absolute, Piece, copied, linked, Read, RunOf, readIn}
+use Rattle.readers.specs.Layout.{Encoded, Role, reference, typeReference, sibling, index, absolute, Piece, verbatim, patchable, Read, RunOf, readIn}
 use Rattle.readers.specs.Expression.{expressionIn}
 use Rattle.readers.specs.Abbreviations.{Placed, declaredIn, abbreviationsOf}
 use Rattle.readers.specs.Entries.{entryLayout}
@@ -18,23 +18,25 @@ use Rattle.readers.specs.Stream.{Item, entry, terminator, itemsFrom}
 use Rattle.readers.specs.declared.entries.Entry.{Entry}
 use Rattle.readers.specs.declared.header.UnitHeader.{UnitHeader}
 use Rattle.readers.specs.declared.header.HeaderRead.the-variants.{Unit as Header′}
-use Rattle.marking.specs.Analysis.{Sections, Row}
+use Rattle.marking.specs.Analysis.{Sections, EntryRow, analysed, analysisOf}
 use Rattle.marking.specs.Below.{Number}
 use Rattle.marking.specs.Resolution.{graphOf}
-use Rattle.marking.specs.Survivors.{Kept}
+use Rattle.marking.specs.Survivors.{Survivor}
 use Rattle.laws.specs.UnitSurvivors.{SurvivorsOf}
-use Rattle.rewriting.specs.Places.{Standing, offsetOf, Place, sizeFrom}
+use Rattle.rewriting.specs.Places.{NestedItem, offsetOf, Place, sizeFrom, oldOffsets}
 use Rattle.rewriting.specs.Ascending.{Ascending}
 use Rattle.marking.specs.Members.{Member, Nth}
-use Rattle.rewriting.specs.Maps.{oldOffsets}
-use Rattle.laws.specs.Maps.{newOffsets}
-use Rattle.laws.specs.Around.{aroundFrom}
+use Rattle.laws.specs.Around.{ancestorsFrom}
 use Rattle.laws.specs.Moved.{movedItem, depthsFrom}
-use Rattle.rewriting.specs.Rewriting.{Unit as Unit′, unitOf, itemsIn, Lists, listsOf, noLists, listAt, Rewrite, withEnd}
+use Rattle.rewriting.specs.Rewriting.{Unit as Unit′, unitOf, itemsIn, Lists, listsOf, noLists, listAt, Rewrite, withEnd, Room}
 use Rattle.laws.specs.AbsentLists.{DeclaresOffset}
 use Rattle.laws.specs.HeaderBytes.{HeaderBytes}
 use Rattle.laws.specs.SameReferences.{UnitReferences}
 use Rattle.laws.specs.SameRoles.{UnitRoles}
+
+unfoldable pub newOffsets : List Place → List ℕ
+newOffsets [] = []
+newOffsets (p ∷ ps) = p .new ∷ newOffsets ps
 
 -- two lists, one by one
 unfoldable pub Pairwise : {A B : Type 0} → (A → B → Type 0) → List A → List B → Type 0
@@ -46,27 +48,27 @@ Pairwise R (x ∷ xs) (y ∷ ys) = R x y × Pairwise R xs ys
 -- ---- what is kept and what is left out
 
 -- an item inside these open entries
-abbrev pub inside : List ℕ → Item → Standing
+abbrev pub inside : List ℕ → Item → NestedItem
 inside stack i = record { item = i; depth = length stack }
 
 -- The items of a unit, from entry number k on and inside these open entries, each either kept or left out, in order: an entry is
 -- kept where it is in S, a terminator where the entry whose children it closes is; one that closes none is left out.
 module _ (S : ℕ → Type 0) where
-  pub data Parted : ℕ → List ℕ → List Item → List Standing → List Standing → Type 0 where
+  pub data Parted : ℕ → List ℕ → List Item → List NestedItem → List NestedItem → Type 0 where
     ended : {k : ℕ} {stack : List ℕ} → Parted k stack [] [] []
-    kept-entry : {k : ℕ} {stack : List ℕ} {y : Entry} {rest : List Item} {kept left : List Standing} → S k
+    kept-entry : {k : ℕ} {stack : List ℕ} {y : Entry} {rest : List Item} {kept left : List NestedItem} → S k
         → Parted (suc k) (open′ (y .declaration .children) k stack) rest kept left
         → Parted k stack (entry y ∷ rest) (inside stack (entry y) ∷ kept) left
-    left-entry : {k : ℕ} {stack : List ℕ} {y : Entry} {rest : List Item} {kept left : List Standing} → (S k → ⊥)
+    left-entry : {k : ℕ} {stack : List ℕ} {y : Entry} {rest : List Item} {kept left : List NestedItem} → (S k → ⊥)
         → Parted (suc k) (open′ (y .declaration .children) k stack) rest kept left
         → Parted k stack (entry y ∷ rest) kept (inside stack (entry y) ∷ left)
-    kept-terminator : {k p a b : ℕ} {stack : List ℕ} {rest : List Item} {kept left : List Standing} → S p
+    kept-terminator : {k p a b : ℕ} {stack : List ℕ} {rest : List Item} {kept left : List NestedItem} → S p
         → Parted k stack rest kept left
         → Parted k (p ∷ stack) (terminator a b ∷ rest) (inside (p ∷ stack) (terminator a b) ∷ kept) left
-    left-terminator : {k p a b : ℕ} {stack : List ℕ} {rest : List Item} {kept left : List Standing} → (S p → ⊥)
+    left-terminator : {k p a b : ℕ} {stack : List ℕ} {rest : List Item} {kept left : List NestedItem} → (S p → ⊥)
         → Parted k stack rest kept left
         → Parted k (p ∷ stack) (terminator a b ∷ rest) kept (inside (p ∷ stack) (terminator a b) ∷ left)
-    surplus : {k a b : ℕ} {rest : List Item} {kept left : List Standing}
+    surplus : {k a b : ℕ} {rest : List Item} {kept left : List NestedItem}
         → Parted k [] rest kept left → Parted k [] (terminator a b ∷ rest) kept (inside [] (terminator a b) ∷ left)
 
 -- ---- what is read of a unit
@@ -78,17 +80,17 @@ module _ (x : Sections) (u : Unit′) where
       readIn (u .header .encoding .«big_endian») (expressionIn (u .header .encoding))
       (entryLayout (u .header .encoding) (x .abbreviations) (declaredIn (u .declared))) (drop at (u .bytes))
 
-  module _ (kept : List Standing) where
+  module _ (kept : List NestedItem) where
     -- v is an index of list k that a kept item holds
     pub record IndexKept (k v : ℕ) : Type 0 where
-      pub s : Standing
+      pub s : NestedItem
       pub e : Encoded
       pub r : Read
       pub run : RunOf
       pub is-kept : Member s kept
       pub reads : readAt (offsetOf (s .item)) ≡ some run
       pub among : Member r (run .0)
-      pub operand : Member (linked e (index k) v) (r .pieces)
+      pub operand : Member (patchable e (index k) v) (r .pieces)
 
     -- an index list: ascending, without repeats, exactly the indices of what is kept
     pub record IndexList (k : ℕ) (xs : List ℕ) : Type 0 where
@@ -97,9 +99,9 @@ module _ (x : Sections) (u : Unit′) where
 
 -- ---- the old unit u and the new one, read by the same abbreviations
 
-module _ (x : Sections) (u new : Unit′) (lists : Lists) (map : List Place) (kept : List Standing) where
+module _ (x : Sections) (u new : Unit′) (lists : Lists) (map : List Place) (kept : List NestedItem) where
   -- the m-th kept item, the m-th place of the map and the m-th item of the new unit
-  pub record Beside (m : ℕ) (s : Standing) (p : Place) (i : Item) : Type 0 where
+  pub record Beside (m : ℕ) (s : NestedItem) (p : Place) (i : Item) : Type 0 where
     pub kept-there : Nth s m kept
     pub mapped : Nth p m map
     pub again-there : Nth i m (itemsIn x new)
@@ -109,7 +111,7 @@ module _ (x : Sections) (u new : Unit′) (lists : Lists) (map : List Place) (ke
   -- "lands on the new place of the entry or terminator it named": v is the old offset of a kept item, n the new offset of the same one
   pub record LandsOn (v n : ℕ) : Type 0 where
     pub m : ℕ
-    pub s : Standing
+    pub s : NestedItem
     pub p : Place
     pub i : Item
     pub beside : Beside m s p i
@@ -119,15 +121,15 @@ module _ (x : Sections) (u new : Unit′) (lists : Lists) (map : List Place) (ke
   -- "the first mapped place at or after it that is no deeper than the sibling's owner", and no item at v is kept
   pub record FirstFrom (depth v n : ℕ) : Type 0 where
     pub m : ℕ
-    pub s : Standing
+    pub s : NestedItem
     pub p : Place
     pub i : Item
     pub beside : Beside m s p i
     pub after : v ≤ offsetOf (s .item)
     pub no-deeper : s .depth ≤ depth
     pub lands : offsetOf i ≡ n
-    pub unmapped : (t : Standing) → Member t kept → offsetOf (t .item) ≡ v → ⊥
-    pub first : (j : ℕ) (t : Standing) → j < m → Nth t j kept → v ≤ offsetOf (t .item) → depth < t .depth
+    pub unmapped : (t : NestedItem) → Member t kept → offsetOf (t .item) ≡ v → ⊥
+    pub first : (j : ℕ) (t : NestedItem) → j < m → Nth t j kept → v ≤ offsetOf (t .item) → depth < t .depth
 
   -- what a number of an item at a depth becomes, by what it stands for (document 01, "Rewriting")
   unfoldable pub Becomes : ℕ → Role → ℕ → ℕ → Type 0
@@ -139,10 +141,10 @@ module _ (x : Sections) (u new : Unit′) (lists : Lists) (map : List Place) (ke
 
   -- what was read and what is read again: bytes are the same; a number is written in the same way and stands for the same
   unfoldable pub PieceAgain : ℕ → Piece → Piece → Type 0
-  PieceAgain depth (copied l) (copied r) = l ≡ r
-  PieceAgain depth (copied l) (linked e role n) = ⊥
-  PieceAgain depth (linked e role v) (copied r) = ⊥
-  PieceAgain depth (linked e role v) (linked e′ role′ n) = (e ≡ e′) × (role ≡ role′) × Becomes depth role v n
+  PieceAgain depth (verbatim l) (verbatim r) = l ≡ r
+  PieceAgain depth (verbatim l) (patchable e role n) = ⊥
+  PieceAgain depth (patchable e role v) (verbatim r) = ⊥
+  PieceAgain depth (patchable e role v) (patchable e′ role′ n) = (e ≡ e′) × (role ≡ role′) × Becomes depth role v n
 
   pub record ReadAgain (depth : ℕ) (r again : Read) : Type 0 where
     pub seen-is : r .seen ≡ again .seen
@@ -150,7 +152,7 @@ module _ (x : Sections) (u new : Unit′) (lists : Lists) (map : List Place) (ke
     pub pieces-are : Pairwise (PieceAgain depth) (r .pieces) (again .pieces)
 
   -- the m-th kept item, side by side with what stands for it in the new unit
-  pub record SideBySide (m : ℕ) (s : Standing) : Type 0 where
+  pub record SideBySide (m : ℕ) (s : NestedItem) : Type 0 where
     pub place : Place
     pub item : Item
     pub beside : Beside m s place item
@@ -168,8 +170,8 @@ module _ (x : Sections) (u new : Unit′) (lists : Lists) (map : List Place) (ke
     pub was-at : Nth (s .item) at (itemsIn x u)
     pub around : List ℕ
     pub around-again : List ℕ
-    pub were-open : Nth around at (aroundFrom [] (itemsIn x u))
-    pub are-open : Nth around-again m (aroundFrom [] (itemsIn x new))
+    pub were-open : Nth around at (ancestorsFrom [] (itemsIn x u))
+    pub are-open : Nth around-again m (ancestorsFrom [] (itemsIn x new))
     pub same-open : Pairwise LandsOn around around-again
 
 -- ---- the thinned unit
@@ -188,9 +190,9 @@ pub record Thinned (x : Sections) (typeUnits : Bool) (section : List ℕ) (w : R
   -- the unit as it was read, the rows of its entries, and its items, each kept or left out
   pub header : UnitHeader
   pub declared : List Placed
-  pub rows : List Row
-  pub kept : List Standing
-  pub left : List Standing
+  pub rows : List EntryRow
+  pub kept : List NestedItem
+  pub left : List NestedItem
   pub header-is : headerOf section ≡ Header′ header
   pub declared-are : abbreviationsOf (x .abbreviations) (header .abbreviations) ≡ some declared
   -- the least set (specs/UnitSurvivors.antt), by the references that are patched below
@@ -198,11 +200,11 @@ pub record Thinned (x : Sections) (typeUnits : Bool) (section : List ℕ) (w : R
   pub survivors : SurvivorsOf x section rows
   pub references : UnitReferences x section rows
   pub roles : UnitRoles x section
-  pub parted : Parted (Kept (graphOf rows)) 0 [] (itemsIn x (unitOf header section declared)) kept left
+  pub parted : Parted (Survivor (graphOf rows)) 0 [] (itemsIn x (unitOf header section declared)) kept left
   -- "The kept count is the number of survivors." "An accepted unit is rewritten exactly when it has a dead entry."
   pub entries-are : w .entries ≡ length rows
-  pub count : Number (Kept (graphOf rows)) (w .entries) (w .kept)
-  pub dead : Without (Kept (graphOf rows)) (w .entries)
+  pub count : Number (Survivor (graphOf rows)) (w .entries) (w .kept)
+  pub dead : Without (Survivor (graphOf rows)) (w .entries)
   -- "Read again": by its own header, which is the old one but for the unit's length, and the same abbreviations, up to its end
   pub header-again : headerOf (w .output) ≡ Header′ (withEnd header (length (w .output)))
   pub header-bytes : HeaderBytes header (take (header .end) section) (w .output)
@@ -212,7 +214,7 @@ pub record Thinned (x : Sections) (typeUnits : Bool) (section : List ℕ) (w : R
   pub places : length (w .map) ≡ length kept
   pub olds : Ascending (oldOffsets (w .map))
   pub news : Ascending (newOffsets (w .map))
-  pub each : (m : ℕ) (s : Standing) → Nth s m kept
+  pub each : (m : ℕ) (s : NestedItem) → Nth s m kept
       → SideBySide x (unitOf header section declared) (thinnedOf header (w .output) declared) (w .lists) (w .map) kept m s
   -- "The rewritten unit's old bytes, counted, equal its new bytes plus those of the entries and terminators left out."
   pub bytes : header .end ≡ length (w .output) + sizeFrom left
@@ -225,23 +227,29 @@ pub record Thinned (x : Sections) (typeUnits : Bool) (section : List ℕ) (w : R
 -- ---- an untouched unit
 
 -- the lists of a unit with entries
-pub record UntouchedLists (x : Sections) (typeUnits : Bool) (section : List ℕ) (rows : List Row) (lists : Lists) : Type 0 where
+pub record UntouchedLists (x : Sections) (typeUnits : Bool) (section : List ℕ) (rows : List EntryRow) (lists : Lists) : Type 0 where
   pub header : UnitHeader
   pub declared : List Placed
-  pub kept : List Standing
-  pub left : List Standing
+  pub kept : List NestedItem
+  pub left : List NestedItem
   pub header-is : headerOf section ≡ Header′ header
   pub declared-are : abbreviationsOf (x .abbreviations) (header .abbreviations) ≡ some declared
-  pub parted : Parted (Kept (graphOf rows)) 0 [] (itemsIn x (unitOf header section declared)) kept left
+  pub parted : Parted (Survivor (graphOf rows)) 0 [] (itemsIn x (unitOf header section declared)) kept left
   pub lists-are : lists ≡ listsOf x (unitOf header section declared) typeUnits kept
   pub absent : (k : ℕ) → k < 3 → (listAt lists k ≡ none) ↔ ((typeUnits ≡ true) ⊎ DeclaresOffset x (unitOf header section declared) k)
   pub each : (k : ℕ) → k < 3 → (xs : List ℕ) → listAt lists k ≡ some xs → IndexList x (unitOf header section declared) kept k xs
 
 -- "An accepted unit is rewritten exactly when it has a dead entry.": every entry of an untouched one is a survivor; "without entries the lists are absent too"
 pub record Untouched (x : Sections) (typeUnits : Bool) (section : List ℕ) (n : ℕ) (lists : Lists) : Type 1 where
-  pub rows : List Row
+  pub rows : List EntryRow
   pub survivors : SurvivorsOf x section rows
   pub entries-are : n ≡ length rows
-  pub alive : (i : ℕ) → i < n → Kept (graphOf rows) i
+  pub alive : (i : ℕ) → i < n → Survivor (graphOf rows) i
   pub no-lists : n ≡ 0 → lists ≡ noLists
   pub with-lists : 0 < n → UntouchedLists x typeUnits section rows lists
+
+-- an entry of the unit is no survivor
+pub record DeadEntry (x : Sections) (room : Room) (section : List ℕ) : Type 0 where
+  pub rows : List EntryRow
+  pub analysis : analysisOf x section (room .tables) ≡ analysed rows
+  pub dead : Without (Survivor (graphOf rows)) (length rows)

@@ -2,16 +2,21 @@
 -- of nothing refused, `none-means` (proofs/refusals/ValueRefusals.antt) say that they come exactly so.
 use Prim.Native.Nat.{ℕ, _+_, _≤_, _<_}
 use mathlib.Core.Path.{_≡_}
-use mathlib.Core.List.{List, _∷_}
+use mathlib.Core.List.{List, _∷_, _++_}
 use mathlib.Core.Logic.{_⊎_}
 use mathlib.Core.Option.{none, some}
-use Rattle.readers.specs.Layout.{Role, reference, typeReference, sibling, index, absolute, Piece, copied, linked, Read, Fit}
+use Rattle.readers.specs.Layout.{Role, reference, typeReference, sibling, index, absolute, Piece, verbatim, patchable, Read, Fit}
 use Rattle.marking.specs.Analysis.{Sections}
 use Rattle.marking.specs.Members.{Member, Nth}
-use Rattle.rewriting.specs.Places.{Standing, offsetOf, placesFrom, sizeFrom}
+use Rattle.rewriting.specs.Places.{NestedItem, offsetOf, placesFrom, sizeFrom}
 use Rattle.rewriting.specs.Ascending.{Ascending}
-use Rattle.laws.specs.Maps.{Split}
 use Rattle.rewriting.specs.Rewriting.{Unit as Unit′, readsAt, Lists, listAt, newValue}
+
+-- what stands before a member and after it
+pub record Split (xs : List NestedItem) (x : NestedItem) : Type 0 where
+  pub before : List NestedItem
+  pub after : List NestedItem
+  pub whole : xs ≡ before ++ (x ∷ after)
 
 -- ---- lists
 
@@ -26,16 +31,16 @@ module _ {A : Type 0} (Fine Bad : A → Type 0) where
 
 -- ---- places
 
-module _ (kept : List Standing) where
+module _ (kept : List NestedItem) where
   -- the item at this offset is kept
   pub record KeptAt (v : ℕ) : Type 0 where
-    pub s : Standing
+    pub s : NestedItem
     pub is-kept : Member s kept
     pub named : offsetOf (s .item) ≡ v
 
   -- an item at this offset or after it is kept that is no deeper than so
   pub record KeptAfter (depth v : ℕ) : Type 0 where
-    pub s : Standing
+    pub s : NestedItem
     pub is-kept : Member s kept
     pub after : v ≤ offsetOf (s .item)
     pub no-deeper : s .depth ≤ depth
@@ -58,22 +63,22 @@ module _ (kept : List Standing) where
 -- ---- new values
 
 -- where a kept item comes to stand: behind the kept items before it
-module _ (first : ℕ) (kept : List Standing) where
+module _ (first : ℕ) (kept : List NestedItem) where
   -- n is the new offset of the kept item at v
   pub record NewAt (v n : ℕ) : Type 0 where
-    pub s : Standing
+    pub s : NestedItem
     pub split : Split kept s
     pub named : offsetOf (s .item) ≡ v
     pub new-is : n ≡ first + sizeFrom (split .before)
 
   -- n is the new offset of the first kept item at v or after it that is no deeper than so
   pub record NewAfter (depth v n : ℕ) : Type 0 where
-    pub s : Standing
+    pub s : NestedItem
     pub split : Split kept s
     pub after : v ≤ offsetOf (s .item)
     pub no-deeper : s .depth ≤ depth
     pub new-is : n ≡ first + sizeFrom (split .before)
-    pub first-one : (t : Standing) → Member t (split .before) → v ≤ offsetOf (t .item) → depth < t .depth
+    pub first-one : (t : NestedItem) → Member t (split .before) → v ≤ offsetOf (t .item) → depth < t .depth
 
   -- n is the new value of a number with a place; `newValue` is so (proofs/refusals/NewValues.antt, `new-value-law`), in refused units too
   unfoldable pub IsNew : Lists → ℕ → Role → ℕ → ℕ → Type 0
@@ -86,28 +91,28 @@ module _ (first : ℕ) (kept : List Standing) where
 
 -- ---- the numbers of kept items
 
-module _ (lists : Lists) (first : ℕ) (kept : List Standing) (depth : ℕ) where
+module _ (lists : Lists) (first : ℕ) (kept : List NestedItem) (depth : ℕ) where
   -- it has a place, and its new value can be written as the old one was
   unfoldable pub Fine : Piece → Type 0
-  Fine (copied l) = Unit {0}
-  Fine (linked e role v) = HasPlace kept depth role v × Fit e (newValue lists (placesFrom first kept) depth role v)
+  Fine (verbatim l) = Unit {0}
+  Fine (patchable e role v) = HasPlace kept depth role v × Fit e (newValue lists (placesFrom first kept) depth role v)
 
   -- 8: "non-sibling target isn't mapped, or no sibling place found"
   unfoldable pub Unplaced : Piece → Type 0
-  Unplaced (copied l) = ⊥
-  Unplaced (linked e role v) = NoPlace kept depth role v
+  Unplaced (verbatim l) = ⊥
+  Unplaced (patchable e role v) = NoPlace kept depth role v
 
   -- 9: "value doesn't fit"
   unfoldable pub TooWide : Piece → Type 0
-  TooWide (copied l) = ⊥
-  TooWide (linked e role v) = HasPlace kept depth role v × (Fit e (newValue lists (placesFrom first kept) depth role v) → ⊥)
+  TooWide (verbatim l) = ⊥
+  TooWide (patchable e role v) = HasPlace kept depth role v × (Fit e (newValue lists (placesFrom first kept) depth role v) → ⊥)
 
-module _ (x : Sections) (u : Unit′) (lists : Lists) (first : ℕ) (kept : List Standing) where
+module _ (x : Sections) (u : Unit′) (lists : Lists) (first : ℕ) (kept : List NestedItem) where
   abbrev pub FineRead : ℕ → Read → Type 0
   FineRead depth r = Each (Fine lists first kept depth) (r .pieces)
 
   -- every number of an item
-  abbrev pub FineItem : Standing → Type 0
+  abbrev pub FineItem : NestedItem → Type 0
   FineItem s = Each (FineRead (s .depth)) (readsAt x u (offsetOf (s .item)))
 
   module _ (Bad : ℕ → Piece → Type 0) where
@@ -115,7 +120,7 @@ module _ (x : Sections) (u : Unit′) (lists : Lists) (first : ℕ) (kept : List
     BadRead depth r = First (Fine lists first kept depth) (Bad depth) (r .pieces)
 
     -- a number of an item is bad, and all before it are fine
-    abbrev pub BadItem : Standing → Type 0
+    abbrev pub BadItem : NestedItem → Type 0
     BadItem s = First (FineRead (s .depth)) (BadRead (s .depth)) (readsAt x u (offsetOf (s .item)))
 
   -- every number of every kept item has a place and fits
@@ -132,7 +137,7 @@ module _ (x : Sections) (u : Unit′) (lists : Lists) (first : ℕ) (kept : List
 
   -- a number of a kept item that is so
   pub record NumberOf (Bad : ℕ → Piece → Type 0) : Type 0 where
-    pub s : Standing
+    pub s : NestedItem
     pub r : Read
     pub p : Piece
     pub is-kept : Member s kept

@@ -30,3 +30,7 @@ pub mod Columned
 pub mod UnitMarkings
 pub mod Members
 pub mod EachRow
+pub mod Examples
+pub mod ReferenceExamples
+pub mod RootExamples
+pub mod Walking

@@ -8,7 +8,8 @@ use lib.ListN.{getD}
 use borrow.Author.Tests.{eqb-true, eq-eqb}
 use Rattle.readers.specs.Choice.{_and_, _or_}
 use Rattle.marking.specs.Graph.{Graph, size, isParent, isRoot, names}
-use Rattle.marking.specs.Survivors.{Descendant, child, deeper, Kept, first, root, parent, named, under-root, under-named, Closed}
+use Rattle.marking.specs.Survivors.{Descendant, child, deeper, Survivor, first, root, parent, named, under-root, under-named}
+use Rattle.marking.specs.inner.Survivors.{Closed}
 use Rattle.marking.specs.Markings.{climbs, isDescendant, namedBy, isTop, isLive, justified}
 use Rattle.marking.proofs.Tests.{and-out, and-in, or-out, or-inl, or-inr, any-out, any-in}
 use Rattle.marking.proofs.Graphs.{WellFormed, parent-out, parent-below, parent-inside, holder-inside, target-inside, root-out, under-inside}
@@ -122,7 +123,7 @@ reason-in g v m i (is-under-root {r = r} e u) = or-inr _ (or-inr _ (live-under-r
 reason-in g v m i (is-under-named {s = s} {t = t} e h u) = or-inr _ (or-inr _ (live-under-named-in g v m s t i e h u))
 
 -- a reason among survivors makes a survivor
-pub reason-kept : (g : Graph) (m : ℕ → Bool) → ((i : ℕ) → m i ≡ true → Kept g i) → (i : ℕ) → i < size g → Reason g m i → Kept g i
+pub reason-kept : (g : Graph) (m : ℕ → Bool) → ((i : ℕ) → m i ≡ true → Survivor g i) → (i : ℕ) → i < size g → Reason g m i → Survivor g i
 reason-kept g m s i h is-first = first h
 reason-kept g m s i h (is-root e) = root e
 reason-kept g m s i h (is-parent {i = j} e k) = parent e (s j k)

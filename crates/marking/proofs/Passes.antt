@@ -12,8 +12,8 @@ use lib.ListN.{length, getD, set, length-set}
 use lib.Seq.{getD-set-same, getD-set-other}
 use Rattle.readers.specs.Choice.{_or_}
 use Rattle.marking.specs.Graph.{Graph, size, noParent, isRoot, references, holder, parentFits, pairFits}
-use Rattle.marking.specs.Survivors.{Kept, parent, Live, live-named}
-use Rattle.marking.specs.Passes.{sum, Sound, Pass, WithParents, WithPairs, WithBoth, DownAt, AlongAt, UpAt, Down, Along, Up, Settled, ParentsFit, PairsFit}
+use Rattle.marking.specs.Survivors.{Survivor, parent, Live, live-named}
+use Rattle.marking.specs.inner.Passes.{sum, Sound, Pass, WithParents, WithPairs, WithBoth, DownAt, AlongAt, UpAt, Down, Along, Up, Settled, ParentsFit, PairsFit}
 use Rattle.marking.proofs.Tests.{or-inr, every-at}
 use Rattle.marking.proofs.Graphs.{parent-in, names-in, parent-fits, pair-fits}
 use Rattle.marking.proofs.Survivors.{live-kept, live-down}
@@ -38,7 +38,7 @@ sum-set (x ∷ m) zero v h l = omega arith
 sum-set (x ∷ m) (suc k) v h l = omega (arith, sum-set m k v (le-of-suc-le-suc h) l)
 
 -- a mark that is raised with reason
-pub raised : (g : Graph) (m : List ℕ) (k v : ℕ) → Sound g m → k < length m → v ≤ 3 → getD m k 0 < v → Kept g k → (3 ≤ v → Live g k) → Sound g (set m k v)
+pub raised : (g : Graph) (m : List ℕ) (k v : ℕ) → Sound g m → k < length m → v ≤ 3 → getD m k 0 < v → Survivor g k → (3 ≤ v → Live g k) → Sound g (set m k v)
 raised g m k v s h top l kept live = record {
   long = length-set m k v ∙ s .long;
   most = λ i. most i (at m k v h i);
@@ -57,7 +57,7 @@ raised g m k v s h top l kept live = record {
     least i b (here q e) = omega arith
     least i b (there e) = omega (arith, s .least i b)
 
-    kept-of : (i : ℕ) → 2 ≤ getD (set m k v) i 0 → At m k v i → Kept g i
+    kept-of : (i : ℕ) → 2 ≤ getD (set m k v) i 0 → At m k v i → Survivor g i
     kept-of i b (here q e) = rw q kept
     kept-of i b (there e) = s .kept i (omega arith)
 

@@ -6,7 +6,7 @@ use mathlib.Core.List.{List, [], _∷_, _++_}
 use lib.ListN.{length, set, length-set}
 use lib.Seq.{set-out}
 use mir.Facts.{yes-ltb, no-ltb}
-use Rattle.readers.specs.Choice.{pick-yes, pick-no}
+use Rattle.readers.proofs.Choice.{pick-yes, pick-no}
 use Rattle.marking.specs.ReferenceTable.{nextPlace, placed, written}
 
 -- ---- one number

@@ -5,7 +5,7 @@ use mathlib.Core.Bool.{Bool}
 use Prim.Native.Nat.{ℕ}
 use lib.ListN.{length}
 use Rattle.marking.specs.Graph.{Graph}
-use Rattle.marking.specs.Passes.{Pass, Spread, WithParents, WithPairs, WithBoth, ParentsFit}
+use Rattle.marking.specs.inner.Passes.{Pass, Spread, WithParents, WithPairs, WithBoth, ParentsFit}
 
 pub parents-fit-still : (ps m m′ : List ℕ) → ParentsFit ps m → length m′ ≡ length m → ParentsFit ps m′
 parents-fit-still ps m m′ w e = record { long = e ∙ w .long; fit = w .fit }

@@ -8,7 +8,8 @@ use native.Mathlib.Omega.{arith}
 use lib.ListN.{length, take, length-replicate}
 use lib.Dec.{leb, eqb}
 use mir.Facts.{leb-yes, leb-no}
-use Rattle.readers.specs.Choice.{pick-either, _or_, zeros}
+use Rattle.readers.specs.Choice.{_or_, zeros}
+use Rattle.readers.proofs.Choice.{pick-either}
 use Rattle.readers.specs.Cursors.{fixedAt}
 use Rattle.readers.specs.Header.{present, right, headerMade, headerFields, headerOf}
 use Rattle.readers.specs.Abbreviations.{Placed, abbreviationsOf, asChecked, checkedOf, indexFor, indexOf}
@@ -20,15 +21,16 @@ use Rattle.readers.specs.declared.header.UnitHeader.{UnitHeader}
 use Rattle.readers.specs.declared.header.HeaderRead.{HeaderRead}
 use Rattle.readers.specs.declared.header.HeaderRead.the-variants.{Unit as Unit′, Empty, Refused as Unheaded}
 use Rattle.readers.proofs.Declarations.{length-indexed}
-use Rattle.marking.specs.Analysis.{Sections, Rooms, rooms, Row, Analysed, analysed, refused, onDeclared, unitAnalysed, headerAnalysed, analysisOf}
-use Rattle.marking.specs.Columns.{offsetsIn, parentsIn, rootsIn, namesIn, endsIn, padTo, column, Left, Outcome, Ready, least, roomsOf, indexAfter, answerOf, leftBy, unitChecked, unitFound}
+use Rattle.marking.specs.Analysis.{Sections, Rooms, rooms, EntryRow, Analysed, analysed, refused, onDeclared, unitAnalysed, headerAnalysed, analysisOf}
+use Rattle.marking.specs.Columns.{offsetsIn, parentsIn, rootsIn, namesIn, endsIn, padTo, column, least, roomsOf, indexAfter, answerOf}
+use Rattle.marking.specs.inner.Columns.{Left, Outcome, AnalysisInput, leftBy, unitChecked, unitFound}
 use Rattle.marking.specs.declared.analysis.Analysis.{Analysis}
 use Rattle.marking.specs.declared.analysis.Analysis.the-variants.{Entries, Refused as Refused′}
 use Rattle.marking.specs.declared.analysis.UnitFound.the-variants.{Unit as Found′, Answered as Answered′}
 
 -- ---- columns that are left, and columns that are cleared
 
-left-by : (f : List Row → List ℕ) (n : ℕ) (w : Analysed) (r : Analysis) (col col′ : List ℕ)
+left-by : (f : List EntryRow → List ℕ) (n : ℕ) (w : Analysed) (r : Analysis) (col col′ : List ℕ)
     → r ≡ answerOf w → Left f n w col → col′ ≡ leftBy r col → col′ ≡ column f n w
 unfolding answerOf Left column leftBy
 left-by f n (analysed rows) r col col′ q h e = e ∙ ap (λ (a : Analysis). leftBy a col) q ∙ h
@@ -42,11 +44,11 @@ pub left-zeros : {a : Analysis} {n : ℕ} → a ≡ Refused′ n → (col cleare
 unfolding leftBy
 left-zeros e col cleared h = h ∙ sym (ap (λ (r : Analysis). leftBy r col) e)
 
-column-refused : (f : List Row → List ℕ) (n k : ℕ) (w : Analysed) (col : List ℕ) → w ≡ refused k → col ≡ zeros n → col ≡ column f n w
+column-refused : (f : List EntryRow → List ℕ) (n k : ℕ) (w : Analysed) (col : List ℕ) → w ≡ refused k → col ≡ zeros n → col ≡ column f n w
 unfolding column
 column-refused f n k w col e h = h ∙ sym (ap (column f n) e)
 
-column-none : (f : List Row → List ℕ) (n : ℕ) (w : Analysed) (col : List ℕ) → f [] ≡ [] → w ≡ analysed [] → col ≡ zeros n → col ≡ column f n w
+column-none : (f : List EntryRow → List ℕ) (n : ℕ) (w : Analysed) (col : List ℕ) → f [] ≡ [] → w ≡ analysed [] → col ≡ zeros n → col ≡ column f n w
 unfolding column padTo
 column-none f n w col z e h =
     h ∙ ap zeros (let k : n ≡ n - 0 = omega arith in k) ∙ sym (ap (λ (l : List ℕ). padTo n l) z) ∙ sym (ap (column f n) e)
@@ -59,9 +61,9 @@ Filled′ w nf np nr ne nt offsets parents roots ends targets =
 -- ---- a unit
 
 pub ready-in : {abbreviations index : List ℕ} {from : ℕ} {unit unit′ : List ℕ} {n m : ℕ} {offsets parents roots ends targets : List ℕ}
-    → unit′ ≡ unit → Ready abbreviations index from unit n m offsets parents roots ends targets → Ready abbreviations index from unit′ n m offsets parents roots ends targets
+    → unit′ ≡ unit → AnalysisInput abbreviations index from unit n m offsets parents roots ends targets → AnalysisInput abbreviations index from unit′ n m offsets parents roots ends targets
 ready-in {abbreviations} {index} {from} {unit} {unit′} {n} {m} {offsets} {parents} {roots} {ends} {targets} e h =
-    subst (λ (u : List ℕ). Ready abbreviations index from u n m offsets parents roots ends targets) (sym e) h
+    subst (λ (u : List ℕ). AnalysisInput abbreviations index from u n m offsets parents roots ends targets) (sym e) h
 
 module _ {w w′ : Analysed} {offsets₀ parents₀ roots₀ ends₀ targets₀ offsets parents roots ends targets : List ℕ} (same : w ≡ w′)
     (h : Outcome w offsets₀ parents₀ roots₀ ends₀ targets₀ offsets parents roots ends targets) where
@@ -232,7 +234,7 @@ pub unit-ready : (abbreviations index section : List ℕ) (h : UnitHeader) (k : 
     → Found′ h ≡ unitFound abbreviations (headerOf section) → index ≡ indexAfter abbreviations (headerOf section) k
     → Room entries references (length offsets) (length parents) (length roots) (length ends) (length targets) n m
     → Clear nf np nr ne nt offsets parents roots ends targets
-    → Ready abbreviations index (h .abbreviations) (take (h .end) section) n m offsets parents roots ends targets
+    → AnalysisInput abbreviations index (h .abbreviations) (take (h .end) section) n m offsets parents roots ends targets
 unit-ready abbreviations index section h k {entries} {references} {n} {m} nf np nr ne nt offsets parents roots ends targets q i r c =
     let u : (headerOf section ≡ Unit′ h) × (checkedOf abbreviations (h .abbreviations) ≡ Accepted) = unit-found abbreviations (headerOf section) h q in
     let j : index ≡ indexOf abbreviations (h .abbreviations) k = index-found abbreviations (headerOf section) h k index (u .0) i in

@@ -21,7 +21,7 @@ use Rattle.readers.specs.declared.header.HeaderRead.{HeaderRead}
 use Rattle.readers.specs.declared.header.HeaderRead.the-variants.{Unit as Unit′, Empty, Refused}
 use Rattle.marking.specs.Roots.{rangesBy, rootTest, baseAfter}
 use Rattle.readers.specs.EntryAttributes.{Valued, entryValues}
-use Rattle.marking.specs.EntryReferences.{Found, found, refused as refusedAfter, locationsBy, attributesFound}
+use Rattle.marking.specs.EntryReferences.{ReferencesFound, found, refused as refusedAfter, locationsBy, attributesFound}
 use Rattle.marking.specs.declared.root_test.Verdict.{Verdict}
 use Rattle.marking.specs.declared.root_test.Verdict.the-variants.{Live, Dead, Refused as Failed}
 use Rattle.readers.specs.Stream.{Item, entry, terminator, itemsFrom}
@@ -47,17 +47,17 @@ rooms n m = record { entries = n; references = m }
 
 -- what is found of an entry: where it starts, its parent (0xffffffff for none), 1 for a root or 0, and the offsets that
 -- it names
-pub record Row : Type 0 where
+pub record EntryRow : Type 0 where
   pub offset : ℕ
   pub parent : ℕ
   pub root : ℕ
   pub names : List ℕ
 
 pub data Analysed : Type 0 where
-  analysed : List Row → Analysed
+  analysed : List EntryRow → Analysed
   refused : ℕ → Analysed
 
-unfoldable pub onto : Row → Analysed → Analysed
+unfoldable pub onto : EntryRow → Analysed → Analysed
 onto r (analysed rs) = analysed (r ∷ rs)
 onto r (refused n) = refused n
 
@@ -66,7 +66,7 @@ onVerdict Live k = k 1
 onVerdict Dead k = k 0
 onVerdict (Failed n) k = refused n
 
-unfoldable pub onFound : Found → (List ℕ → Analysed) → Analysed
+unfoldable pub onFound : ReferencesFound → (List ℕ → Analysed) → Analysed
 onFound (found xs) k = k xs
 onFound (refusedAfter xs n) k = refused n
 
@@ -97,7 +97,7 @@ module _ (e : Encoding) (x : Sections) (unit : List ℕ) where
   unfoldable pub rootOf : ℕ → Entry → Verdict
   rootOf base y = rootTest e (rangesBy (x .ranges) (x .addresses) (x .rangesBase) base) unit (tagOf y) (valuesOfEntry y)
 
-  unfoldable pub namesOf : ℕ → Entry → Found
+  unfoldable pub namesOf : ℕ → Entry → ReferencesFound
   namesOf base y = attributesFound e (locationsBy unit (x .locations) base) (valuesOfEntry y)
 
   unfoldable pub baseOf : ℕ → ℕ → Entry → ℕ

@@ -26,16 +26,16 @@ use Rattle.marking.specs.Walking.{Next, go, stop, walk}
 use Rattle.readers.specs.EntryAttributes.{Valued}
 
 -- the offsets that are named; on a refusal those named before it, and its number
-pub data Found : Type 0 where
-  found : List ℕ → Found
-  refused : List ℕ → ℕ → Found
+pub data ReferencesFound : Type 0 where
+  found : List ℕ → ReferencesFound
+  refused : List ℕ → ℕ → ReferencesFound
 
 -- what one finds, and then another: the first refusal counts
-unfoldable pub after : List ℕ → Found → Found
+unfoldable pub after : List ℕ → ReferencesFound → ReferencesFound
 after xs (found ys) = found (xs ++ ys)
 after xs (refused ys n) = refused (xs ++ ys) n
 
-unfoldable pub andThen : Found → Found → Found
+unfoldable pub andThen : ReferencesFound → ReferencesFound → ReferencesFound
 andThen (found xs) f = after xs f
 andThen (refused xs n) f = refused xs n
 
@@ -45,12 +45,12 @@ unfoldable pub targets : List Named → List ℕ
 targets [] = []
 targets (r ∷ rs) = r .1 ∷ targets rs
 
-unfoldable pub walkFound : List ℕ → Walk → Found
+unfoldable pub walkFound : List ℕ → Walk → ReferencesFound
 walkFound xs Unreadable = refused [] (refusalOfWalk Unreadable)
 walkFound xs (Walked n true) = refused [] (refusalOfWalk (Walked n true))
 walkFound xs (Walked n false) = found xs
 
-unfoldable pub expressionFound : Encoding → List ℕ → Found
+unfoldable pub expressionFound : Encoding → List ℕ → ReferencesFound
 expressionFound e s = walkFound (targets (referencesIn e s)) (walkOf e s)
 
 -- ---- location lists, entry by entry: each expression is judged before the next entry is read
@@ -63,22 +63,22 @@ abbrev pub reachedAt : Reached → ℕ
 reachedAt p = p .at
 
 -- 7.7.3: base_addressx 1 and base_address 6 have no expression, default_location 5 has it first, the others third
-unfoldable pub locationFound : Encoding → List ℕ → ListEntry → Found
+unfoldable pub locationFound : Encoding → List ℕ → ListEntry → ReferencesFound
 locationFound e s x =
     pick (eqb (x .kind) «DW_LLE_base_addressx» or eqb (x .kind) «DW_LLE_base_address») (found [])
     (expressionFound e (partOf s (pick (eqb (x .kind) «DW_LLE_default_location») (x .first) (x .third))))
 
-unfoldable pub onFound : List ℕ → ListEntry → Found → Next Reached Found
+unfoldable pub onFound : List ℕ → ListEntry → ReferencesFound → Next Reached ReferencesFound
 onFound sofar x (found ys) = go (record { at = x .next .at; sofar = sofar ++ ys })
 onFound sofar x (refused ys n) = stop (refused (sofar ++ ys) n)
 
-unfoldable pub locationStep : Encoding → List ℕ → List ℕ → ListStep → Next Reached Found
+unfoldable pub locationStep : Encoding → List ℕ → List ℕ → ListStep → Next Reached ReferencesFound
 locationStep e s sofar (Entry x) = onFound sofar x (locationFound e s x)
 locationStep e s sofar End = stop (found sofar)
 locationStep e s sofar NoEntry = stop (refused sofar (refusalOfList NoEntry))
 
 -- an offset that can't be resolved is 5
-unfoldable pub listFound : Encoding → List ℕ → ListOffset → Found
+unfoldable pub listFound : Encoding → List ℕ → ListOffset → ReferencesFound
 listFound e s (At c) =
     walk reachedAt (length s) (λ (p : Reached). locationStep e s (p .sofar) (listEntryAt e true s (p .at))) (found []) (record { at = c .at; sofar = [] })
 listFound e s Unresolved = refused [] (refusalOfLocations Unresolved)
@@ -98,7 +98,7 @@ module _ (e : Encoding) (x : Locations) where
   -- Sibling attributes name nothing. ref_addr is 7 where it is declared; behind indirect it is copied.
   -- ref1 to ref8 and ref_udata name their value, behind indirect too. exprloc by its expression.
   -- Location lists count only under DW_AT_location: loclistx, sec_offset.
-  unfoldable pub attributeFound : Valued → Found
+  unfoldable pub attributeFound : Valued → ReferencesFound
   attributeFound a =
       pick (eqb (a .name) «DW_AT_sibling») (found [])
       (pick (eqb (a .declared) «DW_FORM_ref_addr») (refused [] 7)
@@ -110,6 +110,6 @@ module _ (e : Encoding) (x : Locations) where
       (found [])))))))
 
   -- THE references of an entry, by its attributes
-  unfoldable pub attributesFound : List Valued → Found
+  unfoldable pub attributesFound : List Valued → ReferencesFound
   attributesFound [] = found []
   attributesFound (a ∷ rest) = andThen (attributeFound a) (attributesFound rest)

@@ -12,7 +12,7 @@ use Rattle.readers.specs.declared.cursor.Encoding.{Encoding}
 use Rattle.readers.specs.declared.entries.Entry.{Entry}
 use Rattle.readers.specs.declared.header.UnitHeader.{UnitHeader}
 use Rattle.marking.specs.EntryReferences.{found}
-use Rattle.marking.specs.Analysis.{Sections, Row, rootOf, namesOf, baseOf}
+use Rattle.marking.specs.Analysis.{Sections, EntryRow, rootOf, namesOf, baseOf}
 use Rattle.marking.specs.declared.root_test.Verdict.{Verdict}
 use Rattle.marking.specs.declared.root_test.Verdict.the-variants.{Live, Dead}
 
@@ -24,7 +24,7 @@ module _ (e : Encoding) (x : Sections) (unit : List ℕ) where
   -- the row of an entry inside these open ones, rb and lb being the list bases before it: where it starts, the
   -- innermost open entry as its parent, what the root test finds by table and lists, and all references that it
   -- holds; by the list bases as its own DW_AT_rnglists_base and DW_AT_loclists_base leave them
-  pub record RowOf (stack : List ℕ) (rb lb : ℕ) (y : Entry) (r : Row) : Type 0 where
+  pub record RowOf (stack : List ℕ) (rb lb : ℕ) (y : Entry) (r : EntryRow) : Type 0 where
     pub offset-is : r .offset ≡ y .offset .0
     pub parent-is : r .parent ≡ top stack
     pub root-is : Tested (rootOf e x unit (baseOf e x unit «DW_AT_rnglists_base» rb y) y) (r .root)
@@ -32,7 +32,7 @@ module _ (e : Encoding) (x : Sections) (unit : List ℕ) where
 
   -- each row is that of its entry, and there is one for each: items and rows from entry k on, given the open
   -- entries, the innermost first, and the list bases
-  unfoldable pub RowsOf : ℕ → List ℕ → ℕ → ℕ → List Item → List Row → Type 0
+  unfoldable pub RowsOf : ℕ → List ℕ → ℕ → ℕ → List Item → List EntryRow → Type 0
   RowsOf k stack rb lb [] rows = rows ≡ []
   RowsOf k stack rb lb (terminator a b ∷ rest) rows = RowsOf k (close stack) rb lb rest rows
   RowsOf k stack rb lb (entry y ∷ rest) [] = ⊥

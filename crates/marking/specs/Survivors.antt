@@ -11,20 +11,20 @@ pub data Descendant (g : Graph) : ℕ → ℕ → Type 0 where
   deeper : {r p d : ℕ} → Descendant g r p → isParent g p d ≡ true → Descendant g r d
 
 -- a survivor
-pub data Kept (g : Graph) : ℕ → Type 0 where
-  first : 0 < size g → Kept g 0
-  root : {i : ℕ} → isRoot g i ≡ true → Kept g i
-  parent : {p i : ℕ} → isParent g p i ≡ true → Kept g i → Kept g p
-  named : {s t : ℕ} → names g s t ≡ true → Kept g s → Kept g t
-  under-root : {r d : ℕ} → isRoot g r ≡ true → Descendant g r d → Kept g d
-  under-named : {s t d : ℕ} → names g s t ≡ true → Kept g s → Descendant g t d → Kept g d
+pub data Survivor (g : Graph) : ℕ → Type 0 where
+  first : 0 < size g → Survivor g 0
+  root : {i : ℕ} → isRoot g i ≡ true → Survivor g i
+  parent : {p i : ℕ} → isParent g p i ≡ true → Survivor g i → Survivor g p
+  named : {s t : ℕ} → names g s t ≡ true → Survivor g s → Survivor g t
+  under-root : {r d : ℕ} → isRoot g r ≡ true → Descendant g r d → Survivor g d
+  under-named : {s t d : ℕ} → names g s t ≡ true → Survivor g s → Descendant g t d → Survivor g d
 
 -- a root, an entry that a survivor's reference names, or a descendant of either
 pub data Live (g : Graph) : ℕ → Type 0 where
   live-root : {i : ℕ} → isRoot g i ≡ true → Live g i
-  live-named : {s t : ℕ} → names g s t ≡ true → Kept g s → Live g t
+  live-named : {s t : ℕ} → names g s t ≡ true → Survivor g s → Live g t
   live-under-root : {r d : ℕ} → isRoot g r ≡ true → Descendant g r d → Live g d
-  live-under-named : {s t d : ℕ} → names g s t ≡ true → Kept g s → Descendant g t d → Live g d
+  live-under-named : {s t d : ℕ} → names g s t ≡ true → Survivor g s → Descendant g t d → Live g d
 
 -- S holds what demand 3 says of survivors: by how many entries there are, which are roots, whose parent and whose
 -- descendant is which, and what a reference of which names
@@ -42,12 +42,6 @@ pub record LeastBy (entries : ℕ) (Root : ℕ → Type 0) (Parent Under Names :
     (S : ℕ → Type 0) : Type 1 where
   pub closed : ClosedBy entries Root Parent Under Names S
   pub least : (R : ℕ → Type 0) → ClosedBy entries Root Parent Under Names R → (i : ℕ) → S i → R i
-
--- by a graph
-abbrev pub Closed : Graph → (ℕ → Type 0) → Type 0
-Closed g S =
-    ClosedBy (size g) (λ i. isRoot g i ≡ true) (λ p i. isParent g p i ≡ true)
-    (Descendant g) (λ s t. names g s t ≡ true) S
 
 abbrev pub Least : Graph → (ℕ → Type 0) → Type 1
 Least g S =

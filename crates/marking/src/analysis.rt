@@ -2,12 +2,12 @@
 ghost use mathlib.Core.Path.{_≡_};
 ghost use lib.ListN.{length, take};
 ghost use Rattle.readers.specs.Choice.{zeros};
-ghost use Rattle.readers.specs.Entries.{headEnd};
+ghost use Rattle.readers.specs.inner.Entries.{headEnd};
 ghost use Rattle.readers.specs.Header.{headerOf};
 ghost use Rattle.marking.specs.Analysis.{sections, rooms, rootOf, namesOf, unitAnalysed, analysisOf};
 ghost use Rattle.marking.specs.Columns.{offsetsIn, parentsIn, rootsIn, endsIn, namesIn, column, least, roomsOf};
-ghost use Rattle.marking.specs.Columns.{indexAfter, Ready, Outcome, answerOf, headed, refusalOf, entryAnswer};
-ghost use Rattle.marking.specs.Columns.{entryTable, leftBy, unitFound};
+ghost use Rattle.marking.specs.Columns.{indexAfter, answerOf};
+ghost use Rattle.marking.specs.inner.Columns.{AnalysisInput, Outcome, headed, refusalOf, entryAnswer, entryTable, leftBy, unitFound};
 use crate::references::EntryScan;
 use crate::references::scan_live_die_attrs;
 use crate::root_test::Verdict;
@@ -157,7 +157,7 @@ fn analyse_entries(
     reference_ends: &mut [u64],
     targets: &mut [u64],
 ) -> Analysis
-    requires { ⌜ Ready (now abbreviations) (now index) from (now unit) «entry_room» «reference_room»
+    requires { ⌜ AnalysisInput (now abbreviations) (now index) from (now unit) «entry_room» «reference_room»
         (now offsets) (now parents) (now roots) (now «reference_ends») (now targets) ⌝ }
     ensures { λ r. ⌜ (
         let lent = sections (now (abbreviations .entry)) (now (locations .entry)) (now (ranges .entry))
@@ -359,7 +359,7 @@ fn analyse_unit(
     reference_ends: &mut [u64],
     targets: &mut [u64],
 ) -> Analysis
-    requires { ⌜ Ready (now abbreviations) (now index) (h .abbreviations) (take (h .end) (now section))
+    requires { ⌜ AnalysisInput (now abbreviations) (now index) (h .abbreviations) (take (h .end) (now section))
         «entry_room» «reference_room» (now offsets) (now parents) (now roots) (now «reference_ends») (now targets) ⌝ }
     ensures { λ r. ⌜ (
         let lent = sections (now (abbreviations .entry)) (now (locations .entry)) (now (ranges .entry))

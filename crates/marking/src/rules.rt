@@ -2,8 +2,8 @@
 // list have in common. Each answers whether a mark rose.
 ghost use Prim.Native.Nat.{_/_, _<_};
 ghost use lib.ListN.{length};
-ghost use Rattle.marking.specs.Passes.{Pass, WithParents, WithPairs, DownAt, AlongAt, UpAt, Down, ParentsFit};
-ghost use Rattle.marking.specs.Passes.{PairsFit};
+ghost use Rattle.marking.specs.inner.Passes.{Pass, WithParents, WithPairs, DownAt, AlongAt, UpAt, Down, ParentsFit};
+ghost use Rattle.marking.specs.inner.Passes.{PairsFit};
 
 // What stands for the parent of an entry that has none.
 pub(crate) const NO_PARENT: u32 = 0xffff_ffff;

@@ -3,7 +3,7 @@
 // the work column holds: each number taken from it is tested.
 ghost use Prim.Native.Nat.{_/_, _<_, _≤_};
 ghost use lib.ListN.{length};
-ghost use Rattle.marking.specs.Passes.{WithParents, WithBoth, ParentsFit, PairsFit, Spread};
+ghost use Rattle.marking.specs.inner.Passes.{WithParents, WithBoth, ParentsFit, PairsFit, Spread};
 use crate::columns::place;
 use crate::rules::along_at;
 use crate::rules::down;

@@ -5,12 +5,12 @@ ghost use mathlib.Core.List.{List};
 ghost use lib.ListN.{length, take, drop};
 ghost use Rattle.readers.specs.Choice.{zeros};
 ghost use Rattle.readers.specs.Header.{headerOf};
-ghost use Rattle.marking.specs.Analysis.{Row, analysed, sections, analysisOf};
+ghost use Rattle.marking.specs.Analysis.{EntryRow, analysed, sections, analysisOf};
 ghost use Rattle.marking.specs.Columns.{padTo, column, offsetsIn, parentsIn, rootsIn, endsIn, namesIn, unitRooms};
-ghost use Rattle.marking.specs.Columns.{put};
+ghost use Rattle.marking.specs.inner.Columns.{put};
 ghost use Rattle.marking.specs.Columns.{indexAfter};
-ghost use Rattle.marking.specs.Resolution.{asEntry, entryFrom, pairsOfEntry, pairsIn, marksIn, unitMarks};
-ghost use Rattle.marking.specs.Resolution.{Searched, Ready, Held, Resolvable, Laid, Markable};
+ghost use Rattle.marking.specs.Resolution.{entryFrom, pairsOfEntry, pairsIn, marksIn, unitMarks};
+ghost use Rattle.marking.specs.inner.Resolution.{asEntry, Searched, ResolveInput, ReferenceColumns, Resolvable, UnitColumns, Markable};
 use crate::analysis::Analysis;
 use crate::analysis::analyse;
 use crate::marks::Marked;
@@ -65,7 +65,7 @@ fn resolve_entry(
     pairs: &mut [u32],
     at: usize,
 ) -> usize
-    requires { ⌜ Ready (now offsets) entries (now targets) from to (now pairs) at ⌝ }
+    requires { ⌜ ResolveInput (now offsets) entries (now targets) from to (now pairs) at ⌝ }
     ensures { λ r. ⌜ (
         let names = take (to - from) (drop from (now (targets .entry))) in
         let found = pairsOfEntry (take entries (now (offsets .entry))) (holder .0) names in
@@ -97,12 +97,12 @@ fn resolve(
     pairs: &mut [u32],
 ) -> usize
     requires { ⌜ Resolvable (now offsets) (now «reference_ends») entries (now targets) (now pairs) ⌝ }
-    ensures answer { λ r. ⌜ ((rows : List Row)
-        → Held rows (now (offsets .entry)) (now («reference_ends» .entry)) entries
+    ensures answer { λ r. ⌜ ((rows : List EntryRow)
+        → ReferenceColumns rows (now (offsets .entry)) (now («reference_ends» .entry)) entries
         (now (targets .entry)) (now (pairs .entry))
         → 2 * r ≡ length (pairsIn rows)) ⌝ }
-    ensures filled { λ r. ⌜ ((rows : List Row)
-        → Held rows (now (offsets .entry)) (now («reference_ends» .entry)) entries
+    ensures filled { λ r. ⌜ ((rows : List EntryRow)
+        → ReferenceColumns rows (now (offsets .entry)) (now («reference_ends» .entry)) entries
         (now (targets .entry)) (now (pairs .entry))
         → now (pairs .exit) ≡ padTo (length (now (pairs .entry))) (pairsIn rows)) ⌝ }
 {
@@ -133,18 +133,18 @@ fn mark_rows(
 ) -> UnitMarks
     requires { ⌜ Markable (now offsets) (now parents) (now roots) (now «reference_ends») entries (now marks)
         (now targets) (now pairs) ⌝ }
-    ensures answer { λ r. ⌜ ((rows : List Row)
-        → Laid rows (now (offsets .entry)) (now (parents .entry)) (now (roots .entry))
+    ensures answer { λ r. ⌜ ((rows : List EntryRow)
+        → UnitColumns rows (now (offsets .entry)) (now (parents .entry)) (now (roots .entry))
         (now («reference_ends» .entry)) entries
         (now (marks .entry)) (now (targets .entry)) (now (pairs .entry))
         → r ≡ unitMarks (analysed rows)) ⌝ }
-    ensures marks { λ r. ⌜ ((rows : List Row)
-        → Laid rows (now (offsets .entry)) (now (parents .entry)) (now (roots .entry))
+    ensures marks { λ r. ⌜ ((rows : List EntryRow)
+        → UnitColumns rows (now (offsets .entry)) (now (parents .entry)) (now (roots .entry))
         (now («reference_ends» .entry)) entries
         (now (marks .entry)) (now (targets .entry)) (now (pairs .entry))
         → now (marks .exit) ≡ padTo (length (now (marks .entry))) (marksIn rows)) ⌝ }
-    ensures pairs { λ r. ⌜ ((rows : List Row)
-        → Laid rows (now (offsets .entry)) (now (parents .entry)) (now (roots .entry))
+    ensures pairs { λ r. ⌜ ((rows : List EntryRow)
+        → UnitColumns rows (now (offsets .entry)) (now (parents .entry)) (now (roots .entry))
         (now («reference_ends» .entry)) entries
         (now (marks .entry)) (now (targets .entry)) (now (pairs .entry))
         → now (pairs .exit) ≡ padTo (length (now (pairs .entry))) (pairsIn rows)) ⌝ }

@@ -8,7 +8,8 @@ use mathlib.Core.Logic.{⊎-elim}
 use lib.ListN.{length}
 use lib.Dec.{eqb}
 use mir.Facts.{eqb-yes, eqb-no}
-use Rattle.readers.specs.Choice.{either, bind}
+use Rattle.readers.specs.Choice.{bind}
+use Rattle.readers.proofs.Choice.{either}
 use Rattle.readers.specs.Cursors.{cursor, formsAt}
 use Rattle.readers.proofs.Lebs.{forms-inside}
 use Rattle.readers.proofs.Tokens.{Inside, token-inside}
@@ -32,7 +33,8 @@ use Rattle.readers.specs.declared.attributes.Attribute.{Attribute}
 use Rattle.readers.specs.declared.attributes.AttributeRead.{AttributeRead}
 use Rattle.readers.specs.declared.attributes.AttributeRead.the-variants.{Read as Attribute′, Unreadable as NoAttribute}
 use Rattle.readers.specs.EntryAttributes.{Valued, onSpec, specsWithin, specsFrom, onAttribute, valuesOf, entryValues, taken, takenBy}
-use Rattle.readers.specs.EntryAttributes.{nextAttribute, endBy}
+use Rattle.readers.specs.EntryAttributes.{nextAttribute}
+use Rattle.readers.specs.inner.EntryAttributes.{endBy}
 use Rattle.readers.specs.declared.entry_attributes.EntryAttribute.{EntryAttribute}
 use Rattle.readers.specs.declared.entry_attributes.NextAttribute.the-variants.{More, NoMore}
 

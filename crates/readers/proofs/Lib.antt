@@ -21,3 +21,9 @@ pub mod Yields
 pub mod OwnReferences
 pub mod ReferenceTables
 pub mod Answers
+pub mod Choice
+pub mod Examples
+pub mod Expression
+pub mod Layouts
+pub mod Numbers
+pub mod Scan

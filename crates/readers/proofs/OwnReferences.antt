@@ -4,8 +4,10 @@ use Prim.Native.Nat.{ℕ, _-_, _≤_, _<_}
 use mathlib.Core.Bool.{Bool, true, false, not}
 use lib.Dec.{T, leb, ltb, eqb}
 use mir.Facts.{yes-ltb, no-ltb, yes-leb, no-leb, yes-eqb, no-eqb}
-use Rattle.readers.specs.Choice.{pick-yes, pick-no, _or_}
-use Rattle.readers.specs.References.{named, namedType, referenceOf, counted, ownWalk}
+use Rattle.readers.specs.Choice.{_or_}
+use Rattle.readers.proofs.Choice.{pick-yes, pick-no}
+use Rattle.readers.specs.References.{named, namedType, referenceOf}
+use Rattle.readers.specs.inner.References.{counted, ownWalk}
 use Rattle.readers.specs.declared.cursor.Cursor.{Cursor}
 use Rattle.readers.specs.declared.fields.Field.{Field}
 use Rattle.readers.specs.declared.operations.Operation.{Operation}

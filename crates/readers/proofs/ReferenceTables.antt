@@ -8,7 +8,8 @@ use lib.ListN.{length, take, set, length-append, length-set}
 use lib.Seq.{take-suc-set, take-length, set-at, append-snoc}
 use Rattle.readers.specs.Choice.{zeros}
 use Rattle.readers.specs.Layout.{width}
-use Rattle.readers.specs.References.{Named, encodedBy, numbersOf, Room, flatFrom, nextReference}
+use Rattle.readers.specs.References.{Named, encodedBy, numbersOf, flatFrom, nextReference}
+use Rattle.readers.specs.inner.References.{Room}
 use Rattle.readers.specs.declared.cursor.Encoding.{Encoding}
 use Rattle.readers.specs.declared.expressions.Reference.{Reference}
 use Rattle.readers.specs.declared.expressions.Yield.{Yield}

@@ -12,8 +12,10 @@ use lib.ListN.{length, getD, take, drop, length-drop, length-reverse, List·getD
 use lib.Seq.{drop-cons, getD-at, getD-take, getD-drop, length-take-le}
 use lib.Dec.{leb}
 use mir.Facts.{yes-leb, no-leb, leb-yes, leb-no, yes-eqb, no-eqb}
-use Rattle.readers.specs.Choice.{pick, pick-yes, pick-no, check-yes, check-no, bind, All, pick-either, either}
-use Rattle.readers.specs.Numbers.{littleValue, ordered, fixedValue, length-ordered}
+use Rattle.readers.specs.Choice.{pick, bind}
+use Rattle.readers.proofs.Choice.{pick-yes, pick-no, check-yes, check-no, All, pick-either, either}
+use Rattle.readers.specs.Numbers.{littleValue, ordered, fixedValue}
+use Rattle.readers.proofs.Numbers.{length-ordered}
 use Rattle.readers.specs.Layout.{fixed, width, numberIn, stringIn}
 use Rattle.readers.specs.Cursors.{cursor, asFixed, fixedAt, skipAt, asMoved, stringAt}
 use Rattle.readers.specs.declared.cursor.Cursor.{Cursor}

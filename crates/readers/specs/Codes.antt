@@ -14,9 +14,6 @@ abbrev pub «DW_TAG_variable» : ℕ
 
 -- ---- whether an entry has children (7.5.3, table 7.4)
 
-abbrev pub «DW_CHILDREN_no» : ℕ
-«DW_CHILDREN_no» = 0x00
-
 abbrev pub «DW_CHILDREN_yes» : ℕ
 «DW_CHILDREN_yes» = 0x01
 
@@ -436,9 +433,6 @@ abbrev pub «DW_OP_GNU_variable_value» : ℕ
 
 -- ---- kinds of location list entries (7.7.3, table 7.10)
 
-abbrev pub «DW_LLE_end_of_list» : ℕ
-«DW_LLE_end_of_list» = 0x00
-
 abbrev pub «DW_LLE_base_addressx» : ℕ
 «DW_LLE_base_addressx» = 0x01
 
@@ -496,3 +490,9 @@ abbrev pub «DW_UT_compile» : ℕ
 
 abbrev pub «DW_UT_split_compile» : ℕ
 «DW_UT_split_compile» = 0x05
+
+abbrev pub «DW_CHILDREN_no» : ℕ
+«DW_CHILDREN_no» = 0x00
+
+abbrev pub «DW_LLE_end_of_list» : ℕ
+«DW_LLE_end_of_list» = 0x00

@@ -21,12 +21,10 @@ use Rattle.readers.specs.declared.cursor.Number.the-variants.{Value, Unr
 use Rattle.readers.specs.declared.cursor.Moved.{Moved}
 use Rattle.readers.specs.declared.cursor.Moved.the-variants.{To, Unreadable as Nowhere}
 use Rattle.readers.specs.declared.abbreviations.AttributeSpec.{AttributeSpec}
-use Rattle.readers.specs.declared.abbreviations.Found.{Found}
-use Rattle.readers.specs.declared.abbreviations.Found.the-variants.{Declaration as Found′, Nothing}
+use Rattle.readers.specs.declared.abbreviations.DeclarationFound.{DeclarationFound}
+use Rattle.readers.specs.declared.abbreviations.DeclarationFound.the-variants.{Declaration as Found′, Nothing}
 use Rattle.readers.specs.declared.attributes.AttributeRead.{AttributeRead}
 use Rattle.readers.specs.declared.attributes.AttributeRead.the-variants.{Read as Attribute′, Unreadable as NoAttribute}
-use Rattle.readers.specs.declared.entries.Entry.{Entry}
-use Rattle.readers.specs.declared.entries.EntryHead.{EntryHead}
 use Rattle.readers.specs.declared.entries.HeadStep.{HeadStep}
 use Rattle.readers.specs.declared.entries.HeadStep.the-variants.{Entry as Head, Terminator as TerminatorHead, End as EndHead, Unreadable as NoHead}
 use Rattle.readers.specs.declared.entries.Step.{Step}
@@ -84,8 +82,8 @@ valuesAt e abbreviations specs unit at =
 
 -- ---- entries and terminators
 
-module _ (e : Encoding) (abbreviations : List ℕ) (look : ℕ → Found) where
-  unfoldable pub foundLayout : Found → Layout
+module _ (e : Encoding) (abbreviations : List ℕ) (look : ℕ → DeclarationFound) where
+  unfoldable pub foundLayout : DeclarationFound → Layout
   foundLayout Nothing = fail
   foundLayout (Found′ d) = specsLayout e (attributesFrom abbreviations (d .attributes .at))
 
@@ -93,7 +91,7 @@ module _ (e : Encoding) (abbreviations : List ℕ) (look : ℕ → Found) where
   unfoldable pub entryLayout : Layout
   entryLayout = field (number leb128) (λ code. pick (eqb code 0) done (foundLayout (look code)))
 
-  unfoldable pub entryFound : ℕ → ℕ → ℕ → Found → Step
+  unfoldable pub entryFound : ℕ → ℕ → ℕ → DeclarationFound → Step
   entryFound at values next Nothing = Unreadable
   entryFound at values next (Found′ d) =
       Entry′ (record { offset = record { 0 = at }; declaration = d; values = cursor values; next = cursor next })
@@ -117,8 +115,8 @@ module _ (e : Encoding) (abbreviations : List ℕ) (look : ℕ → Found) where
 
 -- ---- the head of an entry: its code and what that declares, the values of its attributes unread
 
-module _ (look : ℕ → Found) where
-  unfoldable pub headFound : ℕ → Cursor → Found → HeadStep
+module _ (look : ℕ → DeclarationFound) where
+  unfoldable pub headFound : ℕ → Cursor → DeclarationFound → HeadStep
   headFound at values Nothing = NoHead
   headFound at values (Found′ d) = Head (record { offset = record { 0 = at }; declaration = d; values = values })
 
@@ -129,22 +127,3 @@ module _ (look : ℕ → Found) where
   -- the head of the entry, or the terminator, at a place of the unit; its end ends the stream
   unfoldable pub entryHeadAt : List ℕ → ℕ → HeadStep
   entryHeadAt unit at = pick (ltb at (length unit)) (headOfCode at (lebAt uleb unit at)) EndHead
-
--- ---- an entry by its head
-
-abbrev pub entryOf : EntryHead → Cursor → Entry
-entryOf h next = record { offset = h .offset; declaration = h .declaration; values = h .values; next = next }
-
--- and where its values end
-unfoldable pub entryTo : EntryHead → Moved → Step
-entryTo h (To next) = Entry′ (entryOf h next)
-entryTo h Nowhere = Unreadable
-
-abbrev pub headEnd : Encoding → List ℕ → List ℕ → EntryHead → Moved
-headEnd e abbreviations unit h = valuesAt e abbreviations (h .declaration .attributes .at) unit (h .values .at)
-
-unfoldable pub headStep : Encoding → List ℕ → List ℕ → HeadStep → Step
-headStep e abbreviations unit (Head h) = entryTo h (headEnd e abbreviations unit h)
-headStep e abbreviations unit (TerminatorHead next) = Terminator next
-headStep e abbreviations unit EndHead = End
-headStep e abbreviations unit NoHead = Unreadable

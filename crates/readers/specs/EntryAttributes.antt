@@ -6,8 +6,6 @@ use Rattle.readers.specs.Cursors.{cursor}
 use Rattle.readers.specs.Abbreviations.{specAt}
 use Rattle.readers.specs.Entries.{attributeAt}
 use Rattle.readers.specs.declared.cursor.Encoding.{Encoding}
-use Rattle.readers.specs.declared.cursor.Moved.{Moved}
-use Rattle.readers.specs.declared.cursor.Moved.the-variants.{To as EndsAt, Unreadable as Nowhere}
 use Rattle.readers.specs.declared.abbreviations.AttributeSpec.{AttributeSpec}
 use Rattle.readers.specs.declared.abbreviations.SpecStep.{SpecStep}
 use Rattle.readers.specs.declared.abbreviations.SpecStep.the-variants.{Attribute as Spec, Last as LastSpec, Unreadable as NoSpec}
@@ -64,9 +62,3 @@ takenBy e unit at NoSpec = NoMore
 
 unfoldable pub nextAttribute : Encoding → List ℕ → ℕ → List ℕ → ℕ → NextAttribute
 nextAttribute e abbreviations specs unit at = takenBy e unit at (specAt abbreviations specs)
-
--- where the values end, by the place that no attribute was read at: there, where the specifications end too
-unfoldable pub endBy : ℕ → SpecStep → Moved
-endBy at (Spec a) = Nowhere
-endBy at (LastSpec c) = EndsAt (cursor at)
-endBy at NoSpec = Nowhere

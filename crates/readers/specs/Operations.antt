@@ -39,39 +39,39 @@ use Rattle.readers.specs.declared.cursor.Encoding.{Encoding}
 
 -- ---- rows: up to three tokens, by the numbers of Tokens.antt, and what the first two are used as
 
-pub record Row : Type 0 where
+pub record OperandRow : Type 0 where
   pub first : ℕ
   pub second : ℕ
   pub third : ℕ
   pub firstUse : Use
   pub secondUse : Use
 
-abbrev row3 : ℕ → ℕ → ℕ → Row
+abbrev row3 : ℕ → ℕ → ℕ → OperandRow
 row3 a b c = record { first = a; second = b; third = c; firstUse = plain; secondUse = plain }
 
-abbrev row2 : ℕ → ℕ → Row
+abbrev row2 : ℕ → ℕ → OperandRow
 row2 a b = row3 a b no-bytes
 
-abbrev row1 : ℕ → Row
+abbrev row1 : ℕ → OperandRow
 row1 a = row2 a no-bytes
 
-abbrev row0 : Row
+abbrev row0 : OperandRow
 row0 = row1 no-bytes
 
 -- the first, or the second, names something
-abbrev first-as : Role → Row → Row
+abbrev first-as : Role → OperandRow → OperandRow
 first-as role r =
     record { first = r .first; second = r .second; third = r .third; firstUse = as′ role; secondUse = r .secondUse }
 
-abbrev second-as : Role → Row → Row
+abbrev second-as : Role → OperandRow → OperandRow
 second-as role r =
     record { first = r .first; second = r .second; third = r .third; firstUse = r .firstUse; secondUse = as′ role }
 
-unfoldable pub unreadableRow : Row
+unfoldable pub unreadableRow : OperandRow
 unreadableRow = row1 unreadable
 
 -- The rows, each at its number.
-unfoldable pub rows : List Row
+unfoldable pub rows : List OperandRow
 rows =
     unreadableRow  -- row-unreadable
     ∷ row0  -- row-none
@@ -188,11 +188,11 @@ row-address-address-expression = suc row-uleb128-uleb128-expression
 abbrev pub row-address-uleb128-expression : ℕ
 row-address-uleb128-expression = suc row-address-address-expression
 
-unfoldable pub rowOf : ℕ → Row
+unfoldable pub rowOf : ℕ → OperandRow
 rowOf l = getD rows l unreadableRow
 
 -- A row of tokens; none of them steers the others.
-unfoldable pub rowLayout : Encoding → Row → Layout
+unfoldable pub rowLayout : Encoding → OperandRow → Layout
 rowLayout e r =
     field (tokenOf e (r .firstUse) (r .first)) (λ _.
     field (tokenOf e (r .secondUse) (r .second)) (λ _.

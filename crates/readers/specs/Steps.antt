@@ -12,8 +12,8 @@ use Rattle.readers.specs.Operations.{rowLayout, rowOf, operation, operat
 use Rattle.readers.specs.Cursors.{cursor}
 use Rattle.readers.specs.Fields.{size, rowOfReads}
 use Rattle.readers.specs.declared.cursor.Encoding.{Encoding}
-use Rattle.readers.specs.declared.fields.RowRead.{RowRead}
-use Rattle.readers.specs.declared.fields.RowRead.the-variants.{Read as Row′, Unreadable as NoRow}
+use Rattle.readers.specs.declared.fields.OperandsRead.{OperandsRead}
+use Rattle.readers.specs.declared.fields.OperandsRead.the-variants.{Read as Row′, Unreadable as NoRow}
 use Rattle.readers.specs.declared.operations.OperationRead.{OperationRead}
 use Rattle.readers.specs.declared.operations.OperationRead.the-variants.{Read as Operation′, Unreadable as NoOperation}
 use Rattle.readers.specs.declared.operations.ListStep.{ListStep}
@@ -21,7 +21,7 @@ use Rattle.readers.specs.declared.operations.ListStep.the-variants.{Entr
 
 -- ---- operations
 
-unfoldable pub rowOperation : ℕ → RowRead → OperationRead
+unfoldable pub rowOperation : ℕ → OperandsRead → OperationRead
 rowOperation row (Row′ r) =
     Operation′ (record { row = row; first = r .first; second = r .second; next = cursor (r .third .end) })
 rowOperation row NoRow = NoOperation
@@ -47,7 +47,7 @@ unfoldable pub listEntry : Encoding → Bool → Layout
 listEntry e location =
     field (number (fixed 1)) (λ k. pick (eqb k «DW_RLE_end_of_list») done (rowLayout e (rowOf (listRow location k))))
 
-unfoldable pub rowEntry : ℕ → RowRead → ListStep
+unfoldable pub rowEntry : ℕ → OperandsRead → ListStep
 rowEntry kind (Row′ r) =
     Entry (record { kind = kind; first = r .first; second = r .second; third = r .third; next = cursor (r .third .end) })
 rowEntry kind NoRow = NoEntry

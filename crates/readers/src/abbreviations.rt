@@ -4,7 +4,8 @@ ghost use Prim.Native.Nat.{_-_};
 ghost use lib.ListN.{length, getD};
 ghost use Rattle.readers.specs.Choice.{zeros};
 ghost use Rattle.readers.specs.Abbreviations.{specAt, implicitSpec, pastAttributes, headAt, declarationAt};
-ghost use Rattle.readers.specs.Abbreviations.{declarationsFrom, searchAt, checkedOf, accepted, countOf, Gathered};
+ghost use Rattle.readers.specs.Abbreviations.{declarationsFrom, searchAt, checkedOf};
+ghost use Rattle.readers.specs.inner.Abbreviations.{accepted, countOf, Gathered};
 ghost use Rattle.readers.specs.Abbreviations.{indexOf, holdsCode, headIn, findHead};
 ghost use Rattle.readers.specs.declared.abbreviations.Checked.the-variants.{Accepted};
 use crate::codes::DW_CHILDREN_yes;
@@ -60,7 +61,7 @@ enum Count {
     Unreadable,
 }
 
-pub enum Found {
+pub enum DeclarationFound {
     Declaration(Declaration),
     Nothing,
 }
@@ -184,7 +185,7 @@ impl Cursor {
     }
 
     // The first declaration with a code among those that start at this place and before `to`.
-    pub fn search(self, s: &[u8], to: usize, code: u64) -> Found
+    pub fn search(self, s: &[u8], to: usize, code: u64) -> DeclarationFound
         ensures { λ r. ⌜ r ≡ searchAt (now (s .entry)) to code (self .at) ⌝ }
     {
         let mut c = self;
@@ -192,19 +193,19 @@ impl Cursor {
             match c.declaration(s) {
                 DeclarationStep::Declaration(d, next) => {
                     if d.code == code {
-                        return Found::Declaration(d);
+                        return DeclarationFound::Declaration(d);
                     }
                     c = next;
                 }
                 DeclarationStep::Last(_) => {
-                    return Found::Nothing;
+                    return DeclarationFound::Nothing;
                 }
                 DeclarationStep::Unreadable => {
-                    return Found::Nothing;
+                    return DeclarationFound::Nothing;
                 }
             }
         }
-        Found::Nothing
+        DeclarationFound::Nothing
     }
 }
 
@@ -247,7 +248,11 @@ fn check_plain(s: &[u8], start: usize) -> Checked
     loop {
         match c.declaration(s) {
             DeclarationStep::Declaration(d, next) => {
-                if let Found::Declaration(_) = (Cursor { at: start }).search(s, c.at, d.code) {
+                if let DeclarationFound::Declaration(_) = (Cursor { at: start }).search(
+                    s,
+                    c.at,
+                    d.code,
+                ) {
                     return Checked::Refused;
                 }
                 c = next;
@@ -334,14 +339,14 @@ fn number_before(n: u64) -> usize
 }
 
 // The declaration whose place a slot holds, by its head.
-fn head_in(s: &[u8], slot: u64) -> Found
+fn head_in(s: &[u8], slot: u64) -> DeclarationFound
     ensures { λ r. ⌜ r ≡ headIn (now (s .entry)) slot ⌝ }
 {
     let at = number_before(slot);
     match (Cursor { at }).head(s) {
-        DeclarationStep::Declaration(d, _) => Found::Declaration(d),
-        DeclarationStep::Last(_) => Found::Nothing,
-        DeclarationStep::Unreadable => Found::Nothing,
+        DeclarationStep::Declaration(d, _) => DeclarationFound::Declaration(d),
+        DeclarationStep::Last(_) => DeclarationFound::Nothing,
+        DeclarationStep::Unreadable => DeclarationFound::Nothing,
     }
 }
 
@@ -349,7 +354,7 @@ fn head_in(s: &[u8], slot: u64) -> Found
 // that a search by halves ends at, else by the plain search, which is left for a code that is not declared and for an
 // index that is too short. Its head alone is read: whoever reads an entry's values reads the attribute
 // specifications, and finds out whether that is possible.
-pub fn find_declaration(s: &[u8], from: u64, index: &[u64], code: u64) -> Found
+pub fn find_declaration(s: &[u8], from: u64, index: &[u64], code: u64) -> DeclarationFound
     ensures { λ r. ⌜ r ≡ findHead (now (s .entry)) from (now (index .entry)) code ⌝ }
 {
     let guess = slot_at(index, number_before(code));

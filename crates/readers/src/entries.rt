@@ -5,7 +5,7 @@ ghost use Rattle.readers.specs.Entries.{valuesAt, stepAt, entryHeadAt};
 ghost use Rattle.readers.specs.Abbreviations.{findAt, findHead};
 ghost use Rattle.readers.specs.Nesting.{nestingOf, opened, closed};
 use crate::abbreviations::Declaration;
-use crate::abbreviations::Found;
+use crate::abbreviations::DeclarationFound;
 use crate::abbreviations::SpecStep;
 use crate::abbreviations::find_declaration;
 use crate::cursor::Cursor;
@@ -96,8 +96,12 @@ impl Cursor {
         if code == 0 {
             return HeadStep::Terminator(values);
         }
-        let Found::Declaration(declaration) = find_declaration(abbreviations, from, index, code)
-        else {
+        let DeclarationFound::Declaration(declaration) = find_declaration(
+            abbreviations,
+            from,
+            index,
+            code,
+        ) else {
             return HeadStep::Unreadable;
         };
         HeadStep::Entry(EntryHead {

@@ -5,8 +5,9 @@ ghost use Prim.Native.Nat.{_*_, _-_};
 ghost use lib.ListN.{length};
 ghost use Rattle.readers.specs.Choice.{_or_};
 ghost use Rattle.readers.specs.Choice.{zeros};
-ghost use Rattle.readers.specs.References.{walkOf, ownWalk, named, namedType, referenceOf, nextReference};
-ghost use Rattle.readers.specs.References.{flatFrom, referencesAnswer, referencesTable, numbersOf, Room};
+ghost use Rattle.readers.specs.References.{walkOf, named, namedType, referenceOf, nextReference};
+ghost use Rattle.readers.specs.inner.References.{ownWalk, Room};
+ghost use Rattle.readers.specs.References.{flatFrom, referencesAnswer, referencesTable, numbersOf};
 use crate::cursor::Cursor;
 use crate::cursor::Encoding;
 use crate::fields::Field;
@@ -187,7 +188,7 @@ impl Cursor {
     // The next reference of an expression, at or after a place. The walk goes on inside an entry value, so that it
     // passes each byte once. It must start at 0 of an expression that walk_expression walked to its end, and go on
     // from each reference's `next`: then it yields the expression's references, each once, in their order
-    // (`walked-yields` in proofs/Answers.antt). From any other place it yields what the bytes there say, read as
+    // (`walked-yields` in crates/laws). From any other place it yields what the bytes there say, read as
     // operations: it can't tell where a nested part ends.
     pub fn next_reference(self, s: &[u8], e: Encoding) -> Yield
         ensures { λ r. ⌜ r ≡ nextReference e (now (s .entry)) (self .at) ⌝ }

@@ -1,6 +1,7 @@
 // One token of a layout, read by its number, and rows of up to three of them.
 ghost use mathlib.Core.Path.{_≡_};
-ghost use Rattle.readers.specs.Fields.{numberField, blockField, boundedField, numberAt, fieldAt, rowAt, exprlocAt, partOf};
+ghost use Rattle.readers.specs.Fields.{blockField, fieldAt, rowAt, exprlocAt, partOf};
+ghost use Rattle.readers.specs.inner.Fields.{numberField, boundedField, numberAt};
 ghost use Rattle.readers.specs.Cursors.{cursor};
 use crate::cursor::Cursor;
 use crate::cursor::Encoding;
@@ -23,14 +24,14 @@ pub enum FieldRead {
 }
 
 // The three fields of a row.
-pub struct Row {
+pub struct Operands {
     pub first: Field,
     pub second: Field,
     pub third: Field,
 }
 
-pub enum RowRead {
-    Read(Row),
+pub enum OperandsRead {
+    Read(Operands),
     Unreadable,
 }
 
@@ -269,23 +270,23 @@ impl Cursor {
     }
 
     // A row of tokens by its number.
-    pub fn row(self, s: &[u8], layout: u8, e: Encoding) -> RowRead
+    pub fn row(self, s: &[u8], layout: u8, e: Encoding) -> OperandsRead
         ensures { λ r. ⌜ r ≡ rowAt e (now (s .entry)) (self .at) layout ⌝ }
     {
         let l = layout as usize;
         if l >= 28 {
-            return RowRead::Unreadable;
+            return OperandsRead::Unreadable;
         }
         let FieldRead::Read(first) = self.field(s, FIRST[l], e) else {
-            return RowRead::Unreadable;
+            return OperandsRead::Unreadable;
         };
         let FieldRead::Read(second) = first.next().field(s, SECOND[l], e) else {
-            return RowRead::Unreadable;
+            return OperandsRead::Unreadable;
         };
         let FieldRead::Read(third) = second.next().field(s, THIRD[l], e) else {
-            return RowRead::Unreadable;
+            return OperandsRead::Unreadable;
         };
-        RowRead::Read(Row {
+        OperandsRead::Read(Operands {
             first,
             second,
             third,

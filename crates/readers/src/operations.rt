@@ -6,7 +6,7 @@ use crate::codes::DW_RLE_end_of_list;
 use crate::cursor::Cursor;
 use crate::cursor::Encoding;
 use crate::fields::Field;
-use crate::fields::RowRead;
+use crate::fields::OperandsRead;
 use crate::layouts::*;
 
 // The row of operands of each operation, by its code (specs/Operations.antt).
@@ -358,7 +358,7 @@ impl Cursor {
             return OperationRead::Unreadable;
         }
         let row = operation_row(s[at]);
-        let RowRead::Read(r) = (Cursor { at: at + 1 }).row(s, row, e) else {
+        let OperandsRead::Read(r) = (Cursor { at: at + 1 }).row(s, row, e) else {
             return OperationRead::Unreadable;
         };
         let first = r.first;
@@ -385,7 +385,7 @@ impl Cursor {
             return ListStep::End;
         }
         let row = list_row(location, kind);
-        let RowRead::Read(r) = (Cursor { at: at + 1 }).row(s, row, e) else {
+        let OperandsRead::Read(r) = (Cursor { at: at + 1 }).row(s, row, e) else {
             return ListStep::Unreadable;
         };
         let first = r.first;

@@ -9,13 +9,13 @@ use lib.ListN.{length, getD, set, drop, drop-of-length-le, length-set, List·get
 use lib.Seq.{getD-set-same, getD-set-other}
 use lib.Dec.{ltb}
 use mir.Facts.{ltb-yes, ltb-no}
-use Rattle.readers.specs.Choice.{either}
+use Rattle.readers.proofs.Choice.{either}
 use Rattle.rewriting.specs.Ascending.{Ascending}
 use Rattle.rewriting.specs.Indices.{rankIn}
-use Rattle.rewriting.specs.Places.{Place, newOf, firstFrom, orElse, siblingOf}
-use Rattle.rewriting.specs.Maps.{oldOffsets}
-use Rattle.rewriting.specs.Written.{numberAt, MapHeld, asMapped}
-use Rattle.rewriting.specs.Bounds.{AsDeep, BoundsFrom, Bounds}
+use Rattle.rewriting.specs.Places.{Place, newOf, firstFrom, orElse, siblingOf, oldOffsets}
+use Rattle.rewriting.specs.Written.{numberAt}
+use Rattle.rewriting.specs.inner.Written.{MapHeld, asMapped}
+use Rattle.rewriting.specs.inner.Bounds.{AsDeep, BoundsFrom, Bounds}
 use Rattle.readers.specs.declared.offsets.UnitOffset.{UnitOffset}
 use Rattle.rewriting.specs.declared.map.Mapped.the-variants.{To, Nothing}
 use Rattle.rewriting.proofs.Ranks.{rank-above}

@@ -12,22 +12,22 @@ use Rattle.readers.specs.Stream.{Item, entry, terminator}
 use Rattle.readers.proofs.Streams.{step-look}
 use Rattle.readers.specs.declared.cursor.Encoding.{Encoding}
 use Rattle.readers.specs.declared.cursor.Cursor.{Cursor}
-use Rattle.readers.specs.declared.abbreviations.Found.{Found as Declared}
+use Rattle.readers.specs.declared.abbreviations.TablesFound.{TablesFound as Declared}
 use Rattle.readers.specs.declared.entries.Nesting.{Nesting}
 use Rattle.readers.specs.declared.entries.Step.{Step}
 use Rattle.readers.specs.declared.entries.Step.the-variants.{Entry as Entry′, Terminator}
 use Rattle.readers.specs.EntryAttributes.{entryValues}
 use Rattle.marking.specs.Analysis.{Sections}
-use Rattle.rewriting.specs.Places.{Standing, keptFrom, offsetOf}
+use Rattle.rewriting.specs.Places.{NestedItem, keptFrom, offsetOf}
 use Rattle.readers.proofs.Nesting.{Chain}
 use Rattle.rewriting.specs.Indices.{readIndices}
 use Rattle.rewriting.specs.Rewriting.{Unit as Unit′, readsOr, readsAt, indicesFrom}
-use Rattle.rewriting.specs.NextKept.{openKept, itemsBy, ShowsItem, Forward, Stood, keptAt, NextItem, Next, Answers}
-use Rattle.rewriting.specs.Gathering.{Gathers}
-use Rattle.rewriting.specs.IndexLists.{valueIndices, ReadAs, Found, ReadDeep, AllRead, Passable, Puts}
+use Rattle.rewriting.specs.inner.NextKept.{openKept, itemsBy, ShowsItem, Forward, Stood, keptAt, NextItem, Next, Answers}
+use Rattle.rewriting.specs.inner.Gathering.{Gathers}
+use Rattle.rewriting.specs.inner.IndexLists.{valueIndices, ReadAs, TablesFound, ReadDeep, AllRead, PassInput, Puts}
 use Rattle.rewriting.specs.declared.kept.Reading.{Reading}
-use Rattle.rewriting.specs.declared.kept.Stand.{Stand}
-use Rattle.rewriting.specs.declared.kept.Kept.{Kept}
+use Rattle.rewriting.specs.declared.kept.PassPosition.{PassPosition}
+use Rattle.rewriting.specs.declared.kept.KeptItem.{KeptItem}
 use Rattle.rewriting.specs.declared.kept.KeptStep.{KeptStep}
 use Rattle.rewriting.specs.declared.kept.KeptStep.the-variants.{Item as Item′, End}
 use Rattle.rewriting.proofs.ItemsStand.{Every, Stands, kept-stand}
@@ -45,7 +45,7 @@ module _ (r : Reading) (s table unit : List ℕ) (k : ℕ) where
   ItemIndices (entry y) is = is ≡ valueIndices k (entryValues (r .encoding) s (y .declaration .attributes .at) unit (y .values .at))
   ItemIndices (terminator a b) is = is ≡ []
 
-  module _ (x : Sections) (u : Unit′) (w : ReadAs x u r s unit) (f : Found u r s table) (small : k < 3) where
+  module _ (x : Sections) (u : Unit′) (w : ReadAs x u r s unit) (f : TablesFound u r s table) (small : k < 3) where
     same-step : (at : ℕ) → stepAt (u .header .encoding) (x .abbreviations) (declaredIn (u .declared)) (u .bytes) at ≡ stepAt (r .encoding) s look unit at
     same-step at =
         ap (λ (e : Encoding). stepAt e (x .abbreviations) (declaredIn (u .declared)) (u .bytes) at) (w .encoding-is)
@@ -79,14 +79,14 @@ module _ (r : Reading) (s table unit : List ℕ) (k : ℕ) where
         ap (readIndices k) (reads-are a d) ∙ g
 
   -- as the code is shown it
-  shown-entry : (y : Kept) (i : Item) (is : List ℕ) → ShowsItem y i → y .«is_entry» ≡ true → ItemIndices i is
+  shown-entry : (y : KeptItem) (i : Item) (is : List ℕ) → ShowsItem y i → y .«is_entry» ≡ true → ItemIndices i is
       → is ≡ valueIndices k (entryValues (r .encoding) s (y .specs .at) unit (y .values .at))
   unfolding ShowsItem ItemIndices
   shown-entry y (entry z) is h t g =
       g ∙ ap₂ (λ (a b : Cursor). valueIndices k (entryValues (r .encoding) s (a .at) unit (b .at))) (sym (h .3)) (sym (h .4))
   shown-entry y (terminator a b) is h t g = let z : true ≡ false = sym t ∙ h .0 in let n : _≡_ {A = ℕ} 0 1 = cc in absurd (omega arith)
 
-  shown-terminator : (y : Kept) (i : Item) (is : List ℕ) → ShowsItem y i → y .«is_entry» ≡ false → ItemIndices i is → is ≡ []
+  shown-terminator : (y : KeptItem) (i : Item) (is : List ℕ) → ShowsItem y i → y .«is_entry» ≡ false → ItemIndices i is → is ≡ []
   unfolding ShowsItem ItemIndices
   shown-terminator y (entry z) is h t g = let z : false ≡ true = sym t ∙ h .0 in let n : _≡_ {A = ℕ} 0 1 = cc in absurd (omega arith)
   shown-terminator y (terminator a b) is h t g = g
@@ -97,19 +97,19 @@ module _ (r : Reading) (s table unit : List ℕ) (k : ℕ) where
     abbrev items : ℕ → List Item
     items at = itemsBy r s table unit at
 
-    abbrev all-kept : List Standing
+    abbrev all-kept : List NestedItem
     all-kept = keptFrom marks 0 [] (items first)
 
     -- a pass that puts the indices of what it has met into a list
-    pub record Passing (x : Sections) (u : Unit′) (list₀ : List ℕ) (t : Stand) (list : List ℕ) (n : ℕ) : Type 0 where
+    pub record Passing (x : Sections) (u : Unit′) (list₀ : List ℕ) (t : PassPosition) (list : List ℕ) (n : ℕ) : Type 0 where
       pub stack : List ℕ
       pub stood : Stood items parents ends t stack
       pub deep : AllRead x u (keptAt items parents ends marks t stack)
       pub onward : Onward (indicesFrom x u k all-kept) 0 list₀ (indicesFrom x u k (keptAt items parents ends marks t stack)) n list
 
-    abbrev pub Collecting : List ℕ → Stand → List ℕ → ℕ → Type 0
+    abbrev pub Collecting : List ℕ → PassPosition → List ℕ → ℕ → Type 0
     Collecting list₀ t list n =
-        (length list ≡ length list₀) × ((x : Sections) (u : Unit′) → Passable x u r s table unit parents ends marks first → k < 3 → Passing x u list₀ t list n)
+        (length list ≡ length list₀) × ((x : Sections) (u : Unit′) → PassInput x u r s table unit parents ends marks first → k < 3 → Passing x u list₀ t list n)
 
     pub collecting-start : (list₀ : List ℕ) (n : Nesting) → n ≡ nestingOf [] → Collecting list₀ (record { at = record { at = first }; count = record { 0 = 0 }; nesting = n }) list₀ 0
     unfolding openKept Chain
@@ -123,8 +123,8 @@ module _ (r : Reading) (s table unit : List ℕ) (k : ℕ) where
       },
     )
 
-    module _ (t : Stand) (o : KeptStep) (a : Answers items parents ends marks unit t o) where
-      pub collect-less : (y : Kept) → o ≡ Item′ y → length unit - y .next .at .at < length unit - t .at .at
+    module _ (t : PassPosition) (o : KeptStep) (a : Answers items parents ends marks unit t o) where
+      pub collect-less : (y : KeptItem) → o ≡ Item′ y → length unit - y .next .at .at < length unit - t .at .at
       unfolding Forward
       collect-less y q =
           let i : Forward unit (t .at .at) (Item′ y) = subst (Forward unit (t .at .at)) q (a .forward) in
@@ -138,8 +138,8 @@ module _ (r : Reading) (s table unit : List ℕ) (k : ℕ) where
             let e : keptAt items parents ends marks t (v .stack) ≡ [] = subst (Next items parents ends marks t (v .stack)) q (a .next (v .stack) (p .small) (v .stood)) in
             onward-end _ _ _ _ _ _ (v .onward) (ap (indicesFrom x u k) e) [] (gathered-none list₀ h)
 
-        module _ (y : Kept) (q : o ≡ Item′ y) where
-          module _ (x : Sections) (u : Unit′) (p : Passable x u r s table unit parents ends marks first) (l : k < 3) where
+        module _ (y : KeptItem) (q : o ≡ Item′ y) where
+          module _ (x : Sections) (u : Unit′) (p : PassInput x u r s table unit parents ends marks first) (l : k < 3) where
             abbrev now : Passing x u list₀ t list n
             now = g .1 x u p l
 
@@ -157,8 +157,8 @@ module _ (r : Reading) (s table unit : List ℕ) (k : ℕ) where
             stands-here : Stands (r .encoding) s look unit (next-item .standing .item)
             unfolding Every
             stands-here =
-                let h : Every (λ (z : Standing). Stands (r .encoding) s look unit (z .item)) (next-item .standing ∷ keptAt items parents ends marks (y .next) (next-item .after)) =
-                subst (Every (λ (z : Standing). Stands (r .encoding) s look unit (z .item))) (next-item .whole)
+                let h : Every (λ (z : NestedItem). Stands (r .encoding) s look unit (z .item)) (next-item .standing ∷ keptAt items parents ends marks (y .next) (next-item .after)) =
+                subst (Every (λ (z : NestedItem). Stands (r .encoding) s look unit (z .item))) (next-item .whole)
                 (kept-stand (r .encoding) s look unit marks (t .count .0) (openKept marks (now .stack)) (t .at .at)) in
                 h .0
 

@@ -17,8 +17,8 @@ use Rattle.readers.specs.declared.entries.Entry.{Entry}
 use Rattle.readers.specs.declared.entries.Step.{Step}
 use Rattle.readers.specs.declared.entries.Step.the-variants.{Entry as Entry′, Terminator, End, Unreadable}
 use Rattle.marking.specs.TableRoom.{entryCount}
-use Rattle.rewriting.specs.Ends.{endNumber, EndsHeld}
-use Rattle.rewriting.specs.NextKept.{itemsBy}
+use Rattle.rewriting.specs.inner.Ends.{endNumber, EndsHeld}
+use Rattle.rewriting.specs.inner.NextKept.{itemsBy}
 use Rattle.rewriting.specs.declared.kept.Reading.{Reading}
 use Rattle.rewriting.proofs.KeptSteps.{items-entry, items-terminator, items-end, items-bad}
 

@@ -10,11 +10,14 @@ use lib.ListN.{length, getD, take, drop}
 use lib.Seq.{drop-drop}
 use lib.Dec.{T, eqb, leb}
 use mir.Facts.{leb-yes, leb-no, eqb-yes, eqb-no, no-eqb}
-use Rattle.readers.specs.Choice.{pick, pick-yes, pick-no, pick-either, either, _and_, _or_, bind, bind-at, bind-bind, check-yes, All, all-some, all-none, all-of, all-bind, all-check, all-triv}
+use Rattle.readers.specs.Choice.{pick, _and_, _or_, bind}
+use Rattle.readers.proofs.Choice.{pick-yes, pick-no, pick-either, either, bind-at, bind-bind, check-yes, All, all-some, all-none, all-of, all-bind, all-check, all-triv}
 use Rattle.readers.specs.Numbers.{uleb, sleb}
-use Rattle.readers.specs.Layout.{Kind, leb128, Role, reference, typeReference, sibling, index, absolute, Token, nothing, number, bounded, forms, signed, link, string, run, block, expression, unknown, Layout, done, fail, field, Piece, copied, linked, Read, ReadOf, RunOf, ExpressionReader, asBytes, copy, asNumber, asBounded, asForms, asSigned, asLink, asString, asBlock, asExpression, numberIn, formsIn, stringIn, tokenIn, readIn, before, TokenLaw, token-law, as-bytes-law}
-use Rattle.readers.specs.Expression.{allPieces, andRest, expressionWithin, expressionIn, expression-law}
-use Rattle.readers.specs.Operations.{Row, unreadableRow, rows, rowOf, rowLayout, operationRow, operation}
+use Rattle.readers.specs.Layout.{Kind, leb128, Role, reference, typeReference, sibling, index, absolute, Token, nothing, number, bounded, forms, signed, link, string, run, block, expression, unknown, Layout, done, fail, field, Piece, verbatim, patchable, Read, ReadOf, RunOf, ExpressionReader, asBytes, copy, asNumber, asBounded, asForms, asSigned, asLink, asString, asBlock, asExpression, numberIn, formsIn, stringIn, tokenIn, readIn, before}
+use Rattle.readers.proofs.Layouts.{TokenLaw, token-law, as-bytes-law}
+use Rattle.readers.specs.Expression.{allPieces, andRest, expressionWithin, expressionIn}
+use Rattle.readers.proofs.Expression.{expression-law}
+use Rattle.readers.specs.Operations.{OperandRow, unreadableRow, rows, rowOf, rowLayout, operationRow, operation}
 use Rattle.readers.specs.Tokens.{Use, plain, as′, numberAs, tokenOf}
 use Rattle.readers.specs.Forms.{formTokens, tokenAmong, formToken, useOf, valueToken, attributeLayout, listForm}
 use Rattle.readers.specs.Fields.{size, linkedValue, fieldOf, asField, tokenAt}
@@ -25,8 +28,8 @@ use Rattle.readers.specs.Entries.{attributeAt, attributesLayout, specsLayout, f
 use Rattle.readers.proofs.Values.{valued, behindForms, attribute-direct, attribute-indirect, joined, read-then}
 use Rattle.readers.specs.declared.cursor.Encoding.{Encoding}
 use Rattle.readers.specs.declared.abbreviations.AttributeSpec.{AttributeSpec}
-use Rattle.readers.specs.declared.abbreviations.Found.{Found}
-use Rattle.readers.specs.declared.abbreviations.Found.the-variants.{Declaration as Found′, Nothing}
+use Rattle.readers.specs.declared.abbreviations.DeclarationFound.{DeclarationFound}
+use Rattle.readers.specs.declared.abbreviations.DeclarationFound.the-variants.{Declaration as Found′, Nothing}
 use Rattle.readers.specs.declared.attributes.Attribute.{Attribute}
 use Rattle.readers.specs.declared.attributes.AttributeRead.{AttributeRead}
 use Rattle.readers.specs.declared.attributes.AttributeRead.the-variants.{Read as Attribute′}
@@ -35,7 +38,7 @@ use Rattle.readers.specs.declared.entries.Step.the-variants.{Entry as Entry′,
 use Rattle.readers.specs.EntryAttributes.{onAttribute, valuesOf, entryValues}
 use Rattle.readers.proofs.EntryAttributes.{specs-all}
 use Rattle.rewriting.specs.Indices.{indexIn, indicesIn, readIndices}
-use Rattle.rewriting.specs.IndexLists.{formList, valueIndex, valueIndices}
+use Rattle.rewriting.specs.inner.IndexLists.{formList, valueIndex, valueIndices}
 use Rattle.readers.proofs.FormKinds.{roleList, useList}
 use Rattle.rewriting.proofs.DeepReads.{deep-step}
 
@@ -91,7 +94,7 @@ module _ (k : ℕ) where
       pub alike : r .0 .seen ≡ it .seen
       pub indices : indicesIn k (r .0 .pieces) ≡ tokenIndex t (linkedValue (it .pieces) (it .seen))
 
-    link-index : (e : _) (r : Role) (v : ℕ) → indicesIn k (linked e r v ∷ []) ≡ roleIndex r v
+    link-index : (e : _) (r : Role) (v : ℕ) → indicesIn k (patchable e r v ∷ []) ≡ roleIndex r v
     unfolding indicesIn indexIn roleIndex
     link-index e reference v = refl
     link-index e typeReference v = refl
@@ -130,7 +133,7 @@ module _ (k : ℕ) where
           (λ t q _. all-check _ _ _ (λ u.
           all-bind (λ (ps : List Piece). indicesIn k ps ≡ []) _ (ex (take (t .1) (t .2))) _ (no-indices (take (t .1) (t .2)))
           (λ ps q′ n. all-some (Indexed expression s) (record {
-            it = record { seen = 0; start = suc (t .0); pieces = copied (take (suc (t .0)) s) ∷ copied (take (t .1) (t .2)) ∷ [] };
+            it = record { seen = 0; start = suc (t .0); pieces = verbatim (take (suc (t .0)) s) ∷ verbatim (take (t .1) (t .2)) ∷ [] };
             is = bind-at _ q ∙ check-yes _ _ u;
             alike = refl;
             indices = n;
@@ -197,10 +200,10 @@ module _ (k : ℕ) where
 
     -- ---- operations have none
 
-    abbrev PlainRow : Row → Type 0
+    abbrev PlainRow : OperandRow → Type 0
     PlainRow r = (useList (r .firstUse) ≡ 3) × (useList (r .secondUse) ≡ 3)
 
-    unfoldable plainRows : List Row → Bool
+    unfoldable plainRows : List OperandRow → Bool
     plainRows [] = true
     plainRows (r ∷ rs) = eqb (useList (r .firstUse)) 3 and (eqb (useList (r .secondUse)) 3 and plainRows rs)
 
@@ -209,7 +212,7 @@ module _ (k : ℕ) where
     both true b t = (tt, t)
     both false b t = absurd t
 
-    plain-row : (rs : List Row) → T (plainRows rs) → (l : ℕ) → PlainRow (getD rs l unreadableRow)
+    plain-row : (rs : List OperandRow) → T (plainRows rs) → (l : ℕ) → PlainRow (getD rs l unreadableRow)
     unfolding plainRows unreadableRow useList
     plain-row [] h l = (refl, refl)
     plain-row (r ∷ rs) h zero =
@@ -454,7 +457,7 @@ module _ (k : ℕ) where
 
         -- ---- an entry or a terminator
 
-        module _ (abbreviations : List ℕ) (look : ℕ → Found) where
+        module _ (abbreviations : List ℕ) (look : ℕ → DeclarationFound) where
           -- the indices at a step: those of an entry's values
           unfoldable pub StepIndices : Step → List ℕ → Type 0
           StepIndices (Entry′ y) is = is ≡ valueIndices k (entryValues e abbreviations (y .declaration .attributes .at) unit (y .values .at))
@@ -474,7 +477,7 @@ module _ (k : ℕ) where
               (sym (specs-all abbreviations p o q)) (values-read (o .0) at)
 
           module _ (at : ℕ) (c : Read) (none-in : indicesIn k (c .pieces) ≡ []) where
-            found-at : T (not (eqb (c .seen) 0)) → (f : Found) → look (c .seen) ≡ f
+            found-at : T (not (eqb (c .seen) 0)) → (f : DeclarationFound) → look (c .seen) ≡ f
                 → All (At at) (bind (readIn big deep (foundLayout e abbreviations look f) (drop (at + size big c) unit)) (before c))
             unfolding foundLayout readIn before bind readIndices stepOfReads entryFound StepIndices
             found-at t Nothing h = all-none _

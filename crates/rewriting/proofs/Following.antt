@@ -5,7 +5,7 @@ use mathlib.Core.List.{List, []}
 use lib.ListN.{take}
 use Rattle.readers.specs.Abbreviations.{Placed, abbreviationsOf}
 use Rattle.readers.specs.declared.header.UnitHeader.{UnitHeader}
-use Rattle.marking.specs.Analysis.{Sections, Row, analysed, analysisOf}
+use Rattle.marking.specs.Analysis.{Sections, EntryRow, analysed, analysisOf}
 use Rattle.marking.specs.EntryRows.{RowsOf}
 use Rattle.marking.proofs.EachRow.{items-rows}
 use Rattle.rewriting.specs.Rewriting.{Room, itemsIn, unitOf}
@@ -13,12 +13,12 @@ use mathlib.Core.Option.{some}
 use Rattle.readers.specs.Header.{headerOf}
 use Rattle.readers.specs.declared.header.HeaderRead.the-variants.{Unit as Header′}
 
-pub record Accepted (x : Sections) (room : Room) (section : List ℕ) (h : UnitHeader) (ds : List Placed) (rows : List Row) : Type 0 where
+pub record Accepted (x : Sections) (room : Room) (section : List ℕ) (h : UnitHeader) (ds : List Placed) (rows : List EntryRow) : Type 0 where
   pub header : headerOf section ≡ Header′ h
   pub declared : abbreviationsOf (x .abbreviations) (h .abbreviations) ≡ some ds
   pub analysis : analysisOf x section (room .tables) ≡ analysed rows
 
-module _ (x : Sections) (room : Room) (section : List ℕ) (h : UnitHeader) (ds : List Placed) (rows : List Row) (a : Accepted x room section h ds rows) where
+module _ (x : Sections) (room : Room) (section : List ℕ) (h : UnitHeader) (ds : List Placed) (rows : List EntryRow) (a : Accepted x room section h ds rows) where
   -- each row is that of its entry
   pub accepted-follow : RowsOf (h .encoding) x (take (h .end) section) 0 [] 12 12 (itemsIn x (unitOf h section ds)) rows
   unfolding itemsIn

@@ -6,7 +6,7 @@ use mathlib.Core.Bool.{true}
 use lib.Dec.{eqb}
 use borrow.Author.Tests.{ne-eqb, le-leb, lt-leb}
 use Rattle.readers.specs.Choice.{pick, _and_, _or_}
-use Rattle.rewriting.specs.Emission.{lebForm}
+use Rattle.rewriting.specs.inner.Emission.{lebForm}
 use Rattle.readers.specs.Forms.{listForm}
 
 module _ (f : ℕ) where

@@ -13,13 +13,13 @@ use Rattle.readers.specs.Layout.{infixed, inleb}
 use Rattle.readers.specs.References.{encodedBy}
 use Rattle.rewriting.specs.Ascending.{Ascending}
 use Rattle.marking.specs.Resolution.{Ascending as From}
-use Rattle.rewriting.specs.Places.{Place}
-use Rattle.rewriting.specs.Maps.{oldOffsets}
+use Rattle.rewriting.specs.Places.{Place, oldOffsets}
 use Rattle.rewriting.specs.Rewriting.{Lists, fits}
-use Rattle.rewriting.specs.Written.{groupsFit, bytesFit, numberFits, runBytes, Held, ListHeld, columns, MapHeld}
+use Rattle.rewriting.specs.Written.{groupsFit, runBytes, columns}
+use Rattle.rewriting.specs.inner.Written.{bytesFit, numberFits, NumbersHeld, ListHeld, MapHeld}
 use Rattle.marking.proofs.Members.{nothing-in}
 
-held-none : (width n : ℕ) → Held width [] (zeros n)
+held-none : (width n : ℕ) → NumbersHeld width [] (zeros n)
 unfolding runBytes
 held-none width n =
     let l : length (zeros n) ≡ n = length-replicate n 0 in
@@ -30,7 +30,7 @@ pub list-none : (n : ℕ) → ListHeld [] (zeros n)
 unfolding From
 list-none n = record { held = held-none 8 n; ascending = tt }
 
-pub map-held : (ps : List Place) (bytes : List ℕ) → Held 4 (columns ps) bytes → Ascending (oldOffsets ps) → MapHeld ps bytes
+pub map-held : (ps : List Place) (bytes : List ℕ) → NumbersHeld 4 (columns ps) bytes → Ascending (oldOffsets ps) → MapHeld ps bytes
 map-held ps bytes h f = record { held = h; ascending = f }
 
 -- a number is written exactly where the part has room for it and nothing is refused

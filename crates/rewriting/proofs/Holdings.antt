@@ -7,8 +7,8 @@ use mathlib.Core.List.{List, [], _∷_, _++_, append-assoc, append-nil}
 use lib.ListN.{length}
 use borrow.Author.Tests.{eq-eqb, ne-eqb}
 use Rattle.readers.specs.Choice.{pick}
-use Rattle.rewriting.specs.Gathering.{Gathered, Gathers, Filled}
-use Rattle.rewriting.specs.IndexLists.{kindIndex}
+use Rattle.rewriting.specs.inner.Gathering.{Gathered, Gathers, Filled}
+use Rattle.rewriting.specs.inner.IndexLists.{kindIndex}
 
 -- by another list of its length
 pub filled-along : (ys list list₀ : List ℕ) (n : ℕ) (after : List ℕ) → Filled ys list n after → length list ≡ length list₀ → Filled ys list₀ n after

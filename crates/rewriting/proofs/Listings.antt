@@ -13,14 +13,15 @@ use Rattle.readers.specs.Stream.{Item}
 use Rattle.marking.specs.Analysis.{Sections}
 use Rattle.marking.specs.Columns.{padTo}
 use Rattle.rewriting.specs.Places.{keptFrom}
-use Rattle.rewriting.specs.Indices.{countOf}
+use Rattle.rewriting.specs.Indices.{countOf, isShort}
 use Rattle.rewriting.specs.Rewriting.{Unit as Unit′, Lists, itemsIn, listOf, listsOf}
-use Rattle.rewriting.specs.NextKept.{itemsBy}
-use Rattle.rewriting.specs.Written.{runBytes, ListHeld}
-use Rattle.rewriting.specs.IndexLists.{Passable, Listing, isAbsent, ListAnswer, Settles, isShort}
-use Rattle.rewriting.specs.Emission.{Lent}
+use Rattle.rewriting.specs.inner.NextKept.{itemsBy}
+use Rattle.rewriting.specs.Written.{runBytes}
+use Rattle.rewriting.specs.inner.Written.{ListHeld}
+use Rattle.rewriting.specs.inner.IndexLists.{PassInput, Listing, isAbsent, ListAnswer, Settles}
+use Rattle.rewriting.specs.inner.Emission.{Lent}
 use Rattle.rewriting.specs.Outputs.{listCount, listOr, rangesIn, locationsIn, stringsIn}
-use Rattle.rewriting.specs.Leaving.{haveRoom, ListsAnswer}
+use Rattle.rewriting.specs.inner.Leaving.{haveRoom, ListsAnswer}
 use Rattle.rewriting.specs.declared.kept.Reading.{Reading}
 use Rattle.rewriting.specs.declared.lists.ListCount.{ListCount}
 use Rattle.rewriting.specs.declared.lists.ListCount.the-variants.{Absent}
@@ -85,12 +86,12 @@ module _ (t : Bool) (r : Reading) (s table unit parents ends marks : List ℕ) (
   abbrev items : List Item
   items = itemsBy r s table unit first
 
-  pub items-here : (x : Sections) (u : Unit′) → Passable x u r s table unit parents ends marks first → first ≡ u .header .first .0 → items ≡ itemsIn x u
+  pub items-here : (x : Sections) (u : Unit′) → PassInput x u r s table unit parents ends marks first → first ≡ u .header .first .0 → items ≡ itemsIn x u
   items-here x u p f = ap (λ (n : ℕ). itemsBy r s table unit n) f ∙ items-are x u r s table unit (p .read) (p .found)
 
   -- what is known of one
   abbrev Answered : (Lists → Option (List ℕ)) → List ℕ → ListCount → List ℕ → Type 0
-  Answered field list c after = (x : Sections) (u : Unit′) → Passable x u r s table unit parents ends marks first → first ≡ u .header .first .0
+  Answered field list c after = (x : Sections) (u : Unit′) → PassInput x u r s table unit parents ends marks first → first ≡ u .header .first .0
       → list ≡ zeros (length list) → ListAnswer (field (listsOf x u t (keptFrom marks 0 [] (itemsIn x u)))) list c after
 
   -- it is absent with type units
@@ -111,7 +112,7 @@ module _ (t : Bool) (r : Reading) (s table unit parents ends marks : List ℕ) (
   -- it was gathered and settled
   module _ (h : t ≡ false) (list : List ℕ) (n : ℕ) (mid : List ℕ) (l : length mid ≡ length list) (c : ListCount) (after : List ℕ) where
     settled : (k name : ℕ) → Listing k r s table unit parents ends marks first list n mid → Settles r s table unit first name n mid c after
-        → (x : Sections) (u : Unit′) → Passable x u r s table unit parents ends marks first → first ≡ u .header .first .0 → list ≡ zeros (length list)
+        → (x : Sections) (u : Unit′) → PassInput x u r s table unit parents ends marks first → first ≡ u .header .first .0 → list ≡ zeros (length list)
         → ListAnswer (listOf x u (isAbsent x u name (itemsIn x u)) k (keptFrom marks 0 [] (itemsIn x u))) list c after
     unfolding listOf
     settled k name g s x u p f z =
@@ -128,7 +129,7 @@ module _ (t : Bool) (r : Reading) (s table unit parents ends marks : List ℕ) (
     settled-strings g s x u p f z = subst (λ (o : Option (List ℕ)). ListAnswer o list c after) (strings-are x u t _ h) (settled 2 0 g s x u p f z)
 
   abbrev Wanted : List ℕ → List ℕ → List ℕ → Listed → List ℕ → List ℕ → List ℕ → Type 0
-  Wanted ranges locations strings c ranges′ locations′ strings′ = (x : Sections) (u : Unit′) → Passable x u r s table unit parents ends marks first → first ≡ u .header .first .0
+  Wanted ranges locations strings c ranges′ locations′ strings′ = (x : Sections) (u : Unit′) → PassInput x u r s table unit parents ends marks first → first ≡ u .header .first .0
       → ranges ≡ zeros (length ranges) → locations ≡ zeros (length locations) → strings ≡ zeros (length strings)
       → ListsAnswer (listsOf x u t (keptFrom marks 0 [] (itemsIn x u))) (length ranges) (length locations) (length strings) c ranges′ locations′ strings′
 

@@ -7,7 +7,8 @@ use native.Mathlib.Omega.{arith}
 use lib.ListN.{length, getD}
 use lib.Dec.{ltb}
 use mir.Facts.{ltb-yes, ltb-no, yes-ltb, no-ltb}
-use Rattle.readers.specs.Choice.{pick, pick-either, pick-yes, pick-no, either}
+use Rattle.readers.specs.Choice.{pick}
+use Rattle.readers.proofs.Choice.{pick-either, pick-yes, pick-no, either}
 use Rattle.marking.specs.Resolution.{Ascending as From}
 use Rattle.rewriting.specs.Ascending.{Ascending}
 use Rattle.rewriting.specs.Indices.{rankIn}

@@ -7,7 +7,8 @@ use native.Mathlib.Omega.{arith}
 use lib.ListN.{length}
 use lib.Dec.{ltb, eqb}
 use mir.Facts.{ltb-yes, ltb-no, eqb-yes, eqb-no}
-use Rattle.readers.specs.Choice.{pick, pick-either}
+use Rattle.readers.specs.Choice.{pick}
+use Rattle.readers.proofs.Choice.{pick-either}
 use Rattle.marking.specs.Resolution.{Ascending as From}
 use Rattle.marking.specs.Members.{Member, here, there}
 use Rattle.marking.proofs.Members.{nothing-in, in-cases}

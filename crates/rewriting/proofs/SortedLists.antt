@@ -3,8 +3,8 @@ use mathlib.Core.Path.{_≡_}
 use Prim.Native.Nat.{ℕ}
 use lib.ListN.{length}
 use mathlib.Core.List.{List}
-use Rattle.rewriting.specs.Gathering.{Finishes}
-use Rattle.rewriting.specs.IndexLists.{Puts, Listing}
+use Rattle.rewriting.specs.inner.Gathering.{Finishes}
+use Rattle.rewriting.specs.inner.IndexLists.{Puts, Listing}
 use Rattle.rewriting.specs.declared.kept.Reading.{Reading}
 use Rattle.rewriting.proofs.Holdings.{filled-along}
 

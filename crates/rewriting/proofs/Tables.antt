@@ -10,10 +10,13 @@ use native.Mathlib.Omega.{arith}
 use lib.ListN.{length, getD, take, drop, length-append, length-drop, length-replicate, take-append-drop}
 use lib.Seq.{take-at, drop-at, drop-append-add, length-take-le}
 use mir.Facts.{yes-ltb, no-ltb}
-use Rattle.readers.specs.Choice.{pick-yes, pick-no, zeros}
-use Rattle.readers.specs.Numbers.{fixedBytes, fixedValue, length-fixed, fixed-value}
+use Rattle.readers.specs.Choice.{zeros}
+use Rattle.readers.proofs.Choice.{pick-yes, pick-no}
+use Rattle.readers.specs.Numbers.{fixedBytes, fixedValue}
+use Rattle.readers.proofs.Numbers.{length-fixed, fixed-value}
 use Rattle.marking.specs.Members.{Member, here, there}
-use Rattle.rewriting.specs.Written.{put, numberAt, inRoom, runBytes, Held, oldAt}
+use Rattle.rewriting.specs.Written.{put, numberAt, inRoom, runBytes, oldAt}
+use Rattle.rewriting.specs.inner.Written.{NumbersHeld}
 use Rattle.marking.proofs.Members.{nothing-in}
 use Rattle.rewriting.proofs.Putting.{drop-zeros}
 use Rattle.rewriting.proofs.IndexMembers.{in-either}
@@ -102,7 +105,7 @@ module _ (w : ℕ) where
       ∙ ap (λ l. runBytes w xs ++ (l ++ drop w rest)) (append-nil (fixedBytes true w v)))
 
   -- a number that a table holds
-  pub held-at : (xs bytes : List ℕ) (i : ℕ) → Held w xs bytes → i < length xs → numberAt w bytes (w * i) ≡ getD xs i 0
+  pub held-at : (xs bytes : List ℕ) (i : ℕ) → NumbersHeld w xs bytes → i < length xs → numberAt w bytes (w * i) ≡ getD xs i 0
   held-at xs bytes i h l =
       ap (λ s. numberAt w s (w * i)) (h .are) ∙ run-at xs (zeros (length bytes - w * length xs)) i (h .small) l
 
@@ -121,8 +124,8 @@ small-one n x h v (here e) = rw e h
 small-one n x h v (there m) = absurd (nothing-in v m)
 
 -- one number more in a table that has room for it
-pub held-more : (w : ℕ) (xs bytes : List ℕ) (v : ℕ) → Held w xs bytes → w * length xs + w ≤ length bytes → v < 256 ^ w
-    → Held w (xs ++ (v ∷ [])) (put bytes (w * length xs) (fixedBytes true w v))
+pub held-more : (w : ℕ) (xs bytes : List ℕ) (v : ℕ) → NumbersHeld w xs bytes → w * length xs + w ≤ length bytes → v < 256 ^ w
+    → NumbersHeld w (xs ++ (v ∷ [])) (put bytes (w * length xs) (fixedBytes true w v))
 held-more w xs bytes v h r s =
     let m : ℕ = length bytes - w * length xs in
     let after : List ℕ = put bytes (w * length xs) (fixedBytes true w v) in

@@ -11,17 +11,18 @@ ghost use Rattle.readers.specs.Expression.{expressionIn};
 ghost use Rattle.readers.specs.Forms.{attributeLayout, listForm};
 ghost use Rattle.readers.specs.Entries.{attributeAt, entryLayout, stepAt};
 ghost use Rattle.readers.specs.References.{encodedBy};
-ghost use Rattle.readers.specs.declared.abbreviations.Found.{Found};
+ghost use Rattle.readers.specs.declared.abbreviations.DeclarationFound.{DeclarationFound};
 ghost use Rattle.readers.specs.declared.entries.Entry.{Entry};
 ghost use Rattle.readers.specs.declared.entries.Step.the-variants.{Entry as Entry′};
 ghost use Rattle.readers.specs.declared.attributes.AttributeRead.the-variants.{Read as Attribute′};
 ghost use Rattle.rewriting.specs.Places.{Place};
 ghost use Rattle.rewriting.specs.Indices.{rankOr};
-ghost use Rattle.rewriting.specs.Written.{asMapped, MapHeld, over};
-ghost use Rattle.rewriting.specs.Bounds.{Bounds};
+ghost use Rattle.rewriting.specs.Written.{over};
+ghost use Rattle.rewriting.specs.inner.Written.{asMapped, MapHeld};
+ghost use Rattle.rewriting.specs.inner.Bounds.{Bounds};
 ghost use Rattle.rewriting.specs.Rewriting.{Lists, newValue, readsRefusal, piecesRefusal, orSelf};
-ghost use Rattle.rewriting.specs.Emission.{between, copiedCount, Emits, Within, onward, Wide};
-ghost use Rattle.rewriting.specs.Emission.{numberRefusal, offsetRefusal, lebForm, Lent, Lends};
+ghost use Rattle.rewriting.specs.Emission.{between, copiedCount};
+ghost use Rattle.rewriting.specs.inner.Emission.{Emits, Within, onward, Wide, numberRefusal, offsetRefusal, lebForm, Lent, ListsLent};
 ghost use Rattle.rewriting.specs.declared.emit.Emitted.the-variants.{To};
 use crate::lists::ListCount;
 use crate::lists::rank;
@@ -225,7 +226,7 @@ fn emit_attribute(
         ((lists : Lists) (ps : List Place) (rs : List Read) (rest : List ℕ)
         → e .«big_endian» ≡ false
         → MapHeld ps (now (map .entry)) → places ≡ length ps → Bounds ps (now (bounds .entry))
-        → Lends lists (now (ranges .entry)) «ranges_count» (now (locations .entry)) «locations_count»
+        → ListsLent lists (now (ranges .entry)) «ranges_count» (now (locations .entry)) «locations_count»
         (now (strings .entry)) «strings_count»
         → values .at ≤ length (now (unit .entry))
         → attributeAt e (now (unit .entry)) (values .at) (a .name) (a .declared) ≡ Attribute′ (a .value)
@@ -330,10 +331,10 @@ pub(crate) fn emit_entry(
 ) -> Emitted
     ensures within { λ r. ⌜ Within (now (out .entry)) r (now (out .exit)) ⌝ }
     ensures bytes { λ r. ⌜
-        ((lists : Lists) (ps : List Place) (look : ℕ → Found) (x : Entry) (rs : List Read) (rest : List ℕ)
+        ((lists : Lists) (ps : List Place) (look : ℕ → DeclarationFound) (x : Entry) (rs : List Read) (rest : List ℕ)
         → e .«big_endian» ≡ false
         → MapHeld ps (now (map .entry)) → places ≡ length ps → Bounds ps (now (bounds .entry))
-        → Lends lists (now (ranges .entry)) «ranges_count» (now (locations .entry)) «locations_count»
+        → ListsLent lists (now (ranges .entry)) «ranges_count» (now (locations .entry)) «locations_count»
         (now (strings .entry)) «strings_count»
         → stepAt e (now (abbreviations .entry)) look (now (unit .entry)) (start .0) ≡ Entry′ x
         → specs ≡ x .declaration .attributes → values ≡ x .values

@@ -7,17 +7,18 @@ ghost use lib.ListN.{length};
 ghost use Rattle.readers.specs.Abbreviations.{Placed, abbreviationsOf};
 ghost use Rattle.readers.specs.EntryAttributes.{specsFrom, entryValues};
 ghost use Rattle.marking.specs.Analysis.{Sections};
-ghost use Rattle.rewriting.specs.Gathering.{Gathers};
-ghost use Rattle.rewriting.specs.Indices.{declares, specsDeclare, tableDeclares};
+ghost use Rattle.rewriting.specs.inner.Gathering.{Gathers};
+ghost use Rattle.rewriting.specs.Indices.{declares, isShort};
+ghost use Rattle.rewriting.specs.inner.Indices.{specsDeclare, tableDeclares};
 ghost use Rattle.rewriting.specs.Rewriting.{Unit as Unit′, anyDeclares};
-ghost use Rattle.rewriting.specs.NextKept.{itemsBy};
-ghost use Rattle.rewriting.specs.IndexLists.{kindIndex, valueIndices, ReadAs, Found, Puts, Listing, isAbsent};
-ghost use Rattle.rewriting.specs.IndexLists.{isShort, Settles};
+ghost use Rattle.rewriting.specs.inner.NextKept.{itemsBy};
+ghost use Rattle.rewriting.specs.inner.IndexLists.{kindIndex, valueIndices, ReadAs, TablesFound, Puts, Listing, isAbsent};
+ghost use Rattle.rewriting.specs.inner.IndexLists.{Settles};
 use crate::gathering::add;
 use crate::gathering::finish;
 use crate::kept::KeptStep;
+use crate::kept::PassPosition;
 use crate::kept::Reading;
-use crate::kept::Stand;
 use crate::kept::next_kept;
 use crate::lists::ListCount;
 use readers::abbreviations::DeclarationStep;
@@ -224,7 +225,7 @@ fn gather(
         × (made 1 (now («location_list» .entry)) (n .locations) (now («location_list» .exit))
         × made 2 (now («string_list» .entry)) (n .strings) (now («string_list» .exit)))) ⌝ }
 {
-    let mut s = Stand {
+    let mut s = PassPosition {
         at: Cursor {
             at: first.0 as usize,
         },
@@ -365,7 +366,7 @@ fn is_absent(
         (let s = now (abbreviations .entry) in
         let table = now (index .entry) in
         let bytes = now (unit .entry) in
-        ((x : Sections) (u : Unit′) → ReadAs x u r s bytes → Found u r s table
+        ((x : Sections) (u : Unit′) → ReadAs x u r s bytes → TablesFound u r s table
         → b ≡ isAbsent x u name (itemsBy r s table bytes (first .0)))) ⌝ }
 {
     if name == 0 {

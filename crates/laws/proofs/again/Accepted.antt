@@ -7,7 +7,7 @@ use lib.ListN.{take, length}
 use Rattle.readers.specs.Abbreviations.{Placed, declaredIn, abbreviationsOf}
 use Rattle.readers.specs.Stream.{itemsFrom}
 use Rattle.readers.specs.declared.header.UnitHeader.{UnitHeader}
-use Rattle.marking.specs.Analysis.{Sections, Row, Analysed, analysed, refused as notAnalysed, headerAnalysed, analysisOf}
+use Rattle.marking.specs.Analysis.{Sections, EntryRow, Analysed, analysed, refused as notAnalysed, headerAnalysed, analysisOf}
 use Rattle.marking.proofs.Rows.{UnitRows}
 use Rattle.marking.proofs.EachRow.{items-whole, own-rows}
 use Rattle.rewriting.specs.Rewriting.{Room, unitOf, Unit as Unit′, itemsIn, Lists, noLists, listsOf, refusalFrom, unitBytes, Rewrite, Collected, untouched, rewritten, refused, listsFit, orRefused, rewriteOf, marksCollected, rowsCollected, analysedCollected, declaredCollected, headerCollected, collectOf}
@@ -17,7 +17,8 @@ use mathlib.Core.Option.{Option, none, some}
 use native.Mathlib.Omega.{arith}
 use lib.Dec.{leb, eqb}
 use mir.Facts.{eqb-yes, eqb-no}
-use Rattle.readers.specs.Choice.{pick, pick-either}
+use Rattle.readers.specs.Choice.{pick}
+use Rattle.readers.proofs.Choice.{pick-either}
 use Rattle.readers.specs.Header.{headerOf}
 use Rattle.readers.specs.declared.header.HeaderRead.{HeaderRead}
 use Rattle.readers.specs.declared.header.HeaderRead.the-variants.{Unit as Header′, Empty, Refused}
@@ -25,9 +26,9 @@ use Rattle.marking.specs.Below.{count}
 use Rattle.marking.specs.Marks.{isKept, keptCount}
 use Rattle.marking.specs.Resolution.{marksIn}
 use Rattle.marking.proofs.UnitMarkings.{marks-each}
-use Rattle.rewriting.specs.Places.{Standing, keptFrom, Place, placesFrom, sizeFrom}
+use Rattle.rewriting.specs.Places.{NestedItem, keptFrom, Place, placesFrom, sizeFrom}
 
-module _ (x : Sections) (room : Room) (section : List ℕ) (h : UnitHeader) (ds : List Placed) (rows : List Row) (a : Accepted x room section h ds rows) where
+module _ (x : Sections) (room : Room) (section : List ℕ) (h : UnitHeader) (ds : List Placed) (rows : List EntryRow) (a : Accepted x room section h ds rows) where
   -- the items end at the unit's end
   pub accepted-whole : itemsFrom (h .encoding) (x .abbreviations) (declaredIn ds) (take (h .end) section) (h .first .0) .1 ≡ true
   accepted-whole = items-whole x section (room .tables) h ds rows (a .header) (a .declared) (a .analysis)
@@ -53,7 +54,7 @@ kept-most marks = count-most (length marks) (isKept marks)
 -- ---- what is accepted
 
 -- what is kept of it, by the marks of its rows
-abbrev pub survivorsIn : Sections → Unit′ → List Row → List Standing
+abbrev pub survivorsIn : Sections → Unit′ → List EntryRow → List NestedItem
 survivorsIn x u rows = keptFrom (marksIn rows) 0 [] (itemsIn x u)
 
 module _ (x : Sections) (room : Room) (typeUnits : Bool) (section : List ℕ) where
@@ -61,7 +62,7 @@ module _ (x : Sections) (room : Room) (typeUnits : Bool) (section : List ℕ) wh
   pub record WasRewritten (w : Rewrite) : Type 0 where
     pub header : UnitHeader
     pub declared : List Placed
-    pub rows : List Row
+    pub rows : List EntryRow
     pub accepted : Accepted x room section header declared rows
     pub dead : keptCount (marksIn rows) < length (marksIn rows)
     pub entries-is : w .entries ≡ length (marksIn rows)
@@ -75,7 +76,7 @@ module _ (x : Sections) (room : Room) (typeUnits : Bool) (section : List ℕ) wh
   pub record WasUntouched (n : ℕ) (l : Lists) : Type 0 where
     pub header : UnitHeader
     pub declared : List Placed
-    pub rows : List Row
+    pub rows : List EntryRow
     pub accepted : Accepted x room section header declared rows
     pub none-dead : keptCount (marksIn rows) ≡ length (marksIn rows)
     pub entries-is : n ≡ length (marksIn rows)
@@ -86,14 +87,14 @@ module _ (x : Sections) (room : Room) (typeUnits : Bool) (section : List ℕ) wh
   Told (rewritten w) = WasRewritten w
   Told (refused n) = Unit {0}
 
-  module _ (h : UnitHeader) (ds : List Placed) (rows : List Row) (a : Accepted x room section h ds rows) where
+  module _ (h : UnitHeader) (ds : List Placed) (rows : List EntryRow) (a : Accepted x room section h ds rows) where
     abbrev unit : Unit′
     unit = unitOf h section ds
 
     abbrev marks : List ℕ
     marks = marksIn rows
 
-    abbrev kept : List Standing
+    abbrev kept : List NestedItem
     kept = survivorsIn x unit rows
 
     abbrev lists : Lists
@@ -151,7 +152,7 @@ module _ (x : Sections) (room : Room) (typeUnits : Bool) (section : List ℕ) wh
         (λ t. rewrite-told (omega (arith, kept-most marks, eqb-no {a = keptCount marks} {b = length marks} t))))
         (λ _. tt)
 
-  rows-told : (h : UnitHeader) (ds : List Placed) (rows : List Row) → Accepted x room section h ds rows → Told (rowsCollected x room typeUnits (unitOf h section ds) rows)
+  rows-told : (h : UnitHeader) (ds : List Placed) (rows : List EntryRow) → Accepted x room section h ds rows → Told (rowsCollected x room typeUnits (unitOf h section ds) rows)
   unfolding rowsCollected Told
   rows-told h ds [] a = (λ n. absurd (omega arith), λ z. (a .analysis, refl))
   rows-told h ds (r ∷ rows) a = marks-told h ds (r ∷ rows) a (omega (arith, marks-each (r ∷ rows)))

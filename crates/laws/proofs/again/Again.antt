@@ -9,27 +9,29 @@ use native.Mathlib.Omega.{arith}
 use lib.ListN.{length, drop}
 use lib.Seq.{drop-at}
 use lib.Dec.{eqb}
-use Rattle.readers.specs.Choice.{pick-yes, pick-no, either, all-of}
-use Rattle.readers.specs.Layout.{Read, ExpressionReader, ExpressionLaw, ReadLaw, read-law, readIn, writeAll, Patch, patchAll, FitAll}
+use Rattle.readers.proofs.Choice.{pick-yes, pick-no, either, all-of}
+use Rattle.readers.specs.Layout.{Read, ExpressionReader, readIn, writeAll, Patch, patchAll}
+use Rattle.readers.proofs.Layouts.{ExpressionLaw, ReadLaw, read-law, FitAll}
 use Rattle.readers.specs.Fields.{size}
 use Rattle.readers.specs.Cursors.{cursor}
 use Rattle.readers.specs.Entries.{entryLayout, entryFound, stepOfReads, stepAt}
 use Rattle.readers.specs.declared.cursor.Encoding.{Encoding}
 use Rattle.readers.specs.declared.cursor.Cursor.{Cursor}
-use Rattle.readers.specs.declared.abbreviations.Found.{Found}
-use Rattle.readers.specs.declared.abbreviations.Found.the-variants.{Declaration as Found′, Nothing}
+use Rattle.readers.specs.declared.abbreviations.DeclarationFound.{DeclarationFound}
+use Rattle.readers.specs.declared.abbreviations.DeclarationFound.the-variants.{Declaration as Found′, Nothing}
 use Rattle.readers.specs.declared.entries.Entry.{Entry}
 use Rattle.readers.specs.declared.entries.Step.the-variants.{Entry as Entry′, Terminator}
-use Rattle.laws.specs.Moved.{movedEntry, movedStep}
+use Rattle.laws.specs.Moved.{movedEntry}
+use Rattle.laws.specs.inner.Moved.{movedStep}
 use Rattle.rewriting.proofs.DeepReads.{like-width, like-patched, like-step, deep-step}
 
-module _ (e : Encoding) (abbreviations : List ℕ) (look : ℕ → Found) where
+module _ (e : Encoding) (abbreviations : List ℕ) (look : ℕ → DeclarationFound) where
   abbrev order : Bool
   order = e .«big_endian»
 
   -- ---- what was read, at another place
 
-  moved-found : (at n w l : ℕ) (f : Found)
+  moved-found : (at n w l : ℕ) (f : DeclarationFound)
       → entryFound e abbreviations look n (n + w) (n + w + l) f ≡ movedStep at n (entryFound e abbreviations look at (at + w) (at + w + l) f)
   unfolding entryFound movedStep movedEntry
   moved-found at n w l (Found′ d) =

@@ -11,13 +11,14 @@ use Rattle.readers.specs.Nesting.{open′, close}
 use Rattle.readers.specs.Stream.{Item, entry, terminator}
 use Rattle.readers.specs.declared.entries.Entry.{Entry}
 use Rattle.marking.specs.Marks.{isKept}
-use Rattle.rewriting.specs.Places.{Standing, opened, closed, innermost, withIf, keptFrom, offsetOf, sizeOf, Place, placesFrom, newOf}
+use Rattle.rewriting.specs.Places.{NestedItem, opened, closed, innermost, withIf, keptFrom, offsetOf, sizeOf, Place, placesFrom, newOf, oldOffsets}
 use Rattle.marking.specs.Members.{here}
 use Rattle.rewriting.specs.Ascending.{Ascending}
-use Rattle.rewriting.specs.Maps.{oldOffsets}
-use Rattle.laws.specs.Maps.{Leads}
-use Rattle.laws.specs.Moved.{movedEntry, movedItem, movedFrom, Closed}
-use Rattle.laws.specs.Around.{aroundFrom, keptAround, Leading, AllLeading}
+use Rattle.laws.specs.inner.Maps.{Leads}
+use Rattle.laws.specs.Moved.{movedEntry, movedItem}
+use Rattle.laws.specs.inner.Moved.{movedFrom, ParentsKept}
+use Rattle.laws.specs.Around.{ancestorsFrom}
+use Rattle.laws.specs.inner.Around.{keptAncestors, MapTo, AllMapTo}
 use Rattle.laws.proofs.again.Maps.{leads-on, leads-in}
 use Rattle.laws.proofs.again.Depths.{AllKept, Nested, all-by, nested-open, nested-close}
 
@@ -32,8 +33,8 @@ module _ (map : List Place) where
   Thinned (true ∷ bs) (v ∷ vs) (n ∷ ns) = (newOf map v ≡ some n) × Thinned bs vs ns
   Thinned (false ∷ bs) (v ∷ vs) ns = Thinned bs vs ns
 
-  all-thinned : (bs : List Bool) (vs ns : List ℕ) → AllKept bs → Thinned bs vs ns → Leading map vs ns
-  unfolding AllKept Thinned Leading
+  all-thinned : (bs : List Bool) (vs ns : List ℕ) → AllKept bs → Thinned bs vs ns → MapTo map vs ns
+  unfolding AllKept Thinned MapTo
   all-thinned [] [] [] a t = tt
   all-thinned [] [] (n ∷ ns) a t = t
   all-thinned [] (v ∷ vs) ns a t = absurd t
@@ -54,25 +55,25 @@ module _ (map : List Place) where
   thinned-left false v bs vs ns t = t
 
   -- places that the map holds
-  abbrev Placed : ℕ → List Standing → Type 0
+  abbrev Placed : ℕ → List NestedItem → Type 0
   Placed n kept = (v m : ℕ) → Leads (placesFrom n kept) v m → newOf map v ≡ some m
 
-  placed-first : (n : ℕ) (s : Standing) (kept : List Standing) → Placed n (s ∷ kept) → newOf map (offsetOf (s .item)) ≡ some n
+  placed-first : (n : ℕ) (s : NestedItem) (kept : List NestedItem) → Placed n (s ∷ kept) → newOf map (offsetOf (s .item)) ≡ some n
   unfolding placesFrom
   placed-first n s kept h = h (offsetOf (s .item)) n (record { place = record { old = offsetOf (s .item); new = n; depth = s .depth }; within = here refl; old = refl; new = refl })
 
-  placed-next : (n : ℕ) (s : Standing) (kept : List Standing) → Placed n (s ∷ kept) → Placed (n + sizeOf (s .item)) kept
+  placed-next : (n : ℕ) (s : NestedItem) (kept : List NestedItem) → Placed n (s ∷ kept) → Placed (n + sizeOf (s .item)) kept
   unfolding placesFrom
   placed-next n s kept h v m l = h v m (leads-on _ (placesFrom (n + sizeOf (s .item)) kept) v m l)
 
   -- the kept items of a stretch, and around each what leads
-  abbrev Nests : List Bool → List ℕ → List (List ℕ) → List Standing → Type 0
-  Nests bs vs olds kept = (n : ℕ) (ns : List ℕ) → Thinned bs vs ns → Placed n kept → AllLeading map olds (aroundFrom ns (movedFrom n kept))
+  abbrev Nests : List Bool → List ℕ → List (List ℕ) → List NestedItem → Type 0
+  Nests bs vs olds kept = (n : ℕ) (ns : List ℕ) → Thinned bs vs ns → Placed n kept → AllMapTo map olds (ancestorsFrom ns (movedFrom n kept))
 
-  entry-nests : (x : Entry) (b : Bool) (bs : List Bool) (vs : List ℕ) (olds : List (List ℕ)) (kept : List Standing) → (T b → AllKept bs)
+  entry-nests : (x : Entry) (b : Bool) (bs : List Bool) (vs : List ℕ) (olds : List (List ℕ)) (kept : List NestedItem) → (T b → AllKept bs)
       → Nests (opened (x .declaration .children) b bs) (open′ (x .declaration .children) (x .offset .0) vs) olds kept
       → Nests bs vs (pick b (vs ∷ olds) olds) (withIf b (record { item = entry x; depth = length bs }) kept)
-  unfolding withIf pick movedFrom movedItem movedEntry aroundFrom AllLeading offsetOf
+  unfolding withIf pick movedFrom movedItem movedEntry ancestorsFrom AllMapTo offsetOf
   entry-nests x true bs vs olds kept all ih n ns t h = (
     all-thinned bs vs ns (all tt) t,
     ih (n + sizeOf (entry x)) (open′ (x .declaration .children) n ns)
@@ -81,10 +82,10 @@ module _ (map : List Place) where
   )
   entry-nests x false bs vs olds kept all ih n ns t h = ih n ns (thinned-left (x .declaration .children) (x .offset .0) bs vs ns t) h
 
-  terminator-nests : (a b : ℕ) (bs : List Bool) (vs : List ℕ) (olds : List (List ℕ)) (kept : List Standing) → Nested bs
+  terminator-nests : (a b : ℕ) (bs : List Bool) (vs : List ℕ) (olds : List (List ℕ)) (kept : List NestedItem) → Nested bs
       → Nests (closed bs) (close vs) olds kept
       → Nests bs vs (pick (innermost bs) (vs ∷ olds) olds) (withIf (innermost bs) (record { item = terminator a b; depth = length bs }) kept)
-  unfolding withIf pick innermost closed close Nested AllKept Thinned movedFrom movedItem aroundFrom AllLeading
+  unfolding withIf pick innermost closed close Nested AllKept Thinned movedFrom movedItem ancestorsFrom AllMapTo
   terminator-nests a b [] [] olds kept h ih n ns t p = ih n ns t p
   terminator-nests a b [] (v ∷ vs) olds kept h ih n ns t p = absurd t
   terminator-nests a b (c ∷ bs) [] olds kept h ih n ns t p = absurd t
@@ -95,9 +96,9 @@ module _ (map : List Place) where
   )
   terminator-nests a b (false ∷ bs) (v ∷ vs) olds kept h ih n ns t p = ih n ns t p
 
-  nests-from : (marks : List ℕ) (k : ℕ) (bs : List Bool) (vs : List ℕ) (items : List Item) → Nested bs → Closed marks k bs items
-      → Nests bs vs (keptAround marks k bs vs items) (keptFrom marks k bs items)
-  unfolding keptFrom keptAround Closed movedFrom aroundFrom AllLeading
+  nests-from : (marks : List ℕ) (k : ℕ) (bs : List Bool) (vs : List ℕ) (items : List Item) → Nested bs → ParentsKept marks k bs items
+      → Nests bs vs (keptAncestors marks k bs vs items) (keptFrom marks k bs items)
+  unfolding keptFrom keptAncestors ParentsKept movedFrom ancestorsFrom AllMapTo
   nests-from marks k bs vs [] h c = λ n ns t p. tt
   nests-from marks k bs vs (entry x ∷ rest) h c =
       let all : T (isKept marks k) → AllKept bs = (λ t. all-by bs h (c .0 t)) in
@@ -108,8 +109,8 @@ module _ (map : List Place) where
       terminator-nests a b bs vs _ _ h (nests-from marks k (closed bs) (close vs) rest (nested-close bs h) c)
 
 -- THE nesting again
-pub around-again : (marks : List ℕ) (items : List Item) → Closed marks 0 [] items → (n : ℕ) → Ascending (oldOffsets (placesFrom n (keptFrom marks 0 [] items)))
-    → AllLeading (placesFrom n (keptFrom marks 0 [] items)) (keptAround marks 0 [] [] items) (aroundFrom [] (movedFrom n (keptFrom marks 0 [] items)))
+pub around-again : (marks : List ℕ) (items : List Item) → ParentsKept marks 0 [] items → (n : ℕ) → Ascending (oldOffsets (placesFrom n (keptFrom marks 0 [] items)))
+    → AllMapTo (placesFrom n (keptFrom marks 0 [] items)) (keptAncestors marks 0 [] [] items) (ancestorsFrom [] (movedFrom n (keptFrom marks 0 [] items)))
 unfolding Nested Thinned
 around-again marks items c n f =
     nests-from (placesFrom n (keptFrom marks 0 [] items)) marks 0 [] [] items tt c n [] tt (λ v m l. leads-in (placesFrom n (keptFrom marks 0 [] items)) v m f l)

@@ -9,26 +9,26 @@ use mathlib.Core.Option.{Option, none, some}
 use mathlib.Core.Logic.{_↔_}
 use lib.ListN.{length, take, drop}
 use lib.Dec.{T}
-use Rattle.readers.specs.Choice.{pick, pick-either}
+use Rattle.readers.specs.Choice.{pick}
+use Rattle.readers.proofs.Choice.{pick-either}
 use Rattle.readers.specs.Numbers.{fixedBytes}
 use Rattle.readers.specs.Abbreviations.{declaredIn}
 use Rattle.readers.specs.Header.{headerOf}
 use Rattle.readers.specs.Stream.{Item, Items}
 use Rattle.readers.specs.declared.header.HeaderRead.the-variants.{Unit as Header′}
 use Rattle.marking.specs.Below.{Number}
-use Rattle.marking.specs.Survivors.{Kept}
+use Rattle.marking.specs.Survivors.{Survivor}
 use Rattle.marking.specs.Marks.{isKept, keptCount}
-use Rattle.marking.specs.Analysis.{Sections, Row, analysed, analysisOf}
+use Rattle.marking.specs.Analysis.{Sections, EntryRow, analysed, analysisOf}
 use Rattle.marking.specs.Resolution.{graphOf, marksIn}
-use Rattle.rewriting.specs.Places.{Standing, Place, placesFrom, sizeFrom}
+use Rattle.rewriting.specs.Places.{NestedItem, Place, placesFrom, sizeFrom, oldOffsets}
 use Rattle.rewriting.specs.Indices.{insertAll, rankIn}
 use Rattle.marking.specs.Members.{Member}
 use Rattle.rewriting.specs.Ascending.{Ascending}
-use Rattle.rewriting.specs.Maps.{oldOffsets}
-use Rattle.laws.specs.Maps.{newOffsets}
 use Rattle.laws.specs.LeftOut.{leftFrom}
-use Rattle.laws.specs.Moved.{movedFrom}
-use Rattle.laws.specs.Around.{aroundFrom, keptAround, AllLeading}
+use Rattle.laws.specs.inner.Moved.{movedFrom}
+use Rattle.laws.specs.Around.{ancestorsFrom}
+use Rattle.laws.specs.inner.Around.{keptAncestors, AllMapTo}
 use Rattle.rewriting.specs.Rewriting.{Unit as Unit′, itemsIn, Lists, indicesFrom, listOf, listsOf, listAt, bytesFrom, unitBytes, Room, Rewrite, untouched, rewritten, collectOf, withEnd, unitOf}
 use Rattle.rewriting.proofs.Sorted.{sorted-ascending, sorted-member}
 use Rattle.laws.proofs.again.Ranks.{rank-inside, rank-place, Ranked}
@@ -50,17 +50,18 @@ use Rattle.laws.proofs.survivors.ClosedMarks.{accepted-kept, accepted-c
 use Rattle.rewriting.proofs.ReadableItems.{accepted-readable}
 use Rattle.laws.proofs.again.AroundAgain.{around-again}
 use Rattle.laws.proofs.again.IndexMembers.{IndexKept, index-members}
-use Rattle.laws.proofs.again.Counting.{Without, some-without, all-with}
+use Rattle.laws.proofs.again.Counting.{some-without, all-with}
+use Rattle.laws.specs.Thinned.{Without, DeadEntry, newOffsets}
 
 -- ---- index lists, of a unit rewritten or not
 
 -- ascending, without repeats; exactly the index operands of that kind in what is kept; and each by its place
-pub record ListLaw (x : Sections) (u : Unit′) (kept : List Standing) (k : ℕ) (xs : List ℕ) : Type 0 where
+pub record ListLaw (x : Sections) (u : Unit′) (kept : List NestedItem) (k : ℕ) (xs : List ℕ) : Type 0 where
   pub ascending : Ascending xs
   pub members : (v : ℕ) → Member v xs ↔ IndexKept x u k v kept
   pub ranks : (v : ℕ) → Member v xs → Ranked xs v (rankIn xs v)
 
-module _ (x : Sections) (u : Unit′) (typeUnits : Bool) (kept : List Standing) (xs : List ℕ) where
+module _ (x : Sections) (u : Unit′) (typeUnits : Bool) (kept : List NestedItem) (xs : List ℕ) where
   list-present : (absent : Bool) (k : ℕ) → listOf x u absent k kept ≡ some xs → insertAll (indicesFrom x u k kept) [] ≡ xs
   unfolding listOf
   list-present absent k =
@@ -106,7 +107,7 @@ module _ (x : Sections) (room : Room) (typeUnits : Bool) (section : List ℕ) (w
   abbrev pub marks : List ℕ
   marks = marksIn (it .rows)
 
-  abbrev pub kept : List Standing
+  abbrev pub kept : List NestedItem
   kept = survivorsIn x unit (it .rows)
 
   abbrev pub start : ℕ
@@ -123,15 +124,15 @@ module _ (x : Sections) (room : Room) (typeUnits : Bool) (section : List ℕ) (w
   header-law = accepted-header x room section (it .header) (it .declared) (it .rows) accepted
 
   -- "The kept count is the number of survivors."
-  pub count-law : Number (Kept (graphOf (it .rows))) (w .entries) (w .kept)
+  pub count-law : Number (Survivor (graphOf (it .rows))) (w .entries) (w .kept)
   count-law =
-      subst (λ (n : ℕ). Number (Kept (graphOf (it .rows))) (w .entries) n) (sym (it .count-is))
-      (subst (λ (n : ℕ). Number (Kept (graphOf (it .rows))) n (keptCount marks)) (sym (it .entries-is ∙ accepted-marks x room section (it .header) (it .declared) (it .rows) accepted))
+      subst (λ (n : ℕ). Number (Survivor (graphOf (it .rows))) (w .entries) n) (sym (it .count-is))
+      (subst (λ (n : ℕ). Number (Survivor (graphOf (it .rows))) n (keptCount marks)) (sym (it .entries-is ∙ accepted-marks x room section (it .header) (it .declared) (it .rows) accepted))
       (accepted-count x room section (it .header) (it .declared) (it .rows) accepted))
 
   -- "survivors are the least set holding the first entry and all roots, the parent of each survivor, every entry a survivor's non-sibling reference names, and all
   -- descendants of roots and of entries so named; every other set like that contains it": by the rows of the unit's entries, which say what the entries do
-  pub least-law : LeastRows (it .rows) (Kept (graphOf (it .rows)))
+  pub least-law : LeastRows (it .rows) (Survivor (graphOf (it .rows)))
   least-law = rows-least (it .rows) start (offsets-ascend (length (unit .bytes)) start 0 (it .rows) (accepted-rows x room section (it .header) (it .declared) (it .rows) accepted .rowed))
 
   -- each row is that of its entry: offset, innermost open entry, root test, references
@@ -139,12 +140,12 @@ module _ (x : Sections) (room : Room) (typeUnits : Bool) (section : List ℕ) (w
   rows-law = accepted-follow x room section (it .header) (it .declared) (it .rows) accepted
 
   -- the survivors are what is kept
-  pub survivors-law : (i : ℕ) → T (isKept marks i) ↔ Kept (graphOf (it .rows)) i
-  survivors-law = accepted-kept x room section (it .header) (it .declared) (it .rows) accepted
+  pub kept-law : (i : ℕ) → T (isKept marks i) ↔ Survivor (graphOf (it .rows)) i
+  kept-law = accepted-kept x room section (it .header) (it .declared) (it .rows) accepted
 
   -- "An accepted unit is rewritten exactly when it has a dead entry."
-  pub dead-law : Without (Kept (graphOf (it .rows))) (w .entries)
-  dead-law = some-without (Kept (graphOf (it .rows))) (w .entries) (w .kept) count-law (omega (arith, it .dead, it .entries-is, it .count-is))
+  pub dead-law : Without (Survivor (graphOf (it .rows))) (w .entries)
+  dead-law = some-without (Survivor (graphOf (it .rows))) (w .entries) (w .kept) count-law (omega (arith, it .dead, it .entries-is, it .count-is))
 
   -- "Read again, a rewritten unit is the old tree less its dead entries, with order, nesting and, as document 01 has it, values kept.": its items are those kept, one
   -- after the other up to its end, at the places and depths of the map, and each is read as it was, patched
@@ -215,10 +216,10 @@ module _ (x : Sections) (room : Room) (typeUnits : Bool) (section : List ℕ) (w
 
   -- "Read again, a rewritten unit is the old tree less its dead entries, with order, nesting ..": around each kept item the same entries are open as before, at their new
   -- places; the innermost is its parent
-  pub nesting-law : AllLeading (w .map) (keptAround marks 0 [] [] (itemsIn x unit)) (aroundFrom [] (itemsIn x again))
+  pub nesting-law : AllMapTo (w .map) (keptAncestors marks 0 [] [] (itemsIn x unit)) (ancestorsFrom [] (itemsIn x again))
   nesting-law =
-      subst (λ (z : List Item). AllLeading (w .map) (keptAround marks 0 [] [] (itemsIn x unit)) (aroundFrom [] z)) (sym items-are)
-      (subst (λ (z : List Place). AllLeading z (keptAround marks 0 [] [] (itemsIn x unit)) (aroundFrom [] (movedFrom start kept))) (sym (it .map-is))
+      subst (λ (z : List Item). AllMapTo (w .map) (keptAncestors marks 0 [] [] (itemsIn x unit)) (ancestorsFrom [] z)) (sym items-are)
+      (subst (λ (z : List Place). AllMapTo z (keptAncestors marks 0 [] [] (itemsIn x unit)) (ancestorsFrom [] (movedFrom start kept))) (sym (it .map-is))
       (around-again marks (itemsIn x unit) (accepted-closed x room section (it .header) (it .declared) (it .rows) accepted) start olds-law))
 
   -- ---- index lists
@@ -234,11 +235,11 @@ module _ (x : Sections) (room : Room) (typeUnits : Bool) (section : List ℕ) (n
   whole = was-untouched x room typeUnits section n lists answer some-entry
 
   -- "An accepted unit is rewritten exactly when it has a dead entry."
-  pub alive-law : (i : ℕ) → i < n → Kept (graphOf (whole .rows)) i
+  pub alive-law : (i : ℕ) → i < n → Survivor (graphOf (whole .rows)) i
   alive-law =
       let a : Accepted x room section (whole .header) (whole .declared) (whole .rows) = whole .accepted in
-      all-with (Kept (graphOf (whole .rows))) n (keptCount (marksIn (whole .rows)))
-      (subst (λ (k : ℕ). Number (Kept (graphOf (whole .rows))) k (keptCount (marksIn (whole .rows))))
+      all-with (Survivor (graphOf (whole .rows))) n (keptCount (marksIn (whole .rows)))
+      (subst (λ (k : ℕ). Number (Survivor (graphOf (whole .rows))) k (keptCount (marksIn (whole .rows))))
       (sym (whole .entries-is ∙ accepted-marks x room section (whole .header) (whole .declared) (whole .rows) a))
       (accepted-count x room section (whole .header) (whole .declared) (whole .rows) a))
       (whole .none-dead ∙ sym (whole .entries-is))
@@ -250,7 +251,7 @@ module _ (x : Sections) (room : Room) (typeUnits : Bool) (section : List ℕ) (n
       (whole .lists-is) k h q
 
   -- its survivors are the least set too
-  pub whole-least-law : LeastRows (whole .rows) (Kept (graphOf (whole .rows)))
+  pub whole-least-law : LeastRows (whole .rows) (Survivor (graphOf (whole .rows)))
   whole-least-law =
       rows-least (whole .rows) (whole .header .first .0)
       (offsets-ascend (length (take (whole .header .end) section)) (whole .header .first .0) 0 (whole .rows)
@@ -258,14 +259,8 @@ module _ (x : Sections) (room : Room) (typeUnits : Bool) (section : List ℕ) (n
 
 -- ---- rewritten or untouched
 
--- an entry of the unit is no survivor
-pub record DeadEntry (x : Sections) (room : Room) (section : List ℕ) : Type 0 where
-  pub rows : List Row
-  pub analysis : analysisOf x section (room .tables) ≡ analysed rows
-  pub dead : Without (Kept (graphOf rows)) (length rows)
-
 module _ (x : Sections) (room : Room) (typeUnits : Bool) (section : List ℕ) where
-  same-rows : (a b : List Row) → analysisOf x section (room .tables) ≡ analysed a → analysisOf x section (room .tables) ≡ analysed b → a ≡ b
+  same-rows : (a b : List EntryRow) → analysisOf x section (room .tables) ≡ analysed a → analysisOf x section (room .tables) ≡ analysed b → a ≡ b
   same-rows a b p q = let z : analysed a ≡ analysed b = sym p ∙ q in cc
 
   -- "An accepted unit is rewritten exactly when it has a dead entry.": a rewritten one has
@@ -275,7 +270,7 @@ module _ (x : Sections) (room : Room) (typeUnits : Bool) (section : List ℕ) wh
       record {
         rows = o .rows;
         analysis = o .accepted .analysis;
-        dead = subst (Without (Kept (graphOf (o .rows)))) (o .entries-is ∙ marks-each (o .rows)) (dead-law x room typeUnits section w q);
+        dead = subst (Without (Survivor (graphOf (o .rows)))) (o .entries-is ∙ marks-each (o .rows)) (dead-law x room typeUnits section w q);
       }
 
   none-dead : (n : ℕ) (l : Lists) → collectOf x room typeUnits section ≡ untouched n l → 0 < n → DeadEntry x room section → ⊥
@@ -283,7 +278,7 @@ module _ (x : Sections) (room : Room) (typeUnits : Bool) (section : List ℕ) wh
       let o : WasUntouched x room typeUnits section n l = whole x room typeUnits section n l q h in
       let e : o .rows ≡ d .rows = same-rows (o .rows) (d .rows) (o .accepted .analysis) (d .analysis) in
       d .dead .not-there
-      (subst (λ (z : List Row). Kept (graphOf z) (d .dead .at)) e
+      (subst (λ (z : List EntryRow). Survivor (graphOf z) (d .dead .at)) e
       (alive-law x room typeUnits section n l q h (d .dead .at) (omega (arith, d .dead .inside, o .entries-is, marks-each (o .rows), ap length e))))
 
   -- and an untouched one has none

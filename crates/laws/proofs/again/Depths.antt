@@ -11,8 +11,9 @@ use Rattle.readers.specs.Nesting.{open′, close}
 use Rattle.readers.specs.declared.entries.Entry.{Entry}
 use Rattle.marking.specs.Marks.{isKept}
 use Rattle.readers.specs.Stream.{Item, entry, terminator}
-use Rattle.rewriting.specs.Places.{Standing, opened, closed, innermost, withIf, keptFrom, sizeOf, Place, placesFrom}
-use Rattle.laws.specs.Moved.{movedEntry, movedItem, movedFrom, depthsFrom, Closed}
+use Rattle.rewriting.specs.Places.{NestedItem, opened, closed, innermost, withIf, keptFrom, sizeOf, Place, placesFrom}
+use Rattle.laws.specs.Moved.{movedEntry, movedItem, depthsFrom}
+use Rattle.laws.specs.inner.Moved.{movedFrom, ParentsKept}
 
 -- ---- open entries: how many are kept
 
@@ -68,14 +69,14 @@ close-kept (k ∷ st) n l = let h : suc (length st) ≡ suc n = l in omega arith
 
 -- ---- item by item
 
-abbrev pub depthsOf : List Standing → List ℕ
-depthsOf kept = map (λ (s : Standing). s .depth) kept
+abbrev pub depthsOf : List NestedItem → List ℕ
+depthsOf kept = map (λ (s : NestedItem). s .depth) kept
 
 -- with j entries before them and st open, the kept ones have their own depths
-abbrev Deep : List Bool → List Standing → Type 0
+abbrev Deep : List Bool → List NestedItem → Type 0
 Deep stack kept = (n j : ℕ) (st : List ℕ) → length st ≡ keptOpen stack → depthsFrom j st (movedFrom n kept) ≡ depthsOf kept
 
-entry-deep : (x : Entry) (b : Bool) (stack : List Bool) (kept : List Standing) → (T b → AllKept stack)
+entry-deep : (x : Entry) (b : Bool) (stack : List Bool) (kept : List NestedItem) → (T b → AllKept stack)
     → Deep (opened (x .declaration .children) b stack) kept → Deep stack (withIf b (record { item = entry x; depth = length stack }) kept)
 unfolding withIf movedFrom movedItem movedEntry depthsFrom
 entry-deep x true stack kept all ih n j st l =
@@ -83,7 +84,7 @@ entry-deep x true stack kept all ih n j st l =
     (ih (n + sizeOf (entry x)) (suc j) (open′ (x .declaration .children) j st) (open-kept (x .declaration .children) j st stack l))
 entry-deep x false stack kept all ih n j st l = ih n j st (l ∙ sym (open-left (x .declaration .children) stack))
 
-terminator-deep : (a b : ℕ) (stack : List Bool) (kept : List Standing) → Nested stack → Deep (closed stack) kept
+terminator-deep : (a b : ℕ) (stack : List Bool) (kept : List NestedItem) → Nested stack → Deep (closed stack) kept
     → Deep stack (withIf (innermost stack) (record { item = terminator a b; depth = length stack }) kept)
 unfolding withIf innermost closed keptOpen Nested movedFrom movedItem depthsFrom
 terminator-deep a b [] kept h ih n j st l = ih n j st l
@@ -93,8 +94,8 @@ terminator-deep a b (true ∷ stack) kept h ih n j st l =
 terminator-deep a b (false ∷ stack) kept h ih n j st l = ih n j st l
 
 -- of the items of a stretch, given the open entries
-pub depths-from : (marks : List ℕ) (k : ℕ) (stack : List Bool) (items : List Item) → Nested stack → Closed marks k stack items → Deep stack (keptFrom marks k stack items)
-unfolding keptFrom Closed movedFrom depthsFrom
+pub depths-from : (marks : List ℕ) (k : ℕ) (stack : List Bool) (items : List Item) → Nested stack → ParentsKept marks k stack items → Deep stack (keptFrom marks k stack items)
+unfolding keptFrom ParentsKept movedFrom depthsFrom
 depths-from marks k stack [] h c = λ n j st l. refl
 depths-from marks k stack (entry x ∷ rest) h c =
     let all : T (isKept marks k) → AllKept stack = (λ t. all-by stack h (c .0 t)) in
@@ -103,13 +104,13 @@ depths-from marks k stack (entry x ∷ rest) h c =
 depths-from marks k stack (terminator a b ∷ rest) h c = terminator-deep a b stack _ h (depths-from marks k (closed stack) rest (nested-close stack h) c)
 
 -- THE depths of a unit's kept items, by the nesting of the moved items alone
-pub depths-again : (marks : List ℕ) (k : ℕ) (items : List Item) → Closed marks k [] items → (n j : ℕ)
+pub depths-again : (marks : List ℕ) (k : ℕ) (items : List Item) → ParentsKept marks k [] items → (n j : ℕ)
     → depthsFrom j [] (movedFrom n (keptFrom marks k [] items)) ≡ depthsOf (keptFrom marks k [] items)
 unfolding Nested keptOpen
 depths-again marks k items c n j = depths-from marks k [] items tt c n j [] refl
 
 -- and those of the map
-pub depths-placed : (n : ℕ) (kept : List Standing) → map (λ (p : Place). p .depth) (placesFrom n kept) ≡ depthsOf kept
+pub depths-placed : (n : ℕ) (kept : List NestedItem) → map (λ (p : Place). p .depth) (placesFrom n kept) ≡ depthsOf kept
 unfolding placesFrom
 depths-placed n [] = refl
 depths-placed n (s ∷ kept) = ap (λ (l : List ℕ). s .depth ∷ l) (depths-placed (n + sizeOf (s .item)) kept)

@@ -7,10 +7,12 @@ use mathlib.Core.Logic.{⊎-elim}
 use native.Mathlib.Omega.{arith}
 use lib.Dec.{T, ltb, leb, eqb}
 use mir.Facts.{ltb-yes, leb-yes, eqb-yes, eqb-no}
-use Rattle.readers.specs.Choice.{pick, pick-yes, pick-no, either, _and_}
-use Rattle.readers.specs.Layout.{Encoded, infixed, inleb, Piece, copied, linked, Read, Fit, FitPiece, FitPieces, FitAll}
+use Rattle.readers.specs.Choice.{pick, _and_}
+use Rattle.readers.proofs.Choice.{pick-yes, pick-no, either}
+use Rattle.readers.specs.Layout.{Encoded, infixed, inleb, Piece, verbatim, patchable, Read, Fit}
+use Rattle.readers.proofs.Layouts.{FitPiece, FitPieces, FitAll}
 use Rattle.marking.specs.Analysis.{Sections}
-use Rattle.rewriting.specs.Places.{Standing, offsetOf, Place}
+use Rattle.rewriting.specs.Places.{NestedItem, offsetOf, Place}
 use Rattle.rewriting.specs.Rewriting.{Unit as Unit′, readsAt, Lists, newValue, hasPlace, fits, pieceRefusal, orNext, piecesRefusal, readsRefusal, refusalFrom}
 use Rattle.rewriting.proofs.ItemsStand.{Every}
 use Rattle.laws.proofs.again.Rereading.{Fits}
@@ -47,8 +49,8 @@ module _ (lists : Lists) (places : List Place) (depth : ℕ) where
 
   piece-fits : (p : Piece) → pieceRefusal lists places depth p ≡ 0 → FitPiece (newValue lists places depth) p
   unfolding pieceRefusal FitPiece
-  piece-fits (copied l) q = tt
-  piece-fits (linked e r v) q =
+  piece-fits (verbatim l) q = tt
+  piece-fits (patchable e r v) q =
       let h = picked-none (hasPlace lists places depth r v) (pick (fits lists places depth e (newValue lists places depth r v)) 0 9) 8 (omega arith) q in
       fit-by e (newValue lists places depth r v) (picked-none (fits lists places depth e (newValue lists places depth r v)) 0 9 (omega arith) (h .1) .0)
 
@@ -63,7 +65,7 @@ module _ (lists : Lists) (places : List Place) (depth : ℕ) where
   reads-fit (r ∷ rs) q =
       let h = next-none (piecesRefusal lists places depth (r .pieces)) (readsRefusal lists places depth rs) q in (pieces-fit (r .pieces) (h .0), reads-fit rs (h .1))
 
-pub none-refused : (x : Sections) (u : Unit′) (lists : Lists) (places : List Place) (kept : List Standing) → refusalFrom x u lists places kept ≡ 0
+pub none-refused : (x : Sections) (u : Unit′) (lists : Lists) (places : List Place) (kept : List NestedItem) → refusalFrom x u lists places kept ≡ 0
     → Every (Fits x u lists places) kept
 unfolding refusalFrom Every
 none-refused x u lists places [] q = tt

@@ -5,10 +5,10 @@ use mathlib.Core.List.{List, [], _∷_}
 use mathlib.Core.Logic.{⊎-elim, _↔_}
 use lib.Dec.{T, eqb}
 use mir.Facts.{eqb-yes, yes-eqb}
-use Rattle.readers.specs.Choice.{pick-yes, pick-either}
-use Rattle.readers.specs.Layout.{Encoded, reference, typeReference, sibling, index, absolute, Piece, copied, linked, Read}
+use Rattle.readers.proofs.Choice.{pick-yes, pick-either}
+use Rattle.readers.specs.Layout.{Encoded, reference, typeReference, sibling, index, absolute, Piece, verbatim, patchable, Read}
 use Rattle.marking.specs.Analysis.{Sections}
-use Rattle.rewriting.specs.Places.{Standing, offsetOf}
+use Rattle.rewriting.specs.Places.{NestedItem, offsetOf}
 use Rattle.marking.specs.Members.{Member, here, there}
 use Rattle.rewriting.specs.Indices.{indexIn, indicesIn, readIndices}
 use Rattle.rewriting.specs.Rewriting.{Unit as Unit′, readsAt, indicesFrom}
@@ -19,34 +19,34 @@ use Rattle.marking.proofs.Members.{nothing-in, in-either, in-left, in-right}
 -- an index operand of kind k and value v
 pub record IndexIn (k v : ℕ) (ps : List Piece) : Type 0 where
   pub encoded : Encoded
-  pub within : Member (linked encoded (index k) v) ps
+  pub within : Member (patchable encoded (index k) v) ps
 
 pub record IndexRead (k v : ℕ) (rs : List Read) : Type 0 where
   pub read : Read
   pub among : Member read rs
   pub operand : IndexIn k v (read .pieces)
 
-pub record IndexKept (x : Sections) (u : Unit′) (k v : ℕ) (kept : List Standing) : Type 0 where
-  pub standing : Standing
+pub record IndexKept (x : Sections) (u : Unit′) (k v : ℕ) (kept : List NestedItem) : Type 0 where
+  pub standing : NestedItem
   pub among : Member standing kept
   pub operand : IndexRead k v (readsAt x u (offsetOf (standing .item)))
 
 module _ (k v : ℕ) where
-  same-index : (e : Encoded) (j w : ℕ) → T (eqb j k) → Member v (w ∷ []) → linked e (index k) v ≡ linked e (index j) w
-  same-index e j w t (here q) = ap (λ (z : ℕ). linked e (index k) z) q ∙ ap (λ (z : ℕ). linked e (index z) w) (sym (eqb-yes {a = j} {b = k} t))
+  same-index : (e : Encoded) (j w : ℕ) → T (eqb j k) → Member v (w ∷ []) → patchable e (index k) v ≡ patchable e (index j) w
+  same-index e j w t (here q) = ap (λ (z : ℕ). patchable e (index k) z) q ∙ ap (λ (z : ℕ). patchable e (index z) w) (sym (eqb-yes {a = j} {b = k} t))
   same-index e j w t (there m) = absurd (nothing-in v m)
 
   one-out : (p : Piece) (ps : List Piece) → Member v (indexIn k p) → IndexIn k v (p ∷ ps)
   unfolding indexIn
-  one-out (copied l) ps m = absurd (nothing-in v m)
-  one-out (linked e reference w) ps m = absurd (nothing-in v m)
-  one-out (linked e typeReference w) ps m = absurd (nothing-in v m)
-  one-out (linked e sibling w) ps m = absurd (nothing-in v m)
-  one-out (linked e (index j) w) ps m =
-      pick-either (λ (l : List ℕ). Member v l → IndexIn k v (linked e (index j) w ∷ ps)) (eqb j k) (w ∷ []) []
+  one-out (verbatim l) ps m = absurd (nothing-in v m)
+  one-out (patchable e reference w) ps m = absurd (nothing-in v m)
+  one-out (patchable e typeReference w) ps m = absurd (nothing-in v m)
+  one-out (patchable e sibling w) ps m = absurd (nothing-in v m)
+  one-out (patchable e (index j) w) ps m =
+      pick-either (λ (l : List ℕ). Member v l → IndexIn k v (patchable e (index j) w ∷ ps)) (eqb j k) (w ∷ []) []
       (λ t n. record { encoded = e; within = here (same-index e j w t n) })
       (λ t n. absurd (nothing-in v n)) m
-  one-out (linked e absolute w) ps m = absurd (nothing-in v m)
+  one-out (patchable e absolute w) ps m = absurd (nothing-in v m)
 
   pieces-out : (ps : List Piece) → Member v (indicesIn k ps) → IndexIn k v ps
   unfolding indicesIn
@@ -57,13 +57,13 @@ module _ (k v : ℕ) where
       (λ n. let r : IndexIn k v ps = pieces-out ps n in record { encoded = r .encoded; within = there (r .within) })
       (in-either v (indexIn k p) (indicesIn k ps) m)
 
-  own-index : (e : Encoded) → Member v (indexIn k (linked e (index k) v))
+  own-index : (e : Encoded) → Member v (indexIn k (patchable e (index k) v))
   unfolding indexIn
   own-index e = subst (Member v) (sym (pick-yes _ _ _ (yes-eqb {a = k} {b = k} refl))) (here refl)
 
-  pieces-in : (ps : List Piece) (e : Encoded) → Member (linked e (index k) v) ps → Member v (indicesIn k ps)
+  pieces-in : (ps : List Piece) (e : Encoded) → Member (patchable e (index k) v) ps → Member v (indicesIn k ps)
   unfolding indicesIn
-  pieces-in [] e m = absurd (nothing-in (linked e (index k) v) m)
+  pieces-in [] e m = absurd (nothing-in (patchable e (index k) v) m)
   pieces-in (p ∷ ps) e (here q) = in-left v (indexIn k p) (indicesIn k ps) (subst (λ (z : Piece). Member v (indexIn k z)) q (own-index e))
   pieces-in (p ∷ ps) e (there m) = in-right v (indexIn k p) (indicesIn k ps) (pieces-in ps e m)
 
@@ -90,10 +90,10 @@ module _ (k v : ℕ) where
   )
 
   module _ (x : Sections) (u : Unit′) where
-    abbrev own : Standing → List ℕ
+    abbrev own : NestedItem → List ℕ
     own s = readIndices k (readsAt x u (offsetOf (s .item)))
 
-    kept-out : (kept : List Standing) → Member v (indicesFrom x u k kept) → IndexKept x u k v kept
+    kept-out : (kept : List NestedItem) → Member v (indicesFrom x u k kept) → IndexKept x u k v kept
     unfolding indicesFrom
     kept-out [] m = absurd (nothing-in v m)
     kept-out (s ∷ kept) m =
@@ -102,14 +102,14 @@ module _ (k v : ℕ) where
         (λ n. let q : IndexKept x u k v kept = kept-out kept n in record { standing = q .standing; among = there (q .among); operand = q .operand })
         (in-either v (own s) (indicesFrom x u k kept) m)
 
-    kept-in : (kept : List Standing) (s : Standing) → Member s kept → Member v (own s) → Member v (indicesFrom x u k kept)
+    kept-in : (kept : List NestedItem) (s : NestedItem) → Member s kept → Member v (own s) → Member v (indicesFrom x u k kept)
     unfolding indicesFrom
     kept-in [] s m n = absurd (nothing-in s m)
-    kept-in (t ∷ kept) s (here e) n = in-left v (own t) (indicesFrom x u k kept) (subst (λ (z : Standing). Member v (own z)) e n)
+    kept-in (t ∷ kept) s (here e) n = in-left v (own t) (indicesFrom x u k kept) (subst (λ (z : NestedItem). Member v (own z)) e n)
     kept-in (t ∷ kept) s (there m) n = in-right v (own t) (indicesFrom x u k kept) (kept-in kept s m n)
 
     -- the indices of kept items are their index operands
-    pub index-members : (kept : List Standing) → Member v (indicesFrom x u k kept) ↔ IndexKept x u k v kept
+    pub index-members : (kept : List NestedItem) → Member v (indicesFrom x u k kept) ↔ IndexKept x u k v kept
     index-members kept = (
       kept-out kept,
       λ q. kept-in kept (q .standing) (q .among)

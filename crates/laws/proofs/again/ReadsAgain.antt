@@ -6,10 +6,11 @@ use mathlib.Core.List.{List, [], _∷_, _++_, append-assoc}
 use lib.ListN.{length, drop, length-append}
 use lib.Seq.{drop-at}
 use Rattle.readers.specs.Layout.{Read, patchAll, writeAll}
-use Rattle.readers.specs.Expression.{expressionIn, expression-law}
+use Rattle.readers.specs.Expression.{expressionIn}
+use Rattle.readers.proofs.Expression.{expression-law}
 use Rattle.readers.specs.Abbreviations.{declaredIn}
 use Rattle.marking.specs.Analysis.{Sections}
-use Rattle.rewriting.specs.Places.{Standing, offsetOf, sizeOf, Place}
+use Rattle.rewriting.specs.Places.{NestedItem, offsetOf, sizeOf, Place}
 use Rattle.rewriting.specs.Rewriting.{Unit as Unit′, readsOr, readsAt, Lists, newValue, bytesFrom}
 use Rattle.laws.proofs.again.Again.{deep-again}
 use Rattle.rewriting.proofs.ItemsStand.{Every, deepAt}
@@ -20,12 +21,12 @@ abbrev pub withBytes : Unit′ → List ℕ → Unit′
 withBytes u bytes = record { header = u .header; bytes = bytes; declared = u .declared }
 
 module _ (x : Sections) (u : Unit′) (lists : Lists) (places : List Place) where
-  abbrev pub patched : Standing → List Read
+  abbrev pub patched : NestedItem → List Read
   patched s = patchAll (newValue lists places (s .depth)) (readsAt x u (offsetOf (s .item)))
 
   module _ (unit : List ℕ) where
     -- at each new place stands what was read, patched, and the next place follows
-    unfoldable pub PatchedFrom : ℕ → List Standing → Type 0
+    unfoldable pub PatchedFrom : ℕ → List NestedItem → Type 0
     PatchedFrom n [] = Unit {0}
     PatchedFrom n (s ∷ kept) = (deepAt x (withBytes u unit) n ≡ some (patched s, drop (n + sizeOf (s .item)) unit)) × PatchedFrom (n + sizeOf (s .item)) kept
 
@@ -34,7 +35,7 @@ module _ (x : Sections) (u : Unit′) (lists : Lists) (places : List Place) wher
     unfolding readsAt readsOr
     reads-at at rs rest h = ap (readsOr x (withBytes u unit)) h
 
-    pub reads-again : (kept : List Standing) → Every (Rewritable x u lists places) kept → (front : List ℕ) (n : ℕ) → length front ≡ n
+    pub reads-again : (kept : List NestedItem) → Every (Rewritable x u lists places) kept → (front : List ℕ) (n : ℕ) → length front ≡ n
         → unit ≡ front ++ bytesFrom x u lists places kept → PatchedFrom n kept
     unfolding Every bytesFrom PatchedFrom
     reads-again [] h front n l q = tt

@@ -7,18 +7,21 @@ use mathlib.Core.Option.{some}
 use mathlib.Core.List.{List, [], _∷_, _++_, map, append-assoc, append-nil}
 use native.Mathlib.Omega.{arith}
 use lib.ListN.{length, length-append}
-use Rattle.readers.specs.Layout.{Read, writeAll, Patch, patchAll, FitAll}
-use Rattle.readers.specs.Expression.{expressionIn, expression-law}
+use Rattle.readers.specs.Layout.{Read, writeAll, Patch, patchAll}
+use Rattle.readers.proofs.Layouts.{FitAll}
+use Rattle.readers.specs.Expression.{expressionIn}
+use Rattle.readers.proofs.Expression.{expression-law}
 use Rattle.readers.specs.Entries.{stepAt}
 use Rattle.readers.specs.Abbreviations.{declaredIn}
 use Rattle.readers.specs.declared.cursor.Encoding.{Encoding}
-use Rattle.readers.specs.declared.abbreviations.Found.{Found}
+use Rattle.readers.specs.declared.abbreviations.DeclarationFound.{DeclarationFound}
 use Rattle.readers.specs.declared.entries.Step.{Step}
 use Rattle.readers.proofs.Values.{step-end}
 use Rattle.readers.specs.Stream.{Item, entry, terminator, Items, push, onStep, itemsFrom}
 use Rattle.marking.specs.Analysis.{Sections}
-use Rattle.rewriting.specs.Places.{Standing, offsetOf, sizeOf, Place, placesFrom, sizeFrom}
-use Rattle.laws.specs.Moved.{movedEntry, movedItem, movedStep, movedFrom}
+use Rattle.rewriting.specs.Places.{NestedItem, offsetOf, sizeOf, Place, placesFrom, sizeFrom}
+use Rattle.laws.specs.Moved.{movedEntry, movedItem}
+use Rattle.laws.specs.inner.Moved.{movedStep, movedFrom}
 use Rattle.rewriting.specs.Rewriting.{Unit as Unit′, readsOr, readsAt, Lists, newValue, bytesFrom}
 use Rattle.readers.proofs.Streams.{items-step}
 use Rattle.rewriting.proofs.DeepReads.{deep-ends}
@@ -27,7 +30,7 @@ use Rattle.rewriting.proofs.ItemsStand.{Every, Stands, Readable, StandsThere, d
 
 -- ---- one item
 
-module _ (e : Encoding) (abbreviations : List ℕ) (look : ℕ → Found) (unit : List ℕ) where
+module _ (e : Encoding) (abbreviations : List ℕ) (look : ℕ → DeclarationFound) (unit : List ℕ) where
   -- the turn of a moved step
   turn-moved : (i : Item) (n : ℕ) (r : Step) → Stands e abbreviations look unit i → r ≡ movedStep (offsetOf i) n (stepAt e abbreviations look unit (offsetOf i))
       → (k : ℕ → Items) → onStep n r k ≡ push (movedItem n i) (k (n + sizeOf i))
@@ -43,23 +46,23 @@ module _ (x : Sections) (u : Unit′) (lists : Lists) (places : List Place) wher
   abbrev encoding : Encoding
   encoding = u .header .encoding
 
-  abbrev look : ℕ → Found
+  abbrev look : ℕ → DeclarationFound
   look = declaredIn (u .declared)
 
-  abbrev pub Fits : Standing → Type 0
+  abbrev pub Fits : NestedItem → Type 0
   Fits s = FitAll (newValue lists places (s .depth)) (readsAt x u (offsetOf (s .item)))
 
-  pub record Rewritable (s : Standing) : Type 0 where
+  pub record Rewritable (s : NestedItem) : Type 0 where
     pub stands : StandsThere x u s
     pub deep : Readable x u s
     pub fit : Fits s
 
-  pub rewritable : (kept : List Standing) → Every (StandsThere x u) kept → Every (Readable x u) kept → Every Fits kept → Every Rewritable kept
+  pub rewritable : (kept : List NestedItem) → Every (StandsThere x u) kept → Every (Readable x u) kept → Every Fits kept → Every Rewritable kept
   unfolding Every
   rewritable [] p q r = tt
   rewritable (s ∷ kept) p q r = (record { stands = p .0; deep = q .0; fit = r .0 }, rewritable kept (p .1) (q .1) (r .1))
 
-  module _ (s : Standing) (h : Rewritable s) where
+  module _ (s : NestedItem) (h : Rewritable s) where
     abbrev reads : List Read
     reads = readsAt x u (offsetOf (s .item))
 
@@ -91,7 +94,7 @@ module _ (x : Sections) (u : Unit′) (lists : Lists) (places : List Place) wher
         (step-again encoding (x .abbreviations) look (expressionIn encoding) (expression-law encoding) (u .bytes) (offsetOf (s .item)) reads (h .deep .run .1) deep-read patch (h .fit) front back n l)
         (itemsFrom encoding (x .abbreviations) look (front ++ (written ++ back)))
 
-  pub length-bytes : (kept : List Standing) → Every Rewritable kept → length (bytesFrom x u lists places kept) ≡ sizeFrom kept
+  pub length-bytes : (kept : List NestedItem) → Every Rewritable kept → length (bytesFrom x u lists places kept) ≡ sizeFrom kept
   unfolding Every bytesFrom sizeFrom
   length-bytes [] h = refl
   length-bytes (s ∷ kept) h =
@@ -104,7 +107,7 @@ module _ (x : Sections) (u : Unit′) (lists : Lists) (places : List Place) wher
       items-step encoding (x .abbreviations) look front n
       ∙ ap (λ r. onStep n r (itemsFrom encoding (x .abbreviations) look front)) (sym (step-end encoding (x .abbreviations) look front n (omega arith)))
 
-  pub reread : (kept : List Standing) → Every Rewritable kept → (front : List ℕ) (n : ℕ) → length front ≡ n
+  pub reread : (kept : List NestedItem) → Every Rewritable kept → (front : List ℕ) (n : ℕ) → length front ≡ n
       → itemsFrom encoding (x .abbreviations) look (front ++ bytesFrom x u lists places kept) n ≡ (movedFrom n kept, true)
   unfolding Every bytesFrom movedFrom push
   reread [] h front n l = ap (λ z. itemsFrom encoding (x .abbreviations) look z n) (append-nil front) ∙ none-again front n l
@@ -123,7 +126,7 @@ unfolding offsetOf movedItem movedEntry
 moved-offset n (entry x) = refl
 moved-offset n (terminator a b) = refl
 
-pub moved-places : (n : ℕ) (kept : List Standing) → map offsetOf (movedFrom n kept) ≡ map (λ (p : Place). p .new) (placesFrom n kept)
+pub moved-places : (n : ℕ) (kept : List NestedItem) → map offsetOf (movedFrom n kept) ≡ map (λ (p : Place). p .new) (placesFrom n kept)
 unfolding movedFrom placesFrom
 moved-places n [] = refl
 moved-places n (s ∷ kept) = ap₂ (λ (m : ℕ) (l : List ℕ). m ∷ l) (moved-offset n (s .item)) (moved-places (n + sizeOf (s .item)) kept)

@@ -9,13 +9,13 @@ use Rattle.marking.specs.Marks.{isKept}
 use Rattle.readers.specs.Entries.{stepAt}
 use Rattle.readers.specs.declared.cursor.Encoding.{Encoding}
 use Rattle.readers.specs.declared.cursor.Cursor.{Cursor}
-use Rattle.readers.specs.declared.abbreviations.Found.{Found}
+use Rattle.readers.specs.declared.abbreviations.DeclarationFound.{DeclarationFound}
 use Rattle.readers.specs.declared.entries.Entry.{Entry}
 use Rattle.readers.specs.declared.entries.Step.the-variants.{Entry as Entry′, Terminator}
 use Rattle.readers.specs.Stream.{Item, entry, terminator, Items, push, itemsFrom}
-use Rattle.rewriting.specs.Places.{Standing, opened, closed, innermost, withIf, keptFrom, offsetOf, sizeOf, sizeFrom}
+use Rattle.rewriting.specs.Places.{NestedItem, opened, closed, innermost, withIf, keptFrom, offsetOf, sizeOf, sizeFrom}
 use Rattle.marking.specs.Members.{Member, here, there}
-use Rattle.laws.specs.Maps.{Sized}
+use Rattle.laws.specs.inner.Maps.{Sized}
 use Rattle.laws.specs.LeftOut.{leftFrom, sizesOf}
 use Rattle.marking.proofs.Members.{nothing-in}
 use Rattle.readers.proofs.Streams.{EntryInside}
@@ -23,7 +23,7 @@ use Rattle.rewriting.proofs.Items.{items-by}
 
 -- ---- kept and left out
 
-with-sizes : (b : Bool) (x : Standing) (xs ys : List Standing) (n : ℕ) → n ≡ sizeFrom xs + sizeFrom ys
+with-sizes : (b : Bool) (x : NestedItem) (xs ys : List NestedItem) (n : ℕ) → n ≡ sizeFrom xs + sizeFrom ys
     → sizeOf (x .item) + n ≡ sizeFrom (withIf b x xs) + sizeFrom (withIf (not b) x ys)
 unfolding withIf sizeFrom
 with-sizes true x xs ys n h = omega arith
@@ -54,7 +54,7 @@ inside-on : (unit : List ℕ) (at n : ℕ) (i : Item) (items : List Item) → In
 inside-on unit at n i items j h k x (here e) = rw e j
 inside-on unit at n i items j h k x (there m) = inside-less unit at n x h (k x m)
 
-module _ (e : Encoding) (abbreviations : List ℕ) (look : ℕ → Found) (unit : List ℕ) where
+module _ (e : Encoding) (abbreviations : List ℕ) (look : ℕ → DeclarationFound) (unit : List ℕ) where
   abbrev from : ℕ → Items
   from = itemsFrom e abbreviations look unit
 

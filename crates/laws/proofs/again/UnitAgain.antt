@@ -6,12 +6,14 @@ use mathlib.Core.List.{List, [], _++_, map}
 use native.Mathlib.Omega.{arith}
 use lib.ListN.{length, take, drop, length-append, length-drop}
 use lib.Seq.{length-take-le}
-use Rattle.readers.specs.Numbers.{fixedBytes, length-fixed}
+use Rattle.readers.specs.Numbers.{fixedBytes}
+use Rattle.readers.proofs.Numbers.{length-fixed}
 use Rattle.readers.specs.Abbreviations.{declaredIn}
 use Rattle.readers.specs.Stream.{itemsFrom}
 use Rattle.marking.specs.Analysis.{Sections}
-use Rattle.rewriting.specs.Places.{Standing, keptFrom, offsetOf, Place, placesFrom, sizeFrom}
-use Rattle.laws.specs.Moved.{movedFrom, depthsFrom, Closed}
+use Rattle.rewriting.specs.Places.{NestedItem, keptFrom, offsetOf, Place, placesFrom, sizeFrom}
+use Rattle.laws.specs.Moved.{depthsFrom}
+use Rattle.laws.specs.inner.Moved.{movedFrom, ParentsKept}
 use Rattle.rewriting.specs.Rewriting.{Unit as Unit′, itemsIn, Lists, bytesFrom, unitBytes, refusalFrom}
 use Rattle.rewriting.proofs.ItemsStand.{Every, kept-stand, Readable}
 use Rattle.laws.proofs.again.Rereading.{Rewritable, rewritable, length-bytes, reread, moved-places}
@@ -20,7 +22,7 @@ use Rattle.laws.proofs.again.Fitting.{none-refused}
 use Rattle.laws.proofs.again.Depths.{depths-again, depths-placed}
 
 -- a unit whose items are these, one after the other from where the first stands, each read deep as it was, patched
-pub record ReadAgain (x : Sections) (u : Unit′) (lists : Lists) (places : List Place) (kept : List Standing) (unit : List ℕ) : Type 0 where
+pub record ReadAgain (x : Sections) (u : Unit′) (lists : Lists) (places : List Place) (kept : List NestedItem) (unit : List ℕ) : Type 0 where
   pub size : length unit ≡ u .header .first .0 + sizeFrom kept
   pub items : itemsFrom (u .header .encoding) (x .abbreviations) (declaredIn (u .declared)) unit (u .header .first .0) ≡ (movedFrom (u .header .first .0) kept, true)
   pub reads : PatchedFrom x u lists places unit (u .header .first .0) kept
@@ -31,7 +33,7 @@ module _ (x : Sections) (u : Unit′) (lists : Lists) (places : List Place) (lo 
   abbrev first : ℕ
   first = u .header .first .0
 
-  module _ (kept : List Standing) (h : Every (Rewritable x u lists places) kept) where
+  module _ (kept : List NestedItem) (h : Every (Rewritable x u lists places) kept) where
     -- the header
     abbrev front : List ℕ
     front = fixedBytes (u .header .encoding .«big_endian») 4 (first + sizeFrom kept - 4) ++ drop 4 (take first (u .bytes))
@@ -61,12 +63,12 @@ module _ (x : Sections) (u : Unit′) (lists : Lists) (places : List Place) (lo 
         ∙ reread x u lists places kept h front first length-front
 
   -- by marks that keep the parents, where nothing is refused
-  pub unit-again : (marks : List ℕ) → Closed marks 0 [] (itemsIn x u) → Every (Readable x u) (keptFrom marks 0 [] (itemsIn x u))
+  pub unit-again : (marks : List ℕ) → ParentsKept marks 0 [] (itemsIn x u) → Every (Readable x u) (keptFrom marks 0 [] (itemsIn x u))
       → refusalFrom x u lists places (keptFrom marks 0 [] (itemsIn x u)) ≡ 0
       → ReadAgain x u lists places (keptFrom marks 0 [] (itemsIn x u)) (unitBytes x u lists places (keptFrom marks 0 [] (itemsIn x u)))
   unfolding itemsIn
   unit-again marks c q r =
-      let kept : List Standing = keptFrom marks 0 [] (itemsIn x u) in
+      let kept : List NestedItem = keptFrom marks 0 [] (itemsIn x u) in
       let h : Every (Rewritable x u lists places) kept =
       rewritable x u lists places kept (kept-stand (u .header .encoding) (x .abbreviations) (declaredIn (u .declared)) (u .bytes) marks 0 [] first) q
       (none-refused x u lists places kept r) in

@@ -9,9 +9,12 @@ use mathlib.Core.Logic.{⊎-elim}
 use lib.ListN.{length, drop, length-append}
 use lib.Seq.{drop-at, drop-drop}
 use lib.Dec.{eqb}
-use Rattle.readers.specs.Choice.{pick, pick-yes, pick-no, either, All, all-some, all-of, all-bind, all-triv}
-use Rattle.readers.specs.Layout.{leb128, number, Layout, done, Read, RunOf, ExpressionReader, tokenIn, readIn, before, TokenLaw, token-law, bytesOf, writeAll, Patch, patchPieces, patchRead, patchAll, FitAll, same-size}
-use Rattle.readers.specs.Expression.{expressionIn, expression-law}
+use Rattle.readers.specs.Choice.{pick}
+use Rattle.readers.proofs.Choice.{pick-yes, pick-no, either, All, all-some, all-of, all-bind, all-triv}
+use Rattle.readers.specs.Layout.{leb128, number, Layout, done, Read, RunOf, ExpressionReader, tokenIn, readIn, before, bytesOf, writeAll, Patch, patchPieces, patchRead, patchAll}
+use Rattle.readers.proofs.Layouts.{TokenLaw, token-law, FitAll, same-size}
+use Rattle.readers.specs.Expression.{expressionIn}
+use Rattle.readers.proofs.Expression.{expression-law}
 use Rattle.readers.specs.Fields.{size}
 use Rattle.readers.specs.Cursors.{cursor}
 use Rattle.readers.specs.Scan.{Scanned}
@@ -20,16 +23,17 @@ use Rattle.readers.specs.Entries.{attributesLayout, specsLayout, foundLayout, e
 use Rattle.readers.specs.Stream.{Item, entry, Items}
 use Rattle.readers.specs.declared.cursor.Encoding.{Encoding}
 use Rattle.readers.specs.declared.abbreviations.AttributeSpec.{AttributeSpec}
-use Rattle.readers.specs.declared.abbreviations.Found.{Found}
-use Rattle.readers.specs.declared.abbreviations.Found.the-variants.{Declaration as Found′, Nothing}
+use Rattle.readers.specs.declared.abbreviations.DeclarationFound.{DeclarationFound}
+use Rattle.readers.specs.declared.abbreviations.DeclarationFound.the-variants.{Declaration as Found′, Nothing}
 use Rattle.readers.specs.declared.entries.Entry.{Entry}
 use Rattle.readers.specs.declared.entries.Step.the-variants.{Entry as Entry′}
 use Rattle.readers.specs.EntryAttributes.{Valued, valuesOf, specsFrom, entryValues}
 use Rattle.marking.specs.Analysis.{Sections, valuesOfEntry}
 use Rattle.readers.proofs.EntryAttributes.{specs-all}
-use Rattle.rewriting.specs.Places.{Standing, offsetOf, sizeOf, Place, placesFrom}
+use Rattle.rewriting.specs.Places.{NestedItem, offsetOf, sizeOf, Place, placesFrom}
 use Rattle.marking.specs.Members.{Nth, now, later}
-use Rattle.laws.specs.Moved.{movedEntry, movedItem, movedFrom}
+use Rattle.laws.specs.Moved.{movedEntry, movedItem}
+use Rattle.laws.specs.inner.Moved.{movedFrom}
 use Rattle.rewriting.specs.Rewriting.{Unit as Unit′, itemsIn, readsAt, Lists, newValue, bytesFrom, Room, Rewrite, rewritten, collectOf}
 use Rattle.laws.specs.AttributesAgain.{SameAttributes, AttributesAgain, EntryAgain}
 use Rattle.rewriting.proofs.DeepReads.{deep-step}
@@ -44,7 +48,7 @@ use Rattle.laws.proofs.attributes.AttributesAgain.{ValuesTwice, values-
 
 -- ---- an entry that was read deep: its code, and the values of its specifications
 
-module _ (e : Encoding) (x : Sections) (look : ℕ → Found) (unit : List ℕ) where
+module _ (e : Encoding) (x : Sections) (look : ℕ → DeclarationFound) (unit : List ℕ) where
   abbrev big : Bool
   big = e .«big_endian»
 
@@ -62,7 +66,7 @@ module _ (e : Encoding) (x : Sections) (look : ℕ → Found) (unit : List ℕ) 
   by-specs p none q s rs rest h = let z : _≡_ {A = ℕ} 0 1 = cc in absurd (omega arith)
   by-specs p (some r) q s rs rest h = record { specs = r .0; are = specs-all (x .abbreviations) p r q; reads = h }
 
-  by-found : (at values next : ℕ) (y : Entry) (s : List ℕ) (rs : List Read) (rest : List ℕ) (o : Found) → entryFound e (x .abbreviations) look at values next o ≡ Entry′ y
+  by-found : (at values next : ℕ) (y : Entry) (s : List ℕ) (rs : List Read) (rest : List ℕ) (o : DeclarationFound) → entryFound e (x .abbreviations) look at values next o ≡ Entry′ y
       → readIn big ex (foundLayout e (x .abbreviations) look o) s ≡ some (rs, rest) → (y .values .at ≡ values) × SpecsRead (y .declaration .attributes .at) s rs rest
   unfolding entryFound foundLayout
   by-found at values next y s rs rest Nothing q h = let z : _≡_ {A = ℕ} 0 1 = cc in absurd (omega arith)
@@ -144,7 +148,7 @@ module _ (e : Encoding) (x : Sections) (look : ℕ → Found) (unit : List ℕ) 
 -- ---- where a kept item comes to stand, by its number
 
 module _ (x : Sections) (u : Unit′) (lists : Lists) (places : List Place) (unit : List ℕ) where
-  pub record PlacedItem (n : ℕ) (kept : List Standing) (m : ℕ) (s : Standing) : Type 0 where
+  pub record PlacedItem (n : ℕ) (kept : List NestedItem) (m : ℕ) (s : NestedItem) : Type 0 where
     pub new : ℕ
     pub front : List ℕ
     pub back : List ℕ
@@ -154,13 +158,13 @@ module _ (x : Sections) (u : Unit′) (lists : Lists) (places : List Place) (uni
     pub item : Nth (movedItem new (s .item)) m (movedFrom n kept)
     pub could : Rewritable x u lists places s
 
-  placed-next : (n : ℕ) (t : Standing) (kept : List Standing) (m : ℕ) (s : Standing) → PlacedItem (n + sizeOf (t .item)) kept m s → PlacedItem n (t ∷ kept) (suc m) s
+  placed-next : (n : ℕ) (t : NestedItem) (kept : List NestedItem) (m : ℕ) (s : NestedItem) → PlacedItem (n + sizeOf (t .item)) kept m s → PlacedItem n (t ∷ kept) (suc m) s
   unfolding placesFrom movedFrom
   placed-next n t kept m s p =
       record { new = p .new; front = p .front; back = p .back; long = p .long; bytes = p .bytes; place = later (p .place); item = later (p .item); could = p .could }
 
-  pub placed-at : (kept : List Standing) → Every (Rewritable x u lists places) kept → (front : List ℕ) (n : ℕ) → length front ≡ n → unit ≡ front ++ bytesFrom x u lists places kept
-      → (m : ℕ) (s : Standing) → Nth s m kept → PlacedItem n kept m s
+  pub placed-at : (kept : List NestedItem) → Every (Rewritable x u lists places) kept → (front : List ℕ) (n : ℕ) → length front ≡ n → unit ≡ front ++ bytesFrom x u lists places kept
+      → (m : ℕ) (s : NestedItem) → Nth s m kept → PlacedItem n kept m s
   unfolding Every bytesFrom placesFrom movedFrom
   placed-at [] h front n l q m s i = elim i [ ]
   placed-at (t ∷ kept) h front n l q m s (now e) =
@@ -181,7 +185,7 @@ module _ (x : Sections) (room : Room) (typeUnits : Bool) (section : List ℕ) (w
   abbrev u : Unit′
   u = Laws.unit x room typeUnits section w answer
 
-  abbrev ks : List Standing
+  abbrev ks : List NestedItem
   ks = Laws.kept x room typeUnits section w answer
 
   abbrev first : ℕ
@@ -196,12 +200,12 @@ module _ (x : Sections) (room : Room) (typeUnits : Bool) (section : List ℕ) (w
       (none-refused x u (w .lists) (w .map) ks (o .none-refused))
 
   -- the m-th kept item, the m-th place, the m-th item read again, and the bytes that are written of it
-  pub placed : (m : ℕ) (s : Standing) → Nth s m ks → PlacedItem x u (w .lists) (w .map) (w .output) first ks m s
+  pub placed : (m : ℕ) (s : NestedItem) → Nth s m ks → PlacedItem x u (w .lists) (w .map) (w .output) first ks m s
   placed =
       placed-at x u (w .lists) (w .map) (w .output) ks every (header-part x room typeUnits section w answer) first (header-size x room typeUnits section w answer)
       (output-is x room typeUnits section w answer)
 
-  entry-again : (m : ℕ) (s : Standing) (y : Entry) → s .item ≡ entry y → PlacedItem x u (w .lists) (w .map) (w .output) first ks m s
+  entry-again : (m : ℕ) (s : NestedItem) (y : Entry) → s .item ≡ entry y → PlacedItem x u (w .lists) (w .map) (w .output) first ks m s
       → EntryAgain (w .lists) (w .map) (o .header .encoding) x (u .bytes) (w .output) (itemsIn x (Laws.again x room typeUnits section w answer)) m s y
   unfolding itemsIn offsetOf movedItem Stands
   entry-again m s y q p =
@@ -224,6 +228,6 @@ module _ (x : Sections) (room : Room) (typeUnits : Bool) (section : List ℕ) (w
 
   -- "Read again, a rewritten unit is the old tree less its dead entries, with order, nesting and, as document 01 has it, values kept.": the attributes of the m-th kept item, an entry, by the
   -- public reader of attributes at its new place
-  pub attributes-law : (m : ℕ) (s : Standing) (y : Entry) → Nth s m ks → s .item ≡ entry y
+  pub attributes-law : (m : ℕ) (s : NestedItem) (y : Entry) → Nth s m ks → s .item ≡ entry y
       → EntryAgain (w .lists) (w .map) (o .header .encoding) x (u .bytes) (w .output) (itemsIn x (Laws.again x room typeUnits section w answer)) m s y
   attributes-law m s y i q = entry-again m s y q (placed m s i)

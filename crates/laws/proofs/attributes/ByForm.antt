@@ -10,9 +10,12 @@ use lib.ListN.{length, drop, length-append}
 use lib.Seq.{drop-drop}
 use lib.Dec.{T, eqb, leb}
 use mir.Facts.{leb-yes, yes-leb, eqb-yes, eqb-no, yes-eqb, no-eqb}
-use Rattle.readers.specs.Choice.{pick, pick-yes, pick-no, either, _and_, _or_, all-of}
-use Rattle.readers.specs.Layout.{Kind, Encoded, Role, reference, typeReference, sibling, index, absolute, Token, nothing, number, bounded, forms, signed, link, string, run, block, expression, unknown, Layout, linked, Read, ExpressionReader, asBytes, tokenIn, readIn, ReadLaw, read-law, bytesOf, writeAll, Patch}
-use Rattle.readers.specs.Expression.{expressionIn, expression-law}
+use Rattle.readers.specs.Choice.{pick, _and_, _or_}
+use Rattle.readers.proofs.Choice.{pick-yes, pick-no, either, all-of}
+use Rattle.readers.specs.Layout.{Kind, Encoded, Role, reference, typeReference, sibling, index, absolute, Token, nothing, number, bounded, forms, signed, link, string, run, block, expression, unknown, Layout, patchable, Read, ExpressionReader, asBytes, tokenIn, readIn, bytesOf, writeAll, Patch}
+use Rattle.readers.proofs.Layouts.{ReadLaw, read-law}
+use Rattle.readers.specs.Expression.{expressionIn}
+use Rattle.readers.proofs.Expression.{expression-law}
 use Rattle.readers.specs.Tokens.{Use, plain, as′}
 use Rattle.readers.specs.Forms.{useOf, valueToken, attributeLayout, listForm}
 use Rattle.readers.specs.Fields.{size, linkedValue, fieldOf}
@@ -22,7 +25,7 @@ use Rattle.readers.specs.Entries.{attributeOfReads, asAttribute, attributeAt, a
 use Rattle.readers.specs.Stream.{Item, entry}
 use Rattle.readers.specs.declared.cursor.Encoding.{Encoding}
 use Rattle.readers.specs.declared.abbreviations.AttributeSpec.{AttributeSpec}
-use Rattle.readers.specs.declared.abbreviations.Found.{Found}
+use Rattle.readers.specs.declared.abbreviations.DeclarationFound.{DeclarationFound}
 use Rattle.readers.specs.declared.attributes.Attribute.{Attribute}
 use Rattle.readers.specs.declared.attributes.AttributeRead.the-variants.{Read as Attribute′}
 use Rattle.readers.specs.declared.entries.Entry.{Entry}
@@ -31,7 +34,7 @@ use Rattle.readers.specs.EntryAttributes.{Valued, valuesOf, specsFrom, entryVal
 use Rattle.marking.specs.Analysis.{Sections, valuesOfEntry}
 use Rattle.marking.specs.Members.{Member, here, there, Nth}
 use Rattle.marking.proofs.Members.{nothing-in}
-use Rattle.rewriting.specs.Places.{Standing, offsetOf}
+use Rattle.rewriting.specs.Places.{NestedItem, offsetOf}
 use Rattle.rewriting.specs.Rewriting.{Unit as Unit′, unitOf, itemsIn, readsAt, newValue, Room, Rewrite, rewritten, collectOf}
 use Rattle.readers.proofs.FormKinds.{roleList, useList, form-list}
 use Rattle.laws.specs.AttributesAgain.{newNumber, useIn, SameAttribute, SameAttributes, EntryAgain}
@@ -61,13 +64,13 @@ member-right a (x ∷ xs) ys m = there (member-right a xs ys m)
 
 -- ---- a number of a role, in some reads
 
-record Held (role : Role) (v : ℕ) (rs : List Read) : Type 0 where
+record RoleAmong (role : Role) (v : ℕ) (rs : List Read) : Type 0 where
   pub code : Encoded
   pub read : Read
   pub among : Member read rs
-  pub within : Member (linked code role v) (read .pieces)
+  pub within : Member (patchable code role v) (read .pieces)
 
-held-in : (role : Role) (v : ℕ) (rs qs : List Read) → ((r : Read) → Member r rs → Member r qs) → Held role v rs → Held role v qs
+held-in : (role : Role) (v : ℕ) (rs qs : List Read) → ((r : Read) → Member r rs → Member r qs) → RoleAmong role v rs → RoleAmong role v qs
 held-in role v rs qs f h = record { code = h .code; read = h .read; among = f (h .read) (h .among); within = h .within }
 
 module _ (e : Encoding) (unit : List ℕ) where
@@ -79,7 +82,7 @@ module _ (e : Encoding) (unit : List ℕ) where
 
   -- the number of an attribute whose form's token is a link of a role is held with that role
   abbrev HeldBy : List Read → Valued → Type 0
-  HeldBy rs a = (role : Role) → LinkForm e (a .name) role (formOf a) → Held role (numberOf a) rs
+  HeldBy rs a = (role : Role) → LinkForm e (a .name) role (formOf a) → RoleAmong role (numberOf a) rs
 
   abbrev AllHeld : List Read → List Valued → Type 0
   AllHeld rs values = (a : Valued) → Member a values → HeldBy rs a
@@ -90,7 +93,7 @@ module _ (e : Encoding) (unit : List ℕ) where
     pub it : Read
     pub is : tokenIn big asBytes t s ≡ some (it, rest)
     pub wide : size big it ≡ size big v
-    pub held : (k : Kind) (role : Role) → t ≡ link k role → Held role (linkedValue (it .pieces) (it .seen)) (v ∷ [])
+    pub held : (k : Kind) (role : Role) → t ≡ link k role → RoleAmong role (linkedValue (it .pieces) (it .seen)) (v ∷ [])
 
   abbrev keep : Patch
   keep r v = v
@@ -106,14 +109,14 @@ module _ (e : Encoding) (unit : List ℕ) where
     unfolding isExpression linkedValue
     link-held k role q =
         let c : LinkRead e keep role (v, rest) = all-of (LinkRead e keep role) (link-read e keep k role s) q in
-        let h : Held role (linkedValue (v .pieces) (v .seen)) (v ∷ []) =
-        subst (λ (r : Read). Held role (linkedValue (r .pieces) (r .seen)) (r ∷ [])) (sym (c .is))
-        (record { code = c .code; read = record { seen = 0; start = 0; pieces = linked (c .code) role (c .value) ∷ [] }; among = here refl; within = here refl }) in
+        let h : RoleAmong role (linkedValue (v .pieces) (v .seen)) (v ∷ []) =
+        subst (λ (r : Read). RoleAmong role (linkedValue (r .pieces) (r .seen)) (r ∷ [])) (sym (c .is))
+        (record { code = c .code; read = record { seen = 0; start = 0; pieces = patchable (c .code) role (c .value) ∷ [] }; among = here refl; within = here refl }) in
         record {
           it = v;
           is = sym (same-reader e keep (link k role) tt s) ∙ q;
           wide = refl;
-          held = (λ j other z. subst (λ (r : Role). Held r (linkedValue (v .pieces) (v .seen)) (v ∷ [])) (role-of k j role other z) h);
+          held = (λ j other z. subst (λ (r : Role). RoleAmong r (linkedValue (v .pieces) (v .seen)) (v ∷ [])) (role-of k j role other z) h);
         }
 
     expression-held : tokenIn big ex expression s ≡ some (v, rest) → TokenHeld expression s v rest
@@ -225,7 +228,7 @@ module _ (e : Encoding) (unit : List ℕ) where
       (subst (AllHeld (d .one ++ d .others)) (sym (more e keep unit unit unit a specs at (t .a) (at + w) (t .is) (t .ends)))
       (joined-held (d .one) (d .others) (record { name = a .name; declared = a .form; value = t .a }) (valuesOf e unit specs (at + w)) (t .held) n))
 
-  entry-held : (x : Sections) (look : ℕ → Found) (y : Entry) (rs : List Read) (rest : List ℕ) → stepAt e (x .abbreviations) look unit (y .offset .0) ≡ Entry′ y
+  entry-held : (x : Sections) (look : ℕ → DeclarationFound) (y : Entry) (rs : List Read) (rest : List ℕ) → stepAt e (x .abbreviations) look unit (y .offset .0) ≡ Entry′ y
       → readIn big ex (entryLayout e (x .abbreviations) look) (drop (y .offset .0) unit) ≡ some (rs, rest) → AllHeld rs (valuesOfEntry e x unit y)
   unfolding valuesOfEntry entryValues
   entry-held x look y rs rest q d =
@@ -296,7 +299,7 @@ module _ (x : Sections) (room : Room) (typeUnits : Bool) (section : List ℕ) (w
   abbrev u : Unit′
   u = Laws.unit x room typeUnits section w answer
 
-  abbrev ks : List Standing
+  abbrev ks : List NestedItem
   ks = Laws.kept x room typeUnits section w answer
 
   abbrev new : Unit′
@@ -305,7 +308,7 @@ module _ (x : Sections) (room : Room) (typeUnits : Bool) (section : List ℕ) (w
   abbrev en : Encoding
   en = u .header .encoding
 
-  module _ (s : Standing) (i : Member s ks) where
+  module _ (s : NestedItem) (i : Member s ks) where
     abbrev f : Patch
     f = newValue (w .lists) (w .map) (s .depth)
 
@@ -319,7 +322,7 @@ module _ (x : Sections) (room : Room) (typeUnits : Bool) (section : List ℕ) (w
       rule : (role : Role) → LinkForm en (a .name) role (formOf a) → useIn a ≡ as′ role → Rule role (numberOf a) (numberOf b)
       unfolding newNumber
       rule role l q =
-          let g : Held role (numberOf a) rs = held role l in
+          let g : RoleAmong role (numberOf a) rs = held role l in
           subst (Rule role (numberOf a)) (sym (h .number ∙ ap (λ (z : Use). newNumber f z (numberOf a)) q))
           (becomes x room typeUnits section w answer s i (g .read) (g .among) (g .code) role (numberOf a) (g .within))
 
@@ -360,7 +363,7 @@ module _ (x : Sections) (room : Room) (typeUnits : Bool) (section : List ℕ) (w
     by-forms old at (a ∷ olds) [] t h = h
     by-forms old at (a ∷ olds) (b ∷ news) t h = (by-form old at a b (h .0) (t a (here refl)), by-forms old at olds news (λ c m. t c (there m)) (h .1))
 
-  entry-numbers : (m : ℕ) (s : Standing) (y : Entry) → s .item ≡ entry y → PlacedItem x u (w .lists) (w .map) (w .output) (Laws.start x room typeUnits section w answer) ks m s
+  entry-numbers : (m : ℕ) (s : NestedItem) (y : Entry) → s .item ≡ entry y → PlacedItem x u (w .lists) (w .map) (w .output) (Laws.start x room typeUnits section w answer) ks m s
       → AllHeld en (u .bytes) (readsAt x u (offsetOf (s .item))) (valuesOfEntry en x (u .bytes) y)
   unfolding offsetOf Stands
   entry-numbers m s y q p =
@@ -370,7 +373,7 @@ module _ (x : Sections) (room : Room) (typeUnits : Bool) (section : List ℕ) (w
       ∙ deep-read x u (w .lists) (w .map) s (p .could))
 
   -- THE NUMBERS OF ATTRIBUTES, BY FORM: of the m-th kept item, an entry
-  pub form-law : (m : ℕ) (s : Standing) (y : Entry) → Nth s m ks → s .item ≡ entry y → EntryByForm x u new (w .lists) (w .map) ks m s y
+  pub form-law : (m : ℕ) (s : NestedItem) (y : Entry) → Nth s m ks → s .item ≡ entry y → EntryByForm x u new (w .lists) (w .map) ks m s y
   unfolding itemsIn
   form-law m s y i q =
       let g : EntryAgain (w .lists) (w .map) en x (u .bytes) (w .output) (itemsIn x (Laws.again x room typeUnits section w answer)) m s y =
@@ -387,9 +390,9 @@ module _ (x : Sections) (room : Room) (typeUnits : Bool) (section : List ℕ) (w
   abbrev t : Thinned x typeUnits section w
   t = thinned-law x room typeUnits section w answer
 
-  pub thinned-form-law : (m : ℕ) (s : Standing) (y : Entry) → Nth s m (t .kept) → s .item ≡ entry y
+  pub thinned-form-law : (m : ℕ) (s : NestedItem) (y : Entry) → Nth s m (t .kept) → s .item ≡ entry y
       → EntryByForm x (unitOf (t .header) section (t .declared)) (thinnedOf (t .header) (w .output) (t .declared)) (w .lists) (w .map) (t .kept) m s y
   thinned-form-law =
       of-thinned x room typeUnits section w answer
-      (λ (h : UnitHeader) (ds : List Placed) (ks : List Standing). (m : ℕ) (s : Standing) (y : Entry) → Nth s m ks → s .item ≡ entry y
+      (λ (h : UnitHeader) (ds : List Placed) (ks : List NestedItem). (m : ℕ) (s : NestedItem) (y : Entry) → Nth s m ks → s .item ≡ entry y
       → EntryByForm x (unitOf h section ds) (thinnedOf h (w .output) ds) (w .lists) (w .map) ks m s y) form-law

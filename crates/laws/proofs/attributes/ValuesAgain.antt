@@ -11,10 +11,13 @@ use lib.ListN.{length, take, drop, length-append, length-drop, take-append-drop,
 use lib.Seq.{length-take-le, take-at, drop-at, drop-append-le, drop-drop}
 use lib.Dec.{T, eqb, leb}
 use mir.Facts.{leb-yes, leb-no, eqb-yes}
-use Rattle.readers.specs.Choice.{pick, pick-yes, pick-no, either, _and_, _or_, bind, bind-at, check-yes, All, all-some, all-none, all-of, all-bind, all-check, all-triv}
+use Rattle.readers.specs.Choice.{pick, _and_, _or_, bind}
+use Rattle.readers.proofs.Choice.{pick-yes, pick-no, either, bind-at, check-yes, All, all-some, all-none, all-of, all-bind, all-check, all-triv}
 use Rattle.readers.specs.Numbers.{uleb, sleb}
-use Rattle.readers.specs.Layout.{Kind, Encoded, Role, index, Token, nothing, number, bounded, forms, signed, link, string, run, block, expression, unknown, Piece, copied, linked, Read, ReadOf, ExpressionReader, asBytes, copy, asNumber, asBounded, asForms, asSigned, asLink, asString, asBlock, asExpression, LebLaw, uleb-law, numberIn, formsIn, stringIn, tokenIn, TokenLaw, token-law, WholeLaw, bytesOf, pieceBytes, Patch, patchPiece, patchPieces, patchRead, FitPieces, same-size}
-use Rattle.readers.specs.Expression.{expressionIn, expression-law}
+use Rattle.readers.specs.Layout.{Kind, Encoded, Role, index, Token, nothing, number, bounded, forms, signed, link, string, run, block, expression, unknown, Piece, verbatim, patchable, Read, ReadOf, ExpressionReader, asBytes, copy, asNumber, asBounded, asForms, asSigned, asLink, asString, asBlock, asExpression, numberIn, formsIn, stringIn, tokenIn, bytesOf, pieceBytes, Patch, patchPiece, patchPieces, patchRead}
+use Rattle.readers.proofs.Layouts.{LebLaw, uleb-law, TokenLaw, token-law, WholeLaw, FitPieces, same-size}
+use Rattle.readers.specs.Expression.{expressionIn}
+use Rattle.readers.proofs.Expression.{expression-law}
 use Rattle.readers.specs.Tokens.{Use, plain, as′, numberAs, tokenOf}
 use Rattle.readers.specs.Forms.{formToken, formTokens, tokenAmong, useOf, valueToken, listForm}
 use Rattle.readers.specs.Fields.{size, linkedValue}
@@ -177,7 +180,7 @@ module _ (e : Encoding) (f : Patch) where
   pub record LinkRead (role : Role) (r : ReadOf) : Type 0 where
     pub code : Encoded
     pub value : ℕ
-    pub is : r .0 ≡ record { seen = 0; start = 0; pieces = linked code role value ∷ [] }
+    pub is : r .0 ≡ record { seen = 0; start = 0; pieces = patchable code role value ∷ [] }
 
   pub link-read : (k : Kind) (role : Role) (s : List ℕ) → All (LinkRead role) (tokenIn big ex (link k role) s)
   unfolding tokenIn asLink
@@ -191,7 +194,7 @@ module _ (e : Encoding) (f : Patch) where
     pub length-bytes : List ℕ
     pub length-width : length length-bytes ≡ it .start
     pub pieces : List Piece
-    pub shape : r .0 ≡ record { seen = 0; start = it .start; pieces = copied length-bytes ∷ pieces }
+    pub shape : r .0 ≡ record { seen = 0; start = it .start; pieces = verbatim length-bytes ∷ pieces }
     pub value : linkedValue (it .pieces) (it .seen) ≡ 0
     pub wide : size big it ≡ size big (r .0)
     pub inner : ex (partOf big s it) ≡ some pieces
@@ -210,7 +213,7 @@ module _ (e : Encoding) (f : Patch) where
       let lw : length (bytesOf big ps) ≡ length b = wl .0 in
       let w : length (a ++ (b ++ [])) ≡ suc (t .0) + t .1 = omega (arith, length-append a (b ++ []), length-append b []) in
       all-some (ExpressionRead s) (record {
-        it = record { seen = 0; start = suc (t .0); pieces = copied a ∷ copied b ∷ [] };
+        it = record { seen = 0; start = suc (t .0); pieces = verbatim a ∷ verbatim b ∷ [] };
         is = bind-at _ q ∙ check-yes _ _ u;
         length-bytes = a;
         length-width = la;

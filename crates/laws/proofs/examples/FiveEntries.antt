@@ -4,25 +4,31 @@ use mathlib.Core.List.{List, [], _∷_, _++_}
 use mathlib.Core.Bool.{true, false}
 use mathlib.Core.Option.{none, some}
 use Prim.Native.Nat.{ℕ}
-use Rattle.readers.specs.Choice.{pick, _and_, _or_, check, bind, All}
+use Rattle.readers.specs.Choice.{pick, _and_, _or_, check, bind}
+use Rattle.readers.proofs.Choice.{All}
 use Rattle.readers.specs.Numbers.{below, groups, unsigned64, uleb, negative, signed64, sleb, padded, littleBytes, littleValue, ordered, fixedBytes, fixedValue}
-use Rattle.readers.specs.Layout.{asBytes, width, kindOf, asLeb, stringIn, within16, short, afterForm, formsWithin, formsIn, copy, asNumber, asLink, asBounded, asForms, asSigned, asString, asBlock, asExpression, before, numberIn, tokenIn, readIn, numberBytes, pieceBytes, bytesOf, writeAll, patchPiece, patchPieces, patchRead, patchAll, Fit, FitPiece, FitPieces, FitAll}
+use Rattle.readers.specs.Layout.{asBytes, width, asLeb, stringIn, within16, short, afterForm, formsWithin, formsIn, copy, asNumber, asLink, asBounded, asForms, asSigned, asString, asBlock, asExpression, before, numberIn, tokenIn, readIn, numberBytes, pieceBytes, bytesOf, writeAll, patchPiece, patchPieces, patchRead, patchAll, Fit}
+use Rattle.readers.proofs.Layouts.{kindOf, FitPiece, FitPieces, FitAll}
 use Rattle.readers.specs.Tokens.{numberAs, tokenOf}
 use Rattle.readers.specs.Operations.{unreadableRow, rows, rowOf, rowLayout, operations, rowAmong, operationRow, operation, rangeEntries, locationEntries, listRow}
-use Rattle.readers.specs.Scan.{push, onTurn, scanWithin, scan, Goes}
+use Rattle.readers.specs.Scan.{push, onTurn, scanWithin, scan}
+use Rattle.readers.proofs.Scan.{Goes}
 use Rattle.readers.specs.Expression.{allPieces, andRest, expressionWithin, expressionIn}
 use Rattle.readers.specs.Forms.{formTokens, tokenAmong, formToken, useOf, valueToken, attributeLayout}
 use Rattle.readers.specs.Cursors.{asGroups, groupsAt, asLebNumber, lebAt, asFixed, fixedAt, skipAt, asMoved, stringAt, asFormNumber, formsAt}
-use Rattle.readers.specs.Fields.{linkedValue, size, fieldOf, asField, rowOfReads, asRow, tokenAt, fieldAt, rowAt, numberField, boundedField, blockField, numberAt, partOf, exprlocAt}
+use Rattle.readers.specs.Fields.{linkedValue, size, fieldOf, asField, rowOfReads, asRow, tokenAt, fieldAt, rowAt, blockField, partOf, exprlocAt}
+use Rattle.readers.specs.inner.Fields.{numberField, boundedField, numberAt}
 use Rattle.readers.specs.Steps.{rowOperation, operationOfReads, asOperation, operationAt, listEntry, rowEntry, entryOfReads, asListStep, listEntryAt}
-use Rattle.readers.specs.References.{nameIn, namesIn, isAbsolute, anyAbsolute, asWalk, walkOf, named, namedType, referenceOf, counted, ownWalk, yieldTurn, operationTurn, walkTurn, yielded, nextReference, namesOf, flatOperation, flatTurn, flat, flattened, flatFrom, walkAnswer, referencesAnswer, numbersOf, namesOr, referencesIn, answerTable, referencesTable}
+use Rattle.readers.specs.References.{nameIn, namesIn, isAbsolute, anyAbsolute, asWalk, walkOf, named, namedType, referenceOf, yieldTurn, operationTurn, walkTurn, yielded, nextReference, namesOf, flatOperation, flatTurn, flat, flattened, flatFrom, walkAnswer, referencesAnswer, numbersOf, namesOr, referencesIn, answerTable, referencesTable}
+use Rattle.readers.specs.inner.References.{counted, ownWalk}
 use Rattle.readers.specs.Header.{present, right, encodingOf, headerMade, headerFields, headerOf}
 use Rattle.readers.specs.Lists.{listStart, fromBase, listOffset}
 use Rattle.readers.specs.Abbreviations.{numberSpec, implicitSpec, specAt, specTurn, attributesFrom, scannedTo, pastAttributes, numberDeclaration, movedDeclaration, headAt, wholeDeclaration, declarationAt, declarationTurn, declarationsFrom, declaredIn, isFound, distinct, checkDistinct, abbreviationsOf, asChecked, checkedOf, indexed, indexFor, indexOf, searchTurn, foundBy, searchAt, declarationFound, findAt}
 use Rattle.readers.specs.Entries.{attributeOfReads, asAttribute, attributeAt, then, attributesLayout, specsLayout, asPast, valuesAt, foundLayout, entryLayout, entryFound, stepOfReads, asStep, stepAt}
 use Rattle.readers.specs.Nesting.{open′, close, top, nestingOf, opened, closed}
 use Rattle.marking.specs.Addresses.{isTombstone, byteLiveness, lookupAt}
-use Rattle.marking.specs.Walking.{onNext, walkWithin, walk, Forward}
+use Rattle.marking.specs.Walking.{onNext, walkWithin, walk}
+use Rattle.marking.proofs.Walking.{Forward}
 use Rattle.marking.specs.Roots.{orElse, onLookup, turnOf, rangeEntry, rangeStep, rangesLive, operationStep, locationLive, olderStep, olderLive, lowPc, lowPcs, locations, otherRanges, rangesOf, firstRanges, rootTest, baseFrom, baseAfter}
 use Rattle.readers.specs.EntryAttributes.{onAttribute, valuesOf, onSpec, specsWithin, specsFrom, entryValues, taken, takenBy, nextAttribute}
 use Rattle.marking.specs.EntryReferences.{after, andThen, targets, walkFound, expressionFound, locationFound, onFound, locationStep, listFound, attributeFound, attributesFound}
@@ -34,7 +40,8 @@ use Rattle.marking.specs.Marks.{has, round, rounds, keptOf, markOf, marksOf, is
 use Rattle.readers.specs.Stream.{push as push′Stream, onStep, itemsWithin, itemsFrom}
 use Rattle.marking.specs.Analysis.{onto, onVerdict, onFound as onFound′Analysis, valuesOfEntry, rootOf, namesOf as namesOf′Analysis, baseOf, analyseItems, onDeclared, unitAnalysed, headerAnalysed, analysisOf, Sections, sections, rooms}
 use Rattle.marking.specs.Columns.{offsetsIn, parentsIn, rootsIn, namesIn as namesIn′Columns, endsIn, padTo, column}
-use Rattle.marking.specs.Resolution.{entryFrom, pairFor, pairsOfEntry, pairsFrom, pairsIn, graphOf, marksIn, unitMarks, asEntry, Ascending}
+use Rattle.marking.specs.Resolution.{entryFrom, pairFor, pairsOfEntry, pairsFrom, pairsIn, graphOf, marksIn, unitMarks, Ascending}
+use Rattle.marking.specs.inner.Resolution.{asEntry}
 use Rattle.rewriting.specs.Places.{opened as opened′Places, closed as closed′Places, innermost, withIf, keptFrom, offsetOf, sizeOf, placesFrom, sizeFrom, newOf, firstFrom, orElse as orElse′Places, siblingOf, Place}
 use Rattle.rewriting.specs.Indices.{insert, insertAll, rankIn, indexIn, indicesIn, readIndices, declares, rankOr, countOf}
 use Rattle.rewriting.specs.Rewriting.{itemsIn, readsOr, readsAt, indicesFrom, itemDeclares, anyDeclares, listOf, listsOf, orSelf, isSome, listAt, newValue, hasPlace, fits, pieceRefusal, orNext, piecesRefusal, readsRefusal, refusalFrom, bytesFrom, unitBytes, listsFit, orRefused, rewriteOf, marksCollected, rowsCollected, analysedCollected, declaredCollected, headerCollected, collectOf, Collected, Room, Lists, noLists, untouched, rewritten, refused as refused″}

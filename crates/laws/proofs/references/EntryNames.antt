@@ -10,10 +10,13 @@ use lib.ListN.{length, take, drop, length-append}
 use lib.Seq.{length-take-le, drop-drop}
 use lib.Dec.{T, eqb, leb}
 use mir.Facts.{leb-yes, yes-eqb, eqb-yes, eqb-no, no-eqb}
-use Rattle.readers.specs.Choice.{pick, pick-yes, pick-no, pick-either, either, _and_, _or_, bind, bind-at, bind-bind, check-yes, All, all-some, all-none, all-of, all-bind, all-check, all-triv}
+use Rattle.readers.specs.Choice.{pick, _and_, _or_, bind}
+use Rattle.readers.proofs.Choice.{pick-yes, pick-no, pick-either, either, bind-at, bind-bind, check-yes, All, all-some, all-none, all-of, all-bind, all-check, all-triv}
 use Rattle.readers.specs.Numbers.{uleb, sleb}
-use Rattle.readers.specs.Layout.{Kind, leb128, reference, sibling, Token, nothing, number, bounded, forms, signed, link, string, run, block, expression, unknown, Layout, done, field, copied, Read, ReadOf, RunOf, ExpressionReader, asBytes, copy, asNumber, asBounded, asForms, asSigned, asLink, asString, asBlock, asExpression, numberIn, formsIn, stringIn, LebLaw, uleb-law, tokenIn, readIn, before, bytesOf, pieceBytes, TokenLaw, token-law, as-bytes-law}
-use Rattle.readers.specs.Expression.{expressionIn, expression-law}
+use Rattle.readers.specs.Layout.{Kind, leb128, reference, sibling, Token, nothing, number, bounded, forms, signed, link, string, run, block, expression, unknown, Layout, done, field, verbatim, Read, ReadOf, RunOf, ExpressionReader, asBytes, copy, asNumber, asBounded, asForms, asSigned, asLink, asString, asBlock, asExpression, numberIn, formsIn, stringIn, tokenIn, readIn, before, bytesOf, pieceBytes}
+use Rattle.readers.proofs.Layouts.{LebLaw, uleb-law, TokenLaw, token-law, as-bytes-law}
+use Rattle.readers.specs.Expression.{expressionIn}
+use Rattle.readers.proofs.Expression.{expression-law}
 use Rattle.readers.specs.Tokens.{Use, plain, as′, numberAs, tokenOf}
 use Rattle.readers.specs.Forms.{formTokens, tokenAmong, formToken, useOf, valueToken, attributeLayout}
 use Rattle.readers.specs.Fields.{size, linkedValue, fieldOf, asField, tokenAt}
@@ -25,8 +28,8 @@ use Rattle.readers.proofs.Values.{valued, behindForms, attribute-direct, attrib
 use Rattle.readers.specs.declared.cursor.Encoding.{Encoding}
 use Rattle.readers.specs.declared.fields.Field.{Field}
 use Rattle.readers.specs.declared.abbreviations.AttributeSpec.{AttributeSpec}
-use Rattle.readers.specs.declared.abbreviations.Found.{Found}
-use Rattle.readers.specs.declared.abbreviations.Found.the-variants.{Declaration as Found′, Nothing}
+use Rattle.readers.specs.declared.abbreviations.DeclarationFound.{DeclarationFound}
+use Rattle.readers.specs.declared.abbreviations.DeclarationFound.the-variants.{Declaration as Found′, Nothing}
 use Rattle.readers.specs.declared.attributes.Attribute.{Attribute}
 use Rattle.readers.specs.declared.attributes.AttributeRead.{AttributeRead}
 use Rattle.readers.specs.declared.attributes.AttributeRead.the-variants.{Read as Attribute′}
@@ -93,7 +96,7 @@ module _ (e : Encoding) (unit : List ℕ) where
 
   -- an expression's payload
   part-is : (at n m : ℕ) (q : List ℕ) → q ≡ drop n (drop at unit) → m ≤ length q → n ≤ length (drop at unit)
-      → partOf unit (fieldOf big at (record { seen = 0; start = n; pieces = copied (take n (drop at unit)) ∷ copied (take m q) ∷ [] })) ≡ take m q
+      → partOf unit (fieldOf big at (record { seen = 0; start = n; pieces = verbatim (take n (drop at unit)) ∷ verbatim (take m q) ∷ [] })) ≡ take m q
   unfolding partOf fieldOf size bytesOf pieceBytes
   part-is at n m q h l k =
       let a : List ℕ = take n (drop at unit) in
@@ -110,7 +113,7 @@ module _ (e : Encoding) (unit : List ℕ) where
       (λ t q u. all-check _ _ _ (λ w.
       all-bind _ _ (deep (take (t .1) (t .2))) _ (all-triv (deep (take (t .1) (t .2))))
       (λ ps p _. all-some (NamedToken expression at) (record {
-        it = record { seen = 0; start = suc (t .0); pieces = copied (take (suc (t .0)) s) ∷ copied (take (t .1) (t .2)) ∷ [] };
+        it = record { seen = 0; start = suc (t .0); pieces = verbatim (take (suc (t .0)) s) ∷ verbatim (take (t .1) (t .2)) ∷ [] };
         is = bind-at _ q ∙ check-yes _ _ w;
         names = sym (ap namesOf (ap deep (part-is at (suc (t .0)) (t .1) (t .2) (u .0 .1) (leb-yes {a = t .1} {b = length (t .2)} w) (u .0 .0)) ∙ p));
       }))))
@@ -382,7 +385,7 @@ module _ (e : Encoding) (unit : List ℕ) where
 
   -- ---- an entry or a terminator
 
-  module _ (abbreviations : List ℕ) (look : ℕ → Found) where
+  module _ (abbreviations : List ℕ) (look : ℕ → DeclarationFound) where
     -- the references at a step: those of an entry's values
     unfoldable pub StepNames : Step → List ℕ → Type 0
     StepNames (Entry′ y) ns = ns ≡ valuesNames (entryValues e abbreviations (y .declaration .attributes .at) unit (y .values .at))
@@ -402,7 +405,7 @@ module _ (e : Encoding) (unit : List ℕ) where
         (sym (specs-all abbreviations p o q)) (values-read (o .0) at)
 
     module _ (at : ℕ) (c : Read) (none-in : piecesNames (c .pieces) ≡ []) where
-      found-at : T (not (eqb (c .seen) 0)) → (f : Found) → look (c .seen) ≡ f
+      found-at : T (not (eqb (c .seen) 0)) → (f : DeclarationFound) → look (c .seen) ≡ f
           → All (At at) (bind (readIn big deep (foundLayout e abbreviations look f) (drop (at + size big c) unit)) (before c))
       unfolding foundLayout readIn before bind readsNames stepOfReads entryFound StepNames
       found-at t Nothing h = all-none _

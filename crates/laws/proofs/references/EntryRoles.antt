@@ -11,11 +11,14 @@ use lib.ListN.{length, getD, take, drop}
 use lib.Seq.{drop-drop}
 use lib.Dec.{T, eqb, leb}
 use mir.Facts.{leb-yes, eqb-yes, eqb-no, no-eqb}
-use Rattle.readers.specs.Choice.{pick, pick-yes, pick-no, pick-either, either, _and_, _or_, bind, bind-at, bind-bind, check-yes, All, all-some, all-none, all-of, all-bind, all-check, all-triv}
+use Rattle.readers.specs.Choice.{pick, _and_, _or_, bind}
+use Rattle.readers.proofs.Choice.{pick-yes, pick-no, pick-either, either, bind-at, bind-bind, check-yes, All, all-some, all-none, all-of, all-bind, all-check, all-triv}
 use Rattle.readers.specs.Numbers.{uleb, sleb}
-use Rattle.readers.specs.Layout.{Encoded, Kind, leb128, Role, reference, typeReference, sibling, index, absolute, Token, nothing, number, bounded, forms, signed, link, string, run, block, expression, unknown, Layout, done, fail, field, Piece, copied, linked, Read, ReadOf, RunOf, ExpressionReader, asBytes, copy, asNumber, asBounded, asForms, asSigned, asLink, asString, asBlock, asExpression, numberIn, formsIn, stringIn, tokenIn, readIn, before, TokenLaw, token-law, as-bytes-law}
-use Rattle.readers.specs.Expression.{allPieces, andRest, expressionWithin, expressionIn, expression-law}
-use Rattle.readers.specs.Operations.{Row, unreadableRow, rows, rowOf, rowLayout, operationRow, operation}
+use Rattle.readers.specs.Layout.{Encoded, Kind, leb128, Role, reference, typeReference, sibling, index, absolute, Token, nothing, number, bounded, forms, signed, link, string, run, block, expression, unknown, Layout, done, fail, field, Piece, verbatim, patchable, Read, ReadOf, RunOf, ExpressionReader, asBytes, copy, asNumber, asBounded, asForms, asSigned, asLink, asString, asBlock, asExpression, numberIn, formsIn, stringIn, tokenIn, readIn, before}
+use Rattle.readers.proofs.Layouts.{TokenLaw, token-law, as-bytes-law}
+use Rattle.readers.specs.Expression.{allPieces, andRest, expressionWithin, expressionIn}
+use Rattle.readers.proofs.Expression.{expression-law}
+use Rattle.readers.specs.Operations.{OperandRow, unreadableRow, rows, rowOf, rowLayout, operationRow, operation}
 use Rattle.readers.specs.Tokens.{Use, plain, as′, numberAs, tokenOf}
 use Rattle.readers.specs.Forms.{formTokens, tokenAmong, formToken, useOf, valueToken, attributeLayout}
 use Rattle.readers.specs.Fields.{size, linkedValue, fieldOf, asField, tokenAt}
@@ -26,8 +29,8 @@ use Rattle.readers.specs.Entries.{attributeAt, attributesLayout, specsLayout, f
 use Rattle.readers.proofs.Values.{valued, behindForms, attribute-direct, attribute-indirect, joined, read-then}
 use Rattle.readers.specs.declared.cursor.Encoding.{Encoding}
 use Rattle.readers.specs.declared.abbreviations.AttributeSpec.{AttributeSpec}
-use Rattle.readers.specs.declared.abbreviations.Found.{Found}
-use Rattle.readers.specs.declared.abbreviations.Found.the-variants.{Declaration as Found′, Nothing}
+use Rattle.readers.specs.declared.abbreviations.DeclarationFound.{DeclarationFound}
+use Rattle.readers.specs.declared.abbreviations.DeclarationFound.the-variants.{Declaration as Found′, Nothing}
 use Rattle.readers.specs.declared.attributes.Attribute.{Attribute}
 use Rattle.readers.specs.declared.attributes.AttributeRead.{AttributeRead}
 use Rattle.readers.specs.declared.attributes.AttributeRead.the-variants.{Read as Attribute′}
@@ -89,8 +92,8 @@ module _ (sought : Role → Bool) (no-reference : sought reference ≡ false) (n
   roleSought r v = pick (sought r) (v ∷ []) []
 
   unfoldable pub pieceSought : Piece → List ℕ
-  pieceSought (copied l) = []
-  pieceSought (linked e r v) = roleSought r v
+  pieceSought (verbatim l) = []
+  pieceSought (patchable e r v) = roleSought r v
 
   unfoldable pub piecesSought : List Piece → List ℕ
   piecesSought [] = []
@@ -154,7 +157,7 @@ module _ (sought : Role → Bool) (no-reference : sought reference ≡ false) (n
       pub alike : r .0 .seen ≡ it .seen
       pub numbers : piecesSought (r .0 .pieces) ≡ tokenSought t (linkedValue (it .pieces) (it .seen))
 
-    link-sought : (e : _) (r : Role) (v : ℕ) → piecesSought (linked e r v ∷ []) ≡ roleSought r v
+    link-sought : (e : _) (r : Role) (v : ℕ) → piecesSought (patchable e r v ∷ []) ≡ roleSought r v
     unfolding piecesSought pieceSought
     link-sought e r v = append-nil _
 
@@ -189,7 +192,7 @@ module _ (sought : Role → Bool) (no-reference : sought reference ≡ false) (n
           (λ t q _. all-check _ _ _ (λ u.
           all-bind (λ (ps : List Piece). piecesSought ps ≡ []) _ (ex (take (t .1) (t .2))) _ (none-sought (take (t .1) (t .2)))
           (λ ps q′ n. all-some (SoughtToken expression s) (record {
-            it = record { seen = 0; start = suc (t .0); pieces = copied (take (suc (t .0)) s) ∷ copied (take (t .1) (t .2)) ∷ [] };
+            it = record { seen = 0; start = suc (t .0); pieces = verbatim (take (suc (t .0)) s) ∷ verbatim (take (t .1) (t .2)) ∷ [] };
             is = bind-at _ q ∙ check-yes _ _ u;
             alike = refl;
             numbers = n;
@@ -255,10 +258,10 @@ module _ (sought : Role → Bool) (no-reference : sought reference ≡ false) (n
 
   -- ---- operations have none
 
-  abbrev PlainRow : Row → Type 0
+  abbrev PlainRow : OperandRow → Type 0
   PlainRow r = (useSought (r .firstUse) ≡ false) × (useSought (r .secondUse) ≡ false)
 
-  unfoldable plainRows : List Row → Bool
+  unfoldable plainRows : List OperandRow → Bool
   plainRows [] = true
   plainRows (r ∷ rs) = operandUse (r .firstUse) and (operandUse (r .secondUse) and plainRows rs)
 
@@ -267,7 +270,7 @@ module _ (sought : Role → Bool) (no-reference : sought reference ≡ false) (n
   both true b t = (tt, t)
   both false b t = absurd t
 
-  plain-row : (rs : List Row) → T (plainRows rs) → (l : ℕ) → PlainRow (getD rs l unreadableRow)
+  plain-row : (rs : List OperandRow) → T (plainRows rs) → (l : ℕ) → PlainRow (getD rs l unreadableRow)
   unfolding plainRows unreadableRow useSought
   plain-row [] h l = (refl, refl)
   plain-row (r ∷ rs) h zero =
@@ -537,7 +540,7 @@ module _ (sought : Role → Bool) (no-reference : sought reference ≡ false) (n
 
       -- ---- an entry or a terminator
 
-      module _ (abbreviations : List ℕ) (look : ℕ → Found) where
+      module _ (abbreviations : List ℕ) (look : ℕ → DeclarationFound) where
         -- those at a step: those of an entry's values
         unfoldable pub StepSought : Step → List ℕ → Type 0
         StepSought (Entry′ y) is = is ≡ valuesSought (entryValues e abbreviations (y .declaration .attributes .at) unit (y .values .at))
@@ -557,7 +560,7 @@ module _ (sought : Role → Bool) (no-reference : sought reference ≡ false) (n
             (sym (specs-all abbreviations p o q)) (values-read (o .0) at)
 
         module _ (at : ℕ) (c : Read) (none-in : piecesSought (c .pieces) ≡ []) where
-          found-at : T (not (eqb (c .seen) 0)) → (f : Found) → look (c .seen) ≡ f
+          found-at : T (not (eqb (c .seen) 0)) → (f : DeclarationFound) → look (c .seen) ≡ f
               → All (At at) (bind (readIn big deep (foundLayout e abbreviations look f) (drop (at + size big c) unit)) (before c))
           unfolding foundLayout readIn before bind readsSought stepOfReads entryFound StepSought
           found-at t Nothing h = all-none _
@@ -603,14 +606,14 @@ module _ (sought : Role → Bool) (no-reference : sought reference ≡ false) (n
   module _ (own : Role) (own-is : T (sought own)) (only-own : (r : Role) → T (sought r) → r ≡ own) (v : ℕ) where
     record OwnIn (ps : List Piece) : Type 0 where
       pub encoded : Encoded
-      pub within : Member (linked encoded own v) ps
+      pub within : Member (patchable encoded own v) ps
 
     piece-out : (p : Piece) (ps : List Piece) → Member v (pieceSought p) → OwnIn (p ∷ ps)
     unfolding pieceSought roleSought
-    piece-out (copied l) ps m = absurd (nothing-in v m)
-    piece-out (linked e r w) ps m =
-        pick-either (λ (l : List ℕ). Member v l → OwnIn (linked e r w ∷ ps)) (sought r) (w ∷ []) []
-        (λ t n. record { encoded = e; within = here (ap (linked e own) (only v w n) ∙ ap (λ (r : Role). linked e r w) (sym (only-own r t))) })
+    piece-out (verbatim l) ps m = absurd (nothing-in v m)
+    piece-out (patchable e r w) ps m =
+        pick-either (λ (l : List ℕ). Member v l → OwnIn (patchable e r w ∷ ps)) (sought r) (w ∷ []) []
+        (λ t n. record { encoded = e; within = here (ap (patchable e own) (only v w n) ∙ ap (λ (r : Role). patchable e r w) (sym (only-own r t))) })
         (λ t n. absurd (nothing-in v n)) m
 
     pieces-out : (ps : List Piece) → Member v (piecesSought ps) → OwnIn ps
@@ -622,13 +625,13 @@ module _ (sought : Role → Bool) (no-reference : sought reference ≡ false) (n
         (λ n. let q : OwnIn ps = pieces-out ps n in record { encoded = q .encoded; within = there (q .within) })
         (in-either v (pieceSought p) (piecesSought ps) m)
 
-    own-in : (e : Encoded) → Member v (pieceSought (linked e own v))
+    own-in : (e : Encoded) → Member v (pieceSought (patchable e own v))
     unfolding pieceSought roleSought
     own-in e = subst (Member v) (sym (pick-yes _ _ _ own-is)) (here refl)
 
-    pieces-in : (ps : List Piece) (e : Encoded) → Member (linked e own v) ps → Member v (piecesSought ps)
+    pieces-in : (ps : List Piece) (e : Encoded) → Member (patchable e own v) ps → Member v (piecesSought ps)
     unfolding piecesSought
-    pieces-in [] e m = absurd (nothing-in (linked e own v) m)
+    pieces-in [] e m = absurd (nothing-in (patchable e own v) m)
     pieces-in (p ∷ ps) e (here q) = in-left v (pieceSought p) (piecesSought ps) (subst (λ (z : Piece). Member v (pieceSought z)) q (own-in e))
     pieces-in (p ∷ ps) e (there m) = in-right v (pieceSought p) (piecesSought ps) (pieces-in ps e m)
 

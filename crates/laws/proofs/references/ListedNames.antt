@@ -9,7 +9,8 @@ use mathlib.Core.Logic.{_⊎_, inl, inr, ⊎-elim, _↔_}
 use lib.ListN.{length}
 use lib.Dec.{T, eqb, leb}
 use mir.Facts.{leb-yes, yes-leb, eqb-yes, eqb-no, no-eqb}
-use Rattle.readers.specs.Choice.{pick, pick-yes, pick-no, pick-either, _and_, _or_}
+use Rattle.readers.specs.Choice.{pick, _and_, _or_}
+use Rattle.readers.proofs.Choice.{pick-yes, pick-no, pick-either}
 use Rattle.readers.specs.Layout.{Piece}
 use Rattle.readers.specs.Expression.{expressionIn}
 use Rattle.readers.specs.References.{flatFrom}
@@ -24,9 +25,10 @@ use Rattle.readers.specs.declared.lists.ListOffset.the-variants.{At, Unresolved
 use Rattle.readers.specs.declared.operations.ListEntry.{ListEntry}
 use Rattle.readers.specs.declared.operations.ListStep.{ListStep}
 use Rattle.readers.specs.declared.operations.ListStep.the-variants.{Entry, End, Unreadable as NoEntry}
-use Rattle.marking.specs.Walking.{Next, onNext, walk, Forward, walk-step}
+use Rattle.marking.specs.Walking.{Next, onNext, walk}
+use Rattle.marking.proofs.Walking.{Forward, walk-step}
 use Rattle.readers.specs.EntryAttributes.{Valued}
-use Rattle.marking.specs.EntryReferences.{Found, found, refused, after, andThen, targets, expressionFound, partOf, Reached, reachedAt, locationFound, onFound, locationStep, listFound, Locations, locationsBy, attributeFound, attributesFound}
+use Rattle.marking.specs.EntryReferences.{ReferencesFound, found, refused, after, andThen, targets, expressionFound, partOf, Reached, reachedAt, locationFound, onFound, locationStep, listFound, Locations, locationsBy, attributeFound, attributesFound}
 use Rattle.marking.proofs.LocationLists.{listFrom, list-start}
 use Rattle.marking.specs.Members.{Member, here, there}
 use Rattle.laws.specs.SameReferences.{NamedIn, FormNames, ExprlocNames, FormReference, InExpression, InEntry, InList, this, later, locationList, ListedBy, ListReference}
@@ -67,7 +69,7 @@ module _ (e : Encoding) (s : List ℕ) (v : ℕ) where
   unfolding locationFound
   in-entry x ys =
       let f : Field = pick (eqb (x .kind) 5) (x .first) (x .third) in
-      pick-either (λ (g : Found). g ≡ found ys → Member v ys ↔ InEntry e s v x) (eqb (x .kind) 1 or eqb (x .kind) 6) (found []) (expressionFound e (partOf s f))
+      pick-either (λ (g : ReferencesFound). g ≡ found ys → Member v ys ↔ InEntry e s v x) (eqb (x .kind) 1 or eqb (x .kind) 6) (found []) (expressionFound e (partOf s f))
       (λ t q. (
         λ m. absurd (nothing-in v (subst (Member v) (found-same [] ys q) m)),
         λ i. absurd (⊎-elim (λ y. i .no-index (eqb-yes {a = x .kind} {b = 1} y)) (λ y. i .no-address (eqb-yes {a = x .kind} {b = 6} y)) (one-of (eqb (x .kind) 1) (eqb (x .kind) 6) t)),
@@ -82,7 +84,7 @@ module _ (e : Encoding) (s : List ℕ) (v : ℕ) where
 
   -- ---- a list, from a place on
 
-  found-forward : (p : Reached) (x : ListEntry) (f : Found) → p .at < x .next .at → x .next .at ≤ length s → Forward reachedAt (length s) p (onFound (p .sofar) x f)
+  found-forward : (p : Reached) (x : ListEntry) (f : ReferencesFound) → p .at < x .next .at → x .next .at ≤ length s → Forward reachedAt (length s) p (onFound (p .sofar) x f)
   unfolding onFound Forward
   found-forward p x (found ys) lo hi = (lo, hi)
   found-forward p x (refused ys n) lo hi = tt
@@ -93,7 +95,7 @@ module _ (e : Encoding) (s : List ℕ) (v : ℕ) where
   list-forward p End q = tt
   list-forward p NoEntry q = tt
 
-  abbrev turn : Reached → Next Reached Found
+  abbrev turn : Reached → Next Reached ReferencesFound
   turn p = locationStep e s (p .sofar) (listEntryAt e true s (p .at))
 
   list-turn : (at : ℕ) (sofar : List ℕ) (o : ListStep) → listEntryAt e true s at ≡ o → listFrom e s at sofar ≡ onNext (locationStep e s sofar o) (walk reachedAt (length s) turn (found []))
@@ -103,10 +105,10 @@ module _ (e : Encoding) (s : List ℕ) (v : ℕ) where
       ∙ ap (λ (w : ListStep). onNext (locationStep e s sofar w) (walk reachedAt (length s) turn (found []))) q
 
   -- what follows an entry, by what is found in it
-  list-on : (at : ℕ) (sofar : List ℕ) (x : ListEntry) → listEntryAt e true s at ≡ Entry x → (f : Found) → locationFound e s x ≡ f
+  list-on : (at : ℕ) (sofar : List ℕ) (x : ListEntry) → listEntryAt e true s at ≡ Entry x → (f : ReferencesFound) → locationFound e s x ≡ f
       → listFrom e s at sofar ≡ onNext (onFound sofar x f) (walk reachedAt (length s) turn (found []))
   unfolding locationStep
-  list-on at sofar x q f p = list-turn at sofar (Entry x) q ∙ ap (λ (g : Found). onNext (onFound sofar x g) (walk reachedAt (length s) turn (found []))) p
+  list-on at sofar x q f p = list-turn at sofar (Entry x) q ∙ ap (λ (g : ReferencesFound). onNext (onFound sofar x g) (walk reachedAt (length s) turn (found []))) p
 
   in-ended : {at : ℕ} → InList e s v at → listEntryAt e true s at ≡ End → ⊥
   in-ended (this x p i) q = let r : Entry x ≡ End = sym p ∙ q in let z : _≡_ {A = ℕ} 0 1 = cc in omega arith
@@ -119,7 +121,7 @@ module _ (e : Encoding) (s : List ℕ) (v : ℕ) where
   abbrev From : ℕ → Type 0
   From at = (sofar ys : List ℕ) → listFrom e s at sofar ≡ found ys → Member v ys ↔ (Member v sofar ⊎ InList e s v at)
 
-  by-found : (at : ℕ) (x : ListEntry) → listEntryAt e true s at ≡ Entry x → From (x .next .at) → (f : Found) → locationFound e s x ≡ f → From at
+  by-found : (at : ℕ) (x : ListEntry) → listEntryAt e true s at ≡ Entry x → From (x .next .at) → (f : ReferencesFound) → locationFound e s x ≡ f → From at
   unfolding onNext onFound listFrom
   by-found at x q ih (refused zs n) p sofar ys r = absurd (not-found (sofar ++ zs) ys n (sym (list-on at sofar x q (refused zs n) p) ∙ r))
   by-found at x q ih (found zs) p sofar ys r =
@@ -179,7 +181,7 @@ module _ (e : Encoding) (unit locations : List ℕ) (base v : ℕ) where
     abbrev Listed : Type 0
     Listed = ListedBy e locations v base a
 
-    abbrev Same : List ℕ → Found → Type 0
+    abbrev Same : List ℕ → ReferencesFound → Type 0
     Same ys f = f ≡ found ys → Member v ys ↔ (Member v own ⊎ Listed)
 
     own-only : (ys xs : List ℕ) → ys ≡ xs → own ≡ xs → (Listed → ⊥) → Member v ys ↔ (Member v own ⊎ Listed)
@@ -245,7 +247,7 @@ module _ (e : Encoding) (unit locations : List ℕ) (base v : ℕ) where
     abbrev Named : Type 0
     Named = (a .name ≡ 0x01 → ⊥) × (FormNames e unit v (a .value) ⊎ ExprlocNames e unit v (a .value))
 
-    abbrev ByForm : Found → Type 0
+    abbrev ByForm : ReferencesFound → Type 0
     ByForm f = (ys : List ℕ) → f ≡ found ys → Member v own ↔ Named
 
     none-named : own ≡ [] → (Named → ⊥) → Member v own ↔ Named
@@ -291,14 +293,14 @@ module _ (e : Encoding) (unit locations : List ℕ) (base v : ℕ) where
 
   -- ---- the attributes of an entry
 
-  record Both (f g : Found) (names : List ℕ) : Type 0 where
+  record Both (f g : ReferencesFound) (names : List ℕ) : Type 0 where
     pub ys : List ℕ
     pub zs : List ℕ
     pub first : f ≡ found ys
     pub next : g ≡ found zs
     pub names-are : names ≡ ys ++ zs
 
-  both-found : (f g : Found) (names : List ℕ) → andThen f g ≡ found names → Both f g names
+  both-found : (f g : ReferencesFound) (names : List ℕ) → andThen f g ≡ found names → Both f g names
   unfolding andThen after
   both-found (found ys) (found zs) names q = record { ys = ys; zs = zs; first = refl; next = refl; names-are = found-same (ys ++ zs) names q }
   both-found (found ys) (refused zs n) names q = absurd (not-found (ys ++ zs) names n q)

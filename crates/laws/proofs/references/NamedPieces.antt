@@ -9,8 +9,9 @@ use mathlib.Core.Option.{Option, none, some}
 use lib.ListN.{length}
 use lib.Dec.{eqb}
 use mir.Facts.{eqb-no, no-eqb}
-use Rattle.readers.specs.Choice.{pick, pick-no, pick-either}
-use Rattle.readers.specs.Layout.{Encoded, Role, reference, typeReference, sibling, index, absolute, Piece, copied, linked, pieceBytes, Read}
+use Rattle.readers.specs.Choice.{pick}
+use Rattle.readers.proofs.Choice.{pick-no, pick-either}
+use Rattle.readers.specs.Layout.{Encoded, Role, reference, typeReference, sibling, index, absolute, Piece, verbatim, patchable, pieceBytes, Read}
 use Rattle.readers.specs.Expression.{expressionIn}
 use Rattle.readers.specs.References.{Named, nameIn, namesIn, namesOr, referencesIn, walkOf, flatFrom}
 use Rattle.readers.proofs.Answers.{walked-flat}
@@ -32,8 +33,8 @@ roleNames (index k) v = []
 roleNames absolute v = []
 
 unfoldable pub pieceNames : Piece → List ℕ
-pieceNames (copied l) = []
-pieceNames (linked e r v) = roleNames r v
+pieceNames (verbatim l) = []
+pieceNames (patchable e r v) = roleNames r v
 
 unfoldable pub piecesNames : List Piece → List ℕ
 piecesNames [] = []
@@ -67,12 +68,12 @@ target-unless false n = refl
 
 piece-targets : (at : ℕ) (p : Piece) → targets (nameIn at p) ≡ pieceNames p
 unfolding targets nameIn pieceNames roleNames
-piece-targets at (copied l) = refl
-piece-targets at (linked e reference v) = refl
-piece-targets at (linked e typeReference v) = target-unless (eqb v 0) (at, v, e)
-piece-targets at (linked e sibling v) = refl
-piece-targets at (linked e (index k) v) = refl
-piece-targets at (linked e absolute v) = refl
+piece-targets at (verbatim l) = refl
+piece-targets at (patchable e reference v) = refl
+piece-targets at (patchable e typeReference v) = target-unless (eqb v 0) (at, v, e)
+piece-targets at (patchable e sibling v) = refl
+piece-targets at (patchable e (index k) v) = refl
+piece-targets at (patchable e absolute v) = refl
 
 pieces-targets : (big : Bool) (at : ℕ) (ps : List Piece) → targets (namesIn big at ps) ≡ piecesNames ps
 unfolding targets namesIn piecesNames
@@ -130,8 +131,8 @@ module _ (v : ℕ) where
 
   piece-out : (p : Piece) (ps : List Piece) → Member v (pieceNames p) → NamedIn (p ∷ ps) v
   unfolding pieceNames
-  piece-out (copied l) ps m = absurd (nothing-in v m)
-  piece-out (linked e r w) ps m = let q = role-out r w m in record { encoded = e; role = r; names = q .1; within = here (ap (linked e r) (q .0)) }
+  piece-out (verbatim l) ps m = absurd (nothing-in v m)
+  piece-out (patchable e r w) ps m = let q = role-out r w m in record { encoded = e; role = r; names = q .1; within = here (ap (patchable e r) (q .0)) }
 
   pieces-out : (ps : List Piece) → Member v (piecesNames ps) → NamedIn ps v
   unfolding piecesNames
@@ -142,13 +143,13 @@ module _ (v : ℕ) where
       (λ n. let q : NamedIn ps v = pieces-out ps n in record { encoded = q .encoded; role = q .role; names = q .names; within = there (q .within) })
       (in-either v (pieceNames p) (piecesNames ps) m)
 
-  piece-in : (e : Encoded) (r : Role) → Names r v → Member v (pieceNames (linked e r v))
+  piece-in : (e : Encoded) (r : Role) → Names r v → Member v (pieceNames (patchable e r v))
   unfolding pieceNames
   piece-in e r n = role-in r n
 
-  pieces-in : (ps : List Piece) (e : Encoded) (r : Role) → Names r v → Member (linked e r v) ps → Member v (piecesNames ps)
+  pieces-in : (ps : List Piece) (e : Encoded) (r : Role) → Names r v → Member (patchable e r v) ps → Member v (piecesNames ps)
   unfolding piecesNames
-  pieces-in [] e r n m = absurd (nothing-in (linked e r v) m)
+  pieces-in [] e r n m = absurd (nothing-in (patchable e r v) m)
   pieces-in (p ∷ ps) e r n (here q) = in-left v (pieceNames p) (piecesNames ps) (subst (λ (z : Piece). Member v (pieceNames z)) q (piece-in e r n))
   pieces-in (p ∷ ps) e r n (there m) = in-right v (pieceNames p) (piecesNames ps) (pieces-in ps e r n m)
 

@@ -20,7 +20,7 @@ use Rattle.readers.specs.declared.header.HeaderRead.{HeaderRead}
 use Rattle.readers.specs.declared.header.HeaderRead.the-variants.{Unit as Header′, Empty, Refused}
 use Rattle.readers.specs.declared.header.UnitHeader.{UnitHeader}
 use Rattle.marking.specs.EntryReferences.{found}
-use Rattle.marking.specs.Analysis.{Sections, Rooms, Row, analysed, refused as notAnalysed, startOf, analyseItems, onDeclared, unitAnalysed, headerAnalysed, analysisOf, valuesOfEntry, namesOf, baseOf}
+use Rattle.marking.specs.Analysis.{Sections, Rooms, EntryRow, analysed, refused as notAnalysed, startOf, analyseItems, onDeclared, unitAnalysed, headerAnalysed, analysisOf, valuesOfEntry, namesOf, baseOf}
 use Rattle.marking.specs.Members.{Member, here, there}
 use Rattle.rewriting.specs.Rewriting.{Unit as Unit′, itemsIn, readsOr, readsAt, Room, unitOf}
 use Rattle.laws.specs.SameReferences.{RoleReference, valuesIn, baseAt, SameReferences, RowsReferences, RowReferences, UnitReferences}
@@ -89,13 +89,13 @@ module _ (x : Sections) (u : Unit′) where
   abbrev StandAll : List Item → Type 0
   StandAll items = EveryItem (Stands (u .header .encoding) (x .abbreviations) (declaredIn (u .declared)) (u .bytes)) items
 
-  abbrev FollowAll : ℕ → List ℕ → ℕ → ℕ → List Item → List Row → Type 0
+  abbrev FollowAll : ℕ → List ℕ → ℕ → ℕ → List Item → List EntryRow → Type 0
   FollowAll k stack rb lb items rows = RowsOf (u .header .encoding) x (u .bytes) k stack rb lb items rows
 
   abbrev rangeBase : ℕ → Entry → ℕ
   rangeBase rb y = baseOf (u .header .encoding) x (u .bytes) 0x74 rb y
 
-  rows-references : (k : ℕ) (stack : List ℕ) (rb lb : ℕ) (items : List Item) (rows : List Row)
+  rows-references : (k : ℕ) (stack : List ℕ) (rb lb : ℕ) (items : List Item) (rows : List EntryRow)
       → FollowAll k stack rb lb items rows → StandAll items → RowsReferences x u lb items rows
   unfolding RowsOf EveryItem Stands RowsReferences
   rows-references k stack rb lb [] rows f s = f
@@ -106,10 +106,10 @@ module _ (x : Sections) (u : Unit′) where
     rows-references (suc k) (open′ (y .declaration .children) k stack) (rangeBase rb y) (baseAt x u lb y) rest rows (f .1) (s .1),
   )
 
-  further : (r : Row) (rows : List Row) (y : Entry) → RowReferences x u rows y → RowReferences x u (r ∷ rows) y
+  further : (r : EntryRow) (rows : List EntryRow) (y : Entry) → RowReferences x u rows y → RowReferences x u (r ∷ rows) y
   further r rows y q = record { row = q .row; among = there (q .among); offset-is = q .offset-is; base = q .base; same = q .same }
 
-  row-references : (k : ℕ) (stack : List ℕ) (rb lb : ℕ) (items : List Item) (rows : List Row)
+  row-references : (k : ℕ) (stack : List ℕ) (rb lb : ℕ) (items : List Item) (rows : List EntryRow)
       → FollowAll k stack rb lb items rows → StandAll items → (y : Entry) → Member (entry y) items → RowReferences x u rows y
   unfolding RowsOf EveryItem Stands
   row-references k stack rb lb [] rows f s y m = absurd (nothing-in (entry y) m)
@@ -132,7 +132,7 @@ module _ (x : Sections) (u : Unit′) where
 
 -- ---- of an accepted unit
 
-module _ (x : Sections) (room : Room) (section : List ℕ) (h : UnitHeader) (ds : List Placed) (rows : List Row)
+module _ (x : Sections) (room : Room) (section : List ℕ) (h : UnitHeader) (ds : List Placed) (rows : List EntryRow)
     (a : Accepted x room section h ds rows) where
   abbrev unit : Unit′
   unit = unitOf h section ds
@@ -151,7 +151,7 @@ module _ (x : Sections) (room : Room) (section : List ℕ) (h : UnitHeader) (ds 
 
 -- ---- of every unit that is analysed
 
-module _ (x : Sections) (section : List ℕ) (room : Rooms) (rows : List Row) where
+module _ (x : Sections) (section : List ℕ) (room : Rooms) (rows : List EntryRow) where
   -- room for the tables is all that counts here
   abbrev tablesOnly : Room
   tablesOnly = record { tables = room; ranges = 0; locations = 0; strings = 0; places = 0; bytes = 0 }

@@ -9,7 +9,8 @@ use native.Mathlib.Omega.{arith}
 use lib.ListN.{take, drop}
 use lib.Dec.{T, eqb, leb}
 use mir.Facts.{eqb-yes, yes-eqb, leb-yes, leb-no, yes-leb}
-use Rattle.readers.specs.Choice.{pick, pick-yes, pick-either, either, _and_, _or_}
+use Rattle.readers.specs.Choice.{pick, _and_, _or_}
+use Rattle.readers.proofs.Choice.{pick-yes, pick-either, either}
 use Rattle.readers.specs.Tokens.{Use, plain, as′}
 use Rattle.readers.specs.Forms.{useOf, listForm}
 use Rattle.readers.specs.Layout.{Role, reference, typeReference, sibling, index, absolute, Read, RunOf, readIn}
@@ -27,11 +28,11 @@ use Rattle.readers.specs.declared.header.HeaderRead.{HeaderRead}
 use Rattle.readers.specs.declared.header.HeaderRead.the-variants.{Unit as Header′, Empty, Refused}
 use Rattle.readers.specs.declared.header.UnitHeader.{UnitHeader}
 use Rattle.readers.specs.EntryAttributes.{Valued}
-use Rattle.marking.specs.Analysis.{Sections, Rooms, Row, analysed, refused as notAnalysed, startOf, analyseItems, onDeclared, unitAnalysed, headerAnalysed, analysisOf, valuesOfEntry, baseOf}
+use Rattle.marking.specs.Analysis.{Sections, Rooms, EntryRow, analysed, refused as notAnalysed, startOf, analyseItems, onDeclared, unitAnalysed, headerAnalysed, analysisOf, valuesOfEntry, baseOf}
 use Rattle.marking.specs.Members.{Member, here, there}
 use Rattle.marking.specs.EntryRows.{RowsOf}
 use Rattle.rewriting.specs.Indices.{readIndices}
-use Rattle.rewriting.specs.IndexLists.{formList, valueIndex, valueIndices}
+use Rattle.rewriting.specs.inner.IndexLists.{formList, valueIndex, valueIndices}
 use Rattle.rewriting.specs.Rewriting.{Unit as Unit′, itemsIn, readsOr, readsAt, Room, unitOf}
 use Rattle.laws.specs.SameReferences.{valuesIn, readsIn}
 use Rattle.laws.specs.SameRoles.{RoleRead, FormIndex, FormSibling, SameRoles, UnitRoles}
@@ -369,7 +370,7 @@ module _ (x : Sections) (u : Unit′) where
   abbrev locationBase : ℕ → Entry → ℕ
   locationBase lb y = baseOf (u .header .encoding) x (u .bytes) 0x8c lb y
 
-  items-roles : (k : ℕ) (stack : List ℕ) (rb lb : ℕ) (items : List Item) (rows : List Row)
+  items-roles : (k : ℕ) (stack : List ℕ) (rb lb : ℕ) (items : List Item) (rows : List EntryRow)
       → RowsOf (u .header .encoding) x (u .bytes) k stack rb lb items rows
       → EveryItem (Stands (u .header .encoding) (x .abbreviations) (declaredIn (u .declared)) (u .bytes)) items
       → (y : Entry) → Member (entry y) items → SameRoles x u y
@@ -386,7 +387,7 @@ module _ (x : Sections) (u : Unit′) where
 
 -- ---- of an accepted unit
 
-module _ (x : Sections) (room : Room) (section : List ℕ) (h : UnitHeader) (ds : List Placed) (rows : List Row)
+module _ (x : Sections) (room : Room) (section : List ℕ) (h : UnitHeader) (ds : List Placed) (rows : List EntryRow)
     (a : Accepted x room section h ds rows) where
   abbrev unit : Unit′
   unit = unitOf h section ds
@@ -403,7 +404,7 @@ module _ (x : Sections) (room : Room) (section : List ℕ) (h : UnitHeader) (ds 
 
 -- ---- of every unit that is analysed
 
-module _ (x : Sections) (section : List ℕ) (room : Rooms) (rows : List Row) where
+module _ (x : Sections) (section : List ℕ) (room : Rooms) (rows : List EntryRow) where
   -- room for the tables is all that counts here
   abbrev tablesOnly : Room
   tablesOnly = record { tables = room; ranges = 0; locations = 0; strings = 0; places = 0; bytes = 0 }

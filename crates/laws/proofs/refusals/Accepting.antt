@@ -7,12 +7,12 @@ use native.Mathlib.Omega.{arith}
 use lib.ListN.{length}
 use lib.Dec.{T, leb, eqb}
 use mir.Facts.{yes-eqb, no-eqb, yes-leb}
-use Rattle.readers.specs.Choice.{pick-yes, pick-no}
-use Rattle.marking.specs.Analysis.{Sections, Row}
+use Rattle.readers.proofs.Choice.{pick-yes, pick-no}
+use Rattle.marking.specs.Analysis.{Sections, EntryRow}
 use Rattle.marking.specs.Marks.{keptCount}
 use Rattle.marking.specs.Resolution.{marksIn}
 use Rattle.marking.proofs.UnitMarkings.{marks-each}
-use Rattle.rewriting.specs.Places.{Standing, keptFrom, Place, placesFrom, sizeFrom}
+use Rattle.rewriting.specs.Places.{NestedItem, keptFrom, Place, placesFrom, sizeFrom}
 use Rattle.rewriting.specs.Rewriting.{Unit as Unit′, itemsIn, Lists, noLists, refusalFrom, Room, untouched, rewritten, listsFit, orRefused, rewriteOf, marksCollected, rowsCollected, analysedCollected, declaredCollected, headerCollected, collectOf}
 use Rattle.laws.specs.RefusalStages.{UnitRead, unitRead, keptIn, listsIn, Acceptable, rewriteIn, AcceptedAs}
 use Rattle.laws.proofs.refusals.ValueRefusals.{none-means}
@@ -22,13 +22,13 @@ so true q = tt
 so false q = absurd (false≢true q)
 
 module _ (x : Sections) (room : Room) (typeUnits : Bool) where
-  rows-on : (u : Unit′) (rows : List Row) → 0 < length rows
+  rows-on : (u : Unit′) (rows : List EntryRow) → 0 < length rows
       → rowsCollected x room typeUnits u rows ≡ marksCollected x room typeUnits u (marksIn rows) (keptFrom (marksIn rows) 0 [] (itemsIn x u))
   unfolding rowsCollected
   rows-on u [] h = absurd (omega arith)
   rows-on u (r ∷ rows) h = refl
 
-  rows-none : (u : Unit′) (rows : List Row) → length rows ≡ 0 → rowsCollected x room typeUnits u rows ≡ untouched 0 noLists
+  rows-none : (u : Unit′) (rows : List EntryRow) → length rows ≡ 0 → rowsCollected x room typeUnits u rows ≡ untouched 0 noLists
   unfolding rowsCollected
   rows-none u [] h = refl
   rows-none u (r ∷ rows) h = absurd (omega arith)
@@ -40,7 +40,7 @@ module _ (x : Sections) (room : Room) (typeUnits : Bool) (section : List ℕ) (u
   abbrev marks : List ℕ
   marks = marksIn (u .rows)
 
-  abbrev kept : List Standing
+  abbrev kept : List NestedItem
   kept = keptIn x room typeUnits section u
 
   abbrev lists : Lists

@@ -3,7 +3,8 @@ use mathlib.Core.Path.{_≡_, refl}
 use Prim.Native.Nat.{ℕ}
 use mathlib.Core.Bool.{Bool, true, false}
 use mathlib.Core.List.{List, [], _∷_}
-use Rattle.readers.specs.Choice.{pick-either, _and_, _or_}
+use Rattle.readers.specs.Choice.{_and_, _or_}
+use Rattle.readers.proofs.Choice.{pick-either}
 use Rattle.laws.proofs.refusals.ReaderRefusals.{isOneOf, areOf, one-of, wider}
 use Rattle.rewriting.specs.Rewriting.{Room, Collected, untouched, rewritten, refused, collectOf}
 use Rattle.rewriting.specs.Outputs.{answerFor}

@@ -10,20 +10,21 @@ use mathlib.Core.Option.{Option, none, some}
 use lib.ListN.{length, take}
 use lib.Dec.{T, leb, eqb}
 use mir.Facts.{eqb-no, leb-yes, leb-no, yes-eqb, no-eqb, yes-leb, no-leb}
-use Rattle.readers.specs.Choice.{pick, pick-either, pick-no, pick-yes, _and_, _or_}
+use Rattle.readers.specs.Choice.{pick, _and_, _or_}
+use Rattle.readers.proofs.Choice.{pick-either, pick-no, pick-yes}
 use Rattle.laws.specs.RefusalNumbers.{OneOf, CollectRefusal, PaddedRefusal}
 use Rattle.readers.specs.Abbreviations.{Placed, abbreviationsOf}
 use Rattle.readers.specs.Header.{headerOf}
-use Rattle.readers.specs.Layout.{Piece, copied, linked, Read}
+use Rattle.readers.specs.Layout.{Piece, verbatim, patchable, Read}
 use Rattle.readers.specs.declared.header.UnitHeader.{UnitHeader}
 use Rattle.readers.specs.declared.header.HeaderRead.{HeaderRead}
 use Rattle.readers.specs.declared.header.HeaderRead.the-variants.{Unit as Header′, Empty, Refused}
 use Rattle.laws.proofs.refusals.ReaderRefusals.{isOneOf, areOf, one-of, wider, header-refusal}
-use Rattle.marking.specs.Analysis.{Sections, Row, Analysed, analysed, refused as notAnalysed, analysisOf}
+use Rattle.marking.specs.Analysis.{Sections, EntryRow, Analysed, analysed, refused as notAnalysed, analysisOf}
 use Rattle.marking.specs.Marks.{keptCount}
 use Rattle.marking.specs.Resolution.{marksIn}
 use Rattle.laws.proofs.refusals.MarkingRefusals.{entries-refusal}
-use Rattle.rewriting.specs.Places.{Standing, Place, placesFrom, sizeFrom}
+use Rattle.rewriting.specs.Places.{NestedItem, Place, placesFrom, sizeFrom}
 use Rattle.rewriting.specs.Rewriting.{Unit as Unit′, Lists, Room, Rewrite, Collected, untouched, rewritten, refused, pieceRefusal, orNext, piecesRefusal, readsRefusal, refusalFrom, listsFit, orRefused, rewriteOf, marksCollected, rowsCollected, analysedCollected, declaredCollected, headerCollected, collectOf}
 use Rattle.laws.specs.ValueRefusals.{Unplaced, TooWide}
 use Rattle.rewriting.specs.Written.{groupsFit, paddedAnswer}
@@ -58,8 +59,8 @@ module _ (lists : Lists) (map : List Place) (depth : ℕ) where
 
   piece-late : (p : Piece) → Late (pieceRefusal lists map depth p)
   unfolding pieceRefusal
-  piece-late (copied l) = none-late
-  piece-late (linked e r v) = pick-either Late _ _ _ (λ _. pick-either Late _ _ _ (λ _. none-late) (λ _. nine-late)) (λ _. eight-late)
+  piece-late (verbatim l) = none-late
+  piece-late (patchable e r v) = pick-either Late _ _ _ (λ _. pick-either Late _ _ _ (λ _. none-late) (λ _. nine-late)) (λ _. eight-late)
 
   pieces-late : (ps : List Piece) → Late (piecesRefusal lists map depth ps)
   unfolding piecesRefusal
@@ -71,7 +72,7 @@ module _ (lists : Lists) (map : List Place) (depth : ℕ) where
   reads-late [] = none-late
   reads-late (r ∷ rs) = next-late _ _ (pieces-late (r .pieces)) (reads-late rs)
 
-pub values-late : (x : Sections) (u : Unit′) (lists : Lists) (map : List Place) (kept : List Standing) → Late (refusalFrom x u lists map kept)
+pub values-late : (x : Sections) (u : Unit′) (lists : Lists) (map : List Place) (kept : List NestedItem) → Late (refusalFrom x u lists map kept)
 unfolding refusalFrom
 values-late x u lists map [] = none-late
 values-late x u lists map (s ∷ kept) = next-late lists map (s .depth) _ _ (reads-late lists map (s .depth) _) (values-late x u lists map kept)
@@ -127,7 +128,7 @@ module _ (x : Sections) (room : Room) (typeUnits : Bool) (section : List ℕ) wh
     abbrev unit : Unit′
     unit = unitRead x room typeUnits section u
 
-    abbrev kept : List Standing
+    abbrev kept : List NestedItem
     kept = keptIn x room typeUnits section u
 
     abbrev lists : Lists
@@ -177,7 +178,7 @@ module _ (x : Sections) (room : Room) (typeUnits : Bool) (section : List ℕ) wh
   asRead h ds = record { header = h; bytes = take (h .end) section; declared = ds }
 
   module _ (h : UnitHeader) (header : headerOf section ≡ Header′ h) where
-    rows-staged : (ds : List Placed) → abbreviationsOf (x .abbreviations) (h .abbreviations) ≡ some ds → (rows : List Row) → analysisOf x section (room .tables) ≡ analysed rows
+    rows-staged : (ds : List Placed) → abbreviationsOf (x .abbreviations) (h .abbreviations) ≡ some ds → (rows : List EntryRow) → analysisOf x section (room .tables) ≡ analysed rows
         → Staged (rowsCollected x room typeUnits (asRead h ds) rows)
     unfolding rowsCollected
     rows-staged ds d [] a = staged-untouched _ _

@@ -7,7 +7,8 @@ use mathlib.Core.List.{List, [], _∷_}
 use mathlib.Core.Option.{Option, none, some}
 use lib.ListN.{length, take}
 use lib.Dec.{T, ltb, leb}
-use Rattle.readers.specs.Choice.{pick, pick-either, _and_, _or_}
+use Rattle.readers.specs.Choice.{pick, _and_, _or_}
+use Rattle.readers.proofs.Choice.{pick-either}
 use Rattle.laws.specs.RefusalNumbers.{OneOf, RootRefusal, ScanRefusal, EntriesRefusal, AnalysisRefusal, MarkRefusal}
 use Rattle.readers.specs.Header.{headerOf}
 use Rattle.readers.specs.Abbreviations.{Placed, declaredIn, abbreviationsOf}
@@ -39,8 +40,8 @@ use Rattle.marking.specs.declared.marks.Marked.the-variants.{Kept as KeptCount,
 use Rattle.marking.specs.Walking.{Next, go, stop, onNext, walkWithin, walk}
 use Rattle.marking.specs.Roots.{Flagged, place, Turn, Ranges, orElse, onLookup, rangeEntry, rangeStep, rangesLive, operationStep, locationLive, olderStep, olderLive, lowPc, lowPcs, locations, otherRanges, rangesOf, firstRanges, rootTest}
 use Rattle.readers.specs.EntryAttributes.{Valued}
-use Rattle.marking.specs.EntryReferences.{Found, found, refused as refusedAfter, after, andThen, walkFound, expressionFound, Reached as Along, locationFound, onFound as onLocation, locationStep, listFound, Locations, attributeFound, attributesFound}
-use Rattle.marking.specs.Analysis.{Sections, Rooms, Row, Analysed, analysed, refused as notAnalysed, onto, onVerdict, onFound, Reached, startOf, rootOf, namesOf, analyseItems, onDeclared, unitAnalysed, headerAnalysed, analysisOf}
+use Rattle.marking.specs.EntryReferences.{ReferencesFound, found, refused as refusedAfter, after, andThen, walkFound, expressionFound, Reached as Along, locationFound, onFound as onLocation, locationStep, listFound, Locations, attributeFound, attributesFound}
+use Rattle.marking.specs.Analysis.{Sections, Rooms, EntryRow, Analysed, analysed, refused as notAnalysed, onto, onVerdict, onFound, Reached, startOf, rootOf, namesOf, analyseItems, onDeclared, unitAnalysed, headerAnalysed, analysisOf}
 use Rattle.marking.specs.Graph.{Graph, takes}
 use Rattle.marking.specs.Marks.{keptCount, marksOf, answerOf}
 use Rattle.marking.specs.Resolution.{unitMarks}
@@ -197,7 +198,7 @@ module _ (e : Encoding) (x : Ranges) where
 
 -- ---- references: 5 or 7
 
-unfoldable pub FoundNumbered : Found → Type 0
+unfoldable pub FoundNumbered : ReferencesFound → Type 0
 FoundNumbered (found xs) = Unit {0}
 FoundNumbered (refusedAfter xs n) = ScanRefusal n
 
@@ -217,12 +218,12 @@ no-seven : ScanRefusal 7
 unfolding isOneOf _or_
 no-seven = one-of _ 7 tt
 
-after-numbered : (xs : List ℕ) (f : Found) → FoundNumbered f → FoundNumbered (after xs f)
+after-numbered : (xs : List ℕ) (f : ReferencesFound) → FoundNumbered f → FoundNumbered (after xs f)
 unfolding after FoundNumbered
 after-numbered xs (found ys) q = tt
 after-numbered xs (refusedAfter ys n) q = q
 
-then-numbered : (f g : Found) → FoundNumbered f → FoundNumbered g → FoundNumbered (andThen f g)
+then-numbered : (f g : ReferencesFound) → FoundNumbered f → FoundNumbered g → FoundNumbered (andThen f g)
 unfolding andThen FoundNumbered
 then-numbered (found xs) g p q = after-numbered xs g q
 then-numbered (refusedAfter xs n) g p q = p
@@ -241,7 +242,7 @@ located-numbered : (e : Encoding) (s : List ℕ) (x : ListEntry) → FoundNumber
 unfolding locationFound
 located-numbered e s x = pick-either FoundNumbered _ _ _ (λ _. found-numbered _) (λ _. expression-numbered e _)
 
-on-numbered : (sofar : List ℕ) (x : ListEntry) (f : Found) → FoundNumbered f → NextNumbered {S = Along} FoundNumbered (onLocation sofar x f)
+on-numbered : (sofar : List ℕ) (x : ListEntry) (f : ReferencesFound) → FoundNumbered f → NextNumbered {S = Along} FoundNumbered (onLocation sofar x f)
 unfolding onLocation NextNumbered FoundNumbered
 on-numbered sofar x (found ys) q = tt
 on-numbered sofar x (refusedAfter ys n) q = q
@@ -292,7 +293,7 @@ pub none-of : (ms : List ℕ) (n : ℕ) → OneOf ms n → AnalysedOf ms (notAna
 unfolding AnalysedOf
 none-of ms n q = q
 
-pub rows-of : (ms : List ℕ) (rows : List Row) → AnalysedOf ms (analysed rows)
+pub rows-of : (ms : List ℕ) (rows : List EntryRow) → AnalysedOf ms (analysed rows)
 unfolding AnalysedOf
 rows-of ms rows = tt
 
@@ -301,7 +302,7 @@ unfolding AnalysedOf
 wider-of ms ks (analysed rows) t h = tt
 wider-of ms ks (notAnalysed n) t h = wider ms ks n t h
 
-pub onto-of : (ms : List ℕ) (r : Row) (a : Analysed) → AnalysedOf ms a → AnalysedOf ms (onto r a)
+pub onto-of : (ms : List ℕ) (r : EntryRow) (a : Analysed) → AnalysedOf ms a → AnalysedOf ms (onto r a)
 unfolding onto AnalysedOf
 onto-of ms r (analysed rows) q = tt
 onto-of ms r (notAnalysed n) q = q
@@ -313,7 +314,7 @@ verdict-of ms t Live k q h = h 1
 verdict-of ms t Dead k q h = h 0
 verdict-of ms t (Failed n) k q h = none-of ms n (wider (5 ∷ 6 ∷ []) ms n t q)
 
-pub names-of : (ms : List ℕ) → T (areOf ms (5 ∷ 7 ∷ [])) → (f : Found) (k : List ℕ → Analysed) → FoundNumbered f
+pub names-of : (ms : List ℕ) → T (areOf ms (5 ∷ 7 ∷ [])) → (f : ReferencesFound) (k : List ℕ → Analysed) → FoundNumbered f
     → ((xs : List ℕ) → f ≡ found xs → AnalysedOf ms (k xs)) → AnalysedOf ms (onFound f k)
 unfolding onFound FoundNumbered
 names-of ms t (found xs) k q h = h xs refl

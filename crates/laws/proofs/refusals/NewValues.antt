@@ -10,13 +10,14 @@ use native.Mathlib.Nat.{add-zero, add-assoc}
 use lib.ListN.{length, getD, drop}
 use lib.Dec.{T, leb, eqb}
 use mir.Facts.{eqb-yes, leb-yes, leb-no, yes-leb}
-use Rattle.readers.specs.Choice.{pick-either, _and_}
-use Rattle.readers.specs.Layout.{Encoded, Role, reference, typeReference, sibling, index, absolute, linked, Read, RunOf}
+use Rattle.readers.specs.Choice.{_and_}
+use Rattle.readers.proofs.Choice.{pick-either}
+use Rattle.readers.specs.Layout.{Encoded, Role, reference, typeReference, sibling, index, absolute, patchable, Read, RunOf}
 use Rattle.readers.specs.Abbreviations.{declaredIn}
 use Rattle.marking.specs.Analysis.{Sections}
 use Rattle.marking.specs.Members.{Member, here, there, Nth, now, later}
 use Rattle.marking.proofs.Members.{nothing-in}
-use Rattle.rewriting.specs.Places.{Standing, offsetOf, sizeOf, Place, placesFrom, sizeFrom, newOf, firstFrom, orElse, siblingOf}
+use Rattle.rewriting.specs.Places.{NestedItem, offsetOf, sizeOf, Place, placesFrom, sizeFrom, newOf, firstFrom, orElse, siblingOf}
 use Rattle.rewriting.specs.Indices.{rankOr}
 use Rattle.rewriting.specs.Rewriting.{Unit as Unit′, readsOr, readsAt, listsOf, Lists, listAt, isSome, newValue}
 use Rattle.laws.specs.ValueRefusals.{KeptAt, HasPlace, NewAt, NewAfter, IsNew}
@@ -28,17 +29,17 @@ use Rattle.laws.proofs.refusals.ValueRefusals.{place-out, new-out}
 
 -- ---- where a kept item comes to stand
 
-at-on : (first : ℕ) (kept : List Standing) (y : Standing) (v n : ℕ) → NewAt (first + sizeOf (y .item)) kept v n → NewAt first (y ∷ kept) v n
+at-on : (first : ℕ) (kept : List NestedItem) (y : NestedItem) (v n : ℕ) → NewAt (first + sizeOf (y .item)) kept v n → NewAt first (y ∷ kept) v n
 unfolding sizeFrom
 at-on first kept y v n r =
     record {
       s = r .s;
-      split = record { before = y ∷ r .split .before; after = r .split .after; whole = ap (λ (l : List Standing). y ∷ l) (r .split .whole) };
+      split = record { before = y ∷ r .split .before; after = r .split .after; whole = ap (λ (l : List NestedItem). y ∷ l) (r .split .whole) };
       named = r .named;
       new-is = r .new-is ∙ add-assoc first (sizeOf (y .item)) (sizeFrom (r .split .before));
     }
 
-pub at-by : (first : ℕ) (kept : List Standing) (v n : ℕ) → newOf (placesFrom first kept) v ≡ some n → NewAt first kept v n
+pub at-by : (first : ℕ) (kept : List NestedItem) (v n : ℕ) → newOf (placesFrom first kept) v ≡ some n → NewAt first kept v n
 unfolding placesFrom newOf sizeFrom
 at-by first [] v n = λ e. let z : _≡_ {A = ℕ} 0 1 = cc in absurd (omega arith)
 at-by first (y ∷ kept) v n =
@@ -64,29 +65,29 @@ unfolding _and_
 both-tests true b h = (tt, h)
 both-tests false b h = absurd h
 
-passed : (depth v : ℕ) (y : Standing) (before : List Standing) → T (not (leb v (offsetOf (y .item)) and leb (y .depth) depth))
-    → ((t : Standing) → Member t before → v ≤ offsetOf (t .item) → depth < t .depth)
-    → (t : Standing) → Member t (y ∷ before) → v ≤ offsetOf (t .item) → depth < t .depth
+passed : (depth v : ℕ) (y : NestedItem) (before : List NestedItem) → T (not (leb v (offsetOf (y .item)) and leb (y .depth) depth))
+    → ((t : NestedItem) → Member t before → v ≤ offsetOf (t .item) → depth < t .depth)
+    → (t : NestedItem) → Member t (y ∷ before) → v ≤ offsetOf (t .item) → depth < t .depth
 passed depth v y before h f t (here e) l =
-    subst (λ (z : Standing). depth < z .depth) (sym e)
+    subst (λ (z : NestedItem). depth < z .depth) (sym e)
     (leb-no {a = y .depth} {b = depth} (not-and (leb v (offsetOf (y .item))) (leb (y .depth) depth) h
-    (yes-leb {a = v} {b = offsetOf (y .item)} (subst (λ (z : Standing). v ≤ offsetOf (z .item)) e l))))
+    (yes-leb {a = v} {b = offsetOf (y .item)} (subst (λ (z : NestedItem). v ≤ offsetOf (z .item)) e l))))
 passed depth v y before h f t (there m) l = f t m l
 
-after-on : (first : ℕ) (kept : List Standing) (y : Standing) (depth v n : ℕ) → T (not (leb v (offsetOf (y .item)) and leb (y .depth) depth))
+after-on : (first : ℕ) (kept : List NestedItem) (y : NestedItem) (depth v n : ℕ) → T (not (leb v (offsetOf (y .item)) and leb (y .depth) depth))
     → NewAfter (first + sizeOf (y .item)) kept depth v n → NewAfter first (y ∷ kept) depth v n
 unfolding sizeFrom
 after-on first kept y depth v n h r =
     record {
       s = r .s;
-      split = record { before = y ∷ r .split .before; after = r .split .after; whole = ap (λ (l : List Standing). y ∷ l) (r .split .whole) };
+      split = record { before = y ∷ r .split .before; after = r .split .after; whole = ap (λ (l : List NestedItem). y ∷ l) (r .split .whole) };
       after = r .after;
       no-deeper = r .no-deeper;
       new-is = r .new-is ∙ add-assoc first (sizeOf (y .item)) (sizeFrom (r .split .before));
       first-one = passed depth v y (r .split .before) h (r .first-one);
     }
 
-pub after-by : (first : ℕ) (kept : List Standing) (depth v n : ℕ) → firstFrom (placesFrom first kept) depth v ≡ some n → NewAfter first kept depth v n
+pub after-by : (first : ℕ) (kept : List NestedItem) (depth v n : ℕ) → firstFrom (placesFrom first kept) depth v ≡ some n → NewAfter first kept depth v n
 unfolding placesFrom firstFrom sizeFrom
 after-by first [] depth v n = λ e. let z : _≡_ {A = ℕ} 0 1 = cc in absurd (omega arith)
 after-by first (y ∷ kept) depth v n =
@@ -112,7 +113,7 @@ nth-at [] v n h q = absurd (omega arith)
 nth-at (x ∷ xs) v zero h q = now (sym q)
 nth-at (x ∷ xs) v (suc n) h q = later (nth-at xs v n (omega arith) q)
 
-module _ (lists : Lists) (first : ℕ) (kept : List Standing) (depth : ℕ) where
+module _ (lists : Lists) (first : ℕ) (kept : List NestedItem) (depth : ℕ) where
   abbrev map : List Place
   map = placesFrom first kept
 
@@ -151,10 +152,10 @@ unfolding readsOr
 read-by x u none r m = absurd (nothing-in r m)
 read-by x u (some run) r m = record { run = run; is = refl; among = m }
 
-module _ (x : Sections) (u : Unit′) (typeUnits : Bool) (first : ℕ) (kept : List Standing) where
+module _ (x : Sections) (u : Unit′) (typeUnits : Bool) (first : ℕ) (kept : List NestedItem) where
   -- so its new value is its place in the list
-  pub new-index-law : (s : Standing) → Member s kept → (r : Read) → Member r (readsAt x u (offsetOf (s .item))) → (e : Encoded) (k v : ℕ)
-      → Member (linked e (index k) v) (r .pieces) → (xs : List ℕ) → listAt (listsOf x u typeUnits kept) k ≡ some xs
+  pub new-index-law : (s : NestedItem) → Member s kept → (r : Read) → Member r (readsAt x u (offsetOf (s .item))) → (e : Encoded) (k v : ℕ)
+      → Member (patchable e (index k) v) (r .pieces) → (xs : List ℕ) → listAt (listsOf x u typeUnits kept) k ≡ some xs
       → Nth v (newValue (listsOf x u typeUnits kept) (placesFrom first kept) (s .depth) (index k) v) xs
   unfolding readsAt newValue rankOr
   new-index-law s m r i e k v p xs q =

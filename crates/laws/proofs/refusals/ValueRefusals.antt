@@ -8,12 +8,13 @@ use mathlib.Core.Option.{Option, none, some}
 use native.Mathlib.Omega.{arith}
 use lib.Dec.{T, ltb, leb, eqb}
 use mir.Facts.{eqb-yes, eqb-no, yes-eqb, no-eqb, leb-yes, yes-leb, yes-ltb}
-use Rattle.readers.specs.Choice.{pick, pick-either, pick-yes, pick-no, _and_, _or_}
-use Rattle.readers.specs.Layout.{Encoded, infixed, inleb, Role, reference, typeReference, sibling, index, absolute, Piece, copied, linked, Read, Fit}
+use Rattle.readers.specs.Choice.{pick, _and_, _or_}
+use Rattle.readers.proofs.Choice.{pick-either, pick-yes, pick-no}
+use Rattle.readers.specs.Layout.{Encoded, infixed, inleb, Role, reference, typeReference, sibling, index, absolute, Piece, verbatim, patchable, Read, Fit}
 use Rattle.marking.specs.Analysis.{Sections}
 use Rattle.marking.specs.Members.{Member, here, there}
 use Rattle.marking.proofs.Members.{nothing-in}
-use Rattle.rewriting.specs.Places.{Standing, offsetOf, sizeOf, Place, placesFrom, newOf, firstFrom, orElse, siblingOf}
+use Rattle.rewriting.specs.Places.{NestedItem, offsetOf, sizeOf, Place, placesFrom, newOf, firstFrom, orElse, siblingOf}
 use Rattle.rewriting.specs.Rewriting.{Unit as Unit′, readsAt, Lists, isSome, newValue, hasPlace, fits, pieceRefusal, orNext, piecesRefusal, readsRefusal, refusalFrom}
 use Rattle.laws.specs.ValueRefusals.{Each, First, this, next, KeptAt, KeptAfter, HasPlace, NoPlace, Fine, Unplaced, TooWide, FineRead, FineItem, BadRead, BadItem, AllFine, FirstUnplaced, FirstTooWide, NumberOf}
 use Rattle.laws.proofs.again.Maps.{has-new}
@@ -64,13 +65,13 @@ module _ {A : Type 0} (g : A → ℕ) (total : List A → ℕ) (none-is : total 
 
 -- ---- places
 
-at-next : (y : Standing) (kept : List Standing) (v : ℕ) → KeptAt kept v → KeptAt (y ∷ kept) v
+at-next : (y : NestedItem) (kept : List NestedItem) (v : ℕ) → KeptAt kept v → KeptAt (y ∷ kept) v
 at-next y kept v k = record { s = k .s; is-kept = there (k .is-kept); named = k .named }
 
-after-next : (y : Standing) (kept : List Standing) (depth v : ℕ) → KeptAfter kept depth v → KeptAfter (y ∷ kept) depth v
+after-next : (y : NestedItem) (kept : List NestedItem) (depth v : ℕ) → KeptAfter kept depth v → KeptAfter (y ∷ kept) depth v
 after-next y kept depth v k = record { s = k .s; is-kept = there (k .is-kept); after = k .after; no-deeper = k .no-deeper }
 
-new-in : (n : ℕ) (kept : List Standing) (v : ℕ) → isSome (newOf (placesFrom n kept) v) ≡ true → KeptAt kept v
+new-in : (n : ℕ) (kept : List NestedItem) (v : ℕ) → isSome (newOf (placesFrom n kept) v) ≡ true → KeptAt kept v
 unfolding placesFrom newOf isSome
 new-in n [] v = λ q. absurd (false≢true q)
 new-in n (y ∷ kept) v =
@@ -78,7 +79,7 @@ new-in n (y ∷ kept) v =
     (λ t _. record { s = y; is-kept = here refl; named = eqb-yes {a = offsetOf (y .item)} {b = v} t })
     (λ _ q. at-next y kept v (new-in (n + sizeOf (y .item)) kept v q))
 
-pub new-out : (n : ℕ) (kept : List Standing) (v : ℕ) → KeptAt kept v → isSome (newOf (placesFrom n kept) v) ≡ true
+pub new-out : (n : ℕ) (kept : List NestedItem) (v : ℕ) → KeptAt kept v → isSome (newOf (placesFrom n kept) v) ≡ true
 new-out n kept v k = subst (λ (z : ℕ). isSome (newOf (placesFrom n kept) z) ≡ true) (k .named) (has-new n kept (k .s) (k .is-kept))
 
 both-in : (a b : Bool) → T (a and b) → T a × T b
@@ -91,7 +92,7 @@ unfolding _and_
 both-out true b p q = q
 both-out false b p q = p
 
-after-in : (n : ℕ) (kept : List Standing) (depth v : ℕ) → isSome (firstFrom (placesFrom n kept) depth v) ≡ true → KeptAfter kept depth v
+after-in : (n : ℕ) (kept : List NestedItem) (depth v : ℕ) → isSome (firstFrom (placesFrom n kept) depth v) ≡ true → KeptAfter kept depth v
 unfolding placesFrom firstFrom isSome
 after-in n [] depth v = λ q. absurd (false≢true q)
 after-in n (y ∷ kept) depth v =
@@ -101,19 +102,19 @@ after-in n (y ∷ kept) depth v =
     record { s = y; is-kept = here refl; after = leb-yes {a = v} {b = offsetOf (y .item)} (p .0); no-deeper = leb-yes {a = y .depth} {b = depth} (p .1) })
     (λ _ q. after-next y kept depth v (after-in (n + sizeOf (y .item)) kept depth v q))
 
-after-by : (n : ℕ) (kept : List Standing) (depth v : ℕ) (s : Standing) → Member s kept → v ≤ offsetOf (s .item) → s .depth ≤ depth
+after-by : (n : ℕ) (kept : List NestedItem) (depth v : ℕ) (s : NestedItem) → Member s kept → v ≤ offsetOf (s .item) → s .depth ≤ depth
     → isSome (firstFrom (placesFrom n kept) depth v) ≡ true
 unfolding placesFrom firstFrom isSome
 after-by n [] depth v s m a d = absurd (nothing-in s m)
 after-by n (y ∷ kept) depth v s (here e) a d =
     ap isSome (pick-yes _ _ _ (both-out (leb v (offsetOf (y .item))) (leb (y .depth) depth)
-    (yes-leb {a = v} {b = offsetOf (y .item)} (subst (λ (z : Standing). v ≤ offsetOf (z .item)) e a))
-    (yes-leb {a = y .depth} {b = depth} (subst (λ (z : Standing). z .depth ≤ depth) e d))))
+    (yes-leb {a = v} {b = offsetOf (y .item)} (subst (λ (z : NestedItem). v ≤ offsetOf (z .item)) e a))
+    (yes-leb {a = y .depth} {b = depth} (subst (λ (z : NestedItem). z .depth ≤ depth) e d))))
 after-by n (y ∷ kept) depth v s (there m) a d =
     pick-either (λ (o : Option ℕ). isSome o ≡ true) (leb v (offsetOf (y .item)) and leb (y .depth) depth) (some n) _
     (λ _. refl) (λ _. after-by (n + sizeOf (y .item)) kept depth v s m a d)
 
-after-out : (n : ℕ) (kept : List Standing) (depth v : ℕ) → KeptAfter kept depth v → isSome (firstFrom (placesFrom n kept) depth v) ≡ true
+after-out : (n : ℕ) (kept : List NestedItem) (depth v : ℕ) → KeptAfter kept depth v → isSome (firstFrom (placesFrom n kept) depth v) ≡ true
 after-out n kept depth v k = after-by n kept depth v (k .s) (k .is-kept) (k .after) (k .no-deeper)
 
 or-in : (a b : Option ℕ) → isSome (orElse a b) ≡ true → (isSome a ≡ true) ⊎ (isSome b ≡ true)
@@ -146,7 +147,7 @@ unfolding _or_
 one-right true b q = refl
 one-right false b q = q
 
-module _ (lists : Lists) (first : ℕ) (kept : List Standing) (depth : ℕ) where
+module _ (lists : Lists) (first : ℕ) (kept : List NestedItem) (depth : ℕ) where
   abbrev map : List Place
   map = placesFrom first kept
 
@@ -226,7 +227,7 @@ module _ (lists : Lists) (first : ℕ) (kept : List Standing) (depth : ℕ) wher
         (z ≡ 0 → HasPlace kept depth role v × Fit e (newValue lists map depth role v)) × (z ≡ 8 → NoPlace kept depth role v)
         × (z ≡ 9 → HasPlace kept depth role v × (Fit e (newValue lists map depth role v) → ⊥))
 
-    link-told : Told (pieceRefusal lists map depth (linked e role v))
+    link-told : Told (pieceRefusal lists map depth (patchable e role v))
     unfolding pieceRefusal
     link-told =
         pick-either Told placed (pick wide 0 9) 8
@@ -239,15 +240,15 @@ module _ (lists : Lists) (first : ℕ) (kept : List Standing) (depth : ℕ) wher
         )))
         (λ p. (λ q. absurd (omega arith), λ _. without role v (λ h. never placed p (is-so placed (place-out role v h))), λ q. absurd (omega arith)))
 
-    link-fine : HasPlace kept depth role v → Fit e (newValue lists map depth role v) → pieceRefusal lists map depth (linked e role v) ≡ 0
+    link-fine : HasPlace kept depth role v → Fit e (newValue lists map depth role v) → pieceRefusal lists map depth (patchable e role v) ≡ 0
     unfolding pieceRefusal
     link-fine h f = pick-yes placed _ _ (is-so placed (place-out role v h)) ∙ pick-yes wide _ _ (fit-out e (newValue lists map depth role v) f)
 
-    link-unplaced : NoPlace kept depth role v → pieceRefusal lists map depth (linked e role v) ≡ 8
+    link-unplaced : NoPlace kept depth role v → pieceRefusal lists map depth (patchable e role v) ≡ 8
     unfolding pieceRefusal
     link-unplaced n = pick-no placed _ _ (isnt placed (λ t. never-both role v n (place-in role v (so-is placed t))))
 
-    link-wide : HasPlace kept depth role v → (Fit e (newValue lists map depth role v) → ⊥) → pieceRefusal lists map depth (linked e role v) ≡ 9
+    link-wide : HasPlace kept depth role v → (Fit e (newValue lists map depth role v) → ⊥) → pieceRefusal lists map depth (patchable e role v) ≡ 9
     unfolding pieceRefusal
     link-wide h n =
         pick-yes placed _ _ (is-so placed (place-out role v h))
@@ -255,22 +256,22 @@ module _ (lists : Lists) (first : ℕ) (kept : List Standing) (depth : ℕ) wher
 
   piece-fine : (p : Piece) → (pieceRefusal lists map depth p ≡ 0) ↔ Fine lists first kept depth p
   unfolding pieceRefusal Fine
-  piece-fine (copied l) = (λ _. tt, λ _. refl)
-  piece-fine (linked e role v) = (link-told e role v .0, λ h. link-fine e role v (h .0) (h .1))
+  piece-fine (verbatim l) = (λ _. tt, λ _. refl)
+  piece-fine (patchable e role v) = (link-told e role v .0, λ h. link-fine e role v (h .0) (h .1))
 
   piece-eight : (p : Piece) → (pieceRefusal lists map depth p ≡ 8) ↔ Unplaced lists first kept depth p
   unfolding pieceRefusal Unplaced
-  piece-eight (copied l) = (λ q. absurd (omega arith), λ h. absurd h)
-  piece-eight (linked e role v) = (link-told e role v .1, link-unplaced e role v)
+  piece-eight (verbatim l) = (λ q. absurd (omega arith), λ h. absurd h)
+  piece-eight (patchable e role v) = (link-told e role v .1, link-unplaced e role v)
 
   piece-nine : (p : Piece) → (pieceRefusal lists map depth p ≡ 9) ↔ TooWide lists first kept depth p
   unfolding pieceRefusal TooWide
-  piece-nine (copied l) = (λ q. absurd (omega arith), λ h. absurd h)
-  piece-nine (linked e role v) = (link-told e role v .2, λ h. link-wide e role v (h .0) (h .1))
+  piece-nine (verbatim l) = (λ q. absurd (omega arith), λ h. absurd h)
+  piece-nine (patchable e role v) = (link-told e role v .2, λ h. link-wide e role v (h .0) (h .1))
 
 -- ---- what is read of an item, and the kept items
 
-module _ (x : Sections) (u : Unit′) (lists : Lists) (first : ℕ) (kept : List Standing) (Bad : ℕ → Piece → Type 0) (n : ℕ) (some-number : 0 < n)
+module _ (x : Sections) (u : Unit′) (lists : Lists) (first : ℕ) (kept : List NestedItem) (Bad : ℕ → Piece → Type 0) (n : ℕ) (some-number : 0 < n)
     (piece : (depth : ℕ) (p : Piece) → (pieceRefusal lists (placesFrom first kept) depth p ≡ n) ↔ Bad depth p) where
   abbrev places : List Place
   places = placesFrom first kept
@@ -293,14 +294,14 @@ module _ (x : Sections) (u : Unit′) (lists : Lists) (first : ℕ) (kept : List
       (First (FineItem x u lists first kept) (BadItem x u lists first kept Bad)) n
   unfolding refusalFrom orNext
   items-mean =
-      all-mean (λ (s : Standing). readsRefusal lists places (s .depth) (readsAt x u (offsetOf (s .item)))) (refusalFrom x u lists places) refl (λ a xs. refl)
+      all-mean (λ (s : NestedItem). readsRefusal lists places (s .depth) (readsAt x u (offsetOf (s .item)))) (refusalFrom x u lists places) refl (λ a xs. refl)
       (FineItem x u lists first kept) (BadItem x u lists first kept Bad) n some-number
       (record {
         clean = λ s. reads-mean (s .depth) .clean (readsAt x u (offsetOf (s .item)));
         spoiled = λ s. reads-mean (s .depth) .spoiled (readsAt x u (offsetOf (s .item)));
       })
 
-module _ (x : Sections) (u : Unit′) (lists : Lists) (first : ℕ) (kept : List Standing) where
+module _ (x : Sections) (u : Unit′) (lists : Lists) (first : ℕ) (kept : List NestedItem) where
   -- 8: the first number in stream order that is refused has no place
   pub eight-means : (refusalFrom x u lists (placesFrom first kept) kept ≡ 8) ↔ FirstUnplaced x u lists first kept
   eight-means = items-mean x u lists first kept (Unplaced lists first kept) 8 (omega arith) (λ d p. piece-eight lists first kept d p) .spoiled kept
@@ -315,22 +316,22 @@ module _ (x : Sections) (u : Unit′) (lists : Lists) (first : ℕ) (kept : List
 
 -- ---- the number that is refused
 
-record Found {A : Type 0} (Bad : A → Type 0) (xs : List A) : Type 0 where
+record FirstBad {A : Type 0} (Bad : A → Type 0) (xs : List A) : Type 0 where
   it : A
   among : Member it xs
   bad : Bad it
 
-found : {A : Type 0} (Good Bad : A → Type 0) (xs : List A) → First Good Bad xs → Found Bad xs
+found : {A : Type 0} (Good Bad : A → Type 0) (xs : List A) → First Good Bad xs → FirstBad Bad xs
 found Good Bad [] f = elim f [ ]
 found Good Bad (a ∷ xs) (this b) = record { it = a; among = here refl; bad = b }
-found Good Bad (a ∷ xs) (next g f) = let r : Found Bad xs = found Good Bad xs f in record { it = r .it; among = there (r .among); bad = r .bad }
+found Good Bad (a ∷ xs) (next g f) = let r : FirstBad Bad xs = found Good Bad xs f in record { it = r .it; among = there (r .among); bad = r .bad }
 
-pub refused-number : (x : Sections) (u : Unit′) (lists : Lists) (first : ℕ) (kept : List Standing) (Bad : ℕ → Piece → Type 0)
+pub refused-number : (x : Sections) (u : Unit′) (lists : Lists) (first : ℕ) (kept : List NestedItem) (Bad : ℕ → Piece → Type 0)
     → First (FineItem x u lists first kept) (BadItem x u lists first kept Bad) kept → NumberOf x u lists first kept Bad
 refused-number x u lists first kept Bad f =
-    let i : Found (BadItem x u lists first kept Bad) kept = found (FineItem x u lists first kept) (BadItem x u lists first kept Bad) kept f in
-    let s : Standing = i .it in
-    let j : Found (BadRead x u lists first kept Bad (s .depth)) (readsAt x u (offsetOf (s .item))) =
+    let i : FirstBad (BadItem x u lists first kept Bad) kept = found (FineItem x u lists first kept) (BadItem x u lists first kept Bad) kept f in
+    let s : NestedItem = i .it in
+    let j : FirstBad (BadRead x u lists first kept Bad (s .depth)) (readsAt x u (offsetOf (s .item))) =
     found (FineRead x u lists first kept (s .depth)) (BadRead x u lists first kept Bad (s .depth)) (readsAt x u (offsetOf (s .item))) (i .bad) in
-    let k : Found (Bad (s .depth)) (j .it .pieces) = found (Fine lists first kept (s .depth)) (Bad (s .depth)) (j .it .pieces) (j .bad) in
+    let k : FirstBad (Bad (s .depth)) (j .it .pieces) = found (Fine lists first kept (s .depth)) (Bad (s .depth)) (j .it .pieces) (j .bad) in
     record { s = s; r = j .it; p = k .it; is-kept = i .among; among = j .among; operand = k .among; bad = k .bad }

@@ -11,7 +11,8 @@ use lib.ListN.{length, take, length-append}
 use lib.Seq.{take-all}
 use lib.Dec.{T, leb, ltb, eqb}
 use mir.Facts.{leb-yes, leb-no, yes-leb, no-leb, eqb-yes, eqb-no, yes-eqb, no-eqb}
-use Rattle.readers.specs.Choice.{pick, pick-either, pick-yes, pick-no, either, _and_, _or_}
+use Rattle.readers.specs.Choice.{pick, _and_, _or_}
+use Rattle.readers.proofs.Choice.{pick-either, pick-yes, pick-no, either}
 use Rattle.laws.specs.RefusalNumbers.{OneOf, RoomyRefusal}
 use Rattle.readers.specs.Abbreviations.{Placed, abbreviationsOf}
 use Rattle.readers.specs.Header.{headerOf}
@@ -20,13 +21,13 @@ use Rattle.readers.specs.declared.header.UnitHeader.{UnitHeader}
 use Rattle.readers.specs.declared.header.HeaderRead.{HeaderRead}
 use Rattle.readers.specs.declared.header.HeaderRead.the-variants.{Unit as Header′, Empty, Refused}
 use Rattle.laws.proofs.refusals.ReaderRefusals.{isOneOf, areOf, one-of, wider, header-refusal}
-use Rattle.marking.specs.Analysis.{Sections, Rooms, Row, Analysed, analysed, refused as notAnalysed, onDeclared, unitAnalysed, headerAnalysed, analysisOf}
+use Rattle.marking.specs.Analysis.{Sections, Rooms, EntryRow, Analysed, analysed, refused as notAnalysed, onDeclared, unitAnalysed, headerAnalysed, analysisOf}
 use Rattle.marking.specs.Columns.{namesIn}
 use Rattle.marking.specs.Marks.{isKept, keptCount}
 use Rattle.marking.specs.Resolution.{marksIn}
 use Rattle.laws.specs.TableRoom.{TablesWithin, tablesFor, TableLaw, enoughTables}
 use Rattle.laws.proofs.room.TableRoom.{table-law, first-most, tables-lent, enough-tables}
-use Rattle.rewriting.specs.Places.{Standing, keptFrom, opened, closed, innermost, withIf, offsetOf, Place, placesFrom, sizeFrom}
+use Rattle.rewriting.specs.Places.{NestedItem, keptFrom, opened, closed, innermost, withIf, offsetOf, Place, placesFrom, sizeFrom}
 use Rattle.rewriting.specs.Indices.{insert, insertAll, readIndices, countOf}
 use Rattle.laws.specs.LeftOut.{leftFrom, sizesOf}
 use Rattle.rewriting.specs.Rewriting.{Unit as Unit′, itemsIn, readsAt, Lists, noLists, indicesFrom, anyDeclares, listOf, listsOf, refusalFrom, unitBytes, Room, Rewrite, Collected, untouched, rewritten, refused, listsFit, orRefused, rewriteOf, marksCollected, rowsCollected, analysedCollected, declaredCollected, headerCollected, collectOf, unitOf}
@@ -92,21 +93,21 @@ module _ (lent : Room) (l : Lists) (entries references places bytes : ℕ) where
 
 -- ---- a unit with entries, by the room
 
-rows-marked : (x : Sections) (lent : Room) (typeUnits : Bool) (u : Unit′) (rows : List Row) → 0 < length rows
+rows-marked : (x : Sections) (lent : Room) (typeUnits : Bool) (u : Unit′) (rows : List EntryRow) → 0 < length rows
     → rowsCollected x lent typeUnits u rows ≡ marksCollected x lent typeUnits u (marksIn rows) (survivorsIn x u rows)
 unfolding rowsCollected
 rows-marked x lent typeUnits u [] h = absurd (omega arith)
 rows-marked x lent typeUnits u (r ∷ rows) h = refl
 
 module _ (x : Sections) (typeUnits : Bool) (section : List ℕ) (h : UnitHeader) (ds : List Placed) (header : headerOf section ≡ Header′ h)
-    (declared : abbreviationsOf (x .abbreviations) (h .abbreviations) ≡ some ds) (rows : List Row) (some-row : 0 < length rows) (tables : TableLaw x section rows) where
+    (declared : abbreviationsOf (x .abbreviations) (h .abbreviations) ≡ some ds) (rows : List EntryRow) (some-row : 0 < length rows) (tables : TableLaw x section rows) where
   abbrev unit : Unit′
   unit = unitOf h section ds
 
   abbrev marks : List ℕ
   marks = marksIn rows
 
-  abbrev kept : List Standing
+  abbrev kept : List NestedItem
   kept = survivorsIn x unit rows
 
   abbrev lists : Lists
@@ -275,7 +276,7 @@ module _ (x : Sections) (room : Room) (typeUnits : Bool) (section : List ℕ) wh
     its-lent : TablesWithin (tablesFor (was .rows)) (room .tables)
     its-lent = tables-lent x (room .tables) section (was .rows) (was .accepted .analysis)
 
-    abbrev itsKept : List Standing
+    abbrev itsKept : List NestedItem
     itsKept = survivorsIn x (unitOf (was .header) section (was .declared)) (was .rows)
 
     abbrev itsNeed : Room
@@ -394,13 +395,13 @@ module _ (x : Sections) (room : Room) (typeUnits : Bool) (section : List ℕ) wh
   needs-law (refused n) q a = absurd a
 
 -- too few entries alone are 10, too few references alone 11
-module _ (x : Sections) (typeUnits : Bool) (section : List ℕ) (c : Collected) (rows : List Row) (need lent : Room) (law : RoomLaw x typeUnits section c rows need) where
+module _ (x : Sections) (typeUnits : Bool) (section : List ℕ) (c : Collected) (rows : List EntryRow) (need lent : Room) (law : RoomLaw x typeUnits section c rows need) where
   pub few-entries : lent .tables .entries < need .tables .entries → length (namesIn rows) ≤ lent .tables .references → collectOf x lent typeUnits section ≡ refused 10
   few-entries h k = law .full-entries lent h (omega (arith, first-most (lent .tables .entries) rows))
 
   pub few-references : length rows ≤ lent .tables .entries → lent .tables .references < length (namesIn rows) → collectOf x lent typeUnits section ≡ refused 11
   few-references h k =
-      law .full-references lent (subst (λ (l : List Row). lent .tables .references < length (namesIn l)) (sym (take-all (lent .tables .entries) rows h)) k)
+      law .full-references lent (subst (λ (l : List EntryRow). lent .tables .references < length (namesIn l)) (sym (take-all (lent .tables .entries) rows h)) k)
 
 -- ---- a larger room
 
@@ -426,7 +427,7 @@ larger-law x room typeUnits section c q a lent w =
 
 -- ---- room enough: what is kept is at most what there is
 
-with-length : (b : Bool) (s : Standing) (xs : List Standing) (n : ℕ) → length xs ≤ n → length (withIf b s xs) ≤ suc n
+with-length : (b : Bool) (s : NestedItem) (xs : List NestedItem) (n : ℕ) → length xs ≤ n → length (withIf b s xs) ≤ suc n
 unfolding withIf
 with-length true s xs n h = omega arith
 with-length false s xs n h = omega arith
@@ -438,7 +439,7 @@ kept-length marks k stack (entry y ∷ rest) = with-length (isKept marks k) _ _ 
 kept-length marks k stack (terminator a b ∷ rest) = with-length (innermost stack) _ _ (length rest) (kept-length marks k (closed stack) rest)
 
 module _ (x : Sections) (u : Unit′) (j : ℕ) where
-  with-indices : (b : Bool) (s : Standing) (xs : List Standing) (n : ℕ) → length (indicesFrom x u j xs) ≤ n
+  with-indices : (b : Bool) (s : NestedItem) (xs : List NestedItem) (n : ℕ) → length (indicesFrom x u j xs) ≤ n
       → length (indicesFrom x u j (withIf b s xs)) ≤ length (readIndices j (readsAt x u (offsetOf (s .item)))) + n
   unfolding withIf indicesFrom
   with-indices true s xs n h = omega (arith, length-append (readIndices j (readsAt x u (offsetOf (s .item)))) (indicesFrom x u j xs))
@@ -466,7 +467,7 @@ unfolding insertAll
 insert-all-length [] xs = omega arith
 insert-all-length (v ∷ vs) xs = omega (arith, insert-length v xs, insert-all-length vs (insert v xs))
 
-list-count : (x : Sections) (u : Unit′) (absent : Bool) (k : ℕ) (kept : List Standing) → countOf (listOf x u absent k kept) ≤ length (indicesFrom x u k kept)
+list-count : (x : Sections) (u : Unit′) (absent : Bool) (k : ℕ) (kept : List NestedItem) → countOf (listOf x u absent k kept) ≤ length (indicesFrom x u k kept)
 unfolding listOf countOf
 list-count x u absent k kept =
     pick-either (λ (o : Option (List ℕ)). countOf o ≤ length (indicesFrom x u k kept)) absent none (some (insertAll (indicesFrom x u k kept) [])) (λ _. omega arith)
@@ -487,7 +488,7 @@ module _ (x : Sections) (lent : Room) (typeUnits : Bool) (section : List ℕ) wh
     abbrev all : List Item
     all = itemsIn x u
 
-    abbrev some-kept : List Standing
+    abbrev some-kept : List NestedItem
     some-kept = keptFrom marks 0 [] all
 
     lists-room : ListsWithin (roomFor 0 0 (listsOf x u typeUnits some-kept) 0 0) lent
@@ -516,7 +517,7 @@ module _ (x : Sections) (lent : Room) (typeUnits : Bool) (section : List ℕ) wh
         (λ _. pick-either Roomy (eqb (keptCount marks) (length marks)) (untouched (length marks) (listsOf x u typeUnits some-kept)) _ (λ _. tt) (λ _. rewrite-roomy _ _ _))
         (λ f. absurd (not-both (listsFit lent (listsOf x u typeUnits some-kept)) (lists-fit lent (listsOf x u typeUnits some-kept) 0 0 0 0 lists-room) f))
 
-  rows-roomy : (u : Unit′) (tables : Rooms) → Within (unitRoom x u tables) lent → (rows : List Row) → Roomy (rowsCollected x lent typeUnits u rows)
+  rows-roomy : (u : Unit′) (tables : Rooms) → Within (unitRoom x u tables) lent → (rows : List EntryRow) → Roomy (rowsCollected x lent typeUnits u rows)
   unfolding rowsCollected Roomy
   rows-roomy u tables w [] = tt
   rows-roomy u tables w (r ∷ rows) = marks-roomy u tables w (marksIn (r ∷ rows))
@@ -566,7 +567,7 @@ unfolding EachOf
 short-least n o =
     one-by (λ (m : ℕ). 10 ≤ m) (10 ∷ 11 ∷ 12 ∷ 13 ∷ 14 ∷ []) n (omega arith, (omega arith, (omega arith, (omega arith, (omega arith, tt))))) o
 
-module _ (x : Sections) (typeUnits : Bool) (section : List ℕ) (c : Collected) (rows : List Row) (need lent : Room) (law : RoomLaw x typeUnits section c rows need)
+module _ (x : Sections) (typeUnits : Bool) (section : List ℕ) (c : Collected) (rows : List EntryRow) (need lent : Room) (law : RoomLaw x typeUnits section c rows need)
     (entries-are : need .tables .entries ≡ length rows) (references-are : need .tables .references ≡ length (namesIn rows)) where
   abbrev Either : Type 0
   Either = (collectOf x lent typeUnits section ≡ c) ⊎ TooShort x lent typeUnits section
@@ -606,7 +607,7 @@ module _ (x : Sections) (typeUnits : Bool) (section : List ℕ) (c : Collected) 
             omega (
               arith,
               leb-yes {a = length (namesIn (take (lent .tables .entries) rows))} {b = lent .tables .references} r,
-              ap (λ (l : List Row). length (namesIn l)) (take-all (lent .tables .entries) rows (leb-yes e)),
+              ap (λ (l : List EntryRow). length (namesIn l)) (take-all (lent .tables .entries) rows (leb-yes e)),
             );
       }))
       (λ e. short-by 10 tt (law .full-entries lent (omega (arith, leb-no {a = length rows} {b = lent .tables .entries} e)) (leb-yes r)))

@@ -11,7 +11,8 @@ use lib.ListN.{length, take, length-append}
 use lib.Seq.{take-all}
 use lib.Dec.{ltb, leb}
 use mir.Facts.{ltb-yes, ltb-no, leb-yes, leb-no, yes-ltb, yes-leb}
-use Rattle.readers.specs.Choice.{pick, pick-either, pick-yes, pick-no, either, _and_, _or_}
+use Rattle.readers.specs.Choice.{pick, _and_, _or_}
+use Rattle.readers.proofs.Choice.{pick-either, pick-yes, pick-no, either}
 use Rattle.readers.specs.Header.{headerOf}
 use Rattle.readers.specs.Abbreviations.{Placed, declaredIn, abbreviationsOf}
 use Rattle.readers.specs.Nesting.{open′, close, top}
@@ -22,10 +23,10 @@ use Rattle.readers.specs.declared.header.UnitHeader.{UnitHeader}
 use Rattle.readers.specs.declared.header.HeaderRead.{HeaderRead}
 use Rattle.readers.specs.declared.header.HeaderRead.the-variants.{Unit as Unit′, Empty, Refused}
 use Rattle.laws.proofs.refusals.ReaderRefusals.{isOneOf, areOf, one-of, wider, HeaderNumbered, header-numbered}
-use Rattle.marking.specs.EntryReferences.{Found, found, refused as refusedAfter}
+use Rattle.marking.specs.EntryReferences.{ReferencesFound, found, refused as refusedAfter}
 use Rattle.marking.specs.declared.root_test.Verdict.{Verdict}
 use Rattle.marking.specs.declared.root_test.Verdict.the-variants.{Live, Dead, Refused as Failed}
-use Rattle.marking.specs.Analysis.{Sections, Rooms, Row, Analysed, analysed, refused, onto, onVerdict, onFound, Reached, reached, startOf, rootOf, namesOf, baseOf, analyseItems, onDeclared, unitAnalysed, headerAnalysed, analysisOf}
+use Rattle.marking.specs.Analysis.{Sections, Rooms, EntryRow, Analysed, analysed, refused, onto, onVerdict, onFound, Reached, reached, startOf, rootOf, namesOf, baseOf, analyseItems, onDeclared, unitAnalysed, headerAnalysed, analysisOf}
 use Rattle.marking.specs.Columns.{namesIn}
 use Rattle.laws.specs.RefusalNumbers.{InputRefusal}
 use Rattle.laws.specs.TableRoom.{TablesWithin, tablesFor, TableLaw, entryCount, foundCount, referenceCount, declaredTables, headerTables, enoughTables}
@@ -33,16 +34,16 @@ use Rattle.marking.proofs.Rows.{Gives, gives-of, gives-onto, gives-map, gives-r
 use Rattle.laws.proofs.refusals.MarkingRefusals.{AnalysedOf, analysed-of, none-of, rows-of, onto-of, verdict-of, names-of, root-of, references-of}
 
 -- the references of the first entries
-abbrev pub namesOfFirst : ℕ → List Row → ℕ
+abbrev pub namesOfFirst : ℕ → List EntryRow → ℕ
 namesOfFirst n rows = length (namesIn (take n rows))
 
-first-none : (n m : ℕ) (rows : List Row) → n ≤ m → namesOfFirst (n - m) rows ≡ 0
+first-none : (n m : ℕ) (rows : List EntryRow) → n ≤ m → namesOfFirst (n - m) rows ≡ 0
 unfolding namesIn
 first-none n m rows h =
     let e : n - m ≡ 0 = omega arith in
     ap (λ (k : ℕ). namesOfFirst k rows) e
 
-first-all : (n : ℕ) (rows : List Row) → namesOfFirst (n - 0) rows ≡ namesOfFirst n rows
+first-all : (n : ℕ) (rows : List EntryRow) → namesOfFirst (n - 0) rows ≡ namesOfFirst n rows
 first-all n rows =
     let e : n - 0 ≡ n = omega arith in
     ap (λ (k : ℕ). namesOfFirst k rows) e
@@ -52,13 +53,13 @@ unfolding namesIn
 first-end zero = refl
 first-end (suc n) = refl
 
-first-more : (n m : ℕ) (row : Row) (rows : List Row) → m < n → namesOfFirst (n - m) (row ∷ rows) ≡ length (row .names) + namesOfFirst (n - suc m) rows
+first-more : (n m : ℕ) (row : EntryRow) (rows : List EntryRow) → m < n → namesOfFirst (n - m) (row ∷ rows) ≡ length (row .names) + namesOfFirst (n - suc m) rows
 unfolding namesIn
 first-more n m row rows h =
     let e : n - m ≡ suc (n - suc m) = omega arith in
     ap (λ (k : ℕ). namesOfFirst k (row ∷ rows)) e ∙ length-append (row .names) (namesIn (take (n - suc m) rows))
 
-pub first-most : (n : ℕ) (rows : List Row) → namesOfFirst n rows ≤ length (namesIn rows)
+pub first-most : (n : ℕ) (rows : List EntryRow) → namesOfFirst n rows ≤ length (namesIn rows)
 unfolding namesIn
 first-most zero rows = omega arith
 first-most (suc n) [] = omega arith
@@ -66,13 +67,13 @@ first-most (suc n) (row ∷ rows) =
     omega (arith, length-append (row .names) (namesIn (take n rows)), length-append (row .names) (namesIn rows), first-most n rows)
 
 -- what an analysis with the tables r answers where one with others gave these rows, after so many entries and references
-record Told (count refs : ℕ) (rows : List Row) (r : Rooms) (a : Analysed) : Type 0 where
+record Told (count refs : ℕ) (rows : List EntryRow) (r : Rooms) (a : Analysed) : Type 0 where
   pub enough : count + length rows ≤ r .entries → refs + length (namesIn rows) ≤ r .references → a ≡ analysed rows
   pub full-entries : count ≤ r .entries → r .entries < count + length rows → refs + namesOfFirst (r .entries - count) rows ≤ r .references → a ≡ refused 10
   pub full-references : refs ≤ r .references → r .references < refs + namesOfFirst (r .entries - count) rows → a ≡ refused 11
 
 -- the same of an entry for which there is room
-record Inner (count refs : ℕ) (rows : List Row) (r : Rooms) (a : Analysed) : Type 0 where
+record Inner (count refs : ℕ) (rows : List EntryRow) (r : Rooms) (a : Analysed) : Type 0 where
   pub some-row : 0 < length rows
   pub enough : count + length rows ≤ r .entries → refs + length (namesIn rows) ≤ r .references → a ≡ analysed rows
   pub full-entries : count < r .entries → r .entries < count + length rows → refs + namesOfFirst (r .entries - count) rows ≤ r .references → a ≡ refused 10
@@ -87,7 +88,7 @@ module _ (r : Rooms) (count refs : ℕ) where
         full-references = λ l h. absurd (omega (arith, first-end (r .entries - count)));
       }
 
-  outer : (rows : List Row) (a : Analysed) → Inner count refs rows r a → Told count refs rows r (pick (ltb count (r .entries)) a (refused 10))
+  outer : (rows : List EntryRow) (a : Analysed) → Inner count refs rows r a → Told count refs rows r (pick (ltb count (r .entries)) a (refused 10))
   outer rows a i =
       record {
         enough = λ h k. pick-yes _ _ _ (yes-ltb (let l : count < r .entries = omega (arith, i .some-row) in l)) ∙ i .enough h k;
@@ -99,7 +100,7 @@ module _ (r : Rooms) (count refs : ℕ) where
             (either (ltb count (r .entries)));
       }
 
-  more : (row : Row) (rows : List Row) (a : Analysed) → Told (suc count) (refs + length (row .names)) rows r a
+  more : (row : EntryRow) (rows : List EntryRow) (a : Analysed) → Told (suc count) (refs + length (row .names)) rows r a
       → Inner count refs (row ∷ rows) r (pick (leb (refs + length (row .names)) (r .references)) (onto row a) (refused 11))
   unfolding namesIn onto
   more row rows a t =
@@ -133,18 +134,18 @@ both-verdict Q Live k j h z = h 1
 both-verdict Q Dead k j h z = h 0
 both-verdict Q (Failed n) k j h z = z n
 
-both-found : (Q : Analysed → Analysed → Type 0) (f : Found) (k j : List ℕ → Analysed) → ((names : List ℕ) → Q (k names) (j names)) → ((n : ℕ) → Q (refused n) (refused n)) → Q (onFound f k) (onFound f j)
+both-found : (Q : Analysed → Analysed → Type 0) (f : ReferencesFound) (k j : List ℕ → Analysed) → ((names : List ℕ) → Q (k names) (j names)) → ((n : ℕ) → Q (refused n) (refused n)) → Q (onFound f k) (onFound f j)
 unfolding onFound
 both-found Q (found xs) k j h z = h xs
 both-found Q (refusedAfter xs n) k j h z = z n
 
-end-given : (P : List Row → Type 0) → P [] → Gives P (analysed [])
+end-given : (P : List EntryRow → Type 0) → P [] → Gives P (analysed [])
 unfolding Gives
 end-given P h = h
 
 module _ (x : Sections) (w r : Rooms) where
   module _ (e : Encoding) (unit : List ℕ) where
-    abbrev rowBy : Reached → Entry → ℕ → List ℕ → Row
+    abbrev rowBy : Reached → Entry → ℕ → List ℕ → EntryRow
     rowBy p y root names = record { offset = y .offset .0; parent = top (p .stack); root = root; names = names }
 
     abbrev onward : Reached → Entry → List ℕ → Reached
@@ -168,8 +169,8 @@ module _ (x : Sections) (w r : Rooms) where
     items-told p [] false = gives-refused _ 4
     items-told p (terminator s t ∷ rest) whole = items-told (reached (p .count) (p .references) (close (p .stack)) (p .rnglistsBase) (p .loclistsBase)) rest whole
     items-told p (entry y ∷ rest) whole =
-        let P : List Row → Type 0 = (λ rows. Told (p .count) (p .references) rows r (pick (ltb (p .count) (r .entries)) (ofEntry r p y rest whole) (refused 10))) in
-        let I : Analysed → List Row → Type 0 = (λ b rows. Inner (p .count) (p .references) rows r b) in
+        let P : List EntryRow → Type 0 = (λ rows. Told (p .count) (p .references) rows r (pick (ltb (p .count) (r .entries)) (ofEntry r p y rest whole) (refused 10))) in
+        let I : Analysed → List EntryRow → Type 0 = (λ b rows. Inner (p .count) (p .references) rows r b) in
         let Q : Analysed → Analysed → Type 0 = (λ a b. Gives (I b) a) in
         pick-either (Gives P) (ltb (p .count) (w .entries)) (ofEntry w p y rest whole) (refused 10)
         (λ _. gives-map (I (ofEntry r p y rest whole)) P (ofEntry w p y rest whole) (λ rows i. outer r (p .count) (p .references) rows (ofEntry r p y rest whole) i)
@@ -201,12 +202,12 @@ module _ (x : Sections) (w r : Rooms) where
   header-told section (Refused n) = gives-refused _ n
   header-told section (Unit′ u) = declared-told (u .encoding) (take (u .end) section) (u .first .0) (abbreviationsOf (x .abbreviations) (u .abbreviations))
 
-  rooms-told : (section : List ℕ) (rows : List Row) → analysisOf x section w ≡ analysed rows → Told 0 0 rows r (analysisOf x section r)
+  rooms-told : (section : List ℕ) (rows : List EntryRow) → analysisOf x section w ≡ analysed rows → Told 0 0 rows r (analysisOf x section r)
   unfolding analysisOf
   rooms-told section rows q = gives-of _ _ rows (header-told section (headerOf section)) q
 
 -- THE law of lent tables
-pub table-law : (x : Sections) (w : Rooms) (section : List ℕ) (rows : List Row) → analysisOf x section w ≡ analysed rows → TableLaw x section rows
+pub table-law : (x : Sections) (w : Rooms) (section : List ℕ) (rows : List EntryRow) → analysisOf x section w ≡ analysed rows → TableLaw x section rows
 table-law x w section rows q =
     record {
       enough = λ r t. rooms-told x w r section rows q .enough (omega (arith, t .entries)) (omega (arith, t .references));
@@ -215,15 +216,15 @@ table-law x w section rows q =
     }
 
 -- where all but one is enough: too few entries are 10, too few references 11
-module _ (x : Sections) (section : List ℕ) (rows : List Row) (law : TableLaw x section rows) (lent : Rooms) where
+module _ (x : Sections) (section : List ℕ) (rows : List EntryRow) (law : TableLaw x section rows) (lent : Rooms) where
   pub few-entries : lent .entries < length rows → length (namesIn rows) ≤ lent .references → analysisOf x section lent ≡ refused 10
   few-entries h k = law .full-entries lent h (omega (arith, first-most (lent .entries) rows))
 
   pub few-references : length rows ≤ lent .entries → lent .references < length (namesIn rows) → analysisOf x section lent ≡ refused 11
-  few-references h k = law .full-references lent (subst (λ (l : List Row). lent .references < length (namesIn l)) (sym (take-all (lent .entries) rows h)) k)
+  few-references h k = law .full-references lent (subst (λ (l : List EntryRow). lent .references < length (namesIn l)) (sym (take-all (lent .entries) rows h)) k)
 
 -- those that it was lent are long enough
-pub tables-lent : (x : Sections) (w : Rooms) (section : List ℕ) (rows : List Row) → analysisOf x section w ≡ analysed rows → TablesWithin (tablesFor rows) w
+pub tables-lent : (x : Sections) (w : Rooms) (section : List ℕ) (rows : List EntryRow) → analysisOf x section w ≡ analysed rows → TablesWithin (tablesFor rows) w
 tables-lent x w section rows q =
     let u : UnitRows section w 0 rows = analysis-rows x section w rows q in
     record { entries = u .entries; references = u .references }
@@ -233,7 +234,7 @@ tables-lent x w section rows q =
 abbrev inputNumbers : List ℕ
 inputNumbers = 1 ∷ 2 ∷ 3 ∷ 4 ∷ 5 ∷ 6 ∷ 7 ∷ []
 
-found-count : (f : Found) (xs : List ℕ) → f ≡ found xs → foundCount f ≡ length xs
+found-count : (f : ReferencesFound) (xs : List ℕ) → f ≡ found xs → foundCount f ≡ length xs
 unfolding foundCount
 found-count f xs q = ap foundCount q
 

@@ -10,10 +10,10 @@ use lib.ListN.{length, getD}
 use lib.Dec.{eqb}
 use mir.Facts.{eqb-yes, yes-eqb, no-eqb}
 use borrow.Author.Tests.{eqb-true, eq-eqb}
-use Rattle.readers.specs.Choice.{pick-yes, pick-no, pick-either}
+use Rattle.readers.proofs.Choice.{pick-yes, pick-no, pick-either}
 use Rattle.marking.specs.Graph.{isParent, isRoot, references, names}
 use Rattle.marking.proofs.Graphs.{IsParent, parent-out, parent-in, root-out, root-in, Names, names-out, names-in}
-use Rattle.marking.specs.Analysis.{Row}
+use Rattle.marking.specs.Analysis.{EntryRow}
 use Rattle.marking.specs.Columns.{offsetsIn, parentsIn, rootsIn}
 use Rattle.marking.specs.Resolution.{entryFrom, pairFor, pairsOfEntry, pairsFrom, pairsIn, graphOf, Ascending}
 use Rattle.marking.specs.Members.{Member, here, there, Nth, now, later}
@@ -23,35 +23,35 @@ use Rattle.marking.proofs.Rows.{length-parents}
 
 -- ---- the row of an entry
 
-pub record RowAt (rows : List Row) (i : ℕ) : Type 0 where
-  pub row : Row
+pub record RowAt (rows : List EntryRow) (i : ℕ) : Type 0 where
+  pub row : EntryRow
   pub at : Nth row i rows
 
-row-at : (rows : List Row) (i : ℕ) → i < length rows → RowAt rows i
+row-at : (rows : List EntryRow) (i : ℕ) → i < length rows → RowAt rows i
 row-at [] i h = absurd (omega arith)
 row-at (r ∷ rows) zero h = record { row = r; at = now refl }
 row-at (r ∷ rows) (suc i) h = let q : RowAt rows i = row-at rows i (omega arith) in record { row = q .row; at = later (q .at) }
 
-nth-inside : (r : Row) (i : ℕ) (rows : List Row) → Nth r i rows → i < length rows
+nth-inside : (r : EntryRow) (i : ℕ) (rows : List EntryRow) → Nth r i rows → i < length rows
 nth-inside r i [] m = elim m [ ]
 nth-inside r i (x ∷ rows) (now e) = omega arith
 nth-inside r i (x ∷ rows) (later {n = j} m) = let h : j < length rows = nth-inside r j rows m in omega arith
 
-nth-parent : (r : Row) (i : ℕ) (rows : List Row) → Nth r i rows → getD (parentsIn rows) i 0 ≡ r .parent
+nth-parent : (r : EntryRow) (i : ℕ) (rows : List EntryRow) → Nth r i rows → getD (parentsIn rows) i 0 ≡ r .parent
 unfolding parentsIn
 nth-parent r i [] m = elim m [ ]
-nth-parent r i (x ∷ rows) (now e) = ap (λ (z : Row). z .parent) (sym e)
+nth-parent r i (x ∷ rows) (now e) = ap (λ (z : EntryRow). z .parent) (sym e)
 nth-parent r i (x ∷ rows) (later {n = j} m) = nth-parent r j rows m
 
-nth-root : (r : Row) (i : ℕ) (rows : List Row) → Nth r i rows → getD (rootsIn rows) i 0 ≡ r .root
+nth-root : (r : EntryRow) (i : ℕ) (rows : List EntryRow) → Nth r i rows → getD (rootsIn rows) i 0 ≡ r .root
 unfolding rootsIn
 nth-root r i [] m = elim m [ ]
-nth-root r i (x ∷ rows) (now e) = ap (λ (z : Row). z .root) (sym e)
+nth-root r i (x ∷ rows) (now e) = ap (λ (z : EntryRow). z .root) (sym e)
 nth-root r i (x ∷ rows) (later {n = j} m) = nth-root r j rows m
 
 -- ---- parents and roots
 
-module _ (rows : List Row) where
+module _ (rows : List EntryRow) where
   row-parent : (p i : ℕ) → isParent (graphOf rows) p i ≡ true → ParentIn rows p i
   unfolding graphOf
   row-parent p i q =
@@ -88,14 +88,14 @@ module _ (rows : List Row) where
 
 -- ---- the entry at an offset
 
-record EntryAt (rows : List Row) (k v t : ℕ) : Type 0 where
-  pub row : Row
+record EntryAt (rows : List EntryRow) (k v t : ℕ) : Type 0 where
+  pub row : EntryRow
   pub place : ℕ
   pub at : Nth row place rows
   pub is : t ≡ k + place
   pub offset-is : row .offset ≡ v
 
-entry-out : (rows : List Row) (k v t : ℕ) → entryFrom k (offsetsIn rows) v ≡ some t → EntryAt rows k v t
+entry-out : (rows : List EntryRow) (k v t : ℕ) → entryFrom k (offsetsIn rows) v ≡ some t → EntryAt rows k v t
 unfolding entryFrom offsetsIn
 entry-out [] k v t q = let z : _≡_ {A = ℕ} 0 1 = cc in absurd (omega arith)
 entry-out (r ∷ rows) k v t q =
@@ -104,17 +104,17 @@ entry-out (r ∷ rows) k v t q =
     (λ e p. let a : EntryAt rows (suc k) v t = entry-out rows (suc k) v t p in
     record { row = a .row; place = suc (a .place); at = later (a .at); is = omega (arith, a .is); offset-is = a .offset-is }) q
 
-offset-member : (r : Row) (i : ℕ) (rows : List Row) → Nth r i rows → Member (r .offset) (offsetsIn rows)
+offset-member : (r : EntryRow) (i : ℕ) (rows : List EntryRow) → Nth r i rows → Member (r .offset) (offsetsIn rows)
 unfolding offsetsIn
 offset-member r i [] m = elim m [ ]
-offset-member r i (x ∷ rows) (now e) = here (ap (λ (z : Row). z .offset) e)
+offset-member r i (x ∷ rows) (now e) = here (ap (λ (z : EntryRow). z .offset) e)
 offset-member r i (x ∷ rows) (later {n = j} m) = there (offset-member r j rows m)
 
-entry-in : (low : ℕ) (rows : List Row) → Ascending low (offsetsIn rows) → (k i : ℕ) (r : Row) → Nth r i rows → entryFrom k (offsetsIn rows) (r .offset) ≡ some (k + i)
+entry-in : (low : ℕ) (rows : List EntryRow) → Ascending low (offsetsIn rows) → (k i : ℕ) (r : EntryRow) → Nth r i rows → entryFrom k (offsetsIn rows) (r .offset) ≡ some (k + i)
 unfolding entryFrom offsetsIn Ascending
 entry-in low [] f k i r m = elim m [ ]
 entry-in low (x ∷ rows) f k i r (now e) =
-    pick-yes _ _ _ (yes-eqb {a = x .offset} {b = r .offset} (ap (λ (z : Row). z .offset) (sym e))) ∙ ap (λ (z : ℕ). some z) (let q : k ≡ k + 0 = omega arith in q)
+    pick-yes _ _ _ (yes-eqb {a = x .offset} {b = r .offset} (ap (λ (z : EntryRow). z .offset) (sym e))) ∙ ap (λ (z : ℕ). some z) (let q : k ≡ k + 0 = omega arith in q)
 entry-in low (x ∷ rows) f k i r (later {n = j} m) =
     let h : suc (x .offset) ≤ r .offset = from-member (suc (x .offset)) (r .offset) (offsetsIn rows) (f .1) (offset-member r j rows m) in
     pick-no _ _ _ (no-eqb {a = x .offset} {b = r .offset} (omega arith))
@@ -164,18 +164,18 @@ module _ (s t : ℕ) where
       }) p
 
   -- those of an entry's references, and then others
-  record Held (os : List ℕ) (ts : List ℕ) : Type 0 where
+  record NamedAmong (os : List ℕ) (ts : List ℕ) : Type 0 where
     pub offset : ℕ
     pub among : Member offset ts
     pub finds : entryFrom 0 os offset ≡ some t
 
   module _ (os : List ℕ) (i : ℕ) where
-    held-more : (v : ℕ) (ts ys : List ℕ) → ((i ≡ s) × Held os ts) ⊎ Pair ys → ((i ≡ s) × Held os (v ∷ ts)) ⊎ Pair ys
+    held-more : (v : ℕ) (ts ys : List ℕ) → ((i ≡ s) × NamedAmong os ts) ⊎ Pair ys → ((i ≡ s) × NamedAmong os (v ∷ ts)) ⊎ Pair ys
     held-more v ts ys =
-        ⊎-elim (λ (h : (i ≡ s) × Held os ts). inl (h .0, record { offset = h .1 .offset; among = there (h .1 .among); finds = h .1 .finds })) (λ (h : Pair ys). inr h)
+        ⊎-elim (λ (h : (i ≡ s) × NamedAmong os ts). inl (h .0, record { offset = h .1 .offset; among = there (h .1 .among); finds = h .1 .finds })) (λ (h : Pair ys). inr h)
 
-    held-one : (v : ℕ) (ts ys zs : List ℕ) → (Pair (zs ++ ys) → ((i ≡ s) × Held os ts) ⊎ Pair ys) → (o : Option ℕ) → entryFrom 0 os v ≡ o
-        → Pair ((pairFor i o ++ zs) ++ ys) → ((i ≡ s) × Held os (v ∷ ts)) ⊎ Pair ys
+    held-one : (v : ℕ) (ts ys zs : List ℕ) → (Pair (zs ++ ys) → ((i ≡ s) × NamedAmong os ts) ⊎ Pair ys) → (o : Option ℕ) → entryFrom 0 os v ≡ o
+        → Pair ((pairFor i o ++ zs) ++ ys) → ((i ≡ s) × NamedAmong os (v ∷ ts)) ⊎ Pair ys
     unfolding pairFor Pair
     held-one v ts ys zs k none q p = held-more v ts ys (k p)
     held-one v ts ys zs k (some u) q p =
@@ -183,7 +183,7 @@ module _ (s t : ℕ) where
         (λ (h : (i ≡ s) × (u ≡ t)). inl (h .0, record { offset = v; among = here refl; finds = q ∙ ap (λ (z : ℕ). some z) (h .1) }))
         (λ (h : Pair (zs ++ ys)). held-more v ts ys (k h)) p
 
-    held-out : (ts ys : List ℕ) → Pair (pairsOfEntry os i ts ++ ys) → ((i ≡ s) × Held os ts) ⊎ Pair ys
+    held-out : (ts ys : List ℕ) → Pair (pairsOfEntry os i ts ++ ys) → ((i ≡ s) × NamedAmong os ts) ⊎ Pair ys
     unfolding pairsOfEntry
     held-out [] ys p = inr p
     held-out (v ∷ ts) ys p = held-one v ts ys (pairsOfEntry os i ts) (held-out ts ys) (entryFrom 0 os v) refl p
@@ -210,32 +210,32 @@ module _ (s t : ℕ) where
     held-in (z ∷ ts) ys e v (there m) q = over-one (entryFrom 0 os z) (pairsOfEntry os i ts) ys (held-in ts ys e v m q)
 
   -- those of rows from entry k on
-  record HeldBy (os : List ℕ) (k : ℕ) (rows : List Row) : Type 0 where
-    pub row : Row
+  record HeldBy (os : List ℕ) (k : ℕ) (rows : List EntryRow) : Type 0 where
+    pub row : EntryRow
     pub place : ℕ
     pub at : Nth row place rows
     pub is : s ≡ k + place
-    pub held : Held os (row .names)
+    pub held : NamedAmong os (row .names)
 
-  rows-out : (os : List ℕ) (k : ℕ) (rows : List Row) → Pair (pairsFrom os k rows) → HeldBy os k rows
+  rows-out : (os : List ℕ) (k : ℕ) (rows : List EntryRow) → Pair (pairsFrom os k rows) → HeldBy os k rows
   unfolding pairsFrom Pair
   rows-out os k [] p = absurd p
   rows-out os k (r ∷ rows) p =
       ⊎-elim
-      (λ (h : (k ≡ s) × Held os (r .names)). record { row = r; place = 0; at = now refl; is = (let e : k ≡ s = h .0 in omega arith); held = h .1 })
+      (λ (h : (k ≡ s) × NamedAmong os (r .names)). record { row = r; place = 0; at = now refl; is = (let e : k ≡ s = h .0 in omega arith); held = h .1 })
       (λ (h : Pair (pairsFrom os (suc k) rows)).
       let a : HeldBy os (suc k) rows = rows-out os (suc k) rows h in
       record { row = a .row; place = suc (a .place); at = later (a .at); is = omega (arith, a .is); held = a .held })
       (held-out os k (r .names) (pairsFrom os (suc k) rows) p)
 
-  rows-in : (os : List ℕ) (k : ℕ) (rows : List Row) (i : ℕ) (r : Row) → Nth r i rows → s ≡ k + i → Held os (r .names) → Pair (pairsFrom os k rows)
+  rows-in : (os : List ℕ) (k : ℕ) (rows : List EntryRow) (i : ℕ) (r : EntryRow) → Nth r i rows → s ≡ k + i → NamedAmong os (r .names) → Pair (pairsFrom os k rows)
   unfolding pairsFrom
   rows-in os k [] i r m e h = elim m [ ]
   rows-in os k (x ∷ rows) i r (now q) e h =
-      held-in os k (x .names) (pairsFrom os (suc k) rows) (omega arith) (h .offset) (subst (λ (z : Row). Member (h .offset) (z .names)) q (h .among)) (h .finds)
+      held-in os k (x .names) (pairsFrom os (suc k) rows) (omega arith) (h .offset) (subst (λ (z : EntryRow). Member (h .offset) (z .names)) q (h .among)) (h .finds)
   rows-in os k (x ∷ rows) i r (later {n = j} m) e h = held-over os k (x .names) (pairsFrom os (suc k) rows) (rows-in os (suc k) rows j r m (omega arith) h)
 
-module _ (rows : List Row) (low : ℕ) (ascending : Ascending low (offsetsIn rows)) (s t : ℕ) where
+module _ (rows : List EntryRow) (low : ℕ) (ascending : Ascending low (offsetsIn rows)) (s t : ℕ) where
   row-names : names (graphOf rows) s t ≡ true → NamesIn rows s t
   unfolding graphOf references pairsIn
   row-names q =

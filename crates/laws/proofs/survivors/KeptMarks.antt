@@ -6,9 +6,9 @@ use mathlib.Core.Logic.{⊎-elim}
 use lib.ListN.{getD, List·getD-eq-default}
 use lib.Dec.{T, ltb}
 use mir.Facts.{leb-yes, yes-leb, ltb-yes, ltb-no}
-use Rattle.readers.specs.Choice.{either}
+use Rattle.readers.proofs.Choice.{either}
 use Rattle.marking.specs.Graph.{Graph, size}
-use Rattle.marking.specs.Survivors.{Kept}
+use Rattle.marking.specs.Survivors.{Survivor}
 use Rattle.marking.specs.Marks.{has, keptOf, marksOf, isKept}
 use Rattle.marking.proofs.Graphs.{WellFormed}
 use Rattle.marking.proofs.Survivors.{kept-inside}
@@ -17,7 +17,7 @@ use Rattle.marking.proofs.Letters.{length-marks}
 use Rattle.laws.proofs.survivors.Letters.{two-in, two-out, mark-at}
 
 module _ (g : Graph) (w : WellFormed g) where
-  marked-inside : (i : ℕ) → i < size g → T (isKept (marksOf g) i) → Kept g i
+  marked-inside : (i : ℕ) → i < size g → T (isKept (marksOf g) i) → Survivor g i
   unfolding isKept
   marked-inside i h t = kept-out g i (two-out (has (keptOf g) i) _ (subst (λ (n : ℕ). 2 ≤ n) (mark-at g i h) (leb-yes {a = 2} {b = getD (marksOf g) i 0} t)))
 
@@ -27,14 +27,14 @@ module _ (g : Graph) (w : WellFormed g) where
       let z : getD (marksOf g) i 0 ≡ 0 = List·getD-eq-default (marksOf g) 0 (subst (λ (n : ℕ). n ≤ i) (sym (length-marks g)) h) in
       omega (arith, leb-yes {a = 2} {b = getD (marksOf g) i 0} t)
 
-  pub marked-kept : (i : ℕ) → T (isKept (marksOf g) i) → Kept g i
+  pub marked-kept : (i : ℕ) → T (isKept (marksOf g) i) → Survivor g i
   marked-kept i t =
       ⊎-elim
       (λ l. marked-inside i (ltb-yes {a = i} {b = size g} l) t)
       (λ l. absurd (marked-outside i (ltb-no {a = i} {b = size g} l) t))
       (either (ltb i (size g)))
 
-  pub kept-marked : (i : ℕ) → Kept g i → T (isKept (marksOf g) i)
+  pub kept-marked : (i : ℕ) → Survivor g i → T (isKept (marksOf g) i)
   unfolding isKept
   kept-marked i k =
       yes-leb {a = 2} {b = getD (marksOf g) i 0}

@@ -9,7 +9,7 @@ use borrow.Author.Tests.{ne-eqb, leb-true, le-leb}
 use Rattle.readers.specs.Choice.{pick}
 use Rattle.marking.specs.Below.{Number}
 use Rattle.marking.specs.Graph.{Graph, size}
-use Rattle.marking.specs.Survivors.{Kept, named}
+use Rattle.marking.specs.Survivors.{Survivor, named}
 use Rattle.marking.specs.Markings.{isLive, namedBy}
 use Rattle.marking.specs.Marks.{has, keptOf, markOf, marksOf, isKept, keptCount}
 use Rattle.laws.specs.Marks.{MarkedLive, first-named, later, Says}
@@ -20,12 +20,12 @@ use Rattle.marking.proofs.Markings.{named-by-in, named-by-out}
 use Rattle.marking.proofs.Rounds.{kept-out, kept-in}
 use Rattle.marking.proofs.Letters.{is-live, length-marks, live-is}
 
-marked-kept : {g : Graph} {i : ℕ} → MarkedLive g i → Kept g i
+marked-kept : {g : Graph} {i : ℕ} → MarkedLive g i → Survivor g i
 marked-kept (first-named e k) = named e k
 marked-kept (later h l) = live-kept l
 
 -- what a mark says, from what its two tests say
-says : (g : Graph) (i : ℕ) (a l : Bool) → (a ≡ true → Kept g i) → (Kept g i → a ≡ true) → (l ≡ true → MarkedLive g i) → (MarkedLive g i → l ≡ true) → Says g i (pick a (pick l 3 2) 1)
+says : (g : Graph) (i : ℕ) (a l : Bool) → (a ≡ true → Survivor g i) → (Survivor g i → a ≡ true) → (l ≡ true → MarkedLive g i) → (MarkedLive g i → l ≡ true) → Says g i (pick a (pick l 3 2) 1)
 unfolding pick
 says g i true true ko ki lo li = record {
   live = (λ h. lo refl, λ m. refl);
@@ -76,8 +76,8 @@ module _ (g : Graph) (v : WellFormed g) where
   pub mark-says : (i : ℕ) → i < size g → Says g i (getD (marksOf g) i 0)
   mark-says i h = rw (mark-at g i h) (says g i (has (keptOf g) i) (isMarkedLive g i) (kept-out g i) (kept-in g v i) (marked-out i) (marked-in i))
 
-  pub count-is : Number (Kept g) (size g) (keptCount (marksOf g))
+  pub count-is : Number (Survivor g) (size g) (keptCount (marksOf g))
   unfolding keptCount isKept
   count-is =
       rw (length-marks g)
-      (counted (Kept g) (λ i. leb 2 (getD (marksOf g) i 0)) (size g) (λ i h e. kept-out g i (two-out (has (keptOf g) i) (isMarkedLive g i) (rw (mark-at g i h) at (leb-true 2 (getD (marksOf g) i 0) e)))) (λ i h k. le-leb 2 (getD (marksOf g) i 0) (rw (mark-at g i h) (two-in (has (keptOf g) i) (isMarkedLive g i) (kept-in g v i k)))))
+      (counted (Survivor g) (λ i. leb 2 (getD (marksOf g) i 0)) (size g) (λ i h e. kept-out g i (two-out (has (keptOf g) i) (isMarkedLive g i) (rw (mark-at g i h) at (leb-true 2 (getD (marksOf g) i 0) e)))) (λ i h k. le-leb 2 (getD (marksOf g) i 0) (rw (mark-at g i h) (two-in (has (keptOf g) i) (isMarkedLive g i) (kept-in g v i k)))))

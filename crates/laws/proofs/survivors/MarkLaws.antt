@@ -9,7 +9,7 @@ use lib.ListN.{length, getD}
 use borrow.Author.Tests.{eqb-true}
 use Rattle.marking.specs.Below.{Number}
 use Rattle.marking.specs.Graph.{Graph, size, wellFormed, takes}
-use Rattle.marking.specs.Survivors.{Descendant, Kept, Least}
+use Rattle.marking.specs.Survivors.{Descendant, Survivor, Least}
 use Rattle.marking.specs.Markings.{isDescendant}
 use Rattle.laws.specs.Markings.{run, nothing, MarksSurvivors}
 use Rattle.marking.specs.Marks.{marksOf, keptCount}
@@ -27,11 +27,11 @@ unfolding takes
 taken-law g n e = let a = and-out _ _ e in (eqb-true _ _ (a .0), a .1)
 
 -- "survivors are the least set holding .. every other set like that contains it"
-pub survivors-law : (g : Graph) → Least g (Kept g)
+pub survivors-law : (g : Graph) → Least g (Survivor g)
 survivors-law g = record { closed = kept-closed g; least = kept-least g }
 
 -- they are entries
-pub survivors-inside : (g : Graph) → wellFormed g ≡ true → (i : ℕ) → Kept g i → i < size g
+pub survivors-inside : (g : Graph) → wellFormed g ≡ true → (i : ℕ) → Survivor g i → i < size g
 survivors-inside g w = kept-inside g (well-formed g w)
 
 -- the test of descendants says what they are
@@ -47,5 +47,5 @@ pub marks-law : (g : Graph) → wellFormed g ≡ true → (i : ℕ) → i < size
 marks-law g w = mark-says g (well-formed g w)
 
 -- "the kept count is the number of survivors"
-pub kept-count-law : (g : Graph) → wellFormed g ≡ true → Number (Kept g) (size g) (keptCount (marksOf g))
+pub kept-count-law : (g : Graph) → wellFormed g ≡ true → Number (Survivor g) (size g) (keptCount (marksOf g))
 kept-count-law g w = count-is g (well-formed g w)

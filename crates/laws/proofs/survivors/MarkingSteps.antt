@@ -17,7 +17,7 @@ use Rattle.marking.specs.Graph.{Graph, size, noParent, isParent, references, ho
 use Rattle.marking.specs.Members.{Nth, now, later}
 use Rattle.marking.specs.Survivors.{Descendant, child as child′, deeper as deeper′}
 use Rattle.laws.specs.Markings.{accepts, step}
-use Rattle.marking.specs.Analysis.{Sections, Row, baseOf}
+use Rattle.marking.specs.Analysis.{Sections, EntryRow, baseOf}
 use Rattle.marking.specs.Resolution.{graphOf}
 use Rattle.laws.specs.UnitSurvivors.{ParentIn, NamesIn, Below, child, deeper, FirstUnit, GraphSays, SurvivorsOf}
 use Rattle.marking.specs.EntryRows.{RowsOf, unitItems}
@@ -58,7 +58,7 @@ accepts-law g v m i = (
 
 -- ---- the same reasons by the rows
 
-module _ (rows : List Row) (g : Graph) (says : GraphSays rows g) where
+module _ (rows : List EntryRow) (g : Graph) (says : GraphSays rows g) where
   below-out : {r d : ℕ} → Descendant g r d → Below rows r d
   below-out (child′ {r = r} {d = d} q) = child (says .parents r d .0 q)
   below-out (deeper′ {p = p} {d = d} u q) = deeper (below-out u) (says .parents p d .0 q)
@@ -122,14 +122,14 @@ nth-inside a n (x ∷ xs) (now q) = omega arith
 nth-inside a n (x ∷ xs) (later {n = k} h) = omega (arith, nth-inside a k xs h)
 
 module _ (e : Encoding) (x : Sections) (unit : List ℕ) where
-  row-before : (k : ℕ) (stack : List ℕ) (rb lb : ℕ) (items : List Item) (rows : List Row) → Before k stack → RowsOf e x unit k stack rb lb items rows
-      → (i : ℕ) (r : Row) → Nth r i rows → (r .parent ≡ noParent → ⊥) → r .parent < k + i
+  row-before : (k : ℕ) (stack : List ℕ) (rb lb : ℕ) (items : List Item) (rows : List EntryRow) → Before k stack → RowsOf e x unit k stack rb lb items rows
+      → (i : ℕ) (r : EntryRow) → Nth r i rows → (r .parent ≡ noParent → ⊥) → r .parent < k + i
   unfolding RowsOf
   row-before k stack rb lb [] rows b h i r n o = let l : length rows ≡ 0 = ap length h in absurd (omega (arith, nth-inside r i rows n))
   row-before k stack rb lb (terminator p q ∷ items) rows b h i r n o = row-before k (close stack) rb lb items rows (before-close k stack b) h i r n o
   row-before k stack rb lb (entry y ∷ items) [] b h i r n o = absurd h
   row-before k stack rb lb (entry y ∷ items) (s ∷ rows) b h i r (now q) o =
-      let z : r .parent ≡ top stack = ap (λ (t : Row). t .parent) q ∙ h .0 .parent-is in
+      let z : r .parent ≡ top stack = ap (λ (t : EntryRow). t .parent) q ∙ h .0 .parent-is in
       omega (arith, top-before k stack b (λ t. o (z ∙ t)))
   row-before k stack rb lb (entry y ∷ items) (s ∷ rows) b h i r (later {n = j} n) o =
       let l : r .parent < suc k + j =
@@ -137,7 +137,7 @@ module _ (e : Encoding) (x : Sections) (unit : List ℕ) where
       (before-open (y .declaration .children) k stack b) (h .1) j r n o in
       omega arith
 
-module _ (x : Sections) (section : List ℕ) (rows : List Row) (s : SurvivorsOf x section rows) where
+module _ (x : Sections) (section : List ℕ) (rows : List EntryRow) (s : SurvivorsOf x section rows) where
   abbrev g : Graph
   g = graphOf rows
 

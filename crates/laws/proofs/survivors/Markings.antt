@@ -8,7 +8,7 @@ use lib.Dec.{eqb}
 use borrow.Author.Tests.{ltb-true, eqb-true, not-true, lt-ltb}
 use Rattle.readers.specs.Choice.{pick, _and_, _or_}
 use Rattle.marking.specs.Graph.{Graph, size}
-use Rattle.marking.specs.Survivors.{Kept}
+use Rattle.marking.specs.Survivors.{Survivor}
 use Rattle.laws.specs.Markings.{accepts, step, run, nothing, MarksSurvivors}
 use Rattle.marking.proofs.Tests.{and-out, or-out, by-false, by-true, not-both}
 use Rattle.marking.proofs.Graphs.{WellFormed}
@@ -33,21 +33,21 @@ accepts-in : (g : Graph) → WellFormed g → (m : ℕ → Bool) (i : ℕ) → A
 unfolding accepts _and_
 accepts-in g v m i a = rw (lt-ltb i (size g) (a .inside), a .unmarked, reason-in g v m i (a .reason))
 
-step-kept : (g : Graph) (m : ℕ → Bool) (i : ℕ) → ((j : ℕ) → m j ≡ true → Kept g j) → (j : ℕ) → step g m i j ≡ true → Kept g j
+step-kept : (g : Graph) (m : ℕ → Bool) (i : ℕ) → ((j : ℕ) → m j ≡ true → Survivor g j) → (j : ℕ) → step g m i j ≡ true → Survivor g j
 unfolding step pick
 step-kept g m i s j e = go (accepts g m i) refl e
   where
-    go : (b : Bool) → accepts g m i ≡ b → pick b (λ k. eqb k i or m k) m j ≡ true → Kept g j
+    go : (b : Bool) → accepts g m i ≡ b → pick b (λ k. eqb k i or m k) m j ≡ true → Survivor g j
     go true a e = ⊎-elim (λ q. let w = accepts-out g m i a in rw (eqb-true j i q) (reason-kept g m s i (w .inside) (w .reason))) (λ q. s j q) (or-out (eqb j i) (m j) e)
     go false a e = s j e
 
-run-kept : (g : Graph) (m : ℕ → Bool) (is : List ℕ) → ((j : ℕ) → m j ≡ true → Kept g j) → (j : ℕ) → run g m is j ≡ true → Kept g j
+run-kept : (g : Graph) (m : ℕ → Bool) (is : List ℕ) → ((j : ℕ) → m j ≡ true → Survivor g j) → (j : ℕ) → run g m is j ≡ true → Survivor g j
 unfolding run
 run-kept g m [] s j e = s j e
 run-kept g m (i ∷ is) s j e = run-kept g (step g m i) is (step-kept g m i s) j e
 
 -- whatever marks only survivors marks all of them exactly when every marking would be refused
-marks-survivors : (g : Graph) → WellFormed g → (m : ℕ → Bool) → ((i : ℕ) → m i ≡ true → Kept g i) → MarksSurvivors g m
+marks-survivors : (g : Graph) → WellFormed g → (m : ℕ → Bool) → ((i : ℕ) → m i ≡ true → Survivor g i) → MarksSurvivors g m
 marks-survivors g v m only = record {
   only = only;
   all = (

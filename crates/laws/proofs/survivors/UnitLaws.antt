@@ -10,7 +10,8 @@ use mathlib.Core.Logic.{_⊎_, inl, inr, ⊎-elim}
 use lib.ListN.{length, getD, take}
 use lib.Dec.{eqb, leb}
 use mir.Facts.{eqb-yes}
-use Rattle.readers.specs.Choice.{pick-either, _or_}
+use Rattle.readers.specs.Choice.{_or_}
+use Rattle.readers.proofs.Choice.{pick-either}
 use Rattle.readers.specs.Cursors.{fixedAt}
 use Rattle.readers.specs.Abbreviations.{Placed, abbreviationsOf}
 use Rattle.readers.specs.Nesting.{open′, close}
@@ -26,11 +27,11 @@ use Rattle.readers.specs.declared.header.HeaderRead.the-variants.{Unit as Unit�
 use Rattle.readers.proofs.Headers.{header-empty}
 use Rattle.marking.specs.Below.{Number}
 use Rattle.marking.specs.Graph.{noParent, wellFormed}
-use Rattle.marking.specs.Survivors.{Kept}
+use Rattle.marking.specs.Survivors.{Survivor}
 use Rattle.marking.specs.Marks.{marksOf, keptCount}
 use Rattle.laws.specs.Marks.{Says}
 use Rattle.marking.specs.EntryReferences.{found}
-use Rattle.marking.specs.Analysis.{Sections, Rooms, Row, Analysed, analysed, refused, onDeclared, unitAnalysed, headerAnalysed, analysisOf, baseOf}
+use Rattle.marking.specs.Analysis.{Sections, Rooms, EntryRow, Analysed, analysed, refused, onDeclared, unitAnalysed, headerAnalysed, analysisOf, baseOf}
 use Rattle.marking.specs.Columns.{offsetsIn}
 use Rattle.marking.specs.Resolution.{graphOf, marksIn, unitMarks, Ascending}
 use Rattle.laws.specs.UnitSurvivors.{FirstUnit, GraphSays, SurvivorsOf, MarkedUnit}
@@ -94,7 +95,7 @@ empty-section (b ∷ s) q = absurd (subst Headed q (header-headed b s))
 
 -- ---- of a unit that is analysed
 
-module _ (x : Sections) (section : List ℕ) (room : Rooms) (rows : List Row) (analysis : analysisOf x section room ≡ analysed rows) where
+module _ (x : Sections) (section : List ℕ) (room : Rooms) (rows : List EntryRow) (analysis : analysisOf x section room ≡ analysed rows) where
   -- ---- the graph and its marks
 
   placed : UnitRows section room 0 rows
@@ -117,9 +118,9 @@ module _ (x : Sections) (section : List ℕ) (room : Rooms) (rows : List Row) (a
   unfolding marksIn
   marks-say i h = marks-law (graphOf rows) formed i (omega (arith, graph-size rows))
 
-  counted : Number (Kept (graphOf rows)) (length rows) (keptCount (marksIn rows))
+  counted : Number (Survivor (graphOf rows)) (length rows) (keptCount (marksIn rows))
   unfolding marksIn
-  counted = subst (λ (n : ℕ). Number (Kept (graphOf rows)) n (keptCount (marksOf (graphOf rows)))) (graph-size rows) (kept-count-law (graphOf rows) formed)
+  counted = subst (λ (n : ℕ). Number (Survivor (graphOf rows)) n (keptCount (marksOf (graphOf rows)))) (graph-size rows) (kept-count-law (graphOf rows) formed)
 
   -- ---- the unit
 
@@ -181,10 +182,10 @@ module _ (x : Sections) (section : List ℕ) (room : Rooms) (rows : List Row) (a
 
 -- ---- no other rows are so
 
-abbrev row : ℕ → ℕ → ℕ → List ℕ → Row
+abbrev row : ℕ → ℕ → ℕ → List ℕ → EntryRow
 row o p t ns = record { offset = o; parent = p; root = t; names = ns }
 
-row-made : (r : Row) (o p t : ℕ) (ns : List ℕ) → r .offset ≡ o → r .parent ≡ p → r .root ≡ t → r .names ≡ ns → r ≡ row o p t ns
+row-made : (r : EntryRow) (o p t : ℕ) (ns : List ℕ) → r .offset ≡ o → r .parent ≡ p → r .root ≡ t → r .names ≡ ns → r ≡ row o p t ns
 row-made r o p t ns a b c d =
     ap₂ (λ (i j : ℕ). row i j (r .root) (r .names)) a b ∙ ap₂ (λ (i : ℕ) (l : List ℕ). row o p i l) c d
 
@@ -199,7 +200,7 @@ module _ (e : Encoding) (x : Sections) (unit : List ℕ) where
       (λ (q : (v ≡ Live) × (b ≡ 1)). let l : v ≡ Live = q .0 in let d : v ≡ Dead = p .0 in let z : _≡_ {A = ℕ} 0 1 = cc in absurd (omega arith))
       (λ (q : (v ≡ Dead) × (b ≡ 0)). p .1 ∙ sym (q .1)))
 
-  same-row : (stack : List ℕ) (rb lb : ℕ) (y : Entry) (a b : Row) → RowOf e x unit stack rb lb y a → RowOf e x unit stack rb lb y b → a ≡ b
+  same-row : (stack : List ℕ) (rb lb : ℕ) (y : Entry) (a b : EntryRow) → RowOf e x unit stack rb lb y a → RowOf e x unit stack rb lb y b → a ≡ b
   same-row stack rb lb y a b p q =
       row-made a (b .offset) (b .parent) (b .root) (b .names)
       (p .offset-is ∙ sym (q .offset-is))
@@ -207,7 +208,7 @@ module _ (e : Encoding) (x : Sections) (unit : List ℕ) where
       (same-root _ (a .root) (b .root) (p .root-is) (q .root-is))
       (let z : found (a .names) ≡ found (b .names) = sym (p .names-are) ∙ q .names-are in cc)
 
-  same-rows : (k : ℕ) (stack : List ℕ) (rb lb : ℕ) (items : List Item) (a b : List Row)
+  same-rows : (k : ℕ) (stack : List ℕ) (rb lb : ℕ) (items : List Item) (a b : List EntryRow)
       → RowsOf e x unit k stack rb lb items a → RowsOf e x unit k stack rb lb items b → a ≡ b
   unfolding RowsOf
   same-rows k stack rb lb [] a b p q = p ∙ sym q
@@ -215,10 +216,10 @@ module _ (e : Encoding) (x : Sections) (unit : List ℕ) where
   same-rows k stack rb lb (entry y ∷ rest) [] b p q = absurd p
   same-rows k stack rb lb (entry y ∷ rest) (r ∷ a) [] p q = absurd q
   same-rows k stack rb lb (entry y ∷ rest) (r ∷ a) (s ∷ b) p q =
-      ap₂ (λ (z : Row) (zs : List Row). z ∷ zs) (same-row stack rb lb y r s (p .0) (q .0))
+      ap₂ (λ (z : EntryRow) (zs : List EntryRow). z ∷ zs) (same-row stack rb lb y r s (p .0) (q .0))
       (same-rows (suc k) (open′ (y .declaration .children) k stack) (baseOf e x unit 0x74 rb y) (baseOf e x unit 0x8c lb y) rest a b (p .1) (q .1))
 
-module _ (x : Sections) (section : List ℕ) (a b : List Row) where
+module _ (x : Sections) (section : List ℕ) (a b : List EntryRow) where
   abbrev Each : UnitHeader → List Placed → Type 0
   Each h ds = RowsOf (h .encoding) x (take (h .end) section) 0 [] 12 12 (unitItems x section h ds .0) a
 
@@ -232,7 +233,7 @@ module _ (x : Sections) (section : List ℕ) (a b : List Row) where
       (subst (λ (n : UnitHeader). Each n (v .declared)) h (subst (Each (u .header)) d (u .each)))
       (v .each)
 
-  no-first : section ≡ [] → (rows : List Row) → FirstUnit x section rows → ⊥
+  no-first : section ≡ [] → (rows : List EntryRow) → FirstUnit x section rows → ⊥
   no-first s rows u =
       let p : headerOf section ≡ Empty = header-empty section (ap length s) in
       let q : headerOf section ≡ Unit′ (u .header) = u .header-is in
@@ -263,7 +264,7 @@ module _ (x : Sections) (section : List ℕ) (room : Rooms) (n k : ℕ) where
         analysis = a;
         survivors = s;
         entries = sym e;
-        kept = subst (λ (i : ℕ). Number (Kept (graphOf rows)) i k) e (subst (Number (Kept (graphOf rows)) (length rows)) c (s .count));
+        kept = subst (λ (i : ℕ). Number (Survivor (graphOf rows)) i k) e (subst (Number (Survivor (graphOf rows)) (length rows)) c (s .count));
       }
   marked-by (refused i) a q = let z : _≡_ {A = ℕ} 0 1 = cc in absurd (omega arith)
 

@@ -2,16 +2,17 @@
 use Prim.Native.Nat.{ℕ}
 use native.Mathlib.Omega.{arith}
 use mathlib.Core.List.{List}
-use Rattle.marking.specs.Survivors.{Descendant, child as child′, deeper as deeper′, Kept, Closed, Least}
+use Rattle.marking.specs.Survivors.{Descendant, child as child′, deeper as deeper′, Survivor, Least}
+use Rattle.marking.specs.inner.Survivors.{Closed}
 use Rattle.laws.proofs.survivors.MarkLaws.{survivors-law}
-use Rattle.marking.specs.Analysis.{Row}
+use Rattle.marking.specs.Analysis.{EntryRow}
 use Rattle.marking.specs.Columns.{offsetsIn}
 use Rattle.marking.specs.Resolution.{graphOf, Ascending}
 use Rattle.laws.specs.UnitSurvivors.{Below, child, deeper, ClosedRows, LeastRows}
 use Rattle.marking.proofs.Rows.{length-parents}
 use Rattle.laws.proofs.survivors.GraphLaws.{parent-law, root-law, names-law}
 
-module _ (rows : List Row) (low : ℕ) (ascending : Ascending low (offsetsIn rows)) where
+module _ (rows : List EntryRow) (low : ℕ) (ascending : Ascending low (offsetsIn rows)) where
   below-out : {r d : ℕ} → Descendant (graphOf rows) r d → Below rows r d
   below-out (child′ {r = r} {d = d} q) = child (parent-law rows r d .0 q)
   below-out (deeper′ {p = p} {d = d} u q) = deeper (below-out u) (parent-law rows p d .0 q)
@@ -46,7 +47,7 @@ module _ (rows : List Row) (low : ℕ) (ascending : Ascending low (offsetsIn row
       }
 
   -- THE survivors of a unit
-  pub rows-least : LeastRows rows (Kept (graphOf rows))
+  pub rows-least : LeastRows rows (Survivor (graphOf rows))
   rows-least =
-      let l : Least (graphOf rows) (Kept (graphOf rows)) = survivors-law (graphOf rows) in
-      record { closed = to-rows (Kept (graphOf rows)) (l .closed); least = (λ R c. l .least R (to-graph R c)) }
+      let l : Least (graphOf rows) (Survivor (graphOf rows)) = survivors-law (graphOf rows) in
+      record { closed = to-rows (Survivor (graphOf rows)) (l .closed); least = (λ R c. l .least R (to-graph R c)) }

@@ -16,7 +16,7 @@ use Rattle.readers.specs.EntryAttributes.{Valued}
 use Rattle.marking.specs.Members.{Member, here, there}
 use Rattle.marking.proofs.Members.{nothing-in}
 use Rattle.marking.proofs.Tests.{and-out, and-in, or-out, or-inl, or-inr}
-use Rattle.rewriting.specs.Places.{Standing}
+use Rattle.rewriting.specs.Places.{NestedItem}
 use Rattle.rewriting.specs.Indices.{declares}
 use Rattle.rewriting.specs.Rewriting.{Unit as Unit′, itemsIn, itemDeclares, anyDeclares, Lists, listOf, listsOf, listAt}
 use Rattle.laws.specs.AbsentLists.{ListAttribute, DeclaresOffset}
@@ -82,7 +82,7 @@ module _ (x : Sections) (u : Unit′) where
 
   -- ---- the lists
 
-  module _ (typeUnits : Bool) (kept : List Standing) where
+  module _ (typeUnits : Bool) (kept : List NestedItem) where
     list-absent : (absent : Bool) (k : ℕ) → (listOf x u absent k kept ≡ none) ↔ (absent ≡ true)
     unfolding listOf pick
     list-absent true k = (λ _. refl, λ _. refl)

@@ -8,9 +8,11 @@ use lib.ListN.{length, take, drop, length-append, length-drop}
 use lib.Seq.{length-take-le, take-at, drop-at, take-add, drop-drop}
 use lib.Dec.{leb, eqb}
 use mir.Facts.{eqb-yes}
-use Rattle.readers.specs.Choice.{pick-either, _or_}
+use Rattle.readers.specs.Choice.{_or_}
+use Rattle.readers.proofs.Choice.{pick-either}
 use Rattle.readers.specs.Cursors.{fixedAt}
-use Rattle.readers.specs.Numbers.{fixedBytes, length-fixed}
+use Rattle.readers.specs.Numbers.{fixedBytes}
+use Rattle.readers.proofs.Numbers.{length-fixed}
 use Rattle.readers.specs.Header.{present, right, headerMade, headerFields, headerOf}
 use Rattle.readers.specs.declared.header.UnitHeader.{UnitHeader}
 use Rattle.readers.specs.declared.cursor.Number.{Number}

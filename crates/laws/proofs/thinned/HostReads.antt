@@ -12,8 +12,9 @@ use lib.Seq.{take-at, drop-at}
 use lib.Dec.{T, leb, eqb}
 use lib.Pow.{areBytes}
 use mir.Facts.{leb-yes, yes-leb}
-use Rattle.readers.specs.Choice.{pick, pick-either, _and_, zeros, All, all-map}
-use Rattle.readers.specs.Layout.{Encoded, infixed, inleb, Role, index, Token, nothing, number, bounded, forms, signed, link, string, run, block, expression, unknown, Layout, done, fail, field, Piece, copied, linked, Read, RunOf, Fit}
+use Rattle.readers.specs.Choice.{pick, _and_, zeros}
+use Rattle.readers.proofs.Choice.{pick-either, All, all-map}
+use Rattle.readers.specs.Layout.{Encoded, infixed, inleb, Role, index, Token, nothing, number, bounded, forms, signed, link, string, run, block, expression, unknown, Layout, done, fail, field, Piece, verbatim, patchable, Read, RunOf, Fit}
 use Rattle.readers.specs.Expression.{expressionIn}
 use Rattle.readers.specs.Entries.{entryLayout}
 use Rattle.readers.specs.Abbreviations.{Placed, declaredIn, abbreviationsOf}
@@ -24,21 +25,21 @@ use Rattle.readers.specs.declared.header.HeaderRead.{HeaderRead}
 use Rattle.readers.specs.declared.header.HeaderRead.the-variants.{Unit as Header′, Empty, Refused}
 use Rattle.readers.specs.Header.{headerOf}
 use Rattle.marking.specs.Marks.{isKept, keptCount}
-use Rattle.marking.specs.Analysis.{Sections, Rooms, Row, Analysed, analysed, refused as notAnalysed, analysisOf}
+use Rattle.marking.specs.Analysis.{Sections, Rooms, EntryRow, Analysed, analysed, refused as notAnalysed, analysisOf}
 use Rattle.marking.specs.Resolution.{marksIn, Ascending as From}
 use Rattle.marking.specs.Columns.{padTo}
-use Rattle.rewriting.specs.Places.{Standing, opened, closed, innermost, withIf, keptFrom, offsetOf, sizeOf, Place, placesFrom, sizeFrom}
+use Rattle.rewriting.specs.Places.{NestedItem, opened, closed, innermost, withIf, keptFrom, offsetOf, sizeOf, Place, placesFrom, sizeFrom, oldOffsets}
 use Rattle.rewriting.specs.Indices.{countOf}
 use Rattle.rewriting.specs.Ascending.{Ascending}
 use Rattle.marking.specs.Members.{Member, here, there, Nth, now, later}
-use Rattle.rewriting.specs.Maps.{offsetsOf, oldOffsets}
-use Rattle.rewriting.specs.Written.{numberAt, runBytes, listBytes, columns, mapBytes, place, MapHeld}
+use Rattle.rewriting.specs.Written.{numberAt, runBytes, listBytes, columns, mapBytes}
+use Rattle.rewriting.specs.inner.Written.{place, MapHeld}
 use Rattle.rewriting.specs.Rewriting.{Unit as Unit′, itemsIn, readsOr, readsAt, Lists, noLists, listAt, listsOf, listsFit, Room, Rewrite, Collected, untouched, rewritten, refused, orRefused, rewriteOf, marksCollected, rowsCollected, analysedCollected, declaredCollected, headerCollected, collectOf, unitOf}
 use Rattle.rewriting.specs.Outputs.{roomBy, mapFor, outputFor, listOr, listFor}
 use Rattle.laws.specs.HostReads.{placeAt, listNumberAt, MapReads, ListReads, PresentReads, OutputReads, RewrittenReads, UntouchedReads, RefusedReads, AnswerReads}
 use Rattle.marking.proofs.Members.{nothing-in, in-cases}
 use Rattle.laws.proofs.again.Maps.{places-length, kept-member}
-use Rattle.rewriting.proofs.Ascending.{items-ascending}
+use Rattle.rewriting.proofs.Ascending.{items-ascending, offsetsOf}
 use Rattle.laws.proofs.again.Sizes.{items-inside}
 use Rattle.rewriting.proofs.Tables.{Small, length-run, run-at}
 use Rattle.rewriting.proofs.Places.{nowhere, length-columns, old-held, new-held, depth-held}
@@ -165,20 +166,20 @@ unfolding closed
 length-closed [] = omega arith
 length-closed (b ∷ stack) = let z : length stack ≤ suc (length stack) = omega arith in z
 
-with-cases : (b : Bool) (s x : Standing) (xs : List Standing) → Member s (withIf b x xs) → (s ≡ x) ⊎ Member s xs
+with-cases : (b : Bool) (s x : NestedItem) (xs : List NestedItem) → Member s (withIf b x xs) → (s ≡ x) ⊎ Member s xs
 unfolding withIf
 with-cases true s x xs m = in-cases m
 with-cases false s x xs m = inr m
 
 -- an item is no deeper than its offset: each entry around it takes a byte before it
 depth-below : (marks : List ℕ) (k low : ℕ) (stack : List Bool) (items : List Item) → From low (offsetsOf items) → length stack ≤ low
-    → (s : Standing) → Member s (keptFrom marks k stack items) → s .depth ≤ offsetOf (s .item)
+    → (s : NestedItem) → Member s (keptFrom marks k stack items) → s .depth ≤ offsetOf (s .item)
 unfolding keptFrom offsetsOf From
 depth-below marks k low stack [] f h s m = absurd (nothing-in s m)
 depth-below marks k low stack (entry x ∷ rest) f h s m =
     let a : low ≤ offsetOf (entry x) = f .0 in
     ⊎-elim
-    (λ (e : s ≡ record { item = entry x; depth = length stack }). subst (λ (t : Standing). t .depth ≤ offsetOf (t .item)) (sym e) (let z : length stack ≤ offsetOf (entry x) = omega arith in z))
+    (λ (e : s ≡ record { item = entry x; depth = length stack }). subst (λ (t : NestedItem). t .depth ≤ offsetOf (t .item)) (sym e) (let z : length stack ≤ offsetOf (entry x) = omega arith in z))
     (λ (n : Member s (keptFrom marks (suc k) (opened (x .declaration .children) (isKept marks k) stack) rest)).
     depth-below marks (suc k) (suc (offsetOf (entry x))) (opened (x .declaration .children) (isKept marks k) stack) rest (f .1)
     (omega (arith, length-opened (x .declaration .children) (isKept marks k) stack)) s n)
@@ -186,12 +187,12 @@ depth-below marks k low stack (entry x ∷ rest) f h s m =
 depth-below marks k low stack (terminator a b ∷ rest) f h s m =
     let l : low ≤ offsetOf (terminator a b) = f .0 in
     ⊎-elim
-    (λ (e : s ≡ record { item = terminator a b; depth = length stack }). subst (λ (t : Standing). t .depth ≤ offsetOf (t .item)) (sym e) (let z : length stack ≤ offsetOf (terminator a b) = omega arith in z))
+    (λ (e : s ≡ record { item = terminator a b; depth = length stack }). subst (λ (t : NestedItem). t .depth ≤ offsetOf (t .item)) (sym e) (let z : length stack ≤ offsetOf (terminator a b) = omega arith in z))
     (λ (n : Member s (keptFrom marks k (closed stack) rest)).
     depth-below marks k (suc (offsetOf (terminator a b))) (closed stack) rest (f .1) (omega (arith, length-closed stack)) s n)
     (with-cases (innermost stack) s _ _ m)
 
-place-below : (b n : ℕ) (kept : List Standing) → ((s : Standing) → Member s kept → (offsetOf (s .item) < b) × (s .depth ≤ offsetOf (s .item)) × (0 < sizeOf (s .item)))
+place-below : (b n : ℕ) (kept : List NestedItem) → ((s : NestedItem) → Member s kept → (offsetOf (s .item) < b) × (s .depth ≤ offsetOf (s .item)) × (0 < sizeOf (s .item)))
     → (p : Place) → Member p (placesFrom n kept) → (p .old < b) × (p .depth ≤ p .old) × (p .new < n + sizeFrom kept)
 unfolding placesFrom sizeFrom
 place-below b n [] h p m = absurd (nothing-in p m)
@@ -245,16 +246,16 @@ layout-any (field t k) = (token-any t, λ n. layout-any (k n))
 rights-any : (ps : List Piece) → Rights inExpression ps → Rights anyRole ps
 unfolding Rights Right
 rights-any [] h = tt
-rights-any (copied l ∷ ps) h = (tt, rights-any ps (h .1))
-rights-any (linked e r v ∷ ps) h = ((h .0 .0, tt), rights-any ps (h .1))
+rights-any (verbatim l ∷ ps) h = (tt, rights-any ps (h .1))
+rights-any (patchable e r v ∷ ps) h = ((h .0 .0, tt), rights-any ps (h .1))
 
 expression-any : (e : Encoding) → ExactReader (e .«big_endian») anyRole (expressionIn e)
 expression-any e s h =
     all-map (Exactly (e .«big_endian») inExpression s) (Exactly (e .«big_endian») anyRole s) (expressionIn e s) (λ ps q. (q .0, rights-any ps (q .1))) (expression-exactly e s h)
 
-piece-fits : (e : Encoded) (r : Role) (v : ℕ) (ps : List Piece) → Rights anyRole ps → Member (linked e r v) ps → Fit e v
+piece-fits : (e : Encoded) (r : Role) (v : ℕ) (ps : List Piece) → Rights anyRole ps → Member (patchable e r v) ps → Fit e v
 unfolding Rights Right
-piece-fits e r v [] h m = absurd (nothing-in (linked e r v) m)
+piece-fits e r v [] h m = absurd (nothing-in (patchable e r v) m)
 piece-fits e r v (p ∷ ps) h (here q) = subst (Right anyRole) (sym q) (h .0) .0
 piece-fits e r v (p ∷ ps) h (there m) = piece-fits e r v ps (h .1) m
 
@@ -278,7 +279,7 @@ module _ (x : Sections) (u : Unit′) (b : T (areBytes (u .bytes))) where
       (entryLayout (u .header .encoding) (x .abbreviations) (declaredIn (u .declared))) (layout-any (entryLayout (u .header .encoding) (x .abbreviations) (declaredIn (u .declared))))
       (drop at (u .bytes)) (are-drop at (u .bytes) b))
 
-  index-small : (k v : ℕ) (kept : List Standing) → IndexKept x u k v kept → v < 2 ^ 64
+  index-small : (k v : ℕ) (kept : List NestedItem) → IndexKept x u k v kept → v < 2 ^ 64
   index-small k v kept i =
       fit-small (i .operand .operand .encoded) v
       (piece-fits (i .operand .operand .encoded) (index k) v (i .operand .read .pieces)
@@ -333,14 +334,14 @@ module _ (x : Sections) (room : Room) (typeUnits : Bool) (section : List ℕ) wh
   unfolding orRefused Roomed
   or-roomed n w t = pick-either Roomed (eqb n 0) (rewritten w) (refused n) (λ _. t) (λ _. tt)
 
-  rewrite-roomed : (u : Unit′) (entries count : ℕ) (l : Lists) (items : List Standing) → T (listsFit room l) → Roomed (rewriteOf x room u entries count l items)
+  rewrite-roomed : (u : Unit′) (entries count : ℕ) (l : Lists) (items : List NestedItem) → T (listsFit room l) → Roomed (rewriteOf x room u entries count l items)
   unfolding rewriteOf Roomed
   rewrite-roomed u entries count l items t =
       pick-either Roomed (leb (length items) (room .places)) _ (refused 13)
       (λ _. pick-either Roomed (leb (u .header .first .0 + sizeFrom items) (room .bytes)) _ (refused 14) (λ _. or-roomed _ _ t) (λ _. tt))
       (λ _. tt)
 
-  marks-roomed : (u : Unit′) (marks : List ℕ) (items : List Standing) → 0 < length marks → Roomed (marksCollected x room typeUnits u marks items)
+  marks-roomed : (u : Unit′) (marks : List ℕ) (items : List NestedItem) → 0 < length marks → Roomed (marksCollected x room typeUnits u marks items)
   unfolding marksCollected Roomed
   marks-roomed u marks items m =
       pick-either Roomed (listsFit room (listsOf x u typeUnits items)) _ (refused 12)
@@ -349,7 +350,7 @@ module _ (x : Sections) (room : Room) (typeUnits : Bool) (section : List ℕ) wh
       (λ _. rewrite-roomed u (length marks) (keptCount marks) (listsOf x u typeUnits items) items t))
       (λ _. tt)
 
-  rows-roomed : (u : Unit′) (rows : List Row) → Roomed (rowsCollected x room typeUnits u rows)
+  rows-roomed : (u : Unit′) (rows : List EntryRow) → Roomed (rowsCollected x room typeUnits u rows)
   unfolding rowsCollected Roomed
   rows-roomed u [] = (none-fit, λ _. refl)
   rows-roomed u (r ∷ rows) = marks-roomed u (marksIn (r ∷ rows)) _ (omega (arith, marks-each (r ∷ rows)))
@@ -383,12 +384,12 @@ module _ (x : Sections) (room : Room) (typeUnits : Bool) (section : List ℕ) wh
   untouched-fit n l q = subst Roomed q roomed
 
   -- the answer, by what is kept
-  rows-are : (u : Unit′) (rows : List Row) → 0 < length rows → rowsCollected x room typeUnits u rows ≡ marksCollected x room typeUnits u (marksIn rows) (survivorsIn x u rows)
+  rows-are : (u : Unit′) (rows : List EntryRow) → 0 < length rows → rowsCollected x room typeUnits u rows ≡ marksCollected x room typeUnits u (marksIn rows) (survivorsIn x u rows)
   unfolding rowsCollected
   rows-are u [] h = absurd (omega arith)
   rows-are u (r ∷ rows) h = refl
 
-  collect-is : (h : UnitHeader) (ds : List Placed) (rows : List Row) → Accepted x room section h ds rows → 0 < length rows
+  collect-is : (h : UnitHeader) (ds : List Placed) (rows : List EntryRow) → Accepted x room section h ds rows → 0 < length rows
       → collectOf x room typeUnits section ≡ marksCollected x room typeUnits (unitOf h section ds) (marksIn rows) (survivorsIn x (unitOf h section ds) rows)
   unfolding collectOf headerCollected declaredCollected analysedCollected
   collect-is h ds rows a n =
@@ -398,23 +399,23 @@ module _ (x : Sections) (room : Room) (typeUnits : Bool) (section : List ℕ) wh
       ∙ rows-are (unitOf h section ds) rows n
 
   module _ (w : Rewrite) where
-    abbrev Held : Unit′ → List Standing → Type 0
-    Held u items = (length items ≤ room .places) × (u .header .first .0 + sizeFrom items ≤ room .bytes)
+    abbrev HasRoom : Unit′ → List NestedItem → Type 0
+    HasRoom u items = (length items ≤ room .places) × (u .header .first .0 + sizeFrom items ≤ room .bytes)
 
-    rewrite-held : (u : Unit′) (entries count : ℕ) (l : Lists) (items : List Standing) → rewriteOf x room u entries count l items ≡ rewritten w → Held u items
+    rewrite-held : (u : Unit′) (entries count : ℕ) (l : Lists) (items : List NestedItem) → rewriteOf x room u entries count l items ≡ rewritten w → HasRoom u items
     unfolding rewriteOf
     rewrite-held u entries count l items =
-        pick-either (λ (c : Collected). c ≡ rewritten w → Held u items) (leb (length items) (room .places)) _ (refused 13)
-        (λ t. pick-either (λ (c : Collected). c ≡ rewritten w → Held u items) (leb (u .header .first .0 + sizeFrom items) (room .bytes)) _ (refused 14)
+        pick-either (λ (c : Collected). c ≡ rewritten w → HasRoom u items) (leb (length items) (room .places)) _ (refused 13)
+        (λ t. pick-either (λ (c : Collected). c ≡ rewritten w → HasRoom u items) (leb (u .header .first .0 + sizeFrom items) (room .bytes)) _ (refused 14)
         (λ t′ _. (leb-yes {a = length items} {b = room .places} t, leb-yes {a = u .header .first .0 + sizeFrom items} {b = room .bytes} t′))
         (λ _ q. let z : _≡_ {A = ℕ} 0 1 = cc in absurd (omega arith)))
         (λ _ q. let z : _≡_ {A = ℕ} 0 1 = cc in absurd (omega arith))
 
-    marks-held : (u : Unit′) (marks : List ℕ) (items : List Standing) → marksCollected x room typeUnits u marks items ≡ rewritten w → Held u items
+    marks-held : (u : Unit′) (marks : List ℕ) (items : List NestedItem) → marksCollected x room typeUnits u marks items ≡ rewritten w → HasRoom u items
     unfolding marksCollected
     marks-held u marks items =
-        pick-either (λ (c : Collected). c ≡ rewritten w → Held u items) (listsFit room (listsOf x u typeUnits items)) _ (refused 12)
-        (λ _. pick-either (λ (c : Collected). c ≡ rewritten w → Held u items) (eqb (keptCount marks) (length marks)) (untouched (length marks) (listsOf x u typeUnits items)) _
+        pick-either (λ (c : Collected). c ≡ rewritten w → HasRoom u items) (listsFit room (listsOf x u typeUnits items)) _ (refused 12)
+        (λ _. pick-either (λ (c : Collected). c ≡ rewritten w → HasRoom u items) (eqb (keptCount marks) (length marks)) (untouched (length marks) (listsOf x u typeUnits items)) _
         (λ _ q. let z : _≡_ {A = ℕ} 0 1 = cc in absurd (omega arith))
         (λ _. rewrite-held u (length marks) (keptCount marks) (listsOf x u typeUnits items) items))
         (λ _ q. let z : _≡_ {A = ℕ} 0 1 = cc in absurd (omega arith))
@@ -431,7 +432,7 @@ module _ (x : Sections) (room : Room) (typeUnits : Bool) (section : List ℕ) (w
   abbrev n : ℕ
   n = start x room typeUnits section w answer
 
-  abbrev ks : List Standing
+  abbrev ks : List NestedItem
   ks = kept x room typeUnits section w answer
 
   fitting : (length ks ≤ room .places) × (n + sizeFrom ks ≤ room .bytes)
@@ -442,7 +443,7 @@ module _ (x : Sections) (room : Room) (typeUnits : Bool) (section : List ℕ) (w
   header-is : HeaderLaw (u .bytes) (o .header)
   header-is = accepted-header x room section (o .header) (o .declared) (o .rows) (o .accepted)
 
-  kept-below : (s : Standing) → Member s ks → (offsetOf (s .item) < length (u .bytes)) × (s .depth ≤ offsetOf (s .item)) × (0 < sizeOf (s .item))
+  kept-below : (s : NestedItem) → Member s ks → (offsetOf (s .item) < length (u .bytes)) × (s .depth ≤ offsetOf (s .item)) × (0 < sizeOf (s .item))
   unfolding itemsIn
   kept-below s m =
       let i = items-inside (o .header .encoding) (x .abbreviations) (declaredIn (o .declared)) (u .bytes) n (s .item) (kept-member (marksIn (o .rows)) 0 [] (itemsIn x u) s m) in

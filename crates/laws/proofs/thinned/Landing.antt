@@ -8,14 +8,16 @@ use native.Mathlib.Omega.{arith}
 use lib.Dec.{ltb, leb, eqb}
 use mir.Facts.{eqb-yes, eqb-no}
 use borrow.Author.Tests.{ltb-true, leb-true, ne-eqb}
-use Rattle.readers.specs.Choice.{pick, pick-either, _and_, _or_}
-use Rattle.readers.specs.Layout.{Encoded, infixed, inleb, Role, reference, typeReference, sibling, Piece, copied, linked, Read, Fit, FitPiece, FitPieces, FitAll}
+use Rattle.readers.specs.Choice.{pick, _and_, _or_}
+use Rattle.readers.proofs.Choice.{pick-either}
+use Rattle.readers.specs.Layout.{Encoded, infixed, inleb, Role, reference, typeReference, sibling, Piece, verbatim, patchable, Read, Fit}
+use Rattle.readers.proofs.Layouts.{FitPiece, FitPieces, FitAll}
 use Rattle.marking.proofs.Tests.{and-out}
 use Rattle.marking.specs.Analysis.{Sections}
-use Rattle.rewriting.specs.Places.{Standing, offsetOf, Place, newOf, siblingOf}
+use Rattle.rewriting.specs.Places.{NestedItem, offsetOf, Place, newOf, siblingOf}
 use Rattle.rewriting.specs.Rewriting.{Unit as Unit′, readsAt, Lists, orSelf, isSome, newValue, hasPlace, fits, pieceRefusal, orNext, piecesRefusal, readsRefusal, refusalFrom}
 use Rattle.marking.specs.Members.{Member, here, there}
-use Rattle.laws.specs.Landing.{Lands}
+use Rattle.laws.specs.inner.Landing.{Lands}
 use Rattle.marking.proofs.Members.{nothing-in}
 
 -- ---- one number
@@ -42,7 +44,7 @@ module _ (lists : Lists) (map : List Place) (depth : ℕ) where
       let q = and-out (ltb v (128 ^ suc n)) (ltb v (2 ^ 64)) (p .1) in
       (ltb-true n 10 (p .0), ltb-true v (128 ^ suc n) (q .0), ltb-true v (2 ^ 64) (q .1))
 
-  link-lands : (e : Encoded) (role : Role) (v : ℕ) → pieceRefusal lists map depth (linked e role v) ≡ 0 → Lands lists map depth e role v
+  link-lands : (e : Encoded) (role : Role) (v : ℕ) → pieceRefusal lists map depth (patchable e role v) ≡ 0 → Lands lists map depth e role v
   unfolding pieceRefusal
   link-lands e role v h =
       let p = both-tests (hasPlace lists map depth role v) (fits lists map depth e (newValue lists map depth role v)) h in
@@ -78,8 +80,8 @@ module _ (lists : Lists) (map : List Place) (depth : ℕ) where
 
   piece-fits : (p : Piece) → pieceRefusal lists map depth p ≡ 0 → FitPiece (newValue lists map depth) p
   unfolding FitPiece
-  piece-fits (copied l) h = tt
-  piece-fits (linked e role v) h = link-lands e role v h .fit
+  piece-fits (verbatim l) h = tt
+  piece-fits (patchable e role v) h = link-lands e role v h .fit
 
   pieces-fit : (ps : List Piece) → piecesRefusal lists map depth ps ≡ 0 → FitPieces (newValue lists map depth) ps
   unfolding piecesRefusal FitPieces
@@ -95,9 +97,9 @@ module _ (lists : Lists) (map : List Place) (depth : ℕ) where
       let b = both-zero (piecesRefusal lists map depth (r .pieces)) (readsRefusal lists map depth rs) h in
       (pieces-fit (r .pieces) (b .0), reads-fit rs (b .1))
 
-  pieces-land : (ps : List Piece) → piecesRefusal lists map depth ps ≡ 0 → (e : Encoded) (role : Role) (v : ℕ) → Member (linked e role v) ps → Lands lists map depth e role v
+  pieces-land : (ps : List Piece) → piecesRefusal lists map depth ps ≡ 0 → (e : Encoded) (role : Role) (v : ℕ) → Member (patchable e role v) ps → Lands lists map depth e role v
   unfolding piecesRefusal
-  pieces-land [] h e role v m = absurd (nothing-in (linked e role v) m)
+  pieces-land [] h e role v m = absurd (nothing-in (patchable e role v) m)
   pieces-land (p ∷ ps) h e role v (here q) =
       link-lands e role v (ap (pieceRefusal lists map depth) q ∙ both-zero (pieceRefusal lists map depth p) (piecesRefusal lists map depth ps) h .0)
   pieces-land (p ∷ ps) h e role v (there m) = pieces-land ps (both-zero (pieceRefusal lists map depth p) (piecesRefusal lists map depth ps) h .1) e role v m
@@ -112,31 +114,31 @@ module _ (lists : Lists) (map : List Place) (depth : ℕ) where
 -- ---- the kept items
 
 module _ (x : Sections) (u : Unit′) (lists : Lists) (map : List Place) where
-  clean-at : (kept : List Standing) → refusalFrom x u lists map kept ≡ 0 → (s : Standing) → Member s kept
+  clean-at : (kept : List NestedItem) → refusalFrom x u lists map kept ≡ 0 → (s : NestedItem) → Member s kept
       → readsRefusal lists map (s .depth) (readsAt x u (offsetOf (s .item))) ≡ 0
   unfolding refusalFrom
   clean-at [] h s m = absurd (nothing-in s m)
   clean-at (y ∷ kept) h s (here e) =
-      ap (λ (z : Standing). readsRefusal lists map (z .depth) (readsAt x u (offsetOf (z .item)))) e
+      ap (λ (z : NestedItem). readsRefusal lists map (z .depth) (readsAt x u (offsetOf (z .item)))) e
       ∙ both-zero lists map (y .depth) (readsRefusal lists map (y .depth) (readsAt x u (offsetOf (y .item)))) (refusalFrom x u lists map kept) h .0
   clean-at (y ∷ kept) h s (there m) =
       clean-at kept (both-zero lists map (y .depth) (readsRefusal lists map (y .depth) (readsAt x u (offsetOf (y .item)))) (refusalFrom x u lists map kept) h .1) s m
 
-  module _ (kept : List Standing) (h : refusalFrom x u lists map kept ≡ 0) (s : Standing) (m : Member s kept) where
+  module _ (kept : List NestedItem) (h : refusalFrom x u lists map kept ≡ 0) (s : NestedItem) (m : Member s kept) where
     -- an item's new values fit, all of them
     pub item-fits : FitAll (newValue lists map (s .depth)) (readsAt x u (offsetOf (s .item)))
     item-fits = reads-fit lists map (s .depth) (readsAt x u (offsetOf (s .item))) (clean-at kept h s m)
 
     module _ (r : Read) (i : Member r (readsAt x u (offsetOf (s .item)))) (e : Encoded) where
       -- each number has a place and fits
-      pub number-lands : (role : Role) (v : ℕ) → Member (linked e role v) (r .pieces) → Lands lists map (s .depth) e role v
+      pub number-lands : (role : Role) (v : ℕ) → Member (patchable e role v) (r .pieces) → Lands lists map (s .depth) e role v
       number-lands role v p = pieces-land lists map (s .depth) (r .pieces) (read-clean lists map (s .depth) (readsAt x u (offsetOf (s .item))) (clean-at kept h s m) r i) e role v p
 
-      pub item-reference : (v : ℕ) → Member (linked e reference v) (r .pieces) → newOf map v ≡ some (newValue lists map (s .depth) reference v)
+      pub item-reference : (v : ℕ) → Member (patchable e reference v) (r .pieces) → newOf map v ≡ some (newValue lists map (s .depth) reference v)
       item-reference v p = reference-lands lists map (s .depth) v (number-lands reference v p .placed)
 
-      pub item-type : (v : ℕ) → (v ≡ 0 → ⊥) → Member (linked e typeReference v) (r .pieces) → newOf map v ≡ some (newValue lists map (s .depth) typeReference v)
+      pub item-type : (v : ℕ) → (v ≡ 0 → ⊥) → Member (patchable e typeReference v) (r .pieces) → newOf map v ≡ some (newValue lists map (s .depth) typeReference v)
       item-type v n p = type-lands lists map (s .depth) v n (number-lands typeReference v p .placed)
 
-      pub item-sibling : (v : ℕ) → Member (linked e sibling v) (r .pieces) → siblingOf map (s .depth) v ≡ some (newValue lists map (s .depth) sibling v)
+      pub item-sibling : (v : ℕ) → Member (patchable e sibling v) (r .pieces) → siblingOf map (s .depth) v ≡ some (newValue lists map (s .depth) sibling v)
       item-sibling v p = sibling-lands lists map (s .depth) v (number-lands sibling v p .placed)

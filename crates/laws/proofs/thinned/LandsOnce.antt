@@ -9,10 +9,10 @@ use Rattle.marking.specs.Analysis.{Sections}
 use Rattle.marking.specs.Members.{Member, here, there}
 use Rattle.marking.specs.Resolution.{Ascending as From}
 use Rattle.marking.proofs.Members.{nothing-in, from-member}
-use Rattle.rewriting.specs.Places.{Standing, Place}
-use Rattle.laws.specs.Maps.{newOffsets, Leads}
+use Rattle.rewriting.specs.Places.{NestedItem, Place}
+use Rattle.laws.specs.inner.Maps.{Leads}
 use Rattle.rewriting.specs.Rewriting.{Unit as Unit′, unitOf, Lists, orSelf, Rewrite}
-use Rattle.laws.specs.Thinned.{LandsOn, thinnedOf, Thinned}
+use Rattle.laws.specs.Thinned.{LandsOn, thinnedOf, Thinned, newOffsets}
 use Rattle.laws.proofs.again.Maps.{leads-in}
 use Rattle.laws.proofs.thinned.ThinnedItems.{nth-member}
 
@@ -38,7 +38,7 @@ one-place low (r ∷ map) p q f (there m) (there k) h = one-place (suc (r .new))
 
 -- ---- where a number lands is where the map leads
 
-module _ (x : Sections) (u new : Unit′) (lists : Lists) (map : List Place) (kept : List Standing) where
+module _ (x : Sections) (u new : Unit′) (lists : Lists) (map : List Place) (kept : List NestedItem) where
   pub lands-leads : (v n : ℕ) → LandsOn x u new lists map kept v n → Leads map v n
   lands-leads v n l =
       record {

@@ -8,19 +8,20 @@ use mathlib.Core.Option.{Option, none, some}
 use lib.ListN.{length, getD, take}
 use lib.Dec.{T, ltb, eqb, leb}
 use mir.Facts.{ltb-yes}
-use Rattle.readers.specs.Choice.{pick-either, _and_, All, all-some, all-none, all-of, all-check, all-bind, all-triv}
+use Rattle.readers.specs.Choice.{_and_}
+use Rattle.readers.proofs.Choice.{pick-either, All, all-some, all-none, all-of, all-check, all-bind, all-triv}
 use Rattle.readers.specs.Numbers.{uleb, sleb}
-use Rattle.readers.specs.Layout.{Encoded, Role, reference, typeReference, sibling, index, absolute, Token, nothing, number, bounded, forms, signed, link, string, run, block, expression, unknown, Layout, done, fail, field, Piece, copied, linked, Read, ReadOf, RunOf, ExpressionReader, stringIn, formsIn, asNumber, asBounded, asForms, asSigned, asLink, asString, asBlock, asExpression, copy, before, numberIn, tokenIn, readIn}
+use Rattle.readers.specs.Layout.{Encoded, Role, reference, typeReference, sibling, index, absolute, Token, nothing, number, bounded, forms, signed, link, string, run, block, expression, unknown, Layout, done, fail, field, Piece, verbatim, patchable, Read, ReadOf, RunOf, ExpressionReader, stringIn, formsIn, asNumber, asBounded, asForms, asSigned, asLink, asString, asBlock, asExpression, copy, before, numberIn, tokenIn, readIn}
 use Rattle.readers.specs.Tokens.{Use, plain, as′, numberAs, tokenOf}
 use Rattle.readers.specs.Forms.{useOf, formToken, valueToken, attributeLayout}
-use Rattle.readers.specs.Operations.{Row, unreadableRow, rows, rowOf, rowLayout, operationRow, operation}
+use Rattle.readers.specs.Operations.{OperandRow, unreadableRow, rows, rowOf, rowLayout, operationRow, operation}
 use Rattle.readers.specs.Expression.{allPieces, andRest, expressionWithin, expressionIn}
 use Rattle.readers.specs.Scan.{Scanned}
 use Rattle.readers.specs.Abbreviations.{attributesFrom}
 use Rattle.readers.specs.Entries.{then, attributesLayout, specsLayout, foundLayout, entryLayout}
 use Rattle.readers.specs.declared.abbreviations.AttributeSpec.{AttributeSpec}
-use Rattle.readers.specs.declared.abbreviations.Found.{Found}
-use Rattle.readers.specs.declared.abbreviations.Found.the-variants.{Declaration as Found′, Nothing}
+use Rattle.readers.specs.declared.abbreviations.DeclarationFound.{DeclarationFound}
+use Rattle.readers.specs.declared.abbreviations.DeclarationFound.the-variants.{Declaration as Found′, Nothing}
 use Rattle.readers.specs.declared.cursor.Encoding.{Encoding}
 use Rattle.marking.specs.Members.{Member, here, there}
 use Rattle.marking.proofs.Members.{nothing-in}
@@ -40,8 +41,8 @@ listedUse (as′ r) = listed r
 
 unfoldable Listed : List Piece → Type 0
 Listed [] = Unit {0}
-Listed (copied l ∷ ps) = Listed ps
-Listed (linked e r v ∷ ps) = T (listed r) × Listed ps
+Listed (verbatim l ∷ ps) = Listed ps
+Listed (patchable e r v ∷ ps) = T (listed r) × Listed ps
 
 unfoldable AllListed : List Read → Type 0
 AllListed [] = Unit {0}
@@ -68,8 +69,8 @@ LayoutListed (field t g) = TokenListed t × ((n : ℕ) → LayoutListed (g n))
 listed-append : (ps qs : List Piece) → Listed ps → Listed qs → Listed (ps ++ qs)
 unfolding Listed
 listed-append [] qs p q = q
-listed-append (copied l ∷ ps) qs p q = listed-append ps qs p q
-listed-append (linked e r v ∷ ps) qs p q = (p .0, listed-append ps qs (p .1) q)
+listed-append (verbatim l ∷ ps) qs p q = listed-append ps qs p q
+listed-append (patchable e r v ∷ ps) qs p q = (p .0, listed-append ps qs (p .1) q)
 
 all-pieces : (rs : List Read) → AllListed rs → Listed (allPieces rs)
 unfolding AllListed allPieces Listed
@@ -145,7 +146,7 @@ use-listed name f =
     (λ _. pick-either P (eqb f 0x22) _ _ (λ _. tt)
     (λ _. pick-either P _ (as′ (index 2)) plain (λ _. tt) (λ _. tt)))))
 
-unfoldable listedRows : List Row → Bool
+unfoldable listedRows : List OperandRow → Bool
 listedRows [] = true
 listedRows (r ∷ rs) = listedUse (r .firstUse) and (listedUse (r .secondUse) and listedRows rs)
 
@@ -154,10 +155,10 @@ unfolding _and_
 both true b t = (tt, t)
 both false b t = absurd t
 
-abbrev ListedRow : Row → Type 0
+abbrev ListedRow : OperandRow → Type 0
 ListedRow r = T (listedUse (r .firstUse)) × T (listedUse (r .secondUse))
 
-row-listed : (rs : List Row) → T (listedRows rs) → (l : ℕ) → ListedRow (getD rs l unreadableRow)
+row-listed : (rs : List OperandRow) → T (listedRows rs) → (l : ℕ) → ListedRow (getD rs l unreadableRow)
 unfolding listedRows unreadableRow listedUse
 row-listed [] h l = (tt, tt)
 row-listed (r ∷ rs) h zero = let a = both _ _ h in (a .0, both _ _ (a .1) .0)
@@ -217,8 +218,8 @@ module _ (e : Encoding) where
   specs-listed none = tt
   specs-listed (some r) = attributes-listed (r .0)
 
-  module _ (abbreviations : List ℕ) (look : ℕ → Found) where
-    found-listed : (f : Found) → LayoutListed (foundLayout e abbreviations look f)
+  module _ (abbreviations : List ℕ) (look : ℕ → DeclarationFound) where
+    found-listed : (f : DeclarationFound) → LayoutListed (foundLayout e abbreviations look f)
     unfolding foundLayout LayoutListed
     found-listed Nothing = tt
     found-listed (Found′ d) = specs-listed (attributesFrom abbreviations (d .attributes .at))
@@ -229,23 +230,23 @@ module _ (e : Encoding) where
 
     -- ---- one index
 
-    piece-kind : (ps : List Piece) → Listed ps → (c : Encoded) (k v : ℕ) → Member (linked c (index k) v) ps → T (ltb k 3)
+    piece-kind : (ps : List Piece) → Listed ps → (c : Encoded) (k v : ℕ) → Member (patchable c (index k) v) ps → T (ltb k 3)
     unfolding Listed listed
-    piece-kind [] h c k v m = absurd (nothing-in (linked c (index k) v) m)
-    piece-kind (copied l ∷ ps) h c k v (here q) = let z : _≡_ {A = ℕ} 0 1 = cc in absurd (omega arith)
-    piece-kind (copied l ∷ ps) h c k v (there m) = piece-kind ps h c k v m
-    piece-kind (linked d r n ∷ ps) h c k v (here q) = let z : index k ≡ r = cc in subst (λ (s : Role). T (listed s)) (sym z) (h .0)
-    piece-kind (linked d r n ∷ ps) h c k v (there m) = piece-kind ps (h .1) c k v m
+    piece-kind [] h c k v m = absurd (nothing-in (patchable c (index k) v) m)
+    piece-kind (verbatim l ∷ ps) h c k v (here q) = let z : _≡_ {A = ℕ} 0 1 = cc in absurd (omega arith)
+    piece-kind (verbatim l ∷ ps) h c k v (there m) = piece-kind ps h c k v m
+    piece-kind (patchable d r n ∷ ps) h c k v (here q) = let z : index k ≡ r = cc in subst (λ (s : Role). T (listed s)) (sym z) (h .0)
+    piece-kind (patchable d r n ∷ ps) h c k v (there m) = piece-kind ps (h .1) c k v m
 
-    read-kind : (rs : List Read) → AllListed rs → (r : Read) → Member r rs → (c : Encoded) (k v : ℕ) → Member (linked c (index k) v) (r .pieces) → T (ltb k 3)
+    read-kind : (rs : List Read) → AllListed rs → (r : Read) → Member r rs → (c : Encoded) (k v : ℕ) → Member (patchable c (index k) v) (r .pieces) → T (ltb k 3)
     unfolding AllListed
     read-kind [] h r i c k v m = absurd (nothing-in r i)
-    read-kind (q ∷ rs) h r (here z) c k v m = piece-kind (q .pieces) (h .0) c k v (subst (λ (y : Read). Member (linked c (index k) v) (y .pieces)) z m)
+    read-kind (q ∷ rs) h r (here z) c k v m = piece-kind (q .pieces) (h .0) c k v (subst (λ (y : Read). Member (patchable c (index k) v) (y .pieces)) z m)
     read-kind (q ∷ rs) h r (there i) c k v m = read-kind rs (h .1) r i c k v m
 
     -- THE kind of an index of an entry
     pub index-kind : (s : List ℕ) (all : RunOf) → readIn (e .«big_endian») (expressionIn e) (entryLayout e abbreviations look) s ≡ some all
-        → (r : Read) → Member r (all .0) → (c : Encoded) (k v : ℕ) → Member (linked c (index k) v) (r .pieces) → k < 3
+        → (r : Read) → Member r (all .0) → (c : Encoded) (k v : ℕ) → Member (patchable c (index k) v) (r .pieces) → k < 3
     index-kind s all q r i c k v m =
         ltb-yes {a = k} {b = 3}
         (read-kind (all .0) (all-of (λ (z : RunOf). AllListed (z .0)) (layout-listed (e .«big_endian») (expressionIn e) expression-listed (entryLayout e abbreviations look) entry-listed s) q) r i c k v m)

@@ -7,19 +7,21 @@ use mathlib.Core.List.{List, [], _∷_, map}
 use mathlib.Core.Logic.{_⊎_, inl, inr, _↔_}
 use mathlib.Core.Option.{Option, none, some}
 use lib.ListN.{length, drop, getD}
-use Rattle.readers.specs.Layout.{Encoded, Role, reference, typeReference, sibling, index, absolute, Piece, copied, linked, Read, RunOf, Patch, patchPiece, patchPieces, patchRead, patchAll}
+use Rattle.readers.specs.Layout.{Encoded, Role, reference, typeReference, sibling, index, absolute, Piece, verbatim, patchable, Read, RunOf, Patch, patchPiece, patchPieces, patchRead, patchAll}
 use Rattle.readers.specs.Abbreviations.{Placed, declaredIn}
 use Rattle.readers.specs.declared.header.UnitHeader.{UnitHeader}
 use Rattle.readers.specs.Stream.{Item, Items}
 use Rattle.marking.specs.Analysis.{Sections}
 use Rattle.marking.specs.Resolution.{graphOf, marksIn}
-use Rattle.marking.specs.Survivors.{Kept}
-use Rattle.rewriting.specs.Places.{Standing, offsetOf, sizeOf, Place, placesFrom, newOf, firstFrom, siblingOf, orElse}
+use Rattle.marking.specs.Survivors.{Survivor}
+use Rattle.rewriting.specs.Places.{NestedItem, offsetOf, sizeOf, Place, placesFrom, newOf, firstFrom, siblingOf, orElse}
 use Rattle.rewriting.specs.Indices.{rankIn, rankOr}
 use Rattle.laws.specs.LeftOut.{leftFrom}
 use Rattle.marking.specs.Members.{Member, here, there, Nth, now, later}
-use Rattle.laws.specs.Around.{aroundFrom, keptAround, Leading, AllLeading}
-use Rattle.laws.specs.Moved.{movedItem, movedFrom, depthsFrom}
+use Rattle.laws.specs.AncestorsOf.{aroundFrom}
+use Rattle.laws.specs.inner.AncestorsOf.{keptAround, Leading, AllLeading}
+use Rattle.laws.specs.Moved.{movedItem, depthsFrom}
+use Rattle.laws.specs.inner.Moved.{movedFrom}
 use Rattle.rewriting.specs.Rewriting.{Unit as Unit′, unitOf, itemsIn, readsOr, readsAt, Lists, listAt, newValue, isSome, refusalFrom, Room, Rewrite, untouched, rewritten, collectOf}
 use Rattle.laws.specs.Thinned.{Pairwise, Beside, LandsOn, FirstFrom, Becomes, PieceAgain, ReadAgain, readAt, SideBySide, IndexKept, IndexList, thinnedOf, Thinned, UntouchedLists, Untouched}
 use Rattle.laws.specs.SameReferences.{UnitReferences}
@@ -40,9 +42,9 @@ use Rattle.laws.proofs.thinned.Landing.{item-reference, item-type, item
 use Rattle.rewriting.proofs.ItemsStand.{Every, deepAt, Readable}
 use Rattle.laws.proofs.again.ReadsAgain.{withBytes, patched}
 use Rattle.laws.proofs.again.Depths.{depthsOf, depths-placed}
-use Rattle.laws.proofs.thinned.ThinnedItems.{nth-member, nth-map, parted, moved-offset, placeOf, Stands, stands, deep-at, Found, found-by, FirstFound, first-by, Around, around-by, Led, led}
+use Rattle.laws.proofs.thinned.ThinnedItems.{nth-member, nth-map, parted, moved-offset, placeOf, Stands, stands, deep-at, ItemFound, found-by, FirstFound, first-by, AncestorsOf, around-by, Led, led}
 use Rattle.laws.proofs.again.IndexMembers.{IndexKept as IndexHeld}
-use Rattle.laws.proofs.again.CollectLaws.{it, unit, marks, kept, start, again, count-law, dead-law, survivors-law, again-law, readable-law, bytes-law, again-header, map-law, nesting-law, ListLaw, list-law, whole, alive-law, whole-list-law}
+use Rattle.laws.proofs.again.CollectLaws.{it, unit, marks, kept, start, again, count-law, dead-law, kept-law, again-law, readable-law, bytes-law, again-header, map-law, nesting-law, ListLaw, list-law, whole, alive-law, whole-list-law}
 
 -- ---- a number by its place in a list
 
@@ -51,12 +53,12 @@ nth-getD [] v n h q = absurd (omega arith)
 nth-getD (x ∷ xs) v zero h q = now (sym q)
 nth-getD (x ∷ xs) v (suc n) h q = later (nth-getD xs v n (omega arith) q)
 
-moved-length : (n : ℕ) (kept : List Standing) → length (movedFrom n kept) ≡ length kept
+moved-length : (n : ℕ) (kept : List NestedItem) → length (movedFrom n kept) ≡ length kept
 unfolding movedFrom
 moved-length n [] = refl
 moved-length n (s ∷ kept) = ap suc (moved-length (n + sizeOf (s .item)) kept)
 
-every-member : (P : Standing → Type 0) (ss : List Standing) (s : Standing) → Every P ss → Member s ss → P s
+every-member : (P : NestedItem → Type 0) (ss : List NestedItem) (s : NestedItem) → Every P ss → Member s ss → P s
 unfolding Every
 every-member P [] s h m = absurd (nothing-in s m)
 every-member P (t ∷ ss) s h (here q) = subst P (sym q) (h .0)
@@ -69,7 +71,7 @@ module _ (x : Sections) (u : Unit′) where
   unfolding readsAt readsOr
   reads-of at run q = ap (readsOr x u) q
 
-  module _ (items : List Standing) (readable : Every (Readable x u) items) where
+  module _ (items : List NestedItem) (readable : Every (Readable x u) items) where
     index-held : (k v : ℕ) → IndexHeld x u k v items ↔ IndexKept x u items k v
     index-held k v = (
       λ h.
@@ -108,7 +110,7 @@ module _ (x : Sections) (room : Room) (typeUnits : Bool) (section : List ℕ) (w
   abbrev was : Unit′
   was = unit x room typeUnits section w answer
 
-  abbrev items : List Standing
+  abbrev items : List NestedItem
   items = kept x room typeUnits section w answer
 
   abbrev first : ℕ
@@ -128,13 +130,13 @@ module _ (x : Sections) (room : Room) (typeUnits : Bool) (section : List ℕ) (w
   unfolding itemsIn
   new-items = ap (λ (z : Items). z .0) (again-law x room typeUnits section w answer .items)
 
-  abbrev Next : ℕ → Standing → Place → Item → Type 0
+  abbrev Next : ℕ → NestedItem → Place → Item → Type 0
   Next = Beside x was new (w .lists) (w .map) items
 
   abbrev Lands : ℕ → ℕ → Type 0
   Lands = LandsOn x was new (w .lists) (w .map) items
 
-  beside : (m : ℕ) (s : Standing) (t : Stands first items m s) → Next m s (placeOf (t .new) s) (movedItem (t .new) (s .item))
+  beside : (m : ℕ) (s : NestedItem) (t : Stands first items m s) → Next m s (placeOf (t .new) s) (movedItem (t .new) (s .item))
   beside m s t =
       record {
         kept-there = t .kept-there;
@@ -147,7 +149,7 @@ module _ (x : Sections) (room : Room) (typeUnits : Bool) (section : List ℕ) (w
   -- where the map leads a reference
   lands : (v n : ℕ) → newOf (w .map) v ≡ some n → Lands v n
   lands v n q =
-      let r : Found first items v n = found-by first items v n (sym (ap (λ (z : List Place). newOf z v) map-is) ∙ q) in
+      let r : ItemFound first items v n = found-by first items v n (sym (ap (λ (z : List Place). newOf z v) map-is) ∙ q) in
       record {
         m = r .m;
         s = r .s;
@@ -191,7 +193,7 @@ module _ (x : Sections) (room : Room) (typeUnits : Bool) (section : List ℕ) (w
   -- ---- what a number becomes
 
   -- what was read of a kept item
-  was-read : (s : Standing) → Member s items → Readable x was s
+  was-read : (s : NestedItem) → Member s items → Readable x was s
   was-read s m = every-member (Readable x was) items s (readable-law x room typeUnits section w answer) m
 
   abbrev Rule : ℕ → Role → ℕ → ℕ → Type 0
@@ -200,24 +202,24 @@ module _ (x : Sections) (room : Room) (typeUnits : Bool) (section : List ℕ) (w
   clean : refusalFrom x was (w .lists) (w .map) items ≡ 0
   clean = it x room typeUnits section w answer .none-refused
 
-  module _ (s : Standing) (m : Member s items) (r : Read) (i : Member r (readsAt x was (offsetOf (s .item)))) (e : Encoded) where
+  module _ (s : NestedItem) (m : Member s items) (r : Read) (i : Member r (readsAt x was (offsetOf (s .item)))) (e : Encoded) where
     abbrev value : Role → ℕ → ℕ
     value = newValue (w .lists) (w .map) (s .depth)
 
-    type-becomes : (v : ℕ) → Member (linked e typeReference v) (r .pieces) → Rule (s .depth) typeReference v (value typeReference v)
+    type-becomes : (v : ℕ) → Member (patchable e typeReference v) (r .pieces) → Rule (s .depth) typeReference v (value typeReference v)
     unfolding Becomes
     type-becomes v p = (
       λ z. ap (value typeReference) z ∙ no-type (w .lists) (w .map) (s .depth),
       λ n. lands v (value typeReference v) (item-type x was (w .lists) (w .map) items clean s m r i e v n p),
     )
 
-    kind : (k v : ℕ) → Member (linked e (index k) v) (r .pieces) → k < 3
+    kind : (k v : ℕ) → Member (patchable e (index k) v) (r .pieces) → k < 3
     kind k v p =
         let o : Readable x was s = was-read s m in
         index-kind (was .header .encoding) (x .abbreviations) (declaredIn (was .declared)) (drop (offsetOf (s .item)) (was .bytes)) (o .run) (o .is) r
         (subst (Member r) (reads-of x was (offsetOf (s .item)) (o .run) (o .is)) i) e k v p
 
-    index-becomes : (k v : ℕ) → Member (linked e (index k) v) (r .pieces) → Rule (s .depth) (index k) v (value (index k) v)
+    index-becomes : (k v : ℕ) → Member (patchable e (index k) v) (r .pieces) → Rule (s .depth) (index k) v (value (index k) v)
     unfolding Becomes newValue rankOr
     index-becomes k v p = (
       λ q. ap (λ (o : Option (List ℕ)). rankOr o v) q,
@@ -227,7 +229,7 @@ module _ (x : Sections) (room : Room) (typeUnits : Bool) (section : List ℕ) (w
           subst (λ (j : ℕ). Nth v j xs) (sym (ap (λ (o : Option (List ℕ)). rankOr o v) q)) (nth-getD xs v (rankIn xs v) (l .ranks v n .inside) (l .ranks v n .placed)),
     )
 
-    pub becomes : (role : Role) (v : ℕ) → Member (linked e role v) (r .pieces) → Rule (s .depth) role v (value role v)
+    pub becomes : (role : Role) (v : ℕ) → Member (patchable e role v) (r .pieces) → Rule (s .depth) role v (value role v)
     unfolding Becomes newValue
     becomes reference v p = lands v (value reference v) (item-reference x was (w .lists) (w .map) items clean s m r i e v p)
     becomes typeReference v p = type-becomes v p
@@ -242,13 +244,13 @@ module _ (x : Sections) (room : Room) (typeUnits : Bool) (section : List ℕ) (w
     f = newValue (w .lists) (w .map) depth
 
     abbrev Known : List Piece → Type 0
-    Known ps = (e : Encoded) (role : Role) (v : ℕ) → Member (linked e role v) ps → Rule depth role v (f role v)
+    Known ps = (e : Encoded) (role : Role) (v : ℕ) → Member (patchable e role v) ps → Rule depth role v (f role v)
 
-    piece-again : (p : Piece) → ((e : Encoded) (role : Role) (v : ℕ) → linked e role v ≡ p → Rule depth role v (f role v))
+    piece-again : (p : Piece) → ((e : Encoded) (role : Role) (v : ℕ) → patchable e role v ≡ p → Rule depth role v (f role v))
         → PieceAgain x was new (w .lists) (w .map) items depth p (patchPiece f p)
     unfolding PieceAgain patchPiece
-    piece-again (copied l) h = refl
-    piece-again (linked e role v) h = (refl, refl, h e role v refl)
+    piece-again (verbatim l) h = refl
+    piece-again (patchable e role v) h = (refl, refl, h e role v refl)
 
     pieces-again : (ps : List Piece) → Known ps → Pairwise (PieceAgain x was new (w .lists) (w .map) items depth) ps (patchPieces f ps)
     unfolding Pairwise patchPieces
@@ -275,7 +277,7 @@ module _ (x : Sections) (room : Room) (typeUnits : Bool) (section : List ℕ) (w
   new-depths : depthsFrom 0 [] (itemsIn x new) ≡ depthsOf items
   new-depths = ap (depthsFrom 0 []) new-items ∙ again-law x room typeUnits section w answer .depths ∙ depths-placed first items
 
-  each-law : (m : ℕ) (s : Standing) → Nth s m items → SideBySide x was new (w .lists) (w .map) items m s
+  each-law : (m : ℕ) (s : NestedItem) → Nth s m items → SideBySide x was new (w .lists) (w .map) items m s
   each-law m s n =
       let t : Stands first items m s = stands first items m s n in
       let i : Item = movedItem (t .new) (s .item) in
@@ -283,7 +285,7 @@ module _ (x : Sections) (room : Room) (typeUnits : Bool) (section : List ℕ) (w
       let old : Readable x was s = was-read s (nth-member s m items n) in
       let rs : readsAt x was (offsetOf (s .item)) ≡ old .run .0 = reads-of x was (offsetOf (s .item)) (old .run) (old .is) in
       let olds : List (List ℕ) = keptAround (marks x room typeUnits section w answer) 0 [] [] (itemsIn x was) in
-      let a : Around (itemsIn x was) [] olds m s =
+      let a : AncestorsOf (itemsIn x was) [] olds m s =
       around-by (marks x room typeUnits section w answer) 0 [] [] (itemsIn x was) m s n in
       let l : Led (w .map) (a .opens) m (aroundFrom [] (itemsIn x new)) =
       led (w .map) olds (aroundFrom [] (itemsIn x new)) (subst (λ (z : List Item). AllLeading (w .map) olds (aroundFrom [] z)) same-items (nesting-law x room typeUnits section w answer)) (a .opens) m (a .listed) in
@@ -293,7 +295,7 @@ module _ (x : Sections) (room : Room) (typeUnits : Bool) (section : List ℕ) (w
         beside = beside m s t;
         same = ap (λ (k : ℕ). movedItem k (s .item)) (sym o);
         depth-is = refl;
-        depth-again = subst (Nth (s .depth) m) (sym new-depths) (nth-map (λ (z : Standing). z .depth) s m items n);
+        depth-again = subst (Nth (s .depth) m) (sym new-depths) (nth-map (λ (z : NestedItem). z .depth) s m items n);
         values = old .run;
         values-again = (patched x was (w .lists) (w .map) s, drop (t .new + sizeOf (s .item)) (w .output));
         were = old .is;
@@ -341,7 +343,7 @@ module _ (x : Sections) (room : Room) (typeUnits : Bool) (section : List ℕ) (w
         roles = accepted-roles x room section (it x room typeUnits section w answer .header) (it x room typeUnits section w answer .declared) (it x room typeUnits section w answer .rows) (it x room typeUnits section w answer .accepted);
         header-is = it x room typeUnits section w answer .accepted .header;
         declared-are = it x room typeUnits section w answer .accepted .declared;
-        parted = parted (Kept (graphOf (it x room typeUnits section w answer .rows))) (marks x room typeUnits section w answer) (survivors-law x room typeUnits section w answer) 0 [] (itemsIn x was);
+        parted = parted (Survivor (graphOf (it x room typeUnits section w answer .rows))) (marks x room typeUnits section w answer) (kept-law x room typeUnits section w answer) 0 [] (itemsIn x was);
         entries-are = it x room typeUnits section w answer .entries-is ∙ marks-each (it x room typeUnits section w answer .rows);
         count = count-law x room typeUnits section w answer;
         dead = dead-law x room typeUnits section w answer;
@@ -360,7 +362,7 @@ module _ (x : Sections) (room : Room) (typeUnits : Bool) (section : List ℕ) (w
       }
 
   -- what holds of the unit and the kept items that collect found holds of those that it names
-  pub of-thinned : (P : UnitHeader → List Placed → List Standing → Type 0) → P (it x room typeUnits section w answer .header) (it x room typeUnits section w answer .declared) items
+  pub of-thinned : (P : UnitHeader → List Placed → List NestedItem → Type 0) → P (it x room typeUnits section w answer .header) (it x room typeUnits section w answer .declared) items
       → P (thinned-law .header) (thinned-law .declared) (thinned-law .kept)
   unfolding thinned-law
   of-thinned P h = h
@@ -375,7 +377,7 @@ module _ (x : Sections) (room : Room) (typeUnits : Bool) (section : List ℕ) wh
     abbrev whole-unit : Unit′
     whole-unit = unitOf (o .header) section (o .declared)
 
-    abbrev all-kept : List Standing
+    abbrev all-kept : List NestedItem
     all-kept = survivorsIn x whole-unit (o .rows)
 
     untouched-lists : UntouchedLists x typeUnits section (o .rows) lists
@@ -387,7 +389,7 @@ module _ (x : Sections) (room : Room) (typeUnits : Bool) (section : List ℕ) wh
           left = leftFrom (marksIn (o .rows)) 0 [] (itemsIn x whole-unit);
           header-is = o .accepted .header;
           declared-are = o .accepted .declared;
-          parted = parted (Kept (graphOf (o .rows))) (marksIn (o .rows)) (accepted-kept x room section (o .header) (o .declared) (o .rows) (o .accepted)) 0 [] (itemsIn x whole-unit);
+          parted = parted (Survivor (graphOf (o .rows))) (marksIn (o .rows)) (accepted-kept x room section (o .header) (o .declared) (o .rows) (o .accepted)) 0 [] (itemsIn x whole-unit);
           lists-are = o .lists-is;
           absent = absent-law x whole-unit typeUnits all-kept lists (o .lists-is);
           each = (λ k h xs q. index-list x whole-unit all-kept

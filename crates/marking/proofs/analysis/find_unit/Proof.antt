@@ -1,7 +1,7 @@
 -- `find_unit` answers by the header and the check of the declarations. Assumes nothing.
 use mathlib.Core.Path.{sym, _∙_}
 use borrow.Author.Needs.{needs}
-use Rattle.marking.specs.Columns.{unitChecked}
+use Rattle.marking.specs.inner.Columns.{unitChecked}
 use Rattle.marking.proofs.UnitAnalyses.{found-none, found-refused, found-checked}
 use Rattle.marking.proofs.analysis.find_unit.Statement.{statement}
 use Rattle.marking.proofs.analysis.find_unit.Tie as tie

@@ -6,7 +6,7 @@ use lib.ListN.{length}
 use borrow.Author.Needs.{needs}
 use borrow.Author.Tests.{not-true, not-false}
 use Rattle.marking.specs.Graph.{Graph, graph}
-use Rattle.marking.specs.Passes.{sum, Sound, endFirst}
+use Rattle.marking.specs.inner.Passes.{sum, Sound, endFirst}
 use Rattle.marking.proofs.Starts.{start-sound}
 use Rattle.marking.proofs.Answers.{Taken, taken, parents-fit, pairs-fit, sound-sum, refused-answer, refused-marks, marked-answer, marked-marks}
 use Rattle.marking.proofs.marks.mark_with.Statement.{statement}

@@ -4,7 +4,7 @@ use mathlib.Core.Path.{_≡_, refl, _∙_}
 use mathlib.Core.Logic.{⊎-elim}
 use native.Mathlib.Omega.{arith}
 use lib.ListN.{length}
-use Rattle.marking.specs.Passes.{Pass, WithParents, DownAt}
+use Rattle.marking.specs.inner.Passes.{Pass, WithParents, DownAt}
 use Rattle.marking.proofs.Passes.{idle, turned, weaken, or-now, or-then}
 use Rattle.marking.proofs.rules.down.Statement.{statement}
 use Rattle.marking.proofs.rules.down.Tie as tie

@@ -1,6 +1,6 @@
 -- `accept` meets its contract. Assumes nothing.
 use mathlib.Core.Path.{ap, sym}
-use Rattle.readers.specs.Abbreviations.{accepted}
+use Rattle.readers.specs.inner.Abbreviations.{accepted}
 use borrow.Author.Needs.{needs}
 use Rattle.readers.proofs.abbreviations.accept.Statement.{statement}
 use Rattle.readers.proofs.abbreviations.accept.Tie as tie

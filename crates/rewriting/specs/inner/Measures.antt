@@ -4,9 +4,9 @@ use mathlib.Core.Path.{_≡_}
 use mathlib.Core.List.{List, []}
 use lib.ListN.{length}
 use Rattle.readers.specs.Stream.{Item}
-use Rattle.rewriting.specs.Places.{Standing, keptFrom, sizeFrom}
-use Rattle.rewriting.specs.Parents.{parentsFrom, HoldsFrom}
-use Rattle.rewriting.specs.Ends.{EndsHeld}
+use Rattle.rewriting.specs.Places.{NestedItem, keptFrom, sizeFrom}
+use Rattle.rewriting.specs.inner.Parents.{parentsFrom, HoldsFrom}
+use Rattle.rewriting.specs.inner.Ends.{EndsHeld}
 use Rattle.rewriting.specs.declared.passes.Size.{Size}
 
 module _ (items : ℕ → List Item) where
@@ -15,7 +15,7 @@ module _ (items : ℕ → List Item) where
   ColumnsHeld parents ends first = HoldsFrom parents 0 (parentsFrom 0 [] (items first)) × EndsHeld ends 0 (items first)
 
   -- what is kept of a unit whose first entry stands at a place
-  abbrev pub keptOfUnit : List ℕ → ℕ → List Standing
+  abbrev pub keptOfUnit : List ℕ → ℕ → List NestedItem
   keptOfUnit marks first = keptFrom marks 0 [] (items first)
 
   -- each place takes a byte at least, and what is written is no longer than the unit

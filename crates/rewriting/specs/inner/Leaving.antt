@@ -12,7 +12,7 @@ use Rattle.readers.specs.Header.{headerOf}
 use Rattle.readers.specs.declared.header.UnitHeader.{UnitHeader}
 use Rattle.readers.specs.declared.header.HeaderRead.{HeaderRead}
 use Rattle.readers.specs.declared.header.HeaderRead.the-variants.{Unit as Header′, Empty, Refused as NoHeader}
-use Rattle.marking.specs.Analysis.{Sections, Rooms, Row, analysed, analysisOf}
+use Rattle.marking.specs.Analysis.{Sections, Rooms, EntryRow, analysed, analysisOf}
 use Rattle.marking.specs.Columns.{padTo, column, parentsIn, indexAfter}
 use Rattle.marking.specs.Marks.{keptCount}
 use Rattle.marking.specs.Resolution.{marksIn, unitMarks}
@@ -21,7 +21,7 @@ use Rattle.marking.specs.declared.units.UnitMarks.the-variants.{Marked, Refused
 use Rattle.rewriting.specs.Places.{keptFrom}
 use Rattle.rewriting.specs.Indices.{countOf}
 use Rattle.rewriting.specs.Rewriting.{Unit as Unit′, itemsIn, Lists, Room, Collected, untouched, rewritten, refused, noLists, marksCollected}
-use Rattle.rewriting.specs.Emission.{Lends}
+use Rattle.rewriting.specs.inner.Emission.{ListsLent}
 use Rattle.rewriting.specs.Outputs.{listCount, answerFor, mapFor, outputFor, listOr, listFor, rangesIn, locationsIn, stringsIn}
 use Rattle.rewriting.specs.declared.collect.Listed.{Listed}
 use Rattle.rewriting.specs.declared.collect.Listed.the-variants.{Made, Short}
@@ -82,7 +82,7 @@ abbrev pub ownUnit : UnitHeader → List ℕ → List Placed → Unit′
 ownUnit h section ds = record { header = h; bytes = take (h .end) section; declared = ds }
 
 -- the tables that marking leaves, and its counts
-pub record Tabled (x : Sections) (tables : Rooms) (section : List ℕ) (h : UnitHeader) (ds : List Placed) (rows : List Row)
+pub record Tabled (x : Sections) (tables : Rooms) (section : List ℕ) (h : UnitHeader) (ds : List Placed) (rows : List EntryRow)
     (abbreviations index parents ends marks : List ℕ) (entries kept : ℕ) : Type 0 where
   pub abbreviations-are : x .abbreviations ≡ abbreviations
   pub header-is : headerOf section ≡ Header′ h
@@ -104,7 +104,7 @@ pub record Blank (map ranges locations strings out : List ℕ) : Type 0 where
   pub out-blank : out ≡ zeros (length out)
 
 -- the answer for it
-abbrev pub markedOf : Sections → Room → Bool → Unit′ → List Row → Collected
+abbrev pub markedOf : Sections → Room → Bool → Unit′ → List EntryRow → Collected
 markedOf x room typeUnits u rows = marksCollected x room typeUnits u (marksIn rows) (keptFrom (marksIn rows) 0 [] (itemsIn x u))
 
 -- ---- its lists
@@ -118,7 +118,7 @@ pub record ListsAnswer (l : Lists) (ranges locations strings : ℕ) (r : Listed)
   pub short : haveRoom l ranges locations strings ≡ false → r ≡ Short
   pub made : haveRoom l ranges locations strings ≡ true → r ≡ Made (listCount (l .ranges)) (listCount (l .locations)) (listCount (l .strings))
   pub lent : haveRoom l ranges locations strings ≡ true
-      → Lends l ranges′ (listCount (l .ranges)) locations′ (listCount (l .locations)) strings′ (listCount (l .strings))
+      → ListsLent l ranges′ (listCount (l .ranges)) locations′ (listCount (l .locations)) strings′ (listCount (l .strings))
   pub ranges-left : haveRoom l ranges locations strings ≡ true → ranges′ ≡ listOr ranges (l .ranges)
   pub locations-left : haveRoom l ranges locations strings ≡ true → locations′ ≡ listOr locations (l .locations)
   pub strings-left : haveRoom l ranges locations strings ≡ true → strings′ ≡ listOr strings (l .strings)

@@ -12,12 +12,12 @@ use Rattle.readers.specs.Abbreviations.{findAt}
 use Rattle.readers.specs.Stream.{Item, entry, terminator, itemsFrom}
 use Rattle.readers.specs.declared.entries.Nesting.{Nesting}
 use Rattle.marking.specs.Marks.{isKept}
-use Rattle.rewriting.specs.Places.{Standing, keptFrom}
-use Rattle.rewriting.specs.Parents.{parentsFrom, HoldsFrom}
-use Rattle.rewriting.specs.Ends.{EndsHeld}
+use Rattle.rewriting.specs.Places.{NestedItem, keptFrom}
+use Rattle.rewriting.specs.inner.Parents.{parentsFrom, HoldsFrom}
+use Rattle.rewriting.specs.inner.Ends.{EndsHeld}
 use Rattle.rewriting.specs.declared.kept.Reading.{Reading}
-use Rattle.rewriting.specs.declared.kept.Stand.{Stand}
-use Rattle.rewriting.specs.declared.kept.Kept.{Kept}
+use Rattle.rewriting.specs.declared.kept.PassPosition.{PassPosition}
+use Rattle.rewriting.specs.declared.kept.KeptItem.{KeptItem}
 use Rattle.rewriting.specs.declared.kept.KeptStep.{KeptStep}
 use Rattle.rewriting.specs.declared.kept.KeptStep.the-variants.{Item as Item′, End}
 
@@ -35,7 +35,7 @@ abbrev pub itemsBy : Reading → List ℕ → List ℕ → List ℕ → ℕ → 
 itemsBy r abbreviations index unit at = itemsFrom (r .encoding) abbreviations (findAt abbreviations (r .from) index) unit at .0
 
 -- what an answer shows of an item
-unfoldable pub ShowsItem : Kept → Item → Type 0
+unfoldable pub ShowsItem : KeptItem → Item → Type 0
 ShowsItem x (entry y) =
     (x .«is_entry» ≡ true) × (x .start .0 ≡ y .offset .0) × (x .end .at ≡ y .next .at)
     × (x .specs ≡ y .declaration .attributes) × (x .values ≡ y .values)
@@ -48,7 +48,7 @@ Forward unit at End = Unit {0}
 
 module _ (items : ℕ → List Item) (parents ends : List ℕ) where
   -- a pass stands where these entries are open, the innermost first, and the columns hold the parents and the ends from here on
-  pub record Stood (s : Stand) (stack : List ℕ) : Type 0 where
+  pub record Stood (s : PassPosition) (stack : List ℕ) : Type 0 where
     pub nested : s .nesting ≡ nestingOf stack
     pub chained : Chain parents stack
     pub counted : length stack ≤ s .count .0
@@ -58,12 +58,12 @@ module _ (items : ℕ → List Item) (parents ends : List ℕ) where
 
   module _ (marks : List ℕ) where
     -- what is kept from here on
-    abbrev pub keptAt : Stand → List ℕ → List Standing
+    abbrev pub keptAt : PassPosition → List ℕ → List NestedItem
     keptAt s stack = keptFrom marks (s .count .0) (openKept marks stack) (items (s .at .at))
 
     -- the next kept item, and where the pass stands after it
-    pub record NextItem (s : Stand) (stack : List ℕ) (x : Kept) : Type 0 where
-      pub standing : Standing
+    pub record NextItem (s : PassPosition) (stack : List ℕ) (x : KeptItem) : Type 0 where
+      pub standing : NestedItem
       pub after : List ℕ
       pub whole : keptAt s stack ≡ standing ∷ keptAt (x .next) after
       pub shows : ShowsItem x (standing .item)
@@ -71,11 +71,11 @@ module _ (items : ℕ → List Item) (parents ends : List ℕ) where
       pub low : x .depth ≤ x .start .0
       pub stood : Stood (x .next) after
 
-    unfoldable pub Next : Stand → List ℕ → KeptStep → Type 0
+    unfoldable pub Next : PassPosition → List ℕ → KeptStep → Type 0
     Next s stack (Item′ x) = NextItem s stack x
     Next s stack End = keptAt s stack ≡ []
 
     -- THE answer, of units below 4 GiB
-    pub record Answers (unit : List ℕ) (s : Stand) (r : KeptStep) : Type 0 where
+    pub record Answers (unit : List ℕ) (s : PassPosition) (r : KeptStep) : Type 0 where
       pub forward : Forward unit (s .at .at) r
       pub next : (stack : List ℕ) → length unit < 2 ^ 32 → Stood s stack → Next s stack r

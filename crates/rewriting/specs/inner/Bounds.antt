@@ -3,7 +3,7 @@ use Prim.Native.Nat.{ℕ, _+_, _*_, _≤_, _<_}
 use mathlib.Core.List.{List}
 use lib.ListN.{length, getD}
 use Rattle.rewriting.specs.Places.{Place}
-use Rattle.rewriting.specs.Written.{place}
+use Rattle.rewriting.specs.inner.Written.{place}
 
 -- the places from one to another are at least so deep
 pub record AsDeep (ps : List Place) (depth from to : ℕ) : Type 0 where

@@ -8,7 +8,7 @@ use lib.Dec.{eqb, leb}
 use Rattle.readers.specs.Choice.{pick, _and_}
 use Rattle.marking.specs.Below.{any, every}
 use Rattle.marking.specs.Graph.{Graph, size, noParent, isRoot, parentFits, pairFits}
-use Rattle.marking.specs.Survivors.{Kept, Live}
+use Rattle.marking.specs.Survivors.{Survivor, Live}
 
 unfoldable pub sum : List ℕ → ℕ
 sum [] = 0
@@ -19,7 +19,7 @@ pub record Sound (g : Graph) (m : List ℕ) : Type 0 where
   pub long : length m ≡ size g
   pub most : (i : ℕ) → getD m i 0 ≤ 3
   pub least : (i : ℕ) → i < size g → 1 ≤ getD m i 0
-  pub kept : (i : ℕ) → 2 ≤ getD m i 0 → Kept g i
+  pub kept : (i : ℕ) → 2 ≤ getD m i 0 → Survivor g i
   pub live : (i : ℕ) → 3 ≤ getD m i 0 → Live g i
   pub roots : (i : ℕ) → isRoot g i ≡ true → 3 ≤ getD m i 0
   pub first : 0 < size g → 2 ≤ getD m 0 0

@@ -5,12 +5,11 @@ use mathlib.Core.Bool.{Bool, false}
 use mathlib.Core.List.{List, [], _∷_, _++_}
 use mathlib.Core.Option.{Option, none, some}
 use lib.ListN.{length, drop}
-use lib.Dec.{ltb, eqb}
+use lib.Dec.{eqb}
 use Rattle.readers.specs.Choice.{pick, zeros}
-use Rattle.readers.specs.Layout.{Role, reference, typeReference, sibling, index, absolute, RunOf, readIn}
+use Rattle.readers.specs.Layout.{RunOf, readIn}
 use Rattle.readers.specs.Expression.{expressionIn}
 use Rattle.readers.specs.Entries.{entryLayout}
-use Rattle.readers.specs.Tokens.{Use, plain, as′}
 use Rattle.readers.specs.Forms.{useOf}
 use Rattle.readers.specs.Abbreviations.{abbreviationsOf, declaredIn, findAt}
 use Rattle.readers.specs.Stream.{Item}
@@ -19,12 +18,12 @@ use Rattle.readers.specs.EntryAttributes.{Valued}
 use Rattle.marking.specs.Analysis.{Sections}
 use Rattle.rewriting.specs.Indices.{insertAll}
 use Rattle.rewriting.specs.Rewriting.{Unit as Unit′, anyDeclares, indicesFrom}
-use Rattle.rewriting.specs.Places.{Standing, keptFrom, offsetOf}
-use Rattle.rewriting.specs.Parents.{parentsFrom, HoldsFrom}
-use Rattle.rewriting.specs.Ends.{EndsHeld}
-use Rattle.rewriting.specs.NextKept.{itemsBy}
-use Rattle.rewriting.specs.Written.{ListHeld}
-use Rattle.rewriting.specs.Gathering.{Gathered, Filled}
+use Rattle.rewriting.specs.Places.{NestedItem, keptFrom, offsetOf}
+use Rattle.rewriting.specs.inner.Parents.{parentsFrom, HoldsFrom}
+use Rattle.rewriting.specs.inner.Ends.{EndsHeld}
+use Rattle.rewriting.specs.inner.NextKept.{itemsBy}
+use Rattle.rewriting.specs.inner.Written.{ListHeld}
+use Rattle.rewriting.specs.inner.Gathering.{Gathered, Filled}
 use Rattle.rewriting.specs.declared.kept.Reading.{Reading}
 use Rattle.rewriting.specs.declared.lists.ListCount.{ListCount}
 use Rattle.rewriting.specs.declared.lists.ListCount.the-variants.{Present, Absent}
@@ -58,8 +57,8 @@ pub record ReadAs (x : Sections) (u : Unit′) (r : Reading) (abbreviations unit
   pub declared-are : abbreviationsOf abbreviations (r .from) ≡ some (u .declared)
 
 -- its declarations are found as the code finds them
-abbrev pub Found : Unit′ → Reading → List ℕ → List ℕ → Type 0
-Found u r abbreviations table = (code : ℕ) → findAt abbreviations (r .from) table code ≡ declaredIn (u .declared) code
+abbrev pub TablesFound : Unit′ → Reading → List ℕ → List ℕ → Type 0
+TablesFound u r abbreviations table = (code : ℕ) → findAt abbreviations (r .from) table code ≡ declaredIn (u .declared) code
 
 module _ (x : Sections) (u : Unit′) where
   -- what stands at a place can be read, its expressions operation by operation
@@ -69,17 +68,17 @@ module _ (x : Sections) (u : Unit′) where
         (entryLayout (u .header .encoding) (x .abbreviations) (declaredIn (u .declared))) (drop at (u .bytes))
         ≡ some run
 
-  unfoldable pub AllRead : List Standing → Type 0
+  unfoldable pub AllRead : List NestedItem → Type 0
   AllRead [] = Unit {0}
   AllRead (s ∷ rest) = ReadDeep (offsetOf (s .item)) × AllRead rest
 
 -- what a pass through the kept items of a unit asks for: a unit below 4 GiB, its parents and ends, each kept item
 -- readable
-pub record Passable (x : Sections) (u : Unit′) (r : Reading) (abbreviations table unit parents ends marks : List ℕ)
+pub record PassInput (x : Sections) (u : Unit′) (r : Reading) (abbreviations table unit parents ends marks : List ℕ)
     (first : ℕ) : Type 0 where
   pub small : length unit < 2 ^ 32
   pub read : ReadAs x u r abbreviations unit
-  pub found : Found u r abbreviations table
+  pub found : TablesFound u r abbreviations table
   pub holds : HoldsFrom parents 0 (parentsFrom 0 [] (itemsBy r abbreviations table unit first))
   pub ends-hold : EndsHeld ends 0 (itemsBy r abbreviations table unit first)
   pub deep : AllRead x u (keptFrom marks 0 [] (itemsBy r abbreviations table unit first))
@@ -90,14 +89,14 @@ pub record Passable (x : Sections) (u : Unit′) (r : Reading) (abbreviations ta
 abbrev pub Puts : ℕ → Reading → List ℕ → List ℕ → List ℕ → List ℕ → List ℕ → List ℕ → ℕ → List ℕ → ℕ → List ℕ
     → Type 0
 Puts k r abbreviations table unit parents ends marks first list count after =
-    (x : Sections) (u : Unit′) → Passable x u r abbreviations table unit parents ends marks first → ListHeld [] list
+    (x : Sections) (u : Unit′) → PassInput x u r abbreviations table unit parents ends marks first → ListHeld [] list
     → Gathered (indicesFrom x u k (keptFrom marks 0 [] (itemsBy r abbreviations table unit first))) after count
 
 -- what the list of a kind is at the end
 abbrev pub Listing : ℕ → Reading → List ℕ → List ℕ → List ℕ → List ℕ → List ℕ → List ℕ → ℕ → List ℕ → ℕ → List ℕ
     → Type 0
 Listing k r abbreviations table unit parents ends marks first list count after =
-    (x : Sections) (u : Unit′) → Passable x u r abbreviations table unit parents ends marks first → ListHeld [] list
+    (x : Sections) (u : Unit′) → PassInput x u r abbreviations table unit parents ends marks first → ListHeld [] list
     → Filled (insertAll (indicesFrom x u k (keptFrom marks 0 [] (itemsBy r abbreviations table unit first))) [])
     list count after
 
@@ -114,10 +113,6 @@ ListAnswer (some ys) list (Present n) after = Filled ys list n after
 -- what is answered for a list that was gathered into zeros: absent, and zeros again, or its count
 abbrev pub Settles : Reading → List ℕ → List ℕ → List ℕ → ℕ → ℕ → ℕ → List ℕ → ListCount → List ℕ → Type 0
 Settles r abbreviations table unit first name count list c after =
-    (x : Sections) (u : Unit′) (ys list₀ : List ℕ) → ReadAs x u r abbreviations unit → Found u r abbreviations table
+    (x : Sections) (u : Unit′) (ys list₀ : List ℕ) → ReadAs x u r abbreviations unit → TablesFound u r abbreviations table
     → list₀ ≡ zeros (length list) → Filled ys list₀ count list
     → ListAnswer (pick (isAbsent x u name (itemsBy r abbreviations table unit first)) none (some ys)) list₀ c after
-
-unfoldable pub isShort : ListCount → ℕ → Bool
-isShort (Present n) room = ltb room n
-isShort Absent room = false
