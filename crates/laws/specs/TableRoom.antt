@@ -1,14 +1,14 @@
 -- What an analysis asks of the lent tables (document 01, "collect"): each "full" means that the count up to and
 -- including the present entry exceeds the lent length.
 use mathlib.Core.Path.{_≡_}
-use Prim.Native.Nat.{ℕ, suc, _+_, _≤_, _<_}
+use Prim.Native.Nat.{ℕ, _+_, _≤_, _<_}
 use mathlib.Core.List.{List, [], _∷_}
 use mathlib.Core.Option.{Option, none, some}
 use lib.ListN.{length, take}
 use Rattle.readers.specs.Codes.{«DW_AT_loclists_base»}
 use Rattle.readers.specs.Abbreviations.{Placed, declaredIn, abbreviationsOf}
 use Rattle.readers.specs.Header.{headerOf}
-use Rattle.readers.specs.Stream.{Item, entry, terminator, itemsFrom}
+use Rattle.readers.specs.Stream.{Item, entry, terminator, itemsFrom, entryCount}
 use Rattle.readers.specs.declared.cursor.Encoding.{Encoding}
 use Rattle.readers.specs.declared.header.HeaderRead.{HeaderRead}
 use Rattle.readers.specs.declared.header.HeaderRead.the-variants.{Unit as Unit′, Empty, Refused}
@@ -35,11 +35,6 @@ pub record TableLaw (x : Sections) (section : List ℕ) (rows : List EntryRow) :
       → analysisOf x section lent ≡ refused 11
 
 -- ---- tables that are long enough, by the input alone
-
-unfoldable pub entryCount : List Item → ℕ
-entryCount [] = 0
-entryCount (terminator a b ∷ rest) = entryCount rest
-entryCount (entry y ∷ rest) = suc (entryCount rest)
 
 -- the references of an entry that are read; none where they are refused
 unfoldable pub foundCount : ReferencesFound → ℕ

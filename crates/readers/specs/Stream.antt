@@ -37,3 +37,9 @@ module _ (e : Encoding) (abbreviations : List ℕ) (look : ℕ → DeclarationFo
 
   unfoldable pub itemsFrom : ℕ → Items
   itemsFrom at = itemsWithin (suc (length unit - at)) at
+
+-- how many of the items are entries
+unfoldable pub entryCount : List Item → ℕ
+entryCount [] = 0
+entryCount (terminator a b ∷ rest) = entryCount rest
+entryCount (entry y ∷ rest) = suc (entryCount rest)

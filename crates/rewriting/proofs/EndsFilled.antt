@@ -16,7 +16,7 @@ use Rattle.readers.specs.declared.cursor.Cursor.{Cursor}
 use Rattle.readers.specs.declared.entries.Entry.{Entry}
 use Rattle.readers.specs.declared.entries.Step.{Step}
 use Rattle.readers.specs.declared.entries.Step.the-variants.{Entry as Entry′, Terminator, End, Unreadable}
-use Rattle.marking.specs.TableRoom.{entryCount}
+use Rattle.readers.specs.Stream.{entryCount}
 use Rattle.rewriting.specs.inner.Ends.{endNumber, EndsHeld}
 use Rattle.rewriting.specs.inner.NextKept.{itemsBy}
 use Rattle.rewriting.specs.declared.kept.Reading.{Reading}

@@ -19,7 +19,7 @@ use Rattle.marking.specs.declared.root_test.Verdict.{Verdict}
 use Rattle.marking.specs.declared.root_test.Verdict.the-variants.{Live, Dead, Refused as Failed}
 use Rattle.marking.specs.Analysis.{Sections, Rooms, EntryRow, Analysed, analysed, refused, onto, onVerdict, onFound, Reached, reached, startOf, rootOf, namesOf, baseOf, analyseItems, onDeclared, unitAnalysed}
 use Rattle.marking.specs.Columns.{parentsIn, padTo}
-use Rattle.marking.specs.TableRoom.{entryCount}
+use Rattle.readers.specs.Stream.{entryCount}
 use Rattle.rewriting.specs.inner.Parents.{parentsFrom, HoldsFrom}
 
 -- ---- what holds of the rows of an analysis, if it has any

@@ -19,7 +19,7 @@ use Rattle.rewriting.specs.Written.{put, numberAt, inRoom, runBytes, old
 use Rattle.rewriting.specs.inner.Written.{NumbersHeld}
 use Rattle.marking.proofs.Members.{nothing-in}
 use Rattle.rewriting.proofs.Putting.{drop-zeros}
-use Rattle.rewriting.proofs.IndexMembers.{in-either}
+use Rattle.marking.proofs.Members.{in-either}
 
 -- every number of a list is below a bound
 abbrev pub Small : ℕ → List ℕ → Type 0

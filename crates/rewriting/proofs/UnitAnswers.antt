@@ -21,7 +21,7 @@ use Rattle.marking.proofs.Rows.{unit-rows}
 use Rattle.marking.specs.Marks.{isKept, keptCount}
 use Rattle.marking.specs.Resolution.{marksIn}
 use Rattle.rewriting.specs.Places.{NestedItem, withIf, opened, closed, innermost, keptFrom}
-use Rattle.marking.specs.TableRoom.{entryCount}
+use Rattle.readers.specs.Stream.{entryCount}
 use Rattle.rewriting.specs.inner.Parents.{parentsFrom, HoldsFrom}
 use Rattle.rewriting.specs.inner.Ends.{EndsHeld}
 use Rattle.rewriting.specs.inner.NextKept.{itemsBy}

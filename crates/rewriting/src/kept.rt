@@ -3,7 +3,7 @@ ghost use mathlib.Core.Path.{_≡_};
 ghost use Prim.Native.Nat.{ℕ, _^_, _≤_, _<_};
 ghost use lib.ListN.{length, getD};
 ghost use Rattle.marking.specs.Marks.{isKept};
-ghost use Rattle.marking.specs.TableRoom.{entryCount};
+ghost use Rattle.readers.specs.Stream.{entryCount};
 ghost use Rattle.rewriting.specs.inner.Ends.{endNumber, EndsHeld};
 ghost use Rattle.rewriting.specs.inner.NextKept.{closesKept, itemsBy, Answers};
 use marking::columns::place;

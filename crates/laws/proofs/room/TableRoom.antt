@@ -16,7 +16,7 @@ use Rattle.readers.proofs.Choice.{pick-either, pick-yes, pick-no, either}
 use Rattle.readers.specs.Header.{headerOf}
 use Rattle.readers.specs.Abbreviations.{Placed, declaredIn, abbreviationsOf}
 use Rattle.readers.specs.Nesting.{open′, close, top}
-use Rattle.readers.specs.Stream.{Item, entry, terminator, itemsFrom}
+use Rattle.readers.specs.Stream.{Item, entry, terminator, itemsFrom, entryCount}
 use Rattle.readers.specs.declared.cursor.Encoding.{Encoding}
 use Rattle.readers.specs.declared.entries.Entry.{Entry}
 use Rattle.readers.specs.declared.header.UnitHeader.{UnitHeader}
@@ -29,7 +29,7 @@ use Rattle.marking.specs.declared.root_test.Verdict.the-variants.{Live, Dead, R
 use Rattle.marking.specs.Analysis.{Sections, Rooms, EntryRow, Analysed, analysed, refused, onto, onVerdict, onFound, Reached, reached, startOf, rootOf, namesOf, baseOf, analyseItems, onDeclared, unitAnalysed, headerAnalysed, analysisOf}
 use Rattle.marking.specs.Columns.{namesIn}
 use Rattle.laws.specs.RefusalNumbers.{InputRefusal}
-use Rattle.laws.specs.TableRoom.{TablesWithin, tablesFor, TableLaw, entryCount, foundCount, referenceCount, declaredTables, headerTables, enoughTables}
+use Rattle.laws.specs.TableRoom.{TablesWithin, tablesFor, TableLaw, foundCount, referenceCount, declaredTables, headerTables, enoughTables}
 use Rattle.marking.proofs.Rows.{Gives, gives-of, gives-onto, gives-map, gives-refused, UnitRows, analysis-rows}
 use Rattle.laws.proofs.refusals.MarkingRefusals.{AnalysedOf, analysed-of, none-of, rows-of, onto-of, verdict-of, names-of, root-of, references-of}
 

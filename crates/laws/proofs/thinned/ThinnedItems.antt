@@ -22,8 +22,8 @@ use Rattle.laws.specs.LeftOut.{leftFrom}
 use Rattle.marking.specs.Members.{Member, here, there, Nth, now, later}
 use Rattle.laws.specs.Moved.{movedEntry, movedItem}
 use Rattle.laws.specs.inner.Moved.{movedFrom}
-use Rattle.laws.specs.AncestorsOf.{aroundFrom}
-use Rattle.laws.specs.inner.AncestorsOf.{keptAround, Leading, AllLeading}
+use Rattle.laws.specs.Around.{ancestorsFrom}
+use Rattle.laws.specs.inner.Around.{keptAncestors, MapTo, AllMapTo}
 use Rattle.rewriting.specs.Rewriting.{Unit as Unit′, Lists}
 use Rattle.laws.specs.Thinned.{inside, Parted, ended, kept-entry, left-entry, kept-terminator, left-terminator, surplus}
 use Rattle.rewriting.proofs.ItemsStand.{deepAt}
@@ -226,18 +226,18 @@ pub record AncestorsOf (items : List Item) (stack : List ℕ) (around : List (Li
   pub at : ℕ
   pub opens : List ℕ
   pub was-at : Nth (s .item) at items
-  pub were-open : Nth opens at (aroundFrom stack items)
+  pub were-open : Nth opens at (ancestorsFrom stack items)
   pub listed : Nth opens m around
 
 around-entry : (y : Entry) (rest : List Item) (stack : List ℕ) (around : List (List ℕ)) (m : ℕ) (s : NestedItem)
     → AncestorsOf rest (open′ (y .declaration .children) (y .offset .0) stack) around m s → AncestorsOf (entry y ∷ rest) stack around m s
-unfolding aroundFrom
+unfolding ancestorsFrom
 around-entry y rest stack around m s r =
     record { at = suc (r .at); opens = r .opens; was-at = later (r .was-at); were-open = later (r .were-open); listed = r .listed }
 
 around-close : (a b : ℕ) (rest : List Item) (stack : List ℕ) (around : List (List ℕ)) (m : ℕ) (s : NestedItem)
     → AncestorsOf rest (close stack) around m s → AncestorsOf (terminator a b ∷ rest) stack around m s
-unfolding aroundFrom
+unfolding ancestorsFrom
 around-close a b rest stack around m s r =
     record { at = suc (r .at); opens = r .opens; was-at = later (r .was-at); were-open = later (r .were-open); listed = r .listed }
 
@@ -245,11 +245,11 @@ around-more : (items : List Item) (stack opens : List ℕ) (around : List (List 
 around-more items stack opens around m s r = record { at = r .at; opens = r .opens; was-at = r .was-at; were-open = r .were-open; listed = later (r .listed) }
 
 around-first : (i : Item) (d : ℕ) (rest : List Item) (stack : List ℕ) (around : List (List ℕ)) (s : NestedItem) → s ≡ record { item = i; depth = d }
-    → Nth stack 0 (aroundFrom stack (i ∷ rest)) → AncestorsOf (i ∷ rest) stack (stack ∷ around) 0 s
+    → Nth stack 0 (ancestorsFrom stack (i ∷ rest)) → AncestorsOf (i ∷ rest) stack (stack ∷ around) 0 s
 around-first i d rest stack around s q n = record { at = 0; opens = stack; was-at = now (ap (λ (z : NestedItem). z .item) q); were-open = n; listed = now refl }
 
-open-here : (i : Item) (rest : List Item) (stack : List ℕ) → Nth stack 0 (aroundFrom stack (i ∷ rest))
-unfolding aroundFrom
+open-here : (i : Item) (rest : List Item) (stack : List ℕ) → Nth stack 0 (ancestorsFrom stack (i ∷ rest))
+unfolding ancestorsFrom
 open-here (entry y) rest stack = now refl
 open-here (terminator a b) rest stack = now refl
 
@@ -263,8 +263,8 @@ around-one i d rest stack kept around true h m s (later n) = around-more (i ∷ 
 around-one i d rest stack kept around false h m s n = h m s n
 
 pub around-by : (marks : List ℕ) (k : ℕ) (bs : List Bool) (stack : List ℕ) (items : List Item) (m : ℕ) (s : NestedItem) → Nth s m (keptFrom marks k bs items)
-    → AncestorsOf items stack (keptAround marks k bs stack items) m s
-unfolding keptFrom keptAround
+    → AncestorsOf items stack (keptAncestors marks k bs stack items) m s
+unfolding keptFrom keptAncestors
 around-by marks k bs stack [] m s n = elim n [ ]
 around-by marks k bs stack (entry y ∷ rest) m s n =
     around-one (entry y) (length bs) rest stack _ _ (isKept marks k)
@@ -280,13 +280,13 @@ around-by marks k bs stack (terminator a b ∷ rest) m s n =
 pub record Led (map : List Place) (opens : List ℕ) (m : ℕ) (news : List (List ℕ)) : Type 0 where
   pub opens-again : List ℕ
   pub there : Nth opens-again m news
-  pub leading : Leading map opens opens-again
+  pub leading : MapTo map opens opens-again
 
-pub led : (map : List Place) (olds news : List (List ℕ)) → AllLeading map olds news → (opens : List ℕ) (m : ℕ) → Nth opens m olds → Led map opens m news
-unfolding AllLeading
+pub led : (map : List Place) (olds news : List (List ℕ)) → AllMapTo map olds news → (opens : List ℕ) (m : ℕ) → Nth opens m olds → Led map opens m news
+unfolding AllMapTo
 led map [] news h opens m n = elim n [ ]
 led map (o ∷ olds) [] h opens m n = absurd h
-led map (o ∷ olds) (w ∷ news) h opens m (now q) = record { opens-again = w; there = now refl; leading = subst (λ (z : List ℕ). Leading map z w) (sym q) (h .0) }
+led map (o ∷ olds) (w ∷ news) h opens m (now q) = record { opens-again = w; there = now refl; leading = subst (λ (z : List ℕ). MapTo map z w) (sym q) (h .0) }
 led map (o ∷ olds) (w ∷ news) h opens m (later n) =
     let r : Led map opens _ news = led map olds news (h .1) opens _ n in
     record { opens-again = r .opens-again; there = later (r .there); leading = r .leading }

@@ -18,8 +18,8 @@ use Rattle.rewriting.specs.Places.{NestedItem, offsetOf, sizeOf, Place, placesF
 use Rattle.rewriting.specs.Indices.{rankIn, rankOr}
 use Rattle.laws.specs.LeftOut.{leftFrom}
 use Rattle.marking.specs.Members.{Member, here, there, Nth, now, later}
-use Rattle.laws.specs.AncestorsOf.{aroundFrom}
-use Rattle.laws.specs.inner.AncestorsOf.{keptAround, Leading, AllLeading}
+use Rattle.laws.specs.Around.{ancestorsFrom}
+use Rattle.laws.specs.inner.Around.{keptAncestors, MapTo, AllMapTo}
 use Rattle.laws.specs.Moved.{movedItem, depthsFrom}
 use Rattle.laws.specs.inner.Moved.{movedFrom}
 use Rattle.rewriting.specs.Rewriting.{Unit as Unit′, unitOf, itemsIn, readsOr, readsAt, Lists, listAt, newValue, isSome, refusalFrom, Room, Rewrite, untouched, rewritten, collectOf}
@@ -267,8 +267,8 @@ module _ (x : Sections) (room : Room) (typeUnits : Bool) (section : List ℕ) (w
 
   -- ---- side by side
 
-  all-land : (vs ns : List ℕ) → Leading (w .map) vs ns → Pairwise Lands vs ns
-  unfolding Leading Pairwise
+  all-land : (vs ns : List ℕ) → MapTo (w .map) vs ns → Pairwise Lands vs ns
+  unfolding MapTo Pairwise
   all-land [] [] h = tt
   all-land [] (n ∷ ns) h = h
   all-land (v ∷ vs) [] h = h
@@ -284,11 +284,11 @@ module _ (x : Sections) (room : Room) (typeUnits : Bool) (section : List ℕ) (w
       let o : offsetOf i ≡ t .new = moved-offset (t .new) (s .item) in
       let old : Readable x was s = was-read s (nth-member s m items n) in
       let rs : readsAt x was (offsetOf (s .item)) ≡ old .run .0 = reads-of x was (offsetOf (s .item)) (old .run) (old .is) in
-      let olds : List (List ℕ) = keptAround (marks x room typeUnits section w answer) 0 [] [] (itemsIn x was) in
+      let olds : List (List ℕ) = keptAncestors (marks x room typeUnits section w answer) 0 [] [] (itemsIn x was) in
       let a : AncestorsOf (itemsIn x was) [] olds m s =
       around-by (marks x room typeUnits section w answer) 0 [] [] (itemsIn x was) m s n in
-      let l : Led (w .map) (a .opens) m (aroundFrom [] (itemsIn x new)) =
-      led (w .map) olds (aroundFrom [] (itemsIn x new)) (subst (λ (z : List Item). AllLeading (w .map) olds (aroundFrom [] z)) same-items (nesting-law x room typeUnits section w answer)) (a .opens) m (a .listed) in
+      let l : Led (w .map) (a .opens) m (ancestorsFrom [] (itemsIn x new)) =
+      led (w .map) olds (ancestorsFrom [] (itemsIn x new)) (subst (λ (z : List Item). AllMapTo (w .map) olds (ancestorsFrom [] z)) same-items (nesting-law x room typeUnits section w answer)) (a .opens) m (a .listed) in
       record {
         place = placeOf (t .new) s;
         item = i;
