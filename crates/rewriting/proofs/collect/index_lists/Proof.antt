@@ -28,8 +28,10 @@ same-length-3 c = search needs
 
 returns-2 : tie.Need-returns-2
 returns-2 c =
-    let o = c .before .before .before .before .before .before .before .before .before .before .before .before .before .before .before .before .before .if1 .left in
-    let g = c .before .before .before .before .before .before .before .before .before .before .before .before .before in
+    let c13 = c .before .before .before .before .before .before .before .before .before .before .before .before .before in
+    let c17 = c13 .before .before .before .before in
+    let o = c17 .if1 .left in
+    let g = c13 in
     let s = c .before .before .before .before .before in
     ranges-short _ _ _ _ _ _ _ _ _ _ _ _ _ _ _ _ (settled-ranges _ _ _ _ _ _ _ _ _ o _ _ _ (g .sorted-lists .kept .1 .1 .1 .1 .1 .1 .1 .1 .0) _ _ (g .sorted-lists .ensures .0) (s .settle .ensures)) (s .settle .kept .1 .1 .1 .1 .1 .1 .1 .0 ∙ g .sorted-lists .kept .1 .1 .1 .1 .1 .1 .1 .1 .0) _ (c .before .is-short .ensures) (c .if2 .taken)
 
@@ -50,8 +52,10 @@ same-length-6 c = search needs
 
 returns-3 : tie.Need-returns-3
 returns-3 c =
-    let o = c .before .before .before .before .before .before .before .before .before .before .before .before .before .before .before .before .before .before .before .before .before .before .before .before .if1 .left in
-    let g = c .before .before .before .before .before .before .before .before .before .before .before .before .before .before .before .before .before .before .before .before in
+    let c20 = c .before .before .before .before .before .before .before .before .before .before .before .before .before .before .before .before .before .before .before .before in
+    let c24 = c20 .before .before .before .before in
+    let o = c24 .if1 .left in
+    let g = c20 in
     let s₂ = c .before .before .before .before .before in
     locations-short _ _ _ _ _ _ _ _ _ _ _ _ _ _ _ _ (settled-locations _ _ _ _ _ _ _ _ _ o _ _ _ (g .sorted-lists .kept .1 .1 .1 .1 .1 .1 .1 .1 .1 .0) _ _ (g .sorted-lists .ensures .1 .0) (s₂ .settle2 .ensures)) (s₂ .settle2 .kept .1 .1 .1 .1 .1 .1 .1 .0 ∙ g .sorted-lists .kept .1 .1 .1 .1 .1 .1 .1 .1 .1 .0) _ (c .before .is-short2 .ensures) (c .if3 .taken)
 
@@ -62,7 +66,10 @@ is-short-requires-3 : tie.Need-is-short-requires-3
 is-short-requires-3 c κs = search needs
 
 same-length-7 : tie.Need-same-length-7
-same-length-7 c = c .before .before .before .before .before .before .before .before .before .before .before .before .before .before .before .before .before .before .before .settle .kept .1 .1 .1 .1 .1 .1 .1 .0 ∙ c .before .before .before .before .before .before .before .before .before .before .before .before .before .before .before .before .before .before .before .before .before .before .before .before .before .before .before .sorted-lists .kept .1 .1 .1 .1 .1 .1 .1 .1 .0
+same-length-7 c =
+    let c19 = c .before .before .before .before .before .before .before .before .before .before .before .before .before .before .before .before .before .before .before in
+    let c27 = c19 .before .before .before .before .before .before .before .before in
+    c19 .settle .kept .1 .1 .1 .1 .1 .1 .1 .0 ∙ c27 .sorted-lists .kept .1 .1 .1 .1 .1 .1 .1 .1 .0
 
 same-length-8 : tie.Need-same-length-8
 same-length-8 c = search needs
@@ -72,13 +79,18 @@ same-length-9 c = search needs
 
 returns-4 : tie.Need-returns-4
 returns-4 c =
-    let o = c .before .before .before .before .before .before .before .before .before .before .before .before .before .before .before .before .before .before .before .before .before .before .before .before .before .before .before .before .before .before .before .if1 .left in
-    let g = c .before .before .before .before .before .before .before .before .before .before .before .before .before .before .before .before .before .before .before .before .before .before .before .before .before .before .before in
+    let c27 = c .before .before .before .before .before .before .before .before .before .before .before .before .before .before .before .before .before .before .before .before .before .before .before .before .before .before .before in
+    let c31 = c27 .before .before .before .before in
+    let o = c31 .if1 .left in
+    let g = c27 in
     let s₃ = c .before .before .before .before .before in
     strings-short _ _ _ _ _ _ _ _ _ _ _ _ _ _ _ _ (settled-strings _ _ _ _ _ _ _ _ _ o _ _ _ (g .sorted-lists .kept .1 .1 .1 .1 .1 .1 .1 .1 .1 .1 .0) _ _ (g .sorted-lists .ensures .1 .1) (s₃ .settle3 .ensures)) (s₃ .settle3 .kept .1 .1 .1 .1 .1 .1 .1 .0 ∙ g .sorted-lists .kept .1 .1 .1 .1 .1 .1 .1 .1 .1 .1 .0) _ (c .before .is-short3 .ensures) (c .if4 .taken)
 
 same-length-10 : tie.Need-same-length-10
-same-length-10 c = c .before .before .before .before .before .before .before .before .before .before .before .before .before .before .before .before .before .before .before .settle .kept .1 .1 .1 .1 .1 .1 .1 .0 ∙ c .before .before .before .before .before .before .before .before .before .before .before .before .before .before .before .before .before .before .before .before .before .before .before .before .before .before .before .sorted-lists .kept .1 .1 .1 .1 .1 .1 .1 .1 .0
+same-length-10 c =
+    let c19 = c .before .before .before .before .before .before .before .before .before .before .before .before .before .before .before .before .before .before .before in
+    let c27 = c19 .before .before .before .before .before .before .before .before in
+    c19 .settle .kept .1 .1 .1 .1 .1 .1 .1 .0 ∙ c27 .sorted-lists .kept .1 .1 .1 .1 .1 .1 .1 .1 .0
 
 same-length-11 : tie.Need-same-length-11
 same-length-11 c = search needs
@@ -88,17 +100,25 @@ same-length-12 c = search needs
 
 returns-5 : tie.Need-returns-5
 returns-5 c =
-    let o = c .before .before .before .before .before .before .before .before .before .before .before .before .before .before .before .before .before .before .before .before .before .before .before .before .before .before .before .before .before .before .before .if1 .left in
-    let g = c .before .before .before .before .before .before .before .before .before .before .before .before .before .before .before .before .before .before .before .before .before .before .before .before .before .before .before in
-    let s = c .before .before .before .before .before .before .before .before .before .before .before .before .before .before .before .before .before .before .before in
-    let s₂ = c .before .before .before .before .before .before .before .before .before .before .before .before in
+    let c7 = c .before .before .before .before .before .before .before in
+    let c8 = c7 .before in
+    let c12 = c8 .before .before .before .before in
+    let c14 = c12 .before .before in
+    let c15 = c14 .before in
+    let c19 = c15 .before .before .before .before in
+    let c27 = c19 .before .before .before .before .before .before .before .before in
+    let c31 = c27 .before .before .before .before in
+    let o = c31 .if1 .left in
+    let g = c27 in
+    let s = c19 in
+    let s₂ = c12 in
     let s₃ = c .before .before .before .before .before in
     lists-made _ _ _ _ _ _ _ _ _ _ _ _ _ _ _ _ _ _
     (settled-ranges _ _ _ _ _ _ _ _ _ o _ _ _ (g .sorted-lists .kept .1 .1 .1 .1 .1 .1 .1 .1 .0) _ _ (g .sorted-lists .ensures .0) (s .settle .ensures))
     (settled-locations _ _ _ _ _ _ _ _ _ o _ _ _ (g .sorted-lists .kept .1 .1 .1 .1 .1 .1 .1 .1 .1 .0) _ _ (g .sorted-lists .ensures .1 .0) (s₂ .settle2 .ensures))
     (settled-strings _ _ _ _ _ _ _ _ _ o _ _ _ (g .sorted-lists .kept .1 .1 .1 .1 .1 .1 .1 .1 .1 .1 .0) _ _ (g .sorted-lists .ensures .1 .1) (s₃ .settle3 .ensures))
     (s .settle .kept .1 .1 .1 .1 .1 .1 .1 .0 ∙ g .sorted-lists .kept .1 .1 .1 .1 .1 .1 .1 .1 .0) (s₂ .settle2 .kept .1 .1 .1 .1 .1 .1 .1 .0 ∙ g .sorted-lists .kept .1 .1 .1 .1 .1 .1 .1 .1 .1 .0) (s₃ .settle3 .kept .1 .1 .1 .1 .1 .1 .1 .0 ∙ g .sorted-lists .kept .1 .1 .1 .1 .1 .1 .1 .1 .1 .1 .0)
-    (sym (c .before .before .before .before .before .before .before .before .before .before .before .before .before .before .if2 .left) ∙ c .before .before .before .before .before .before .before .before .before .before .before .before .before .before .before .is-short .ensures) (sym (c .before .before .before .before .before .before .before .if3 .left) ∙ c .before .before .before .before .before .before .before .before .is-short2 .ensures) (sym (c .if4 .left) ∙ c .before .is-short3 .ensures)
+    (sym (c14 .if2 .left) ∙ c15 .is-short .ensures) (sym (c7 .if3 .left) ∙ c8 .is-short2 .ensures) (sym (c .if4 .left) ∙ c .before .is-short3 .ensures)
 
 pub index-lists-spec : {M : Type 1} → statement M
 index-lists-spec =

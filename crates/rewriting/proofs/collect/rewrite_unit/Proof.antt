@@ -32,7 +32,11 @@ same-length-4 : tie.Need-same-length-4
 same-length-4 c = search needs
 
 returns : tie.Need-returns
-returns c = untouched-unit _ _ _ _ _ _ _ _ _ _ _ _ _ _ _ _ (c .before .before .before .before .before .before .before .before .before .before .before .before .before .before .before .before .before .before .before .before .unit-part .ensures) _ (c .before .before .before .before .before .before .before .before .before .before .before .before .before .before .before .before .before .fill-ends .ensures) _ _ _ _ (c .before .before .before .before .before .before .before .before .before .before .index-lists .ensures) _ _ _ (c .before .before .ranges .given .1) (c .if1 .taken)
+returns c =
+    let c10 = c .before .before .before .before .before .before .before .before .before .before in
+    let c17 = c10 .before .before .before .before .before .before .before in
+    let c20 = c17 .before .before .before in
+    untouched-unit _ _ _ _ _ _ _ _ _ _ _ _ _ _ _ _ (c20 .unit-part .ensures) _ (c17 .fill-ends .ensures) _ _ _ _ (c10 .index-lists .ensures) _ _ _ (c .before .before .ranges .given .1) (c .if1 .taken)
 
 write-unit-requires : tie.Need-write-unit-requires
 write-unit-requires c κs = search needs
@@ -50,7 +54,11 @@ same-length-8 : tie.Need-same-length-8
 same-length-8 c = search needs
 
 returns-2 : tie.Need-returns-2
-returns-2 c = short-unit _ _ _ _ _ _ _ _ _ _ _ _ _ _ _ _ (c .before .before .before .before .before .before .before .before .before .before .before .before .before .before .before .before .before .before .unit-part .ensures) _ (c .before .before .before .before .before .before .before .before .before .before .before .before .before .before .before .fill-ends .ensures) _ _ _ _ (c .before .before .before .before .before .before .before .before .index-lists .ensures) (c .enum-told .given .1)
+returns-2 c =
+    let c8 = c .before .before .before .before .before .before .before .before in
+    let c15 = c8 .before .before .before .before .before .before .before in
+    let c18 = c15 .before .before .before in
+    short-unit _ _ _ _ _ _ _ _ _ _ _ _ _ _ _ _ (c18 .unit-part .ensures) _ (c15 .fill-ends .ensures) _ _ _ _ (c8 .index-lists .ensures) (c .enum-told .given .1)
 
 same-length-9 : tie.Need-same-length-9
 same-length-9 c = c .before .before .before .before .before .before .before .before .before .before .before .before .before .before .before .before .before .before .before .before .before .before .before .before .before .before .before .before .before .before .before .fill-ends .kept .1 .1 .1 .1 .1 .0
@@ -74,7 +82,14 @@ same-length-15 : tie.Need-same-length-15
 same-length-15 c = search needs
 
 returns-3 : tie.Need-returns-3
-returns-3 c = written-unit _ _ _ _ _ _ _ _ _ _ _ _ _ _ _ _ (c .before .before .before .before .before .before .before .before .before .before .before .before .before .before .before .before .before .before .before .before .before .before .before .before .before .before .before .before .before .before .before .before .before .before .unit-part .ensures) _ (c .before .before .before .before .before .before .before .before .before .before .before .before .before .before .before .before .before .before .before .before .before .before .before .before .before .before .before .before .before .before .before .fill-ends .ensures) _ _ _ _ (c .before .before .before .before .before .before .before .before .before .before .before .before .before .before .before .before .before .before .before .before .before .before .before .before .index-lists .ensures) _ _ _ (c .before .before .before .before .before .before .before .before .before .before .before .before .before .before .before .before .ranges .given .1) (c .before .before .before .before .before .before .before .before .before .before .before .before .before .before .if1 .left) _ _ _ (c .before .before .before .before .before .before .write-unit .ensures)
+returns-3 c =
+    let c6 = c .before .before .before .before .before .before in
+    let c14 = c6 .before .before .before .before .before .before .before .before in
+    let c16 = c14 .before .before in
+    let c24 = c16 .before .before .before .before .before .before .before .before in
+    let c31 = c24 .before .before .before .before .before .before .before in
+    let c34 = c31 .before .before .before in
+    written-unit _ _ _ _ _ _ _ _ _ _ _ _ _ _ _ _ (c34 .unit-part .ensures) _ (c31 .fill-ends .ensures) _ _ _ _ (c24 .index-lists .ensures) _ _ _ (c16 .ranges .given .1) (c14 .if1 .left) _ _ _ (c6 .write-unit .ensures)
 
 pub rewrite-unit-spec : {M : Type 1} → statement M
 rewrite-unit-spec =

@@ -20,7 +20,9 @@ same-length-2 : tie.Need-same-length-2
 same-length-2 c = search needs
 
 returns-2 : tie.Need-returns-2
-returns-2 c = out-short _ _ _ _ _ _ _ _ _ _ _ _ _ _ _ _ _ _ _ (c .before .before .before .before .before .before .place-items .ensures .0) _ (c .before .before .before .before .before .before .place-items .ensures .1) (c .before .before .before .before .before .before .place-items .kept .1 .1 .1 .1 .1 .1 .1 .1 .0) (c .before .before .if1 .left) (c .if2 .taken)
+returns-2 c =
+    let c6 = c .before .before .before .before .before .before in
+    out-short _ _ _ _ _ _ _ _ _ _ _ _ _ _ _ _ _ _ _ (c6 .place-items .ensures .0) _ (c6 .place-items .ensures .1) (c6 .place-items .kept .1 .1 .1 .1 .1 .1 .1 .1 .0) (c .before .before .if1 .left) (c .if2 .taken)
 
 fill-bounds-requires : tie.Need-fill-bounds-requires
 fill-bounds-requires c κs = search needs
@@ -56,7 +58,13 @@ same-length-5 : tie.Need-same-length-5
 same-length-5 c = search needs
 
 returns-3 : tie.Need-returns-3
-returns-3 c = unit-written _ _ _ _ _ _ _ _ _ _ _ _ _ _ _ _ _ _ _ (c .before .before .before .before .before .before .before .before .before .before .before .before .before .before .before .before .before .before .before .before .before .before .before .place-items .ensures .0) _ (c .before .before .before .before .before .before .before .before .before .before .before .before .before .before .before .before .before .before .before .before .before .before .before .place-items .ensures .1) (c .before .before .before .before .before .before .before .before .before .before .before .before .before .before .before .before .before .before .before .before .before .before .before .place-items .kept .1 .1 .1 .1 .1 .1 .1 .1 .0) (c .before .before .before .before .before .before .before .before .before .before .before .before .before .before .before .before .before .before .before .if1 .left) (c .before .before .before .before .before .before .before .before .before .before .before .before .before .before .before .before .before .if2 .left) _ _ _ (c .before .before .before .before .before .before .before .before .before .before .before .before .before .before .fill-bounds .ensures) (c .before .before .before .before .before .before .before .before .before .before .emit-header .kept .1 .1 .1 .0) _ (λ h i j k l. header-there _ _ _ _ h i j k l _ _ (c .before .before .before .before .before .before .before .before .before .before .emit-header .ensures .0) (c .before .before .before .before .before .before .before .before .before .before .emit-header .ensures .1)) _ (λ x u lists ps p q l m n b g. emits-on _ _ _ (header-inside _ _ _ _ _ _ (c .before .before .before .before .before .before .before .before .before .before .emit-header .ensures .0) (c .before .before .before .before .before .before .before .before .before .before .emit-header .ensures .1)) (c .before .before .before .before .emit-dies .ensures .1 x u lists ps p q l m n b g)) _ (onward-to _ _ _ (c .enum-told .given .1))
+returns-3 c =
+    let c10 = c .before .before .before .before .before .before .before .before .before .before in
+    let c14 = c10 .before .before .before .before in
+    let c17 = c14 .before .before .before in
+    let c19 = c17 .before .before in
+    let c23 = c19 .before .before .before .before in
+    unit-written _ _ _ _ _ _ _ _ _ _ _ _ _ _ _ _ _ _ _ (c23 .place-items .ensures .0) _ (c23 .place-items .ensures .1) (c23 .place-items .kept .1 .1 .1 .1 .1 .1 .1 .1 .0) (c19 .if1 .left) (c17 .if2 .left) _ _ _ (c14 .fill-bounds .ensures) (c10 .emit-header .kept .1 .1 .1 .0) _ (λ h i j k l. header-there _ _ _ _ h i j k l _ _ (c10 .emit-header .ensures .0) (c10 .emit-header .ensures .1)) _ (λ x u lists ps p q l m n b g. emits-on _ _ _ (header-inside _ _ _ _ _ _ (c10 .emit-header .ensures .0) (c10 .emit-header .ensures .1)) (c .before .before .before .before .emit-dies .ensures .1 x u lists ps p q l m n b g)) _ (onward-to _ _ _ (c .enum-told .given .1))
 
 same-length-6 : tie.Need-same-length-6
 same-length-6 c = search needs
@@ -68,7 +76,13 @@ same-length-8 : tie.Need-same-length-8
 same-length-8 c = search needs
 
 returns-4 : tie.Need-returns-4
-returns-4 c = unit-refused _ _ _ _ _ _ _ _ _ _ _ _ _ _ _ _ _ _ _ (c .before .before .before .before .before .before .before .before .before .before .before .before .before .before .before .before .before .before .before .before .before .before .before .before .place-items .ensures .0) _ (c .before .before .before .before .before .before .before .before .before .before .before .before .before .before .before .before .before .before .before .before .before .before .before .before .place-items .ensures .1) (c .before .before .before .before .before .before .before .before .before .before .before .before .before .before .before .before .before .before .before .before .before .before .before .before .place-items .kept .1 .1 .1 .1 .1 .1 .1 .1 .0) (c .before .before .before .before .before .before .before .before .before .before .before .before .before .before .before .before .before .before .before .before .if1 .left) (c .before .before .before .before .before .before .before .before .before .before .before .before .before .before .before .before .before .before .if2 .left) _ _ _ (c .before .before .before .before .before .before .before .before .before .before .before .before .before .before .before .fill-bounds .ensures) (c .before .before .before .before .before .before .before .before .before .before .before .emit-header .kept .1 .1 .1 .0) _ (λ h i j k l. header-there _ _ _ _ h i j k l _ _ (c .before .before .before .before .before .before .before .before .before .before .before .emit-header .ensures .0) (c .before .before .before .before .before .before .before .before .before .before .before .emit-header .ensures .1)) _ (λ x u lists ps p q l m n b g. emits-on _ _ _ (header-inside _ _ _ _ _ _ (c .before .before .before .before .before .before .before .before .before .before .before .emit-header .ensures .0) (c .before .before .before .before .before .before .before .before .before .before .before .emit-header .ensures .1)) (c .before .before .before .before .before .emit-dies .ensures .1 x u lists ps p q l m n b g)) _ (onward-no _ _ _ (c .before .n .given .1))
+returns-4 c =
+    let c11 = c .before .before .before .before .before .before .before .before .before .before .before in
+    let c15 = c11 .before .before .before .before in
+    let c18 = c15 .before .before .before in
+    let c20 = c18 .before .before in
+    let c24 = c20 .before .before .before .before in
+    unit-refused _ _ _ _ _ _ _ _ _ _ _ _ _ _ _ _ _ _ _ (c24 .place-items .ensures .0) _ (c24 .place-items .ensures .1) (c24 .place-items .kept .1 .1 .1 .1 .1 .1 .1 .1 .0) (c20 .if1 .left) (c18 .if2 .left) _ _ _ (c15 .fill-bounds .ensures) (c11 .emit-header .kept .1 .1 .1 .0) _ (λ h i j k l. header-there _ _ _ _ h i j k l _ _ (c11 .emit-header .ensures .0) (c11 .emit-header .ensures .1)) _ (λ x u lists ps p q l m n b g. emits-on _ _ _ (header-inside _ _ _ _ _ _ (c11 .emit-header .ensures .0) (c11 .emit-header .ensures .1)) (c .before .before .before .before .before .emit-dies .ensures .1 x u lists ps p q l m n b g)) _ (onward-no _ _ _ (c .before .n .given .1))
 
 pub write-unit-spec : {M : Type 1} → statement M
 write-unit-spec =

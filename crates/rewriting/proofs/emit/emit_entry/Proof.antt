@@ -54,10 +54,15 @@ enum-told : tie.Need-enum-told Inv-loop μ-loop
 enum-told c = search needs
 
 same-length : tie.Need-same-length Inv-loop μ-loop
-same-length c = (within-trans (copied-within _ _ _ _ (c .before .before .before .before .before .before .emit-bytes .ensures .0) (c .before .before .before .before .before .before .emit-bytes .ensures .1)) (c .before .before .before .loop .inv .0)) .size
+same-length c =
+    let c6 = c .before .before .before .before .before .before in
+    (within-trans (copied-within _ _ _ _ (c6 .emit-bytes .ensures .0) (c6 .emit-bytes .ensures .1)) (c .before .before .before .loop .inv .0)) .size
 
 returns : tie.Need-returns Inv-loop μ-loop
-returns c = (within-trans (copied-within _ _ _ _ (c .before .before .before .before .before .before .emit-bytes .ensures .0) (c .before .before .before .before .before .before .emit-bytes .ensures .1)) (c .before .before .before .loop .inv .0), λ lists ps look x rs rest l m n b lent step sp va d. from-start (entry-done _ l _ look _ _ x step rs rest d _ _ (ap (λ (k : Cursor). k .at) sp) (ap (λ (k : Cursor). k .at) va) lists ps _ _ _ _ _ (λ _ _. copied-front _ _ _ _ (c .before .before .before .before .before .before .emit-bytes .ensures .0) (c .before .before .before .before .before .before .emit-bytes .ensures .1) _ (c .before .before .before .before .before .before .before .before .bytes-between .ensures)) _ _ (λ reads after i k. entering-end lists ps _ _ l _ _ reads _ _ _ _ _ _ (c .before .before .before .loop .inv .1 lists ps reads after l m n b lent i k) _ (c .before .before .next-attribute .ensures) (c .enum-told .given .1))))
+returns c =
+    let c6 = c .before .before .before .before .before .before in
+    let c8 = c6 .before .before in
+    (within-trans (copied-within _ _ _ _ (c6 .emit-bytes .ensures .0) (c6 .emit-bytes .ensures .1)) (c .before .before .before .loop .inv .0), λ lists ps look x rs rest l m n b lent step sp va d. from-start (entry-done _ l _ look _ _ x step rs rest d _ _ (ap (λ (k : Cursor). k .at) sp) (ap (λ (k : Cursor). k .at) va) lists ps _ _ _ _ _ (λ _ _. copied-front _ _ _ _ (c6 .emit-bytes .ensures .0) (c6 .emit-bytes .ensures .1) _ (c8 .bytes-between .ensures)) _ _ (λ reads after i k. entering-end lists ps _ _ l _ _ reads _ _ _ _ _ _ (c .before .before .before .loop .inv .1 lists ps reads after l m n b lent i k) _ (c .before .before .next-attribute .ensures) (c .enum-told .given .1))))
 
 sub-emit-attribute : tie.Need-sub-emit-attribute Inv-loop μ-loop
 sub-emit-attribute c = omega (arith, inside _ _ _ (c .before .before .before .before .before .before .loop .inv .0))
@@ -75,22 +80,42 @@ enum-known-n : tie.Need-enum-known-n Inv-loop μ-loop
 enum-known-n c = search needs
 
 add-to : tie.Need-add-to Inv-loop μ-loop
-add-to c = record { fits = after-small _ _ _ (c .before .before .before .before .before .before .before .before .before .before .before .before .before .loop .inv .0) _ _ (c .before .before .before .before .before .emit-attribute .ensures .0) (size-small (copied-within _ _ _ _ (c .before .before .before .before .before .before .before .before .before .before .before .before .before .before .before .before .emit-bytes .ensures .0) (c .before .before .before .before .before .before .before .before .before .before .before .before .before .before .before .before .emit-bytes .ensures .1)) (c .before .before .before .before .before .before .before .before .before .before .before .before .before .before .before .before .before .before .before .before .before .before .before .before .before .before .before .good .1 .1 .1 .1 .1 .1 .1 .1 .1 .1 .1 .1 .1 .1 .1 .1 .0 .0)) _ (c .before .n .given .1) }
+add-to c =
+    let c13 = c .before .before .before .before .before .before .before .before .before .before .before .before .before in
+    let c16 = c13 .before .before .before in
+    let c27 = c16 .before .before .before .before .before .before .before .before .before .before .before in
+    record { fits = after-small _ _ _ (c13 .loop .inv .0) _ _ (c .before .before .before .before .before .emit-attribute .ensures .0) (size-small (copied-within _ _ _ _ (c16 .emit-bytes .ensures .0) (c16 .emit-bytes .ensures .1)) (c27 .good .1 .1 .1 .1 .1 .1 .1 .1 .1 .1 .1 .1 .1 .1 .1 .1 .0 .0)) _ (c .before .n .given .1) }
 
 enum-known-n-2 : tie.Need-enum-known-n-2 Inv-loop μ-loop
 enum-known-n-2 c = search needs
 
 same-length-2 : tie.Need-same-length-2 Inv-loop μ-loop
-same-length-2 c = (within-trans (copied-within _ _ _ _ (c .before .before .before .before .before .before .before .before .before .before .before .before .before .before .before .before .emit-bytes .ensures .0) (c .before .before .before .before .before .before .before .before .before .before .before .before .before .before .before .before .emit-bytes .ensures .1)) (within-stop _ _ _ (c .before .before .before .before .before .before .before .before .before .before .before .before .before .loop .inv .0) _ _ (c .before .before .before .before .before .emit-attribute .ensures .0) 0)) .size
+same-length-2 c =
+    let c13 = c .before .before .before .before .before .before .before .before .before .before .before .before .before in
+    let c16 = c13 .before .before .before in
+    (within-trans (copied-within _ _ _ _ (c16 .emit-bytes .ensures .0) (c16 .emit-bytes .ensures .1)) (within-stop _ _ _ (c13 .loop .inv .0) _ _ (c .before .before .before .before .before .emit-attribute .ensures .0) 0)) .size
 
 returns-2 : tie.Need-returns-2 Inv-loop μ-loop
-returns-2 c = (within-trans (copied-within _ _ _ _ (c .before .before .before .before .before .before .before .before .before .before .before .before .before .before .before .before .emit-bytes .ensures .0) (c .before .before .before .before .before .before .before .before .before .before .before .before .before .before .before .before .emit-bytes .ensures .1)) (within-stop _ _ _ (c .before .before .before .before .before .before .before .before .before .before .before .before .before .loop .inv .0) _ _ (c .before .before .before .before .before .emit-attribute .ensures .0) _), λ lists ps look x rs rest l m n b lent step sp va d. from-start (entry-done _ l _ look _ _ x step rs rest d _ _ (ap (λ (k : Cursor). k .at) sp) (ap (λ (k : Cursor). k .at) va) lists ps _ _ _ _ _ (λ _ _. copied-front _ _ _ _ (c .before .before .before .before .before .before .before .before .before .before .before .before .before .before .before .before .emit-bytes .ensures .0) (c .before .before .before .before .before .before .before .before .before .before .before .before .before .before .before .before .emit-bytes .ensures .1) _ (c .before .before .before .before .before .before .before .before .before .before .before .before .before .before .before .before .before .before .bytes-between .ensures)) _ _ (λ reads after i k. entering-refused lists ps _ _ l _ _ reads _ _ _ _ _ _ (c .before .before .before .before .before .before .before .before .before .before .before .before .before .loop .inv .1 lists ps reads after l m n b lent i k) _ (c .before .before .before .before .before .before .before .before .before .before .before .before .next-attribute .ensures) _ (c .before .before .before .before .before .before .before .before .before .before .a .given .1) _ _ (λ one mid j v e. emits-on _ _ _ (c .before .before .before .before .before .before .before .before .before .before .before .before .before .loop .inv .0) (c .before .before .before .before .before .emit-attribute .ensures .1 lists ps one mid l m n b lent j v e)) _ (onward-no _ _ _ (c .before .n2 .given .1)))))
+returns-2 c =
+    let c10 = c .before .before .before .before .before .before .before .before .before .before in
+    let c12 = c10 .before .before in
+    let c13 = c12 .before in
+    let c16 = c13 .before .before .before in
+    let c18 = c16 .before .before in
+    (within-trans (copied-within _ _ _ _ (c16 .emit-bytes .ensures .0) (c16 .emit-bytes .ensures .1)) (within-stop _ _ _ (c13 .loop .inv .0) _ _ (c .before .before .before .before .before .emit-attribute .ensures .0) _), λ lists ps look x rs rest l m n b lent step sp va d. from-start (entry-done _ l _ look _ _ x step rs rest d _ _ (ap (λ (k : Cursor). k .at) sp) (ap (λ (k : Cursor). k .at) va) lists ps _ _ _ _ _ (λ _ _. copied-front _ _ _ _ (c16 .emit-bytes .ensures .0) (c16 .emit-bytes .ensures .1) _ (c18 .bytes-between .ensures)) _ _ (λ reads after i k. entering-refused lists ps _ _ l _ _ reads _ _ _ _ _ _ (c13 .loop .inv .1 lists ps reads after l m n b lent i k) _ (c12 .next-attribute .ensures) _ (c10 .a .given .1) _ _ (λ one mid j v e. emits-on _ _ _ (c13 .loop .inv .0) (c .before .before .before .before .before .emit-attribute .ensures .1 lists ps one mid l m n b lent j v e)) _ (onward-no _ _ _ (c .before .n2 .given .1)))))
 
 loop-less : tie.Need-loop-less Inv-loop μ-loop
-loop-less c = entering-less _ _ _ _ _ _ _ (c .before .before .before .before .before .before .before .before .before .before .before .before .next-attribute .ensures) (c .before .before .before .before .before .before .before .before .before .before .a .given .1)
+loop-less c =
+    let c10 = c .before .before .before .before .before .before .before .before .before .before in
+    let c12 = c10 .before .before in
+    entering-less _ _ _ _ _ _ _ (c12 .next-attribute .ensures) (c10 .a .given .1)
 
 loop-again : tie.Need-loop-again Inv-loop μ-loop
-loop-again c = (within-on _ _ _ (c .before .before .before .before .before .before .before .before .before .before .before .before .before .loop .inv .0) _ _ (c .before .before .before .before .before .emit-attribute .ensures .0) _ (c .before .n .given .1), λ lists ps reads after l m n b lent i k. entering-on lists ps _ _ l _ _ reads _ _ _ _ _ _ (c .before .before .before .before .before .before .before .before .before .before .before .before .before .loop .inv .1 lists ps reads after l m n b lent i k) _ (c .before .before .before .before .before .before .before .before .before .before .before .before .next-attribute .ensures) _ (c .before .before .before .before .before .before .before .before .before .before .a .given .1) _ _ (λ one mid j v e. emits-on _ _ _ (c .before .before .before .before .before .before .before .before .before .before .before .before .before .loop .inv .0) (c .before .before .before .before .before .emit-attribute .ensures .1 lists ps one mid l m n b lent j v e)) _ (onward-to _ _ _ (c .before .n .given .1)))
+loop-again c =
+    let c10 = c .before .before .before .before .before .before .before .before .before .before in
+    let c12 = c10 .before .before in
+    let c13 = c12 .before in
+    (within-on _ _ _ (c13 .loop .inv .0) _ _ (c .before .before .before .before .before .emit-attribute .ensures .0) _ (c .before .n .given .1), λ lists ps reads after l m n b lent i k. entering-on lists ps _ _ l _ _ reads _ _ _ _ _ _ (c13 .loop .inv .1 lists ps reads after l m n b lent i k) _ (c12 .next-attribute .ensures) _ (c10 .a .given .1) _ _ (λ one mid j v e. emits-on _ _ _ (c13 .loop .inv .0) (c .before .before .before .before .before .emit-attribute .ensures .1 lists ps one mid l m n b lent j v e)) _ (onward-to _ _ _ (c .before .n .given .1)))
 
 pub emit-entry-spec : {M : Type 1} → statement M
 emit-entry-spec =

@@ -66,13 +66,19 @@ emit-bytes-requires : tie.Need-emit-bytes-requires Inv-loop μ-loop
 emit-bytes-requires c κs = search needs
 
 add-t19 : tie.Need-add-t19 Inv-loop μ-loop
-add-t19 c = record { fits = after-small _ _ _ (c .before .before .before .before .before .before .before .before .loop .inv .0) _ _ (copied-within _ _ _ _ (c .before .before .emit-bytes .ensures .0) (c .before .before .emit-bytes .ensures .1)) (c .before .before .before .before .before .before .before .before .before .before .before .before .good .1 .1 .1 .1 .0 .0) _ refl }
+add-t19 c =
+    let c8 = c .before .before .before .before .before .before .before .before in
+    let c12 = c8 .before .before .before .before in
+    record { fits = after-small _ _ _ (c8 .loop .inv .0) _ _ (copied-within _ _ _ _ (c .before .before .emit-bytes .ensures .0) (c .before .before .emit-bytes .ensures .1)) (c12 .good .1 .1 .1 .1 .0 .0) _ refl }
 
 same-length : tie.Need-same-length Inv-loop μ-loop
 same-length c = (within-on _ _ _ (c .before .before .before .before .before .before .before .before .loop .inv .0) _ _ (copied-within _ _ _ _ (c .before .before .emit-bytes .ensures .0) (c .before .before .emit-bytes .ensures .1)) _ refl) .size
 
 returns : tie.Need-returns Inv-loop μ-loop
-returns c = (within-on _ _ _ (c .before .before .before .before .before .before .before .before .loop .inv .0) _ _ (copied-within _ _ _ _ (c .before .before .emit-bytes .ensures .0) (c .before .before .emit-bytes .ensures .1)) _ refl, λ lists ps depth pieces l h p q. from-start (going-end lists ps depth pieces _ _ _ _ _ _ _ _ (c .before .before .before .before .before .before .before .before .loop .inv .3 lists ps depth pieces l h p q) _ (c .before .before .before .before .before .before .before .next-reference .ensures) (c .before .before .before .before .before .enum-told .given .1) _ _ (λ _ _. copied-on _ _ _ (c .before .before .before .before .before .before .before .before .loop .inv .0) _ _ _ (c .before .before .emit-bytes .ensures .0) (c .before .before .emit-bytes .ensures .1) _ (between-whole _ _ _))))
+returns c =
+    let c7 = c .before .before .before .before .before .before .before in
+    let c8 = c7 .before in
+    (within-on _ _ _ (c8 .loop .inv .0) _ _ (copied-within _ _ _ _ (c .before .before .emit-bytes .ensures .0) (c .before .before .emit-bytes .ensures .1)) _ refl, λ lists ps depth pieces l h p q. from-start (going-end lists ps depth pieces _ _ _ _ _ _ _ _ (c8 .loop .inv .3 lists ps depth pieces l h p q) _ (c7 .next-reference .ensures) (c .before .before .before .before .before .enum-told .given .1) _ _ (λ _ _. copied-on _ _ _ (c8 .loop .inv .0) _ _ _ (c .before .before .emit-bytes .ensures .0) (c .before .before .emit-bytes .ensures .1) _ (between-whole _ _ _))))
 
 sub-emit-bytes-3 : tie.Need-sub-emit-bytes-3 Inv-loop μ-loop
 sub-emit-bytes-3 c = omega (arith, c .before .before .before .before .before .before .loop .inv .1, (next-placed _ _ _ _ (c .before .before .before .before .before .next-reference .ensures) _ (c .before .before .before .r .given .1)) .0, (next-placed _ _ _ _ (c .before .before .before .before .before .next-reference .ensures) _ (c .before .before .before .r .given .1)) .1, (next-placed _ _ _ _ (c .before .before .before .before .before .next-reference .ensures) _ (c .before .before .before .r .given .1)) .2)
@@ -96,7 +102,10 @@ emit-bytes-requires-2 : tie.Need-emit-bytes-requires-2 Inv-loop μ-loop
 emit-bytes-requires-2 c κs = search needs
 
 add-to : tie.Need-add-to Inv-loop μ-loop
-add-to c = record { fits = after-small _ _ _ (c .before .before .before .before .before .before .before .before .before .before .before .loop .inv .0) _ _ (copied-within _ _ _ _ (c .before .before .emit-bytes2 .ensures .0) (c .before .before .emit-bytes2 .ensures .1)) (c .before .before .before .before .before .before .before .before .before .before .before .before .before .before .before .good .1 .1 .1 .1 .0 .0) _ refl }
+add-to c =
+    let c11 = c .before .before .before .before .before .before .before .before .before .before .before in
+    let c15 = c11 .before .before .before .before in
+    record { fits = after-small _ _ _ (c11 .loop .inv .0) _ _ (copied-within _ _ _ _ (c .before .before .emit-bytes2 .ensures .0) (c .before .before .emit-bytes2 .ensures .1)) (c15 .good .1 .1 .1 .1 .0 .0) _ refl }
 
 new-offset-requires : tie.Need-new-offset-requires Inv-loop μ-loop
 new-offset-requires c κs = search needs
@@ -117,25 +126,49 @@ enum-known-n : tie.Need-enum-known-n Inv-loop μ-loop
 enum-known-n c = search needs
 
 add-to-2 : tie.Need-add-to-2 Inv-loop μ-loop
-add-to-2 c = record { fits = after-small _ _ _ (within-on _ _ _ (c .before .before .before .before .before .before .before .before .before .before .before .before .before .before .before .before .before .before .before .loop .inv .0) _ _ (copied-within _ _ _ _ (c .before .before .before .before .before .before .before .before .before .before .emit-bytes2 .ensures .0) (c .before .before .before .before .before .before .before .before .before .before .emit-bytes2 .ensures .1)) _ refl) _ _ (c .before .before .before .before .before .emit-offset .ensures .0) (c .before .before .before .before .before .before .before .before .before .before .before .before .before .before .before .before .before .before .before .before .before .before .before .good .1 .1 .1 .1 .0 .0) _ (c .before .n .given .1) }
+add-to-2 c =
+    let c10 = c .before .before .before .before .before .before .before .before .before .before in
+    let c19 = c10 .before .before .before .before .before .before .before .before .before in
+    let c23 = c19 .before .before .before .before in
+    record { fits = after-small _ _ _ (within-on _ _ _ (c19 .loop .inv .0) _ _ (copied-within _ _ _ _ (c10 .emit-bytes2 .ensures .0) (c10 .emit-bytes2 .ensures .1)) _ refl) _ _ (c .before .before .before .before .before .emit-offset .ensures .0) (c23 .good .1 .1 .1 .1 .0 .0) _ (c .before .n .given .1) }
 
 enum-known-n-2 : tie.Need-enum-known-n-2 Inv-loop μ-loop
 enum-known-n-2 c = search needs
 
 same-length-2 : tie.Need-same-length-2 Inv-loop μ-loop
-same-length-2 c = (within-stop _ _ _ (within-on _ _ _ (c .before .before .before .before .before .before .before .before .before .before .before .before .before .before .before .before .before .before .before .loop .inv .0) _ _ (copied-within _ _ _ _ (c .before .before .before .before .before .before .before .before .before .before .emit-bytes2 .ensures .0) (c .before .before .before .before .before .before .before .before .before .before .emit-bytes2 .ensures .1)) _ refl) _ _ (c .before .before .before .before .before .emit-offset .ensures .0) 0) .size
+same-length-2 c =
+    let c10 = c .before .before .before .before .before .before .before .before .before .before in
+    let c19 = c10 .before .before .before .before .before .before .before .before .before in
+    (within-stop _ _ _ (within-on _ _ _ (c19 .loop .inv .0) _ _ (copied-within _ _ _ _ (c10 .emit-bytes2 .ensures .0) (c10 .emit-bytes2 .ensures .1)) _ refl) _ _ (c .before .before .before .before .before .emit-offset .ensures .0) 0) .size
 
 returns-2 : tie.Need-returns-2 Inv-loop μ-loop
-returns-2 c = (within-stop _ _ _ (within-on _ _ _ (c .before .before .before .before .before .before .before .before .before .before .before .before .before .before .before .before .before .before .before .loop .inv .0) _ _ (copied-within _ _ _ _ (c .before .before .before .before .before .before .before .before .before .before .emit-bytes2 .ensures .0) (c .before .before .before .before .before .before .before .before .before .before .emit-bytes2 .ensures .1)) _ refl) _ _ (c .before .before .before .before .before .emit-offset .ensures .0) _, λ lists ps depth pieces l h p q. from-start (going-refused lists ps depth pieces _ _ _ _ _ _ _ _ (c .before .before .before .before .before .before .before .before .before .before .before .before .before .before .before .before .before .before .before .loop .inv .3 lists ps depth pieces l h p q) _ (c .before .before .before .before .before .before .before .before .before .before .before .before .before .before .before .before .before .before .next-reference .ensures) _ (c .before .before .before .before .before .before .before .before .before .before .before .before .before .before .before .before .r .given .1) _ _ (λ _ _. copied-on _ _ _ (c .before .before .before .before .before .before .before .before .before .before .before .before .before .before .before .before .before .before .before .loop .inv .0) _ _ _ (c .before .before .before .before .before .before .before .before .before .before .emit-bytes2 .ensures .0) (c .before .before .before .before .before .before .before .before .before .before .emit-bytes2 .ensures .1) _ (between-whole _ _ _)) _ (c .before .before .before .before .before .before .before .new-offset .ensures ∙ looked-held ps _ _ _ h p) _ _ (λ o v m w. emits-on _ _ _ (within-on _ _ _ (c .before .before .before .before .before .before .before .before .before .before .before .before .before .before .before .before .before .before .before .loop .inv .0) _ _ (copied-within _ _ _ _ (c .before .before .before .before .before .before .before .before .before .before .emit-bytes2 .ensures .0) (c .before .before .before .before .before .before .before .before .before .before .emit-bytes2 .ensures .1)) _ refl) (c .before .before .before .before .before .emit-offset .ensures .1 o v m w)) _ (onward-no _ _ _ (c .before .n2 .given .1))))
+returns-2 c =
+    let c7 = c .before .before .before .before .before .before .before in
+    let c10 = c7 .before .before .before in
+    let c16 = c10 .before .before .before .before .before .before in
+    let c18 = c16 .before .before in
+    let c19 = c18 .before in
+    (within-stop _ _ _ (within-on _ _ _ (c19 .loop .inv .0) _ _ (copied-within _ _ _ _ (c10 .emit-bytes2 .ensures .0) (c10 .emit-bytes2 .ensures .1)) _ refl) _ _ (c .before .before .before .before .before .emit-offset .ensures .0) _, λ lists ps depth pieces l h p q. from-start (going-refused lists ps depth pieces _ _ _ _ _ _ _ _ (c19 .loop .inv .3 lists ps depth pieces l h p q) _ (c18 .next-reference .ensures) _ (c16 .r .given .1) _ _ (λ _ _. copied-on _ _ _ (c19 .loop .inv .0) _ _ _ (c10 .emit-bytes2 .ensures .0) (c10 .emit-bytes2 .ensures .1) _ (between-whole _ _ _)) _ (c7 .new-offset .ensures ∙ looked-held ps _ _ _ h p) _ _ (λ o v m w. emits-on _ _ _ (within-on _ _ _ (c19 .loop .inv .0) _ _ (copied-within _ _ _ _ (c10 .emit-bytes2 .ensures .0) (c10 .emit-bytes2 .ensures .1)) _ refl) (c .before .before .before .before .before .emit-offset .ensures .1 o v m w)) _ (onward-no _ _ _ (c .before .n2 .given .1))))
 
 add-copied : tie.Need-add-copied Inv-loop μ-loop
-add-copied c = record { fits = next-small _ _ _ _ (c .before .before .before .before .before .before .before .before .before .before .before .before .before .before .before .before .before .before .before .next-reference .ensures) _ (c .before .before .before .before .before .before .before .before .before .before .before .before .before .before .before .before .before .r .given .1) (c .before .before .before .before .before .before .before .before .before .before .before .before .before .before .before .before .before .before .before .before .before .before .before .before .good .0 .0) }
+add-copied c =
+    let c17 = c .before .before .before .before .before .before .before .before .before .before .before .before .before .before .before .before .before in
+    let c19 = c17 .before .before in
+    let c24 = c19 .before .before .before .before .before in
+    record { fits = next-small _ _ _ _ (c19 .next-reference .ensures) _ (c17 .r .given .1) (c24 .good .0 .0) }
 
 loop-less : tie.Need-loop-less Inv-loop μ-loop
 loop-less c = search next-less
 
 loop-again : tie.Need-loop-again Inv-loop μ-loop
-loop-again c = (within-on _ _ _ (within-on _ _ _ (c .before .before .before .before .before .before .before .before .before .before .before .before .before .before .before .before .before .before .before .before .loop .inv .0) _ _ (copied-within _ _ _ _ (c .before .before .before .before .before .before .before .before .before .before .before .emit-bytes2 .ensures .0) (c .before .before .before .before .before .before .before .before .before .before .before .emit-bytes2 .ensures .1)) _ refl) _ _ (c .before .before .before .before .before .before .emit-offset .ensures .0) _ (c .before .before .n .given .1), (next-placed _ _ _ _ (c .before .before .before .before .before .before .before .before .before .before .before .before .before .before .before .before .before .before .before .next-reference .ensures) _ (c .before .before .before .before .before .before .before .before .before .before .before .before .before .before .before .before .before .r .given .1)) .1, (next-placed _ _ _ _ (c .before .before .before .before .before .before .before .before .before .before .before .before .before .before .before .before .before .before .before .next-reference .ensures) _ (c .before .before .before .before .before .before .before .before .before .before .before .before .before .before .before .before .before .r .given .1)) .2, λ lists ps depth pieces l h p q. going-on lists ps depth pieces _ _ _ _ _ _ _ _ (c .before .before .before .before .before .before .before .before .before .before .before .before .before .before .before .before .before .before .before .before .loop .inv .3 lists ps depth pieces l h p q) _ (c .before .before .before .before .before .before .before .before .before .before .before .before .before .before .before .before .before .before .before .next-reference .ensures) _ (c .before .before .before .before .before .before .before .before .before .before .before .before .before .before .before .before .before .r .given .1) _ _ (λ _ _. copied-on _ _ _ (c .before .before .before .before .before .before .before .before .before .before .before .before .before .before .before .before .before .before .before .before .loop .inv .0) _ _ _ (c .before .before .before .before .before .before .before .before .before .before .before .emit-bytes2 .ensures .0) (c .before .before .before .before .before .before .before .before .before .before .before .emit-bytes2 .ensures .1) _ (between-whole _ _ _)) _ (c .before .before .before .before .before .before .before .before .new-offset .ensures ∙ looked-held ps _ _ _ h p) _ _ (λ o v m w. emits-on _ _ _ (within-on _ _ _ (c .before .before .before .before .before .before .before .before .before .before .before .before .before .before .before .before .before .before .before .before .loop .inv .0) _ _ (copied-within _ _ _ _ (c .before .before .before .before .before .before .before .before .before .before .before .emit-bytes2 .ensures .0) (c .before .before .before .before .before .before .before .before .before .before .before .emit-bytes2 .ensures .1)) _ refl) (c .before .before .before .before .before .before .emit-offset .ensures .1 o v m w)) _ (onward-to _ _ _ (c .before .before .n .given .1)) _ (λ _. refl))
+loop-again c =
+    let c6 = c .before .before .before .before .before .before in
+    let c8 = c6 .before .before in
+    let c11 = c8 .before .before .before in
+    let c17 = c11 .before .before .before .before .before .before in
+    let c19 = c17 .before .before in
+    let c20 = c19 .before in
+    (within-on _ _ _ (within-on _ _ _ (c20 .loop .inv .0) _ _ (copied-within _ _ _ _ (c11 .emit-bytes2 .ensures .0) (c11 .emit-bytes2 .ensures .1)) _ refl) _ _ (c6 .emit-offset .ensures .0) _ (c .before .before .n .given .1), (next-placed _ _ _ _ (c19 .next-reference .ensures) _ (c17 .r .given .1)) .1, (next-placed _ _ _ _ (c19 .next-reference .ensures) _ (c17 .r .given .1)) .2, λ lists ps depth pieces l h p q. going-on lists ps depth pieces _ _ _ _ _ _ _ _ (c20 .loop .inv .3 lists ps depth pieces l h p q) _ (c19 .next-reference .ensures) _ (c17 .r .given .1) _ _ (λ _ _. copied-on _ _ _ (c20 .loop .inv .0) _ _ _ (c11 .emit-bytes2 .ensures .0) (c11 .emit-bytes2 .ensures .1) _ (between-whole _ _ _)) _ (c8 .new-offset .ensures ∙ looked-held ps _ _ _ h p) _ _ (λ o v m w. emits-on _ _ _ (within-on _ _ _ (c20 .loop .inv .0) _ _ (copied-within _ _ _ _ (c11 .emit-bytes2 .ensures .0) (c11 .emit-bytes2 .ensures .1)) _ refl) (c6 .emit-offset .ensures .1 o v m w)) _ (onward-to _ _ _ (c .before .before .n .given .1)) _ (λ _. refl))
 
 pub emit-expression-spec : {M : Type 1} → statement M
 emit-expression-spec =

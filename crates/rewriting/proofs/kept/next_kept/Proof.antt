@@ -45,30 +45,57 @@ after-terminator-requires c κs = search needs
 
 returns-3 : tie.Need-returns-3 Inv-loop μ-loop
 returns-3 c =
-    terminator-item _ _ _ _ _ _ _ (c .before .before .before .before .before .before .before .before .before .before .before .before .before .before .before .before .before .before .before .before .args .s) (stand (c .before .before .before .before .before .before .before .before .before .before .loop .at .at) (c .before .before .before .before .before .before .before .before .before .before .loop .count .0) (c .before .before .before .before .before .before .before .before .before .before .loop .nesting)) (c .before .before .before .before .before .before .before .before .before .before .loop .inv) _ (at-terminator _ _ _ _ _ _ _ (c .before .before .before .before .before .before .before .before .before .before .before .before .before .before .before .before .before .before .before .before .args .s) (stand (c .before .before .before .before .before .before .before .before .before .before .loop .at .at) (c .before .before .before .before .before .before .before .before .before .before .loop .count .0) (c .before .before .before .before .before .before .before .before .before .before .loop .nesting)) (c .before .before .before .before .before .before .before .before .before .before .loop .inv) (c .before .before .before .before .before .before .before .before .if1 .left) _ (c .before .before .before .before .before .before .before .uleb .ensures) _ _ (c .before .before .before .before .before .code .given .1) (c .before .before .before .if2 .taken)) _ (c .before .after-terminator .ensures) (sym (c .before .before .closes-kept .ensures) ∙ c .if3 .taken)
+    let c7 = c .before .before .before .before .before .before .before in
+    let c8 = c7 .before in
+    let c10 = c8 .before .before in
+    let c20 = c10 .before .before .before .before .before .before .before .before .before .before in
+    terminator-item _ _ _ _ _ _ _ (c20 .args .s) (stand (c10 .loop .at .at) (c10 .loop .count .0) (c10 .loop .nesting)) (c10 .loop .inv) _ (at-terminator _ _ _ _ _ _ _ (c20 .args .s) (stand (c10 .loop .at .at) (c10 .loop .count .0) (c10 .loop .nesting)) (c10 .loop .inv) (c8 .if1 .left) _ (c7 .uleb .ensures) _ _ (c .before .before .before .before .before .code .given .1) (c .before .before .before .if2 .taken)) _ (c .before .after-terminator .ensures) (sym (c .before .before .closes-kept .ensures) ∙ c .if3 .taken)
 
 loop-less : tie.Need-loop-less Inv-loop μ-loop
 loop-less c =
-    terminator-less _ _ _ _ _ _ _ (c .before .before .before .before .before .before .before .before .before .before .before .before .before .before .before .before .before .before .before .before .args .s) (stand (c .before .before .before .before .before .before .before .before .before .before .loop .at .at) (c .before .before .before .before .before .before .before .before .before .before .loop .count .0) (c .before .before .before .before .before .before .before .before .before .before .loop .nesting)) (c .before .before .before .before .before .before .before .before .before .before .loop .inv) _ (at-terminator _ _ _ _ _ _ _ (c .before .before .before .before .before .before .before .before .before .before .before .before .before .before .before .before .before .before .before .before .args .s) (stand (c .before .before .before .before .before .before .before .before .before .before .loop .at .at) (c .before .before .before .before .before .before .before .before .before .before .loop .count .0) (c .before .before .before .before .before .before .before .before .before .before .loop .nesting)) (c .before .before .before .before .before .before .before .before .before .before .loop .inv) (c .before .before .before .before .before .before .before .before .if1 .left) _ (c .before .before .before .before .before .before .before .uleb .ensures) _ _ (c .before .before .before .before .before .code .given .1) (c .before .before .before .if2 .taken))
+    let c7 = c .before .before .before .before .before .before .before in
+    let c8 = c7 .before in
+    let c10 = c8 .before .before in
+    let c20 = c10 .before .before .before .before .before .before .before .before .before .before in
+    terminator-less _ _ _ _ _ _ _ (c20 .args .s) (stand (c10 .loop .at .at) (c10 .loop .count .0) (c10 .loop .nesting)) (c10 .loop .inv) _ (at-terminator _ _ _ _ _ _ _ (c20 .args .s) (stand (c10 .loop .at .at) (c10 .loop .count .0) (c10 .loop .nesting)) (c10 .loop .inv) (c8 .if1 .left) _ (c7 .uleb .ensures) _ _ (c .before .before .before .before .before .code .given .1) (c .before .before .before .if2 .taken))
 
 loop-again : tie.Need-loop-again Inv-loop μ-loop
 loop-again c =
-    terminator-on _ _ _ _ _ _ _ (c .before .before .before .before .before .before .before .before .before .before .before .before .before .before .before .before .before .before .before .before .args .s) (stand (c .before .before .before .before .before .before .before .before .before .before .loop .at .at) (c .before .before .before .before .before .before .before .before .before .before .loop .count .0) (c .before .before .before .before .before .before .before .before .before .before .loop .nesting)) (c .before .before .before .before .before .before .before .before .before .before .loop .inv) _ (at-terminator _ _ _ _ _ _ _ (c .before .before .before .before .before .before .before .before .before .before .before .before .before .before .before .before .before .before .before .before .args .s) (stand (c .before .before .before .before .before .before .before .before .before .before .loop .at .at) (c .before .before .before .before .before .before .before .before .before .before .loop .count .0) (c .before .before .before .before .before .before .before .before .before .before .loop .nesting)) (c .before .before .before .before .before .before .before .before .before .before .loop .inv) (c .before .before .before .before .before .before .before .before .if1 .left) _ (c .before .before .before .before .before .before .before .uleb .ensures) _ _ (c .before .before .before .before .before .code .given .1) (c .before .before .before .if2 .taken)) _ (c .before .after-terminator .ensures) (sym (c .before .before .closes-kept .ensures) ∙ c .if3 .left)
+    let c7 = c .before .before .before .before .before .before .before in
+    let c8 = c7 .before in
+    let c10 = c8 .before .before in
+    let c20 = c10 .before .before .before .before .before .before .before .before .before .before in
+    terminator-on _ _ _ _ _ _ _ (c20 .args .s) (stand (c10 .loop .at .at) (c10 .loop .count .0) (c10 .loop .nesting)) (c10 .loop .inv) _ (at-terminator _ _ _ _ _ _ _ (c20 .args .s) (stand (c10 .loop .at .at) (c10 .loop .count .0) (c10 .loop .nesting)) (c10 .loop .inv) (c8 .if1 .left) _ (c7 .uleb .ensures) _ _ (c .before .before .before .before .before .code .given .1) (c .before .before .before .if2 .taken)) _ (c .before .after-terminator .ensures) (sym (c .before .before .closes-kept .ensures) ∙ c .if3 .left)
 
 returns-4 : tie.Need-returns-4 Inv-loop μ-loop
 returns-4 c =
-    stop-over _ _ _ _ _ _ _ (c .before .before .before .before .before .before .before .before .before .before .before .before .before .before .before .before .before .before .before .args .s) (stand (c .before .before .before .before .before .before .before .before .before .loop .at .at) (c .before .before .before .before .before .before .before .before .before .loop .count .0) (c .before .before .before .before .before .before .before .before .before .loop .nesting)) (c .before .before .before .before .before .before .before .before .before .loop .inv) (c .before .before .before .before .before .before .before .if1 .left) _ (c .before .before .before .before .before .before .uleb .ensures) _ _ (c .before .before .before .before .code .given .1) (c .before .before .if2 .left) (c .if4 .taken)
+    let c6 = c .before .before .before .before .before .before in
+    let c7 = c6 .before in
+    let c9 = c7 .before .before in
+    let c19 = c9 .before .before .before .before .before .before .before .before .before .before in
+    stop-over _ _ _ _ _ _ _ (c19 .args .s) (stand (c9 .loop .at .at) (c9 .loop .count .0) (c9 .loop .nesting)) (c9 .loop .inv) (c7 .if1 .left) _ (c6 .uleb .ensures) _ _ (c .before .before .before .before .code .given .1) (c .before .before .if2 .left) (c .if4 .taken)
 
 end-at-requires : tie.Need-end-at-requires Inv-loop μ-loop
 end-at-requires c κs = search needs
 
 returns-5 : tie.Need-returns-5 Inv-loop μ-loop
 returns-5 c =
-    stop-low _ _ _ _ _ _ _ (c .before .before .before .before .before .before .before .before .before .before .before .before .before .before .before .before .before .before .before .before .before .before .args .s) (stand (c .before .before .before .before .before .before .before .before .before .before .before .before .loop .at .at) (c .before .before .before .before .before .before .before .before .before .before .before .before .loop .count .0) (c .before .before .before .before .before .before .before .before .before .before .before .before .loop .nesting)) (c .before .before .before .before .before .before .before .before .before .before .before .before .loop .inv) (c .before .before .before .before .before .before .before .before .before .before .if1 .left) _ (c .before .before .before .before .before .before .before .before .before .uleb .ensures) _ _ (c .before .before .before .before .before .before .before .code .given .1) (c .before .before .before .before .before .if2 .left) _ (c .before .before .end-at .ensures) (c .if5 .taken)
+    let c7 = c .before .before .before .before .before .before .before in
+    let c9 = c7 .before .before in
+    let c10 = c9 .before in
+    let c12 = c10 .before .before in
+    let c22 = c12 .before .before .before .before .before .before .before .before .before .before in
+    stop-low _ _ _ _ _ _ _ (c22 .args .s) (stand (c12 .loop .at .at) (c12 .loop .count .0) (c12 .loop .nesting)) (c12 .loop .inv) (c10 .if1 .left) _ (c9 .uleb .ensures) _ _ (c7 .code .given .1) (c .before .before .before .before .before .if2 .left) _ (c .before .before .end-at .ensures) (c .if5 .taken)
 
 returns-6 : tie.Need-returns-6 Inv-loop μ-loop
 returns-6 c =
-    stop-high _ _ _ _ _ _ _ (c .before .before .before .before .before .before .before .before .before .before .before .before .before .before .before .before .before .before .before .before .before .before .before .args .s) (stand (c .before .before .before .before .before .before .before .before .before .before .before .before .before .loop .at .at) (c .before .before .before .before .before .before .before .before .before .before .before .before .before .loop .count .0) (c .before .before .before .before .before .before .before .before .before .before .before .before .before .loop .nesting)) (c .before .before .before .before .before .before .before .before .before .before .before .before .before .loop .inv) (c .before .before .before .before .before .before .before .before .before .before .before .if1 .left) _ (c .before .before .before .before .before .before .before .before .before .before .uleb .ensures) _ _ (c .before .before .before .before .before .before .before .before .code .given .1) (c .before .before .before .before .before .before .if2 .left) _ (c .before .before .before .end-at .ensures) (c .if6 .taken)
+    let c6 = c .before .before .before .before .before .before in
+    let c8 = c6 .before .before in
+    let c10 = c8 .before .before in
+    let c11 = c10 .before in
+    let c13 = c11 .before .before in
+    let c23 = c13 .before .before .before .before .before .before .before .before .before .before in
+    stop-high _ _ _ _ _ _ _ (c23 .args .s) (stand (c13 .loop .at .at) (c13 .loop .count .0) (c13 .loop .nesting)) (c13 .loop .inv) (c11 .if1 .left) _ (c10 .uleb .ensures) _ _ (c8 .code .given .1) (c6 .if2 .left) _ (c .before .before .before .end-at .ensures) (c .if6 .taken)
 
 is-kept-requires : tie.Need-is-kept-requires Inv-loop μ-loop
 is-kept-requires c κs = search needs
@@ -90,19 +117,50 @@ enum-told-2 c = search needs
 
 returns-7 : tie.Need-returns-7 Inv-loop μ-loop
 returns-7 c =
-    stop-unknown _ _ _ _ _ _ _ (c .before .before .before .before .before .before .before .before .before .before .before .before .before .before .before .before .before .before .before .before .before .before .before .before .before .before .before .before .before .before .args .s) (stand (c .before .before .before .before .before .before .before .before .before .before .before .before .before .before .before .before .before .before .before .before .loop .at .at) (c .before .before .before .before .before .before .before .before .before .before .before .before .before .before .before .before .before .before .before .before .loop .count .0) (c .before .before .before .before .before .before .before .before .before .before .before .before .before .before .before .before .before .before .before .before .loop .nesting)) (c .before .before .before .before .before .before .before .before .before .before .before .before .before .before .before .before .before .before .before .before .loop .inv) (c .before .before .before .before .before .before .before .before .before .before .before .before .before .before .before .before .before .before .if1 .left) _ (c .before .before .before .before .before .before .before .before .before .before .before .before .before .before .before .before .before .uleb .ensures) _ _ (c .before .before .before .before .before .before .before .before .before .before .before .before .before .before .before .code .given .1) (c .before .before .before .before .before .before .before .before .before .before .before .before .before .if2 .left) _ (found-at _ _ _ _ _ (c .before .before .find-declaration .ensures)) (c .enum-told2 .given .1)
+    let c13 = c .before .before .before .before .before .before .before .before .before .before .before .before .before in
+    let c15 = c13 .before .before in
+    let c17 = c15 .before .before in
+    let c18 = c17 .before in
+    let c20 = c18 .before .before in
+    let c30 = c20 .before .before .before .before .before .before .before .before .before .before in
+    stop-unknown _ _ _ _ _ _ _ (c30 .args .s) (stand (c20 .loop .at .at) (c20 .loop .count .0) (c20 .loop .nesting)) (c20 .loop .inv) (c18 .if1 .left) _ (c17 .uleb .ensures) _ _ (c15 .code .given .1) (c13 .if2 .left) _ (found-at _ _ _ _ _ (c .before .before .find-declaration .ensures)) (c .enum-told2 .given .1)
 
 returns-8 : tie.Need-returns-8 Inv-loop μ-loop
 returns-8 c =
-    ends-item _ _ _ _ _ _ _ (c .before .before .before .before .before .before .before .before .before .before .before .before .before .before .before .before .before .before .before .before .before .before .before .before .before .before .before .before .before .before .before .before .args .s) (stand (c .before .before .before .before .before .before .before .before .before .before .before .before .before .before .before .before .before .before .before .before .before .before .loop .at .at) (c .before .before .before .before .before .before .before .before .before .before .before .before .before .before .before .before .before .before .before .before .before .before .loop .count .0) (c .before .before .before .before .before .before .before .before .before .before .before .before .before .before .before .before .before .before .before .before .before .before .loop .nesting)) (c .before .before .before .before .before .before .before .before .before .before .before .before .before .before .before .before .before .before .before .before .before .before .loop .inv) (c .before .before .before .before .before .before .before .before .before .before .before .before .before .before .before .before .before .before .before .before .if1 .left) _ (c .before .before .before .before .before .before .before .before .before .before .before .before .before .before .before .before .before .before .before .uleb .ensures) _ _ (c .before .before .before .before .before .before .before .before .before .before .before .before .before .before .before .before .before .code .given .1) (c .before .before .before .before .before .before .before .before .before .before .before .before .before .before .before .if2 .left) _ (c .before .before .before .before .before .before .before .before .before .before .before .before .end-at .ensures) (c .before .before .before .before .before .before .before .before .before .before .if5 .left) (c .before .before .before .before .before .before .before .before .before .if6 .left) _ (c .before .before .before .before .before .before .before .after-entry .ensures) _ (found-at _ _ _ _ _ (c .before .before .before .before .find-declaration .ensures)) _ (c .before .before .d .given .1) (sym (c .before .before .before .before .before .before .before .before .is-kept .ensures) ∙ c .before .before .before .before .before .if7 .taken)
+    let c7 = c .before .before .before .before .before .before .before in
+    let c8 = c7 .before in
+    let c9 = c8 .before in
+    let c10 = c9 .before in
+    let c12 = c10 .before .before in
+    let c15 = c12 .before .before .before in
+    let c17 = c15 .before .before in
+    let c19 = c17 .before .before in
+    let c20 = c19 .before in
+    let c22 = c20 .before .before in
+    let c32 = c22 .before .before .before .before .before .before .before .before .before .before in
+    ends-item _ _ _ _ _ _ _ (c32 .args .s) (stand (c22 .loop .at .at) (c22 .loop .count .0) (c22 .loop .nesting)) (c22 .loop .inv) (c20 .if1 .left) _ (c19 .uleb .ensures) _ _ (c17 .code .given .1) (c15 .if2 .left) _ (c12 .end-at .ensures) (c10 .if5 .left) (c9 .if6 .left) _ (c7 .after-entry .ensures) _ (found-at _ _ _ _ _ (c .before .before .before .before .find-declaration .ensures)) _ (c .before .before .d .given .1) (sym (c8 .is-kept .ensures) ∙ c .before .before .before .before .before .if7 .taken)
 
 loop-less-2 : tie.Need-loop-less-2 Inv-loop μ-loop
 loop-less-2 c =
-    ends-less _ _ _ _ _ _ _ (c .before .before .before .before .before .before .before .before .before .before .before .before .before .before .before .before .before .before .before .before .before .before .before .before .before .before .before .args .s) (stand (c .before .before .before .before .before .before .before .before .before .before .before .before .before .before .before .before .before .loop .at .at) (c .before .before .before .before .before .before .before .before .before .before .before .before .before .before .before .before .before .loop .count .0) (c .before .before .before .before .before .before .before .before .before .before .before .before .before .before .before .before .before .loop .nesting)) (c .before .before .before .before .before .before .before .before .before .before .before .before .before .before .before .before .before .loop .inv) (c .before .before .before .before .before .before .before .before .before .before .before .before .before .before .before .if1 .left) _ (c .before .before .before .before .before .before .before .before .before .before .before .before .before .before .uleb .ensures) _ _ (c .before .before .before .before .before .before .before .before .before .before .before .before .code .given .1) (c .before .before .before .before .before .before .before .before .before .before .if2 .left) _ (c .before .before .before .before .before .before .before .end-at .ensures) (c .before .before .before .before .before .if5 .left) (c .before .before .before .before .if6 .left)
+    let c7 = c .before .before .before .before .before .before .before in
+    let c10 = c7 .before .before .before in
+    let c12 = c10 .before .before in
+    let c14 = c12 .before .before in
+    let c15 = c14 .before in
+    let c17 = c15 .before .before in
+    let c27 = c17 .before .before .before .before .before .before .before .before .before .before in
+    ends-less _ _ _ _ _ _ _ (c27 .args .s) (stand (c17 .loop .at .at) (c17 .loop .count .0) (c17 .loop .nesting)) (c17 .loop .inv) (c15 .if1 .left) _ (c14 .uleb .ensures) _ _ (c12 .code .given .1) (c10 .if2 .left) _ (c7 .end-at .ensures) (c .before .before .before .before .before .if5 .left) (c .before .before .before .before .if6 .left)
 
 loop-again-2 : tie.Need-loop-again-2 Inv-loop μ-loop
 loop-again-2 c =
-    ends-on _ _ _ _ _ _ _ (c .before .before .before .before .before .before .before .before .before .before .before .before .before .before .before .before .before .before .before .before .before .before .before .before .before .before .before .args .s) (stand (c .before .before .before .before .before .before .before .before .before .before .before .before .before .before .before .before .before .loop .at .at) (c .before .before .before .before .before .before .before .before .before .before .before .before .before .before .before .before .before .loop .count .0) (c .before .before .before .before .before .before .before .before .before .before .before .before .before .before .before .before .before .loop .nesting)) (c .before .before .before .before .before .before .before .before .before .before .before .before .before .before .before .before .before .loop .inv) (c .before .before .before .before .before .before .before .before .before .before .before .before .before .before .before .if1 .left) _ (c .before .before .before .before .before .before .before .before .before .before .before .before .before .before .uleb .ensures) _ _ (c .before .before .before .before .before .before .before .before .before .before .before .before .code .given .1) (c .before .before .before .before .before .before .before .before .before .before .if2 .left) _ (c .before .before .before .before .before .before .before .end-at .ensures) (c .before .before .before .before .before .if5 .left) (c .before .before .before .before .if6 .left) _ (c .before .before .after-entry .ensures) (sym (c .before .before .before .is-kept .ensures) ∙ c .if7 .left)
+    let c7 = c .before .before .before .before .before .before .before in
+    let c10 = c7 .before .before .before in
+    let c12 = c10 .before .before in
+    let c14 = c12 .before .before in
+    let c15 = c14 .before in
+    let c17 = c15 .before .before in
+    let c27 = c17 .before .before .before .before .before .before .before .before .before .before in
+    ends-on _ _ _ _ _ _ _ (c27 .args .s) (stand (c17 .loop .at .at) (c17 .loop .count .0) (c17 .loop .nesting)) (c17 .loop .inv) (c15 .if1 .left) _ (c14 .uleb .ensures) _ _ (c12 .code .given .1) (c10 .if2 .left) _ (c7 .end-at .ensures) (c .before .before .before .before .before .if5 .left) (c .before .before .before .before .if6 .left) _ (c .before .before .after-entry .ensures) (sym (c .before .before .before .is-kept .ensures) ∙ c .if7 .left)
 
 pub next-kept-spec : {M : Type 1} → statement M
 next-kept-spec =

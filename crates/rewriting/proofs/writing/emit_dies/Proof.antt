@@ -67,13 +67,21 @@ enum-known-n : tie.Need-enum-known-n Inv-loop μ-loop
 enum-known-n c = search needs
 
 add-to : tie.Need-add-to Inv-loop μ-loop
-add-to c = record { fits = after-small _ _ _ (c .before .before .before .before .before .before .before .before .before .before .before .before .before .before .before .loop .inv .0) _ _ (c .before .before .before .before .before .emit-entry .ensures .0) (c .before .before .before .before .before .before .before .before .before .before .before .before .before .before .before .before .before .before .before .before .before .before .before .before .before .before .before .before .before .good .1 .1 .1 .1 .1 .1 .1 .1 .1 .1 .1 .1 .1 .1 .1 .1 .1 .0 .0) _ (c .before .n .given .1) }
+add-to c =
+    let c15 = c .before .before .before .before .before .before .before .before .before .before .before .before .before .before .before in
+    let c29 = c15 .before .before .before .before .before .before .before .before .before .before .before .before .before .before in
+    record { fits = after-small _ _ _ (c15 .loop .inv .0) _ _ (c .before .before .before .before .before .emit-entry .ensures .0) (c29 .good .1 .1 .1 .1 .1 .1 .1 .1 .1 .1 .1 .1 .1 .1 .1 .1 .1 .0 .0) _ (c .before .n .given .1) }
 
 loop-less : tie.Need-loop-less Inv-loop μ-loop
 loop-less c = search next-less
 
 loop-again : tie.Need-loop-again Inv-loop μ-loop
-loop-again c = (within-on _ _ _ (c .before .before .before .before .before .before .before .before .before .before .before .before .before .before .before .loop .inv .0) _ _ (c .before .before .before .before .before .emit-entry .ensures .0) _ (c .before .n .given .1), λ x u lists ps p q l h k b g. writing-entry _ _ _ _ _ _ _ _ x u lists ps p l _ _ _ _ (c .before .before .before .before .before .before .before .before .before .before .before .before .before .before .before .loop .inv .1 x u lists ps p q l h k b g) _ (c .before .before .before .before .before .before .before .before .before .before .before .before .before .before .next-kept .ensures) (c .before .before .before .before .before .before .before .before .before .before .before .before .x .given .0 .0) (c .before .before .before .before .before .before .before .before .before .before .before .before .x .given .1) (c .before .before .before .before .before .before .before .if1 .taken) _ _ (λ look z rs rest s t v d. emits-on _ _ _ (c .before .before .before .before .before .before .before .before .before .before .before .before .before .before .before .loop .inv .0) (c .before .before .before .before .before .emit-entry .ensures .1 lists ps look z rs rest l h k b g s t v d)) _ (onward-to _ _ _ (c .before .n .given .1)))
+loop-again c =
+    let c7 = c .before .before .before .before .before .before .before in
+    let c12 = c7 .before .before .before .before .before in
+    let c14 = c12 .before .before in
+    let c15 = c14 .before in
+    (within-on _ _ _ (c15 .loop .inv .0) _ _ (c .before .before .before .before .before .emit-entry .ensures .0) _ (c .before .n .given .1), λ x u lists ps p q l h k b g. writing-entry _ _ _ _ _ _ _ _ x u lists ps p l _ _ _ _ (c15 .loop .inv .1 x u lists ps p q l h k b g) _ (c14 .next-kept .ensures) (c12 .x .given .0 .0) (c12 .x .given .1) (c7 .if1 .taken) _ _ (λ look z rs rest s t v d. emits-on _ _ _ (c15 .loop .inv .0) (c .before .before .before .before .before .emit-entry .ensures .1 lists ps look z rs rest l h k b g s t v d)) _ (onward-to _ _ _ (c .before .n .given .1)))
 
 enum-known-n-2 : tie.Need-enum-known-n-2 Inv-loop μ-loop
 enum-known-n-2 c = search needs
@@ -82,7 +90,12 @@ same-length-2 : tie.Need-same-length-2 Inv-loop μ-loop
 same-length-2 c = (within-stop _ _ _ (c .before .before .before .before .before .before .before .before .before .before .before .before .before .before .before .loop .inv .0) _ _ (c .before .before .before .before .before .emit-entry .ensures .0) 0) .size
 
 returns-2 : tie.Need-returns-2 Inv-loop μ-loop
-returns-2 c = (within-stop _ _ _ (c .before .before .before .before .before .before .before .before .before .before .before .before .before .before .before .loop .inv .0) _ _ (c .before .before .before .before .before .emit-entry .ensures .0) _, λ x u lists ps p q l h k b g. from-start (writing-refused _ _ _ _ _ _ _ _ x u lists ps p l _ _ _ _ (c .before .before .before .before .before .before .before .before .before .before .before .before .before .before .before .loop .inv .1 x u lists ps p q l h k b g) _ (c .before .before .before .before .before .before .before .before .before .before .before .before .before .before .next-kept .ensures) (c .before .before .before .before .before .before .before .before .before .before .before .before .x .given .0 .0) (c .before .before .before .before .before .before .before .before .before .before .before .before .x .given .1) (c .before .before .before .before .before .before .before .if1 .taken) _ _ (λ look z rs rest s t v d. emits-on _ _ _ (c .before .before .before .before .before .before .before .before .before .before .before .before .before .before .before .loop .inv .0) (c .before .before .before .before .before .emit-entry .ensures .1 lists ps look z rs rest l h k b g s t v d)) _ (onward-no _ _ _ (c .before .n2 .given .1))))
+returns-2 c =
+    let c7 = c .before .before .before .before .before .before .before in
+    let c12 = c7 .before .before .before .before .before in
+    let c14 = c12 .before .before in
+    let c15 = c14 .before in
+    (within-stop _ _ _ (c15 .loop .inv .0) _ _ (c .before .before .before .before .before .emit-entry .ensures .0) _, λ x u lists ps p q l h k b g. from-start (writing-refused _ _ _ _ _ _ _ _ x u lists ps p l _ _ _ _ (c15 .loop .inv .1 x u lists ps p q l h k b g) _ (c14 .next-kept .ensures) (c12 .x .given .0 .0) (c12 .x .given .1) (c7 .if1 .taken) _ _ (λ look z rs rest s t v d. emits-on _ _ _ (c15 .loop .inv .0) (c .before .before .before .before .before .emit-entry .ensures .1 lists ps look z rs rest l h k b g s t v d)) _ (onward-no _ _ _ (c .before .n2 .given .1))))
 
 bytes-between-requires : tie.Need-bytes-between-requires Inv-loop μ-loop
 bytes-between-requires c κs = search needs
@@ -100,13 +113,20 @@ emit-bytes-requires : tie.Need-emit-bytes-requires Inv-loop μ-loop
 emit-bytes-requires c κs = search needs
 
 add-to-2 : tie.Need-add-to-2 Inv-loop μ-loop
-add-to-2 c = record { fits = after-small _ _ _ (c .before .before .before .before .before .before .before .before .before .before .before .before .before .loop .inv .0) _ _ (copied-within _ _ _ _ (c .before .before .emit-bytes .ensures .0) (c .before .before .emit-bytes .ensures .1)) (c .before .before .before .before .before .before .before .before .before .before .before .before .before .before .before .before .before .before .before .before .before .before .before .before .before .before .before .good .1 .1 .1 .1 .1 .1 .1 .1 .1 .1 .1 .1 .1 .1 .1 .1 .1 .0 .0) _ refl }
+add-to-2 c =
+    let c13 = c .before .before .before .before .before .before .before .before .before .before .before .before .before in
+    let c27 = c13 .before .before .before .before .before .before .before .before .before .before .before .before .before .before in
+    record { fits = after-small _ _ _ (c13 .loop .inv .0) _ _ (copied-within _ _ _ _ (c .before .before .emit-bytes .ensures .0) (c .before .before .emit-bytes .ensures .1)) (c27 .good .1 .1 .1 .1 .1 .1 .1 .1 .1 .1 .1 .1 .1 .1 .1 .1 .1 .0 .0) _ refl }
 
 loop-less-2 : tie.Need-loop-less-2 Inv-loop μ-loop
 loop-less-2 c = search next-less
 
 loop-again-2 : tie.Need-loop-again-2 Inv-loop μ-loop
-loop-again-2 c = (within-on _ _ _ (c .before .before .before .before .before .before .before .before .before .before .before .before .before .loop .inv .0) _ _ (copied-within _ _ _ _ (c .before .before .emit-bytes .ensures .0) (c .before .before .emit-bytes .ensures .1)) _ refl, λ x u lists ps p q l h k b g. writing-terminator _ _ _ _ _ _ _ _ x u lists ps p l _ _ _ _ (c .before .before .before .before .before .before .before .before .before .before .before .before .before .loop .inv .1 x u lists ps p q l h k b g) _ (c .before .before .before .before .before .before .before .before .before .before .before .before .next-kept .ensures) (c .before .before .before .before .before .before .before .before .before .before .x .given .0 .0) (c .before .before .before .before .before .before .before .before .before .before .x .given .1) (c .before .before .before .before .before .if1 .left) _ _ (λ _ _. copied-on _ _ _ (c .before .before .before .before .before .before .before .before .before .before .before .before .before .loop .inv .0) _ _ _ (c .before .before .emit-bytes .ensures .0) (c .before .before .emit-bytes .ensures .1) _ (c .before .before .before .before .bytes-between .ensures)))
+loop-again-2 c =
+    let c10 = c .before .before .before .before .before .before .before .before .before .before in
+    let c12 = c10 .before .before in
+    let c13 = c12 .before in
+    (within-on _ _ _ (c13 .loop .inv .0) _ _ (copied-within _ _ _ _ (c .before .before .emit-bytes .ensures .0) (c .before .before .emit-bytes .ensures .1)) _ refl, λ x u lists ps p q l h k b g. writing-terminator _ _ _ _ _ _ _ _ x u lists ps p l _ _ _ _ (c13 .loop .inv .1 x u lists ps p q l h k b g) _ (c12 .next-kept .ensures) (c10 .x .given .0 .0) (c10 .x .given .1) (c .before .before .before .before .before .if1 .left) _ _ (λ _ _. copied-on _ _ _ (c13 .loop .inv .0) _ _ _ (c .before .before .emit-bytes .ensures .0) (c .before .before .emit-bytes .ensures .1) _ (c .before .before .before .before .bytes-between .ensures)))
 
 pub emit-dies-spec : {M : Type 1} → statement M
 emit-dies-spec =
