@@ -13,7 +13,7 @@ use Rattle.readers.specs.Choice.{pick, check, bind, _or_}
 use Rattle.readers.proofs.Choice.{check-yes, bind-at, bind-none, All, all-some, all-of, all-check, all-bind}
 use Rattle.readers.specs.Numbers.{Groups, uleb}
 use Rattle.readers.specs.Layout.{fixed, Token, nothing, number, bounded, forms, signed, link, string, run, block, expression, unknown, Layout, done, fail, field, Piece, verbatim, Read, ReadOf, RunOf, ExpressionReader, asBytes, asExpression, tokenIn, readIn, before, bytesOf, pieceBytes}
-use Rattle.readers.proofs.Layouts.{LebLaw, uleb-law, bytes-append}
+use Rattle.readers.proofs.LayoutLaws.{LebLaw, uleb-law, bytes-append}
 use Rattle.readers.specs.Tokens.{tokenOf, numberAs}
 use Rattle.readers.specs.Operations.{rows, unreadableRow, rowOf, rowLayout, operation, operationRow}
 use Rattle.readers.specs.Fields.{size, fieldOf}

@@ -11,7 +11,7 @@ use Rattle.readers.specs.Choice.{bind}
 use Rattle.readers.proofs.Choice.{bind-at, bind-cong, check-cong, All, all-some, all-none, all-bind, all-both, all-map, all-triv, took-length}
 use Rattle.readers.specs.Numbers.{uleb}
 use Rattle.readers.specs.Layout.{fixed, width, Encoded, infixed, inleb, Token, nothing, number, bounded, forms, signed, link, string, run, block, expression, unknown, Layout, done, fail, field, Piece, Read, ReadOf, ExpressionReader, numberIn, asNumber, copy, asExpression, tokenIn, readIn, before, bytesOf, pieceBytes, writeAll, Patch, patchPieces, patchRead, patchAll}
-use Rattle.readers.proofs.Layouts.{kindOf, NumberLaw, number-law, LebLaw, uleb-law, TokenLaw, token-law, ReadLaw, read-law, FitPieces, FitAll, WholeLaw, ExpressionLaw, bytes-append, patch-append, fit-append, same-size}
+use Rattle.readers.proofs.LayoutLaws.{kindOf, NumberLaw, number-law, LebLaw, uleb-law, TokenLaw, token-law, ReadLaw, read-law, FitPieces, FitAll, WholeLaw, ExpressionLaw, bytes-append, patch-append, fit-append, same-size}
 use Rattle.readers.specs.Operations.{operation}
 use Rattle.readers.specs.declared.cursor.Encoding.{Encoding}
 use Rattle.readers.specs.Expression.{allPieces, andRest, big, expressionIn, expressionWithin}

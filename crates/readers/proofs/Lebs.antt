@@ -19,7 +19,7 @@ use Rattle.readers.proofs.Choice.{pick-yes, pick-no, check-yes, check-n
 use Rattle.readers.specs.Numbers.{Groups as Read, groups, below, uleb, unsigned64, sleb, signed64, negative}
 use Rattle.readers.proofs.Numbers.{GroupsLaw, groups-law, ExactGroups, groups-exact}
 use Rattle.readers.specs.Layout.{short, within16, formsIn, afterForm}
-use Rattle.readers.proofs.Layouts.{LebLaw, uleb-law, sleb-law, short-law, forms-step, FormsLaw, forms-law}
+use Rattle.readers.proofs.LayoutLaws.{LebLaw, uleb-law, sleb-law, short-law, forms-step, FormsLaw, forms-law}
 use Rattle.readers.specs.Cursors.{cursor, groupsAt, asGroups, lebAt, asLebNumber, formsAt, asFormNumber}
 use Rattle.readers.specs.declared.cursor.Cursor.{Cursor}
 use Rattle.readers.specs.declared.cursor.Groups.{Groups}

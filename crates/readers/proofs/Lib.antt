@@ -24,6 +24,6 @@ pub mod Answers
 pub mod Choice
 pub mod Examples
 pub mod Expression
-pub mod Layouts
 pub mod Numbers
 pub mod Scan
+pub mod LayoutLaws

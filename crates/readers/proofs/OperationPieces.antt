@@ -12,7 +12,7 @@ use Rattle.readers.specs.Choice.{pick, bind, _and_, _or_}
 use Rattle.readers.proofs.Choice.{pick-either, either, All, all-some, all-none, all-check, all-bind, all-triv}
 use Rattle.readers.specs.Numbers.{uleb, sleb}
 use Rattle.readers.specs.Layout.{fixed, leb128, Kind, Encoded, infixed, inleb, Role, reference, typeReference, sibling, index, absolute, Token, nothing, number, bounded, forms, signed, link, string, run, block, expression, unknown, Piece, verbatim, patchable, ReadOf, asBytes, width, numberIn, formsIn, stringIn, asNumber, asBounded, asForms, asSigned, asLink, asString, asBlock, asExpression, copy, tokenIn, bytesOf, pieceBytes, numberBytes}
-use Rattle.readers.proofs.Layouts.{kindOf, NumberLaw, number-law, length-number}
+use Rattle.readers.proofs.LayoutLaws.{kindOf, NumberLaw, number-law, length-number}
 use Rattle.readers.specs.Tokens.{numberAs, tokenOf}
 use Rattle.readers.specs.Operations.{rows, unreadableRow, rowOf, Codes, operations, rowAmong, operationRow}
 use Rattle.readers.specs.Fields.{size, fieldOf, linkedValue}

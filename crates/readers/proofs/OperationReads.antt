@@ -13,7 +13,7 @@ use Rattle.readers.specs.Choice.{check, bind}
 use Rattle.readers.proofs.Choice.{bind-at, bind-none, All, all-some, all-none, all-of, all-check, all-bind, all-triv, Took, took-add, took-length}
 use Rattle.readers.specs.Numbers.{Groups, uleb, sleb, fixedValue}
 use Rattle.readers.specs.Layout.{fixed, infixed, Token, nothing, number, bounded, forms, signed, link, string, run, block, expression, unknown, verbatim, Read, ReadOf, ExpressionReader, asBytes, width, numberIn, formsIn, stringIn, asNumber, asBounded, asForms, asSigned, asLink, asString, asBlock, asExpression, copy, tokenIn, readIn, before, bytesOf, pieceBytes}
-use Rattle.readers.proofs.Layouts.{NumberLaw, number-law, LebLaw, uleb-law, TokenLaw, token-law, as-bytes-law}
+use Rattle.readers.proofs.LayoutLaws.{NumberLaw, number-law, LebLaw, uleb-law, TokenLaw, token-law, as-bytes-law}
 use Rattle.readers.specs.Tokens.{tokenOf, plain}
 use Rattle.readers.specs.Operations.{rowLayout, rowOf, operation, operationRow}
 use Rattle.readers.specs.Cursors.{cursor}

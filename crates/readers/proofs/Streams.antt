@@ -12,7 +12,7 @@ use Rattle.readers.specs.Choice.{pick}
 use Rattle.readers.proofs.Choice.{pick-either, either, All}
 use Rattle.readers.specs.Numbers.{uleb}
 use Rattle.readers.specs.Layout.{RunOf, Layout, asBytes, writeAll}
-use Rattle.readers.proofs.Layouts.{ReadLaw, read-law, as-bytes-law}
+use Rattle.readers.proofs.LayoutLaws.{ReadLaw, read-law, as-bytes-law}
 use Rattle.readers.specs.Abbreviations.{attributesFrom}
 use Rattle.readers.specs.Cursors.{cursor, lebAt}
 use Rattle.readers.specs.Entries.{specsLayout, asPast, valuesAt, stepAt}

@@ -15,7 +15,7 @@ use Rattle.readers.specs.Choice.{pick, check, bind}
 use Rattle.readers.proofs.Choice.{pick-yes, pick-no, either, All, all-some, all-none, all-check, all-bind, all-triv, Took, took-length}
 use Rattle.readers.specs.Numbers.{Groups, uleb, sleb}
 use Rattle.readers.specs.Layout.{Kind, fixed, leb128, ReadFound, width, Role, Piece, verbatim, Read, ReadOf, Token, nothing, number, bounded, forms, signed, link, string, run, block, expression, unknown, field, done, asBytes, asLeb, copy, asNumber, asLink, asBounded, asForms, asSigned, asString, asBlock, asExpression, before, numberIn, stringIn, formsIn, tokenIn, readIn, numberBytes, pieceBytes, bytesOf}
-use Rattle.readers.proofs.Layouts.{length-number, NumberLaw, number-law, LebLaw, uleb-law, sleb-law, StringLaw, string-law, TokenLaw, token-law, as-bytes-law}
+use Rattle.readers.proofs.LayoutLaws.{length-number, NumberLaw, number-law, LebLaw, uleb-law, sleb-law, StringLaw, string-law, TokenLaw, token-law, as-bytes-law}
 use Rattle.readers.specs.Tokens.{Use, plain, as′, numberAs, tokenOf}
 use Rattle.readers.specs.Operations.{OperandRow as Tokens, rows, unreadableRow, rowOf, rowLayout}
 use Rattle.readers.specs.Cursors.{cursor, asLebNumber, lebAt, asFixed, fixedAt, skipAt, asMoved, stringAt}

@@ -14,7 +14,7 @@ use Rattle.readers.specs.Choice.{pick, _and_, _or_, bind}
 use Rattle.readers.proofs.Choice.{pick-yes, pick-no, pick-either, either, bind-bind, bind-ext, All, all-some, all-bind, all-triv, all-map}
 use Rattle.readers.specs.Numbers.{Groups, uleb}
 use Rattle.readers.specs.Layout.{Read, ReadOf, RunOf, ExpressionReader, Token, forms, Layout, done, fail, field, asBytes, asLeb, copy, asNumber, asForms, before, numberIn, formsIn, tokenIn, readIn, pieceBytes, bytesOf, writeAll, width}
-use Rattle.readers.proofs.Layouts.{LebLaw, uleb-law, FormsLaw, forms-law, ReadLaw, read-law, as-bytes-law}
+use Rattle.readers.proofs.LayoutLaws.{LebLaw, uleb-law, FormsLaw, forms-law, ReadLaw, read-law, as-bytes-law}
 use Rattle.readers.specs.Operations.{Codes}
 use Rattle.readers.specs.Forms.{formToken, formTokens, tokenAmong, useOf, valueToken, attributeLayout}
 use Rattle.readers.specs.Cursors.{cursor, asLebNumber, lebAt, fixedAt, skipAt, asFormNumber, formsAt}

@@ -15,7 +15,7 @@ use Rattle.readers.proofs.Choice.{pick-yes, pick-no, pick-either, eithe
 use Rattle.readers.specs.Scan.{Turn, more, stop, bad, Scanned, push, scan}
 use Rattle.readers.proofs.Scan.{Goes, scan-stop, scan-more}
 use Rattle.readers.specs.Layout.{Piece, width, Read, asBytes, bytesOf, writeAll, readIn}
-use Rattle.readers.proofs.Layouts.{bytes-append, ReadLaw, read-law, as-bytes-law, WholeLaw}
+use Rattle.readers.proofs.LayoutLaws.{bytes-append, ReadLaw, read-law, as-bytes-law, WholeLaw}
 use Rattle.readers.specs.Operations.{operation}
 use Rattle.readers.specs.Expression.{expressionIn}
 use Rattle.readers.proofs.Expression.{expression-none, expression-more, expression-law, write-pieces}

@@ -15,7 +15,7 @@ use Rattle.readers.specs.Choice.{pick, bind}
 use Rattle.readers.proofs.Choice.{pick-yes, pick-no, either, check-yes, bind-at, All, all-some, all-none, all-of, all-check, all-bind, all-triv}
 use Rattle.readers.specs.Numbers.{uleb}
 use Rattle.readers.specs.Layout.{leb128, width, Encoded, infixed, inleb, Token, nothing, number, bounded, forms, signed, link, string, run, block, expression, unknown, Layout, done, fail, field, verbatim, Read, ReadOf, RunOf, ExpressionReader, asBytes, numberIn, asNumber, copy, asExpression, tokenIn, readIn, before, bytesOf, pieceBytes, writeAll, Patch, patchRead, patchAll}
-use Rattle.readers.proofs.Layouts.{kindOf, NumberLaw, number-law, LebLaw, uleb-law, ReadLaw, read-law, WholeLaw, ExpressionLaw, same-size}
+use Rattle.readers.proofs.LayoutLaws.{kindOf, NumberLaw, number-law, LebLaw, uleb-law, ReadLaw, read-law, WholeLaw, ExpressionLaw, same-size}
 use Rattle.readers.specs.Expression.{expressionIn}
 use Rattle.readers.proofs.Expression.{expression-law}
 use Rattle.readers.specs.Fields.{size}

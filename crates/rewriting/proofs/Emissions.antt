@@ -13,7 +13,7 @@ use mir.Facts.{yes-ltb, yes-leb, no-leb, leb-yes, eqb-yes, eqb-no, no-eqb, yes-e
 use Rattle.readers.specs.Choice.{pick, _and_}
 use Rattle.readers.proofs.Choice.{pick-yes, pick-no, either}
 use Rattle.readers.specs.Layout.{Encoded, width, numberBytes}
-use Rattle.readers.proofs.Layouts.{length-number}
+use Rattle.readers.proofs.LayoutLaws.{length-number}
 use Rattle.readers.specs.References.{encodedBy}
 use Rattle.rewriting.specs.Places.{Place}
 use Rattle.rewriting.specs.Indices.{rankIn, rankOr}

@@ -13,7 +13,7 @@ use Rattle.readers.specs.Choice.{pick, bind}
 use Rattle.readers.proofs.Choice.{pick-yes, pick-no, either, All, all-some, all-none, all-of, all-bind, all-triv, Took}
 use Rattle.readers.specs.Scan.{Scanned, push}
 use Rattle.readers.specs.Layout.{leb128, width, Token, Layout, done, field, verbatim, Read, ReadOf, RunOf, asBytes, numberIn, asNumber, copy, tokenIn, readIn, before, bytesOf, pieceBytes, writeAll, Patch, patchPieces, patchRead, patchAll}
-use Rattle.readers.proofs.Layouts.{ExpressionLaw, NumberLaw, number-law, ReadLaw, read-law, same-size}
+use Rattle.readers.proofs.LayoutLaws.{ExpressionLaw, NumberLaw, number-law, ReadLaw, read-law, same-size}
 use Rattle.readers.specs.Expression.{expressionIn}
 use Rattle.readers.proofs.Expression.{expression-law}
 use Rattle.readers.specs.Forms.{valueToken, attributeLayout}

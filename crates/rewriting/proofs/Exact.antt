@@ -14,7 +14,7 @@ use Rattle.readers.proofs.Choice.{pick-either, All, all-some, all-none, all-che
 use Rattle.readers.specs.Numbers.{Groups, groups, uleb, unsigned64, sleb, fixedValue, fixedBytes}
 use Rattle.readers.proofs.Numbers.{GroupsLaw, groups-law, ExactGroups, groups-exact, fixed-bytes}
 use Rattle.readers.specs.Layout.{Kind, fixed, leb128, Role, reference, typeReference, sibling, index, absolute, Token, nothing, number, bounded, forms, signed, link, string, run, block, expression, unknown, Layout, done, fail, field, Piece, verbatim, patchable, Read, ReadOf, RunOf, ExpressionReader, ReadFound, asLeb, copy, asNumber, asLink, asBounded, asForms, asSigned, asString, asBlock, asExpression, numberIn, formsIn, stringIn, tokenIn, readIn, before, numberBytes, pieceBytes, bytesOf, writeAll, Fit}
-use Rattle.readers.proofs.Layouts.{LebLaw, uleb-law, bytes-append}
+use Rattle.readers.proofs.LayoutLaws.{LebLaw, uleb-law, bytes-append}
 use Rattle.readers.specs.Tokens.{Use, plain, as′, numberAs, tokenOf}
 use Rattle.readers.specs.Operations.{OperandRow, rows, rowOf, unreadableRow, rowLayout, operation, operationRow}
 use Rattle.readers.specs.Expression.{allPieces, andRest, expressionWithin, expressionIn}

@@ -10,7 +10,7 @@ use lib.ListN.{length, take, drop}
 use lib.Seq.{length-take-le}
 use Rattle.readers.proofs.Choice.{All, all-some, all-of, all-bind, all-triv}
 use Rattle.readers.specs.Layout.{leb128, width, number, Layout, field, verbatim, Piece, Read, ReadOf, RunOf, ExpressionReader, numberIn, asNumber, copy, tokenIn, readIn, before, bytesOf, pieceBytes, writeAll, Patch, patchAll}
-use Rattle.readers.proofs.Layouts.{NumberLaw, number-law}
+use Rattle.readers.proofs.LayoutLaws.{NumberLaw, number-law}
 use Rattle.readers.specs.Expression.{expressionIn}
 use Rattle.readers.proofs.Expression.{expression-law}
 use Rattle.readers.specs.Cursors.{cursor}

@@ -14,7 +14,7 @@ use Rattle.readers.specs.Choice.{pick, _and_, bind}
 use Rattle.readers.proofs.Choice.{pick-yes, pick-no, pick-either, either, bind-at, bind-bind, check-yes, All, all-some, all-of, all-bind, all-check, all-triv}
 use Rattle.readers.specs.Numbers.{uleb}
 use Rattle.readers.specs.Layout.{leb128, Token, nothing, number, bounded, forms, signed, link, string, run, block, expression, unknown, Layout, done, field, verbatim, Piece, Read, ReadOf, RunOf, ExpressionReader, asBytes, copy, asForms, formsIn, asExpression, tokenIn, readIn, before, bytesOf, pieceBytes, writeAll}
-use Rattle.readers.proofs.Layouts.{LebLaw, uleb-law, TokenLaw, token-law, as-bytes-law}
+use Rattle.readers.proofs.LayoutLaws.{LebLaw, uleb-law, TokenLaw, token-law, as-bytes-law}
 use Rattle.readers.specs.Expression.{expressionIn}
 use Rattle.readers.specs.Fields.{size, fieldOf, asField, tokenAt}
 use Rattle.readers.specs.Forms.{valueToken, attributeLayout}

@@ -15,7 +15,7 @@ use mir.Facts.{eqb-yes, yes-ltb, yes-leb}
 use Rattle.readers.specs.Choice.{pick, _and_, _or_}
 use Rattle.readers.proofs.Choice.{pick-yes, pick-no, either, all-of}
 use Rattle.readers.specs.Layout.{Encoded, infixed, inleb, width, Role, reference, typeReference, sibling, index, absolute, Piece, verbatim, patchable, Patch, patchPiece, patchPieces, numberBytes, pieceBytes, bytesOf, Fit}
-use Rattle.readers.proofs.Layouts.{length-number}
+use Rattle.readers.proofs.LayoutLaws.{length-number}
 use Rattle.readers.specs.Expression.{expressionIn}
 use Rattle.readers.specs.References.{Named, nameIn, namesIn, encodedBy, flatFrom, nextReference}
 use Rattle.readers.specs.declared.cursor.Encoding.{Encoding}

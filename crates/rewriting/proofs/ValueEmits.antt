@@ -14,7 +14,7 @@ use Rattle.readers.specs.Choice.{pick, _and_, bind}
 use Rattle.readers.proofs.Choice.{check-yes, bind-at, All, all-some, all-of, all-check, all-bind, all-both, all-triv}
 use Rattle.readers.specs.Numbers.{Groups, uleb}
 use Rattle.readers.specs.Layout.{Kind, Encoded, infixed, inleb, width, Role, reference, typeReference, sibling, index, absolute, Token, link, expression, Piece, verbatim, patchable, Read, ReadOf, ReadFound, asBytes, numberIn, asLink, asExpression, tokenIn, numberBytes, bytesOf, pieceBytes, writeAll, patchPiece, patchPieces, patchAll, Fit}
-use Rattle.readers.proofs.Layouts.{kindOf, NumberLaw, number-law, LebLaw, uleb-law, length-number}
+use Rattle.readers.proofs.LayoutLaws.{kindOf, NumberLaw, number-law, LebLaw, uleb-law, length-number}
 use Rattle.readers.specs.Expression.{expressionIn}
 use Rattle.readers.specs.References.{encodedBy}
 use Rattle.readers.specs.Forms.{valueToken}

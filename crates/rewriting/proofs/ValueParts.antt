@@ -13,7 +13,7 @@ use mir.Facts.{eqb-yes, eqb-no}
 use Rattle.readers.specs.Choice.{_and_, _or_, pick, bind}
 use Rattle.readers.proofs.Choice.{pick-yes, pick-no, either, All, all-some, all-of, all-bind, all-triv}
 use Rattle.readers.specs.Layout.{forms, done, field, verbatim, Read, ReadOf, RunOf, ExpressionReader, formsIn, asForms, copy, tokenIn, readIn, before, bytesOf, pieceBytes, writeAll, Patch, patchPiece, patchPieces, patchRead, patchAll}
-use Rattle.readers.proofs.Layouts.{FormsLaw, forms-law}
+use Rattle.readers.proofs.LayoutLaws.{FormsLaw, forms-law}
 use Rattle.readers.specs.Expression.{expressionIn}
 use Rattle.readers.specs.Forms.{valueToken, attributeLayout}
 use Rattle.readers.specs.Cursors.{asFormNumber, formsAt}

@@ -11,7 +11,7 @@ use lib.Seq.{drop-at}
 use lib.Dec.{eqb}
 use Rattle.readers.proofs.Choice.{pick-yes, pick-no, either, all-of}
 use Rattle.readers.specs.Layout.{Read, ExpressionReader, readIn, writeAll, Patch, patchAll}
-use Rattle.readers.proofs.Layouts.{ExpressionLaw, ReadLaw, read-law, FitAll}
+use Rattle.readers.proofs.LayoutLaws.{ExpressionLaw, ReadLaw, read-law, FitAll}
 use Rattle.readers.specs.Fields.{size}
 use Rattle.readers.specs.Cursors.{cursor}
 use Rattle.readers.specs.Entries.{entryLayout, entryFound, stepOfReads, stepAt}

@@ -10,7 +10,7 @@ use mir.Facts.{ltb-yes, leb-yes, eqb-yes, eqb-no}
 use Rattle.readers.specs.Choice.{pick, _and_}
 use Rattle.readers.proofs.Choice.{pick-yes, pick-no, either}
 use Rattle.readers.specs.Layout.{Encoded, infixed, inleb, Piece, verbatim, patchable, Read, Fit}
-use Rattle.readers.proofs.Layouts.{FitPiece, FitPieces, FitAll}
+use Rattle.readers.proofs.LayoutLaws.{FitPiece, FitPieces, FitAll}
 use Rattle.marking.specs.Analysis.{Sections}
 use Rattle.rewriting.specs.Places.{NestedItem, offsetOf, Place}
 use Rattle.rewriting.specs.Rewriting.{Unit as Unit′, readsAt, Lists, newValue, hasPlace, fits, pieceRefusal, orNext, piecesRefusal, readsRefusal, refusalFrom}

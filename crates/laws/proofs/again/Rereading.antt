@@ -8,7 +8,7 @@ use mathlib.Core.List.{List, [], _∷_, _++_, map, append-assoc, append-nil}
 use native.Mathlib.Omega.{arith}
 use lib.ListN.{length, length-append}
 use Rattle.readers.specs.Layout.{Read, writeAll, Patch, patchAll}
-use Rattle.readers.proofs.Layouts.{FitAll}
+use Rattle.readers.proofs.LayoutLaws.{FitAll}
 use Rattle.readers.specs.Expression.{expressionIn}
 use Rattle.readers.proofs.Expression.{expression-law}
 use Rattle.readers.specs.Entries.{stepAt}

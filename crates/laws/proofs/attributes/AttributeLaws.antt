@@ -12,7 +12,7 @@ use lib.Dec.{eqb}
 use Rattle.readers.specs.Choice.{pick}
 use Rattle.readers.proofs.Choice.{pick-yes, pick-no, either, All, all-some, all-of, all-bind, all-triv}
 use Rattle.readers.specs.Layout.{leb128, number, Layout, done, Read, RunOf, ExpressionReader, tokenIn, readIn, before, bytesOf, writeAll, Patch, patchPieces, patchRead, patchAll}
-use Rattle.readers.proofs.Layouts.{TokenLaw, token-law, FitAll, same-size}
+use Rattle.readers.proofs.LayoutLaws.{TokenLaw, token-law, FitAll, same-size}
 use Rattle.readers.specs.Expression.{expressionIn}
 use Rattle.readers.proofs.Expression.{expression-law}
 use Rattle.readers.specs.Fields.{size}

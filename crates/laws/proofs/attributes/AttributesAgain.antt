@@ -12,7 +12,7 @@ use lib.Dec.{T, eqb}
 use Rattle.readers.specs.Choice.{bind}
 use Rattle.readers.proofs.Choice.{pick-yes, pick-no, either, bind-at, All, all-some, all-of, all-bind, all-triv}
 use Rattle.readers.specs.Layout.{Token, number, forms, expression, Layout, done, field, Read, RunOf, ExpressionReader, asBytes, tokenIn, readIn, before, bytesOf, writeAll, Patch, patchPieces, patchRead, patchAll}
-use Rattle.readers.proofs.Layouts.{TokenLaw, token-law, ReadLaw, read-law, FitAll, same-size}
+use Rattle.readers.proofs.LayoutLaws.{TokenLaw, token-law, ReadLaw, read-law, FitAll, same-size}
 use Rattle.readers.specs.Expression.{expressionIn}
 use Rattle.readers.proofs.Expression.{expression-law}
 use Rattle.readers.specs.Forms.{valueToken, attributeLayout}

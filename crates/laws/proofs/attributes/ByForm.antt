@@ -13,7 +13,7 @@ use mir.Facts.{leb-yes, yes-leb, eqb-yes, eqb-no, yes-eqb, no-eqb}
 use Rattle.readers.specs.Choice.{pick, _and_, _or_}
 use Rattle.readers.proofs.Choice.{pick-yes, pick-no, either, all-of}
 use Rattle.readers.specs.Layout.{Kind, Encoded, Role, reference, typeReference, sibling, index, absolute, Token, nothing, number, bounded, forms, signed, link, string, run, block, expression, unknown, Layout, patchable, Read, ExpressionReader, asBytes, tokenIn, readIn, bytesOf, writeAll, Patch}
-use Rattle.readers.proofs.Layouts.{ReadLaw, read-law}
+use Rattle.readers.proofs.LayoutLaws.{ReadLaw, read-law}
 use Rattle.readers.specs.Expression.{expressionIn}
 use Rattle.readers.proofs.Expression.{expression-law}
 use Rattle.readers.specs.Tokens.{Use, plain, as′}

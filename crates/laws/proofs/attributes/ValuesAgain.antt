@@ -15,7 +15,7 @@ use Rattle.readers.specs.Choice.{pick, _and_, _or_, bind}
 use Rattle.readers.proofs.Choice.{pick-yes, pick-no, either, bind-at, check-yes, All, all-some, all-none, all-of, all-bind, all-check, all-triv}
 use Rattle.readers.specs.Numbers.{uleb, sleb}
 use Rattle.readers.specs.Layout.{Kind, Encoded, Role, index, Token, nothing, number, bounded, forms, signed, link, string, run, block, expression, unknown, Piece, verbatim, patchable, Read, ReadOf, ExpressionReader, asBytes, copy, asNumber, asBounded, asForms, asSigned, asLink, asString, asBlock, asExpression, numberIn, formsIn, stringIn, tokenIn, bytesOf, pieceBytes, Patch, patchPiece, patchPieces, patchRead}
-use Rattle.readers.proofs.Layouts.{LebLaw, uleb-law, TokenLaw, token-law, WholeLaw, FitPieces, same-size}
+use Rattle.readers.proofs.LayoutLaws.{LebLaw, uleb-law, TokenLaw, token-law, WholeLaw, FitPieces, same-size}
 use Rattle.readers.specs.Expression.{expressionIn}
 use Rattle.readers.proofs.Expression.{expression-law}
 use Rattle.readers.specs.Tokens.{Use, plain, as′, numberAs, tokenOf}

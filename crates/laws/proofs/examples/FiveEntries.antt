@@ -8,7 +8,7 @@ use Rattle.readers.specs.Choice.{pick, _and_, _or_, check, bind}
 use Rattle.readers.proofs.Choice.{All}
 use Rattle.readers.specs.Numbers.{below, groups, unsigned64, uleb, negative, signed64, sleb, padded, littleBytes, littleValue, ordered, fixedBytes, fixedValue}
 use Rattle.readers.specs.Layout.{asBytes, width, asLeb, stringIn, within16, short, afterForm, formsWithin, formsIn, copy, asNumber, asLink, asBounded, asForms, asSigned, asString, asBlock, asExpression, before, numberIn, tokenIn, readIn, numberBytes, pieceBytes, bytesOf, writeAll, patchPiece, patchPieces, patchRead, patchAll, Fit}
-use Rattle.readers.proofs.Layouts.{kindOf, FitPiece, FitPieces, FitAll}
+use Rattle.readers.proofs.LayoutLaws.{kindOf, FitPiece, FitPieces, FitAll}
 use Rattle.readers.specs.Tokens.{numberAs, tokenOf}
 use Rattle.readers.specs.Operations.{unreadableRow, rows, rowOf, rowLayout, operations, rowAmong, operationRow, operation, rangeEntries, locationEntries, listRow}
 use Rattle.readers.specs.Scan.{push, onTurn, scanWithin, scan}

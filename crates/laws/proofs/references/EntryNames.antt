@@ -14,7 +14,7 @@ use Rattle.readers.specs.Choice.{pick, _and_, _or_, bind}
 use Rattle.readers.proofs.Choice.{pick-yes, pick-no, pick-either, either, bind-at, bind-bind, check-yes, All, all-some, all-none, all-of, all-bind, all-check, all-triv}
 use Rattle.readers.specs.Numbers.{uleb, sleb}
 use Rattle.readers.specs.Layout.{Kind, leb128, reference, sibling, Token, nothing, number, bounded, forms, signed, link, string, run, block, expression, unknown, Layout, done, field, verbatim, Read, ReadOf, RunOf, ExpressionReader, asBytes, copy, asNumber, asBounded, asForms, asSigned, asLink, asString, asBlock, asExpression, numberIn, formsIn, stringIn, tokenIn, readIn, before, bytesOf, pieceBytes}
-use Rattle.readers.proofs.Layouts.{LebLaw, uleb-law, TokenLaw, token-law, as-bytes-law}
+use Rattle.readers.proofs.LayoutLaws.{LebLaw, uleb-law, TokenLaw, token-law, as-bytes-law}
 use Rattle.readers.specs.Expression.{expressionIn}
 use Rattle.readers.proofs.Expression.{expression-law}
 use Rattle.readers.specs.Tokens.{Use, plain, as′, numberAs, tokenOf}

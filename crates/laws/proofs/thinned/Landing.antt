@@ -11,7 +11,7 @@ use borrow.Author.Tests.{ltb-true, leb-true, ne-eqb}
 use Rattle.readers.specs.Choice.{pick, _and_, _or_}
 use Rattle.readers.proofs.Choice.{pick-either}
 use Rattle.readers.specs.Layout.{Encoded, infixed, inleb, Role, reference, typeReference, sibling, Piece, verbatim, patchable, Read, Fit}
-use Rattle.readers.proofs.Layouts.{FitPiece, FitPieces, FitAll}
+use Rattle.readers.proofs.LayoutLaws.{FitPiece, FitPieces, FitAll}
 use Rattle.marking.proofs.Tests.{and-out}
 use Rattle.marking.specs.Analysis.{Sections}
 use Rattle.rewriting.specs.Places.{NestedItem, offsetOf, Place, newOf, siblingOf}
