@@ -103,11 +103,11 @@ pub(crate) fn fill_ends(
     first: UnitOffset,
     ends: &mut [u64],
 )
-    ensures { λ _. ⌜
-        (let items = itemsBy r (now (abbreviations .entry)) (now (index .entry)) (now (unit .entry)) (first .0) in
+    ensures { λ _. ⌜ (
+        let items = itemsBy r (now (abbreviations .entry)) (now (index .entry)) (now (unit .entry)) (first .0) in
         length (now (unit .entry)) < 2 ^ 32 → entriesIn items ≤ length (now (ends .entry))
-        → EndsHeld (now (ends .exit)) 0 items)
-        ⌝ }
+        → EndsHeld (now (ends .exit)) 0 items
+        ) ⌝ }
 {
     let mut at = Cursor {
         at: first.0 as usize,
@@ -167,10 +167,10 @@ pub(crate) fn next_kept(
     marks: &[u8],
     s: Stand,
 ) -> KeptStep
-    ensures { λ x. ⌜
-        (let items = itemsBy r (now (abbreviations .entry)) (now (index .entry)) (now (unit .entry)) in
-        Answers items (now (parents .entry)) (now (ends .entry)) (now (marks .entry)) (now (unit .entry)) s x)
-        ⌝ }
+    ensures { λ x. ⌜ (
+        let items = itemsBy r (now (abbreviations .entry)) (now (index .entry)) (now (unit .entry)) in
+        Answers items (now (parents .entry)) (now (ends .entry)) (now (marks .entry)) (now (unit .entry)) s x
+        ) ⌝ }
 {
     let mut at = s.at;
     let mut count = s.count;

@@ -30,12 +30,12 @@ pub(crate) fn place_items(
     first: UnitOffset,
     map: &mut [u8],
 ) -> Size
-    ensures { λ z. ⌜
-        (let items = itemsBy r (now (abbreviations .entry)) (now (index .entry)) (now (unit .entry)) in
+    ensures { λ z. ⌜ (
+        let items = itemsBy r (now (abbreviations .entry)) (now (index .entry)) (now (unit .entry)) in
         (Measures items (now (unit .entry)) (now (parents .entry)) (now (ends .entry)) (now (marks .entry)) (first .0) z)
         × (Fills items (now (unit .entry)) (now (parents .entry)) (now (ends .entry)) (now (marks .entry)) (first .0)
-        (now (map .entry)) (now (map .exit))))
-        ⌝ }
+        (now (map .entry)) (now (map .exit)))
+        ) ⌝ }
 {
     let mut s = Stand {
         at: Cursor {
