@@ -5,6 +5,7 @@ import os
 import re
 import statistics
 import sys
+import textwrap
 
 HOME = os.path.dirname(os.path.abspath(__file__))
 COLUMNS = ('kind name size entries kept references section new port original own tables answer port_stack original_stack own_stack runs').split()
@@ -230,6 +231,18 @@ def report(kept):
         yield f.read().rstrip('\n')
 
 
+def filled(lines):
+    """Paragraphs at 118 characters a line; headings, tables, pictures and the notes stay as they are."""
+    prose = []
+    for line in list(lines) + ['']:
+        if line and '\n' not in line and line[0] not in '#|!':
+            prose.append(line)
+            continue
+        yield from textwrap.wrap(' '.join(prose), 118, break_long_words=False, break_on_hyphens=False)
+        prose = []
+        yield line
+
+
 def svg(kept):
     """Small plots, one a family and one of all units, on logarithmic axes: size across, time up."""
     families = list(rows(os.path.join(kept, 'families')))
@@ -278,10 +291,10 @@ def svg(kept):
 def main():
     if len(sys.argv) != 3:
         sys.exit(__doc__)
-    for name, text in (('BENCH.md', report), ('bench.svg', svg)):
-        lines = list(text(sys.argv[1]))
+    for name, lines in (('BENCH.md', filled(report(sys.argv[1]))), ('bench.svg', svg(sys.argv[1]))):
+        text = '\n'.join(lines).rstrip('\n') + '\n'
         with open(os.path.join(sys.argv[2], name), 'w') as f:
-            f.write('\n'.join(lines) + '\n')
+            f.write(text)
 
 
 if __name__ == '__main__':

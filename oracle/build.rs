@@ -1,10 +1,7 @@
-//! Takes gc.rs from the papers beside the repository, applies the patches below and writes the result into OUT_DIR.
+//! Takes gc.rs (oracle/build says from where), applies the patches below and writes the result into OUT_DIR.
 //! Each patch names how often its text must be found; any other count stops the build. README.md gives the reasons.
 
-use std::{env, fs, path::Path};
-
-/// Where gc.rs is, from the repository's top.
-const SOURCE: &str = "../shared/docs/src/src--thorin--src--gc.rs.txt";
+use std::{env, fs, path::Path, process};
 
 /// Text in gc.rs, what stands there instead, how often. No patch changes the number of lines, so places that a panic
 /// names are those of gc.rs.
@@ -50,6 +47,12 @@ fn patch(text: String, patches: &[(&str, &str, usize)]) -> String {
     })
 }
 
+/// Ends the build with a line.
+fn stop(message: &str) -> ! {
+    eprintln!("{message}");
+    process::exit(1)
+}
+
 /// Writes a module and returns its declaration.
 fn module(out: &str, name: &str, text: &str) -> String {
     let file = format!("{out}/{name}.rs");
@@ -59,13 +62,15 @@ fn module(out: &str, name: &str, text: &str) -> String {
 
 fn main() {
     let here = env::var("CARGO_MANIFEST_DIR").unwrap();
-    let source = Path::new(&here).join("..").join(SOURCE);
-    println!("cargo:rerun-if-changed={}", source.display());
+    let source = env::var("GC_RS").unwrap_or_default();
+    println!("cargo:rerun-if-env-changed=GC_RS");
+    println!("cargo:rerun-if-changed={source}");
     println!("cargo:rerun-if-changed=build.rs");
     println!("cargo:rerun-if-changed=src/probe.rs");
 
-    let text = fs::read_to_string(&source)
-        .unwrap_or_else(|e| panic!("{}: {e}", source.display()));
+    let Ok(text) = fs::read_to_string(&source) else {
+        stop("no source of the original: the variable GC_RS names it, and oracle/build sets it");
+    };
     // Without the hook: what is measured.
     let plain = patch(text, PATCHES);
     let mut text = patch(plain.clone(), HOOKS);
@@ -75,7 +80,9 @@ fn main() {
     if env::var_os("CARGO_FEATURE_PORT").is_some() {
         println!("cargo:rerun-if-env-changed=COLLECTOR");
         let archive = env::var("COLLECTOR").unwrap_or_else(|_| format!("{here}/../target/staticlib/libcollector.a"));
-        assert!(Path::new(&archive).exists(), "no archive {archive} (rt staticlib collector writes it; COLLECTOR names another)");
+        if !Path::new(&archive).exists() {
+            stop(&format!("no archive {archive}: rt staticlib collector writes it; COLLECTOR names another"));
+        }
         println!("cargo:rerun-if-changed={archive}");
         for program in ["differ", "bench"] {
             println!("cargo:rustc-link-arg-bin={program}={archive}");

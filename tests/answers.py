@@ -1,21 +1,29 @@
 #!/usr/bin/python3
-"""answers.py [check]: writes the bundles and the expected lines of crates/collect_kept: the kept cases of oracle/kept, each with the original's whole answer: entries, kept
-ones, map, index lists, bytes, or the number of its refusal. Left out are cases with a listed difference, and headers that are refused (the original's errors don't tell 1 from 2).
-With `check` nothing is written, and the files are compared with what would be."""
+"""answers.py [check]: writes what crates/test_collect must print of the kept cases, from the original's answers in
+oracle/kept: the marks of each, and the whole answer (entries, kept ones, map, index lists, bytes), or the number of its
+refusal. With `check` nothing is written, and the files are compared with what would be.
+
+oracle/keep makes the cases. Each stands once: in crates/test_collect/data, of its family where the original's answer
+tells the marks too, in dangling.bundles where it is a refusal by 8; and in oracle/kept where the port is not held to
+it: cases with a listed difference, and headers that are refused (the original's errors don't tell 1 from 2)."""
 import os
 import sys
 
-import marks
+from units import CRATES, TESTS, Part, bundles, placed, read, with_parts, write
 
-ERRORS = dict(marks.ERRORS, MalformedDebugInfo=8)
+KEPT = os.path.join(TESTS, '..', 'oracle', 'kept')
+DATA = os.path.join(CRATES, 'test_collect', 'data')
+FAMILIES = ('small bytes valid lists expressions trees deep refused damaged listed headers declarations numbers operations kinds '
+            'siblings sums tables').split()
+ERRORS = {'ParseUnitAbbreviations': 3, 'ParseUnit': 4, 'Read': 5, 'Address': 6, 'UnexpectedSectionAbsoluteReference': 7,
+          'MalformedDebugInfo': 8}
 FIELDS = ('entries', 'kept', 'map', 'ranges', 'locations', 'strings', 'bytes')
 
 
-def from_original(line):
+def answer(line):
     """The line that an answer of the original gives, or none."""
-    answer, more = line.rstrip('\n').split(' | ')
-    words = answer.split()
-    if not more.endswith('listed -'):
+    words, more = (part.split() for part in line.split(' | '))
+    if more[-2:] != ['listed', '-']:
         return None
     if words[0] in ('rewritten', 'untouched'):
         found = dict(zip(words[1::2], words[2::2]))
@@ -25,27 +33,57 @@ def from_original(line):
     return None
 
 
-def kept(family):
-    with open(os.path.join(marks.KEPT, family + '.bundles'), 'rb') as f:
-        bundles = marks.split(f.read())
-    with open(os.path.join(marks.KEPT, family + '.lines')) as f:
-        lines = f.readlines()
-    assert len(bundles) == len(lines)
-    return [(b, from_original(l)) for b, l in zip(bundles, lines) if from_original(l) is not None]
+def marks(line):
+    """The lines of its marks, or its refusal."""
+    words = line.split()
+    if words[0] == 'error':
+        return answer(line)
+    found = dict(zip(words[1::2], words[2::2]))
+    held = [] if found['marks'] == '-' else found['marks'].split(',')
+    head = 'entries %s kept %s\n' % (found['entries'], found['kept'])
+    return head + ''.join('%s %s\n' % (m[:-1], m[-1]) for m in held)
 
 
-def files():
-    made, out = {}, ''
-    for family in marks.FAMILIES:
-        cases = kept(family)
-        made['collect_kept/data/%s.bundles' % family] = b''.join(b for b, _ in cases)
-        out += marks.placed(family + '.bundles', cases)
-    made['collect_kept/args'] = ''.join('%s.bundles\n' % f for f in marks.FAMILIES).encode()
-    made['collect_kept/stdout'] = out.encode()
-    return made
+def place(family, line):
+    """The file of a case."""
+    if answer(line) is None:
+        return os.path.join(KEPT, family + '.bundles')
+    return os.path.join(DATA, 'dangling.bundles' if answer(line) == 'refused 8\n' else family + '.bundles')
+
+
+def lines(family):
+    return read(os.path.join(KEPT, family + '.lines')).decode().splitlines()
+
+
+def kept():
+    """The cases of the crate with the original's lines, by file, in order."""
+    out = {os.path.join(DATA, family + '.bundles'): [] for family in FAMILIES + ['dangling']}
+    for family in FAMILIES:
+        for line in lines(family):
+            if answer(line) is not None:
+                out[place(family, line)].append(line)
+    cases = {}
+    for path, held in out.items():
+        found = bundles(read(path))
+        if len(found) != len(held):
+            sys.exit('%s has %d cases, oracle/kept %d lines' % (path, len(found), len(held)))
+        cases[os.path.basename(path)] = list(zip(found, held))
+    return cases
+
+
+def printed(cases, of):
+    return ''.join(placed(name, [(data, of(line)) for data, line in held]) for name, held in cases.items())
+
+
+def main():
+    cases = kept()
+    marked = {name: held for name, held in cases.items() if name != 'dangling.bundles'}
+    made = with_parts('test_collect', [Part('marks of kept cases', 'marks', marked, printed(marked, marks)),
+                                       Part('answers for kept cases', 'collect', cases, printed(cases, answer))])
+    wrong = write(made, sys.argv[1:] == ['check'])
+    print('answers: %s' % ', '.join('%s %d' % (name.split('.')[0], len(held)) for name, held in cases.items()))
+    sys.exit(wrong > 0)
 
 
 if __name__ == '__main__':
-    wrong = marks.write(files(), sys.argv[1:] == ['check'])
-    print('answers: %s' % ', '.join('%s %d' % (f, len(kept(f))) for f in marks.FAMILIES))
-    sys.exit(wrong > 0)
+    main()

@@ -1,10 +1,15 @@
 #!/usr/bin/python3
 """bundles.py OBJECT OUT: makes a bundle of the first unit of an object.
 
-With split DWARF the unit is that of OBJECT's .dwo file, or of its own .dwo sections; else that of .debug_info, relocated.
-The address table has one byte, 1, for each address of .debug_addr. A bundle of more than 65,536 bytes (or what MOST says) is not made."""
+With split DWARF the unit is that of OBJECT's .dwo file, or of its own .dwo sections; else that of .debug_info,
+relocated. The address table has one byte, 1, for each address of .debug_addr. A bundle of more than 65,536 bytes (or
+what MOST says) is not made."""
 import os
 import sys
+
+from units import bundle, need_module
+
+need_module('elftools', 'python3-pyelftools')
 from elftools.elf.elffile import ELFFile
 from elftools.elf.relocation import RelocationHandler
 
@@ -14,11 +19,6 @@ MOST = int(os.environ.get('MOST', 65536))
 R64, R32 = RelocationHandler._RELOCATION_RECIPES_X64, RelocationHandler._RELOCATION_RECIPES_X86
 R64.update({17: R64[1], 21: R64[10]})
 R32.update({32: R32[1]})
-
-
-def bundle(parts):
-    body = b'\x01' + b''.join(len(p).to_bytes(4, 'big') + p for p in parts)
-    return len(body).to_bytes(4, 'big') + body
 
 
 def sections(elf, suffix):

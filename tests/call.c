@@ -1,5 +1,5 @@
-/* call FILE.. : runs each bundle of each file through the C call and prints its answer as crates/collect_kept does.
- * call --cases FILE : runs cases that say what they lend through the call with lent tables, and prints what they leave as crates/collect_points does.
+/* call FILE.. : runs each bundle of each file through the C call and prints its answer as crates/test_collect does.
+ * call --cases FILE : runs cases that say what they lend through the call with lent tables, and prints what they leave as crates/test_collect does.
  * call --nested N : a unit whose one expression has N entry values, one in the other, with a reference to the terminator in the innermost, and a dead entry: what stack it takes is seen with `ulimit -s`.
  * call --rules : checks of the call itself: counts without room, flags, lengths that are no whole places.
  * Every slice is a block of memory of its own, exactly as long as it is lent and full of 0xa5 before the call, so that valgrind sees a byte read or written outside; sections are compared

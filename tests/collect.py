@@ -1,16 +1,17 @@
 #!/usr/bin/python3
-"""collect.py [check]: writes the cases and the expected lines of crates/collect_points, and the bundles and lines of crates/thin_points.
+"""collect.py [check]: writes the cases made by hand of crates/test_collect, the bundles that it gives to thin, and the
+lines that it must print of them.
 
-The cases are written here, each with the point that it is about, its bytes, what it lends, and the answer that the specification gives, never from a run. With `check` nothing is written,
-and the files are compared with what would be. `collect.py names` prints the number of each case with what it is about.
+The cases are written here, each with the point that it is about, its bytes (units.py has the notation), what it lends,
+and the answer that the specification gives, never from a run. With `check` nothing is written, and the files are
+compared with what would be. `collect.py names` prints the number of each case with what it is about.
 
-A case is fifteen numbers of eight bytes, big-endian (how much is lent of the index of the declarations, of the columns offsets, parents, roots, ends, marks, targets, pairs, of map, three lists
-and output; the ranges base; type units), then a bundle. What is not said is lent with something to spare, so that zeros after the answer are seen. Bytes are hexadecimal; `H` stands for the header with
-the right length (type 1, address size 8), `H4` for address size 4, `H5` for unit type 5. Abbreviations are code tag children name/form; T is a list section of 12 zeros and a table of one offset, 4."""
-import os
+A case is fifteen numbers of eight bytes, big-endian (how much is lent of the index of the declarations, of the columns
+offsets, parents, roots, ends, marks, targets, pairs, of map, three lists and output; the ranges base; type units), then
+a bundle. What is not said is lent with something to spare, so that zeros after the answer are seen."""
 import sys
 
-from marks import A5, FIVE, T, BIG, abbreviations, bundle, uleb, write
+from units import A5, BIG, FIVE, HEADERS, T, Part, bundle_of, counted, entry_values, header, octets, unit, with_parts, write
 
 SETTINGS = ('index', 'offsets', 'parents', 'roots', 'ends', 'marks', 'targets', 'pairs', 'map', 'ranges', 'locations', 'strings', 'output', 'base', 'type_units')
 ENTRY_COLUMNS = ('offsets', 'parents', 'roots', 'ends', 'marks')
@@ -36,36 +37,19 @@ def rewritten(entries, kept, places, body, ranges='', locations='', strings=''):
 NOTHING = untouched(0, 'absent', 'absent', 'absent')
 
 
-def header(body, kind):
-    rest = {'H': '0500 01 08 00000000', 'H4': '0500 01 04 00000000', 'H5': '0500 05 08 00000000 1122334455667788'}[kind]
-    rest = bytes.fromhex(rest)
-    return (len(rest) + len(body)).to_bytes(4, 'little') + rest + body
-
-
-def octets(text):
-    return text if isinstance(text, bytes) else bytes.fromhex(text)
-
-
 def numbers(text, width):
     return b''.join(int(w).to_bytes(width, 'big') for w in text.replace('>', ' ').replace('@', ' ').split())
 
 
 def case(why, of_unit, table, answer, locations='', ranges='', addresses='', tail='', lend=None):
-    """of_unit: `H ..`, `H4 ..`, `H5 ..`, bytes for the body after H, or a raw section. lend: settings that matter, by name; `entries` and `references` for a whole table."""
-    kind = 'H'
-    if isinstance(of_unit, bytes):
-        section = header(of_unit, kind)
-    elif of_unit.startswith('H'):
-        kind, _, rest = of_unit.partition(' ')
-        section = header(octets(rest), kind)
-    else:
-        section = octets(of_unit)
+    """lend: settings that matter, by name; `entries` and `references` for a whole table."""
+    kind = of_unit.partition(' ')[0] if isinstance(of_unit, str) else 'H'
     lend = dict(lend or {})
     refused = 'refused' in answer
     lists = {k: b'' if refused or answer[k] == 'absent' else numbers(answer[k], 8) for k in LISTS}
     places = b'' if refused else numbers(answer['places'], 4)
-    out = b'' if refused or answer['unit'] is None else header(octets(answer['unit']), kind)
-    given = {'index': 16, 'targets': 8, 'pairs': 16, 'base': 0, 'type_units': 0, 'map': 101 if refused else len(places) + 5, 'output': len(section if refused else out) + 3}
+    out = b'' if refused or answer['unit'] is None else header(octets(answer['unit']), kind if kind in HEADERS else 'H')
+    given = {'index': 16, 'targets': 8, 'pairs': 16, 'base': 0, 'type_units': 0, 'map': 101 if refused else len(places) + 5, 'output': len(unit(of_unit) if refused else out) + 3}
     given.update({c: 8 if refused else answer['entries'] + 1 for c in ENTRY_COLUMNS})
     given.update({k: len(lists[k]) + 11 for k in LISTS})
     if 'entries' in lend:
@@ -84,8 +68,8 @@ def case(why, of_unit, table, answer, locations='', ranges='', addresses='', tai
         assert len(data) <= given[name], why
         lines.append('%s %s' % (name, (data + bytes(given[name] - len(data))).hex() or '-'))
     lines.append('clean')
-    parts = [section + octets(tail), abbreviations(table)] + [octets(p) for p in (locations, ranges, addresses)]
-    cases.append((why, b''.join(given[k].to_bytes(8, 'big') for k in SETTINGS) + bundle(parts), ''.join(line + '\n' for line in lines)))
+    data = bundle_of(of_unit, table, locations, ranges, addresses, tail)
+    cases.append((why, b''.join(given[k].to_bytes(8, 'big') for k in SETTINGS) + data, ''.join(line + '\n' for line in lines)))
 
 
 # ---- the five-entry unit
@@ -248,10 +232,7 @@ case('51: type units, references patched all the same', 'H 01 0f 02 02', G, rewr
 
 def nested(levels, operand):
     """An expression with a call2 in the innermost of so many entry values."""
-    out = b'\x98' + operand.to_bytes(2, 'little')
-    for _ in range(levels):
-        out = b'\xa3' + uleb(len(out)) + out
-    return uleb(len(out)) + out
+    return counted(entry_values(levels, b'\x98' + operand.to_bytes(2, 'little')))
 
 
 def nested_unit(levels):
@@ -395,7 +376,7 @@ case('ranges out of order, repeated', 'H 01 09 04 09 00 02', '1 11 55/23 55/23 5
 case('an address index is no list index', 'H 01 07 02', '1 11 11/1b; 2 24', rewritten(2, 1, '12>12@0', '01 07'))
 case('constx and addrx in an expression are copied', 'H 01 04 a105a206 02', X, rewritten(2, 1, '12>12@0', '01 04 a105a206'))
 
-# ---- 50: padded numbers, in the order of crates/collect_points/src/main.rt: value, width, length, bytes or none where refused (15)
+# ---- 50: padded numbers, in the order of crates/test_collect/src/main.rt: value, width, length, bytes or none where refused (15)
 PADDED = [(0, 1, 1, '00'), (16, 2, 3, '900000'), (127, 1, 3, '7f0000'), (128, 1, 3, None), (128, 2, 3, '800100'), (0, 0, 3, None), (0, 4, 3, None), (0, 3, 3, '808000'),
           (0, 1, 0, None), (0, 0, 0, None),
           (1, 10, 12, '818080808080808080000000'), (1, 11, 12, None), (2 ** 64 - 1, 10, 10, 'ffffffffffffffffff01'), (2 ** 64 - 1, 9, 10, None),
@@ -406,41 +387,35 @@ def padded_lines():
     return ''.join('padded %d in %d of %d %s %s\n' % (v, w, n, 'refused 15' if b is None else 'written', '00' * n if b is None and n else b or '-') for v, w, n, b in PADDED)
 
 
-# ---- 45, 46: what thin prints, a file each
+# ---- 45, 46: what thin prints, a file each; crates/test_readers has more (points.py)
+FIRST = bundle_of(FIVE, A5, addresses='0100')
+FIRST_THINNED = 'entries 5 kept 3\n12 R 12\n13 L 13\n16 D -\n17 L 16\n18 D -\n'
+
+
 def thin_cases():
-    def one(of_unit, table, addresses=''):
-        return bundle([header(octets(of_unit), 'H') if of_unit is not None else b'', abbreviations(table), b'', b'', octets(addresses)])
-    five = one(FIVE[2:], A5, '0100')
-    largest = 65536 - len(one(FIVE[2:], A5))
-    lines = 'entries 5 kept 3\n12 R 12\n13 L 13\n16 D -\n17 L 16\n18 D -\n'
+    room = 65536 - len(bundle_of(FIVE, A5))
     deep, _, dead = nested_unit(17000)
-    return [('P1', five, lines),
-            ('P4', one(FIVE[2:], A5, '0101'), 'entries 5 kept 5\n12 R 12\n13 L 13\n16 L 16\n17 L 17\n18 L 18\n'),
-            ('P6', one(FIVE[2:], A5, '01'), 'refused 6\n'),
-            ('P7', one(None, A5), 'entries 0 kept 0\n'),
-            ('header-alone', one('', A5), 'entries 0 kept 0\n'),
-            ('only-terminators', one('0000', A5), 'entries 0 kept 0\n'),
-            ('dangling', one('01 63 02', G), 'refused 8\n'),
-            ('named-first', one('01 0c 02', G), 'entries 2 kept 1\n12 L 12\n14 D -\n'),
-            ('empty', b'', 'bundle\n'),
-            ('cut-length', five[:3], 'bundle\n'),
-            ('one-more', five + b'\0', 'bundle\n'),
-            ('one-less', five[:-1], 'bundle\n'),
-            ('left-over', (len(five) - 3).to_bytes(4, 'big') + five[4:] + b'\0', 'bundle\n'),
-            ('another-version', five[:4] + b'\2' + five[5:], 'bundle\n'),
-            ('too-far', five[:5] + b'\0\0\0\xff' + five[9:], 'bundle\n'),
-            ('65536', one(FIVE[2:], A5, b'\1\0' + bytes(largest - 2)), lines),
-            ('65537', one(FIVE[2:], A5, b'\1\0' + bytes(largest - 1)), 'bundle\n'),
-            ('52-deep', one(deep, X), 'entries 3 kept 2\n12 R 12\n%d D -\n%d L %d\n' % (dead, dead + 1, dead))]
+    return [('P4', bundle_of(FIVE, A5, addresses='0101'), 'entries 5 kept 5\n12 R 12\n13 L 13\n16 L 16\n17 L 17\n18 L 18\n'),
+            ('P6', bundle_of(FIVE, A5, addresses='01'), 'refused 6\n'),
+            ('only-terminators', bundle_of('H 0000', A5), 'entries 0 kept 0\n'),
+            ('dangling', bundle_of('H 01 63 02', G), 'refused 8\n'),
+            ('named-first', bundle_of('H 01 0c 02', G), 'entries 2 kept 1\n12 L 12\n14 D -\n'),
+            ('left-over', (len(FIRST) - 3).to_bytes(4, 'big') + FIRST[4:] + b'\0', 'bundle\n'),
+            ('65536', bundle_of(FIVE, A5, addresses=b'\1\0' + bytes(room - 2)), FIRST_THINNED),
+            ('65537', bundle_of(FIVE, A5, addresses=b'\1\0' + bytes(room - 1)), 'bundle\n'),
+            ('52-deep', bundle_of(deep, X), 'entries 3 kept 2\n12 R 12\n%d D -\n%d L %d\n' % (dead, dead + 1, dead))]
 
 
 def files():
-    made = {'collect_points/args': b'points.cases\n', 'collect_points/data/points.cases': b''.join(data for _, data, _ in cases)}
-    made['collect_points/stdout'] = ('== points.cases\n' + ''.join('-- %d\n%s' % (n + 1, lines) for n, (_, _, lines) in enumerate(cases)) + padded_lines()).encode()
     thin = thin_cases()
-    made['thin_points/args'] = ''.join('%s.bundle\n' % name for name, _, _ in thin).encode()
-    made['thin_points/stdout'] = ''.join('== %s.bundle\n%s' % (name, lines) for name, _, lines in thin).encode()
-    made.update({'thin_points/data/%s.bundle' % name: data for name, data, _ in thin})
+    made = with_parts('test_collect', [
+        Part('cases made by hand', 'cases', ['points.cases'],
+             '== points.cases\n' + ''.join('-- %d\n%s' % (n + 1, lines) for n, (_, _, lines) in enumerate(cases))),
+        Part('bundles through thin', 'thin', [name + '.bundle' for name, _, _ in thin], ''.join('== %s.bundle\n%s' % (name, lines) for name, _, lines in thin)),
+        Part('padded numbers', None, [], padded_lines())])
+    made['test_collect/data/points.cases'] = b''.join(data for _, data, _ in cases)
+    made.update({'test_collect/data/%s.bundle' % name: data for name, data, _ in thin})
+    made.update({'thin/stdin': FIRST, 'thin/stdout': FIRST_THINNED.encode()})
     return made
 
 

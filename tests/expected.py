@@ -7,6 +7,10 @@ read is left out and named on standard error, where the counts of what was read 
 import sys
 from collections import Counter
 from io import BytesIO
+
+import units
+
+units.need_module('elftools', 'python3-pyelftools')
 from elftools.common.exceptions import DWARFError, ELFParseError
 from elftools.common.utils import struct_parse
 from elftools.construct import ConstructError, Field
@@ -59,18 +63,6 @@ def leb_end(data, at):
     while data[at] & 0x80:
         at += 1
     return at + 1
-
-
-def split(data):
-    """The five parts of a bundle."""
-    if int.from_bytes(data[:4], 'big') != len(data) - 4 or data[4] != 1:
-        raise LeftOut('no bundle')
-    at, parts = 5, []
-    for _ in range(5):
-        size = int.from_bytes(data[at:at + 4], 'big')
-        parts.append(data[at + 4:at + 4 + size])
-        at += 4 + size
-    return parts
 
 
 def dwarf_info(parts, address_size):
@@ -279,7 +271,10 @@ def main():
             data = f.read()
         before = counts.copy()
         try:
-            lines = Reader(split(data)).read()
+            parts = units.parts(data)
+            if parts is None:
+                raise LeftOut('no bundle')
+            lines = Reader(parts).read()
         except (LeftOut, KeyError, DWARFError, ELFParseError) as why:
             counts.clear()
             counts.update(before)

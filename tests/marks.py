@@ -1,62 +1,28 @@
 #!/usr/bin/python3
-"""marks.py [check]: writes the bundles and the expected lines of crates/mark_points and crates/mark_kept, and those of crates/marks.
+"""marks.py [check]: writes the units made by hand of crates/test_marks and the marks that it must print of them; of
+crates/marks too.
 
-The cases of mark_points are written here, each with the point that it is about, its bytes and the marks that the specification gives, never from a run. Those of mark_kept are
-the kept cases of oracle/kept whose answer by the original says something of marks: accepted ones, and refusals up to the references (4 to 7, and 3). With `check`
-nothing is written, and the files are compared with what would be.
-
-Bytes are hexadecimal. `H` before a unit's bytes stands for the 12-byte header (type 1, address size 8) with the right length. Abbreviations are code tag children
-name/form; A5 are those of the five-entry unit. T is a list section of 12 zeros and a table of one offset, 4; its list follows."""
-import os
+Each case has the point that it is about, its bytes (units.py has the notation) and the marks that the specification
+gives, never from a run. With `check` nothing is written, and the files are compared with what would be."""
 import sys
 
-TESTS = os.path.dirname(os.path.abspath(__file__))
-CRATES = os.path.join(TESTS, '..', 'crates')
-KEPT = os.path.join(TESTS, '..', 'oracle', 'kept')
-FAMILIES = 'small bytes valid lists expressions trees deep refused damaged listed headers declarations numbers operations kinds siblings sums tables'.split()
-A5 = '01 11 01 00 00 02 2e 00 11 1b 49 11 00 00 03 24 00 00 00 00'
-FIVE = 'H 01 020011 03 03 020110 00'
-T = '00' * 12 + '04000000'
-BIG = '808080808080808040'  # 2^62
+from units import A5, BIG, FIVE, T, Part, bundle_of, placed, with_parts, write
+
 points = []
-
-
-def uleb(n):
-    out = b''
-    while n > 127:
-        out += bytes([n & 127 | 128])
-        n >>= 7
-    return out + bytes([n])
-
-
-def abbreviations(text):
-    if '/' not in text and ';' not in text:
-        return bytes.fromhex(text)
-    out = b''
-    for line in text.split(';'):
-        words = line.split()
-        out += uleb(int(words[0])) + uleb(int(words[1], 16)) + bytes(['children' in words])
-        for pair in (w.split('/') for w in words[2:] if w != 'children'):
-            out += b''.join(uleb(int(w, 16)) for w in pair)
-        out += bytes(2)
-    return out + bytes(1)
-
-
-def unit(text):
-    if isinstance(text, bytes):
-        return (8 + len(text)).to_bytes(4, 'little') + bytes.fromhex('0500 01 08 00000000') + text
-    return unit(bytes.fromhex(text[1:])) if text.startswith('H') else bytes.fromhex(text)
-
-
-def bundle(parts):
-    rest = b'\1' + b''.join(len(p).to_bytes(4, 'big') + p for p in parts)
-    return len(rest).to_bytes(4, 'big') + rest
 
 
 def case(why, of_unit, table, expected, locations='', ranges='', addresses=''):
     """expected: marks as `12R 13L`, or `refused N`."""
-    parts = [unit(of_unit), abbreviations(table)] + [bytes.fromhex(p) for p in (locations, ranges, addresses)]
-    points.append((why, bundle(parts), expected))
+    points.append((why, bundle_of(of_unit, table, locations, ranges, addresses), letters(expected)))
+
+
+def letters(expected):
+    """The lines of marks."""
+    if expected.startswith('refused'):
+        return expected + '\n'
+    marks = expected.split()
+    kept = [m for m in marks if m[-1] in 'RL']
+    return ''.join(['entries %d kept %d\n' % (len(marks), len(kept))] + ['%s %s\n' % (m[:-1], m[-1]) for m in marks])
 
 
 # ---- the five-entry unit
@@ -161,93 +127,15 @@ case('36: its own refusal goes first', SIX + b'\5\1\1' + b'\6\1\1\xff', MANY, 'r
 case('36: before the next entry', SIX + b'\4\1\1\1\1\1' + b'\x63', MANY, 'refused 11')
 
 
-def letters(expected):
-    if expected.startswith('refused'):
-        return expected + '\n'
-    marks = expected.split()
-    kept = [m for m in marks if m[-1] in 'RL']
-    return ''.join(['entries %d kept %d\n' % (len(marks), len(kept))] + ['%s %s\n' % (m[:-1], m[-1]) for m in marks])
-
-
-ERRORS = {'ParseUnitAbbreviations': 3, 'ParseUnit': 4, 'Read': 5, 'Address': 6, 'UnexpectedSectionAbsoluteReference': 7}
-
-
-def from_original(line):
-    """The lines that an answer of the original gives, or none."""
-    answer, more = line.rstrip('\n').split(' | ')
-    if not more.endswith('listed -'):
-        return None
-    words = answer.split()
-    if words[0] in ('rewritten', 'untouched'):
-        marks = words[words.index('marks') + 1]
-        return letters('' if marks == '-' else marks.replace(',', ' '))
-    if words[0] == 'error' and words[1] in ERRORS and words[-1] != 'OffsetOutOfBounds':
-        return 'refused %d\n' % ERRORS[words[1]]
-    return None
-
-
-def split(stream):
-    out = []
-    while stream:
-        size = 4 + int.from_bytes(stream[:4], 'big')
-        out.append(stream[:size])
-        stream = stream[size:]
-    return out
-
-
-def kept(family):
-    with open(os.path.join(KEPT, family + '.bundles'), 'rb') as f:
-        bundles = split(f.read())
-    with open(os.path.join(KEPT, family + '.lines')) as f:
-        lines = f.readlines()
-    assert len(bundles) == len(lines)
-    return [(b, from_original(l)) for b, l in zip(bundles, lines) if from_original(l) is not None]
-
-
-def placed(name, cases):
-    """The lines of a file of bundles: its name, and before each answer the place of its bundle."""
-    out, at = '== %s\n' % name, 0
-    for data, expected in cases:
-        out += '-- %d\n%s' % (at, expected)
-        at += len(data)
-    return out
-
-
-def files():
-    made = {}
+def main():
     first = points[0]
-    made['marks/stdin'] = first[1]
-    made['marks/stdout'] = letters(first[2]).encode()
-    made['mark_points/data/points.bundles'] = b''.join(data for _, data, _ in points)
-    made['mark_points/args'] = b'points.bundles\n'
-    made['mark_points/stdout'] = placed('points.bundles', [(data, letters(e)) for _, data, e in points]).encode()
-    out = ''
-    for family in FAMILIES:
-        cases = kept(family)
-        made['mark_kept/data/%s.bundles' % family] = b''.join(b for b, _ in cases)
-        out += placed(family + '.bundles', cases)
-    made['mark_kept/args'] = ''.join('%s.bundles\n' % f for f in FAMILIES).encode()
-    made['mark_kept/stdout'] = out.encode()
-    return made
-
-
-def write(made, checking):
-    """Writes files under crates/, or compares them: how many differ."""
-    wrong = 0
-    for name, data in made.items():
-        path = os.path.join(CRATES, name)
-        if checking:
-            if not os.path.exists(path) or open(path, 'rb').read() != data:
-                wrong += 1
-                print('%s differs' % name)
-        else:
-            os.makedirs(os.path.dirname(path), exist_ok=True)
-            with open(path, 'wb') as f:
-                f.write(data)
-    return wrong
+    made = with_parts('test_marks', [Part('units made by hand', 'marks', ['points.bundles'], placed('points.bundles', [(data, lines) for _, data, lines in points]))])
+    made['test_marks/data/points.bundles'] = b''.join(data for _, data, _ in points)
+    made.update({'marks/stdin': first[1], 'marks/stdout': first[2].encode()})
+    wrong = write(made, sys.argv[1:] == ['check'])
+    print('marks: %d points' % len(points))
+    sys.exit(wrong > 0)
 
 
 if __name__ == '__main__':
-    differing = write(files(), sys.argv[1:] == ['check'])
-    print('marks: %d points, %s' % (len(points), ', '.join('%s %d' % (f, len(kept(f))) for f in FAMILIES)))
-    sys.exit(differing > 0)
+    main()

@@ -1,63 +1,23 @@
 #!/usr/bin/python3
-"""points.py [check]: writes the bundles of crates/dump_points, its arguments and the lines that it must print; of crates/dump too.
+"""points.py [check]: writes the bundles made by hand of crates/test_readers and the lines that it must print of them;
+of crates/dump too.
 
-Each case below has a name, the point that it is about, its bytes, and the expected lines, written from the specification and from
-DWARF 5, never from a run. With `check` nothing is written, and the files are compared with what would be.
+Each case below has a name, the point that it is about, its bytes, and the expected lines, written from the
+specification and from DWARF 5, never from a run; some also the lines that thin must print. With `check` nothing is
+written, and the files are compared with what would be.
 
-Bytes are hexadecimal. `H` before a unit's bytes stands for the 12-byte header (type 1, address size 8) with the right length. In
-abbreviations `1 24 children 03/0b` is code, tag, children, and name/form pairs, closed by 0 0; A5 are those of the five-entry unit.
-Expected lines stand with `|` between them; `unit N` stands for the header line of such a unit that ends at N."""
-import os
+units.py has the notation. Expected lines stand with `|` between them; `unit N` stands for the header line of a unit `H`
+that ends at N."""
 import sys
 
-HOME = os.path.join(os.path.dirname(os.path.abspath(__file__)), '..', 'crates', 'dump_points')
-ONE = os.path.join('..', 'dump')  # the program that reads one bundle: it has the five-entry unit
-A5 = '01 11 01 00 00 02 2e 00 11 1b 49 11 00 00 03 24 00 00 00 00'
-T = '00 ' * 12 + '04 00 00 00 '  # a list section: 12 bytes of header, a table of one offset; its list follows
+from units import A5, BIG, FIVE, T, Part, bundle_of, counted, entry_values, octets, uleb, with_parts, write
+
 cases = []
+thinned = []
 
 
-def octets(text):
-    return bytes.fromhex(text)
-
-
-def uleb(n):
-    out = b''
-    while n >= 128:
-        out += bytes([n % 128 + 128])
-        n //= 128
-    return out + bytes([n])
-
-
-def abbreviations(text):
-    """`1 24 children 03/0b; 2 24`, closed by code 0."""
-    out = b''
-    for line in text.split(';'):
-        words = line.split()
-        children = 'children' in words
-        words = [w for w in words if w != 'children']
-        out += uleb(int(words[0], 16)) + uleb(int(words[1], 16)) + bytes([children])
-        for pair in words[2:]:
-            name, form = pair.split('/')
-            out += uleb(int(name, 16)) + uleb(int(form, 16))
-        out += b'\0\0'
-    return out + b'\0'
-
-
-def unit(body):
-    return (8 + len(body)).to_bytes(4, 'little') + octets('0500 01 08 00000000') + body
-
-
-def of(text):
-    """A unit's bytes: as they stand, or with the header before them."""
-    if isinstance(text, bytes):
-        return text
-    return unit(octets(text[1:])) if text.startswith('H') else octets(text)
-
-
-def join(parts):
-    body = b'\x01' + b''.join(len(p).to_bytes(4, 'big') + p for p in parts)
-    return len(body).to_bytes(4, 'big') + body
+def printed(name, text):
+    return '== %s.bundle\n' % name + ''.join(line + '\n' for line in text)
 
 
 def lines(text):
@@ -69,14 +29,16 @@ def lines(text):
     return out
 
 
-def raw(name, point, data, expected):
-    cases.append((name, point, data, lines(expected)))
+def raw(name, point, data, expected, thin=None):
+    """A file, what dump prints of it, and thin."""
+    cases.append((name, point, data, printed(name, lines(expected))))
+    if thin:
+        thinned.append((name, printed(name, thin.split('|'))))
 
 
-def case(name, point, of_unit, table, expected, locations='', ranges='', addresses=''):
-    """A bundle by its parts; a part is bytes, or hexadecimal text."""
-    table = table if isinstance(table, bytes) else octets(table)
-    raw(name, point, join([of(of_unit), table, octets(locations), octets(ranges), octets(addresses)]), expected)
+def case(name, point, of_unit, table, expected, locations='', ranges='', addresses='', thin=None):
+    """A bundle by its parts."""
+    raw(name, point, bundle_of(of_unit, table, locations, ranges, addresses), expected, thin)
 
 
 def single(name, point, pair, value, expected):
@@ -86,7 +48,7 @@ def single(name, point, pair, value, expected):
     head = 'unit %d|' % (13 + len(data))
     if not expected.startswith('refused'):
         head += 'entry 12 depth 0 code 1 tag 36| attribute %d form %s' % (at, '' if form == 0x16 else '%d ' % form)
-    case(name, point, unit(b'\x01' + data), abbreviations('1 24 ' + pair), head + expected)
+    case(name, point, b'\x01' + data, '1 24 ' + pair, head + expected)
 
 
 def expression(name, point, text, expected=''):
@@ -97,17 +59,17 @@ def expression(name, point, text, expected=''):
 
 
 def range_list(name, point, section, expected):
-    case(name, point, 'H 01 00', abbreviations('1 24 55/23'),
+    case(name, point, 'H 01 00', '1 24 55/23',
          'unit 14|entry 12 depth 0 code 1 tag 36| attribute 85 form 35 value 0|  ' + expected.replace('|', '|  '), ranges=section)
 
 
 def location_list(name, point, section, expected):
-    case(name, point, 'H 01 00', abbreviations('1 24 02/22'),
+    case(name, point, 'H 01 00', '1 24 02/22',
          'unit 14|entry 12 depth 0 code 1 tag 36| attribute 2 form 34 value 0|  ' + expected.replace('|', '|  '), locations=section)
 
 
-def header(name, point, text, expected, table=A5):
-    case(name, point, text, table, expected)
+def header(name, point, text, expected, table=A5, thin=None):
+    case(name, point, text, table, expected, thin=thin)
 
 
 def declared(name, point, text, expected, body='H 01'):
@@ -115,31 +77,31 @@ def declared(name, point, text, expected, body='H 01'):
     case(name, point, body, text, expected)
 
 
-FIVE = '12000000 0500 01 08 00000000 01 02 00 11 03 03 02 01 10 00'
 FIVE_LINES = ('unit 22|entry 12 depth 0 code 1 tag 17 children|entry 13 depth 1 code 2 tag 46| attribute 17 form 27 value 0|'
               ' attribute 73 form 17 value 17|entry 16 depth 1 code 3 tag 36|entry 17 depth 1 code 3 tag 36|entry 18 depth 1 code 2 tag 46|'
               ' attribute 17 form 27 value 1| attribute 73 form 17 value 16|terminator 21 depth 1')
 ENTRY = 'entry 12 depth 0 code 1 tag 36'
 
 # ---- bundles: the length of the rest, version 1, five parts, nothing more (65,536 bytes at most)
-whole = join([octets(FIVE), octets(A5), b'', b'', octets('01 00')])
-raw('five-entries', 'the five-entry unit', whole, FIVE_LINES)
-raw('bundle-empty', 'no bytes at all', b'', 'bundle')
-raw('bundle-three', 'a cut length', whole[:3], 'bundle')
+whole = bundle_of(FIVE, A5, addresses='01 00')
+ROOM = 65536 - len(bundle_of(FIVE, A5))
+raw('five-entries', 'the five-entry unit', whole, FIVE_LINES, 'entries 5 kept 3|12 R 12|13 L 13|16 D -|17 L 16|18 D -')
+raw('bundle-empty', 'no bytes at all', b'', 'bundle', 'bundle')
+raw('bundle-three', 'a cut length', whole[:3], 'bundle', 'bundle')
 raw('bundle-no-version', 'no version byte', octets('00000000'), 'bundle')
 raw('bundle-version-0', 'another version', whole[:4] + b'\0' + whole[5:], 'bundle')
-raw('bundle-version-2', 'another version', whole[:4] + b'\x02' + whole[5:], 'bundle')
-raw('bundle-one-more', 'a byte behind the declared length', whole + b'\0', 'bundle')
-raw('bundle-one-less', 'a byte short of the declared length', whole[:-1], 'bundle')
+raw('bundle-version-2', 'another version', whole[:4] + b'\x02' + whole[5:], 'bundle', 'bundle')
+raw('bundle-one-more', 'a byte behind the declared length', whole + b'\0', 'bundle', 'bundle')
+raw('bundle-one-less', 'a byte short of the declared length', whole[:-1], 'bundle', 'bundle')
 raw('bundle-left-over', 'a byte behind the last part, within the length', octets('00000043') + whole[4:] + b'\0' * 2, 'bundle')
-raw('bundle-too-far', 'a part that reaches past the end', octets('00000041 01 000000ff') + whole[9:], 'bundle')
+raw('bundle-too-far', 'a part that reaches past the end', octets('00000041 01 000000ff') + whole[9:], 'bundle', 'bundle')
 raw('bundle-last-too-far', 'the last part reaches one byte too far', whole[:-6] + octets('00000003 01 00'), 'bundle')
 raw('bundle-four-parts', 'the last part is missing', octets('0000003b') + whole[4:-6], 'bundle')
-raw('bundle-65536', 'the largest', join([octets(FIVE), octets(A5), b'', b'', b'\x01' * (65536 - 25 - 22 - 20)]), FIVE_LINES)
-raw('bundle-65537', 'one more than the largest', join([octets(FIVE), octets(A5), b'', b'', b'\x01' * (65537 - 25 - 22 - 20)]), 'bundle')
+raw('bundle-65536', 'the largest', bundle_of(FIVE, A5, addresses=b'\x01' * ROOM), FIVE_LINES)
+raw('bundle-65537', 'one more than the largest', bundle_of(FIVE, A5, addresses=b'\x01' * (ROOM + 1)), 'bundle')
 
 # ---- the header: 1 cut short, 2 a value outside the domain, in byte order (point 5)
-header('header-empty', 'an empty section', '', 'empty')
+header('header-empty', 'an empty section', '', 'empty', thin='entries 0 kept 0')
 header('header-3-bytes', 'a cut length', '120000', 'refused 1')
 header('header-fffffff0', '5: a length of 0xfffffff0, and nothing behind it', 'f0ffffff', 'refused 2')
 header('header-ffffffff', '5: the 64-bit format', 'ffffffff 0000000000000000', 'refused 2')
@@ -167,7 +129,7 @@ header('header-split-20', 'a split unit with no entries', '10000000 0500 05 04 0
        'unit type 5 address_size 4 abbreviations 0 first 20 end 20')
 header('header-split-entry', 'a split unit with an entry', '11000000 0500 05 08 00000000 0100000000000000 03',
        'unit type 5 address_size 8 abbreviations 0 first 20 end 21|entry 20 depth 0 code 3 tag 36')
-header('header-no-entries', 'a unit with no entries', 'H', 'unit 12')
+header('header-no-entries', 'a unit with no entries', 'H', 'unit 12', thin='entries 0 kept 0')
 header('header-two-units', 'a second unit is not read', '09000000 0500 01 08 00000000 03 ffffffff', 'unit 13|entry 12 depth 0 code 3 tag 36')
 
 # ---- abbreviations: 3 (points 3, 4, 6, 7)
@@ -261,7 +223,7 @@ for form, value, expected in FORMS:
     single('indirect-%s' % form, 'form 0x%s under indirect' % form, '03/16', number.hex() + value, '%d %s' % (int(form, 16), expected))
 single('form-19', 'flag_present takes no bytes', '03/19', '', 'value 1')
 single('indirect-19', 'flag_present under indirect', '03/16', '19', '25 value 1')
-case('form-01-32', 'form addr in a unit of address size 4', '0d000000 0500 01 04 00000000 01 44332211', abbreviations('1 24 11/01'),
+case('form-01-32', 'form addr in a unit of address size 4', '0d000000 0500 01 04 00000000 01 44332211', '1 24 11/01',
      'unit type 1 address_size 4 abbreviations 0 first 12 end 17|' + ENTRY + '| attribute 17 form 1 value 287454020')
 for form in ('02', '2d', '2e', '1f00', '1f01', '1f03', '1f20', '1f21', 'ffff'):
     single('form-%s-unknown' % form, 'form 0x%s is unknown' % form, '03/' + form, '00000000', 'refused 4')
@@ -285,8 +247,8 @@ single('form-08-empty', 'an empty string', '03/08', '00', 'bytes 13 to 14')
 single('form-0a-empty', 'an empty block', '03/0a', '00', 'bytes 14 to 14')
 single('form-18-empty', 'an empty expression', '03/18', '00', 'bytes 14 to 14')
 single('form-18-padded', 'a padded length', '02/18', '848000 98 0c00 96', 'bytes 16 to 20|  reference at 1 to 12 width 2')
-case('unit-end', 'attribute bytes end at the unit\'s end', '0a000000 0500 01 08 00000000 01 00 00 00 00', abbreviations('1 24 03/05'), 'unit 14|refused 4')
-case('string-end', 'a string whose zero lies behind the unit', '0a000000 0500 01 08 00000000 01 61 00', abbreviations('1 24 03/08'), 'unit 14|refused 4')
+case('unit-end', 'attribute bytes end at the unit\'s end', '0a000000 0500 01 08 00000000 01 00 00 00 00', '1 24 03/05', 'unit 14|refused 4')
+case('string-end', 'a string whose zero lies behind the unit', '0a000000 0500 01 08 00000000 01 61 00', '1 24 03/08', 'unit 14|refused 4')
 
 # ---- indirect, siblings, codes (points 8 to 11)
 single('p08-chain', '8: indirect under indirect', '03/16', '16 16 0b 00', '11 value 0')
@@ -318,7 +280,7 @@ case('p11-open', '11: children that are open at the unit\'s end', 'H 01 03', A5,
 case('p11-two-trees', '11: two trees', 'H 01 01 00 00 00 01 00 03', A5,
      'unit 20|entry 12 depth 0 code 1 tag 17 children|entry 13 depth 1 code 1 tag 17 children|terminator 14 depth 2|terminator 15 depth 1|'
      'terminator 16 depth 0|entry 17 depth 0 code 1 tag 17 children|terminator 18 depth 1|entry 19 depth 0 code 3 tag 36')
-case('p02-last', '2: the last entry ends where the unit ends', 'H 01 0f 02 02', abbreviations('1 24 49/11; 2 24'),
+case('p02-last', '2: the last entry ends where the unit ends', 'H 01 0f 02 02', '1 24 49/11; 2 24',
      'unit 16|' + ENTRY + '| attribute 73 form 17 value 15|entry 14 depth 0 code 2 tag 36|entry 15 depth 0 code 2 tag 36')
 
 # ---- lists (points 1, 15 to 17, 21, 24, 30, 38)
@@ -327,46 +289,46 @@ single('p01-location', '1: nor does a location', '02/06', '01000000', 'value 1')
 range_list('p15', '15: startx_endx whose end is cut', T + '02 00', 'list at 16|list refused 5')
 range_list('p16-at-end', '16: an offset of the section\'s length is an empty list', T, 'list at 16|end')
 range_list('p16-past', '16: one more is not resolved', '00 ' * 12 + '05 00 00 00', 'list unresolved')
-range_list('p16-cut', '16: a table place of three bytes', T[:-3], 'list unresolved')
+range_list('p16-cut', '16: a table place of three bytes', T[:-2], 'list unresolved')
 location_list('p16-locations-at-end', '16: the same for locations', T, 'list at 16|end')
 location_list('p16-locations-past', '16', '00 ' * 12 + '05 00 00 00', 'list unresolved')
-location_list('p16-locations-cut', '16', T[:-3], 'list unresolved')
+location_list('p16-locations-cut', '16', T[:-2], 'list unresolved')
 range_list('p16-before', '16: an offset of 0 is the table itself', '00 ' * 12 + '00 00 00 00', 'list at 12|end')
 range_list('p16-largest', '16: the largest offset', '00 ' * 12 + 'ff ff ff ff', 'list unresolved')
 for form, what in (('23', 'ranges'), ('22', 'locations')):
-    at, index, decimal = ('55' if form == '23' else '02'), '808080808080808040', 2 ** 62
-    case('p17-' + what, '17: index 2^62, times four above 64 bits', 'H 01' + index, abbreviations('1 24 %s/%s' % (at, form)),
+    at, index, decimal = ('55' if form == '23' else '02'), BIG, 2 ** 62
+    case('p17-' + what, '17: index 2^62, times four above 64 bits', 'H 01' + index, '1 24 %s/%s' % (at, form),
          'unit 22|' + ENTRY + '| attribute %d form %d value %d|  list unresolved' % (int(at, 16), int(form, 16), decimal), locations=T, ranges=T)
     case('p17-largest-' + what, '17: the largest index and base', 'H 01 ffffffff ffffffffffffffffff01',
-         abbreviations('1 11 %s/17 %s/%s' % ('74' if form == '23' else '8c', at, form)),
+         '1 11 %s/17 %s/%s' % ('74' if form == '23' else '8c', at, form),
          'unit 27|entry 12 depth 0 code 1 tag 17| attribute %d form 23 value 4294967295| attribute %d form %d value 18446744073709551615|'
          '  list unresolved' % (116 if form == '23' else 140, int(at, 16), int(form, 16)), locations=T, ranges=T)
 location_list('p24', '24: entry by entry', T + '05 05 9a00000000 ff', 'list at 16|kind 5 0 0 bytes 18 to 23|expression refused 7|list refused 5')
-case('p38', '38: sec_offset under indirect', 'H 01 17 00000000', abbreviations('1 2e 55/16'),
+case('p38', '38: sec_offset under indirect', 'H 01 17 00000000', '1 2e 55/16',
      'unit 18|entry 12 depth 0 code 1 tag 46| attribute 85 form 23 value 0|  list at 0|  end', ranges='00')
-case('location-sec-offset', 'a location\'s sec_offset is from the section\'s start', 'H 01 02000000', abbreviations('1 34 02/17'),
+case('location-sec-offset', 'a location\'s sec_offset is from the section\'s start', 'H 01 02000000', '1 34 02/17',
      'unit 17|entry 12 depth 0 code 1 tag 52| attribute 2 form 23 value 2|  list at 2|  kind 5 0 0 bytes 4 to 7|  reference at 1 to 12 width 2|  end',
      locations='ffff 05 03 980c00 00')
-case('location-sec-offset-past', 'and past its end is not resolved', 'H 01 04000000', abbreviations('1 34 02/17'),
+case('location-sec-offset-past', 'and past its end is not resolved', 'H 01 04000000', '1 34 02/17',
      'unit 17|entry 12 depth 0 code 1 tag 52| attribute 2 form 23 value 4|  list unresolved', locations='050196')
-case('sec-offset-other', 'a sec_offset of another attribute names no list', 'H 01 00000000', abbreviations('1 11 10/17'),
+case('sec-offset-other', 'a sec_offset of another attribute names no list', 'H 01 00000000', '1 11 10/17',
      'unit 17|entry 12 depth 0 code 1 tag 17| attribute 16 form 23 value 0', locations='ff', ranges='ff')
 case('p21-bases', '21: the last base in an entry counts, for the whole entry and those behind it',
-     'H 02 00 01 00 00 00000000 04000000 02 00 00', abbreviations('1 11 children 55/23 02/22 74/17 74/17; 2 24 55/23'),
+     'H 02 00 01 00 00 00000000 04000000 02 00 00', '1 11 children 55/23 02/22 74/17 74/17; 2 24 55/23',
      'unit 28|entry 12 depth 0 code 2 tag 36| attribute 85 form 35 value 0|  list unresolved|'
      'entry 14 depth 0 code 1 tag 17 children| attribute 85 form 35 value 0|  list at 8|  kind 4 1 2|  end| attribute 2 form 34 value 0|  list at 16|  end|'
      ' attribute 116 form 23 value 0| attribute 116 form 23 value 4|entry 25 depth 1 code 2 tag 36| attribute 85 form 35 value 0|  list at 8|  kind 4 1 2|  end|'
      'terminator 27 depth 1', locations=T, ranges='ffffffff 04000000 04 01 02 00')
 case('p21-indirect', '21: a base in sec_offset under indirect counts; a base of another tag does not',
-     'H 02 00000000 01 17 04000000 00 03', abbreviations('1 11 8c/16 02/22; 2 24 8c/17; 3 24'),
+     'H 02 00000000 01 17 04000000 00 03', '1 11 8c/16 02/22; 2 24 8c/17; 3 24',
      'unit 25|entry 12 depth 0 code 2 tag 36| attribute 140 form 23 value 0|entry 17 depth 0 code 1 tag 17| attribute 140 form 23 value 4|'
      ' attribute 2 form 34 value 0|  list at 8|  end|entry 24 depth 0 code 3 tag 36', locations='ffffffff 04000000 00')
-case('p30', '30: a base in data4 does not count', 'H 01 00000000 00', abbreviations('1 11 74/06 55/23'),
+case('p30', '30: a base in data4 does not count', 'H 01 00000000 00', '1 11 74/06 55/23',
      'unit 18|entry 12 depth 0 code 1 tag 17| attribute 116 form 6 value 0| attribute 85 form 35 value 0|  list at 16|  end', ranges=T)
 range_list('range-kinds', 'every kind of range list entry',
            T + '01 05 02 8001 07 03 01 8000 04 10 20 05 0100000000000080 06 0200000000000000 0300000000000000 07 0400000000000000 ff01 00 ff',
            'list at 16|kind 1 5 0|kind 2 128 7|kind 3 1 0|kind 4 16 32|kind 5 9223372036854775809 0|kind 6 2 3|kind 7 4 255|end')
-case('range-kinds-32', 'the same with addresses of four bytes', '0a000000 0500 01 04 00000000 01 00', abbreviations('1 24 55/23'),
+case('range-kinds-32', 'the same with addresses of four bytes', '0a000000 0500 01 04 00000000 01 00', '1 24 55/23',
      'unit type 1 address_size 4 abbreviations 0 first 12 end 14|' + ENTRY + '| attribute 85 form 35 value 0|  list at 16|  kind 5 2147483649 0|'
      '  kind 6 2 3|  kind 7 4 255|  end', ranges=T + '05 01000080 06 02000000 03000000 07 04000000 ff01 00')
 range_list('range-section-end', 'a list that ends with its section, between two entries', T + '04 00 00', 'list at 16|kind 4 0 0|end')
@@ -379,7 +341,7 @@ location_list('location-kinds', 'every kind of location list entry',
               'list at 16|kind 1 5 0|kind 2 128 7 bytes 23 to 24|kind 3 1 0 bytes 29 to 32|reference at 1 to 12 width 2|kind 4 16 32 bytes 36 to 36|'
               'kind 5 0 0 bytes 38 to 40|reference at 1 to 12 width 1|kind 6 9223372036854775809 0|kind 7 2 3 bytes 67 to 72|'
               'reference at 1 to 13 width 4|kind 8 4 255 bytes 85 to 86|end')
-case('location-kinds-32', 'the same with addresses of four bytes', '0a000000 0500 01 04 00000000 01 00', abbreviations('1 24 02/22'),
+case('location-kinds-32', 'the same with addresses of four bytes', '0a000000 0500 01 04 00000000 01 00', '1 24 02/22',
      'unit type 1 address_size 4 abbreviations 0 first 12 end 14|' + ENTRY + '| attribute 2 form 34 value 0|  list at 16|  kind 6 2147483649 0|'
      '  kind 7 2 3 bytes 31 to 32|  kind 8 4 255 bytes 40 to 45|  end',
      locations=T + '06 01000080 07 02000000 03000000 01 96 08 04000000 ff01 05 03 04000000 00')
@@ -404,7 +366,7 @@ for code in ('a5', 'f5', 'a6', 'f6', 'a7'):
     expression('p26-%s-zero' % code, '26: the second operand', code + '0500')
 for code in ('a4', 'f4'):
     expression('p26-%s-zero' % code, '26: a constant with type 0', code + '00 01 07')
-case('p28', '28: a block under location is no expression', 'H 01 03 980e00 02', abbreviations('1 24 02/0a; 2 24'),
+case('p28', '28: a block under location is no expression', 'H 01 03 980e00 02', '1 24 02/0a; 2 24',
      'unit 18|' + ENTRY + '| attribute 2 form 10 bytes 14 to 17|entry 17 depth 0 code 2 tag 36')
 expression('p29-breg31', '29: breg31', '8f00')
 for code in ('90', '92', 'a5', 'f5'):
@@ -441,13 +403,13 @@ expression('const-type-too-long', 'bytes that reach past the expression', 'a4 0c
 expression('repeats', 'repeats and dangling references count', '98 0c00 98 0c00 98 ffff', 'reference at 1 to 12 width 2|  reference at 4 to 12 width 2|'
            '  reference at 7 to 65535 width 2')
 expression('type-large', 'a type\'s offset may have 64 bits', 'a8 ffffffffffffffffff01', 'reference at 1 to 18446744073709551615 width 10')
-case('unit-end-expression', 'an expression whose operand lies behind the exprloc', 'H 01 01 98 0c 00', abbreviations('1 24 02/18 03/05'),
+case('unit-end-expression', 'an expression whose operand lies behind the exprloc', 'H 01 01 98 0c 00', '1 24 02/18 03/05',
      'unit 17|' + ENTRY + '| attribute 2 form 24 bytes 14 to 15|  expression refused 5| attribute 3 form 5 value 12')
-case('expression-any-name', 'an exprloc under any name is an expression', 'H 01 03 980c00', abbreviations('1 24 03/18'),
+case('expression-any-name', 'an exprloc under any name is an expression', 'H 01 03 980c00', '1 24 03/18',
      'unit 17|' + ENTRY + '| attribute 3 form 24 bytes 14 to 17|  reference at 1 to 12 width 2')
 
-# Every operation once, alone in its entry and with a call2 behind it, whose place shows how many bytes it takes: code, operands, and
-# the reference that it holds itself (place, offset, width).
+# Every operation once, alone in its entry and with a call2 behind it, whose place shows how many bytes it takes: code,
+# operands, and the reference that it holds itself (place, offset, width).
 NONE = [0x06, 0x12, 0x13, 0x14, 0x16, 0x17, 0x18] + list(range(0x19, 0x23)) + list(range(0x24, 0x28)) + list(range(0x29, 0x2f)) + \
     list(range(0x30, 0x70)) + [0x96, 0x97, 0x9b, 0x9c, 0x9f, 0xe0]
 OPERATIONS = [(c, '', None) for c in NONE] + [(c, '8180 00', None) for c in range(0x70, 0x90)] + [
@@ -482,8 +444,7 @@ def operations(name, size):
                     out.append('  reference at %d to %d width %d' % own)
                 out.append('  reference at %d to 12 width 2' % (len(whole) + 1))
             at += 2 + len(data)
-    data = (8 + len(body)).to_bytes(4, 'little') + octets('0500 01 %02x 00000000' % size) + body
-    case(name, 'every operation', data, abbreviations('1 24 02/18'),
+    case(name, 'every operation', '%s %s' % ({8: 'H', 4: 'H4'}[size], body.hex()), '1 24 02/18',
          '|'.join(['unit type 1 address_size %d abbreviations 0 first 12 end %d' % (size, at)] + out))
 
 
@@ -493,7 +454,7 @@ def every_unknown():
     for i, code in enumerate(UNKNOWN):
         body += b'\x01\x02' + bytes([code, 0x96])
         out += ['entry %d depth 0 code 1 tag 36' % (12 + 4 * i), ' attribute 2 form 24 bytes %d to %d' % (14 + 4 * i, 16 + 4 * i), '  expression refused 5']
-    case('operations-unknown', 'every code that is no operation', unit(body), abbreviations('1 24 02/18'), '|'.join(out))
+    case('operations-unknown', 'every code that is no operation', body, '1 24 02/18', '|'.join(out))
 
 
 operations('operations', 8)
@@ -504,45 +465,46 @@ assert len(OPERATIONS) + len(UNKNOWN) + 4 == 256  # the four section-absolute on
 # 2,049 references are one more than dump's table holds; a section-absolute operand goes before that.
 many = octets('98 0c00') * 2049
 for name, data, number in (('references-2049', many, 11), ('references-2049-absolute', many + octets('9a00000000'), 7)):
-    case(name, '49: the order of 7 and 11', unit(b'\x01' + uleb(len(data)) + data), abbreviations('1 24 02/18'),
+    case(name, '49: the order of 7 and 11', b'\x01' + counted(data), '1 24 02/18',
          'unit %d|' % (15 + len(data)) + ENTRY + '| attribute 2 form 24 bytes 15 to %d|  expression refused %d' % (15 + len(data), number))
 
-# 52: entry values in each other, as many as go into a bundle, with a call2 in the innermost. The last two bytes are its operand.
+# 52: entry values in each other, as many as go into a bundle, with a call2 in the innermost. The last two bytes are its
+# operand.
 deep = octets('98 0c00')
 levels = 0
 while len(deep) + 4 <= 65536 - 25 - 12 - 1 - 3 - 8:
-    deep = b'\xa3' + uleb(len(deep)) + deep
+    deep = entry_values(1, deep)
     levels += 1
 assert levels > 17000
-case('p52', '52: %d levels of entry values' % levels, unit(b'\x01' + uleb(len(deep)) + deep), abbreviations('1 24 02/18'),
+case('p52', '52: %d levels of entry values' % levels, b'\x01' + counted(deep), '1 24 02/18',
      'unit %d|' % (16 + len(deep)) + ENTRY + '| attribute 2 form 24 bytes 16 to %d|  reference at %d to 12 width 2' % (16 + len(deep), len(deep) - 2))
 
 # ---- inputs of points about root tests, rewriting and marks: what is read of them
 CHILD = 'unit %d|entry 12 depth 0 code 1 tag 17 children|entry 13 depth 1 code 2 tag %d|'
-case('p13', '13: two locations', 'H 01 02 02a101 02a107 00', abbreviations('1 11 children; 2 34 02/18 02/18'),
+case('p13', '13: two locations', 'H 01 02 02a101 02a107 00', '1 11 children; 2 34 02/18 02/18',
      CHILD % (21, 52) + ' attribute 2 form 24 bytes 15 to 17| attribute 2 form 24 bytes 18 to 20|terminator 20 depth 1', addresses='00 01')
 range_list('p18', '18: what stands behind a live range', T + '04 00 00 ff', 'list at 16|kind 4 0 0|list refused 5')
 range_list('p19', '19: a base with no pair behind it', T + '01 00', 'list at 16|kind 1 0 0|end')
-case('p20', '20: a base in a list of the older kind', 'H 01 02 00000000 00', abbreviations('1 11 children; 2 2e 55/17'),
+case('p20', '20: a base in a list of the older kind', 'H 01 02 00000000 00', '1 11 children; 2 2e 55/17',
      CHILD % (19, 46) + ' attribute 85 form 23 value 0|  list at 0|  kind 1 0 0|  end|terminator 18 depth 1', ranges='01 00')
-case('p22', '22: low_pc in a reference form', 'H 01 02 0c 00', abbreviations('1 11 children; 2 2e 11/11'),
+case('p22', '22: low_pc in a reference form', 'H 01 02 0c 00', '1 11 children; 2 2e 11/11',
      CHILD % (16, 46) + ' attribute 17 form 17 value 12|terminator 15 depth 1')
-case('p23', '23: ref_addr before a broken range list', 'H 01 02 00000000 00 00', abbreviations('1 11 children; 2 2e 49/10 55/23'),
+case('p23', '23: ref_addr before a broken range list', 'H 01 02 00000000 00 00', '1 11 children; 2 2e 49/10 55/23',
      CHILD % (20, 46) + ' attribute 73 form 16 value 0| attribute 85 form 35 value 0|  list at 16|  list refused 5|terminator 19 depth 1', ranges=T + 'ff')
-case('p25', '25: a dangling reference in a location list', 'H 01 00 02', abbreviations('1 24 02/22; 2 24'),
+case('p25', '25: a dangling reference in a location list', 'H 01 00 02', '1 24 02/22; 2 24',
      'unit 15|' + ENTRY + '| attribute 2 form 34 value 0|  list at 16|  kind 5 0 0 bytes 18 to 21|  reference at 1 to 99 width 2|  end|'
      'entry 14 depth 0 code 2 tag 36', locations=T + '05 03 986300 00')
-case('p32', '32: siblings', 'H 01 0e 02 10 03 00 03 00', abbreviations('1 24 children 01/11; 2 24 children 01/11; 3 24'),
+case('p32', '32: siblings', 'H 01 0e 02 10 03 00 03 00', '1 24 children 01/11; 2 24 children 01/11; 3 24',
      'unit 20|entry 12 depth 0 code 1 tag 36 children| attribute 1 form 17 value 14|entry 14 depth 1 code 2 tag 36 children| attribute 1 form 17 value 16|'
      'entry 16 depth 2 code 3 tag 36|terminator 17 depth 2|entry 18 depth 1 code 3 tag 36|terminator 19 depth 1')
-case('p33', '33: a sibling in strx', 'H 01 05 02', abbreviations('1 11 01/1a; 2 24'),
+case('p33', '33: a sibling in strx', 'H 01 05 02', '1 11 01/1a; 2 24',
      'unit 15|entry 12 depth 0 code 1 tag 17| attribute 1 form 26 value 5|entry 14 depth 0 code 2 tag 36')
-case('p34', '34: ranges by index and by offset', 'H 01 07 02 00000000', abbreviations('1 11 55/23; 2 24 55/17'),
+case('p34', '34: ranges by index and by offset', 'H 01 07 02 00000000', '1 11 55/23; 2 24 55/17',
      'unit 19|entry 12 depth 0 code 1 tag 17| attribute 85 form 35 value 7|  list unresolved|entry 14 depth 0 code 2 tag 36| attribute 85 form 23 value 0|'
      '  list at 0|  end')
-case('p39', '39: low_pc of another tag', 'H 01 02 07 00', abbreviations('1 11 children; 2 0b 11/1b'),
+case('p39', '39: low_pc of another tag', 'H 01 02 07 00', '1 11 children; 2 0b 11/1b',
      CHILD % (16, 11) + ' attribute 17 form 27 value 7|terminator 15 depth 1')
-case('p41', '41: two ranges attributes', 'H 01 02 00 00 00', abbreviations('1 11 children; 2 2e 55/23 55/0b'),
+case('p41', '41: two ranges attributes', 'H 01 02 00 00 00', '1 11 children; 2 2e 55/23 55/0b',
      CHILD % (17, 46) + ' attribute 85 form 35 value 0|  list at 16|  end| attribute 85 form 11 value 0|terminator 16 depth 1', ranges=T)
 
 # ---- references that are copied or read as numbers
@@ -551,35 +513,18 @@ single('p42-indirect', '42: ref_addr under indirect', '49/16', '10 00000000', '1
 single('ranges-sec-offset', 'a range list at an offset past its section', '55/17', '01000000', 'value 1|  list unresolved')
 
 
-def files():
-    out = {'args': ''.join(name + '.bundle\n' for name, _, _, _ in cases).encode(),
-           'stdout': ''.join('== %s.bundle\n' % name + ''.join(line + '\n' for line in text) for name, _, _, text in cases).encode()}
-    for name, _, data, text in cases:
-        out['data/%s.bundle' % name] = data
-        if name == 'five-entries':
-            out[os.path.join(ONE, 'stdin')] = data
-            out[os.path.join(ONE, 'stdout')] = ''.join(line + '\n' for line in text).encode()
-    return out
-
-
 def main():
     names = [name for name, _, _, _ in cases]
     assert len(set(names)) == len(names), [n for n in names if names.count(n) > 1]
-    wanted = files()
-    there = {'data/' + f for f in os.listdir(os.path.join(HOME, 'data'))} if os.path.isdir(os.path.join(HOME, 'data')) else set()
-    if sys.argv[1:] == ['check']:
-        wrong = [f for f in wanted if not os.path.exists(os.path.join(HOME, f)) or open(os.path.join(HOME, f), 'rb').read() != wanted[f]]
-        wrong += sorted(there - set(wanted))
-        if wrong:
-            sys.exit('points.py: not as written here: ' + ' '.join(wrong))
-    else:
-        os.makedirs(os.path.join(HOME, 'data'), exist_ok=True)
-        for f in there - set(wanted):
-            os.remove(os.path.join(HOME, f))
-        for f, data in wanted.items():
-            with open(os.path.join(HOME, f), 'wb') as out:
-                out.write(data)
-    print('points.py: %d cases' % len(cases))
+    made = with_parts('test_readers', [
+        Part('bundles and units made by hand', 'dump', [n + '.bundle' for n in names], ''.join(text for _, _, _, text in cases)),
+        Part('some of them through thin', 'thin', [n + '.bundle' for n, _ in thinned], ''.join(text for _, text in thinned))])
+    made.update({'test_readers/data/%s.bundle' % name: data for name, _, data, _ in cases})
+    # the program that reads one bundle: it has the five-entry unit
+    made.update({'dump/stdin': whole, 'dump/stdout': cases[0][3].split('\n', 1)[1].encode()})
+    wrong = write(made, sys.argv[1:] == ['check'])
+    print('points: %d cases, %d through thin' % (len(cases), len(thinned)))
+    sys.exit(wrong > 0)
 
 
 if __name__ == '__main__':

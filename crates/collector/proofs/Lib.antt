@@ -1,3 +1,2 @@
 mod Runs
 mod Counting
-pub mod Refusals

@@ -8,7 +8,8 @@ use native.Mathlib.Numerals.{add-one}
 use native.Mathlib.Omega.{arith}
 use lib.ListN.{length, getD, take, drop, length-append, take-append-drop}
 use lib.Seq.{take-at, take-suc, take-length, drop-append-add, drop-drop, length-take-le}
-use Rattle.readers.specs.Numbers.{fixedBytes, length-fixed}
+use Rattle.readers.specs.Numbers.{fixedBytes}
+use Rattle.readers.proofs.Numbers.{length-fixed}
 use Rattle.rewriting.specs.Written.{put, runBytes}
 use Rattle.rewriting.proofs.Tables.{length-run, length-put}
 

@@ -1,3 +1,1 @@
 pub mod Call
-pub mod Refusals
-pub mod Examples

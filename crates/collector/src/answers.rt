@@ -6,7 +6,7 @@ ghost use Rattle.readers.specs.Choice.{pick, zeros};
 ghost use Rattle.marking.specs.Columns.{padTo};
 ghost use Rattle.rewriting.specs.Written.{put, runBytes};
 ghost use Rattle.collector.specs.Call.{countOf, presenceOf, countBytes, isUncounted, acceptedCounts, numberFor, countsFor};
-use marking::columns::clear_bytes;
+use readers::tables::clear_bytes;
 use rewriting::collect::Collected;
 use rewriting::collect::Counts;
 use rewriting::lists::ListCount;

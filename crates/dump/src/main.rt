@@ -2,5 +2,5 @@
 fn main() {
     let mut input = [0u8; 65537];
     let n = io::read_full(0, &mut input);
-    dumping::dump(&input[..n]);
+    printing::dump::dump(&input[..n]);
 }

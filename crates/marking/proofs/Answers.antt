@@ -10,7 +10,7 @@ use Rattle.readers.specs.Choice.{pick, _and_, _or_}
 use Rattle.marking.specs.Below.{every}
 use Rattle.marking.specs.Graph.{Graph, graph, size, noParent, references, parentFits, pairFits, rootFits, wellFormed, takes}
 use Rattle.marking.specs.Marks.{isKept, keptCount, marksOf, endMarks, answerOf}
-use Rattle.marking.specs.Passes.{sum, Sound, Settled, ParentsFit, PairsFit, endFirst}
+use Rattle.marking.specs.inner.Passes.{sum, Sound, Settled, ParentsFit, PairsFit, endFirst}
 use Rattle.marking.specs.declared.marks.Marked.the-variants.{Kept, Refused}
 use Rattle.marking.proofs.Tests.{and-out, and-in, or-inl, or-inr}
 use Rattle.marking.proofs.Graphs.{WellFormed, well-formed}

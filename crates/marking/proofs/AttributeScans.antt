@@ -14,13 +14,15 @@ use Rattle.readers.specs.Lists.{listOffset, listStart}
 use Rattle.readers.specs.declared.cursor.Moved.{Moved}
 use Rattle.readers.specs.declared.cursor.Encoding.{Encoding}
 use Rattle.readers.specs.declared.lists.ListOffset.{ListOffset}
-use Rattle.marking.specs.Roots.{Valued, entryValues, nextAttribute}
-use Rattle.marking.specs.EntryReferences.{Found, found, refused, after, andThen, expressionFound, partOf, listFound, Locations, attributeFound, attributesFound}
-use Rattle.marking.specs.declared.root_test.EntryAttribute.{EntryAttribute}
-use Rattle.marking.specs.declared.root_test.NextAttribute.{NextAttribute}
-use Rattle.marking.specs.declared.root_test.NextAttribute.the-variants.{More, NoMore}
-use Rattle.marking.proofs.Attributes.{stepped, stepped-on, ends-on, no-more, stop-end}
-use Rattle.marking.specs.ReferenceTable.{nextPlace, written, tableAfter, scannedTo, entryScanned, endBy, valuedBy}
+use Rattle.readers.specs.EntryAttributes.{Valued, entryValues, nextAttribute}
+use Rattle.readers.specs.inner.EntryAttributes.{endBy}
+use Rattle.marking.specs.EntryReferences.{ReferencesFound, found, refused, after, andThen, expressionFound, partOf, listFound, Locations, attributeFound, attributesFound}
+use Rattle.readers.specs.declared.entry_attributes.EntryAttribute.{EntryAttribute}
+use Rattle.readers.specs.declared.entry_attributes.NextAttribute.{NextAttribute}
+use Rattle.readers.specs.declared.entry_attributes.NextAttribute.the-variants.{More, NoMore}
+use Rattle.readers.proofs.EntryAttributes.{stepped, stepped-on, ends-on, no-more, stop-end}
+use Rattle.marking.specs.ReferenceTable.{nextPlace, written, tableAfter, scannedTo, entryScanned}
+use Rattle.marking.specs.inner.ReferenceTable.{valuedBy}
 use Rattle.marking.specs.declared.references.Scanned.{Scanned}
 use Rattle.marking.specs.declared.references.Scanned.the-variants.{To, Refused}
 use Rattle.marking.specs.declared.references.EntryScan.{EntryScan}
@@ -119,7 +121,7 @@ module _ (e : Encoding) (l : Locations) (a : Valued) (table : List ℕ) (at : �
 -- ---- the loop over the attributes: what is in the table, and what is found from here on
 
 -- a scan whose values end there
-abbrev EntryScans : List ℕ → ℕ → Found → Moved → EntryScan → List ℕ → Type 0
+abbrev EntryScans : List ℕ → ℕ → ReferencesFound → Moved → EntryScan → List ℕ → Type 0
 EntryScans table at f end w table′ = (w ≡ entryScanned (scannedTo (length table) at f) end) × (table′ ≡ tableAfter table at f)
 
 pub record Scanning (e : Encoding) (l : Locations) (s table₀ : List ℕ) (p₀ from₀ at : ℕ) (table : List ℕ) (p from to : ℕ) : Type 0 where
@@ -129,7 +131,7 @@ pub record Scanning (e : Encoding) (l : Locations) (s table₀ : List ℕ) (p₀
   pub ends : valuesAt e s p₀ (l .unit) from₀ ≡ valuesAt e s p (l .unit) from
 
 module _ (e : Encoding) (l : Locations) (s table₀ : List ℕ) (p₀ from₀ at : ℕ) where
-  abbrev all : Found
+  abbrev all : ReferencesFound
   all = attributesFound e l (entryValues e s p₀ (l .unit) from₀)
 
   abbrev past : Moved
@@ -163,10 +165,10 @@ module _ (e : Encoding) (l : Locations) (s table₀ : List ℕ) (p₀ from₀ at
         pub scanning-less : length s - x .next .at < length s - p
         scanning-less = omega (arith, stepped e s p (l .unit) from x (sym q ∙ r) .ahead, stepped e s p (l .unit) from x (sym q ∙ r) .inside)
 
-        abbrev rest : Found
+        abbrev rest : ReferencesFound
         rest = attributesFound e l (entryValues e s (x .next .at) (l .unit) (x .values .at))
 
-        whole-turn : (f : Found) → attributeFound e l (valuedBy x) ≡ f → all ≡ after (h .sofar) (andThen f rest)
+        whole-turn : (f : ReferencesFound) → attributeFound e l (valuedBy x) ≡ f → all ≡ after (h .sofar) (andThen f rest)
         unfolding attributesFound
         whole-turn f k =
             h .whole

@@ -6,25 +6,27 @@ use mathlib.Core.List.{List, [], _∷_, _++_, append-assoc, append-nil}
 use lib.ListN.{length, getD, take, drop, length-append, take-append-drop}
 use lib.Seq.{getD-take, getD-at, take-at, drop-append-add, take-append-seam, drop-append-seam, append-snoc}
 use Rattle.readers.specs.Choice.{zeros}
-use Rattle.marking.specs.Analysis.{Row, Rooms}
+use Rattle.marking.specs.Analysis.{EntryRow, Rooms}
 use Rattle.marking.specs.Columns.{offsetsIn, namesIn, endsIn, padTo}
-use Rattle.marking.specs.Resolution.{pairsOfEntry, pairsFrom, pairsIn, put, Ready, Held, Ascending}
+use Rattle.marking.specs.inner.Columns.{put}
+use Rattle.marking.specs.Resolution.{pairsOfEntry, pairsFrom, pairsIn, Ascending}
+use Rattle.marking.specs.inner.Resolution.{ResolveInput, ReferenceColumns}
 use Rattle.marking.proofs.Rows.{UnitRows, rowed-from, offsets-ascend, length-offsets}
 use Rattle.marking.proofs.Pairs.{pairs-few, length-put}
 
 -- ---- rows after rows
 
-pub names-append : (xs ys : List Row) → namesIn (xs ++ ys) ≡ namesIn xs ++ namesIn ys
+pub names-append : (xs ys : List EntryRow) → namesIn (xs ++ ys) ≡ namesIn xs ++ namesIn ys
 unfolding namesIn
 names-append [] ys = refl
 names-append (x ∷ xs) ys = ap (λ (l : List ℕ). x .names ++ l) (names-append xs ys) ∙ sym (append-assoc (x .names) (namesIn xs) (namesIn ys))
 
-pub length-ends : (m : ℕ) (rows : List Row) → length (endsIn m rows) ≡ length rows
+pub length-ends : (m : ℕ) (rows : List EntryRow) → length (endsIn m rows) ≡ length rows
 unfolding endsIn
 length-ends m [] = refl
 length-ends m (r ∷ rs) = ap suc (length-ends (m + length (r .names)) rs)
 
-pub ends-append : (m : ℕ) (xs ys : List Row) → endsIn m (xs ++ ys) ≡ endsIn m xs ++ endsIn (m + length (namesIn xs)) ys
+pub ends-append : (m : ℕ) (xs ys : List EntryRow) → endsIn m (xs ++ ys) ≡ endsIn m xs ++ endsIn (m + length (namesIn xs)) ys
 unfolding endsIn namesIn
 ends-append m [] ys = ap (λ (k : ℕ). endsIn k ys) (let z : m ≡ m + 0 = omega arith in z)
 ends-append m (x ∷ xs) ys =
@@ -34,7 +36,7 @@ ends-append m (x ∷ xs) ys =
     ∙ ap (λ (n : ℕ). endsIn k xs ++ endsIn n ys)
     (let z : m + length (x .names) + length (namesIn xs) ≡ m + length (x .names ++ namesIn xs) = omega (arith, length-append (x .names) (namesIn xs)) in z))
 
-pub pairs-after : (os : List ℕ) (i : ℕ) (xs ys : List Row) → pairsFrom os i (xs ++ ys) ≡ pairsFrom os i xs ++ pairsFrom os (i + length xs) ys
+pub pairs-after : (os : List ℕ) (i : ℕ) (xs ys : List EntryRow) → pairsFrom os i (xs ++ ys) ≡ pairsFrom os i xs ++ pairsFrom os (i + length xs) ys
 unfolding pairsFrom
 pairs-after os i [] ys = ap (λ (k : ℕ). pairsFrom os k ys) (let z : i ≡ i + 0 = omega arith in z)
 pairs-after os i (x ∷ xs) ys =
@@ -44,18 +46,18 @@ pairs-after os i (x ∷ xs) ys =
     ∙ sym (append-assoc p (pairsFrom os (suc i) xs) (pairsFrom os (i + suc (length xs)) ys))
 
 -- one row more
-pairs-next : (os : List ℕ) (xs : List Row) (r : Row) → pairsFrom os 0 (xs ++ (r ∷ [])) ≡ pairsFrom os 0 xs ++ pairsOfEntry os (length xs) (r .names)
+pairs-next : (os : List ℕ) (xs : List EntryRow) (r : EntryRow) → pairsFrom os 0 (xs ++ (r ∷ [])) ≡ pairsFrom os 0 xs ++ pairsOfEntry os (length xs) (r .names)
 unfolding pairsFrom
 pairs-next os xs r =
     pairs-after os 0 xs (r ∷ [])
     ∙ ap (λ (l : List ℕ). pairsFrom os 0 xs ++ l)
     (append-nil (pairsOfEntry os (0 + length xs) (r .names)) ∙ ap (λ (k : ℕ). pairsOfEntry os k (r .names)) (let z : 0 + length xs ≡ length xs = omega arith in z))
 
-names-next : (xs : List Row) (r : Row) → length (namesIn (xs ++ (r ∷ []))) ≡ length (namesIn xs) + length (r .names)
+names-next : (xs : List EntryRow) (r : EntryRow) → length (namesIn (xs ++ (r ∷ []))) ≡ length (namesIn xs) + length (r .names)
 unfolding namesIn
 names-next xs r = ap length (names-append xs (r ∷ [])) ∙ length-append (namesIn xs) (r .names ++ []) ∙ ap (λ (l : List ℕ). length (namesIn xs) + length l) (append-nil (r .names))
 
-pub pairs-most : (os : List ℕ) (i : ℕ) (rows : List Row) → length (pairsFrom os i rows) ≤ 2 * length (namesIn rows)
+pub pairs-most : (os : List ℕ) (i : ℕ) (rows : List EntryRow) → length (pairsFrom os i rows) ≤ 2 * length (namesIn rows)
 unfolding pairsFrom namesIn
 pairs-most os i [] = omega arith
 pairs-most os i (r ∷ rs) =
@@ -82,9 +84,9 @@ put-padded n xs ys m e =
 -- ---- one entry after the other
 
 -- the rows that are done and those that are left
-pub record Turning (rows : List Row) (pairs₀ pairs : List ℕ) (place from i : ℕ) : Type 0 where
-  pub done : List Row
-  pub left : List Row
+pub record Turning (rows : List EntryRow) (pairs₀ pairs : List ℕ) (place from i : ℕ) : Type 0 where
+  pub done : List EntryRow
+  pub left : List EntryRow
   pub whole : rows ≡ done ++ left
   pub amount : length done ≡ i
   pub names : from ≡ length (namesIn done)
@@ -92,20 +94,20 @@ pub record Turning (rows : List Row) (pairs₀ pairs : List ℕ) (place from i :
   pub filled : pairs ≡ padTo (length pairs₀) (pairsFrom (offsetsIn rows) 0 done)
   pub size : length pairs ≡ length pairs₀
 
-record Next (left : List Row) : Type 0 where
-  pub row : Row
-  pub rest : List Row
+record Next (left : List EntryRow) : Type 0 where
+  pub row : EntryRow
+  pub rest : List EntryRow
   pub is : left ≡ row ∷ rest
 
-next-of : (left : List Row) → 0 < length left → Next left
+next-of : (left : List EntryRow) → 0 < length left → Next left
 next-of [] h = absurd (omega arith)
 next-of (r ∷ rs) h = record { row = r; rest = rs; is = refl }
 
-nil-of : (left : List Row) → length left ≡ 0 → left ≡ []
+nil-of : (left : List EntryRow) → length left ≡ 0 → left ≡ []
 nil-of [] h = refl
 nil-of (r ∷ rs) h = let g : suc (length rs) ≡ 0 = h in absurd (omega arith)
 
-module _ (offsets ends : List ℕ) (n : ℕ) (targets pairs₀ : List ℕ) (rows : List Row) (h : Held rows offsets ends n targets pairs₀) where
+module _ (offsets ends : List ℕ) (n : ℕ) (targets pairs₀ : List ℕ) (rows : List EntryRow) (h : ReferenceColumns rows offsets ends n targets pairs₀) where
   pub turning-start : Turning rows pairs₀ pairs₀ 0 0 0
   unfolding namesIn pairsFrom padTo
   turning-start = record {
@@ -131,7 +133,7 @@ module _ (offsets ends : List ℕ) (n : ℕ) (targets pairs₀ : List ℕ) (rows
       let b : length (take n ends ++ drop n ends) ≡ length ends = ap length (take-append-drop n ends) in
       omega (arith, a, b, length-append (take n ends) (drop n ends))
 
-  module _ (done rest : List Row) (r : Row) (whole : rows ≡ done ++ (r ∷ rest)) where
+  module _ (done rest : List EntryRow) (r : EntryRow) (whole : rows ≡ done ++ (r ∷ rest)) where
     all-names : namesIn rows ≡ namesIn done ++ (r .names ++ namesIn rest)
     unfolding namesIn
     all-names = ap namesIn whole ∙ names-append done (r ∷ rest)
@@ -164,9 +166,9 @@ module _ (offsets ends : List ℕ) (n : ℕ) (targets pairs₀ : List ℕ) (rows
     unfolding pairsIn
     turning-end l =
         let z : length (p .left) ≡ 0 = omega (arith, ap length (p .whole), length-append (p .done) (p .left), h .count, p .amount) in
-        let e : p .done ≡ rows = sym (p .whole ∙ ap (λ (s : List Row). p .done ++ s) (nil-of (p .left) z) ∙ append-nil (p .done)) in (
-          p .count ∙ ap (λ (s : List Row). length (pairsFrom (offsetsIn rows) 0 s)) e,
-          p .filled ∙ ap (λ (s : List Row). padTo (length pairs₀) (pairsFrom (offsetsIn rows) 0 s)) e,
+        let e : p .done ≡ rows = sym (p .whole ∙ ap (λ (s : List EntryRow). p .done ++ s) (nil-of (p .left) z) ∙ append-nil (p .done)) in (
+          p .count ∙ ap (λ (s : List EntryRow). length (pairsFrom (offsetsIn rows) 0 s)) e,
+          p .filled ∙ ap (λ (s : List EntryRow). padTo (length pairs₀) (pairsFrom (offsetsIn rows) 0 s)) e,
         )
 
     module _ (l : i < n) where
@@ -174,7 +176,7 @@ module _ (offsets ends : List ℕ) (n : ℕ) (targets pairs₀ : List ℕ) (rows
       next = next-of (p .left) (omega (arith, ap length (p .whole), length-append (p .done) (p .left), h .count, p .amount))
 
       split : rows ≡ p .done ++ (next .row ∷ next .rest)
-      split = p .whole ∙ ap (λ (s : List Row). p .done ++ s) (next .is)
+      split = p .whole ∙ ap (λ (s : List EntryRow). p .done ++ s) (next .is)
 
       to-is : getD ends i 0 ≡ from + length (next .row .names)
       to-is =
@@ -182,7 +184,7 @@ module _ (offsets ends : List ℕ) (n : ℕ) (targets pairs₀ : List ℕ) (rows
           ∙ end-is (p .done) (next .rest) (next .row) split
           ∙ ap (λ (k : ℕ). k + length (next .row .names)) (sym (p .names))
 
-      pub turning-ready : Ready offsets n targets from (getD ends i 0) pairs place
+      pub turning-ready : ResolveInput offsets n targets from (getD ends i 0) pairs place
       turning-ready =
           let few = names-few (p .done) (next .rest) (next .row) split in
           let t : getD ends i 0 ≡ from + length (next .row .names) = to-is in
@@ -207,7 +209,7 @@ module _ (offsets ends : List ℕ) (n : ℕ) (targets pairs₀ : List ℕ) (rows
         pub turning-more : Turning rows pairs₀ pairs′ place′ (getD ends i 0) (i + 1)
         turning-more =
             let os : List ℕ = offsetsIn rows in
-            let r : Row = next .row in
+            let r : EntryRow = next .row in
             let made : List ℕ = pairsOfEntry os (length (p .done)) (r .names) in
             let few = names-few (p .done) (next .rest) r split in
             let same : pairsOfEntry (take n offsets) i (take (getD ends i 0 - from) (drop from targets)) ≡ made = made-is in
@@ -240,10 +242,10 @@ pub padded-take : (n : ℕ) (xs column : List ℕ) → length xs ≡ n → colum
 unfolding padTo
 padded-take n xs column l e = ap (take n) e ∙ take-at xs (zeros (length column - length xs)) n l
 
-module _ (unit : List ℕ) (room : Rooms) (first : ℕ) (rows : List Row) (u : UnitRows unit room first rows) (offsets ends targets pairs : List ℕ) where
+module _ (unit : List ℕ) (room : Rooms) (first : ℕ) (rows : List EntryRow) (u : UnitRows unit room first rows) (offsets ends targets pairs : List ℕ) where
   pub rows-held : length unit < 2 ^ 32 → offsets ≡ padTo (length offsets) (offsetsIn rows) → ends ≡ padTo (length ends) (endsIn 0 rows)
       → targets ≡ padTo (length targets) (namesIn rows) → pairs ≡ zeros (length pairs) → 2 * length (namesIn rows) ≤ length pairs
-      → Held rows offsets ends (length rows) targets pairs
+      → ReferenceColumns rows offsets ends (length rows) targets pairs
   rows-held small o e t p k =
       let start : take (length rows) offsets ≡ offsetsIn rows = padded-take (length rows) (offsetsIn rows) offsets (length-offsets rows) o in
       record {

@@ -7,7 +7,7 @@ use mathlib.Core.Option.{Option, some}
 use mathlib.Core.Logic.{inl, inr}
 use lib.ListN.{length, take}
 use lib.Dec.{ltb, leb}
-use Rattle.readers.specs.Choice.{pick-either}
+use Rattle.readers.proofs.Choice.{pick-either}
 use Rattle.readers.specs.Nesting.{open′, close, top}
 use Rattle.readers.specs.Abbreviations.{Placed, abbreviationsOf}
 use Rattle.readers.specs.Header.{headerOf}
@@ -16,19 +16,19 @@ use Rattle.readers.specs.declared.cursor.Encoding.{Encoding}
 use Rattle.readers.specs.declared.entries.Entry.{Entry}
 use Rattle.readers.specs.declared.header.UnitHeader.{UnitHeader}
 use Rattle.readers.specs.declared.header.HeaderRead.the-variants.{Unit as Unit′}
-use Rattle.marking.specs.EntryReferences.{Found, found, refused as refusedAfter}
-use Rattle.marking.specs.declared.roots.Verdict.{Verdict}
-use Rattle.marking.specs.declared.roots.Verdict.the-variants.{Live, Dead, Refused as Failed}
-use Rattle.marking.specs.Analysis.{Sections, Rooms, Row, Analysed, analysed, onVerdict, onFound, Reached, reached, startOf, analyseItems, onDeclared, unitAnalysed, headerAnalysed, analysisOf, rootOf, namesOf, baseOf}
-use Rattle.marking.specs.UnitSurvivors.{Tested, RowOf, RowsOf, unitItems}
+use Rattle.marking.specs.EntryReferences.{ReferencesFound, found, refused as refusedAfter}
+use Rattle.marking.specs.declared.root_test.Verdict.{Verdict}
+use Rattle.marking.specs.declared.root_test.Verdict.the-variants.{Live, Dead, Refused as Failed}
+use Rattle.marking.specs.Analysis.{Sections, Rooms, EntryRow, Analysed, analysed, onVerdict, onFound, Reached, reached, startOf, analyseItems, onDeclared, unitAnalysed, headerAnalysed, analysisOf, rootOf, namesOf, baseOf}
+use Rattle.marking.specs.EntryRows.{Tested, RowOf, RowsOf, unitItems}
 use Rattle.marking.proofs.Rows.{Gives, gives-of, gives-onto, gives-map, gives-refused, UnitRows, unit-rows}
 
-gives-names : (P : List Row → Type 0) (f : Found) (k : List ℕ → Analysed) → ((names : List ℕ) → f ≡ found names → Gives P (k names)) → Gives P (onFound f k)
+gives-names : (P : List EntryRow → Type 0) (f : ReferencesFound) (k : List ℕ → Analysed) → ((names : List ℕ) → f ≡ found names → Gives P (k names)) → Gives P (onFound f k)
 unfolding Gives onFound
 gives-names P (found xs) k h = h xs refl
 gives-names P (refusedAfter xs n) k h = tt
 
-gives-root : (P : List Row → Type 0) (v : Verdict) (k : ℕ → Analysed) → ((root : ℕ) → Tested v root → Gives P (k root)) → Gives P (onVerdict v k)
+gives-root : (P : List EntryRow → Type 0) (v : Verdict) (k : ℕ → Analysed) → ((root : ℕ) → Tested v root → Gives P (k root)) → Gives P (onVerdict v k)
 unfolding Gives onVerdict
 gives-root P Live k h = h 1 (inl (refl, refl))
 gives-root P Dead k h = h 0 (inr (refl, refl))
@@ -36,26 +36,26 @@ gives-root P (Failed n) k h = tt
 
 module _ (e : Encoding) (x : Sections) (unit : List ℕ) where
   -- the rows of items, and the unit's end is what follows these
-  abbrev Right : Bool → ℕ → List ℕ → ℕ → ℕ → List Item → List Row → Type 0
+  abbrev Right : Bool → ℕ → List ℕ → ℕ → ℕ → List Item → List EntryRow → Type 0
   Right whole k stack rb lb items rows = (whole ≡ true) × RowsOf e x unit k stack rb lb items rows
 
   right-end : (k : ℕ) (stack : List ℕ) (rb lb : ℕ) → Gives (Right true k stack rb lb []) (analysed [])
   unfolding Gives RowsOf
   right-end k stack rb lb = (refl, refl)
 
-  right-onto : (whole : Bool) (k : ℕ) (stack : List ℕ) (rb lb : ℕ) (y : Entry) (rest : List Item) (r : Row) (rows : List Row) → RowOf e x unit stack rb lb y r
+  right-onto : (whole : Bool) (k : ℕ) (stack : List ℕ) (rb lb : ℕ) (y : Entry) (rest : List Item) (r : EntryRow) (rows : List EntryRow) → RowOf e x unit stack rb lb y r
       → Right whole (suc k) (open′ (y .declaration .children) k stack) (baseOf e x unit 0x74 rb y) (baseOf e x unit 0x8c lb y) rest rows
       → Right whole k stack rb lb (entry y ∷ rest) (r ∷ rows)
   unfolding RowsOf
   right-onto whole k stack rb lb y rest r rows q f = (f .0, (q, f .1))
 
-  right-close : (whole : Bool) (k : ℕ) (stack : List ℕ) (rb lb a b : ℕ) (rest : List Item) (rows : List Row)
+  right-close : (whole : Bool) (k : ℕ) (stack : List ℕ) (rb lb a b : ℕ) (rest : List Item) (rows : List EntryRow)
       → Right whole k (close stack) rb lb rest rows → Right whole k stack rb lb (terminator a b ∷ rest) rows
   unfolding RowsOf
   right-close whole k stack rb lb a b rest rows f = f
 
   module _ (room : Rooms) where
-    abbrev RightFrom : Reached → Bool → List Item → List Row → Type 0
+    abbrev RightFrom : Reached → Bool → List Item → List EntryRow → Type 0
     RightFrom p whole items rows = Right whole (p .count) (p .stack) (p .rnglistsBase) (p .loclistsBase) items rows
 
     follows : (p : Reached) (items : List Item) (whole : Bool) → Gives (RightFrom p whole items) (analyseItems e x unit room p items whole)
@@ -70,7 +70,7 @@ module _ (e : Encoding) (x : Sections) (unit : List ℕ) where
     follows p (entry y ∷ rest) whole =
         let rb : ℕ = baseOf e x unit 0x74 (p .rnglistsBase) y in
         let lb : ℕ = baseOf e x unit 0x8c (p .loclistsBase) y in
-        let P : List Row → Type 0 = RightFrom p whole (entry y ∷ rest) in
+        let P : List EntryRow → Type 0 = RightFrom p whole (entry y ∷ rest) in
         pick-either (Gives P) (ltb (p .count) (room .entries)) _ _
         (λ few. gives-root P (rootOf e x unit rb y) _
         (λ root is-root. gives-names P (namesOf e x unit lb y) _
@@ -85,7 +85,7 @@ module _ (e : Encoding) (x : Sections) (unit : List ℕ) where
 
 -- ---- of the first unit of a section, with its header and its declarations
 
-module _ (x : Sections) (section : List ℕ) (room : Rooms) (h : UnitHeader) (ds : List Placed) (rows : List Row)
+module _ (x : Sections) (section : List ℕ) (room : Rooms) (h : UnitHeader) (ds : List Placed) (rows : List EntryRow)
     (header : headerOf section ≡ Unit′ h) (declared : abbreviationsOf (x .abbreviations) (h .abbreviations) ≡ some ds)
     (analysis : analysisOf x section room ≡ analysed rows) where
   abbrev own : List ℕ

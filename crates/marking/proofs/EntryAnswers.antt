@@ -7,20 +7,20 @@ use lib.ListN.{length}
 use Rattle.readers.specs.declared.cursor.Cursor.{Cursor}
 use Rattle.readers.specs.declared.cursor.Moved.{Moved}
 use Rattle.readers.specs.declared.cursor.Moved.the-variants.{To as EndsAt, Unreadable as Nowhere}
-use Rattle.marking.specs.EntryReferences.{Found, found, refused as refusedAfter}
-use Rattle.marking.specs.declared.roots.Verdict.{Verdict}
-use Rattle.marking.specs.declared.roots.Verdict.the-variants.{Live, Dead, Refused as Failed}
+use Rattle.marking.specs.EntryReferences.{ReferencesFound, found, refused as refusedAfter}
+use Rattle.marking.specs.declared.root_test.Verdict.{Verdict}
+use Rattle.marking.specs.declared.root_test.Verdict.the-variants.{Live, Dead, Refused as Failed}
 use Rattle.marking.specs.ReferenceTable.{placed, written, scannedTo, tableAfter, entryScanned}
 use Rattle.marking.specs.Analysis.{Analysed, refused, onVerdict, onFound}
-use Rattle.marking.specs.Columns.{rootFound, entryAnswer, entryTable, refusalOf}
+use Rattle.marking.specs.inner.Columns.{rootFound, entryAnswer, entryTable, refusalOf}
 use Rattle.marking.specs.declared.references.Scanned.{Scanned}
 use Rattle.marking.specs.declared.references.Scanned.the-variants.{To, Refused}
 use Rattle.marking.specs.declared.references.EntryScan.the-variants.{Through, Refused as Refused″}
 use Rattle.marking.specs.declared.analysis.EntryAnalysis.{EntryAnalysis}
-use Rattle.marking.specs.declared.analysis.EntryAnalysis.the-variants.{Found as RowFound, Refused as NoRow}
+use Rattle.marking.specs.declared.analysis.EntryAnalysis.the-variants.{ReferencesFound as RowFound, Refused as NoRow}
 use Rattle.marking.proofs.Places.{length-table}
 
-pub length-entry-table : (table : List ℕ) (at : ℕ) (v : Verdict) (f : Found) → length (entryTable table at v f) ≡ length table
+pub length-entry-table : (table : List ℕ) (at : ℕ) (v : Verdict) (f : ReferencesFound) → length (entryTable table at v f) ≡ length table
 unfolding entryTable
 length-entry-table table at Live f = length-table table at f
 length-entry-table table at Dead f = length-table table at f
@@ -28,12 +28,12 @@ length-entry-table table at (Failed n) f = refl
 
 -- ---- by the verdict and the scan
 
-module _ (room at : ℕ) (f : Found) where
+module _ (room at : ℕ) (f : ReferencesFound) where
   found-row : (root to : ℕ) (next : Cursor) → To to ≡ scannedTo room at f → RowFound root to next ≡ rootFound room at next root f
   unfolding scannedTo rootFound
   found-row root to next e = of f e
     where
-      of : (f′ : Found) → To to ≡ scannedTo room at f′ → RowFound root to next ≡ rootFound room at next root f′
+      of : (f′ : ReferencesFound) → To to ≡ scannedTo room at f′ → RowFound root to next ≡ rootFound room at next root f′
       of (found xs) e = let h : to ≡ placed room at xs = cc in ap (λ (n : ℕ). RowFound root n next) h
       of (refusedAfter xs n) e = let z : _≡_ {A = ℕ} 0 1 = cc in absurd (omega arith)
 
@@ -41,14 +41,14 @@ module _ (room at : ℕ) (f : Found) where
   unfolding scannedTo rootFound
   refused-row root n next e = of f e
     where
-      of : (f′ : Found) → Refused n ≡ scannedTo room at f′ → NoRow n ≡ rootFound room at next root f′
+      of : (f′ : ReferencesFound) → Refused n ≡ scannedTo room at f′ → NoRow n ≡ rootFound room at next root f′
       of (found xs) e = let z : _≡_ {A = ℕ} 0 1 = cc in absurd (omega arith)
       of (refusedAfter xs m) e = let h : n ≡ m = cc in ap NoRow h
 
 -- a verdict that goes on to the references
 pub record Judged (v : Verdict) (root : ℕ) : Type 0 where
-  pub answer : (room at : ℕ) (next : Cursor) (f : Found) → entryAnswer room at (EndsAt next) v f ≡ rootFound room at next root f
-  pub table : (t : List ℕ) (at : ℕ) (f : Found) → entryTable t at v f ≡ tableAfter t at f
+  pub answer : (room at : ℕ) (next : Cursor) (f : ReferencesFound) → entryAnswer room at (EndsAt next) v f ≡ rootFound room at next root f
+  pub table : (t : List ℕ) (at : ℕ) (f : ReferencesFound) → entryTable t at v f ≡ tableAfter t at f
 
 pub judged-live : (v : Verdict) (root : ℕ) → v ≡ Live → root ≡ 1 → Judged v root
 unfolding entryAnswer entryTable
@@ -58,7 +58,7 @@ pub judged-dead : (v : Verdict) (root : ℕ) → v ≡ Dead → root ≡ 0 → J
 unfolding entryAnswer entryTable
 judged-dead v root e q = rw (e, q) (record { answer = λ room at next f. refl; table = λ t at f. refl })
 
-module _ (table : List ℕ) (at : ℕ) (end : Moved) (v : Verdict) (f : Found) where
+module _ (table : List ℕ) (at : ℕ) (end : Moved) (v : Verdict) (f : ReferencesFound) where
   -- an answer with the table that it leaves
   abbrev Gives : EntryAnalysis → List ℕ → Type 0
   Gives r left = (r ≡ entryAnswer (length table) at end v f) × (left ≡ entryTable table at v f)
@@ -105,12 +105,12 @@ module _ (table : List ℕ) (at : ℕ) (end : Moved) (v : Verdict) (f : Found) w
 
 -- ---- by what is answered
 
-refused-after : (room at root n : ℕ) (next : Cursor) (f : Found) (k : List ℕ → Analysed) → NoRow n ≡ rootFound room at next root f → onFound f k ≡ refused n
+refused-after : (room at root n : ℕ) (next : Cursor) (f : ReferencesFound) (k : List ℕ → Analysed) → NoRow n ≡ rootFound room at next root f → onFound f k ≡ refused n
 unfolding rootFound onFound
 refused-after room at root n next (found xs) k e = let z : _≡_ {A = ℕ} 0 1 = cc in absurd (omega arith)
 refused-after room at root n next (refusedAfter xs m) k e = let h : m ≡ n = cc in ap refused h
 
-pub entry-refused : (room at n : ℕ) (next : Cursor) (v : Verdict) (f : Found) (k : ℕ → List ℕ → Analysed) → NoRow n ≡ entryAnswer room at (EndsAt next) v f
+pub entry-refused : (room at n : ℕ) (next : Cursor) (v : Verdict) (f : ReferencesFound) (k : ℕ → List ℕ → Analysed) → NoRow n ≡ entryAnswer room at (EndsAt next) v f
     → onVerdict v (λ root. onFound f (k root)) ≡ refused n
 unfolding entryAnswer onVerdict
 entry-refused room at n next Live f k e = refused-after room at 1 n next f (k 1) e
@@ -118,13 +118,13 @@ entry-refused room at n next Dead f k e = refused-after room at 0 n next f (k 0)
 entry-refused room at n next (Failed m) f k e = let h : m ≡ n = cc in ap refused h
 
 -- a row: the numbers that were found
-pub record RowOf (table : List ℕ) (at : ℕ) (v : Verdict) (f : Found) (root to : ℕ) : Type 0 where
+pub record RowOf (table : List ℕ) (at : ℕ) (v : Verdict) (f : ReferencesFound) (root to : ℕ) : Type 0 where
   pub names : List ℕ
   pub place : to ≡ placed (length table) at names
   pub left : entryTable table at v f ≡ written table at names
   pub goes : (k : ℕ → List ℕ → Analysed) → onVerdict v (λ n. onFound f (k n)) ≡ k root names
 
-pub entry-found : (table : List ℕ) (at root to : ℕ) (next : Cursor) (v : Verdict) (f : Found) → RowFound root to next ≡ entryAnswer (length table) at (EndsAt next) v f → RowOf table at v f root to
+pub entry-found : (table : List ℕ) (at root to : ℕ) (next : Cursor) (v : Verdict) (f : ReferencesFound) → RowFound root to next ≡ entryAnswer (length table) at (EndsAt next) v f → RowOf table at v f root to
 unfolding entryAnswer rootFound onVerdict onFound entryTable tableAfter
 entry-found table at root to next Live (found xs) e =
     let r : 1 ≡ root = cc in
@@ -140,7 +140,7 @@ entry-found table at root to next (Failed n) f e = let z : _≡_ {A = ℕ} 0 1 =
 
 -- ---- by where the values end
 
-pub answered-end : (room at root to : ℕ) (next : Cursor) (end : Moved) (v : Verdict) (f : Found) → RowFound root to next ≡ entryAnswer room at end v f → end ≡ EndsAt next
+pub answered-end : (room at root to : ℕ) (next : Cursor) (end : Moved) (v : Verdict) (f : ReferencesFound) → RowFound root to next ≡ entryAnswer room at end v f → end ≡ EndsAt next
 unfolding entryAnswer rootFound
 answered-end room at root to next Nowhere v f e = let z : _≡_ {A = ℕ} 0 1 = cc in absurd (omega arith)
 answered-end room at root to next (EndsAt c) Live (found xs) e = let h : c ≡ next = cc in ap EndsAt h
@@ -149,7 +149,7 @@ answered-end room at root to next (EndsAt c) Live (refusedAfter xs n) e = let z 
 answered-end room at root to next (EndsAt c) Dead (refusedAfter xs n) e = let z : _≡_ {A = ℕ} 0 1 = cc in absurd (omega arith)
 answered-end room at root to next (EndsAt c) (Failed n) f e = let z : _≡_ {A = ℕ} 0 1 = cc in absurd (omega arith)
 
-pub unread-four : (room at n : ℕ) (v : Verdict) (f : Found) → NoRow n ≡ entryAnswer room at Nowhere v f → n ≡ 4
+pub unread-four : (room at n : ℕ) (v : Verdict) (f : ReferencesFound) → NoRow n ≡ entryAnswer room at Nowhere v f → n ≡ 4
 unfolding entryAnswer
 unread-four room at n v f e = let h : n ≡ 4 = cc in h
 

@@ -13,18 +13,18 @@ use Rattle.readers.specs.declared.cursor.Encoding.{Encoding}
 use Rattle.readers.specs.declared.expressions.Walk.{Walk}
 use Rattle.readers.specs.declared.expressions.Walk.the-variants.{Walked, Unreadable}
 use Rattle.readers.specs.declared.operations.ListEntry.{ListEntry}
-use Rattle.marking.specs.EntryReferences.{Found, found, refused, after, targets, walkFound, expressionFound, partOf, locationFound}
+use Rattle.marking.specs.EntryReferences.{ReferencesFound, found, refused, after, targets, walkFound, expressionFound, partOf, locationFound}
 use Rattle.marking.specs.ReferenceTable.{placed, written, scannedTo, tableAfter}
 use Rattle.marking.specs.declared.references.Scanned.{Scanned}
 use Rattle.marking.specs.declared.references.Scanned.the-variants.{To, Refused}
 use Rattle.marking.proofs.Placing.{Put, put-none, put-more, written-size}
 
 -- an answer, and a table that is left
-abbrev pub Scans : List ℕ → ℕ → Found → Scanned → List ℕ → Type 0
+abbrev pub Scans : List ℕ → ℕ → ReferencesFound → Scanned → List ℕ → Type 0
 Scans table at f w table′ = (w ≡ scannedTo (length table) at f) × (table′ ≡ tableAfter table at f)
 
-module _ (table : List ℕ) (at : ℕ) (f : Found) where
-  pub scans-same : (g : Found) → f ≡ g → (w : Scanned) (table′ : List ℕ) → Scans table at g w table′ → Scans table at f w table′
+module _ (table : List ℕ) (at : ℕ) (f : ReferencesFound) where
+  pub scans-same : (g : ReferencesFound) → f ≡ g → (w : Scanned) (table′ : List ℕ) → Scans table at g w table′ → Scans table at f w table′
   scans-same g k w table′ h = (h .0 ∙ sym (ap (scannedTo (length table) at) k), h .1 ∙ sym (ap (tableAfter table at) k))
 
   pub scans-put : (xs table′ : List ℕ) (to : ℕ) → f ≡ found xs → Put table at xs table′ to → Scans table at f (To to) table′
@@ -41,40 +41,40 @@ module _ (table : List ℕ) (at : ℕ) (f : Found) where
   pub scans-no : (n : ℕ) → f ≡ refused [] n → Scans table at f (Refused n) table
   scans-no n k = scans-refused [] table n k (put-none table at .numbers)
 
-pub scans-size : (table : List ℕ) (at : ℕ) (f : Found) (w : Scanned) (table′ : List ℕ) → Scans table at f w table′ → length table′ ≡ length table
+pub scans-size : (table : List ℕ) (at : ℕ) (f : ReferencesFound) (w : Scanned) (table′ : List ℕ) → Scans table at f w table′ → length table′ ≡ length table
 unfolding tableAfter
 scans-size table at (found xs) w table′ h = written-size table at xs table′ (h .1)
 scans-size table at (refused xs n) w table′ h = written-size table at xs table′ (h .1)
 
 -- ---- one thing is scanned after what is in the table already
 
-unfoldable pub Onto : List ℕ → ℕ → List ℕ → List ℕ → ℕ → Found → Type 0
+unfoldable pub Onto : List ℕ → ℕ → List ℕ → List ℕ → ℕ → ReferencesFound → Type 0
 Onto table₀ at xs table′ to f = (ys : List ℕ) × (f ≡ found ys) × Put table₀ at (xs ++ ys) table′ to
 
-unfoldable pub Broken : List ℕ → ℕ → List ℕ → List ℕ → ℕ → Found → Type 0
+unfoldable pub Broken : List ℕ → ℕ → List ℕ → List ℕ → ℕ → ReferencesFound → Type 0
 Broken table₀ at xs table′ n f = (ys : List ℕ) × (f ≡ refused ys n) × (table′ ≡ written table₀ at (xs ++ ys))
 
 module _ (table₀ : List ℕ) (at : ℕ) (xs table : List ℕ) (to : ℕ) (h : Put table₀ at xs table to) (w : Scanned) (table′ : List ℕ) where
-  pub onto : (f : Found) → Scans table to f w table′ → (to′ : ℕ) → w ≡ To to′ → Onto table₀ at xs table′ to′ f
+  pub onto : (f : ReferencesFound) → Scans table to f w table′ → (to′ : ℕ) → w ≡ To to′ → Onto table₀ at xs table′ to′ f
   unfolding scannedTo tableAfter Onto
   onto (found ys) k to′ q =
       let z : to′ ≡ placed (length table) to ys = (let y : To to′ ≡ To (placed (length table) to ys) = sym q ∙ k .0 in cc) in
       (ys, refl, put-more table₀ at xs table to h ys table′ to′ z (k .1))
   onto (refused ys n) k to′ q = let y : To to′ ≡ Refused n = sym q ∙ k .0 in let z : _≡_ {A = ℕ} 0 1 = cc in absurd (omega arith)
 
-  pub broken : (f : Found) → Scans table to f w table′ → (n : ℕ) → w ≡ Refused n → Broken table₀ at xs table′ n f
+  pub broken : (f : ReferencesFound) → Scans table to f w table′ → (n : ℕ) → w ≡ Refused n → Broken table₀ at xs table′ n f
   unfolding scannedTo tableAfter Broken
   broken (found ys) k n q = let y : Refused n ≡ To (placed (length table) to ys) = sym q ∙ k .0 in let z : _≡_ {A = ℕ} 0 1 = cc in absurd (omega arith)
   broken (refused ys m) k n q =
       let z : m ≡ n = (let y : Refused n ≡ Refused m = sym q ∙ k .0 in cc) in
       (ys, ap (refused ys) z, put-more table₀ at xs table to h ys table′ (placed (length table) to ys) refl (k .1) .numbers)
 
-pub after-none : (f : Found) → after [] f ≡ f
+pub after-none : (f : ReferencesFound) → after [] f ≡ f
 unfolding after
 after-none (found ys) = refl
 after-none (refused ys n) = refl
 
-pub after-after : (xs ys : List ℕ) (f : Found) → after xs (after ys f) ≡ after (xs ++ ys) f
+pub after-after : (xs ys : List ℕ) (f : ReferencesFound) → after xs (after ys f) ≡ after (xs ++ ys) f
 unfolding after
 after-after xs ys (found zs) = ap found (sym (append-assoc xs ys zs))
 after-after xs ys (refused zs n) = ap (λ l. refused l n) (sym (append-assoc xs ys zs))

@@ -1,7 +1,6 @@
 pub mod Lookups
 pub mod Verdicts
 pub mod Lists
-pub mod Attributes
 pub mod RootTests
 pub mod Placing
 pub mod NextOffsets
@@ -15,7 +14,6 @@ pub mod Survivors
 pub mod Markings
 pub mod Rounds
 pub mod Letters
-pub mod Laws
 pub mod Passes
 pub mod Spreads
 pub mod Settled
@@ -31,10 +29,8 @@ pub mod Pairs
 pub mod Columned
 pub mod UnitMarkings
 pub mod Members
-pub mod GraphLaws
-pub mod UnitSurvivors
-pub mod KeptMarks
 pub mod EachRow
-pub mod UnitLaws
-pub mod Refusals
-pub mod TableRoom
+pub mod Examples
+pub mod ReferenceExamples
+pub mod RootExamples
+pub mod Walking

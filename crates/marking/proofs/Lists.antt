@@ -7,7 +7,8 @@ use mathlib.Core.List.{List}
 use lib.ListN.{length}
 use lib.Dec.{ltb, leb, eqb}
 use borrow.Author.Tests.{lt-ltb, le-ltb, eq-eqb, ne-eqb}
-use Rattle.readers.specs.Choice.{pick, pick-either}
+use Rattle.readers.specs.Choice.{pick}
+use Rattle.readers.proofs.Choice.{pick-either}
 use Rattle.readers.specs.Steps.{operationAt, listEntryAt}
 use Rattle.readers.proofs.Steps.{entry-inside, operation-inside}
 use Rattle.readers.specs.declared.cursor.Encoding.{Encoding}
@@ -20,14 +21,15 @@ use Rattle.readers.specs.declared.operations.ListEntry.{ListEntry}
 use Rattle.readers.specs.declared.operations.ListStep.{ListStep}
 use Rattle.readers.specs.declared.operations.ListStep.the-variants.{Entry, End, Unreadable as NoEntry}
 use Rattle.marking.specs.Addresses.{isTombstone, lookupAt}
-use Rattle.marking.specs.Walking.{go, stop, onNext, walk, Forward, walk-step}
+use Rattle.marking.specs.Walking.{go, stop, onNext, walk}
+use Rattle.marking.proofs.Walking.{Forward, walk-step}
 use Rattle.marking.specs.Roots.{Flagged, place, Turn, toward, turnOf, onLookup, rangeEntry, rangeStep, rangesLive, olderStep, olderLive, operationStep, locationLive}
 use Rattle.marking.specs.declared.addresses.AddressLookup.{AddressLookup}
 use Rattle.marking.specs.declared.addresses.AddressLookup.the-variants.{Live, Dead, Fails}
-use Rattle.marking.specs.declared.roots.RangeTurn.{RangeTurn}
-use Rattle.marking.specs.declared.roots.RangeTurn.the-variants.{On, Decided}
-use Rattle.marking.specs.declared.roots.Verdict.{Verdict}
-use Rattle.marking.specs.declared.roots.Verdict.the-variants.{Live as isLive, Dead as isDead, Refused as refused}
+use Rattle.marking.specs.declared.root_test.RangeTurn.{RangeTurn}
+use Rattle.marking.specs.declared.root_test.RangeTurn.the-variants.{On, Decided}
+use Rattle.marking.specs.declared.root_test.Verdict.{Verdict}
+use Rattle.marking.specs.declared.root_test.Verdict.the-variants.{Live as isLive, Dead as isDead, Refused as refused}
 
 -- ---- the older test
 

@@ -14,8 +14,9 @@ use Rattle.readers.specs.declared.lists.ListOffset.the-variants.{At, Unresolved
 use Rattle.readers.specs.declared.operations.ListEntry.{ListEntry}
 use Rattle.readers.specs.declared.operations.ListStep.{ListStep}
 use Rattle.readers.specs.declared.operations.ListStep.the-variants.{Entry, End, Unreadable as NoEntry}
-use Rattle.marking.specs.Walking.{Next, onNext, walk, Forward, walk-step}
-use Rattle.marking.specs.EntryReferences.{Found, found, refused, Reached, reachedAt, locationFound, onFound, locationStep, listFound}
+use Rattle.marking.specs.Walking.{Next, onNext, walk}
+use Rattle.marking.proofs.Walking.{Forward, walk-step}
+use Rattle.marking.specs.EntryReferences.{ReferencesFound, found, refused, Reached, reachedAt, locationFound, onFound, locationStep, listFound}
 use Rattle.marking.specs.ReferenceTable.{written}
 use Rattle.marking.specs.declared.references.Scanned.{Scanned}
 use Rattle.marking.specs.declared.references.Scanned.the-variants.{To, Refused}
@@ -23,18 +24,18 @@ use Rattle.marking.proofs.Placing.{Put, put-none, put-size}
 use Rattle.marking.proofs.Founds.{Scans, scans-same, scans-put, scans-refused, scans-no, Onto, onto, Broken, broken}
 
 module _ (e : Encoding) (s : List ℕ) where
-  abbrev turn : Reached → Next Reached Found
+  abbrev turn : Reached → Next Reached ReferencesFound
   turn p = locationStep e s (p .sofar) (listEntryAt e true s (p .at))
 
   -- what is found from a place on, after what is found already
-  unfoldable pub listFrom : ℕ → List ℕ → Found
+  unfoldable pub listFrom : ℕ → List ℕ → ReferencesFound
   listFrom at sofar = walk reachedAt (length s) turn (found []) (record { at = at; sofar = sofar })
 
   pub list-start : (c : Cursor) → listFound e s (At c) ≡ listFrom (c .at) []
   unfolding listFound listFrom
   list-start c = refl
 
-  found-forward : (p : Reached) (x : ListEntry) (f : Found) → p .at < x .next .at → x .next .at ≤ length s → Forward reachedAt (length s) p (onFound (p .sofar) x f)
+  found-forward : (p : Reached) (x : ListEntry) (f : ReferencesFound) → p .at < x .next .at → x .next .at ≤ length s → Forward reachedAt (length s) p (onFound (p .sofar) x f)
   unfolding onFound Forward
   found-forward p x (found ys) lo hi = (lo, hi)
   found-forward p x (refused ys n) lo hi = tt

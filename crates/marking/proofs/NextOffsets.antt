@@ -9,7 +9,7 @@ use lib.ListN.{length, set}
 use lib.Seq.{append-snoc}
 use lib.Dec.{T, ltb, eqb}
 use mir.Facts.{ltb-yes, ltb-no}
-use Rattle.readers.specs.Choice.{pick-either, either}
+use Rattle.readers.proofs.Choice.{pick-either, either}
 use Rattle.readers.specs.Steps.{operationAt}
 use Rattle.readers.specs.References.{named, namedType, referenceOf, nextReference, flatFrom}
 use Rattle.readers.proofs.OperationReads.{operation-inside}

@@ -7,7 +7,9 @@ use mathlib.Core.Option.{Option, none, some}
 use lib.ListN.{length, getD, take, drop, set, length-append, length-drop, length-set, take-append-drop}
 use lib.Seq.{length-take-le, take-suc, drop-cons, getD-drop, set-at, append-snoc}
 use Rattle.readers.specs.declared.offsets.EntryIndex.{EntryIndex}
-use Rattle.marking.specs.Resolution.{entryFrom, pairFor, pairsOfEntry, asEntry, put, Ready}
+use Rattle.marking.specs.inner.Columns.{put}
+use Rattle.marking.specs.Resolution.{entryFrom, pairFor, pairsOfEntry}
+use Rattle.marking.specs.inner.Resolution.{asEntry, ResolveInput}
 use Rattle.marking.specs.declared.units.EntryFound.{EntryFound}
 use Rattle.marking.specs.declared.units.EntryFound.the-variants.{Entry, Nothing}
 
@@ -92,7 +94,7 @@ module _ (offsets : List ℕ) (n : ℕ) (targets : List ℕ) (from to holder : �
   made j = pairsOfEntry (take n offsets) holder (take (j - from) (drop from targets))
 
   pub record Pairing (pairs : List ℕ) (place j : ℕ) : Type 0 where
-    pub ready : Ready offsets n targets from to pairs₀ at
+    pub ready : ResolveInput offsets n targets from to pairs₀ at
     pub low : from ≤ j
     pub high : j ≤ to
     pub most : place ≤ at + (j - from)
@@ -115,7 +117,7 @@ module _ (offsets : List ℕ) (n : ℕ) (targets : List ℕ) (from to holder : �
       ∙ pairs-append (take n offsets) holder (take k ts) (getD targets j 0 ∷ [])
       ∙ ap (λ (r : List ℕ). made j ++ r) (one-pair (take n offsets) holder (getD targets j 0))
 
-  pub pairing-start : Ready offsets n targets from to pairs₀ at → Pairing pairs₀ at from
+  pub pairing-start : ResolveInput offsets n targets from to pairs₀ at → Pairing pairs₀ at from
   pairing-start r = record {
     ready = r;
     low = omega arith;

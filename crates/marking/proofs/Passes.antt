@@ -12,11 +12,12 @@ use lib.ListN.{length, getD, set, length-set}
 use lib.Seq.{getD-set-same, getD-set-other}
 use Rattle.readers.specs.Choice.{_or_}
 use Rattle.marking.specs.Graph.{Graph, size, noParent, isRoot, references, holder, parentFits, pairFits}
-use Rattle.marking.specs.Survivors.{Kept, parent, Live, live-named}
-use Rattle.marking.specs.Passes.{sum, Sound, Pass, WithParents, WithPairs, WithBoth, DownAt, AlongAt, UpAt, Down, Along, Up, Settled, ParentsFit, PairsFit}
+use Rattle.marking.specs.Survivors.{Survivor, parent, Live, live-named}
+use Rattle.marking.specs.inner.Passes.{sum, Sound, Pass, WithParents, WithPairs, WithBoth, DownAt, AlongAt, UpAt, Down, Along, Up, Settled, ParentsFit, PairsFit}
 use Rattle.marking.proofs.Tests.{or-inr, every-at}
 use Rattle.marking.proofs.Graphs.{parent-in, names-in, parent-fits, pair-fits}
 use Rattle.marking.proofs.Survivors.{live-kept, live-down}
+use Rattle.marking.proofs.Spreads.{spread-on}
 
 -- the marks with v at k
 data At (m : List ℕ) (k v i : ℕ) : Type 0 where
@@ -37,7 +38,7 @@ sum-set (x ∷ m) zero v h l = omega arith
 sum-set (x ∷ m) (suc k) v h l = omega (arith, sum-set m k v (le-of-suc-le-suc h) l)
 
 -- a mark that is raised with reason
-pub raised : (g : Graph) (m : List ℕ) (k v : ℕ) → Sound g m → k < length m → v ≤ 3 → getD m k 0 < v → Kept g k → (3 ≤ v → Live g k) → Sound g (set m k v)
+pub raised : (g : Graph) (m : List ℕ) (k v : ℕ) → Sound g m → k < length m → v ≤ 3 → getD m k 0 < v → Survivor g k → (3 ≤ v → Live g k) → Sound g (set m k v)
 raised g m k v s h top l kept live = record {
   long = length-set m k v ∙ s .long;
   most = λ i. most i (at m k v h i);
@@ -56,7 +57,7 @@ raised g m k v s h top l kept live = record {
     least i b (here q e) = omega arith
     least i b (there e) = omega (arith, s .least i b)
 
-    kept-of : (i : ℕ) → 2 ≤ getD (set m k v) i 0 → At m k v i → Kept g i
+    kept-of : (i : ℕ) → 2 ≤ getD (set m k v) i 0 → At m k v i → Survivor g i
     kept-of i b (here q e) = rw q kept
     kept-of i b (there e) = s .kept i (omega arith)
 
@@ -74,20 +75,20 @@ raised g m k v s h top l kept live = record {
 
 -- nothing is done
 pub idle : {On : Graph → Type 0} {C : Type 0} {m : List ℕ} → C → Pass On C m m false
-idle c = record { sound = λ g o s. s; more = λ e. absurd (false≢true e); same = λ e. refl; done = λ e. c }
+idle c = record { spread = record { sound = λ g o s. s }; more = λ e. absurd (false≢true e); same = λ e. refl; done = λ e. c }
 
 -- a mark is raised
 pub raise : {On : Graph → Type 0} {C : Type 0} (m : List ℕ) (k v : ℕ) → k < length m → getD m k 0 < v → ((g : Graph) → On g → Sound g m → Sound g (set m k v)) → Pass On C m (set m k v) true
-raise m k v h l f = record { sound = f; more = λ e. sum-set m k v h l; same = λ e. absurd (true≢false e); done = λ e. absurd (true≢false e) }
+raise m k v h l f = record { spread = record { sound = f }; more = λ e. sum-set m k v h l; same = λ e. absurd (true≢false e); done = λ e. absurd (true≢false e) }
 
 -- one pass after another
 module _ (On : Graph → Type 0) (C : Type 0) (D E : List ℕ → Type 0) (m m′ m″ : List ℕ) (f : C → D m → E m) where
   then : (a b : Bool) → Pass On C m m′ a → Pass On (D m′) m′ m″ b → Pass On (E m) m m″ (a or b)
   unfolding _or_
-  then true true p q = record { sound = λ g o s. q .sound g o (p .sound g o s); more = λ e. omega (arith, p .more refl, q .more refl); same = λ e. absurd (true≢false e); done = λ e. absurd (true≢false e) }
-  then true false p q = record { sound = λ g o s. q .sound g o (p .sound g o s); more = λ e. rw (q .same refl) (p .more refl); same = λ e. absurd (true≢false e); done = λ e. absurd (true≢false e) }
-  then false true p q = record { sound = λ g o s. q .sound g o (p .sound g o s); more = λ e. rw (← p .same refl) (q .more refl); same = λ e. absurd (true≢false e); done = λ e. absurd (true≢false e) }
-  then false false p q = record { sound = λ g o s. q .sound g o (p .sound g o s); more = λ e. absurd (false≢true e); same = λ e. q .same refl ∙ p .same refl; done = λ e. f (p .done refl) (subst D (p .same refl) (q .done refl)) }
+  then true true p q = record { spread = spread-on (p .spread) (q .spread); more = λ e. omega (arith, p .more refl, q .more refl); same = λ e. absurd (true≢false e); done = λ e. absurd (true≢false e) }
+  then true false p q = record { spread = spread-on (p .spread) (q .spread); more = λ e. rw (q .same refl) (p .more refl); same = λ e. absurd (true≢false e); done = λ e. absurd (true≢false e) }
+  then false true p q = record { spread = spread-on (p .spread) (q .spread); more = λ e. rw (← p .same refl) (q .more refl); same = λ e. absurd (true≢false e); done = λ e. absurd (true≢false e) }
+  then false false p q = record { spread = spread-on (p .spread) (q .spread); more = λ e. absurd (false≢true e); same = λ e. q .same refl ∙ p .same refl; done = λ e. f (p .done refl) (subst D (p .same refl) (q .done refl)) }
 
   -- the answer is that something changed in one of them
   pub after : (a b r : Bool) → Pass On C m m′ a → Pass On (D m′) m′ m″ b → r ≡ (a or b) → Pass On (E m) m m″ r
@@ -189,7 +190,7 @@ turned-up On A m₀ m m′ n i a b r pos p q e =
     (λ f h k low high. ⊎-elim (λ (x : i - 1 ≡ k). rw (← x) h) (λ (x : i - 1 < k). f k (omega arith) high) (eq-or-lt-of-le low)) a b r p q e
 
 pub weaken : {On On′ : Graph → Type 0} {C D : Type 0} {m m′ : List ℕ} {r : Bool} → Pass On C m m′ r → ((g : Graph) → On′ g → On g) → (C → D) → Pass On′ D m m′ r
-weaken p o f = record { sound = λ g h s. p .sound g (o g h) s; more = p .more; same = p .same; done = λ e. f (p .done e) }
+weaken p o f = record { spread = record { sound = λ g h s. p .spread .sound g (o g h) s }; more = p .more; same = p .same; done = λ e. f (p .done e) }
 
 -- a round: the three passes
 pub rounded : (ps rs m m₁ m₂ m₃ : List ℕ) (a b c r : Bool) → Pass (WithParents ps) (Down ps m) m m₁ a → Pass (WithPairs rs) (Along rs m₁) m₁ m₂ b → Pass (WithParents ps) (Up ps m₂) m₂ m₃ c → r ≡ ((a or b) or c) → Pass (WithBoth ps rs) (Settled ps rs m) m m₃ r

@@ -9,8 +9,9 @@ use lib.ListN.{length, set, length-append}
 use lib.Seq.{set-at, append-snoc}
 use lib.Dec.{ltb, leb}
 use mir.Facts.{no-ltb, ltb-yes, ltb-no, leb-yes, leb-no}
-use Rattle.readers.specs.Choice.{pick-no, either, zeros}
-use Rattle.marking.specs.EntryReferences.{Found, found, refused}
+use Rattle.readers.specs.Choice.{zeros}
+use Rattle.readers.proofs.Choice.{pick-no, either}
+use Rattle.marking.specs.EntryReferences.{ReferencesFound, found, refused}
 use Rattle.marking.specs.ReferenceTable.{nextPlace, placed, written, tableAfter}
 use Rattle.marking.proofs.Placing.{place-inside, put-size}
 
@@ -60,7 +61,7 @@ not-placed room at place part xs e h l =
 length-written : (table : List ℕ) (at : ℕ) (xs : List ℕ) → length (written table at xs) ≡ length table
 length-written table at xs = put-size table at xs (written table at xs) (placed (length table) at xs) (record { place = refl; numbers = refl })
 
-pub length-table : (table : List ℕ) (at : ℕ) (f : Found) → length (tableAfter table at f) ≡ length table
+pub length-table : (table : List ℕ) (at : ℕ) (f : ReferencesFound) → length (tableAfter table at f) ≡ length table
 unfolding tableAfter
 length-table table at (found xs) = length-written table at xs
 length-table table at (refused xs n) = length-written table at xs

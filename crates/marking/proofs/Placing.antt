@@ -1,13 +1,12 @@
 -- Numbers in a lent table, from a place on. Assumes nothing.
 use mathlib.Core.Path.{_≡_, refl, ap, ap₂, sym, _∙_}
-use Prim.Native.Nat.{ℕ, _+_, _-_, _≤_, _<_}
-use native.Mathlib.Omega.{arith}
+use Prim.Native.Nat.{ℕ, _+_, _≤_, _<_}
 use native.Mathlib.Numerals.{add-one}
 use mathlib.Core.List.{List, [], _∷_, _++_}
 use lib.ListN.{length, set, length-set}
 use lib.Seq.{set-out}
 use mir.Facts.{yes-ltb, no-ltb}
-use Rattle.readers.specs.Choice.{pick-yes, pick-no}
+use Rattle.readers.proofs.Choice.{pick-yes, pick-no}
 use Rattle.marking.specs.ReferenceTable.{nextPlace, placed, written}
 
 -- ---- one number

@@ -1,8 +1,8 @@
 -- The root test's loops over an entry's attributes, one turn at a time. Assumes nothing.
-use mathlib.Core.Path.{_≡_, refl, ap, sym, _∙_}
-use Prim.Native.Nat.{ℕ, _+_, _-_, _≤_, _<_}
+use mathlib.Core.Path.{_≡_, ap, sym, _∙_}
+use Prim.Native.Nat.{ℕ, _+_, _-_, _<_}
 use native.Mathlib.Omega.{arith}
-use mathlib.Core.Bool.{Bool, true, false}
+use mathlib.Core.Bool.{Bool, false}
 use mathlib.Core.List.{List, [], _∷_}
 use lib.ListN.{length}
 use lib.Dec.{eqb}
@@ -16,14 +16,14 @@ use Rattle.readers.specs.declared.cursor.Cursor.{Cursor}
 use Rattle.readers.specs.declared.attributes.Attribute.{Attribute}
 use Rattle.readers.specs.declared.lists.ListOffset.{ListOffset}
 use Rattle.readers.specs.declared.lists.ListOffset.the-variants.{At, Unresolved}
-use Rattle.marking.specs.Roots.{Valued, orElse, lowPc, lowPcs, locationLive, locations, olderLive, otherRanges, Ranges, rangesBy, rangesLive, rangesOf, firstRanges, rootTest, baseFrom, baseAfter, entryValues, nextAttribute}
-use Rattle.marking.specs.declared.root_test.EntryAttribute.{EntryAttribute}
-use Rattle.marking.specs.declared.root_test.NextAttribute.{NextAttribute}
-use Rattle.marking.specs.declared.root_test.NextAttribute.the-variants.{More, NoMore}
-use Rattle.marking.specs.declared.roots.Verdict.{Verdict}
-use Rattle.marking.specs.declared.roots.Verdict.the-variants.{Live as isLive, Dead as isDead, Refused as refused}
-use Rattle.readers.proofs.Tokens.{Inside}
-use Rattle.marking.proofs.Attributes.{valued, stepped, stepped-on, no-more}
+use Rattle.marking.specs.Roots.{orElse, lowPc, lowPcs, locationLive, locations, olderLive, otherRanges, Ranges, rangesBy, rangesLive, rangesOf, firstRanges, rootTest, baseFrom, baseAfter}
+use Rattle.readers.specs.EntryAttributes.{Valued, entryValues, nextAttribute}
+use Rattle.readers.specs.declared.entry_attributes.EntryAttribute.{EntryAttribute}
+use Rattle.readers.specs.declared.entry_attributes.NextAttribute.{NextAttribute}
+use Rattle.readers.specs.declared.entry_attributes.NextAttribute.the-variants.{More, NoMore}
+use Rattle.marking.specs.declared.root_test.Verdict.{Verdict}
+use Rattle.marking.specs.declared.root_test.Verdict.the-variants.{Live as isLive, Dead as isDead, Refused as refused}
+use Rattle.readers.proofs.EntryAttributes.{valued, stepped, stepped-on, no-more}
 use Rattle.marking.proofs.Lists.{rangesFrom, ranges-start}
 
 -- ---- any test over the attributes, from a specification and a value on
@@ -31,9 +31,6 @@ use Rattle.marking.proofs.Lists.{rangesFrom, ranges-start}
 module _ (e : Encoding) (s unit : List ℕ) (p at : ℕ) (n : NextAttribute) (q : n ≡ nextAttribute e s p unit at) where
   pub attributes-less : (x : EntryAttribute) → n ≡ More x → length s - x .next .at < length s - p
   attributes-less x r = omega (arith, stepped e s p unit at x (sym q ∙ r) .ahead, stepped e s p unit at x (sym q ∙ r) .inside)
-
-  pub attributes-within : (x : EntryAttribute) → n ≡ More x → Inside unit at (x .value .field)
-  attributes-within x r = stepped e s p unit at x (sym q ∙ r) .within
 
   module _ {X : Type 0} (test : List Valued → X) where
     attributes-end : n ≡ NoMore → test (entryValues e s p unit at) ≡ test []

@@ -12,10 +12,10 @@ use borrow.Author.Tests.{eqb-true, eqb-false, not-true}
 use Rattle.readers.specs.Choice.{pick, _and_, _or_}
 use Rattle.marking.specs.Below.{any}
 use Rattle.marking.specs.Graph.{Graph, size}
-use Rattle.marking.specs.Survivors.{Kept}
+use Rattle.marking.specs.Survivors.{Survivor}
 use Rattle.marking.specs.Markings.{justified}
 use Rattle.marking.specs.Marks.{has, round, rounds, keptOf}
-use Rattle.marking.specs.Passes.{sum}
+use Rattle.marking.specs.inner.Passes.{sum}
 use Rattle.marking.proofs.Tests.{and-out, and-in, or-out, or-inl, or-inr, any-out, any-in, by-false, by-true, not-both, either, split}
 use Rattle.marking.proofs.Tables.{length-tab, getD-tab}
 use Rattle.marking.proofs.Graphs.{WellFormed}
@@ -51,12 +51,12 @@ unfolding round
 length-round g M = length-tab _ _
 
 -- only survivors
-round-sound : (g : Graph) (M : List ℕ) → ((i : ℕ) → has M i ≡ true → Kept g i) → (i : ℕ) → has (round g M) i ≡ true → Kept g i
+round-sound : (g : Graph) (M : List ℕ) → ((i : ℕ) → has M i ≡ true → Survivor g i) → (i : ℕ) → has (round g M) i ≡ true → Survivor g i
 round-sound g M s i e =
     let h : i < size g = omega (arith, has-inside (round g M) i e, length-round g M) in
     ⊎-elim (λ p. s i p) (λ p. reason-kept g (has M) s i h (reason-out g (has M) i p)) (or-out (has M i) (justified g (has M) i) (sym (has-round g M i h) ∙ e))
 
-rounds-sound : (g : Graph) (k : ℕ) (M : List ℕ) → ((i : ℕ) → has M i ≡ true → Kept g i) → (i : ℕ) → has (rounds g k M) i ≡ true → Kept g i
+rounds-sound : (g : Graph) (k : ℕ) (M : List ℕ) → ((i : ℕ) → has M i ≡ true → Survivor g i) → (i : ℕ) → has (rounds g k M) i ≡ true → Survivor g i
 unfolding rounds
 rounds-sound g zero M s i e = s i e
 rounds-sound g (suc k) M s i e = rounds-sound g k (round g M) (round-sound g M s) i e
@@ -168,7 +168,7 @@ module _ (g : Graph) where
   zeros-bits = record { long = length-replicate (size g) 0; most = λ i. omega (arith, getD-zeros (size g) i) }
 
   -- the list marks the survivors and no others
-  pub kept-out : (i : ℕ) → has (keptOf g) i ≡ true → Kept g i
+  pub kept-out : (i : ℕ) → has (keptOf g) i ≡ true → Survivor g i
   unfolding keptOf has
   kept-out i e = rounds-sound g (suc (size g)) (replicate (size g) 0) (λ j h. absurd (omega (arith, eqb-true (getD (replicate (size g) 0) j 0) 1 h, getD-zeros (size g) j))) i e
 
@@ -176,5 +176,5 @@ module _ (g : Graph) where
   unfolding keptOf
   kept-fixed = rounds-fixed g (suc (size g)) (replicate (size g) 0) zeros-bits (omega arith)
 
-  pub kept-in : WellFormed g → (i : ℕ) → Kept g i → has (keptOf g) i ≡ true
+  pub kept-in : WellFormed g → (i : ℕ) → Survivor g i → has (keptOf g) i ≡ true
   kept-in v = kept-least g (λ i. has (keptOf g) i ≡ true) (reasons-closed g v (has (keptOf g)) (λ i h r. kept-fixed i h (reason-in g v (has (keptOf g)) i r)))

@@ -11,7 +11,7 @@ use lib.ListN.{length, getD, take, drop, length-append, take-append-drop}
 use lib.Dec.{ltb, leb, eqb}
 use borrow.Author.Tests.{lt-ltb, le-leb, eq-eqb}
 use mir.Facts.{ltb-yes, leb-yes}
-use Rattle.readers.specs.Choice.{pick-either, All, all-some, all-none, all-pick, all-map}
+use Rattle.readers.proofs.Choice.{pick-either, All, all-some, all-none, all-pick, all-map}
 use Rattle.readers.specs.Nesting.{open′, close, top}
 use Rattle.readers.specs.Abbreviations.{Placed, declaredIn, abbreviationsOf}
 use Rattle.readers.specs.Entries.{stepAt}
@@ -19,17 +19,17 @@ use Rattle.readers.specs.Header.{headerOf}
 use Rattle.readers.specs.declared.header.HeaderRead.{HeaderRead}
 use Rattle.readers.specs.declared.header.HeaderRead.the-variants.{Unit as Unit′, Empty, Refused}
 use Rattle.readers.specs.declared.cursor.Encoding.{Encoding}
-use Rattle.readers.specs.declared.abbreviations.Found.{Found as Declared}
+use Rattle.readers.specs.declared.abbreviations.ReferencesFound.{ReferencesFound as Declared}
 use Rattle.readers.specs.declared.entries.Step.{Step}
 use Rattle.readers.specs.declared.entries.Step.the-variants.{Entry as Entry′, Terminator, End, Unreadable}
 use Rattle.marking.specs.Below.{every}
 use Rattle.marking.specs.Graph.{noParent, references, parentFits, pairFits, rootFits, wellFormed, takes}
-use Rattle.marking.specs.EntryReferences.{Found, found, refused as refusedAfter}
-use Rattle.marking.specs.declared.roots.Verdict.{Verdict}
-use Rattle.marking.specs.declared.roots.Verdict.the-variants.{Live, Dead, Refused as Failed}
+use Rattle.marking.specs.EntryReferences.{ReferencesFound, found, refused as refusedAfter}
+use Rattle.marking.specs.declared.root_test.Verdict.{Verdict}
+use Rattle.marking.specs.declared.root_test.Verdict.the-variants.{Live, Dead, Refused as Failed}
 use Rattle.marking.proofs.Tests.{and-in, or-inl, or-inr}
 use Rattle.readers.specs.Stream.{Item, entry, terminator, Items, push, onStep, itemsWithin, itemsFrom}
-use Rattle.marking.specs.Analysis.{Sections, Rooms, Row, Analysed, analysed, refused, onto, onVerdict, onFound, Reached, reached, startOf, analyseItems, onDeclared, unitAnalysed, headerAnalysed, analysisOf, rootOf, namesOf, baseOf}
+use Rattle.marking.specs.Analysis.{Sections, Rooms, EntryRow, Analysed, analysed, refused, onto, onVerdict, onFound, Reached, reached, startOf, analyseItems, onDeclared, unitAnalysed, headerAnalysed, analysisOf, rootOf, namesOf, baseOf}
 use Rattle.marking.specs.Columns.{offsetsIn, parentsIn, rootsIn, namesIn}
 use Rattle.marking.specs.Resolution.{entryFrom, pairFor, pairsOfEntry, pairsFrom, pairsIn, graphOf, Ascending}
 use Rattle.readers.proofs.Streams.{EntryInside, step-inside, terminator-inside}
@@ -104,23 +104,23 @@ under-top n (k ∷ stack) u = inr (u .0)
 -- ---- what rows have
 
 -- rows from entry k on: their offsets from `low` on and below `high`
-unfoldable pub Rowed : ℕ → ℕ → ℕ → List Row → Type 0
+unfoldable pub Rowed : ℕ → ℕ → ℕ → List EntryRow → Type 0
 Rowed high low k [] = Unit {0}
 Rowed high low k (r ∷ rs) =
     (low ≤ r .offset) × (r .offset < high) × ((r .parent ≡ noParent) ⊎ (r .parent < k)) × (r .root ≤ 1) × Rowed high (suc (r .offset)) (suc k) rs
 
-pub rowed-from : (high low low′ k : ℕ) (rows : List Row) → low ≤ low′ → Rowed high low′ k rows → Rowed high low k rows
+pub rowed-from : (high low low′ k : ℕ) (rows : List EntryRow) → low ≤ low′ → Rowed high low′ k rows → Rowed high low k rows
 unfolding Rowed
 rowed-from high low low′ k [] h r = tt
 rowed-from high low low′ k (x ∷ xs) h r = (let l : low′ ≤ x .offset = r .0 in omega arith, r .1, r .2, r .3, r .4)
 
-rowed-to : (high high′ low k : ℕ) (rows : List Row) → high ≤ high′ → Rowed high low k rows → Rowed high′ low k rows
+rowed-to : (high high′ low k : ℕ) (rows : List EntryRow) → high ≤ high′ → Rowed high low k rows → Rowed high′ low k rows
 unfolding Rowed
 rowed-to high high′ low k [] h r = tt
 rowed-to high high′ low k (x ∷ xs) h r =
     (r .0, let l : x .offset < high = r .1 in omega arith, r .2, r .3, rowed-to high high′ (suc (x .offset)) (suc k) xs h (r .4))
 
-pub rows-fit : (high low k : ℕ) (rows : List Row) → Rowed high low k rows → low ≤ high → low + length rows ≤ high
+pub rows-fit : (high low k : ℕ) (rows : List EntryRow) → Rowed high low k rows → low ≤ high → low + length rows ≤ high
 unfolding Rowed
 rows-fit high low k [] r h = omega arith
 rows-fit high low k (x ∷ xs) r h =
@@ -128,29 +128,29 @@ rows-fit high low k (x ∷ xs) r h =
     let l′ : x .offset < high = r .1 in
     omega (arith, rows-fit high (suc (x .offset)) (suc k) xs (r .4) (omega arith))
 
-pub rows-few : (high low k : ℕ) (rows : List Row) → Rowed high low k rows → length rows ≤ high
+pub rows-few : (high low k : ℕ) (rows : List EntryRow) → Rowed high low k rows → length rows ≤ high
 unfolding Rowed
 rows-few high low k [] r = omega arith
 rows-few high low k (x ∷ xs) r =
     let l′ : x .offset < high = r .1 in
     omega (arith, rows-fit high (suc (x .offset)) (suc k) xs (r .4) (omega arith))
 
-pub offsets-ascend : (high low k : ℕ) (rows : List Row) → Rowed high low k rows → Ascending low (offsetsIn rows)
+pub offsets-ascend : (high low k : ℕ) (rows : List EntryRow) → Rowed high low k rows → Ascending low (offsetsIn rows)
 unfolding Rowed Ascending offsetsIn
 offsets-ascend high low k [] r = tt
 offsets-ascend high low k (x ∷ xs) r = (r .0, offsets-ascend high (suc (x .offset)) (suc k) xs (r .4))
 
-pub offsets-under : (high low k : ℕ) (rows : List Row) → Rowed high low k rows → Under high (offsetsIn rows)
+pub offsets-under : (high low k : ℕ) (rows : List EntryRow) → Rowed high low k rows → Under high (offsetsIn rows)
 unfolding Rowed Under offsetsIn
 offsets-under high low k [] r = tt
 offsets-under high low k (x ∷ xs) r = (r .1, offsets-under high (suc (x .offset)) (suc k) xs (r .4))
 
-pub roots-under : (high low k : ℕ) (rows : List Row) → Rowed high low k rows → Under 2 (rootsIn rows)
+pub roots-under : (high low k : ℕ) (rows : List EntryRow) → Rowed high low k rows → Under 2 (rootsIn rows)
 unfolding Rowed Under rootsIn
 roots-under high low k [] r = tt
 roots-under high low k (x ∷ xs) r = (let l : x .root ≤ 1 = r .3 in omega arith, roots-under high (suc (x .offset)) (suc k) xs (r .4))
 
-pub parent-before : (high low k : ℕ) (rows : List Row) → Rowed high low k rows → (i : ℕ) → i < length rows
+pub parent-before : (high low k : ℕ) (rows : List EntryRow) → Rowed high low k rows → (i : ℕ) → i < length rows
     → (getD (parentsIn rows) i 0 ≡ noParent) ⊎ (getD (parentsIn rows) i 0 < k + i)
 unfolding Rowed parentsIn
 parent-before high low k [] r i h = absurd (omega arith)
@@ -176,41 +176,41 @@ ascending-at low (o ∷ os) a (suc i) (suc j) h l = ascending-at (suc o) os (a .
 
 -- ---- what an analysis gives
 
-unfoldable pub Gives : (List Row → Type 0) → Analysed → Type 0
+unfoldable pub Gives : (List EntryRow → Type 0) → Analysed → Type 0
 Gives P (analysed rows) = P rows
 Gives P (refused n) = Unit {0}
 
-pub gives-of : (P : List Row → Type 0) (a : Analysed) (rows : List Row) → Gives P a → a ≡ analysed rows → P rows
+pub gives-of : (P : List EntryRow → Type 0) (a : Analysed) (rows : List EntryRow) → Gives P a → a ≡ analysed rows → P rows
 unfolding Gives
 gives-of P a rows g q = subst (Gives P) q g
 
-pub gives-verdict : (P : List Row → Type 0) (v : Verdict) (k : ℕ → Analysed) → ((root : ℕ) → root ≤ 1 → Gives P (k root)) → Gives P (onVerdict v k)
+pub gives-verdict : (P : List EntryRow → Type 0) (v : Verdict) (k : ℕ → Analysed) → ((root : ℕ) → root ≤ 1 → Gives P (k root)) → Gives P (onVerdict v k)
 unfolding Gives onVerdict
 gives-verdict P Live k h = h 1 (omega arith)
 gives-verdict P Dead k h = h 0 (omega arith)
 gives-verdict P (Failed n) k h = tt
 
-pub gives-found : (P : List Row → Type 0) (f : Found) (k : List ℕ → Analysed) → ((names : List ℕ) → Gives P (k names)) → Gives P (onFound f k)
+pub gives-found : (P : List EntryRow → Type 0) (f : ReferencesFound) (k : List ℕ → Analysed) → ((names : List ℕ) → Gives P (k names)) → Gives P (onFound f k)
 unfolding Gives onFound
 gives-found P (found xs) k h = h xs
 gives-found P (refusedAfter xs n) k h = tt
 
-pub gives-onto : (P Q : List Row → Type 0) (r : Row) (a : Analysed) → ((rows : List Row) → Q rows → P (r ∷ rows)) → Gives Q a → Gives P (onto r a)
+pub gives-onto : (P Q : List EntryRow → Type 0) (r : EntryRow) (a : Analysed) → ((rows : List EntryRow) → Q rows → P (r ∷ rows)) → Gives Q a → Gives P (onto r a)
 unfolding Gives onto
 gives-onto P Q r (analysed rows) f g = f rows g
 gives-onto P Q r (refused n) f g = tt
 
-pub gives-map : (P Q : List Row → Type 0) (a : Analysed) → ((rows : List Row) → P rows → Q rows) → Gives P a → Gives Q a
+pub gives-map : (P Q : List EntryRow → Type 0) (a : Analysed) → ((rows : List EntryRow) → P rows → Q rows) → Gives P a → Gives Q a
 unfolding Gives
 gives-map P Q (analysed rows) f g = f rows g
 gives-map P Q (refused n) f g = tt
 
-pub gives-refused : (P : List Row → Type 0) (n : ℕ) → Gives P (refused n)
+pub gives-refused : (P : List EntryRow → Type 0) (n : ℕ) → Gives P (refused n)
 unfolding Gives
 gives-refused P n = tt
 
 -- rows from a place on, after what was reached
-record Laws (high low : ℕ) (room : Rooms) (n m : ℕ) (rows : List Row) : Type 0 where
+record Laws (high low : ℕ) (room : Rooms) (n m : ℕ) (rows : List EntryRow) : Type 0 where
   pub rowed : Rowed high low n rows
   pub entries : n ≤ room .entries → n + length rows ≤ room .entries
   pub references : m ≤ room .references → m + length (namesIn rows) ≤ room .references
@@ -219,10 +219,10 @@ laws-end : (high low : ℕ) (room : Rooms) (n m : ℕ) → Gives (Laws high low 
 unfolding Gives Rowed namesIn
 laws-end high low room n m = record { rowed = tt; entries = λ h. omega arith; references = λ h. omega arith }
 
-laws-from : (high low low′ : ℕ) (room : Rooms) (n m : ℕ) (rows : List Row) → low ≤ low′ → Laws high low′ room n m rows → Laws high low room n m rows
+laws-from : (high low low′ : ℕ) (room : Rooms) (n m : ℕ) (rows : List EntryRow) → low ≤ low′ → Laws high low′ room n m rows → Laws high low room n m rows
 laws-from high low low′ room n m rows h l = record { rowed = rowed-from high low low′ n rows h (l .rowed); entries = l .entries; references = l .references }
 
-laws-onto : (high low next : ℕ) (room : Rooms) (n m : ℕ) (r : Row) (rows : List Row)
+laws-onto : (high low next : ℕ) (room : Rooms) (n m : ℕ) (r : EntryRow) (rows : List EntryRow)
     → r .offset ≡ low → low < next → next ≤ high → (r .parent ≡ noParent) ⊎ (r .parent < n) → r .root ≤ 1
     → n < room .entries → m + length (r .names) ≤ room .references
     → Laws high next room (suc n) (m + length (r .names)) rows → Laws high low room n m (r ∷ rows)
@@ -261,7 +261,7 @@ module _ (e : Encoding) (x : Sections) (unit : List ℕ) (room : Rooms) (high : 
 
 -- ---- the rows of a unit
 
-pub record UnitRows (unit : List ℕ) (room : Rooms) (first : ℕ) (rows : List Row) : Type 0 where
+pub record UnitRows (unit : List ℕ) (room : Rooms) (first : ℕ) (rows : List EntryRow) : Type 0 where
   pub rowed : Rowed (length unit) first 0 rows
   pub entries : length rows ≤ room .entries
   pub references : length (namesIn rows) ≤ room .references
@@ -275,7 +275,7 @@ module _ (e : Encoding) (x : Sections) (unit : List ℕ) (room : Rooms) (from fi
   declared-laws none = tt
   declared-laws (some ds) = items-laws e x unit room (length unit) first startOf _ _ (items-in e (x .abbreviations) (declaredIn ds) unit first) tt
 
-  pub unit-rows : (rows : List Row) → unitAnalysed e x unit room from first ≡ analysed rows → UnitRows unit room first rows
+  pub unit-rows : (rows : List EntryRow) → unitAnalysed e x unit room from first ≡ analysed rows → UnitRows unit room first rows
   unfolding unitAnalysed
   unit-rows rows q =
       let l : Laws (length unit) first room 0 0 rows = gives-of _ _ rows (declared-laws (abbreviationsOf (x .abbreviations) from)) q in
@@ -290,7 +290,7 @@ take-few : (n : ℕ) (xs : List ℕ) → length (take n xs) ≤ length xs
 take-few n xs = omega (arith, length-append (take n xs) (drop n xs), ap length (take-append-drop n xs))
 
 -- those of the first unit of a section
-module _ (x : Sections) (section : List ℕ) (room : Rooms) (rows : List Row) where
+module _ (x : Sections) (section : List ℕ) (room : Rooms) (rows : List EntryRow) where
   pub no-rows : UnitRows section room 0 []
   unfolding Rowed namesIn
   no-rows = record { rowed = tt; entries = omega arith; references = omega arith; few = omega arith }
@@ -318,17 +318,17 @@ module _ (x : Sections) (section : List ℕ) (room : Rooms) (rows : List Row) wh
 
 -- ---- their graph
 
-pub length-parents : (rows : List Row) → length (parentsIn rows) ≡ length rows
+pub length-parents : (rows : List EntryRow) → length (parentsIn rows) ≡ length rows
 unfolding parentsIn
 length-parents [] = refl
 length-parents (r ∷ rs) = ap suc (length-parents rs)
 
-pub length-roots : (rows : List Row) → length (rootsIn rows) ≡ length rows
+pub length-roots : (rows : List EntryRow) → length (rootsIn rows) ≡ length rows
 unfolding rootsIn
 length-roots [] = refl
 length-roots (r ∷ rs) = ap suc (length-roots rs)
 
-pub length-offsets : (rows : List Row) → length (offsetsIn rows) ≡ length rows
+pub length-offsets : (rows : List EntryRow) → length (offsetsIn rows) ≡ length rows
 unfolding offsetsIn
 length-offsets [] = refl
 length-offsets (r ∷ rs) = ap suc (length-offsets rs)
@@ -355,7 +355,7 @@ entry-pairs-under n os l i h (t ∷ ts) =
     (pair-under n i h (entryFrom 0 os t) (all-map _ _ (entryFrom 0 os t) (λ k q. omega arith) (entry-below 0 os t)))
     (entry-pairs-under n os l i h ts)
 
-pairs-under : (n : ℕ) (os : List ℕ) → length os ≡ n → (i : ℕ) (rows : List Row) → i + length rows ≤ n → Under n (pairsFrom os i rows)
+pairs-under : (n : ℕ) (os : List ℕ) → length os ≡ n → (i : ℕ) (rows : List EntryRow) → i + length rows ≤ n → Under n (pairsFrom os i rows)
 unfolding pairsFrom Under
 pairs-under n os l i [] h = tt
 pairs-under n os l i (r ∷ rs) h =
@@ -368,7 +368,7 @@ unfolding every
 every-in zero f h = refl
 every-in (suc n) f h = and-in (h n (omega arith)) (every-in n f (λ k l. h k (omega arith)))
 
-module _ (high low : ℕ) (rows : List Row) (r : Rowed high low 0 rows) where
+module _ (high low : ℕ) (rows : List EntryRow) (r : Rowed high low 0 rows) where
   parents-take : every (length (parentsIn rows)) (parentFits (parentsIn rows)) ≡ true
   unfolding parentFits
   parents-take =

@@ -9,8 +9,9 @@ use lib.ListN.{length, getD, take}
 use lib.Seq.{length-take-le, getD-take}
 use lib.Dec.{ltb}
 use mir.Facts.{yes-eqb, no-eqb, ltb-yes, ltb-no}
-use Rattle.readers.specs.Choice.{either, pick-yes, pick-no}
-use Rattle.marking.specs.Resolution.{entryFrom, asEntry, Ascending, Searched}
+use Rattle.readers.proofs.Choice.{either, pick-yes, pick-no}
+use Rattle.marking.specs.Resolution.{entryFrom, Ascending}
+use Rattle.marking.specs.inner.Resolution.{asEntry, Searched}
 use Rattle.marking.specs.declared.units.EntryFound.the-variants.{Entry, Nothing}
 use Rattle.marking.proofs.Rows.{ascending-from, ascending-at}
 

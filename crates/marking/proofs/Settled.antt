@@ -12,10 +12,11 @@ use borrow.Author.Tests.{eqb-true, eq-eqb, ne-eqb, leb-true, le-leb, lt-leb}
 use Rattle.readers.specs.Choice.{pick, _and_}
 use Rattle.marking.specs.Below.{tab}
 use Rattle.marking.specs.Graph.{Graph, size, holder, target, references, isParent, names}
-use Rattle.marking.specs.Survivors.{Descendant, child, deeper, Kept, first, Live, live-root, live-named, live-under-root, live-under-named, Closed}
+use Rattle.marking.specs.Survivors.{Descendant, child, deeper, Survivor, first, Live, live-root, live-named, live-under-root, live-under-named}
+use Rattle.marking.specs.inner.Survivors.{Closed}
 use Rattle.marking.specs.Markings.{isLive, namedBy}
 use Rattle.marking.specs.Marks.{has, keptOf, markOf, marksOf}
-use Rattle.marking.specs.Passes.{Sound, Settled, DownAt, AlongAt, UpAt, endFirst, namesFirst, namesFirstAt}
+use Rattle.marking.specs.inner.Passes.{Sound, Settled, DownAt, AlongAt, UpAt, endFirst, namesFirst, namesFirstAt}
 use Rattle.marking.proofs.Tests.{and-out, and-in, any-out, any-in, by-true, same-test, split}
 use Rattle.marking.proofs.Tables.{length-tab, getD-tab}
 use Rattle.marking.proofs.Graphs.{WellFormed, parent-out, names-out, names-in}
@@ -105,7 +106,7 @@ module _ (g : Graph) (m : List ℕ) (s : Sound g m) (q : Settled (g .parents) (g
     has-under-named = λ a t d e h u. omega (arith, under-step u (along-step a t e h));
   }
 
-  settled-kept : (i : ℕ) → Kept g i → 2 ≤ getD m i 0
+  settled-kept : (i : ℕ) → Survivor g i → 2 ≤ getD m i 0
   settled-kept = kept-least g (λ i. 2 ≤ getD m i 0) settled-closed
 
   settled-live : (i : ℕ) → Live g i → 3 ≤ getD m i 0

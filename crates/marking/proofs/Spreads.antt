@@ -5,7 +5,7 @@ use mathlib.Core.Bool.{Bool}
 use Prim.Native.Nat.{ℕ}
 use lib.ListN.{length}
 use Rattle.marking.specs.Graph.{Graph}
-use Rattle.marking.specs.Passes.{Pass, Spread, WithParents, WithPairs, WithBoth, ParentsFit}
+use Rattle.marking.specs.inner.Passes.{Pass, Spread, WithParents, WithPairs, WithBoth, ParentsFit}
 
 pub parents-fit-still : (ps m m′ : List ℕ) → ParentsFit ps m → length m′ ≡ length m → ParentsFit ps m′
 parents-fit-still ps m m′ w e = record { long = e ∙ w .long; fit = w .fit }
@@ -19,7 +19,7 @@ pub by-parents : (ps rs : List ℕ) {m m′ : List ℕ} → Spread (WithParents 
 by-parents ps rs p = record { sound = λ g o s. p .sound g (o .0) s }
 
 pub passed-parents : (ps rs : List ℕ) {C : Type 0} {m m′ : List ℕ} {r : Bool} → Pass (WithParents ps) C m m′ r → Spread (WithBoth ps rs) m m′
-passed-parents ps rs p = record { sound = λ g o s. p .sound g (o .0) s }
+passed-parents ps rs p = by-parents ps rs (p .spread)
 
 pub passed-pairs : (ps rs : List ℕ) {C : Type 0} {m m′ : List ℕ} {r : Bool} → Pass (WithPairs rs) C m m′ r → Spread (WithBoth ps rs) m m′
-passed-pairs ps rs p = record { sound = λ g o s. p .sound g (o .1) s }
+passed-pairs ps rs p = record { sound = λ g o s. p .spread .sound g (o .1) s }

@@ -9,11 +9,13 @@ use lib.ListN.{length, set, length-append, length-replicate, length-set}
 use lib.Seq.{set-at, append-snoc, getD-set-same, getD-set-other}
 use lib.Dec.{ltb, leb}
 use mir.Facts.{yes-ltb, no-ltb, yes-leb, no-leb}
-use Rattle.readers.specs.Choice.{pick, pick-yes, pick-no, zeros}
+use Rattle.readers.specs.Choice.{pick, zeros}
+use Rattle.readers.proofs.Choice.{pick-yes, pick-no}
 use Rattle.readers.specs.Abbreviations.{Placed, declaredIn, abbreviationsOf, asChecked, checkedOf, indexOf, findAt}
-use Rattle.readers.specs.Entries.{stepAt, entryOf, entryTo}
+use Rattle.readers.specs.Entries.{stepAt}
+use Rattle.readers.specs.inner.Entries.{entryOf, entryTo}
 use Rattle.readers.specs.Nesting.{open′, close, top, nestingOf, opened, closed}
-use Rattle.readers.specs.declared.abbreviations.Found.{Found}
+use Rattle.readers.specs.declared.abbreviations.DeclarationFound.{DeclarationFound}
 use Rattle.readers.specs.declared.abbreviations.Checked.the-variants.{Accepted}
 use Rattle.readers.specs.declared.cursor.Cursor.{Cursor}
 use Rattle.readers.specs.declared.cursor.Encoding.{Encoding}
@@ -28,10 +30,11 @@ use Rattle.readers.proofs.Declarations.{find-plain}
 use Rattle.readers.proofs.Nesting.{Chain, opened-is, closed-is}
 use Rattle.marking.specs.ReferenceTable.{written}
 use Rattle.readers.specs.Stream.{Items, push, onStep, itemsFrom}
-use Rattle.marking.specs.Analysis.{Sections, Rooms, Row, Analysed, analysed, refused, onto, onVerdict, onFound, Reached, reached, startOf, valuesOfEntry, rootOf, namesOf, baseOf, analyseItems, onDeclared, unitAnalysed}
-use Rattle.marking.specs.Columns.{offsetsIn, parentsIn, rootsIn, namesIn, endsIn, padTo, Left, Outcome, Ready, answerOf, headed, refusalOf, entryAnswer, entryTable}
+use Rattle.marking.specs.Analysis.{Sections, Rooms, EntryRow, Analysed, analysed, refused, onto, onVerdict, onFound, Reached, reached, startOf, valuesOfEntry, rootOf, namesOf, baseOf, analyseItems, onDeclared, unitAnalysed}
+use Rattle.marking.specs.Columns.{offsetsIn, parentsIn, rootsIn, namesIn, endsIn, padTo, answerOf}
+use Rattle.marking.specs.inner.Columns.{Left, Outcome, AnalysisInput, headed, refusalOf, entryAnswer, entryTable}
 use Rattle.marking.specs.declared.analysis.EntryAnalysis.{EntryAnalysis}
-use Rattle.marking.specs.declared.analysis.EntryAnalysis.the-variants.{Found as RowFound, Refused as NoRow}
+use Rattle.marking.specs.declared.analysis.EntryAnalysis.the-variants.{DeclarationFound as RowFound, Refused as NoRow}
 use Rattle.marking.specs.declared.analysis.Analysis.{Analysis}
 use Rattle.marking.specs.declared.analysis.Analysis.the-variants.{Entries, Refused as Refused′}
 use Rattle.marking.proofs.Places.{placed-fits, fits-placed, not-placed, written-onto}
@@ -40,21 +43,21 @@ use Rattle.readers.proofs.Streams.{EntryInside, step-inside, terminator-inside,
 
 -- ---- rows in front of an analysis
 
-unfoldable pub ontoAll : List Row → Analysed → Analysed
+unfoldable pub ontoAll : List EntryRow → Analysed → Analysed
 ontoAll [] a = a
 ontoAll (r ∷ rs) a = onto r (ontoAll rs a)
 
-onto-more : (rs : List Row) (r : Row) (a : Analysed) → ontoAll rs (onto r a) ≡ ontoAll (rs ++ (r ∷ [])) a
+onto-more : (rs : List EntryRow) (r : EntryRow) (a : Analysed) → ontoAll rs (onto r a) ≡ ontoAll (rs ++ (r ∷ [])) a
 unfolding ontoAll
 onto-more [] r a = refl
 onto-more (q ∷ rs) r a = ap (onto q) (onto-more rs r a)
 
-onto-refused : (rs : List Row) (n : ℕ) → ontoAll rs (refused n) ≡ refused n
+onto-refused : (rs : List EntryRow) (n : ℕ) → ontoAll rs (refused n) ≡ refused n
 unfolding ontoAll onto
 onto-refused [] n = refl
 onto-refused (r ∷ rs) n = ap (onto r) (onto-refused rs n)
 
-onto-done : (rs : List Row) → ontoAll rs (analysed []) ≡ analysed rs
+onto-done : (rs : List EntryRow) → ontoAll rs (analysed []) ≡ analysed rs
 unfolding ontoAll onto
 onto-done [] = refl
 onto-done (r ∷ rs) = ap (onto r) (onto-done rs)
@@ -62,9 +65,9 @@ onto-done (r ∷ rs) = ap (onto r) (onto-done rs)
 -- ---- one row more in the columns
 
 -- a column with one number for each row
-record Each (f : List Row → List ℕ) (g : Row → ℕ) : Type 0 where
+record Each (f : List EntryRow → List ℕ) (g : EntryRow → ℕ) : Type 0 where
   none-yet : f [] ≡ []
-  one-more : (r : Row) (rs : List Row) → f (r ∷ rs) ≡ g r ∷ f rs
+  one-more : (r : EntryRow) (rs : List EntryRow) → f (r ∷ rs) ≡ g r ∷ f rs
 
 offsets-each : Each offsetsIn (λ r. r .offset)
 unfolding offsetsIn
@@ -78,21 +81,21 @@ roots-each : Each rootsIn (λ r. r .root)
 unfolding rootsIn
 roots-each = record { none-yet = refl; one-more = λ r rs. refl }
 
-each-more : (f : List Row → List ℕ) (g : Row → ℕ) → Each f g → (rs : List Row) (r : Row) → f (rs ++ (r ∷ [])) ≡ f rs ++ (g r ∷ [])
+each-more : (f : List EntryRow → List ℕ) (g : EntryRow → ℕ) → Each f g → (rs : List EntryRow) (r : EntryRow) → f (rs ++ (r ∷ [])) ≡ f rs ++ (g r ∷ [])
 each-more f g h [] r = h .one-more r [] ∙ ap (λ (l : List ℕ). g r ∷ l) (h .none-yet) ∙ ap (λ (l : List ℕ). l ++ (g r ∷ [])) (sym (h .none-yet))
 each-more f g h (q ∷ rs) r =
     h .one-more q (rs ++ (r ∷ [])) ∙ ap (λ (l : List ℕ). g q ∷ l) (each-more f g h rs r) ∙ ap (λ (l : List ℕ). l ++ (g r ∷ [])) (sym (h .one-more q rs))
 
-each-length : (f : List Row → List ℕ) (g : Row → ℕ) → Each f g → (rs : List Row) → length (f rs) ≡ length rs
+each-length : (f : List EntryRow → List ℕ) (g : EntryRow → ℕ) → Each f g → (rs : List EntryRow) → length (f rs) ≡ length rs
 each-length f g h [] = ap length (h .none-yet)
 each-length f g h (q ∷ rs) = ap length (h .one-more q rs) ∙ ap suc (each-length f g h rs)
 
-names-more : (rs : List Row) (r : Row) → namesIn (rs ++ (r ∷ [])) ≡ namesIn rs ++ r .names
+names-more : (rs : List EntryRow) (r : EntryRow) → namesIn (rs ++ (r ∷ [])) ≡ namesIn rs ++ r .names
 unfolding namesIn
 names-more [] r = append-nil (r .names)
 names-more (q ∷ rs) r = ap (λ (l : List ℕ). q .names ++ l) (names-more rs r) ∙ sym (append-assoc (q .names) (namesIn rs) (r .names))
 
-ends-more : (m : ℕ) (rs : List Row) (r : Row) → endsIn m (rs ++ (r ∷ [])) ≡ endsIn m rs ++ ((m + length (namesIn rs) + length (r .names)) ∷ [])
+ends-more : (m : ℕ) (rs : List EntryRow) (r : EntryRow) → endsIn m (rs ++ (r ∷ [])) ≡ endsIn m rs ++ ((m + length (namesIn rs) + length (r .names)) ∷ [])
 unfolding endsIn namesIn
 ends-more m [] r = ap (λ (n : ℕ). n ∷ []) (let e : m + length (r .names) ≡ m + 0 + length (r .names) = omega arith in e)
 ends-more m (q ∷ rs) r =
@@ -101,7 +104,7 @@ ends-more m (q ∷ rs) r =
     ap (λ (l : List ℕ). (m + length (q .names)) ∷ l)
     (ends-more (m + length (q .names)) rs r ∙ ap (λ (k : ℕ). endsIn (m + length (q .names)) rs ++ (k ∷ [])) n)
 
-length-ends : (m : ℕ) (rs : List Row) → length (endsIn m rs) ≡ length rs
+length-ends : (m : ℕ) (rs : List EntryRow) → length (endsIn m rs) ≡ length rs
 unfolding endsIn
 length-ends m [] = refl
 length-ends m (r ∷ rs) = ap suc (length-ends (m + length (r .names)) rs)
@@ -131,7 +134,7 @@ filled-more n xs col i v ys f l h e =
           ∙ ap (λ (t : List ℕ). t ++ zeros (n - length t)) (sym e);
     }
 
-filled-each : (n : ℕ) (f : List Row → List ℕ) (g : Row → ℕ) → Each f g → (rs : List Row) (r : Row) (col : List ℕ) (i v : ℕ) → Filled n (f rs) col → i ≡ length rs → i < n → v ≡ g r
+filled-each : (n : ℕ) (f : List EntryRow → List ℕ) (g : EntryRow → ℕ) → Each f g → (rs : List EntryRow) (r : EntryRow) (col : List ℕ) (i v : ℕ) → Filled n (f rs) col → i ≡ length rs → i < n → v ≡ g r
     → Filled n (f (rs ++ (r ∷ []))) (set col i v)
 filled-each n f g h rs r col i v c l k e =
     filled-more n (f rs) col i v _ c (each-length f g h rs ∙ sym l) k (each-more f g h rs r ∙ ap (λ (w : ℕ). f rs ++ (w ∷ [])) (sym e))
@@ -206,9 +209,9 @@ parent-of n stack e = ap (λ (m : Nesting). m .parent .0) e
 -- ---- where the loop stands
 
 pub record Stage
-    (e : Encoding) (x : Sections) (unit : List ℕ) (room : Rooms) (look : ℕ → Found) (whole : Analysed)
+    (e : Encoding) (x : Sections) (unit : List ℕ) (room : Rooms) (look : ℕ → DeclarationFound) (whole : Analysed)
     (offsets₀ parents₀ roots₀ ends₀ targets₀ offsets parents roots ends targets : List ℕ) (at count to : ℕ) (nesting : Nesting) (rb lb : ℕ) : Type 0 where
-  pub done : List Row
+  pub done : List EntryRow
   pub stack : List ℕ
   pub whole-is : whole ≡ ontoAll done (analyseItems e x unit room (reached count to stack rb lb) (itemsFrom e (x .abbreviations) look unit at .0) (itemsFrom e (x .abbreviations) look unit at .1))
   pub offsets-are : Filled (length offsets₀) (offsetsIn done) offsets
@@ -231,16 +234,16 @@ pub record Stage
   pub ends-room : room .entries ≤ length ends₀
   pub targets-room : room .references ≤ length targets₀
 
-left-refused : (f : List Row → List ℕ) (n : ℕ) (whole : Analysed) (k : ℕ) (col : List ℕ) → whole ≡ refused k → length col ≡ n → Left f n whole col
+left-refused : (f : List EntryRow → List ℕ) (n : ℕ) (whole : Analysed) (k : ℕ) (col : List ℕ) → whole ≡ refused k → length col ≡ n → Left f n whole col
 unfolding Left
 left-refused f n whole k col e l = rw e l
 
-left-done : (f : List Row → List ℕ) (n : ℕ) (whole : Analysed) (rs : List Row) (col : List ℕ) → whole ≡ analysed rs → Filled n (f rs) col → Left f n whole col
+left-done : (f : List EntryRow → List ℕ) (n : ℕ) (whole : Analysed) (rs : List EntryRow) (col : List ℕ) → whole ≡ analysed rs → Filled n (f rs) col → Left f n whole col
 unfolding Left
 left-done f n whole rs col e h = rw e (h .is)
 
 -- what is analysed from here on, by the step
-module _ (e : Encoding) (x : Sections) (unit : List ℕ) (room : Rooms) (look : ℕ → Found) (p : Reached) (at : ℕ) where
+module _ (e : Encoding) (x : Sections) (unit : List ℕ) (room : Rooms) (look : ℕ → DeclarationFound) (p : Reached) (at : ℕ) where
   abbrev fromHere : ℕ → Reached → Analysed
   fromHere n q = analyseItems e x unit room q (itemsFrom e (x .abbreviations) look unit n .0) (itemsFrom e (x .abbreviations) look unit n .1)
 
@@ -285,7 +288,7 @@ module _ (e : Encoding) (x : Sections) (unit : List ℕ) (room : Rooms) (look : 
 
 -- ---- the arms
 
-module _ {e : Encoding} {x : Sections} {unit : List ℕ} {room : Rooms} {look : ℕ → Found} {whole : Analysed}
+module _ {e : Encoding} {x : Sections} {unit : List ℕ} {room : Rooms} {look : ℕ → DeclarationFound} {whole : Analysed}
     {offsets₀ parents₀ roots₀ ends₀ targets₀ offsets parents roots ends targets : List ℕ} {at count to : ℕ} {nesting : Nesting} {rb lb : ℕ}
     (h : Stage e x unit room look whole offsets₀ parents₀ roots₀ ends₀ targets₀ offsets parents roots ends targets at count to nesting rb lb) where
   abbrev here : Reached
@@ -406,7 +409,7 @@ module _ {e : Encoding} {x : Sections} {unit : List ℕ} {room : Rooms} {look : 
             let names : List ℕ = row .names in
             let fit : to + length names ≤ length targets = fits-placed (length targets) to place names (row .place) (omega arith) in
             let place-is : place ≡ to + length names = row .place ∙ placed-fits (length targets) to names fit in
-            let one : Row = record { offset = y .offset .0; parent = top (h .stack); root = root; names = names } in
+            let one : EntryRow = record { offset = y .offset .0; parent = top (h .stack); root = root; names = names } in
             let up : nesting .parent .0 ≡ top (h .stack) = parent-of nesting (h .stack) (h .nesting-is) in
             let cd : count ≡ length (h .done) = h .count-is in
             let td : to ≡ length (namesIn (h .done)) = h .to-is in
@@ -522,7 +525,7 @@ module _ (e : Encoding) (x : Sections) (unit : List ℕ) (room : Rooms) (from fi
       (items-look e (x .abbreviations) (declaredIn ds) (findAt (x .abbreviations) from index) (look-same ds q i) unit first)
 
   pub stage-start : (offsets parents roots ends targets : List ℕ) (nesting : Nesting) → nesting ≡ nestingOf []
-      → Ready (x .abbreviations) index from unit (room .entries) (room .references) offsets parents roots ends targets
+      → AnalysisInput (x .abbreviations) index from unit (room .entries) (room .references) offsets parents roots ends targets
       → Stage e x unit room (findAt (x .abbreviations) from index) (unitAnalysed e x unit room from first)
       offsets parents roots ends targets offsets parents roots ends targets first 0 0 nesting 12 12
   unfolding checkedOf ontoAll offsetsIn parentsIn rootsIn namesIn endsIn Chain Below

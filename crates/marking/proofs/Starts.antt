@@ -11,8 +11,8 @@ use borrow.Author.Tests.{eqb-true, eq-eqb, ne-eqb}
 use Rattle.readers.specs.Choice.{pick}
 use Rattle.marking.specs.Below.{tab}
 use Rattle.marking.specs.Graph.{Graph, size}
-use Rattle.marking.specs.Survivors.{Kept, first, root, Live, live-root}
-use Rattle.marking.specs.Passes.{Sound, startMark}
+use Rattle.marking.specs.Survivors.{Survivor, first, root, Live, live-root}
+use Rattle.marking.specs.inner.Passes.{Sound, startMark}
 use Rattle.marking.proofs.Tests.{split}
 use Rattle.marking.proofs.Tables.{length-tab, getD-tab}
 use Rattle.marking.proofs.Graphs.{WellFormed, root-out, root-in}
@@ -69,7 +69,7 @@ module _ (g : Graph) (v : WellFormed g) where
   start-inside : (i k : ℕ) → 0 < k → k ≤ getD start i 0 → i < size g
   start-inside i k p h = ⊎-elim (λ b. b) (λ b. absurd (omega (arith, List·getD-eq-default start 0 {n = i} (omega (arith, start-long))))) (split i (size g))
 
-  kept-of : (i : ℕ) → 2 ≤ getD start i 0 → Kept g i
+  kept-of : (i : ℕ) → 2 ≤ getD start i 0 → Survivor g i
   kept-of i h =
       let b = start-inside i 2 (omega arith) h in
       ⊎-elim (λ e. root (root-in g i b e)) (λ e. let z = eqb-true i 0 e in rw z (first (omega arith))) (two (eqb (getD (g .roots) i 0) 1) (eqb i 0) (rw (start-at i b) at h))

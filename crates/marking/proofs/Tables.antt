@@ -1,28 +1,17 @@
 -- Laws of `tab` and `count`, and of the loops that write or count every element.
 use Prim.Native.Nat.{ℕ, zero, suc, _+_, _≤_, _<_}
 use mathlib.Core.Path.{_≡_, refl, sym, ap, subst, _∙_}
-use mathlib.Core.List.{List, _++_, append-nil}
+use mathlib.Core.List.{List}
 use mathlib.Core.Bool.{Bool, true, false}
 use mathlib.Core.Logic.{⊎-elim}
 use native.Mathlib.Nat.{le-antisymm, not-suc-le-zero, le-of-suc-le-suc, eq-or-lt-of-le}
 use native.Mathlib.Numerals.{add-one}
 use native.Mathlib.Omega.{arith}
-use borrow.Author.Fill.{fill-more}
-use lib.ListN.{length, getD, set, replicate, drop}
-use lib.Seq.{drop-length, getD-set-same, getD-set-other, ext-getD}
+use lib.ListN.{length, getD, set}
+use lib.Seq.{getD-set-same, getD-set-other, ext-getD}
 use Rattle.readers.specs.Choice.{pick}
 use Rattle.marking.specs.Below.{tab, count, Number, no-more, one-more, not-this}
 use Rattle.marking.proofs.Tests.{either, not-both}
-
--- ---- the same number everywhere
-
-pub filled-more : (d m : List ℕ) (i v : ℕ) → m ≡ replicate i v ++ drop i d → i < length m → length m ≡ length d → set m i v ≡ replicate (i + 1) v ++ drop (i + 1) d
-filled-more d m i v e h l = rw e (fill-more i v d (omega arith))
-
-pub filled-all : (d m : List ℕ) (i v : ℕ) → m ≡ replicate i v ++ drop i d → i ≤ length d → length m ≤ i → length m ≡ length d → m ≡ replicate (length d) v
-filled-all d m i v e h k l =
-    let q : i ≡ length d = omega arith in
-    e ∙ rw (q, drop-length d) (append-nil (replicate (length d) v))
 
 -- ---- f of each place
 

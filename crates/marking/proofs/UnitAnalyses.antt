@@ -8,10 +8,12 @@ use native.Mathlib.Omega.{arith}
 use lib.ListN.{length, take, length-replicate}
 use lib.Dec.{leb, eqb}
 use mir.Facts.{leb-yes, leb-no}
-use Rattle.readers.specs.Choice.{pick-either, _or_, zeros}
+use Rattle.readers.specs.Choice.{_or_, zeros}
+use Rattle.readers.proofs.Choice.{pick-either}
 use Rattle.readers.specs.Cursors.{fixedAt}
 use Rattle.readers.specs.Header.{present, right, headerMade, headerFields, headerOf}
 use Rattle.readers.specs.Abbreviations.{Placed, abbreviationsOf, asChecked, checkedOf, indexFor, indexOf}
+use Rattle.readers.specs.declared.abbreviations.Checked.{Checked}
 use Rattle.readers.specs.declared.abbreviations.Checked.the-variants.{Accepted, Refused as Undeclared}
 use Rattle.readers.specs.declared.cursor.Number.{Number}
 use Rattle.readers.specs.declared.cursor.Number.the-variants.{Value, Unreadable}
@@ -19,28 +21,34 @@ use Rattle.readers.specs.declared.header.UnitHeader.{UnitHeader}
 use Rattle.readers.specs.declared.header.HeaderRead.{HeaderRead}
 use Rattle.readers.specs.declared.header.HeaderRead.the-variants.{Unit as Unit′, Empty, Refused as Unheaded}
 use Rattle.readers.proofs.Declarations.{length-indexed}
-use Rattle.marking.specs.Analysis.{Sections, Rooms, rooms, Row, Analysed, analysed, refused, onDeclared, unitAnalysed, headerAnalysed, analysisOf}
-use Rattle.marking.specs.Columns.{offsetsIn, parentsIn, rootsIn, namesIn, endsIn, padTo, column, Left, Outcome, Ready, least, roomsOf, indexAfter, answerOf}
+use Rattle.marking.specs.Analysis.{Sections, Rooms, rooms, EntryRow, Analysed, analysed, refused, onDeclared, unitAnalysed, headerAnalysed, analysisOf}
+use Rattle.marking.specs.Columns.{offsetsIn, parentsIn, rootsIn, namesIn, endsIn, padTo, column, least, roomsOf, indexAfter, answerOf}
+use Rattle.marking.specs.inner.Columns.{Left, Outcome, AnalysisInput, leftBy, unitChecked, unitFound}
 use Rattle.marking.specs.declared.analysis.Analysis.{Analysis}
 use Rattle.marking.specs.declared.analysis.Analysis.the-variants.{Entries, Refused as Refused′}
+use Rattle.marking.specs.declared.analysis.UnitFound.the-variants.{Unit as Found′, Answered as Answered′}
 
 -- ---- columns that are left, and columns that are cleared
 
-left-column : (f : List Row → List ℕ) (n k m : ℕ) (w : Analysed) (col : List ℕ) → Entries k m ≡ answerOf w → Left f n w col → col ≡ column f n w
-unfolding answerOf Left column
-left-column f n k m (analysed rows) col q h = h
-left-column f n k m (refused j) col q h = let z : _≡_ {A = ℕ} 0 1 = cc in absurd (omega arith)
+left-by : (f : List EntryRow → List ℕ) (n : ℕ) (w : Analysed) (r : Analysis) (col col′ : List ℕ)
+    → r ≡ answerOf w → Left f n w col → col′ ≡ leftBy r col → col′ ≡ column f n w
+unfolding answerOf Left column leftBy
+left-by f n (analysed rows) r col col′ q h e = e ∙ ap (λ (a : Analysis). leftBy a col) q ∙ h
+left-by f n (refused k) r col col′ q h e = e ∙ ap (λ (a : Analysis). leftBy a col) q ∙ ap zeros h
 
-left-zeros : (f : List Row → List ℕ) (n k : ℕ) (w : Analysed) (col cleared : List ℕ) → Refused′ k ≡ answerOf w → Left f n w col → cleared ≡ zeros (length col) → cleared ≡ column f n w
-unfolding answerOf Left column
-left-zeros f n k (analysed rows) col cleared q h e = let z : _≡_ {A = ℕ} 0 1 = cc in absurd (omega arith)
-left-zeros f n k (refused j) col cleared q h e = e ∙ ap zeros h
+pub left-same : {a : Analysis} {n m : ℕ} → a ≡ Entries n m → (col : List ℕ) → col ≡ leftBy a col
+unfolding leftBy
+left-same e col = sym (ap (λ (r : Analysis). leftBy r col) e)
 
-column-refused : (f : List Row → List ℕ) (n k : ℕ) (w : Analysed) (col : List ℕ) → w ≡ refused k → col ≡ zeros n → col ≡ column f n w
+pub left-zeros : {a : Analysis} {n : ℕ} → a ≡ Refused′ n → (col cleared : List ℕ) → cleared ≡ zeros (length col) → cleared ≡ leftBy a col
+unfolding leftBy
+left-zeros e col cleared h = h ∙ sym (ap (λ (r : Analysis). leftBy r col) e)
+
+column-refused : (f : List EntryRow → List ℕ) (n k : ℕ) (w : Analysed) (col : List ℕ) → w ≡ refused k → col ≡ zeros n → col ≡ column f n w
 unfolding column
 column-refused f n k w col e h = h ∙ sym (ap (column f n) e)
 
-column-none : (f : List Row → List ℕ) (n : ℕ) (w : Analysed) (col : List ℕ) → f [] ≡ [] → w ≡ analysed [] → col ≡ zeros n → col ≡ column f n w
+column-none : (f : List EntryRow → List ℕ) (n : ℕ) (w : Analysed) (col : List ℕ) → f [] ≡ [] → w ≡ analysed [] → col ≡ zeros n → col ≡ column f n w
 unfolding column padTo
 column-none f n w col z e h =
     h ∙ ap zeros (let k : n ≡ n - 0 = omega arith in k) ∙ sym (ap (λ (l : List ℕ). padTo n l) z) ∙ sym (ap (column f n) e)
@@ -53,45 +61,36 @@ Filled′ w nf np nr ne nt offsets parents roots ends targets =
 -- ---- a unit
 
 pub ready-in : {abbreviations index : List ℕ} {from : ℕ} {unit unit′ : List ℕ} {n m : ℕ} {offsets parents roots ends targets : List ℕ}
-    → unit′ ≡ unit → Ready abbreviations index from unit n m offsets parents roots ends targets → Ready abbreviations index from unit′ n m offsets parents roots ends targets
+    → unit′ ≡ unit → AnalysisInput abbreviations index from unit n m offsets parents roots ends targets → AnalysisInput abbreviations index from unit′ n m offsets parents roots ends targets
 ready-in {abbreviations} {index} {from} {unit} {unit′} {n} {m} {offsets} {parents} {roots} {ends} {targets} e h =
-    subst (λ (u : List ℕ). Ready abbreviations index from u n m offsets parents roots ends targets) (sym e) h
+    subst (λ (u : List ℕ). AnalysisInput abbreviations index from u n m offsets parents roots ends targets) (sym e) h
 
 module _ {w w′ : Analysed} {offsets₀ parents₀ roots₀ ends₀ targets₀ offsets parents roots ends targets : List ℕ} (same : w ≡ w′)
     (h : Outcome w offsets₀ parents₀ roots₀ ends₀ targets₀ offsets parents roots ends targets) where
-  pub unit-found : (k m : ℕ) → Entries k m ≡ answerOf w
-      → (Entries k m ≡ answerOf w′) × Filled′ w′ (length offsets₀) (length parents₀) (length roots₀) (length ends₀) (length targets₀) offsets parents roots ends targets
-  unit-found k m q = (
-    q ∙ ap answerOf same,
+  pub unit-left : (r : Analysis) → r ≡ answerOf w → (r′ : Analysis) (offsets′ parents′ roots′ ends′ targets′ : List ℕ)
+      → (r′ ≡ r)
+      × ((offsets′ ≡ leftBy r offsets)
+      × ((parents′ ≡ leftBy r parents)
+      × ((roots′ ≡ leftBy r roots)
+      × ((ends′ ≡ leftBy r ends)
+      × (targets′ ≡ leftBy r targets)))))
+      → (r′ ≡ answerOf w′)
+      × Filled′ w′ (length offsets₀) (length parents₀) (length roots₀) (length ends₀) (length targets₀)
+      offsets′ parents′ roots′ ends′ targets′
+  unit-left r q r′ offsets′ parents′ roots′ ends′ targets′ c = (
+    c .0 ∙ q ∙ ap answerOf same,
     (
-      left-column offsetsIn _ k m w offsets q (h .offsets-left) ∙ ap (column offsetsIn (length offsets₀)) same,
+      left-by offsetsIn _ w r offsets offsets′ q (h .offsets-left) (c .1 .0) ∙ ap (column offsetsIn (length offsets₀)) same,
       (
-        left-column parentsIn _ k m w parents q (h .parents-left) ∙ ap (column parentsIn (length parents₀)) same,
+        left-by parentsIn _ w r parents parents′ q (h .parents-left) (c .1 .1 .0)
+            ∙ ap (column parentsIn (length parents₀)) same,
         (
-          left-column rootsIn _ k m w roots q (h .roots-left) ∙ ap (column rootsIn (length roots₀)) same,
+          left-by rootsIn _ w r roots roots′ q (h .roots-left) (c .1 .1 .1 .0) ∙ ap (column rootsIn (length roots₀)) same,
           (
-            left-column (endsIn 0) _ k m w ends q (h .ends-left) ∙ ap (column (endsIn 0) (length ends₀)) same,
-            left-column namesIn _ k m w targets q (h .targets-left) ∙ ap (column namesIn (length targets₀)) same,
-          ),
-        ),
-      ),
-    ),
-  )
-
-  pub unit-refused : (k : ℕ) → Refused′ k ≡ answerOf w → (offsets′ parents′ roots′ ends′ targets′ : List ℕ)
-      → (offsets′ ≡ zeros (length offsets)) × ((parents′ ≡ zeros (length parents)) × ((roots′ ≡ zeros (length roots)) × ((ends′ ≡ zeros (length ends)) × (targets′ ≡ zeros (length targets)))))
-      → (Refused′ k ≡ answerOf w′) × Filled′ w′ (length offsets₀) (length parents₀) (length roots₀) (length ends₀) (length targets₀) offsets′ parents′ roots′ ends′ targets′
-  unit-refused k q offsets′ parents′ roots′ ends′ targets′ c = (
-    q ∙ ap answerOf same,
-    (
-      left-zeros offsetsIn _ k w offsets offsets′ q (h .offsets-left) (c .0) ∙ ap (column offsetsIn (length offsets₀)) same,
-      (
-        left-zeros parentsIn _ k w parents parents′ q (h .parents-left) (c .1 .0) ∙ ap (column parentsIn (length parents₀)) same,
-        (
-          left-zeros rootsIn _ k w roots roots′ q (h .roots-left) (c .1 .1 .0) ∙ ap (column rootsIn (length roots₀)) same,
-          (
-            left-zeros (endsIn 0) _ k w ends ends′ q (h .ends-left) (c .1 .1 .1 .0) ∙ ap (column (endsIn 0) (length ends₀)) same,
-            left-zeros namesIn _ k w targets targets′ q (h .targets-left) (c .1 .1 .1 .1) ∙ ap (column namesIn (length targets₀)) same,
+            left-by (endsIn 0) _ w r ends ends′ q (h .ends-left) (c .1 .1 .1 .1 .0)
+                ∙ ap (column (endsIn 0) (length ends₀)) same,
+            left-by namesIn _ w r targets targets′ q (h .targets-left) (c .1 .1 .1 .1 .1)
+                ∙ ap (column namesIn (length targets₀)) same,
           ),
         ),
       ),
@@ -161,18 +160,17 @@ unfolding least
 least-right a b = pick-either (λ (n : ℕ). n ≤ b) (leb a b) a b (λ t. leb-yes {a = a} {b = b} t) (λ _. omega arith)
 
 -- the room of the entries by the columns' lengths, and that of the references
-pub record Room (entries references nf np nr ne nt : ℕ) (r₁ r₂ r₃ n m : ℕ) : Type 0 where
-  pub front : r₁ ≡ least nf np
-  pub back : r₂ ≡ least nr ne
-  pub columns : r₃ ≡ least r₁ r₂
-  pub rows : n ≡ least entries r₃
+pub record Room (entries references nf np nr ne nt n m : ℕ) : Type 0 where
+  pub rows : n ≡ least entries (least (least nf np) (least nr ne))
   pub names : m ≡ least references nt
 
-pub rooms-by : {entries references nf np nr ne nt nf′ np′ nr′ ne′ nt′ r₁ r₂ r₃ n m : ℕ} → Room entries references nf′ np′ nr′ ne′ nt′ r₁ r₂ r₃ n m
+pub rooms-by : {entries references nf np nr ne nt nf′ np′ nr′ ne′ nt′ n m : ℕ} → Room entries references nf′ np′ nr′ ne′ nt′ n m
     → nf′ ≡ nf → np′ ≡ np → nr′ ≡ nr → ne′ ≡ ne → nt′ ≡ nt → rooms n m ≡ roomsOf entries references nf np nr ne nt
 unfolding roomsOf
 rooms-by {entries} {references} h a b c d t =
-    ap₂ (λ (i j : ℕ). rooms i j) (h .rows ∙ ap (least entries) (h .columns ∙ ap₂ least (h .front ∙ ap₂ least a b) (h .back ∙ ap₂ least c d))) (h .names ∙ ap (least references) t)
+    ap₂ (λ (i j : ℕ). rooms i j)
+    (h .rows ∙ ap (least entries) (ap₂ least (ap₂ least a b) (ap₂ least c d)))
+    (h .names ∙ ap (least references) t)
 
 length-for : (n : ℕ) (o : Option (List Placed)) → length (indexFor n o) ≡ n
 unfolding indexFor
@@ -190,24 +188,67 @@ zeros-own n col e = e ∙ ap zeros (sym (length-replicate n 0) ∙ sym (ap lengt
 abbrev Clear : ℕ → ℕ → ℕ → ℕ → ℕ → List ℕ → List ℕ → List ℕ → List ℕ → List ℕ → Type 0
 Clear nf np nr ne nt offsets parents roots ends targets = (offsets ≡ zeros nf) × ((parents ≡ zeros np) × ((roots ≡ zeros nr) × ((ends ≡ zeros ne) × (targets ≡ zeros nt))))
 
-pub unit-ready : (abbreviations index section : List ℕ) (h : UnitHeader) (k : ℕ) {entries references r₁ r₂ r₃ n m : ℕ} (nf np nr ne nt : ℕ) (offsets parents roots ends targets : List ℕ)
-    → headerOf section ≡ Unit′ h → checkedOf abbreviations (h .abbreviations) ≡ Accepted → index ≡ indexOf abbreviations (h .abbreviations) k
-    → Room entries references (length offsets) (length parents) (length roots) (length ends) (length targets) r₁ r₂ r₃ n m
+-- ---- what is to be analysed
+
+module _ (abbreviations : List ℕ) (r : HeaderRead) where
+  pub found-none : r ≡ Empty → (k : ℕ) (index : List ℕ) → index ≡ zeros k
+      → (Answered′ (Entries 0 0) ≡ unitFound abbreviations r) × (index ≡ indexAfter abbreviations r k)
+  unfolding unitFound indexAfter
+  found-none e k index i = (sym (ap (unitFound abbreviations) e), i ∙ sym (ap (λ (q : HeaderRead). indexAfter abbreviations q k) e))
+
+  pub found-refused : (n : ℕ) → r ≡ Unheaded n → (k : ℕ) (index : List ℕ) → index ≡ zeros k
+      → (Answered′ (Refused′ n) ≡ unitFound abbreviations r) × (index ≡ indexAfter abbreviations r k)
+  unfolding unitFound indexAfter
+  found-refused n e k index i = (sym (ap (unitFound abbreviations) e), i ∙ sym (ap (λ (q : HeaderRead). indexAfter abbreviations q k) e))
+
+  pub found-checked : (h : UnitHeader) → r ≡ Unit′ h → (c : Checked) → checkedOf abbreviations (h .abbreviations) ≡ c
+      → (k′ k : ℕ) → k′ ≡ k → (index : List ℕ) → index ≡ indexOf abbreviations (h .abbreviations) k′
+      → (unitChecked h c ≡ unitFound abbreviations r) × (index ≡ indexAfter abbreviations r k)
+  unfolding unitFound indexAfter
+  found-checked h e c q k′ k same index i = (
+    ap (unitChecked h) (sym q) ∙ sym (ap (unitFound abbreviations) e),
+    i ∙ ap (indexOf abbreviations (h .abbreviations)) same ∙ sym (ap (λ (w : HeaderRead). indexAfter abbreviations w k) e),
+  )
+
+unit-checked : (h h′ : UnitHeader) (c : Checked) → Found′ h ≡ unitChecked h′ c → (h′ ≡ h) × (c ≡ Accepted)
+unfolding unitChecked
+unit-checked h h′ Accepted q = let e : h′ ≡ h = cc in (e, refl)
+unit-checked h h′ Undeclared q = let z : _≡_ {A = ℕ} 0 1 = cc in absurd (omega arith)
+
+unit-found : (abbreviations : List ℕ) (r : HeaderRead) (h : UnitHeader) → Found′ h ≡ unitFound abbreviations r
+    → (r ≡ Unit′ h) × (checkedOf abbreviations (h .abbreviations) ≡ Accepted)
+unfolding unitFound
+unit-found abbreviations Empty h q = let z : _≡_ {A = ℕ} 0 1 = cc in absurd (omega arith)
+unit-found abbreviations (Unheaded n) h q = let z : _≡_ {A = ℕ} 0 1 = cc in absurd (omega arith)
+unit-found abbreviations (Unit′ h′) h q =
+    let u : (h′ ≡ h) × (checkedOf abbreviations (h′ .abbreviations) ≡ Accepted) = unit-checked h h′ _ q in
+    (ap Unit′ (u .0), ap (λ (g : UnitHeader). checkedOf abbreviations (g .abbreviations)) (sym (u .0)) ∙ u .1)
+
+index-found : (abbreviations : List ℕ) (r : HeaderRead) (h : UnitHeader) (k : ℕ) (index : List ℕ) → r ≡ Unit′ h
+    → index ≡ indexAfter abbreviations r k → index ≡ indexOf abbreviations (h .abbreviations) k
+unfolding indexAfter
+index-found abbreviations r h k index e i = i ∙ ap (λ (q : HeaderRead). indexAfter abbreviations q k) e
+
+pub unit-ready : (abbreviations index section : List ℕ) (h : UnitHeader) (k : ℕ) {entries references n m : ℕ}
+    (nf np nr ne nt : ℕ) (offsets parents roots ends targets : List ℕ)
+    → Found′ h ≡ unitFound abbreviations (headerOf section) → index ≡ indexAfter abbreviations (headerOf section) k
+    → Room entries references (length offsets) (length parents) (length roots) (length ends) (length targets) n m
     → Clear nf np nr ne nt offsets parents roots ends targets
-    → Ready abbreviations index (h .abbreviations) (take (h .end) section) n m offsets parents roots ends targets
-unit-ready abbreviations index section h k {entries} {references} {r₁} {r₂} {r₃} {n} {m} nf np nr ne nt offsets parents roots ends targets u a i r c =
-    let e₁ : r₁ ≡ least (length offsets) (length parents) = r .front in
-    let e₂ : r₂ ≡ least (length roots) (length ends) = r .back in
-    let e₃ : r₃ ≡ least r₁ r₂ = r .columns in
-    let e₄ : n ≡ least entries r₃ = r .rows in
-    let e₅ : m ≡ least references (length targets) = r .names in
-    let l₁ : least entries r₃ ≤ r₃ = least-right entries r₃ in
-    let l₂ : least r₁ r₂ ≤ r₁ = least-left r₁ r₂ in
-    let l₃ : least r₁ r₂ ≤ r₂ = least-right r₁ r₂ in
+    → AnalysisInput abbreviations index (h .abbreviations) (take (h .end) section) n m offsets parents roots ends targets
+unit-ready abbreviations index section h k {entries} {references} {n} {m} nf np nr ne nt offsets parents roots ends targets q i r c =
+    let u : (headerOf section ≡ Unit′ h) × (checkedOf abbreviations (h .abbreviations) ≡ Accepted) = unit-found abbreviations (headerOf section) h q in
+    let j : index ≡ indexOf abbreviations (h .abbreviations) k = index-found abbreviations (headerOf section) h k index (u .0) i in
+    let e₁ : n ≡ least entries (least (least (length offsets) (length parents)) (least (length roots) (length ends))) = r .rows in
+    let e₂ : m ≡ least references (length targets) = r .names in
+    let front : ℕ = least (length offsets) (length parents) in
+    let back : ℕ = least (length roots) (length ends) in
+    let l₁ : least entries (least front back) ≤ least front back = least-right entries (least front back) in
+    let l₂ : least front back ≤ front = least-left front back in
+    let l₃ : least front back ≤ back = least-right front back in
     record {
-      accepted = a;
-      indexed = i ∙ ap (indexOf abbreviations (h .abbreviations)) (sym (length-index abbreviations (h .abbreviations) k) ∙ sym (ap length i));
-      small = small-unit section h u;
+      accepted = u .1;
+      indexed = j ∙ ap (indexOf abbreviations (h .abbreviations)) (sym (length-index abbreviations (h .abbreviations) k) ∙ sym (ap length j));
+      small = small-unit section h (u .0);
       offsets-room = omega (arith, least-left (length offsets) (length parents));
       parents-room = omega (arith, least-right (length offsets) (length parents));
       roots-room = omega (arith, least-left (length roots) (length ends));
@@ -225,88 +266,94 @@ unit-ready abbreviations index section h k {entries} {references} {r₁} {r₂} 
 module _ (x : Sections) (section : List ℕ) (room : Rooms) (k nf np nr ne nt : ℕ) (index offsets parents roots ends targets : List ℕ) where
   abbrev pub Answered : Analysis → Type 0
   Answered r =
-      (r ≡ answerOf (analysisOf x section room)) × ((index ≡ indexAfter (x .abbreviations) (headerOf section) k) × Filled′ (analysisOf x section room) nf np nr ne nt offsets parents roots ends targets)
+      (r ≡ answerOf (analysisOf x section room))
+      × ((index ≡ indexAfter (x .abbreviations) (headerOf section) k)
+      × Filled′ (analysisOf x section room) nf np nr ne nt offsets parents roots ends targets)
 
   analysis-by : (r : HeaderRead) → headerOf section ≡ r → analysisOf x section room ≡ headerAnalysed x section room r
   unfolding analysisOf
   analysis-by r e = ap (headerAnalysed x section room) e
 
-  index-by : (r : HeaderRead) → headerOf section ≡ r → indexAfter (x .abbreviations) (headerOf section) k ≡ indexAfter (x .abbreviations) r k
-  index-by r e = ap (λ (q : HeaderRead). indexAfter (x .abbreviations) q k) e
-
-  refused-columns : (n : ℕ) → analysisOf x section room ≡ refused n → Clear nf np nr ne nt offsets parents roots ends targets
-      → Filled′ (analysisOf x section room) nf np nr ne nt offsets parents roots ends targets
-  refused-columns n w c = (
-    column-refused offsetsIn nf n _ offsets w (c .0),
-    (
-      column-refused parentsIn np n _ parents w (c .1 .0),
-      (
-        column-refused rootsIn nr n _ roots w (c .1 .1 .0),
+  module _ (i : index ≡ indexAfter (x .abbreviations) (headerOf section) k) where
+    module _ (c : Clear nf np nr ne nt offsets parents roots ends targets) where
+      section-refused : (n : ℕ) → analysisOf x section room ≡ refused n → Answered (Refused′ n)
+      unfolding answerOf
+      section-refused n w = (
+        sym (ap answerOf w),
         (
-          column-refused (endsIn 0) ne n _ ends w (c .1 .1 .1 .0),
-          column-refused namesIn nt n _ targets w (c .1 .1 .1 .1),
-        ),
-      ),
-    ),
-  )
-
-  module _ (c : Clear nf np nr ne nt offsets parents roots ends targets) where
-    pub section-empty : headerOf section ≡ Empty → index ≡ zeros k → Answered (Entries 0 0)
-    unfolding headerAnalysed indexAfter answerOf offsetsIn parentsIn rootsIn endsIn namesIn
-    section-empty e i =
-        let w : analysisOf x section room ≡ analysed [] = analysis-by Empty e in (
-          sym (ap answerOf w),
+          i,
           (
-            i ∙ sym (index-by Empty e),
+            column-refused offsetsIn nf n _ offsets w (c .0),
             (
-              column-none offsetsIn nf _ offsets refl w (c .0),
+              column-refused parentsIn np n _ parents w (c .1 .0),
               (
-                column-none parentsIn np _ parents refl w (c .1 .0),
+                column-refused rootsIn nr n _ roots w (c .1 .1 .0),
                 (
-                  column-none rootsIn nr _ roots refl w (c .1 .1 .0),
-                  (
-                    column-none (endsIn 0) ne _ ends refl w (c .1 .1 .1 .0),
-                    column-none namesIn nt _ targets refl w (c .1 .1 .1 .1),
-                  ),
+                  column-refused (endsIn 0) ne n _ ends w (c .1 .1 .1 .0),
+                  column-refused namesIn nt n _ targets w (c .1 .1 .1 .1),
                 ),
               ),
             ),
           ),
-        )
+        ),
+      )
 
-    pub section-refused : (n : ℕ) → headerOf section ≡ Unheaded n → index ≡ zeros k → Answered (Refused′ n)
-    unfolding headerAnalysed indexAfter answerOf
-    section-refused n e i =
-        let w : analysisOf x section room ≡ refused n = analysis-by (Unheaded n) e in
-        (sym (ap answerOf w), (i ∙ sym (index-by (Unheaded n) e), refused-columns n w c))
+      section-empty : analysisOf x section room ≡ analysed [] → Answered (Entries 0 0)
+      unfolding answerOf offsetsIn parentsIn rootsIn endsIn namesIn
+      section-empty w = (
+        sym (ap answerOf w),
+        (
+          i,
+          (
+            column-none offsetsIn nf _ offsets refl w (c .0),
+            (
+              column-none parentsIn np _ parents refl w (c .1 .0),
+              (
+                column-none rootsIn nr _ roots refl w (c .1 .1 .0),
+                (
+                  column-none (endsIn 0) ne _ ends refl w (c .1 .1 .1 .0),
+                  column-none namesIn nt _ targets refl w (c .1 .1 .1 .1),
+                ),
+              ),
+            ),
+          ),
+        ),
+      )
 
-  module _ (h : UnitHeader) (e : headerOf section ≡ Unit′ h) (k′ : ℕ) (i : index ≡ indexOf (x .abbreviations) (h .abbreviations) k′) (same : k′ ≡ k) where
-    unit-index : index ≡ indexAfter (x .abbreviations) (headerOf section) k
-    unfolding indexAfter
-    unit-index = i ∙ ap (indexOf (x .abbreviations) (h .abbreviations)) same ∙ sym (index-by (Unit′ h) e)
+      undeclared : (h : UnitHeader) (a : Analysis) (o : Option (List Placed)) → Answered′ a ≡ unitChecked h (asChecked o)
+          → (f : List Placed → Analysed) → (a ≡ Refused′ 3) × (onDeclared o f ≡ refused 3)
+      unfolding asChecked onDeclared unitChecked
+      undeclared h a none q f = let e : a ≡ Refused′ 3 = cc in (e, refl)
+      undeclared h a (some ds) q f = let z : _≡_ {A = ℕ} 0 1 = cc in absurd (omega arith)
 
-    undeclared : (o : Option (List Placed)) → asChecked o ≡ Undeclared → (f : List Placed → Analysed) → onDeclared o f ≡ refused 3
-    unfolding asChecked onDeclared
-    undeclared none q f = refl
-    undeclared (some ds) q f = let z : _≡_ {A = ℕ} 0 1 = cc in absurd (omega arith)
+      pub section-answered : (a : Analysis) → Answered′ a ≡ unitFound (x .abbreviations) (headerOf section) → Answered a
+      unfolding headerAnalysed unitAnalysed checkedOf unitFound
+      section-answered a q = of (headerOf section) refl q
+        where
+          of : (r : HeaderRead) → headerOf section ≡ r → Answered′ a ≡ unitFound (x .abbreviations) r → Answered a
+          of Empty e q′ =
+              let s : a ≡ Entries 0 0 = cc in
+              subst Answered (sym s) (section-empty (analysis-by Empty e))
+          of (Unheaded n) e q′ =
+              let s : a ≡ Refused′ n = cc in
+              subst Answered (sym s) (section-refused n (analysis-by (Unheaded n) e))
+          of (Unit′ h) e q′ =
+              let u = undeclared h a (abbreviationsOf (x .abbreviations) (h .abbreviations)) q′ _ in
+              subst Answered (sym (u .0)) (section-refused 3 (analysis-by (Unit′ h) e ∙ u .1))
 
-    pub section-undeclared : Clear nf np nr ne nt offsets parents roots ends targets → checkedOf (x .abbreviations) (h .abbreviations) ≡ Undeclared → Answered (Refused′ 3)
-    unfolding headerAnalysed unitAnalysed checkedOf answerOf
-    section-undeclared c q =
-        let w : analysisOf x section room ≡ refused 3 = analysis-by (Unit′ h) e ∙ undeclared (abbreviationsOf (x .abbreviations) (h .abbreviations)) q _ in
-        (sym (ap answerOf w), (unit-index, refused-columns 3 w c))
-
-    pub section-unit : (room′ : Rooms) (nf′ np′ nr′ ne′ nt′ : ℕ) (r : Analysis) → room′ ≡ room → nf′ ≡ nf → np′ ≡ np → nr′ ≡ nr → ne′ ≡ ne → nt′ ≡ nt
+    pub section-unit : (h : UnitHeader) → Found′ h ≡ unitFound (x .abbreviations) (headerOf section)
+        → (room′ : Rooms) (nf′ np′ nr′ ne′ nt′ : ℕ) (r : Analysis) → room′ ≡ room → nf′ ≡ nf → np′ ≡ np → nr′ ≡ nr → ne′ ≡ ne → nt′ ≡ nt
         → (r ≡ answerOf (unitAnalysed (h .encoding) x (take (h .end) section) room′ (h .abbreviations) (h .first .0)))
         × Filled′ (unitAnalysed (h .encoding) x (take (h .end) section) room′ (h .abbreviations) (h .first .0)) nf′ np′ nr′ ne′ nt′ offsets parents roots ends targets
         → Answered r
     unfolding headerAnalysed
-    section-unit room′ nf′ np′ nr′ ne′ nt′ r m o p q s t f =
+    section-unit h u room′ nf′ np′ nr′ ne′ nt′ r m o p q s t f =
+        let e : headerOf section ≡ Unit′ h = unit-found (x .abbreviations) (headerOf section) h u .0 in
         let w : unitAnalysed (h .encoding) x (take (h .end) section) room′ (h .abbreviations) (h .first .0) ≡ analysisOf x section room =
         ap (λ (n : Rooms). unitAnalysed (h .encoding) x (take (h .end) section) n (h .abbreviations) (h .first .0)) m ∙ sym (analysis-by (Unit′ h) e) in (
           f .0 ∙ ap answerOf w,
           (
-            unit-index,
+            i,
             (
               f .1 .0 ∙ ap₂ (column offsetsIn) o w,
               (

@@ -10,11 +10,12 @@ use Rattle.readers.specs.Choice.{pick, zeros}
 use Rattle.readers.specs.Header.{headerOf}
 use Rattle.readers.specs.declared.header.HeaderRead.{HeaderRead}
 use Rattle.readers.specs.declared.header.HeaderRead.the-variants.{Unit as Unit′, Empty, Refused as Unheaded}
-use Rattle.marking.specs.Graph.{Graph, graph}
+use Rattle.marking.specs.Graph.{Graph, graph, size}
 use Rattle.marking.specs.Marks.{marksOf, keptCount, answerOf as markedOf, endMarks}
-use Rattle.marking.specs.Analysis.{Sections, Rooms, Row, Analysed, analysed, refused, headerAnalysed, analysisOf}
+use Rattle.marking.specs.Analysis.{Sections, Rooms, EntryRow, Analysed, analysed, refused, headerAnalysed, analysisOf}
 use Rattle.marking.specs.Columns.{offsetsIn, parentsIn, rootsIn, namesIn, endsIn, padTo, column, least, roomsOf, unitRooms, indexAfter, answerOf}
-use Rattle.marking.specs.Resolution.{pairsIn, graphOf, marksIn, unitMarks, Laid, Markable}
+use Rattle.marking.specs.Resolution.{pairsIn, graphOf, marksIn, unitMarks}
+use Rattle.marking.specs.inner.Resolution.{UnitColumns, Markable}
 use Rattle.marking.specs.declared.marks.Marked.the-variants.{Kept, Refused as Untaken}
 use Rattle.marking.specs.declared.analysis.Analysis.the-variants.{Entries, Refused as Refused′}
 use Rattle.marking.specs.declared.units.UnitMarks.{UnitMarks}
@@ -33,7 +34,7 @@ with-last p j = (p .0, (p .1 .0, (p .1 .1 .0, (p .1 .1 .1 .0, (p .1 .1 .1 .1 .0,
 pub take-within : (n : ℕ) (xs : List ℕ) → n ≤ length xs → n ≡ length (take n xs)
 take-within n xs h = omega (arith, ap length (take-append-drop n xs), length-append (take n xs) (drop n xs), length-drop n xs)
 
-module _ {offsets parents roots ends : List ℕ} {n : ℕ} {marks targets pairs : List ℕ} (rows : List Row) (h : Laid rows offsets parents roots ends n marks targets pairs)
+module _ {offsets parents roots ends : List ℕ} {n : ℕ} {marks targets pairs : List ℕ} (rows : List EntryRow) (h : UnitColumns rows offsets parents roots ends n marks targets pairs)
     (place : ℕ) {pairs′ : List ℕ} (count : 2 * place ≡ length (pairsIn rows)) (filled : pairs′ ≡ padTo (length pairs) (pairsIn rows)) where
   -- the pairs are inside their table, before it was filled and after
   pub pairs-room : 2 * place ≤ length pairs
@@ -97,13 +98,13 @@ module _ {offsets parents roots ends : List ℕ} {n : ℕ} {marks targets pairs 
 -- ---- the rows of an analysis
 
 -- they are those of a unit that is not too long
-record Bounded (room : Rooms) (rows : List Row) : Type 0 where
+record Bounded (room : Rooms) (rows : List EntryRow) : Type 0 where
   pub unit : List ℕ
   pub first : ℕ
   pub ruled : UnitRows unit room first rows
   pub small : length unit < 2 ^ 32
 
-module _ (x : Sections) (section : List ℕ) (room : Rooms) (rows : List Row) where
+module _ (x : Sections) (section : List ℕ) (room : Rooms) (rows : List EntryRow) where
   header-bounded : (h : HeaderRead) → headerOf section ≡ h → headerAnalysed x section room h ≡ analysed rows → Bounded room rows
   unfolding headerAnalysed
   header-bounded Empty e q =
@@ -122,7 +123,7 @@ module _ (x : Sections) (section : List ℕ) (room : Rooms) (rows : List Row) wh
   bounded q = header-bounded (headerOf section) refl q
 
 record RowsOf (w : Analysed) (n : ℕ) : Type 0 where
-  pub rows : List Row
+  pub rows : List EntryRow
   pub is : w ≡ analysed rows
   pub count : length rows ≡ n
 
@@ -136,7 +137,7 @@ unfolding answerOf
 refusal-of (analysed rows) n q = let z : _≡_ {A = ℕ} 0 1 = cc in absurd (omega arith)
 refusal-of (refused k) n q = ap refused (let z : k ≡ n = cc in z)
 
-column-own : (f : List Row → List ℕ) (n : ℕ) (w : Analysed) (rows : List Row) (col : List ℕ) → w ≡ analysed rows → length col ≡ n → col ≡ column f n w
+column-own : (f : List EntryRow → List ℕ) (n : ℕ) (w : Analysed) (rows : List EntryRow) (col : List ℕ) → w ≡ analysed rows → length col ≡ n → col ≡ column f n w
     → col ≡ padTo (length col) (f rows)
 unfolding column
 column-own f n w rows col e l h = h ∙ ap (column f n) e ∙ ap (λ (k : ℕ). padTo k (f rows)) (sym l)
@@ -203,10 +204,10 @@ module _ (x : Sections) (section : List ℕ) (nm nq nf np nr ne nt k : ℕ) (ind
     found : RowsOf (analysisOf x section here) n
     found = rows-of (analysisOf x section here) n m (a .0)
 
-    rows-laid : Laid (found .rows) offsets parents roots ends (length (found .rows)) marks targets pairs
+    rows-laid : UnitColumns (found .rows) offsets parents roots ends (length (found .rows)) marks targets pairs
     unfolding roomsOf
     rows-laid =
-        let rows : List Row = found .rows in
+        let rows : List EntryRow = found .rows in
         let is : analysisOf x section here ≡ analysed rows = found .is in
         let b : Bounded here rows = bounded x section here rows is in
         let f = a .1 .1 in
@@ -230,20 +231,20 @@ module _ (x : Sections) (section : List ℕ) (nm nq nf np nr ne nt k : ℕ) (ind
           fits = graph-takes (length (b .unit)) (b .first) rows (b .ruled .rowed);
         }
 
-    laid : Laid (found .rows) offsets parents roots ends n marks targets pairs
-    laid = subst (λ (i : ℕ). Laid (found .rows) offsets parents roots ends i marks targets pairs) (found .count) rows-laid
+    laid : UnitColumns (found .rows) offsets parents roots ends n marks targets pairs
+    laid = subst (λ (i : ℕ). UnitColumns (found .rows) offsets parents roots ends i marks targets pairs) (found .count) rows-laid
 
     pub unit-markable : Markable offsets parents roots ends n marks targets pairs
     unit-markable = record { rows = found .rows; laid = laid }
 
     module _ (r : UnitMarks) (marks′ pairs′ : List ℕ)
-        (answer : (rows : List Row) → Laid rows offsets parents roots ends n marks targets pairs → r ≡ unitMarks (analysed rows))
-        (marked : (rows : List Row) → Laid rows offsets parents roots ends n marks targets pairs → marks′ ≡ padTo (length marks) (marksIn rows))
-        (paired : (rows : List Row) → Laid rows offsets parents roots ends n marks targets pairs → pairs′ ≡ padTo (length pairs) (pairsIn rows)) where
+        (answer : (rows : List EntryRow) → UnitColumns rows offsets parents roots ends n marks targets pairs → r ≡ unitMarks (analysed rows))
+        (marked : (rows : List EntryRow) → UnitColumns rows offsets parents roots ends n marks targets pairs → marks′ ≡ padTo (length marks) (marksIn rows))
+        (paired : (rows : List EntryRow) → UnitColumns rows offsets parents roots ends n marks targets pairs → pairs′ ≡ padTo (length pairs) (pairsIn rows)) where
       pub unit-marked : UnitMarked r marks′ pairs′
       unfolding column
       unit-marked =
-          let rows : List Row = found .rows in
+          let rows : List EntryRow = found .rows in
           let is : analysisOf x section lent ≡ analysed rows = sym same ∙ found .is in
           let f = a .1 .1 in (
             answer rows laid ∙ sym (ap unitMarks is),
@@ -270,3 +271,12 @@ module _ (x : Sections) (section : List ℕ) (nm nq nf np nr ne nt k : ℕ) (ind
               ),
             ),
           )
+
+-- an entry of the graph for each row, and a mark for each
+pub graph-size : (rows : List EntryRow) → size (graphOf rows) ≡ length rows
+unfolding graphOf
+graph-size rows = length-parents rows
+
+pub marks-each : (rows : List EntryRow) → length (marksIn rows) ≡ length rows
+unfolding marksIn
+marks-each rows = length-marks (graphOf rows) ∙ graph-size rows

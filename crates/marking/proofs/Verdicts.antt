@@ -1,5 +1,5 @@
 -- What a test of liveness finds, by the tests that were made. Assumes nothing.
-use mathlib.Core.Path.{_≡_, refl, sym, _∙_}
+use mathlib.Core.Path.{_≡_, sym, _∙_}
 use Prim.Native.Nat.{ℕ, _≤_, _<_}
 use mathlib.Core.Bool.{Bool, true, false}
 use mathlib.Core.List.{List}
@@ -13,8 +13,8 @@ use Rattle.marking.specs.Addresses.{isTombstone, lookupAt}
 use Rattle.marking.specs.Roots.{onLookup, turnOf, rangeEntry, lowPc}
 use Rattle.marking.specs.declared.addresses.AddressLookup.{AddressLookup}
 use Rattle.marking.specs.declared.addresses.AddressLookup.the-variants.{Live, Dead, Fails}
-use Rattle.marking.specs.declared.roots.RangeTurn.the-variants.{On, Decided}
-use Rattle.marking.specs.declared.roots.Verdict.the-variants.{Live as isLive, Dead as isDead, Refused as refused}
+use Rattle.marking.specs.declared.root_test.RangeTurn.the-variants.{On, Decided}
+use Rattle.marking.specs.declared.root_test.Verdict.the-variants.{Live as isLive, Dead as isDead, Refused as refused}
 
 -- ---- an entry of a range list
 

@@ -1,5 +1,6 @@
--- The analysis of a unit (document 01, "collect"): entry by entry 4 unreadable, 10 entry table full, 5 or 6 of the root test, 5 or 7 of the references in attribute
--- order, 11 reference table full. "Full" is that the count up to and including the present entry exceeds what is lent.
+-- The analysis of a unit (document 01, "collect"): entry by entry 4 unreadable, 10 entry table full, 5 or 6 of the root
+-- test, 5 or 7 of the references in attribute order, 11 reference table full. "Full" is that the count up to and
+-- including the present entry exceeds what is lent.
 use Prim.Native.Nat.{ℕ, suc, _+_}
 use mathlib.Core.Bool.{Bool, true, false}
 use mathlib.Core.List.{List, [], _∷_}
@@ -7,6 +8,7 @@ use mathlib.Core.Option.{Option, none, some}
 use lib.ListN.{length, take}
 use lib.Dec.{ltb, leb}
 use Rattle.readers.specs.Choice.{pick}
+use Rattle.readers.specs.Codes.{«DW_AT_loclists_base», «DW_AT_rnglists_base»}
 use Rattle.readers.specs.Header.{headerOf}
 use Rattle.readers.specs.Abbreviations.{Placed, declaredIn, abbreviationsOf}
 use Rattle.readers.specs.Refusals.{refusalOfChecked, refusalOfStep}
@@ -17,10 +19,11 @@ use Rattle.readers.specs.declared.cursor.Encoding.{Encoding}
 use Rattle.readers.specs.declared.entries.Entry.{Entry}
 use Rattle.readers.specs.declared.header.HeaderRead.{HeaderRead}
 use Rattle.readers.specs.declared.header.HeaderRead.the-variants.{Unit as Unit′, Empty, Refused}
-use Rattle.marking.specs.Roots.{Valued, rangesBy, rootTest, baseAfter, entryValues}
-use Rattle.marking.specs.EntryReferences.{Found, found, refused as refusedAfter, locationsBy, attributesFound}
-use Rattle.marking.specs.declared.roots.Verdict.{Verdict}
-use Rattle.marking.specs.declared.roots.Verdict.the-variants.{Live, Dead, Refused as Failed}
+use Rattle.marking.specs.Roots.{rangesBy, rootTest, baseAfter}
+use Rattle.readers.specs.EntryAttributes.{Valued, entryValues}
+use Rattle.marking.specs.EntryReferences.{ReferencesFound, found, refused as refusedAfter, locationsBy, attributesFound}
+use Rattle.marking.specs.declared.root_test.Verdict.{Verdict}
+use Rattle.marking.specs.declared.root_test.Verdict.the-variants.{Live, Dead, Refused as Failed}
 use Rattle.readers.specs.Stream.{Item, entry, terminator, itemsFrom}
 
 -- what a unit is read by: the other sections, already relocated, the address table, and the base of older range lists
@@ -42,18 +45,19 @@ pub record Rooms : Type 0 where
 abbrev pub rooms : ℕ → ℕ → Rooms
 rooms n m = record { entries = n; references = m }
 
--- what is found of an entry: where it starts, its parent (0xffffffff for none), 1 for a root or 0, and the offsets that it names
-pub record Row : Type 0 where
+-- what is found of an entry: where it starts, its parent (0xffffffff for none), 1 for a root or 0, and the offsets that
+-- it names
+pub record EntryRow : Type 0 where
   pub offset : ℕ
   pub parent : ℕ
   pub root : ℕ
   pub names : List ℕ
 
 pub data Analysed : Type 0 where
-  analysed : List Row → Analysed
+  analysed : List EntryRow → Analysed
   refused : ℕ → Analysed
 
-unfoldable pub onto : Row → Analysed → Analysed
+unfoldable pub onto : EntryRow → Analysed → Analysed
 onto r (analysed rs) = analysed (r ∷ rs)
 onto r (refused n) = refused n
 
@@ -62,11 +66,12 @@ onVerdict Live k = k 1
 onVerdict Dead k = k 0
 onVerdict (Failed n) k = refused n
 
-unfoldable pub onFound : Found → (List ℕ → Analysed) → Analysed
+unfoldable pub onFound : ReferencesFound → (List ℕ → Analysed) → Analysed
 onFound (found xs) k = k xs
 onFound (refusedAfter xs n) k = refused n
 
--- where an analysis stands: how many entries and references there were, which entries are open (the innermost first), and the list bases
+-- where an analysis stands: how many entries and references there were, which entries are open (the innermost first),
+-- and the list bases
 pub record Reached : Type 0 where
   pub count : ℕ
   pub references : ℕ
@@ -88,11 +93,11 @@ module _ (e : Encoding) (x : Sections) (unit : List ℕ) where
   unfoldable pub valuesOfEntry : Entry → List Valued
   valuesOfEntry y = entryValues e (x .abbreviations) (y .declaration .attributes .at) unit (y .values .at)
 
-  -- DW_AT_rnglists_base 0x74, DW_AT_loclists_base 0x8c: from this entry's root test on
+  -- DW_AT_rnglists_base, DW_AT_loclists_base: from this entry's root test on
   unfoldable pub rootOf : ℕ → Entry → Verdict
   rootOf base y = rootTest e (rangesBy (x .ranges) (x .addresses) (x .rangesBase) base) unit (tagOf y) (valuesOfEntry y)
 
-  unfoldable pub namesOf : ℕ → Entry → Found
+  unfoldable pub namesOf : ℕ → Entry → ReferencesFound
   namesOf base y = attributesFound e (locationsBy unit (x .locations) base) (valuesOfEntry y)
 
   unfoldable pub baseOf : ℕ → ℕ → Entry → ℕ
@@ -103,15 +108,20 @@ module _ (e : Encoding) (x : Sections) (unit : List ℕ) where
     unfoldable pub analyseItems : Reached → List Item → Bool → Analysed
     analyseItems p [] true = analysed []
     analyseItems p [] false = refused (refusalOfStep Unreadable)
-    analyseItems p (terminator a b ∷ rest) whole = analyseItems (reached (p .count) (p .references) (close (p .stack)) (p .rnglistsBase) (p .loclistsBase)) rest whole
+    analyseItems p (terminator a b ∷ rest) whole =
+        analyseItems
+        (reached (p .count) (p .references) (close (p .stack)) (p .rnglistsBase) (p .loclistsBase))
+        rest whole
     analyseItems p (entry y ∷ rest) whole =
         pick (ltb (p .count) (room .entries))
-        (onVerdict (rootOf (baseOf 0x74 (p .rnglistsBase) y) y) (λ root.
-        onFound (namesOf (baseOf 0x8c (p .loclistsBase) y) y) (λ names.
+        (onVerdict (rootOf (baseOf «DW_AT_rnglists_base» (p .rnglistsBase) y) y) (λ root.
+        onFound (namesOf (baseOf «DW_AT_loclists_base» (p .loclistsBase) y) y) (λ names.
         pick (leb (p .references + length names) (room .references))
         (onto (record { offset = y .offset .0; parent = top (p .stack); root = root; names = names })
         (analyseItems
-        (reached (suc (p .count)) (p .references + length names) (open′ (y .declaration .children) (p .count) (p .stack)) (baseOf 0x74 (p .rnglistsBase) y) (baseOf 0x8c (p .loclistsBase) y))
+        (reached (suc (p .count)) (p .references + length names)
+        (open′ (y .declaration .children) (p .count) (p .stack))
+        (baseOf «DW_AT_rnglists_base» (p .rnglistsBase) y) (baseOf «DW_AT_loclists_base» (p .loclistsBase) y))
         rest whole))
         (refused 11))))
         (refused 10)
@@ -126,13 +136,16 @@ onDeclared (some ds) k = k ds
 unfoldable pub unitAnalysed : Encoding → Sections → List ℕ → Rooms → ℕ → ℕ → Analysed
 unitAnalysed e x unit room from first =
     onDeclared (abbreviationsOf (x .abbreviations) from)
-    (λ ds. analyseItems e x unit room startOf (itemsFrom e (x .abbreviations) (declaredIn ds) unit first .0) (itemsFrom e (x .abbreviations) (declaredIn ds) unit first .1))
+    (λ ds.
+    let items = itemsFrom e (x .abbreviations) (declaredIn ds) unit first in
+    analyseItems e x unit room startOf (items .0) (items .1))
 
 -- an empty section has no entries; 1 and 2 of the header, then 3
 unfoldable pub headerAnalysed : Sections → List ℕ → Rooms → HeaderRead → Analysed
 headerAnalysed x section room Empty = analysed []
 headerAnalysed x section room (Refused n) = refused n
-headerAnalysed x section room (Unit′ h) = unitAnalysed (h .encoding) x (take (h .end) section) room (h .abbreviations) (h .first .0)
+headerAnalysed x section room (Unit′ h) =
+    unitAnalysed (h .encoding) x (take (h .end) section) room (h .abbreviations) (h .first .0)
 
 -- THE analysis of the first unit of a section
 unfoldable pub analysisOf : Sections → List ℕ → Rooms → Analysed

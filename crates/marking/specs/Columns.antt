@@ -1,50 +1,35 @@
 -- The rows of a unit in lent columns: an entry each in stream order, zeros after them.
-use mathlib.Core.Path.{_≡_}
-use Prim.Native.Nat.{ℕ, _+_, _-_, _/_, _≤_, _<_}
+use Prim.Native.Nat.{ℕ, _+_, _-_, _/_}
 use mathlib.Core.List.{List, [], _∷_, _++_}
 use lib.ListN.{length}
 use lib.Dec.{leb}
 use Rattle.readers.specs.Choice.{pick, zeros}
-use Rattle.readers.specs.Abbreviations.{checkedOf, indexOf}
-use Rattle.readers.specs.Entries.{entryOf}
-use Rattle.readers.specs.Refusals.{refusalOfValues}
-use Rattle.readers.specs.declared.abbreviations.Checked.the-variants.{Accepted}
-use Rattle.readers.specs.declared.cursor.Cursor.{Cursor}
-use Rattle.readers.specs.declared.cursor.Moved.{Moved}
-use Rattle.readers.specs.declared.cursor.Moved.the-variants.{To, Unreadable as Nowhere}
-use Rattle.readers.specs.declared.entries.Entry.{Entry}
-use Rattle.readers.specs.declared.entries.EntryHead.{EntryHead}
+use Rattle.readers.specs.Abbreviations.{indexOf}
 use Rattle.readers.specs.declared.header.HeaderRead.{HeaderRead}
 use Rattle.readers.specs.declared.header.HeaderRead.the-variants.{Unit as Unit′, Empty, Refused}
-use Rattle.marking.specs.EntryReferences.{Found, found, refused as refusedAfter}
-use Rattle.marking.specs.declared.roots.Verdict.{Verdict}
-use Rattle.marking.specs.declared.roots.Verdict.the-variants.{Live, Dead, Refused as Failed}
-use Rattle.marking.specs.ReferenceTable.{placed, tableAfter}
-use Rattle.marking.specs.Analysis.{Rooms, rooms, Row, Analysed, analysed, refused}
-use Rattle.marking.specs.declared.analysis.EntryAnalysis.{EntryAnalysis}
-use Rattle.marking.specs.declared.analysis.EntryAnalysis.the-variants.{Found as RowFound, Refused as NoRow}
+use Rattle.marking.specs.Analysis.{Rooms, rooms, EntryRow, Analysed, analysed, refused}
 use Rattle.marking.specs.declared.analysis.Analysis.{Analysis}
 use Rattle.marking.specs.declared.analysis.Analysis.the-variants.{Entries, Refused as Refused′}
 
-unfoldable pub offsetsIn : List Row → List ℕ
+unfoldable pub offsetsIn : List EntryRow → List ℕ
 offsetsIn [] = []
 offsetsIn (r ∷ rs) = r .offset ∷ offsetsIn rs
 
-unfoldable pub parentsIn : List Row → List ℕ
+unfoldable pub parentsIn : List EntryRow → List ℕ
 parentsIn [] = []
 parentsIn (r ∷ rs) = r .parent ∷ parentsIn rs
 
-unfoldable pub rootsIn : List Row → List ℕ
+unfoldable pub rootsIn : List EntryRow → List ℕ
 rootsIn [] = []
 rootsIn (r ∷ rs) = r .root ∷ rootsIn rs
 
 -- all references, in stream order
-unfoldable pub namesIn : List Row → List ℕ
+unfoldable pub namesIn : List EntryRow → List ℕ
 namesIn [] = []
 namesIn (r ∷ rs) = r .names ++ namesIn rs
 
 -- for each entry the number of references up to and with its own, m before them
-unfoldable pub endsIn : ℕ → List Row → List ℕ
+unfoldable pub endsIn : ℕ → List EntryRow → List ℕ
 endsIn m [] = []
 endsIn m (r ∷ rs) = (m + length (r .names)) ∷ endsIn (m + length (r .names)) rs
 
@@ -52,45 +37,17 @@ endsIn m (r ∷ rs) = (m + length (r .names)) ∷ endsIn (m + length (r .names))
 unfoldable pub padTo : ℕ → List ℕ → List ℕ
 padTo n xs = xs ++ zeros (n - length xs)
 
-unfoldable pub column : (List Row → List ℕ) → ℕ → Analysed → List ℕ
+unfoldable pub column : (List EntryRow → List ℕ) → ℕ → Analysed → List ℕ
 column f n (analysed rows) = padTo n (f rows)
 column f n (refused k) = zeros n
-
--- what a column holds after the entries were read into it; after a refusal only its length is said
-unfoldable pub Left : (List Row → List ℕ) → ℕ → Analysed → List ℕ → Type 0
-Left f n (analysed rows) now = now ≡ padTo n (f rows)
-Left f n (refused k) now = length now ≡ n
-
--- the columns of a table, as they are lent and as they are left
-pub record Outcome (a : Analysed) (offsets₀ parents₀ roots₀ ends₀ targets₀ offsets parents roots ends targets : List ℕ) : Type 0 where
-  pub offsets-left : Left offsetsIn (length offsets₀) a offsets
-  pub parents-left : Left parentsIn (length parents₀) a parents
-  pub roots-left : Left rootsIn (length roots₀) a roots
-  pub ends-left : Left (endsIn 0) (length ends₀) a ends
-  pub targets-left : Left namesIn (length targets₀) a targets
-
--- cleared columns with room for so many entries and references, and the index of declarations that were checked
-pub record Ready (abbreviations index : List ℕ) (from : ℕ) (unit : List ℕ) (entryRoom referenceRoom : ℕ) (offsets parents roots ends targets : List ℕ) : Type 0 where
-  pub accepted : checkedOf abbreviations from ≡ Accepted
-  pub indexed : index ≡ indexOf abbreviations from (length index)
-  pub small : length unit < 0xffffffff
-  pub offsets-room : entryRoom ≤ length offsets
-  pub parents-room : entryRoom ≤ length parents
-  pub roots-room : entryRoom ≤ length roots
-  pub ends-room : entryRoom ≤ length ends
-  pub targets-room : referenceRoom ≤ length targets
-  pub offsets-clear : offsets ≡ zeros (length offsets)
-  pub parents-clear : parents ≡ zeros (length parents)
-  pub roots-clear : roots ≡ zeros (length roots)
-  pub ends-clear : ends ≡ zeros (length ends)
-  pub targets-clear : targets ≡ zeros (length targets)
 
 -- the least of two lengths: a table is as long as its shortest column
 unfoldable pub least : ℕ → ℕ → ℕ
 least a b = pick (leb a b) a b
 
 unfoldable pub roomsOf : ℕ → ℕ → ℕ → ℕ → ℕ → ℕ → ℕ → Rooms
-roomsOf entries references offsets parents roots ends targets = rooms (least entries (least (least offsets parents) (least roots ends))) (least references targets)
+roomsOf entries references offsets parents roots ends targets =
+    rooms (least entries (least (least offsets parents) (least roots ends))) (least references targets)
 
 -- with the marks in the entry table, and the pairs in the reference table
 unfoldable pub unitRooms : ℕ → ℕ → ℕ → ℕ → ℕ → ℕ → ℕ → Rooms
@@ -106,28 +63,3 @@ indexAfter abbreviations (Unit′ h) n = indexOf abbreviations (h .abbreviations
 unfoldable pub answerOf : Analysed → Analysis
 answerOf (analysed rows) = Entries (length rows) (length (namesIn rows))
 answerOf (refused n) = Refused′ n
-
--- an entry by its head alone: where it ends is not asked by its root test, nor by its references
-abbrev pub headed : EntryHead → Entry
-headed h = entryOf h (h .values)
-
--- one entry whose values end there, or nowhere, which is 4 before anything else: the root test, then the references
-unfoldable pub rootFound : ℕ → ℕ → Cursor → ℕ → Found → EntryAnalysis
-rootFound room at next root (found xs) = RowFound root (placed room at xs) next
-rootFound room at next root (refusedAfter xs n) = NoRow n
-
-unfoldable pub entryAnswer : ℕ → ℕ → Moved → Verdict → Found → EntryAnalysis
-entryAnswer room at Nowhere v f = NoRow (refusalOfValues Nowhere)
-entryAnswer room at (To next) Live f = rootFound room at next 1 f
-entryAnswer room at (To next) Dead f = rootFound room at next 0 f
-entryAnswer room at (To next) (Failed n) f = NoRow n
-
--- any other refusal of it
-unfoldable pub refusalOf : Moved → ℕ → ℕ
-refusalOf Nowhere n = refusalOfValues Nowhere
-refusalOf (To next) n = n
-
-unfoldable pub entryTable : List ℕ → ℕ → Verdict → Found → List ℕ
-entryTable table at Live f = tableAfter table at f
-entryTable table at Dead f = tableAfter table at f
-entryTable table at (Failed n) f = table

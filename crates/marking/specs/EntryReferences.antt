@@ -1,12 +1,14 @@
--- The references of an entry (document 01, "References"; gc.rs: `scan_live_die_attrs`, `scan_loclist_for_refs`): every one that its attributes hold, in attribute
--- order, repeats and dangling ones included; 5 and 7 as they are met.
-use mathlib.Core.Path.{_≡_, refl}
+-- The references of an entry (document 01, "References"; gc.rs: `scan_live_die_attrs`, `scan_loclist_for_refs`): every
+-- one that its attributes hold, in attribute order, repeats and dangling ones included; 5 and 7 as they are met.
 use Prim.Native.Nat.{ℕ}
-use mathlib.Core.Bool.{Bool, true, false, not}
+use mathlib.Core.Bool.{true, false, not}
 use mathlib.Core.List.{List, [], _∷_, _++_}
 use lib.ListN.{length}
 use lib.Dec.{leb, eqb}
 use Rattle.readers.specs.Choice.{pick, _and_, _or_}
+use Rattle.readers.specs.Codes.{«DW_AT_location», «DW_AT_sibling», «DW_FORM_exprloc», «DW_FORM_loclistx»}
+use Rattle.readers.specs.Codes.{«DW_FORM_ref1», «DW_FORM_ref_addr», «DW_FORM_ref_udata», «DW_FORM_sec_offset»}
+use Rattle.readers.specs.Codes.{«DW_LLE_base_address», «DW_LLE_base_addressx», «DW_LLE_default_location»}
 unfoldable pub use Rattle.readers.specs.Fields.{partOf}
 use Rattle.readers.specs.Steps.{listEntryAt}
 use Rattle.readers.specs.Refusals.{refusalOfWalk, refusalOfList, refusalOfLocations}
@@ -21,19 +23,19 @@ use Rattle.readers.specs.declared.operations.ListEntry.{ListEntry}
 use Rattle.readers.specs.declared.operations.ListStep.{ListStep}
 use Rattle.readers.specs.declared.operations.ListStep.the-variants.{Entry, End, Unreadable as NoEntry}
 use Rattle.marking.specs.Walking.{Next, go, stop, walk}
-use Rattle.marking.specs.Roots.{Valued}
+use Rattle.readers.specs.EntryAttributes.{Valued}
 
 -- the offsets that are named; on a refusal those named before it, and its number
-pub data Found : Type 0 where
-  found : List ℕ → Found
-  refused : List ℕ → ℕ → Found
+pub data ReferencesFound : Type 0 where
+  found : List ℕ → ReferencesFound
+  refused : List ℕ → ℕ → ReferencesFound
 
 -- what one finds, and then another: the first refusal counts
-unfoldable pub after : List ℕ → Found → Found
+unfoldable pub after : List ℕ → ReferencesFound → ReferencesFound
 after xs (found ys) = found (xs ++ ys)
 after xs (refused ys n) = refused (xs ++ ys) n
 
-unfoldable pub andThen : Found → Found → Found
+unfoldable pub andThen : ReferencesFound → ReferencesFound → ReferencesFound
 andThen (found xs) f = after xs f
 andThen (refused xs n) f = refused xs n
 
@@ -43,12 +45,12 @@ unfoldable pub targets : List Named → List ℕ
 targets [] = []
 targets (r ∷ rs) = r .1 ∷ targets rs
 
-unfoldable pub walkFound : List ℕ → Walk → Found
+unfoldable pub walkFound : List ℕ → Walk → ReferencesFound
 walkFound xs Unreadable = refused [] (refusalOfWalk Unreadable)
 walkFound xs (Walked n true) = refused [] (refusalOfWalk (Walked n true))
 walkFound xs (Walked n false) = found xs
 
-unfoldable pub expressionFound : Encoding → List ℕ → Found
+unfoldable pub expressionFound : Encoding → List ℕ → ReferencesFound
 expressionFound e s = walkFound (targets (referencesIn e s)) (walkOf e s)
 
 -- ---- location lists, entry by entry: each expression is judged before the next entry is read
@@ -61,22 +63,22 @@ abbrev pub reachedAt : Reached → ℕ
 reachedAt p = p .at
 
 -- 7.7.3: base_addressx 1 and base_address 6 have no expression, default_location 5 has it first, the others third
-unfoldable pub locationFound : Encoding → List ℕ → ListEntry → Found
+unfoldable pub locationFound : Encoding → List ℕ → ListEntry → ReferencesFound
 locationFound e s x =
-    pick (eqb (x .kind) 1 or eqb (x .kind) 6) (found [])
-    (expressionFound e (partOf s (pick (eqb (x .kind) 5) (x .first) (x .third))))
+    pick (eqb (x .kind) «DW_LLE_base_addressx» or eqb (x .kind) «DW_LLE_base_address») (found [])
+    (expressionFound e (partOf s (pick (eqb (x .kind) «DW_LLE_default_location») (x .first) (x .third))))
 
-unfoldable pub onFound : List ℕ → ListEntry → Found → Next Reached Found
+unfoldable pub onFound : List ℕ → ListEntry → ReferencesFound → Next Reached ReferencesFound
 onFound sofar x (found ys) = go (record { at = x .next .at; sofar = sofar ++ ys })
 onFound sofar x (refused ys n) = stop (refused (sofar ++ ys) n)
 
-unfoldable pub locationStep : Encoding → List ℕ → List ℕ → ListStep → Next Reached Found
+unfoldable pub locationStep : Encoding → List ℕ → List ℕ → ListStep → Next Reached ReferencesFound
 locationStep e s sofar (Entry x) = onFound sofar x (locationFound e s x)
 locationStep e s sofar End = stop (found sofar)
 locationStep e s sofar NoEntry = stop (refused sofar (refusalOfList NoEntry))
 
 -- an offset that can't be resolved is 5
-unfoldable pub listFound : Encoding → List ℕ → ListOffset → Found
+unfoldable pub listFound : Encoding → List ℕ → ListOffset → ReferencesFound
 listFound e s (At c) =
     walk reachedAt (length s) (λ (p : Reached). locationStep e s (p .sofar) (listEntryAt e true s (p .at))) (found []) (record { at = c .at; sofar = [] })
 listFound e s Unresolved = refused [] (refusalOfLocations Unresolved)
@@ -93,20 +95,21 @@ abbrev pub locationsBy : List ℕ → List ℕ → ℕ → Locations
 locationsBy unit locations base = record { unit = unit; locations = locations; loclistsBase = base }
 
 module _ (e : Encoding) (x : Locations) where
-  -- Sibling attributes (0x01) name nothing. ref_addr (0x10) is 7 where it is declared; behind indirect it is copied. ref1 to ref8 and ref_udata (0x11 to 0x15) name
-  -- their value, behind indirect too. exprloc (0x18) by its expression. Location lists count only under DW_AT_location (0x02): loclistx (0x22), sec_offset (0x17).
-  unfoldable pub attributeFound : Valued → Found
+  -- Sibling attributes name nothing. ref_addr is 7 where it is declared; behind indirect it is copied.
+  -- ref1 to ref8 and ref_udata name their value, behind indirect too. exprloc by its expression.
+  -- Location lists count only under DW_AT_location: loclistx, sec_offset.
+  unfoldable pub attributeFound : Valued → ReferencesFound
   attributeFound a =
-      pick (eqb (a .name) 0x01) (found [])
-      (pick (eqb (a .declared) 0x10) (refused [] 7)
-      (pick (leb 0x11 (a .value .form) and leb (a .value .form) 0x15) (found (a .value .field .value ∷ []))
-      (pick (eqb (a .value .form) 0x18) (expressionFound e (partOf (x .unit) (a .value .field)))
-      (pick (not (eqb (a .name) 0x02)) (found [])
-      (pick (eqb (a .value .form) 0x22) (listFound e (x .locations) (listOffset e (x .locations) (x .loclistsBase) (a .value .field .value)))
-      (pick (eqb (a .value .form) 0x17) (listFound e (x .locations) (listStart (x .locations) (a .value .field .value)))
+      pick (eqb (a .name) «DW_AT_sibling») (found [])
+      (pick (eqb (a .declared) «DW_FORM_ref_addr») (refused [] 7)
+      (pick (leb «DW_FORM_ref1» (a .value .form) and leb (a .value .form) «DW_FORM_ref_udata») (found (a .value .field .value ∷ []))
+      (pick (eqb (a .value .form) «DW_FORM_exprloc») (expressionFound e (partOf (x .unit) (a .value .field)))
+      (pick (not (eqb (a .name) «DW_AT_location»)) (found [])
+      (pick (eqb (a .value .form) «DW_FORM_loclistx») (listFound e (x .locations) (listOffset e (x .locations) (x .loclistsBase) (a .value .field .value)))
+      (pick (eqb (a .value .form) «DW_FORM_sec_offset») (listFound e (x .locations) (listStart (x .locations) (a .value .field .value)))
       (found [])))))))
 
   -- THE references of an entry, by its attributes
-  unfoldable pub attributesFound : List Valued → Found
+  unfoldable pub attributesFound : List Valued → ReferencesFound
   attributesFound [] = found []
   attributesFound (a ∷ rest) = andThen (attributeFound a) (attributesFound rest)

@@ -7,7 +7,8 @@ use lib.Dec.{ltb, leb, eqb}
 use Rattle.readers.specs.Choice.{_and_, _or_}
 use Rattle.marking.specs.Below.{any, every}
 
--- for each entry its parent; the references, two numbers each, the entry that holds it and the entry that it names; for each entry 1 where it is a root, else 0
+-- for each entry its parent; the references, two numbers each, the entry that holds it and the entry that it names; for
+-- each entry 1 where it is a root, else 0
 pub record Graph : Type 0 where
   pub parents : List ℕ
   pub pairs : List ℕ
@@ -61,7 +62,10 @@ rootFits os i = leb (getD os i 0) 1
 
 unfoldable pub wellFormed : Graph → Bool
 wellFormed g =
-    eqb (length (g .roots)) (size g) and every (size g) (parentFits (g .parents)) and every (references g) (pairFits (g .pairs) (size g)) and every (size g) (rootFits (g .roots))
+    eqb (length (g .roots)) (size g)
+    and every (size g) (parentFits (g .parents))
+    and every (references g) (pairFits (g .pairs) (size g))
+    and every (size g) (rootFits (g .roots))
 
 -- with n marks: all else is 16
 unfoldable pub takes : Graph → ℕ → Bool

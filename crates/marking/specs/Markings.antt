@@ -1,15 +1,11 @@
 -- Single markings (document 01, "Marking"). What is marked is a test on entries.
 use Prim.Native.Nat.{ℕ, zero, suc}
-use mathlib.Core.Path.{_≡_}
-use mathlib.Core.List.{List, [], _∷_}
-use mathlib.Core.Bool.{Bool, true, false, not}
-use mathlib.Core.Logic.{_↔_}
+use mathlib.Core.Bool.{Bool, false}
 use lib.ListN.{getD}
-use lib.Dec.{ltb, eqb}
-use Rattle.readers.specs.Choice.{pick, _and_, _or_}
+use lib.Dec.{eqb}
+use Rattle.readers.specs.Choice.{_and_, _or_}
 use Rattle.marking.specs.Below.{any}
 use Rattle.marking.specs.Graph.{Graph, size, isParent, isRoot, names}
-use Rattle.marking.specs.Survivors.{Kept}
 
 -- d is a descendant of r, by at most k steps from child to parent
 unfoldable pub climbs : Graph → ℕ → ℕ → ℕ → Bool
@@ -34,23 +30,3 @@ isLive g m i = isTop g m i or any (size g) (λ r. isTop g m r and isDescendant g
 -- the first entry, a marked one's parent, or one of those
 unfoldable pub justified : Graph → (ℕ → Bool) → ℕ → Bool
 justified g m i = eqb i 0 or any (size g) (λ j. isParent g i j and m j) or isLive g m i
-
--- the marking of entry i: "where that is unmarked and is .. it becomes marked and the others stay as they were; else the marking is refused and nothing changes"
-unfoldable pub accepts : Graph → (ℕ → Bool) → ℕ → Bool
-accepts g m i = ltb i (size g) and not (m i) and justified g m i
-
-unfoldable pub step : Graph → (ℕ → Bool) → ℕ → ℕ → Bool
-step g m i = pick (accepts g m i) (λ j. eqb j i or m j) m
-
--- a list of markings: "each starts from what the last one left"
-unfoldable pub run : Graph → (ℕ → Bool) → List ℕ → ℕ → Bool
-run g m [] = m
-run g m (i ∷ is) = run g (step g m i) is
-
-unfoldable pub nothing : ℕ → Bool
-nothing i = false
-
--- demand 3 of what is marked: "only survivors are marked, and all of them exactly when every further marking would be refused"
-pub record MarksSurvivors (g : Graph) (m : ℕ → Bool) : Type 0 where
-  pub only : (i : ℕ) → m i ≡ true → Kept g i
-  pub all : ((i : ℕ) → Kept g i → m i ≡ true) ↔ ((i : ℕ) → accepts g m i ≡ false)

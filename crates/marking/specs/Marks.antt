@@ -1,15 +1,12 @@
 -- What `mark` answers (document 01, "mark"): 1 dead, 2 retained, 3 live, or 16.
-use Prim.Native.Nat.{ℕ, zero, suc, _<_}
-use mathlib.Core.Path.{_≡_}
+use Prim.Native.Nat.{ℕ, zero, suc}
 use mathlib.Core.List.{List}
-use mathlib.Core.Bool.{Bool, true}
-use mathlib.Core.Logic.{_↔_}
+use mathlib.Core.Bool.{Bool}
 use lib.ListN.{length, getD, replicate}
 use lib.Dec.{eqb, leb}
 use Rattle.readers.specs.Choice.{pick, _or_}
 use Rattle.marking.specs.Below.{tab, count}
-use Rattle.marking.specs.Graph.{Graph, size, names, takes}
-use Rattle.marking.specs.Survivors.{Kept, Live}
+use Rattle.marking.specs.Graph.{Graph, size, takes}
 use Rattle.marking.specs.Markings.{justified, isLive, namedBy}
 use Rattle.marking.specs.declared.marks.Marked.{Marked}
 use Rattle.marking.specs.declared.marks.Marked.the-variants.{Kept as KeptCount, Refused}
@@ -50,16 +47,3 @@ answerOf g n = pick (takes g n) (KeptCount (keptCount (marksOf g))) (Refused 16)
 
 unfoldable pub endMarks : Graph → ℕ → List ℕ
 endMarks g n = pick (takes g n) (marksOf g) (replicate n 0)
-
--- ---- what a mark says of its entry
-
--- "L for a root, a named entry or a descendant of either", the first entry only where a survivor's reference names it
-pub data MarkedLive (g : Graph) : ℕ → Type 0 where
-  first-named : {s : ℕ} → names g s 0 ≡ true → Kept g s → MarkedLive g 0
-  later : {i : ℕ} → 0 < i → Live g i → MarkedLive g i
-
--- 3 live, 2 retained (any other kept entry), 1 dead
-pub record Says (g : Graph) (i x : ℕ) : Type 0 where
-  pub live : (x ≡ 3) ↔ MarkedLive g i
-  pub retained : (x ≡ 2) ↔ (Kept g i × (MarkedLive g i → ⊥))
-  pub dead : (x ≡ 1) ↔ (Kept g i → ⊥)

@@ -4,22 +4,12 @@ use mathlib.Core.List.{List, [], _∷_}
 use lib.ListN.{length, set}
 use lib.Dec.{ltb}
 use Rattle.readers.specs.Choice.{pick}
-use Rattle.readers.specs.Cursors.{cursor}
-use Rattle.readers.specs.declared.abbreviations.SpecStep.{SpecStep}
-use Rattle.readers.specs.declared.abbreviations.SpecStep.the-variants.{Attribute, Last, Unreadable}
 use Rattle.readers.specs.declared.cursor.Moved.{Moved}
-use Rattle.readers.specs.declared.cursor.Moved.the-variants.{To as EndsAt, Unreadable as Nowhere}
-use Rattle.marking.specs.Roots.{Valued}
-use Rattle.marking.specs.EntryReferences.{Found, found, refused}
-use Rattle.marking.specs.declared.root_test.EntryAttribute.{EntryAttribute}
+use Rattle.marking.specs.EntryReferences.{ReferencesFound, found, refused}
 use Rattle.marking.specs.declared.references.Scanned.{Scanned}
 use Rattle.marking.specs.declared.references.Scanned.the-variants.{To, Refused}
 use Rattle.marking.specs.declared.references.EntryScan.{EntryScan}
 use Rattle.marking.specs.declared.references.EntryScan.the-variants.{Through, Refused as Refused′}
-
--- an attribute as the code reads it
-abbrev pub valuedBy : EntryAttribute → Valued
-valuedBy x = record { name = x .name; declared = x .declared; value = x .value }
 
 -- the place after a place of a table; past the table's end by one where it has no room
 unfoldable pub nextPlace : ℕ → ℕ → ℕ
@@ -36,11 +26,11 @@ written table at [] = table
 written table at (x ∷ xs) = written (set table at x) (nextPlace (length table) at) xs
 
 -- as the code answers it, and the table that it leaves
-unfoldable pub scannedTo : ℕ → ℕ → Found → Scanned
+unfoldable pub scannedTo : ℕ → ℕ → ReferencesFound → Scanned
 scannedTo room at (found xs) = To (placed room at xs)
 scannedTo room at (refused xs n) = Refused n
 
-unfoldable pub tableAfter : List ℕ → ℕ → Found → List ℕ
+unfoldable pub tableAfter : List ℕ → ℕ → ReferencesFound → List ℕ
 tableAfter table at (found xs) = written table at xs
 tableAfter table at (refused xs n) = written table at xs
 
@@ -48,9 +38,3 @@ tableAfter table at (refused xs n) = written table at xs
 unfoldable pub entryScanned : Scanned → Moved → EntryScan
 entryScanned (To place) end = Through place end
 entryScanned (Refused n) end = Refused′ n
-
--- which is the place that no attribute was read at, where its specifications end there too
-unfoldable pub endBy : ℕ → SpecStep → Moved
-endBy at (Attribute a) = Nowhere
-endBy at (Last c) = EndsAt (cursor at)
-endBy at Unreadable = Nowhere

@@ -1,10 +1,17 @@
--- Which entries are roots (document 01, "Roots"; gc.rs: `is_root`, `rnglist_has_live_entry`, `ranges_has_live_entry`, `location_expr_live`).
+-- Which entries are roots (document 01, "Roots"; gc.rs: `is_root`, `rnglist_has_live_entry`, `ranges_has_live_entry`,
+-- `location_expr_live`).
 use Prim.Native.Nat.{ℕ, zero, suc, _+_, _-_}
 use mathlib.Core.Bool.{Bool, true, false}
 use mathlib.Core.List.{List, [], _∷_}
 use lib.ListN.{length}
 use lib.Dec.{ltb, leb, eqb}
 use Rattle.readers.specs.Choice.{pick, _and_, _or_}
+use Rattle.readers.specs.Codes.{«DW_AT_location», «DW_AT_low_pc», «DW_AT_ranges», «DW_FORM_addr», «DW_FORM_addrx»}
+use Rattle.readers.specs.Codes.{«DW_FORM_addrx1», «DW_FORM_addrx4», «DW_FORM_exprloc», «DW_FORM_rnglistx»}
+use Rattle.readers.specs.Codes.{«DW_FORM_sec_offset», «DW_RLE_base_address», «DW_RLE_base_addressx»}
+use Rattle.readers.specs.Codes.{«DW_RLE_offset_pair», «DW_RLE_startx_length», «DW_TAG_compile_unit»}
+use Rattle.readers.specs.Codes.{«DW_TAG_subprogram», «DW_TAG_variable»}
+use Rattle.readers.specs.Operations.{row-address-index}
 use Rattle.readers.specs.Cursors.{cursor}
 use Rattle.readers.specs.Fields.{partOf}
 use Rattle.readers.specs.Steps.{operationAt, listEntryAt}
@@ -13,16 +20,15 @@ use Rattle.readers.specs.Lists.{listOffset, listStart}
 use Rattle.readers.specs.Entries.{attributeAt}
 use Rattle.readers.specs.Abbreviations.{specAt}
 use Rattle.readers.specs.declared.cursor.Encoding.{Encoding}
-use Rattle.readers.specs.declared.cursor.Cursor.{Cursor}
 use Rattle.readers.specs.declared.abbreviations.AttributeSpec.{AttributeSpec}
 use Rattle.readers.specs.declared.abbreviations.SpecStep.{SpecStep}
-use Rattle.readers.specs.declared.abbreviations.SpecStep.the-variants.{Attribute as Spec, Last as LastSpec, Unreadable as NoSpec}
+use Rattle.readers.specs.declared.abbreviations.SpecStep.the-variants.{Attribute as Spec, Last as LastSpec}
+use Rattle.readers.specs.declared.abbreviations.SpecStep.the-variants.{Unreadable as NoSpec}
 use Rattle.readers.specs.declared.attributes.Attribute.{Attribute}
 use Rattle.readers.specs.declared.attributes.AttributeRead.{AttributeRead}
 use Rattle.readers.specs.declared.attributes.AttributeRead.the-variants.{Read as Attribute′, Unreadable as NoAttribute}
 use Rattle.readers.specs.declared.lists.ListOffset.{ListOffset}
 use Rattle.readers.specs.declared.lists.ListOffset.the-variants.{At, Unresolved}
-use Rattle.readers.specs.declared.operations.Operation.{Operation}
 use Rattle.readers.specs.declared.operations.OperationRead.{OperationRead}
 use Rattle.readers.specs.declared.operations.OperationRead.the-variants.{Read as Operation′, Unreadable as NoOperation}
 use Rattle.readers.specs.declared.operations.ListEntry.{ListEntry}
@@ -33,12 +39,13 @@ use Rattle.marking.specs.Refusals.{refusalOfLookup}
 use Rattle.marking.specs.Addresses.{isTombstone, lookupAt}
 use Rattle.marking.specs.declared.addresses.AddressLookup.{AddressLookup}
 use Rattle.marking.specs.declared.addresses.AddressLookup.the-variants.{Live, Dead, Fails}
-use Rattle.marking.specs.declared.roots.RangeTurn.{RangeTurn}
-use Rattle.marking.specs.declared.roots.RangeTurn.the-variants.{On, Decided}
-use Rattle.marking.specs.declared.root_test.NextAttribute.{NextAttribute}
-use Rattle.marking.specs.declared.root_test.NextAttribute.the-variants.{More, NoMore}
-use Rattle.marking.specs.declared.roots.Verdict.{Verdict}
-use Rattle.marking.specs.declared.roots.Verdict.the-variants.{Live as isLive, Dead as isDead, Refused as refused}
+use Rattle.marking.specs.declared.root_test.RangeTurn.{RangeTurn}
+use Rattle.marking.specs.declared.root_test.RangeTurn.the-variants.{On, Decided}
+use Rattle.readers.specs.declared.entry_attributes.NextAttribute.{NextAttribute}
+use Rattle.readers.specs.declared.entry_attributes.NextAttribute.the-variants.{More, NoMore}
+use Rattle.marking.specs.declared.root_test.Verdict.{Verdict}
+use Rattle.marking.specs.declared.root_test.Verdict.the-variants.{Live as isLive, Dead as isDead, Refused as refused}
+use Rattle.readers.specs.EntryAttributes.{Valued}
 
 -- the first that does not say dead
 unfoldable pub orElse : Verdict → Verdict → Verdict
@@ -76,10 +83,10 @@ module _ (e : Encoding) (table : List ℕ) where
   -- 7.25: base_addressx 1, startx_endx 2, startx_length 3, offset_pair 4, base_address 5, start_end 6, start_length 7
   unfoldable pub rangeEntry : Bool → ListEntry → Turn
   rangeEntry dead x =
-      pick (eqb (x .kind) 1) (onLookup (lookupAt table (x .first .value)) stop (toward x false) (toward x true))
-      (pick (leb (x .kind) 3) (onLookup (lookupAt table (x .first .value)) stop (stop isLive) (toward x dead))
-      (pick (eqb (x .kind) 4) (pick dead (toward x dead) (stop isLive))
-      (pick (eqb (x .kind) 5) (toward x (isTombstone (x .first .value) (e .«address_size»)))
+      pick (eqb (x .kind) «DW_RLE_base_addressx») (onLookup (lookupAt table (x .first .value)) stop (toward x false) (toward x true))
+      (pick (leb (x .kind) «DW_RLE_startx_length») (onLookup (lookupAt table (x .first .value)) stop (stop isLive) (toward x dead))
+      (pick (eqb (x .kind) «DW_RLE_offset_pair») (pick dead (toward x dead) (stop isLive))
+      (pick (eqb (x .kind) «DW_RLE_base_address») (toward x (isTombstone (x .first .value) (e .«address_size»)))
       (pick (isTombstone (x .first .value) (e .«address_size»)) (toward x dead) (stop isLive)))))
 
   unfoldable pub rangeStep : Bool → ListStep → Turn
@@ -96,7 +103,7 @@ module _ (e : Encoding) (table : List ℕ) where
   -- addrx and GNU_addr_index are row 22
   unfoldable pub operationStep : Bool → OperationRead → Turn
   operationStep live (Operation′ op) =
-      pick (eqb (op .row) 22)
+      pick (eqb (op .row) row-address-index)
       (onLookup (lookupAt table (op .first .value)) stop (go (record { at = op .next .at; flag = true })) (go (record { at = op .next .at; flag = live })))
       (go (record { at = op .next .at; flag = live }))
   operationStep live NoOperation = stop (refused (refusalOfOperation NoOperation))
@@ -110,7 +117,7 @@ module _ (e : Encoding) (table : List ℕ) where
 
 -- the older test, version 5: base_address only is skipped; every other entry is live
 unfoldable pub olderStep : ListStep → Turn
-olderStep (Entry x) = pick (eqb (x .kind) 5) (toward x false) (stop isLive)
+olderStep (Entry x) = pick (eqb (x .kind) «DW_RLE_base_address») (toward x false) (stop isLive)
 olderStep End = stop isDead
 olderStep NoEntry = stop (refused (refusalOfList NoEntry))
 
@@ -118,71 +125,25 @@ unfoldable pub olderLive : Encoding → List ℕ → ListOffset → Verdict
 olderLive e s (At c) = walk place (length s) (λ (p : Flagged). olderStep (listEntryAt e false s (p .at))) isDead (record { at = c .at; flag = false })
 olderLive e s Unresolved = isLive
 
--- DW_AT_low_pc: addrx (0x1b, 0x29 to 0x2c) asks the table, addr (0x01) the tombstone test, any other form is live
+-- DW_AT_low_pc: addrx asks the table, addr the tombstone test, any other form is live
 unfoldable pub lowPc : Encoding → List ℕ → Attribute → Verdict
 lowPc e table v =
-    pick (eqb (v .form) 0x1b or (leb 0x29 (v .form) and leb (v .form) 0x2c))
+    pick (eqb (v .form) «DW_FORM_addrx» or (leb «DW_FORM_addrx1» (v .form) and leb (v .form) «DW_FORM_addrx4»))
     (onLookup (lookupAt table (v .field .value)) (λ r. r) isLive isDead)
-    (pick (eqb (v .form) 0x01) (pick (isTombstone (v .field .value) (e .«address_size»)) isDead isLive) isLive)
+    (pick (eqb (v .form) «DW_FORM_addr») (pick (isTombstone (v .field .value) (e .«address_size»)) isDead isLive) isLive)
 
 -- ---- the attributes of an entry
-
--- an attribute: its name, the form that it is declared with, and its value
-pub record Valued : Type 0 where
-  pub name : ℕ
-  pub declared : ℕ
-  pub value : Attribute
-
-unfoldable pub onAttribute : AttributeSpec → AttributeRead → (ℕ → List Valued) → List Valued
-onAttribute a (Attribute′ v) k = record { name = a .name; declared = a .form; value = v } ∷ k (v .field .end)
-onAttribute a NoAttribute k = []
-
-unfoldable pub valuesOf : Encoding → List ℕ → List AttributeSpec → ℕ → List Valued
-valuesOf e unit [] at = []
-valuesOf e unit (a ∷ rest) at = onAttribute a (attributeAt e unit at (a .name) (a .form)) (λ next. valuesOf e unit rest next)
-
--- the specifications from a place on, up to the pair of zeros or to one that can't be read: what stands before that one counts, since a test may be decided
--- there. A checked abbreviation list has none such, and there these are all.
-unfoldable pub onSpec : SpecStep → (AttributeSpec → List AttributeSpec) → List AttributeSpec
-onSpec (Spec a) k = k a
-onSpec (LastSpec c) k = []
-onSpec NoSpec k = []
-
--- a count bounds how often
-unfoldable pub specsWithin : ℕ → List ℕ → ℕ → List AttributeSpec
-specsWithin zero s at = []
-specsWithin (suc k) s at = onSpec (specAt s at) (λ a. a ∷ specsWithin k s (a .next .at))
-
-unfoldable pub specsFrom : List ℕ → ℕ → List AttributeSpec
-specsFrom s at = specsWithin (suc (length s - at)) s at
-
--- the attributes of an entry, from the place of its specifications and that of its values on
-unfoldable pub entryValues : Encoding → List ℕ → ℕ → List ℕ → ℕ → List Valued
-entryValues e abbreviations specs unit at = valuesOf e unit (specsFrom abbreviations specs) at
-
--- the attribute there, as the code reads it
-unfoldable pub taken : AttributeSpec → AttributeRead → NextAttribute
-taken a (Attribute′ v) = More (record { name = a .name; declared = a .form; value = v; next = a .next; values = cursor (v .field .end) })
-taken a NoAttribute = NoMore
-
-unfoldable pub takenBy : Encoding → List ℕ → ℕ → SpecStep → NextAttribute
-takenBy e unit at (Spec a) = taken a (attributeAt e unit at (a .name) (a .form))
-takenBy e unit at (LastSpec c) = NoMore
-takenBy e unit at NoSpec = NoMore
-
-unfoldable pub nextAttribute : Encoding → List ℕ → ℕ → List ℕ → ℕ → NextAttribute
-nextAttribute e abbreviations specs unit at = takenBy e unit at (specAt abbreviations specs)
 
 -- each low_pc in turn
 unfoldable pub lowPcs : Encoding → List ℕ → List Valued → Verdict
 lowPcs e table [] = isDead
-lowPcs e table (a ∷ rest) = pick (eqb (a .name) 0x11) (orElse (lowPc e table (a .value)) (lowPcs e table rest)) (lowPcs e table rest)
+lowPcs e table (a ∷ rest) = pick (eqb (a .name) «DW_AT_low_pc») (orElse (lowPc e table (a .value)) (lowPcs e table rest)) (lowPcs e table rest)
 
--- DW_AT_location in exprloc (0x18), each in turn
+-- DW_AT_location in exprloc, each in turn
 unfoldable pub locations : Encoding → List ℕ → List ℕ → List Valued → Verdict
 locations e table unit [] = isDead
 locations e table unit (a ∷ rest) =
-    pick (eqb (a .name) 0x02 and eqb (a .value .form) 0x18)
+    pick (eqb (a .name) «DW_AT_location» and eqb (a .value .form) «DW_FORM_exprloc»)
     (orElse (locationLive e table (partOf unit (a .value .field))) (locations e table unit rest))
     (locations e table unit rest)
 
@@ -196,34 +157,35 @@ pub record Ranges : Type 0 where
 abbrev pub rangesBy : List ℕ → List ℕ → ℕ → ℕ → Ranges
 rangesBy ranges table rangesBase rnglistsBase = record { ranges = ranges; table = table; rangesBase = rangesBase; rnglistsBase = rnglistsBase }
 
--- DW_AT_ranges not in rnglistx: sec_offset (0x17) by the older test, another form live. The sum has no bound here: above 64 bits it lies past the section's end.
+-- DW_AT_ranges not in rnglistx: sec_offset by the older test, another form live. The sum has no bound here:
+-- above 64 bits it lies past the section's end.
 unfoldable pub otherRanges : Encoding → List ℕ → ℕ → Attribute → Verdict
-otherRanges e ranges base v = pick (eqb (v .form) 0x17) (olderLive e ranges (listStart ranges (base + v .field .value))) isLive
+otherRanges e ranges base v = pick (eqb (v .form) «DW_FORM_sec_offset») (olderLive e ranges (listStart ranges (base + v .field .value))) isLive
 
 module _ (e : Encoding) (x : Ranges) where
-  -- DW_AT_ranges: rnglistx (0x23) by its list
+  -- DW_AT_ranges: rnglistx by its list
   unfoldable pub rangesOf : Attribute → Verdict
   rangesOf v =
-      pick (eqb (v .form) 0x23) (rangesLive e (x .table) (x .ranges) (listOffset e (x .ranges) (x .rnglistsBase) (v .field .value)))
+      pick (eqb (v .form) «DW_FORM_rnglistx») (rangesLive e (x .table) (x .ranges) (listOffset e (x .ranges) (x .rnglistsBase) (v .field .value)))
       (otherRanges e (x .ranges) (x .rangesBase) v)
 
   -- the first ranges attribute decides
   unfoldable pub firstRanges : List Valued → Verdict
   firstRanges [] = isDead
-  firstRanges (a ∷ rest) = pick (eqb (a .name) 0x55) (rangesOf (a .value)) (firstRanges rest)
+  firstRanges (a ∷ rest) = pick (eqb (a .name) «DW_AT_ranges») (rangesOf (a .value)) (firstRanges rest)
 
-  -- THE root test of an entry: a subprogram (0x2e), a variable (0x34); other tags never
+  -- THE root test of an entry: a subprogram, a variable; other tags never
   unfoldable pub rootTest : List ℕ → ℕ → List Valued → Verdict
   rootTest unit tag attributes =
-      pick (eqb tag 0x2e) (orElse (lowPcs e (x .table) attributes) (firstRanges attributes))
-      (pick (eqb tag 0x34) (locations e (x .table) unit attributes) isDead)
+      pick (eqb tag «DW_TAG_subprogram») (orElse (lowPcs e (x .table) attributes) (firstRanges attributes))
+      (pick (eqb tag «DW_TAG_variable») (locations e (x .table) unit attributes) isDead)
 
 -- ---- list bases: 12, or what a compile unit entry's own attribute in sec_offset says, from that entry on; of several the last counts
 
 unfoldable pub baseFrom : ℕ → ℕ → List Valued → ℕ
 baseFrom name base [] = base
-baseFrom name base (a ∷ rest) = baseFrom name (pick (eqb (a .name) name and eqb (a .value .form) 0x17) (a .value .field .value) base) rest
+baseFrom name base (a ∷ rest) = baseFrom name (pick (eqb (a .name) name and eqb (a .value .form) «DW_FORM_sec_offset») (a .value .field .value) base) rest
 
--- DW_AT_rnglists_base 0x74, DW_AT_loclists_base 0x8c; DW_TAG_compile_unit 0x11
+-- DW_AT_rnglists_base, DW_AT_loclists_base; DW_TAG_compile_unit
 unfoldable pub baseAfter : ℕ → ℕ → ℕ → List Valued → ℕ
-baseAfter name base tag attributes = pick (eqb tag 0x11) (baseFrom name base attributes) base
+baseAfter name base tag attributes = pick (eqb tag «DW_TAG_compile_unit») (baseFrom name base attributes) base

@@ -5,6 +5,6 @@ pub mod columns;
 pub mod marks;
 pub mod references;
 pub mod root_test;
-pub mod roots;
+mod rules;
 mod spread;
 pub mod units;

@@ -1,16 +1,19 @@
-// Marks the survivors of a unit that is given as a graph: the parent of each entry, the references as pairs of entries, the roots. A mark is what gc.rs has as
-// `Liveness`: 1 dead, 2 retained, 3 live.
+// Marks the survivors of a unit that is given as a graph: the parent of each entry, the references as pairs of entries,
+// the roots. A mark is what gc.rs has as `Liveness`: 1 dead, 2 retained, 3 live.
 ghost use mathlib.Core.Path.{_≡_};
 ghost use Prim.Native.Nat.{_/_, _<_};
-ghost use lib.ListN.{length, replicate};
+ghost use lib.ListN.{length};
 ghost use Rattle.marking.specs.Below.{every, tab};
 ghost use Rattle.marking.specs.Graph.{graph, parentFits, pairFits, rootFits, takes as takesOf};
 ghost use Rattle.marking.specs.Marks.{answerOf, endMarks, keptCount};
-ghost use Rattle.marking.specs.Passes.{Pass, WithParents, WithPairs, WithBoth, DownAt, AlongAt, UpAt, Down, Along, Up, Settled, ParentsFit, PairsFit, startMark, namesFirst, endFirst};
+ghost use Rattle.marking.specs.inner.Passes.{Pass, WithParents, WithPairs, WithBoth, Along, Up, Settled, ParentsFit};
+ghost use Rattle.marking.specs.inner.Passes.{PairsFit, startMark, namesFirst, endFirst};
+use crate::rules::NO_PARENT;
+use crate::rules::along_at;
+use crate::rules::down;
+use crate::rules::up_at;
 use crate::spread::spread;
-
-// What stands for the parent of an entry that has none.
-const NO_PARENT: u32 = 0xffff_ffff;
+use readers::tables::clear_bytes;
 
 // ---- what is taken
 
@@ -86,90 +89,14 @@ fn takes(parents: &[u32], pairs: &[u32], roots: &[u8], n: usize) -> bool
     roots_fit(roots)
 }
 
-// ---- one mark
-
-// Entry i becomes live where its parent is.
-pub(crate) fn down_at(parents: &[u32], marks: &mut [u8], i: usize) -> bool
-    requires { ⌜ ParentsFit (now parents) (now marks) ⌝ }
-    requires { ⌜ i < length (now marks) ⌝ }
-    ensures { λ r. ⌜ Pass (WithParents (now (parents .entry))) (DownAt (now (parents .entry)) (now (marks .entry)) i) (now (marks .entry)) (now (marks .exit)) r ⌝ }
-{
-    let p = parents[i];
-    if p == NO_PARENT {
-        return false;
-    }
-    let q = p as usize;
-    if marks[q] < 3 {
-        return false;
-    }
-    if marks[i] >= 3 {
-        return false;
-    }
-    marks[i] = 3;
-    true
-}
-
-// What reference j names becomes live where its holder is kept, retained or live.
-pub(crate) fn along_at(pairs: &[u32], marks: &mut [u8], j: usize) -> bool
-    requires { ⌜ PairsFit (now pairs) (now marks) ⌝ }
-    requires { ⌜ j < length (now pairs) / 2 ⌝ }
-    ensures { λ r. ⌜ Pass (WithPairs (now (pairs .entry))) (AlongAt (now (pairs .entry)) (now (marks .entry)) j) (now (marks .entry)) (now (marks .exit)) r ⌝ }
-{
-    let s = pairs[2 * j] as usize;
-    if marks[s] < 2 {
-        return false;
-    }
-    let t = pairs[2 * j + 1] as usize;
-    if marks[t] >= 3 {
-        return false;
-    }
-    marks[t] = 3;
-    true
-}
-
-// The parent of entry i is retained where i is kept.
-pub(crate) fn up_at(parents: &[u32], marks: &mut [u8], i: usize) -> bool
-    requires { ⌜ ParentsFit (now parents) (now marks) ⌝ }
-    requires { ⌜ i < length (now marks) ⌝ }
-    ensures { λ r. ⌜ Pass (WithParents (now (parents .entry))) (UpAt (now (parents .entry)) (now (marks .entry)) i) (now (marks .entry)) (now (marks .exit)) r ⌝ }
-{
-    if marks[i] < 2 {
-        return false;
-    }
-    let p = parents[i];
-    if p == NO_PARENT {
-        return false;
-    }
-    let q = p as usize;
-    if marks[q] >= 2 {
-        return false;
-    }
-    marks[q] = 2;
-    true
-}
-
 // ---- one pass; each answers whether a mark rose
-
-// From parent to child, the first entry first, so that one pass reaches every depth.
-pub(crate) fn down(parents: &[u32], marks: &mut [u8]) -> bool
-    requires { ⌜ ParentsFit (now parents) (now marks) ⌝ }
-    ensures { λ r. ⌜ Pass (WithParents (now (parents .entry))) (Down (now (parents .entry)) (now (marks .entry))) (now (marks .entry)) (now (marks .exit)) r ⌝ }
-{
-    let mut changed = false;
-    let mut i = 0;
-    while i < marks.len() {
-        if down_at(parents, marks, i) {
-            changed = true;
-        }
-        i += 1;
-    }
-    changed
-}
 
 // Along the references, in their order.
 fn along(pairs: &[u32], marks: &mut [u8]) -> bool
     requires { ⌜ PairsFit (now pairs) (now marks) ⌝ }
-    ensures { λ r. ⌜ Pass (WithPairs (now (pairs .entry))) (Along (now (pairs .entry)) (now (marks .entry))) (now (marks .entry)) (now (marks .exit)) r ⌝ }
+    ensures { λ r. ⌜ Pass (WithPairs (now (pairs .entry)))
+        (Along (now (pairs .entry)) (now (marks .entry)))
+        (now (marks .entry)) (now (marks .exit)) r ⌝ }
 {
     let n = pairs.len() / 2;
     let mut changed = false;
@@ -186,7 +113,9 @@ fn along(pairs: &[u32], marks: &mut [u8]) -> bool
 // From child to parent, the last entry first.
 fn up(parents: &[u32], marks: &mut [u8]) -> bool
     requires { ⌜ ParentsFit (now parents) (now marks) ⌝ }
-    ensures { λ r. ⌜ Pass (WithParents (now (parents .entry))) (Up (now (parents .entry)) (now (marks .entry))) (now (marks .entry)) (now (marks .exit)) r ⌝ }
+    ensures { λ r. ⌜ Pass (WithParents (now (parents .entry)))
+        (Up (now (parents .entry)) (now (marks .entry)))
+        (now (marks .entry)) (now (marks .exit)) r ⌝ }
 {
     let mut changed = false;
     let mut i = marks.len();
@@ -203,7 +132,9 @@ fn up(parents: &[u32], marks: &mut [u8]) -> bool
 fn round(parents: &[u32], pairs: &[u32], marks: &mut [u8]) -> bool
     requires { ⌜ ParentsFit (now parents) (now marks) ⌝ }
     requires { ⌜ PairsFit (now pairs) (now marks) ⌝ }
-    ensures { λ r. ⌜ Pass (WithBoth (now (parents .entry)) (now (pairs .entry))) (Settled (now (parents .entry)) (now (pairs .entry)) (now (marks .entry))) (now (marks .entry)) (now (marks .exit)) r ⌝ }
+    ensures { λ r. ⌜ Pass (WithBoth (now (parents .entry)) (now (pairs .entry)))
+        (Settled (now (parents .entry)) (now (pairs .entry)) (now (marks .entry)))
+        (now (marks .entry)) (now (marks .exit)) r ⌝ }
 {
     let a = down(parents, marks);
     let b = along(pairs, marks);
@@ -288,25 +219,15 @@ fn count_kept(marks: &[u8]) -> usize
     n
 }
 
-// Every mark becomes 0.
-fn clear(marks: &mut [u8])
-    ensures { λ _. ⌜ now (marks .exit) ≡ replicate (length (now (marks .entry))) 0 ⌝ }
-{
-    let mut i = 0;
-    while i < marks.len() {
-        marks[i] = 0;
-        i += 1;
-    }
-}
-
 // How many entries are kept, or the number of the refusal.
 pub enum Marked {
     Kept(usize),
     Refused(u8),
 }
 
-// `mark` with memory: a work column, best of zeros and with two numbers an entry, changes its time alone. The rounds start from marks that are spread already, and where
-// the pairs stand by holder the first one raises none and is the last.
+// `mark` with memory: a work column, best of zeros and with two numbers an entry, changes its time alone. The rounds
+// start from marks that are spread already, and where the pairs stand by holder the first one raises none and is the
+// last.
 pub(crate) fn mark_with(
     parents: &[u32],
     pairs: &[u32],
@@ -314,11 +235,14 @@ pub(crate) fn mark_with(
     marks: &mut [u8],
     work: &mut [u32],
 ) -> Marked
-    ensures answer { λ r. ⌜ r ≡ answerOf (graph (now (parents .entry)) (now (pairs .entry)) (now (roots .entry))) (length (now (marks .entry))) ⌝ }
-    ensures marks { λ _. ⌜ now (marks .exit) ≡ endMarks (graph (now (parents .entry)) (now (pairs .entry)) (now (roots .entry))) (length (now (marks .entry))) ⌝ }
+    ensures { λ r. ⌜ (
+        let lent = graph (now (parents .entry)) (now (pairs .entry)) (now (roots .entry)) in
+        (r ≡ answerOf lent (length (now (marks .entry))))
+        × (now (marks .exit) ≡ endMarks lent (length (now (marks .entry))))
+        ) ⌝ }
 {
     if !takes(parents, pairs, roots, marks.len()) {
-        clear(marks);
+        clear_bytes(marks);
         return Marked::Refused(16);
     }
     start(roots, marks);
@@ -328,15 +252,19 @@ pub(crate) fn mark_with(
     Marked::Kept(count_kept(marks))
 }
 
-// Marks each entry 1 dead, 2 retained, 3 live. Pairs are two numbers each, the entry that holds the reference and the one that it names; an odd last number
-// counts for nothing. 16, and zeros, where parents, roots and marks differ in length, a parent is not below its child (0xffffffff is none), a pair leaves the
-// tree or a root is above 1.
-// It needs no memory but the marks, and goes by rounds alone: a round looks at each entry twice and at each pair once; the first round that raises no mark is the last. A chain of
-// references is followed in one round where its pairs stand in its order, one link a round where they stand against it. A mark rises at most twice, so n entries take at most
-// 2n + 1 rounds. The marks of a unit are made by `mark_with`.
+// Marks each entry 1 dead, 2 retained, 3 live. Pairs are two numbers each, the entry that holds the reference and the
+// one that it names; an odd last number counts for nothing. 16, and zeros, where parents, roots and marks differ in
+// length, a parent is not below its child (0xffffffff is none), a pair leaves the tree or a root is above 1. It needs
+// no memory but the marks, and goes by rounds alone: a round looks at each entry twice and at each pair once; the first
+// round that raises no mark is the last. A chain of references is followed in one round where its pairs stand in its
+// order, one link a round where they stand against it. A mark rises at most twice, so n entries take at most 2n + 1
+// rounds. The marks of a unit are made by `mark_with`.
 pub fn mark(parents: &[u32], pairs: &[u32], roots: &[u8], marks: &mut [u8]) -> Marked
-    ensures answer { λ r. ⌜ r ≡ answerOf (graph (now (parents .entry)) (now (pairs .entry)) (now (roots .entry))) (length (now (marks .entry))) ⌝ }
-    ensures marks { λ _. ⌜ now (marks .exit) ≡ endMarks (graph (now (parents .entry)) (now (pairs .entry)) (now (roots .entry))) (length (now (marks .entry))) ⌝ }
+    ensures { λ r. ⌜ (
+        let lent = graph (now (parents .entry)) (now (pairs .entry)) (now (roots .entry)) in
+        (r ≡ answerOf lent (length (now (marks .entry))))
+        × (now (marks .exit) ≡ endMarks lent (length (now (marks .entry))))
+        ) ⌝ }
 {
     let mut none = [0u32; 0];
     mark_with(parents, pairs, roots, marks, &mut none)

@@ -1,21 +1,36 @@
-// The references of an entry, into a lent table of offsets. scan_live_die_attrs and scan_loclist_for_refs have the names of their originals in gc.rs.
+// The references of an entry, into a lent table of offsets. scan_live_die_attrs and scan_loclist_for_refs have the
+// names of their originals in gc.rs.
 ghost use mathlib.Core.Path.{_≡_};
-ghost use mathlib.Core.List.{[], _∷_};
 ghost use lib.ListN.{length, set};
 ghost use Rattle.readers.specs.Abbreviations.{specAt};
 ghost use Rattle.readers.specs.Entries.{valuesAt};
 ghost use Rattle.readers.specs.References.{flatFrom};
-ghost use Rattle.marking.specs.EntryReferences.{targets as offsetsOf, expressionFound, locationFound, listFound, locationsBy, attributeFound, attributesFound};
-ghost use Rattle.marking.specs.ReferenceTable.{nextPlace, placed, written, scannedTo, tableAfter, valuedBy, endBy, entryScanned};
-ghost use Rattle.marking.specs.Roots.{entryValues};
+ghost use Rattle.marking.specs.EntryReferences.{targets as offsetsOf, expressionFound, locationFound, listFound};
+ghost use Rattle.marking.specs.EntryReferences.{locationsBy, attributeFound, attributesFound};
+ghost use Rattle.marking.specs.ReferenceTable.{nextPlace, placed, written, scannedTo, tableAfter};
+ghost use Rattle.marking.specs.inner.ReferenceTable.{valuedBy};
+ghost use Rattle.marking.specs.ReferenceTable.{entryScanned};
+ghost use Rattle.readers.specs.EntryAttributes.{entryValues};
+ghost use Rattle.readers.specs.inner.EntryAttributes.{endBy};
 ghost use Rattle.readers.specs.declared.lists.ListOffset.the-variants.{At};
-use crate::root_test::EntryAttribute;
-use crate::root_test::NextAttribute;
-use crate::root_test::next_attribute;
 use readers::abbreviations::SpecStep;
+use readers::codes::DW_AT_location;
+use readers::codes::DW_AT_sibling;
+use readers::codes::DW_FORM_exprloc;
+use readers::codes::DW_FORM_loclistx;
+use readers::codes::DW_FORM_ref_addr;
+use readers::codes::DW_FORM_ref_udata;
+use readers::codes::DW_FORM_ref1;
+use readers::codes::DW_FORM_sec_offset;
+use readers::codes::DW_LLE_base_address;
+use readers::codes::DW_LLE_base_addressx;
+use readers::codes::DW_LLE_default_location;
 use readers::cursor::Cursor;
 use readers::cursor::Encoding;
 use readers::cursor::Moved;
+use readers::entry_attributes::EntryAttribute;
+use readers::entry_attributes::NextAttribute;
+use readers::entry_attributes::next_attribute;
 use readers::expressions::Walk;
 use readers::expressions::Yield;
 use readers::expressions::walk_expression;
@@ -26,7 +41,8 @@ use readers::offsets::UnitOffset;
 use readers::operations::ListEntry;
 use readers::operations::ListStep;
 
-// What a scan finds: the place past its last reference in the table, past the table's end where it has no room for all; or the number of a refusal.
+// What a scan finds: the place past its last reference in the table, past the table's end where it has no room for all;
+// or the number of a refusal.
 pub enum Scanned {
     To(usize),
     Refused(u8),
@@ -52,8 +68,11 @@ fn put(targets: &mut [u64], at: usize, target: UnitOffset) -> usize
 
 // Puts the references of a readable expression, one after the other.
 fn put_references(s: &[u8], e: Encoding, targets: &mut [u64], at: usize) -> usize
-    ensures place { λ r. ⌜ r ≡ placed (length (now (targets .entry))) at (offsetsOf (flatFrom e (now (s .entry)) 0)) ⌝ }
-    ensures table { λ _. ⌜ now (targets .exit) ≡ written (now (targets .entry)) at (offsetsOf (flatFrom e (now (s .entry)) 0)) ⌝ }
+    ensures { λ r. ⌜ (
+        let offsets = offsetsOf (flatFrom e (now (s .entry)) 0) in
+        (r ≡ placed (length (now (targets .entry))) at offsets)
+        × (now (targets .exit) ≡ written (now (targets .entry)) at offsets)
+        ) ⌝ }
 {
     let mut c = Cursor { at: 0 };
     let mut to = at;
@@ -68,8 +87,11 @@ fn put_references(s: &[u8], e: Encoding, targets: &mut [u64], at: usize) -> usiz
 
 // The references of an expression: 5 where it is unreadable, 7 where it names something by an offset in the section.
 fn scan_expression(s: &[u8], e: Encoding, targets: &mut [u64], at: usize) -> Scanned
-    ensures answer { λ r. ⌜ r ≡ scannedTo (length (now (targets .entry))) at (expressionFound e (now (s .entry))) ⌝ }
-    ensures table { λ _. ⌜ now (targets .exit) ≡ tableAfter (now (targets .entry)) at (expressionFound e (now (s .entry))) ⌝ }
+    ensures { λ r. ⌜ (
+        let found = expressionFound e (now (s .entry)) in
+        (r ≡ scannedTo (length (now (targets .entry))) at found)
+        × (now (targets .exit) ≡ tableAfter (now (targets .entry)) at found)
+        ) ⌝ }
 {
     let Walk::Walked {
         references: _,
@@ -84,18 +106,22 @@ fn scan_expression(s: &[u8], e: Encoding, targets: &mut [u64], at: usize) -> Sca
     Scanned::To(put_references(s, e, targets, at))
 }
 
-// The references of a location list's entry: base addresses have no expression, a default location has it first, the others third.
+// The references of a location list's entry: base addresses have no expression, a default location has it first, the
+// others third.
 fn scan_location(s: &[u8], x: ListEntry, e: Encoding, targets: &mut [u64], at: usize) -> Scanned
-    ensures answer { λ r. ⌜ r ≡ scannedTo (length (now (targets .entry))) at (locationFound e (now (s .entry)) x) ⌝ }
-    ensures table { λ _. ⌜ now (targets .exit) ≡ tableAfter (now (targets .entry)) at (locationFound e (now (s .entry)) x) ⌝ }
+    ensures { λ r. ⌜ (
+        let found = locationFound e (now (s .entry)) x in
+        (r ≡ scannedTo (length (now (targets .entry))) at found)
+        × (now (targets .exit) ≡ tableAfter (now (targets .entry)) at found)
+        ) ⌝ }
 {
-    if x.kind == 1 {
+    if x.kind == DW_LLE_base_addressx {
         return Scanned::To(at);
     }
-    if x.kind == 6 {
+    if x.kind == DW_LLE_base_address {
         return Scanned::To(at);
     }
-    if x.kind == 5 {
+    if x.kind == DW_LLE_default_location {
         let first = x.first;
         return scan_expression(first.expression(s), e, targets, at);
     }
@@ -111,8 +137,11 @@ fn scan_loclist_for_refs(
     targets: &mut [u64],
     at: usize,
 ) -> Scanned
-    ensures answer { λ r. ⌜ r ≡ scannedTo (length (now (targets .entry))) at (listFound e (now (s .entry)) (At start)) ⌝ }
-    ensures table { λ _. ⌜ now (targets .exit) ≡ tableAfter (now (targets .entry)) at (listFound e (now (s .entry)) (At start)) ⌝ }
+    ensures { λ r. ⌜ (
+        let found = listFound e (now (s .entry)) (At start) in
+        (r ≡ scannedTo (length (now (targets .entry))) at found)
+        × (now (targets .exit) ≡ tableAfter (now (targets .entry)) at found)
+        ) ⌝ }
 {
     let mut c = start;
     let mut to = at;
@@ -148,8 +177,11 @@ fn scan_loclist_at(
     targets: &mut [u64],
     at: usize,
 ) -> Scanned
-    ensures answer { λ r. ⌜ r ≡ scannedTo (length (now (targets .entry))) at (listFound e (now (s .entry)) start) ⌝ }
-    ensures table { λ _. ⌜ now (targets .exit) ≡ tableAfter (now (targets .entry)) at (listFound e (now (s .entry)) start) ⌝ }
+    ensures { λ r. ⌜ (
+        let found = listFound e (now (s .entry)) start in
+        (r ≡ scannedTo (length (now (targets .entry))) at found)
+        × (now (targets .exit) ≡ tableAfter (now (targets .entry)) at found)
+        ) ⌝ }
 {
     match start {
         ListOffset::At(c) => scan_loclist_for_refs(s, c, e, targets, at),
@@ -167,30 +199,34 @@ fn scan_attribute(
     targets: &mut [u64],
     at: usize,
 ) -> Scanned
-    ensures answer { λ r. ⌜ r ≡ scannedTo (length (now (targets .entry))) at (attributeFound e (locationsBy (now (unit .entry)) (now (locations .entry)) «loclists_base») (valuedBy a)) ⌝ }
-    ensures table { λ _. ⌜ now (targets .exit) ≡ tableAfter (now (targets .entry)) at (attributeFound e (locationsBy (now (unit .entry)) (now (locations .entry)) «loclists_base») (valuedBy a)) ⌝ }
+    ensures { λ r. ⌜ (
+        let lists = locationsBy (now (unit .entry)) (now (locations .entry)) «loclists_base» in
+        let found = attributeFound e lists (valuedBy a) in
+        (r ≡ scannedTo (length (now (targets .entry))) at found)
+        × (now (targets .exit) ≡ tableAfter (now (targets .entry)) at found)
+        ) ⌝ }
 {
     let v = a.value;
     let field = v.field;
     let form = v.form;
-    if a.name == 0x01 {
+    if a.name == DW_AT_sibling {
         return Scanned::To(at);
     }
-    if a.declared == 0x10 {
+    if a.declared == DW_FORM_ref_addr {
         return Scanned::Refused(7);
     }
-    if form == 0x18 {
+    if form == DW_FORM_exprloc {
         return scan_expression(field.expression(unit), e, targets, at);
     }
-    if form >= 0x11 {
-        if form <= 0x15 {
+    if form >= DW_FORM_ref1 {
+        if form <= DW_FORM_ref_udata {
             return Scanned::To(put(targets, at, UnitOffset(field.value)));
         }
     }
-    if a.name != 0x02 {
+    if a.name != DW_AT_location {
         return Scanned::To(at);
     }
-    if form == 0x22 {
+    if form == DW_FORM_loclistx {
         return scan_loclist_at(
             locations,
             list_offset(locations, loclists_base, field.value, e),
@@ -199,7 +235,7 @@ fn scan_attribute(
             at,
         );
     }
-    if form == 0x17 {
+    if form == DW_FORM_sec_offset {
         return scan_loclist_at(
             locations,
             list_start(locations, field.value),
@@ -211,7 +247,8 @@ fn scan_attribute(
     Scanned::To(at)
 }
 
-// Where the values of an entry end, by the place that no attribute was read at: there, if its specifications end there too; else it is unreadable.
+// Where the values of an entry end, by the place that no attribute was read at: there, if its specifications end there
+// too; else it is unreadable.
 fn values_end(abbreviations: &[u8], specs: Cursor, values: Cursor) -> Moved
     ensures { λ r. ⌜ r ≡ endBy (values .at) (specAt (now (abbreviations .entry)) (specs .at)) ⌝ }
 {
@@ -222,7 +259,8 @@ fn values_end(abbreviations: &[u8], specs: Cursor, values: Cursor) -> Moved
     }
 }
 
-// The references of an entry, in attribute order: each as a 64-bit offset, repeats and dangling ones included. 5 and 7 as they are met.
+// The references of an entry, in attribute order: each as a 64-bit offset, repeats and dangling ones included. 5 and 7
+// as they are met.
 pub fn scan_live_die_attrs(
     unit: &[u8],
     abbreviations: &[u8],
@@ -234,8 +272,14 @@ pub fn scan_live_die_attrs(
     targets: &mut [u64],
     at: usize,
 ) -> EntryScan
-    ensures answer { λ r. ⌜ r ≡ entryScanned (scannedTo (length (now (targets .entry))) at (attributesFound e (locationsBy (now (unit .entry)) (now (locations .entry)) «loclists_base») (entryValues e (now (abbreviations .entry)) (specs .at) (now (unit .entry)) (values .at)))) (valuesAt e (now (abbreviations .entry)) (specs .at) (now (unit .entry)) (values .at)) ⌝ }
-    ensures table { λ _. ⌜ now (targets .exit) ≡ tableAfter (now (targets .entry)) at (attributesFound e (locationsBy (now (unit .entry)) (now (locations .entry)) «loclists_base») (entryValues e (now (abbreviations .entry)) (specs .at) (now (unit .entry)) (values .at))) ⌝ }
+    ensures { λ r. ⌜ (
+        let lists = locationsBy (now (unit .entry)) (now (locations .entry)) «loclists_base» in
+        let attributes = entryValues e (now (abbreviations .entry)) (specs .at) (now (unit .entry)) (values .at) in
+        let end = valuesAt e (now (abbreviations .entry)) (specs .at) (now (unit .entry)) (values .at) in
+        let found = attributesFound e lists attributes in
+        (r ≡ entryScanned (scannedTo (length (now (targets .entry))) at found) end)
+        × (now (targets .exit) ≡ tableAfter (now (targets .entry)) at found)
+        ) ⌝ }
 {
     let mut p = specs;
     let mut c = values;

@@ -1,68 +1,182 @@
-// The root test of an entry, over its attributes.
+// The root test of an entry: what is live by itself, then over the attributes of an entry. ranges_has_live_entry,
+// location_expr_live and is_root have the names of their originals in gc.rs.
 ghost use mathlib.Core.Path.{_≡_};
-ghost use Rattle.marking.specs.Roots.{nextAttribute, lowPcs, locations, otherRanges, rangesBy, firstRanges, rootTest, baseAfter, entryValues};
-use crate::roots::RangeTurn;
-use crate::roots::Verdict;
-use crate::roots::location_expr_live;
-use crate::roots::low_pc;
-use crate::roots::range_entry;
-use crate::roots::ranges_has_live_entry;
+ghost use Rattle.marking.specs.Roots.{turnOf, rangeEntry, olderLive, locationLive, lowPc};
+ghost use Rattle.marking.specs.Roots.{lowPcs, locations, otherRanges, rangesBy, firstRanges};
+ghost use Rattle.readers.specs.EntryAttributes.{nextAttribute, entryValues};
+ghost use Rattle.marking.specs.Roots.{rootTest, baseAfter};
+ghost use Rattle.readers.specs.declared.lists.ListOffset.the-variants.{At};
+use crate::addresses::AddressLookup;
+use crate::addresses::is_tombstone;
+use crate::addresses::lookup;
 use readers::abbreviations::SpecStep;
 use readers::attributes::Attribute;
 use readers::attributes::AttributeRead;
+use readers::codes::DW_AT_location;
+use readers::codes::DW_AT_low_pc;
+use readers::codes::DW_AT_ranges;
+use readers::codes::DW_FORM_addr;
+use readers::codes::DW_FORM_addrx;
+use readers::codes::DW_FORM_addrx1;
+use readers::codes::DW_FORM_addrx4;
+use readers::codes::DW_FORM_exprloc;
+use readers::codes::DW_FORM_rnglistx;
+use readers::codes::DW_FORM_sec_offset;
+use readers::codes::DW_RLE_base_address;
+use readers::codes::DW_RLE_base_addressx;
+use readers::codes::DW_RLE_offset_pair;
+use readers::codes::DW_RLE_startx_length;
+use readers::codes::DW_TAG_compile_unit;
+use readers::codes::DW_TAG_subprogram;
+use readers::codes::DW_TAG_variable;
 use readers::cursor::Cursor;
 use readers::cursor::Encoding;
+use readers::entry_attributes::NextAttribute;
+use readers::entry_attributes::next_attribute;
+use readers::layouts::ROW_ADDRESS_INDEX;
 use readers::lists::ListOffset;
 use readers::lists::list_offset;
 use readers::lists::list_start;
+use readers::operations::ListEntry;
 use readers::operations::ListStep;
+use readers::operations::OperationRead;
 
-// An attribute of an entry: its name, the form that it is declared with, its value, the cursor past its specification, and the cursor past its value.
-pub struct EntryAttribute {
-    pub name: u64,
-    pub declared: u64,
-    pub value: Attribute,
-    pub next: Cursor,
-    pub values: Cursor,
+// ---- an address, a list, an expression
+
+// What a test of liveness finds: live, dead, or the number of a refusal.
+pub enum Verdict {
+    Live,
+    Dead,
+    Refused(u8),
 }
 
-pub enum NextAttribute {
-    More(EntryAttribute),
-    NoMore,
+// What an entry of a range list does: the list goes on, and whether its latest base is dead; or it is decided.
+pub enum RangeTurn {
+    On(bool),
+    Decided(Verdict),
 }
 
-// The attribute at a specification and a value of an entry; none where one of them can't be read.
-pub fn next_attribute(
-    unit: &[u8],
-    abbreviations: &[u8],
-    specs: Cursor,
-    values: Cursor,
-    e: Encoding,
-) -> NextAttribute
-    ensures { λ r. ⌜ r ≡ nextAttribute e (now (abbreviations .entry)) (specs .at) (now (unit .entry)) (values .at) ⌝ }
+// An entry of a range list, whose latest base was dead or not: one turn of gc.rs's `rnglist_has_live_entry`, whose loop
+// is in first_ranges.
+pub fn range_entry(table: &[u8], dead: bool, x: ListEntry, e: Encoding) -> RangeTurn
+    ensures { λ r. ⌜ r ≡ turnOf (rangeEntry e (now (table .entry)) dead x) ⌝ }
 {
-    match specs.attribute_spec(abbreviations) {
-        SpecStep::Attribute(a) => {
-            let AttributeRead::Read(value) = values.attribute(unit, a.name, a.form, e) else {
-                return NextAttribute::NoMore;
-            };
-            let name = a.name;
-            let declared = a.form;
-            let next = a.next;
-            let field = value.field;
-            let values = field.next();
-            NextAttribute::More(EntryAttribute {
-                name,
-                declared,
-                value,
-                next,
-                values,
-            })
+    let first = x.first;
+    let kind = x.kind;
+    if kind == DW_RLE_base_addressx {
+        return match lookup(table, first.value) {
+            AddressLookup::Live => RangeTurn::On(false),
+            AddressLookup::Dead => RangeTurn::On(true),
+            AddressLookup::Fails => RangeTurn::Decided(Verdict::Refused(6)),
+        };
+    }
+    if kind <= DW_RLE_startx_length {
+        return match lookup(table, first.value) {
+            AddressLookup::Live => RangeTurn::Decided(Verdict::Live),
+            AddressLookup::Dead => RangeTurn::On(dead),
+            AddressLookup::Fails => RangeTurn::Decided(Verdict::Refused(6)),
+        };
+    }
+    if kind == DW_RLE_offset_pair {
+        if dead {
+            return RangeTurn::On(dead);
         }
-        SpecStep::Last(_) => NextAttribute::NoMore,
-        SpecStep::Unreadable => NextAttribute::NoMore,
+        return RangeTurn::Decided(Verdict::Live);
+    }
+    let left_out = is_tombstone(first.value, e.address_size);
+    if kind == DW_RLE_base_address {
+        return RangeTurn::On(left_out);
+    }
+    if left_out {
+        return RangeTurn::On(dead);
+    }
+    RangeTurn::Decided(Verdict::Live)
+}
+
+// The older test of a range list: base_address is skipped, every other entry is live.
+pub fn ranges_has_live_entry(ranges: &[u8], start: Cursor, e: Encoding) -> Verdict
+    ensures { λ r. ⌜ r ≡ olderLive e (now (ranges .entry)) (At start) ⌝ }
+{
+    let mut c = start;
+    loop {
+        match c.list_entry(ranges, false, e) {
+            ListStep::Entry(x) => {
+                if x.kind != DW_RLE_base_address {
+                    return Verdict::Live;
+                }
+                c = x.next;
+            }
+            ListStep::End => {
+                return Verdict::Dead;
+            }
+            ListStep::Unreadable => {
+                return Verdict::Refused(5);
+            }
+        }
     }
 }
+
+// Whether a variable's location holds a live index of the address table. It is read to its end; nested entry values are
+// stepped over.
+pub fn location_expr_live(s: &[u8], table: &[u8], e: Encoding) -> Verdict
+    ensures { λ r. ⌜ r ≡ locationLive e (now (table .entry)) (now (s .entry)) ⌝ }
+{
+    let mut c = Cursor { at: 0 };
+    let mut live = false;
+    while c.at < s.len() {
+        let OperationRead::Read(op) = c.operation(s, e) else {
+            return Verdict::Refused(5);
+        };
+        let row = op.row;
+        let first = op.first;
+        let next = op.next;
+        if row == ROW_ADDRESS_INDEX {
+            match lookup(table, first.value) {
+                AddressLookup::Live => {
+                    live = true;
+                }
+                AddressLookup::Dead => {}
+                AddressLookup::Fails => {
+                    return Verdict::Refused(6);
+                }
+            }
+        }
+        c = next;
+    }
+    if live {
+        return Verdict::Live;
+    }
+    Verdict::Dead
+}
+
+// A low_pc: an index asks the table, an address the tombstone test, any other form is live.
+pub fn low_pc(v: Attribute, table: &[u8], e: Encoding) -> Verdict
+    ensures { λ r. ⌜ r ≡ lowPc e (now (table .entry)) v ⌝ }
+{
+    let field = v.field;
+    let form = v.form;
+    if form == DW_FORM_addr {
+        if is_tombstone(field.value, e.address_size) {
+            return Verdict::Dead;
+        }
+        return Verdict::Live;
+    }
+    if form != DW_FORM_addrx {
+        if form < DW_FORM_addrx1 {
+            return Verdict::Live;
+        }
+        if form > DW_FORM_addrx4 {
+            return Verdict::Live;
+        }
+    }
+    match lookup(table, field.value) {
+        AddressLookup::Live => Verdict::Live,
+        AddressLookup::Dead => Verdict::Dead,
+        AddressLookup::Fails => Verdict::Refused(6),
+    }
+}
+
+// ---- over the attributes of an entry
 
 // Each low_pc of an entry in turn.
 pub fn low_pcs(
@@ -73,7 +187,10 @@ pub fn low_pcs(
     table: &[u8],
     e: Encoding,
 ) -> Verdict
-    ensures { λ r. ⌜ r ≡ lowPcs e (now (table .entry)) (entryValues e (now (abbreviations .entry)) (specs .at) (now (unit .entry)) (values .at)) ⌝ }
+    ensures { λ r. ⌜ (
+        let attributes = entryValues e (now (abbreviations .entry)) (specs .at) (now (unit .entry)) (values .at) in
+        r ≡ lowPcs e (now (table .entry)) attributes
+        ) ⌝ }
 {
     let mut p = specs;
     let mut c = values;
@@ -84,7 +201,7 @@ pub fn low_pcs(
         let v = a.value;
         let next = a.next;
         let past = a.values;
-        if a.name == 0x11 {
+        if a.name == DW_AT_low_pc {
             match low_pc(v, table, e) {
                 Verdict::Live => {
                     return Verdict::Live;
@@ -109,7 +226,10 @@ pub fn locations_live(
     table: &[u8],
     e: Encoding,
 ) -> Verdict
-    ensures { λ r. ⌜ r ≡ locations e (now (table .entry)) (now (unit .entry)) (entryValues e (now (abbreviations .entry)) (specs .at) (now (unit .entry)) (values .at)) ⌝ }
+    ensures { λ r. ⌜ (
+        let attributes = entryValues e (now (abbreviations .entry)) (specs .at) (now (unit .entry)) (values .at) in
+        r ≡ locations e (now (table .entry)) (now (unit .entry)) attributes
+        ) ⌝ }
 {
     let mut p = specs;
     let mut c = values;
@@ -121,8 +241,8 @@ pub fn locations_live(
         let field = v.field;
         let next = a.next;
         let past = a.values;
-        if a.name == 0x02 {
-            if v.form == 0x18 {
+        if a.name == DW_AT_location {
+            if v.form == DW_FORM_exprloc {
                 match location_expr_live(field.expression(unit), table, e) {
                     Verdict::Live => {
                         return Verdict::Live;
@@ -139,12 +259,13 @@ pub fn locations_live(
     }
 }
 
-// Ranges that are not in rnglistx: a section offset from the base by the older test; what can't be resolved, and any other form, is live.
+// Ranges that are not in rnglistx: a section offset from the base by the older test; what can't be resolved, and any
+// other form, is live.
 pub fn other_ranges(v: Attribute, ranges: &[u8], ranges_base: u64, e: Encoding) -> Verdict
     ensures { λ r. ⌜ r ≡ otherRanges e (now (ranges .entry)) «ranges_base» v ⌝ }
 {
     let field = v.field;
-    if v.form != 0x17 {
+    if v.form != DW_FORM_sec_offset {
         return Verdict::Live;
     }
     let len = ranges.len() as u64;
@@ -161,8 +282,8 @@ pub fn other_ranges(v: Attribute, ranges: &[u8], ranges_base: u64, e: Encoding) 
     ranges_has_live_entry(ranges, start, e)
 }
 
-// The first ranges attribute of an entry. Its list is read as gc.rs's `rnglist_has_live_entry` does, entry by entry: what decides it leaves the list and the
-// attributes with the verdict.
+// The first ranges attribute of an entry. Its list is read as gc.rs's `rnglist_has_live_entry` does, entry by entry:
+// what decides it leaves the list and the attributes with the verdict.
 pub fn first_ranges(
     unit: &[u8],
     abbreviations: &[u8],
@@ -174,7 +295,11 @@ pub fn first_ranges(
     rnglists_base: u64,
     e: Encoding,
 ) -> Verdict
-    ensures { λ r. ⌜ r ≡ firstRanges e (rangesBy (now (ranges .entry)) (now (table .entry)) «ranges_base» «rnglists_base») (entryValues e (now (abbreviations .entry)) (specs .at) (now (unit .entry)) (values .at)) ⌝ }
+    ensures { λ r. ⌜ (
+        let lists = rangesBy (now (ranges .entry)) (now (table .entry)) «ranges_base» «rnglists_base» in
+        let attributes = entryValues e (now (abbreviations .entry)) (specs .at) (now (unit .entry)) (values .at) in
+        r ≡ firstRanges e lists attributes
+        ) ⌝ }
 {
     let mut p = specs;
     let mut c = values;
@@ -187,8 +312,8 @@ pub fn first_ranges(
         let field = v.field;
         let next = a.next;
         let past = a.values;
-        if a.name == 0x55 {
-            if v.form != 0x23 {
+        if a.name == DW_AT_ranges {
+            if v.form != DW_FORM_rnglistx {
                 return other_ranges(v, ranges, ranges_base, e);
             }
             let ListOffset::At(start) = list_offset(ranges, rnglists_base, field.value, e) else {
@@ -226,7 +351,8 @@ pub fn first_ranges(
     verdict
 }
 
-// The root test of an entry with a tag (gc.rs: `is_root`): a subprogram by its low_pc and its ranges, a variable by its location; other tags never.
+// The root test of an entry with a tag (gc.rs: `is_root`): a subprogram by its low_pc and its ranges, a variable by its
+// location; other tags never.
 pub fn is_root(
     unit: &[u8],
     abbreviations: &[u8],
@@ -239,9 +365,13 @@ pub fn is_root(
     rnglists_base: u64,
     e: Encoding,
 ) -> Verdict
-    ensures { λ r. ⌜ r ≡ rootTest e (rangesBy (now (ranges .entry)) (now (table .entry)) «ranges_base» «rnglists_base») (now (unit .entry)) tag (entryValues e (now (abbreviations .entry)) (specs .at) (now (unit .entry)) (values .at)) ⌝ }
+    ensures { λ r. ⌜ (
+        let lists = rangesBy (now (ranges .entry)) (now (table .entry)) «ranges_base» «rnglists_base» in
+        let attributes = entryValues e (now (abbreviations .entry)) (specs .at) (now (unit .entry)) (values .at) in
+        r ≡ rootTest e lists (now (unit .entry)) tag attributes
+        ) ⌝ }
 {
-    if tag == 0x2e {
+    if tag == DW_TAG_subprogram {
         return match low_pcs(unit, abbreviations, specs, values, table, e) {
             Verdict::Live => Verdict::Live,
             Verdict::Dead => first_ranges(
@@ -258,13 +388,14 @@ pub fn is_root(
             Verdict::Refused(n) => Verdict::Refused(n),
         };
     }
-    if tag == 0x34 {
+    if tag == DW_TAG_variable {
         return locations_live(unit, abbreviations, specs, values, table, e);
     }
     Verdict::Dead
 }
 
-// A list base after an entry with a tag: a compile unit's own attribute of that name in sec_offset replaces it; of several the last counts.
+// A list base after an entry with a tag: a compile unit's own attribute of that name in sec_offset replaces it; of
+// several the last counts.
 pub fn base_after(
     unit: &[u8],
     abbreviations: &[u8],
@@ -275,9 +406,12 @@ pub fn base_after(
     base: u64,
     e: Encoding,
 ) -> u64
-    ensures { λ r. ⌜ r ≡ baseAfter name base tag (entryValues e (now (abbreviations .entry)) (specs .at) (now (unit .entry)) (values .at)) ⌝ }
+    ensures { λ r. ⌜ (
+        let attributes = entryValues e (now (abbreviations .entry)) (specs .at) (now (unit .entry)) (values .at) in
+        r ≡ baseAfter name base tag attributes
+        ) ⌝ }
 {
-    if tag != 0x11 {
+    if tag != DW_TAG_compile_unit {
         return base;
     }
     let mut p = specs;
@@ -292,7 +426,7 @@ pub fn base_after(
         let next = a.next;
         let past = a.values;
         if a.name == name {
-            if v.form == 0x17 {
+            if v.form == DW_FORM_sec_offset {
                 latest = field.value;
             }
         }

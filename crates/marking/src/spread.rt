@@ -1,17 +1,17 @@
-// The marks of a unit spread by a work list, so that the rounds that follow find nothing to do. What is proved of it is that each mark it raises is
-// justified; that it raises all of them is left to the rounds. So nothing is known of what the work column holds: each number taken from it is tested.
-ghost use mathlib.Core.Path.{_≡_};
+// The marks of a unit spread by a work list, so that the rounds that follow find nothing to do. What is proved of it is
+// that each mark it raises is justified; that it raises all of them is left to the rounds. So nothing is known of what
+// the work column holds: each number taken from it is tested.
 ghost use Prim.Native.Nat.{_/_, _<_, _≤_};
 ghost use lib.ListN.{length};
-ghost use Rattle.marking.specs.Passes.{WithParents, WithBoth, ParentsFit, PairsFit, Spread};
+ghost use Rattle.marking.specs.inner.Passes.{WithParents, WithBoth, ParentsFit, PairsFit, Spread};
 use crate::columns::place;
-use crate::marks::along_at;
-use crate::marks::down;
-use crate::marks::down_at;
-use crate::marks::up_at;
+use crate::rules::along_at;
+use crate::rules::down;
+use crate::rules::down_at;
+use crate::rules::up_at;
 use readers::offsets::EntryIndex;
 
-// ---- the work column: for each entry the end of its descendants, then a stack of entries; `top` is the place past the stack
+// ---- the work column: for each entry the end of its descendants, then a stack of entries; `top` is past the stack
 
 // The index past the last entry of a column of so many; of one that is longer than indexes reach, the last index.
 fn past_last(entries: usize) -> EntryIndex
@@ -179,7 +179,8 @@ fn follow_at(
     requires { ⌜ ParentsFit (now parents) (now marks) ⌝ }
     requires { ⌜ PairsFit (now pairs) (now marks) ⌝ }
     requires { ⌜ j < length (now pairs) / 2 ⌝ }
-    ensures { λ _. ⌜ Spread (WithBoth (now (parents .entry)) (now (pairs .entry))) (now (marks .entry)) (now (marks .exit)) ⌝ }
+    ensures { λ _. ⌜ Spread (WithBoth (now (parents .entry)) (now (pairs .entry)))
+        (now (marks .entry)) (now (marks .exit)) ⌝ }
 {
     let t = EntryIndex(pairs[2 * j + 1]);
     let at = place(t);
@@ -221,7 +222,8 @@ fn follow(
 ) -> usize
     requires { ⌜ ParentsFit (now parents) (now marks) ⌝ }
     requires { ⌜ PairsFit (now pairs) (now marks) ⌝ }
-    ensures { λ _. ⌜ Spread (WithBoth (now (parents .entry)) (now (pairs .entry))) (now (marks .entry)) (now (marks .exit)) ⌝ }
+    ensures { λ _. ⌜ Spread (WithBoth (now (parents .entry)) (now (pairs .entry)))
+        (now (marks .entry)) (now (marks .exit)) ⌝ }
 {
     let n = pairs.len() / 2;
     let mut to = top;
@@ -242,7 +244,8 @@ fn follow(
 fn visit(parents: &[u32], pairs: &[u32], marks: &mut [u8], work: &mut [u32], top: usize) -> usize
     requires { ⌜ ParentsFit (now parents) (now marks) ⌝ }
     requires { ⌜ PairsFit (now pairs) (now marks) ⌝ }
-    ensures { λ _. ⌜ Spread (WithBoth (now (parents .entry)) (now (pairs .entry))) (now (marks .entry)) (now (marks .exit)) ⌝ }
+    ensures { λ _. ⌜ Spread (WithBoth (now (parents .entry)) (now (pairs .entry)))
+        (now (marks .entry)) (now (marks .exit)) ⌝ }
 {
     if top >= work.len() {
         return top;
@@ -255,11 +258,13 @@ fn visit(parents: &[u32], pairs: &[u32], marks: &mut [u8], work: &mut [u32], top
     lift(parents, marks, work, i, to)
 }
 
-// Entries are taken off the stack until it is empty. Each was put there once, when it was first kept, so as many turns as entries are enough.
+// Entries are taken off the stack until it is empty. Each was put there once, when it was first kept, so as many turns
+// as entries are enough.
 fn visit_all(parents: &[u32], pairs: &[u32], marks: &mut [u8], work: &mut [u32], top: usize)
     requires { ⌜ ParentsFit (now parents) (now marks) ⌝ }
     requires { ⌜ PairsFit (now pairs) (now marks) ⌝ }
-    ensures { λ _. ⌜ Spread (WithBoth (now (parents .entry)) (now (pairs .entry))) (now (marks .entry)) (now (marks .exit)) ⌝ }
+    ensures { λ _. ⌜ Spread (WithBoth (now (parents .entry)) (now (pairs .entry)))
+        (now (marks .entry)) (now (marks .exit)) ⌝ }
 {
     let mut to = top;
     let mut i = 0;
@@ -272,11 +277,13 @@ fn visit_all(parents: &[u32], pairs: &[u32], marks: &mut [u8], work: &mut [u32],
     }
 }
 
-// Spreads the marks that `start` left. The work column is lent as zeros; where it has not two places an entry nothing is done.
+// Spreads the marks that `start` left. The work column is lent as zeros; where it has not two places an entry nothing
+// is done.
 pub(crate) fn spread(parents: &[u32], pairs: &[u32], marks: &mut [u8], work: &mut [u32])
     requires { ⌜ ParentsFit (now parents) (now marks) ⌝ }
     requires { ⌜ PairsFit (now pairs) (now marks) ⌝ }
-    ensures { λ _. ⌜ Spread (WithBoth (now (parents .entry)) (now (pairs .entry))) (now (marks .entry)) (now (marks .exit)) ⌝ }
+    ensures { λ _. ⌜ Spread (WithBoth (now (parents .entry)) (now (pairs .entry)))
+        (now (marks .entry)) (now (marks .exit)) ⌝ }
 {
     if work.len() / 2 < marks.len() {
         return;

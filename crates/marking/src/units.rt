@@ -5,17 +5,20 @@ ghost use mathlib.Core.List.{List};
 ghost use lib.ListN.{length, take, drop};
 ghost use Rattle.readers.specs.Choice.{zeros};
 ghost use Rattle.readers.specs.Header.{headerOf};
-ghost use Rattle.marking.specs.Analysis.{Row, analysed, sections, analysisOf};
-ghost use Rattle.marking.specs.Columns.{padTo, column, offsetsIn, parentsIn, rootsIn, endsIn, namesIn, unitRooms, indexAfter};
-ghost use Rattle.marking.specs.Resolution.{asEntry, entryFrom, pairsOfEntry, pairsIn, marksIn, unitMarks, put, Searched, Ready, Held, Resolvable, Laid, Markable};
+ghost use Rattle.marking.specs.Analysis.{EntryRow, analysed, sections, analysisOf};
+ghost use Rattle.marking.specs.Columns.{padTo, column, offsetsIn, parentsIn, rootsIn, endsIn, namesIn, unitRooms};
+ghost use Rattle.marking.specs.inner.Columns.{put};
+ghost use Rattle.marking.specs.Columns.{indexAfter};
+ghost use Rattle.marking.specs.Resolution.{entryFrom, pairsOfEntry, pairsIn, marksIn, unitMarks};
+ghost use Rattle.marking.specs.inner.Resolution.{asEntry, Searched, ResolveInput, ReferenceColumns, Resolvable, UnitColumns, Markable};
 use crate::analysis::Analysis;
 use crate::analysis::analyse;
-use crate::columns::clear_bytes;
-use crate::columns::clear_indexes;
 use crate::marks::Marked;
 use crate::marks::mark_with;
 use readers::offsets::EntryIndex;
 use readers::offsets::UnitOffset;
+use readers::tables::clear_bytes;
+use readers::tables::clear_indexes;
 
 // What marking a unit answers: how many entries it has and how many are kept, or the number of a refusal.
 pub enum UnitMarks {
@@ -62,9 +65,12 @@ fn resolve_entry(
     pairs: &mut [u32],
     at: usize,
 ) -> usize
-    requires { ⌜ Ready (now offsets) entries (now targets) from to (now pairs) at ⌝ }
-    ensures answer { λ r. ⌜ 2 * r ≡ 2 * at + length (pairsOfEntry (take entries (now (offsets .entry))) (holder .0) (take (to - from) (drop from (now (targets .entry))))) ⌝ }
-    ensures filled { λ r. ⌜ now (pairs .exit) ≡ put (now (pairs .entry)) (2 * at) (pairsOfEntry (take entries (now (offsets .entry))) (holder .0) (take (to - from) (drop from (now (targets .entry))))) ⌝ }
+    requires { ⌜ ResolveInput (now offsets) entries (now targets) from to (now pairs) at ⌝ }
+    ensures { λ r. ⌜ (
+        let names = take (to - from) (drop from (now (targets .entry))) in
+        let found = pairsOfEntry (take entries (now (offsets .entry))) (holder .0) names in
+        (2 * r ≡ 2 * at + length found) × (now (pairs .exit) ≡ put (now (pairs .entry)) (2 * at) found)
+        ) ⌝ }
 {
     let mut place = at;
     let mut j = from;
@@ -85,21 +91,27 @@ fn resolve_entry(
 // The pairs of all references.
 fn resolve(
     offsets: &[u64],
-    ends: &[u64],
+    reference_ends: &[u64],
     entries: usize,
     targets: &[u64],
     pairs: &mut [u32],
 ) -> usize
-    requires { ⌜ Resolvable (now offsets) (now ends) entries (now targets) (now pairs) ⌝ }
-    ensures answer { λ r. ⌜ ((rows : List Row) → Held rows (now (offsets .entry)) (now (ends .entry)) entries (now (targets .entry)) (now (pairs .entry)) → 2 * r ≡ length (pairsIn rows)) ⌝ }
-    ensures filled { λ r. ⌜ ((rows : List Row) → Held rows (now (offsets .entry)) (now (ends .entry)) entries (now (targets .entry)) (now (pairs .entry)) → now (pairs .exit) ≡ padTo (length (now (pairs .entry))) (pairsIn rows)) ⌝ }
+    requires { ⌜ Resolvable (now offsets) (now «reference_ends») entries (now targets) (now pairs) ⌝ }
+    ensures answer { λ r. ⌜ ((rows : List EntryRow)
+        → ReferenceColumns rows (now (offsets .entry)) (now («reference_ends» .entry)) entries
+        (now (targets .entry)) (now (pairs .entry))
+        → 2 * r ≡ length (pairsIn rows)) ⌝ }
+    ensures filled { λ r. ⌜ ((rows : List EntryRow)
+        → ReferenceColumns rows (now (offsets .entry)) (now («reference_ends» .entry)) entries
+        (now (targets .entry)) (now (pairs .entry))
+        → now (pairs .exit) ≡ padTo (length (now (pairs .entry))) (pairsIn rows)) ⌝ }
 {
     let mut place: usize = 0;
     let mut from: usize = 0;
     let mut i = EntryIndex(0);
     while (i.0 as usize) < entries {
         let k = i.0 as usize;
-        let to = ends[k] as usize;
+        let to = reference_ends[k] as usize;
         place = resolve_entry(offsets, entries, targets, from, to, i, pairs, place);
         from = to;
         i = EntryIndex(i.0 + 1);
@@ -112,20 +124,33 @@ fn mark_rows(
     offsets: &[u64],
     parents: &[u32],
     roots: &[u8],
-    ends: &[u64],
+    reference_ends: &[u64],
     entries: usize,
     marks: &mut [u8],
     targets: &[u64],
     pairs: &mut [u32],
     work: &mut [u32],
 ) -> UnitMarks
-    requires { ⌜ Markable (now offsets) (now parents) (now roots) (now ends) entries (now marks) (now targets) (now pairs) ⌝ }
-    ensures answer { λ r. ⌜ ((rows : List Row) → Laid rows (now (offsets .entry)) (now (parents .entry)) (now (roots .entry)) (now (ends .entry)) entries (now (marks .entry)) (now (targets .entry)) (now (pairs .entry)) → r ≡ unitMarks (analysed rows)) ⌝ }
-    ensures marks { λ r. ⌜ ((rows : List Row) → Laid rows (now (offsets .entry)) (now (parents .entry)) (now (roots .entry)) (now (ends .entry)) entries (now (marks .entry)) (now (targets .entry)) (now (pairs .entry)) → now (marks .exit) ≡ padTo (length (now (marks .entry))) (marksIn rows)) ⌝ }
-    ensures pairs { λ r. ⌜ ((rows : List Row) → Laid rows (now (offsets .entry)) (now (parents .entry)) (now (roots .entry)) (now (ends .entry)) entries (now (marks .entry)) (now (targets .entry)) (now (pairs .entry)) → now (pairs .exit) ≡ padTo (length (now (pairs .entry))) (pairsIn rows)) ⌝ }
+    requires { ⌜ Markable (now offsets) (now parents) (now roots) (now «reference_ends») entries (now marks)
+        (now targets) (now pairs) ⌝ }
+    ensures answer { λ r. ⌜ ((rows : List EntryRow)
+        → UnitColumns rows (now (offsets .entry)) (now (parents .entry)) (now (roots .entry))
+        (now («reference_ends» .entry)) entries
+        (now (marks .entry)) (now (targets .entry)) (now (pairs .entry))
+        → r ≡ unitMarks (analysed rows)) ⌝ }
+    ensures marks { λ r. ⌜ ((rows : List EntryRow)
+        → UnitColumns rows (now (offsets .entry)) (now (parents .entry)) (now (roots .entry))
+        (now («reference_ends» .entry)) entries
+        (now (marks .entry)) (now (targets .entry)) (now (pairs .entry))
+        → now (marks .exit) ≡ padTo (length (now (marks .entry))) (marksIn rows)) ⌝ }
+    ensures pairs { λ r. ⌜ ((rows : List EntryRow)
+        → UnitColumns rows (now (offsets .entry)) (now (parents .entry)) (now (roots .entry))
+        (now («reference_ends» .entry)) entries
+        (now (marks .entry)) (now (targets .entry)) (now (pairs .entry))
+        → now (pairs .exit) ≡ padTo (length (now (pairs .entry))) (pairsIn rows)) ⌝ }
     ensures work { λ _. ⌜ now (work .exit) ≡ zeros (length (now (work .entry))) ⌝ }
 {
-    let n = resolve(offsets, ends, entries, targets, pairs);
+    let n = resolve(offsets, reference_ends, entries, targets, pairs);
     let m = 2 * n;
     let marked = mark_with(
         &parents[..entries],
@@ -141,8 +166,9 @@ fn mark_rows(
     }
 }
 
-// Marks the entries of the first unit of a section: 1 dead, 2 retained, 3 live. The columns are those of `analyse`, with the marks among those of the entry table and the
-// pairs among those of the reference table, two numbers each. A refusal is the analysis's, and leaves zeros. The work column is scratch, zeros on every answer; its length, best two
+// Marks the entries of the first unit of a section: 1 dead, 2 retained, 3 live. The columns are those of `analyse`,
+// with the marks among those of the entry table and the pairs among those of the reference table, two numbers each. A
+// refusal is the analysis's, and leaves zeros. The work column is scratch, zeros on every answer; its length, best two
 // numbers an entry, changes the time alone.
 pub fn mark_unit(
     section: &[u8],
@@ -155,22 +181,31 @@ pub fn mark_unit(
     offsets: &mut [u64],
     parents: &mut [u32],
     roots: &mut [u8],
-    ends: &mut [u64],
+    reference_ends: &mut [u64],
     marks: &mut [u8],
     targets: &mut [u64],
     pairs: &mut [u32],
     work: &mut [u32],
 ) -> UnitMarks
-    ensures answer { λ r. ⌜ r ≡ unitMarks (analysisOf (sections (now (abbreviations .entry)) (now (locations .entry)) (now (ranges .entry)) (now (addresses .entry)) «ranges_base») (now (section .entry)) (unitRooms (length (now (marks .entry))) (length (now (pairs .entry))) (length (now (offsets .entry))) (length (now (parents .entry))) (length (now (roots .entry))) (length (now (ends .entry))) (length (now (targets .entry))))) ⌝ }
-    ensures index { λ _. ⌜ now (index .exit) ≡ indexAfter (now (abbreviations .entry)) (headerOf (now (section .entry))) (length (now (index .entry))) ⌝ }
-    ensures offsets { λ _. ⌜ now (offsets .exit) ≡ column offsetsIn (length (now (offsets .entry))) (analysisOf (sections (now (abbreviations .entry)) (now (locations .entry)) (now (ranges .entry)) (now (addresses .entry)) «ranges_base») (now (section .entry)) (unitRooms (length (now (marks .entry))) (length (now (pairs .entry))) (length (now (offsets .entry))) (length (now (parents .entry))) (length (now (roots .entry))) (length (now (ends .entry))) (length (now (targets .entry))))) ⌝ }
-    ensures parents { λ _. ⌜ now (parents .exit) ≡ column parentsIn (length (now (parents .entry))) (analysisOf (sections (now (abbreviations .entry)) (now (locations .entry)) (now (ranges .entry)) (now (addresses .entry)) «ranges_base») (now (section .entry)) (unitRooms (length (now (marks .entry))) (length (now (pairs .entry))) (length (now (offsets .entry))) (length (now (parents .entry))) (length (now (roots .entry))) (length (now (ends .entry))) (length (now (targets .entry))))) ⌝ }
-    ensures roots { λ _. ⌜ now (roots .exit) ≡ column rootsIn (length (now (roots .entry))) (analysisOf (sections (now (abbreviations .entry)) (now (locations .entry)) (now (ranges .entry)) (now (addresses .entry)) «ranges_base») (now (section .entry)) (unitRooms (length (now (marks .entry))) (length (now (pairs .entry))) (length (now (offsets .entry))) (length (now (parents .entry))) (length (now (roots .entry))) (length (now (ends .entry))) (length (now (targets .entry))))) ⌝ }
-    ensures ends { λ _. ⌜ now (ends .exit) ≡ column (endsIn 0) (length (now (ends .entry))) (analysisOf (sections (now (abbreviations .entry)) (now (locations .entry)) (now (ranges .entry)) (now (addresses .entry)) «ranges_base») (now (section .entry)) (unitRooms (length (now (marks .entry))) (length (now (pairs .entry))) (length (now (offsets .entry))) (length (now (parents .entry))) (length (now (roots .entry))) (length (now (ends .entry))) (length (now (targets .entry))))) ⌝ }
-    ensures marks { λ _. ⌜ now (marks .exit) ≡ column marksIn (length (now (marks .entry))) (analysisOf (sections (now (abbreviations .entry)) (now (locations .entry)) (now (ranges .entry)) (now (addresses .entry)) «ranges_base») (now (section .entry)) (unitRooms (length (now (marks .entry))) (length (now (pairs .entry))) (length (now (offsets .entry))) (length (now (parents .entry))) (length (now (roots .entry))) (length (now (ends .entry))) (length (now (targets .entry))))) ⌝ }
-    ensures targets { λ _. ⌜ now (targets .exit) ≡ column namesIn (length (now (targets .entry))) (analysisOf (sections (now (abbreviations .entry)) (now (locations .entry)) (now (ranges .entry)) (now (addresses .entry)) «ranges_base») (now (section .entry)) (unitRooms (length (now (marks .entry))) (length (now (pairs .entry))) (length (now (offsets .entry))) (length (now (parents .entry))) (length (now (roots .entry))) (length (now (ends .entry))) (length (now (targets .entry))))) ⌝ }
-    ensures pairs { λ _. ⌜ now (pairs .exit) ≡ column pairsIn (length (now (pairs .entry))) (analysisOf (sections (now (abbreviations .entry)) (now (locations .entry)) (now (ranges .entry)) (now (addresses .entry)) «ranges_base») (now (section .entry)) (unitRooms (length (now (marks .entry))) (length (now (pairs .entry))) (length (now (offsets .entry))) (length (now (parents .entry))) (length (now (roots .entry))) (length (now (ends .entry))) (length (now (targets .entry))))) ⌝ }
-    ensures work { λ _. ⌜ now (work .exit) ≡ zeros (length (now (work .entry))) ⌝ }
+    ensures { λ r. ⌜ (
+        let lent = sections (now (abbreviations .entry)) (now (locations .entry)) (now (ranges .entry))
+        (now (addresses .entry)) «ranges_base» in
+        let room = unitRooms (length (now (marks .entry))) (length (now (pairs .entry)))
+        (length (now (offsets .entry))) (length (now (parents .entry))) (length (now (roots .entry)))
+        (length (now («reference_ends» .entry))) (length (now (targets .entry))) in
+        let found = analysisOf lent (now (section .entry)) room in
+        let header = headerOf (now (section .entry)) in
+        (r ≡ unitMarks found)
+        × ((now (index .exit) ≡ indexAfter (now (abbreviations .entry)) header (length (now (index .entry))))
+        × ((now (offsets .exit) ≡ column offsetsIn (length (now (offsets .entry))) found)
+        × ((now (parents .exit) ≡ column parentsIn (length (now (parents .entry))) found)
+        × ((now (roots .exit) ≡ column rootsIn (length (now (roots .entry))) found)
+        × ((now («reference_ends» .exit) ≡ column (endsIn 0) (length (now («reference_ends» .entry))) found)
+        × ((now (marks .exit) ≡ column marksIn (length (now (marks .entry))) found)
+        × ((now (targets .exit) ≡ column namesIn (length (now (targets .entry))) found)
+        × ((now (pairs .exit) ≡ column pairsIn (length (now (pairs .entry))) found)
+        × (now (work .exit) ≡ zeros (length (now (work .entry))))))))))))
+        ) ⌝ }
 {
     clear_indexes(pairs);
     clear_bytes(marks);
@@ -188,7 +223,7 @@ pub fn mark_unit(
         offsets,
         parents,
         roots,
-        ends,
+        reference_ends,
         targets,
     ) {
         Analysis::Refused(n) => UnitMarks::Refused(n),
@@ -200,7 +235,7 @@ pub fn mark_unit(
                 offsets,
                 parents,
                 roots,
-                ends,
+                reference_ends,
                 entries,
                 marks,
                 targets,

@@ -2,5 +2,5 @@
 fn main() {
     let mut input = [0u8; 65537];
     let n = io::read_full(0, &mut input);
-    listing::marks::list(&input[..n]);
+    printing::marks::list(&input[..n]);
 }

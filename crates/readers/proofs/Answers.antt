@@ -1,25 +1,27 @@
 -- What references_of_expression answers, return by return (specs/References.antt: referencesAnswer, referencesTable).
 use mathlib.Core.Path.{_≡_, refl, ap, ap₂, sym, _∙_, subst}
-use Prim.Native.Nat.{ℕ, _+_, _*_, _-_, _/_, _≤_, _<_}
-use mathlib.Core.Bool.{Bool, true, false, not}
+use Prim.Native.Nat.{ℕ, _*_, _-_, _/_, _≤_, _<_}
+use mathlib.Core.Bool.{Bool, true, false}
 use mathlib.Core.Option.{Option, none, some}
-use mathlib.Core.List.{List, [], _∷_, _++_}
+use mathlib.Core.List.{List, _++_}
 use native.Mathlib.Omega.{arith}
 use lib.ListN.{length, length-replicate}
 use lib.Dec.{T, leb, eqb}
 use mir.Facts.{yes-eqb, no-eqb, yes-leb, no-leb}
-use Rattle.readers.specs.Choice.{pick, pick-yes, pick-no, _or_, zeros}
+use Rattle.readers.specs.Choice.{pick, _or_, zeros}
+use Rattle.readers.proofs.Choice.{pick-yes, pick-no}
 use Rattle.readers.specs.Layout.{Piece}
 use Rattle.readers.specs.Expression.{expressionIn}
 use Rattle.readers.specs.Header.{encodingOf}
-use Rattle.readers.specs.References.{Named, namesIn, asWalk, walkOf, walkAnswer, referencesAnswer, numbersOf, Room, namesOr, referencesIn, answerTable, referencesTable, Yields, flatFrom}
+use Rattle.readers.specs.References.{namesIn, asWalk, walkOf, walkAnswer, referencesAnswer, numbersOf, namesOr, referencesIn, answerTable, referencesTable, flatFrom}
+use Rattle.readers.specs.inner.References.{Room}
 use Rattle.readers.specs.declared.cursor.Encoding.{Encoding}
 use Rattle.readers.specs.declared.expressions.Walk.{Walk}
 use Rattle.readers.specs.declared.expressions.Walk.the-variants.{Walked, Unreadable}
 use Rattle.readers.specs.declared.expressions.References.{References}
 use Rattle.readers.specs.declared.expressions.References.the-variants.{Count, Refused}
 use Rattle.readers.proofs.OwnReferences.{left, right, neither}
-use Rattle.readers.proofs.Yields.{yields-all, yields}
+use Rattle.readers.proofs.Yields.{yields-all}
 
 -- the references of an expression that was walked to its end, one after the other
 module _ (e : Encoding) (s : List ℕ) (n : ℕ) (b : Bool) where
@@ -35,10 +37,6 @@ module _ (e : Encoding) (s : List ℕ) (n : ℕ) (b : Bool) where
   pub walked-flat : walkOf e s ≡ Walked n b → (flatFrom e s 0 ≡ referencesIn e s) × (length (flatFrom e s 0) ≡ n)
   unfolding walkOf referencesIn
   walked-flat w = walked-names _ refl w
-
-  -- THE LAW of `next_reference`: from the start of an expression that was walked to its end it yields the expression's references, each once, in their order
-  pub walked-yields : walkOf e s ≡ Walked n b → Yields e s 0 (referencesIn e s)
-  walked-yields w = yields e s (referencesIn e s) 0 (walked-flat w .0)
 
 module _ (a : ℕ) where
   pub size-4 : a ≡ 4 → T (eqb a 4 or eqb a 8)

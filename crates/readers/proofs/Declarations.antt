@@ -10,13 +10,17 @@ use lib.ListN.{length, set, drop, take, length-set, length-append, length-drop, 
 use lib.Seq.{drop-cons, set-at, take-at, drop-at, append-snoc}
 use lib.Dec.{T, eqb, leb, ltb}
 use mir.Facts.{yes-eqb, no-eqb, eqb-yes, eqb-no, yes-leb, no-leb, leb-yes, yes-ltb, no-ltb, ltb-yes, ltb-no}
-use Rattle.readers.specs.Choice.{pick, pick-yes, pick-no, pick-either, either, check, check-yes, check-no, bind, bind-at, bind-none, _and_, zeros}
+use Rattle.readers.specs.Choice.{pick, bind, _and_, zeros}
+use Rattle.readers.proofs.Choice.{pick-yes, pick-no, pick-either, either, check-yes, check-no, bind-at, bind-none}
 use Rattle.readers.specs.Numbers.{uleb}
 use Rattle.readers.specs.Layout.{short}
-use Rattle.readers.specs.Scan.{Turn, more, stop, bad, Scanned, push, onTurn, scanWithin, scan, Goes, scan-stop, scan-bad, scan-more}
+use Rattle.readers.specs.Scan.{Turn, more, stop, bad, Scanned, push, onTurn, scanWithin, scan}
+use Rattle.readers.proofs.Scan.{Goes, scan-stop, scan-bad, scan-more}
 use Rattle.readers.specs.Cursors.{lebAt, fixedAt}
-use Rattle.readers.specs.Slots.{codeOf, slotCode, slotOf, Twice, Ordered}
-use Rattle.readers.specs.Abbreviations.{scannedTo, pastAttributes, numberDeclaration, movedDeclaration, headAt, wholeDeclaration, declarationAt, Placed, declarationTurn, declarationsFrom, declaredIn, isFound, distinct, checkDistinct, abbreviationsOf, asChecked, checkedOf, countOf, insertByCode, byCode, slotsOf, Gathered, indexed, indexFor, indexOf, searchTurn, foundBy, searchAt, declarationFound, holdsCode, headIn, findHead, findAt, wholeFound}
+use Rattle.readers.specs.Slots.{codeOf, slotCode, slotOf}
+use Rattle.readers.specs.inner.Slots.{Twice, Ordered}
+use Rattle.readers.specs.Abbreviations.{scannedTo, pastAttributes, numberDeclaration, movedDeclaration, headAt, wholeDeclaration, declarationAt, Placed, declarationTurn, declarationsFrom, declaredIn, isFound, distinct, checkDistinct, abbreviationsOf, asChecked, checkedOf, insertByCode, byCode, slotsOf, indexed, indexFor, indexOf, searchTurn, foundBy, searchAt, declarationFound, holdsCode, headIn, findHead, findAt, wholeFound}
+use Rattle.readers.specs.inner.Abbreviations.{accepted, countOf, Gathered}
 use Rattle.readers.specs.declared.cursor.Cursor.{Cursor}
 use Rattle.readers.specs.declared.cursor.Number.{Number}
 use Rattle.readers.specs.declared.cursor.Number.the-variants.{Value, Unreadable}
@@ -27,11 +31,12 @@ use Rattle.readers.specs.declared.abbreviations.Declaration.{Declaration
 use Rattle.readers.specs.declared.abbreviations.DeclarationStep.{DeclarationStep}
 use Rattle.readers.specs.declared.abbreviations.DeclarationStep.the-variants.{Declaration as Declared, Last, Unreadable as NoDeclaration}
 use Rattle.readers.specs.declared.abbreviations.Checked.{Checked}
+use Rattle.readers.specs.declared.slots.Arranged.{Arranged}
+use Rattle.readers.specs.declared.slots.Arranged.the-variants.{Ascending, Repeated}
 use Rattle.readers.specs.declared.abbreviations.Checked.the-variants.{Accepted, Refused}
-use Rattle.readers.specs.declared.abbreviations.Count.{Count}
 use Rattle.readers.specs.declared.abbreviations.Count.the-variants.{Of, Unreadable as Uncounted}
-use Rattle.readers.specs.declared.abbreviations.Found.{Found}
-use Rattle.readers.specs.declared.abbreviations.Found.the-variants.{Declaration as Found′, Nothing}
+use Rattle.readers.specs.declared.abbreviations.DeclarationFound.{DeclarationFound}
+use Rattle.readers.specs.declared.abbreviations.DeclarationFound.the-variants.{Declaration as Found′, Nothing}
 use Rattle.readers.proofs.Lebs.{uleb-inside, short-inside}
 use Rattle.readers.proofs.Widths.{fixed-inside}
 use Rattle.readers.proofs.Specs.{Past, past-read}
@@ -188,7 +193,7 @@ declaration-code s at d c e =
 
 -- ---- the search
 
-abbrev searching : List ℕ → ℕ → ℕ → ℕ → Turn (Unit {0}) Found
+abbrev searching : List ℕ → ℕ → ℕ → ℕ → Turn (Unit {0}) DeclarationFound
 searching s to code n = pick (ltb n to) (searchTurn code (declarationAt s n)) (stop Nothing)
 
 turn-goes : (s : List ℕ) (code at : ℕ) (r : DeclarationStep) → InsideStep s at r → Goes (length s) at (searchTurn code r)
@@ -204,13 +209,13 @@ search-goes : (s : List ℕ) (to code at : ℕ) → Goes (length s) at (searchin
 unfolding Goes
 search-goes s to code at = pick-either (Goes (length s) at) (ltb at to) _ _ (λ _. turn-goes s code at (declarationAt s at) (step-inside s at)) (λ _. tt)
 
-found-same : (o : Option (Scanned (Unit {0}) Found)) → foundBy (bind o (push tt)) ≡ foundBy o
+found-same : (o : Option (Scanned (Unit {0}) DeclarationFound)) → foundBy (bind o (push tt)) ≡ foundBy o
 unfolding bind push foundBy
 found-same none = refl
 found-same (some r) = refl
 
 module _ (s : List ℕ) (to code at : ℕ) where
-  search-stops : (f : Found) → searching s to code at ≡ stop f → f ≡ searchAt s to code at
+  search-stops : (f : DeclarationFound) → searching s to code at ≡ stop f → f ≡ searchAt s to code at
   unfolding searchAt foundBy
   search-stops f e = sym (ap foundBy (scan-stop (length s) (searching s to code) (search-goes s to code) at f e))
 
@@ -306,11 +311,11 @@ chain-onto {s} {a} {b} (link {d = d} {c = c} {ds = ds} e k) =
 
 -- ---- what they declare
 
-unfoldable orElse : Found → Found → Found
+unfoldable orElse : DeclarationFound → DeclarationFound → DeclarationFound
 orElse (Found′ d) g = Found′ d
 orElse Nothing g = g
 
-else-nothing : (f : Found) → orElse f Nothing ≡ f
+else-nothing : (f : DeclarationFound) → orElse f Nothing ≡ f
 unfolding orElse
 else-nothing (Found′ d) = refl
 else-nothing Nothing = refl
@@ -330,17 +335,6 @@ chain-search {s} {a} {b} to code (link {d = d} {c = c} {ds = ds} e k) h =
 chain-searched : {s : List ℕ} {a b : ℕ} {ds : List Placed} (code : ℕ) → Chain s a ds b → searchAt s b code a ≡ declaredIn ds code
 chain-searched {s} {a} {b} {ds} code k =
     chain-search b code k (omega arith) ∙ ap (orElse (declaredIn ds code)) (sym (search-end s b code b (omega arith))) ∙ else-nothing (declaredIn ds code)
-
-pub declared-code : (ds : List Placed) (code : ℕ) (d : Declaration) → declaredIn ds code ≡ Found′ d → d .code ≡ code
-unfolding declaredIn
-declared-code [] code d e = let z : _≡_ {A = ℕ} 0 1 = cc in absurd (omega arith)
-declared-code (p ∷ ds) code d e =
-    ⊎-elim
-    (λ t. let q : Found′ (p .1) ≡ Found′ d = sym (pick-yes _ _ _ t) ∙ e in
-    let q′ : p .1 ≡ d = cc in
-    ap (λ (x : Declaration). x .code) (sym q′) ∙ eqb-yes t)
-    (λ t. declared-code ds code d (sym (pick-no _ _ _ t) ∙ e))
-    (either (eqb (p .1 .code) code))
 
 -- ---- no code twice
 
@@ -581,10 +575,10 @@ chain-through {s} {a} z code (link {d = d} {c = c} {ds = ds} g k) t i e =
     contrary false x y = x
 
 -- the whole declaration whose place a slot holds
-unfoldable through : List ℕ → ℕ → Found
+unfoldable through : List ℕ → ℕ → DeclarationFound
 through s slot = declarationFound (declarationAt s (slot - 1))
 
-through-else : {s : List ℕ} {a b : ℕ} {ds : List Placed} (z code : ℕ) (rest : Found) → Chain s a ds b → T (distinct ds) → (z ≡ 0) ⊎ In z (slotsOf ds)
+through-else : {s : List ℕ} {a b : ℕ} {ds : List Placed} (z code : ℕ) (rest : DeclarationFound) → Chain s a ds b → T (distinct ds) → (z ≡ 0) ⊎ In z (slotsOf ds)
     → rest ≡ declaredIn ds code → pick (holdsCode s z code) (through s z) rest ≡ declaredIn ds code
 unfolding holdsCode through
 through-else {s} {a} {b} {ds} z code rest k t w e =
@@ -734,24 +728,24 @@ refused-index s from n h = of (abbreviationsOf s from) h
     of (some ds) e = let z : _≡_ {A = ℕ} 0 1 = cc in absurd (omega arith)
 
 -- a list that is accepted, up to the code that closes it
-record Closed (s : List ℕ) (from : ℕ) (ds : List Placed) : Type 0 where
+record ClosedList (s : List ℕ) (from : ℕ) (ds : List Placed) : Type 0 where
   last : ℕ
   past : Cursor
   chain : Chain s from ds last
   closes : declarationAt s last ≡ Last past
 
-closed-step : (s : List ℕ) (ds : List Placed) (at e : ℕ) → ((p : Placed) (ds′ : List Placed) → ds ≡ p ∷ ds′ → (at e : ℕ) → declarationsFrom s at ≡ some (ds′, e) → Closed s at ds′)
-    → declarationsFrom s at ≡ some (ds, e) → (r : DeclarationStep) → declarationAt s at ≡ r → Closed s at ds
+closed-step : (s : List ℕ) (ds : List Placed) (at e : ℕ) → ((p : Placed) (ds′ : List Placed) → ds ≡ p ∷ ds′ → (at e : ℕ) → declarationsFrom s at ≡ some (ds′, e) → ClosedList s at ds′)
+    → declarationsFrom s at ≡ some (ds, e) → (r : DeclarationStep) → declarationAt s at ≡ r → ClosedList s at ds
 unfolding bind push
 closed-step s ds at e ih h (Declared d c) g = of (declarationsFrom s (c .at)) refl
   where
-    of : (o : Option (Scanned Placed ℕ)) → declarationsFrom s (c .at) ≡ o → Closed s at ds
+    of : (o : Option (Scanned Placed ℕ)) → declarationsFrom s (c .at) ≡ o → ClosedList s at ds
     of none k = let n : declarationsFrom s at ≡ none = declarations-more s at d c g ∙ ap (λ o. bind o (push (at, d))) k in
         let z : _≡_ {A = ℕ} 0 1 = cc in absurd (omega arith)
     of (some r) k =
         let n : declarationsFrom s at ≡ some ((at, d) ∷ r .0, r .1) = declarations-more s at d c g ∙ ap (λ o. bind o (push (at, d))) k in
         let l : ds ≡ (at, d) ∷ r .0 = (let p : _≡_ {A = Scanned Placed ℕ} (ds, e) ((at, d) ∷ r .0, r .1) = cc in ap (λ (x : Scanned Placed ℕ). x .0) p) in
-        let q : Closed s (c .at) (r .0) = ih (at, d) (r .0) l (c .at) (r .1) k in
+        let q : ClosedList s (c .at) (r .0) = ih (at, d) (r .0) l (c .at) (r .1) k in
         record { last = q .last; past = q .past; chain = subst (λ x. Chain s at x (q .last)) (sym l) (link g (q .chain)); closes = q .closes }
 closed-step s ds at e ih h (Last c) g =
     let n : declarationsFrom s at ≡ some ([], c .at) = declarations-last s at c g in
@@ -761,13 +755,13 @@ closed-step s ds at e ih h NoDeclaration g =
     let n : declarationsFrom s at ≡ none = declarations-bad s at g in
     let z : _≡_ {A = ℕ} 0 1 = cc in absurd (omega arith)
 
-closed-of : (s : List ℕ) (ds : List Placed) (at e : ℕ) → declarationsFrom s at ≡ some (ds, e) → Closed s at ds
+closed-of : (s : List ℕ) (ds : List Placed) (at e : ℕ) → declarationsFrom s at ≡ some (ds, e) → ClosedList s at ds
 closed-of s [] at e h = closed-step s [] at e (λ p ds′ l. let z : _≡_ {A = ℕ} 0 1 = cc in absurd (omega arith)) h (declarationAt s at) refl
 closed-of s (p ∷ ds) at e h =
-    closed-step s (p ∷ ds) at e (λ p′ ds′ l at e h. let q : ds ≡ ds′ = cc in subst (Closed s at) q (closed-of s ds at e (h ∙ ap (λ (x : List Placed). some (x, e)) (sym q)))) h (declarationAt s at) refl
+    closed-step s (p ∷ ds) at e (λ p′ ds′ l at e h. let q : ds ≡ ds′ = cc in subst (ClosedList s at) q (closed-of s ds at e (h ∙ ap (λ (x : List Placed). some (x, e)) (sym q)))) h (declarationAt s at) refl
 
 record Accept (s : List ℕ) (from : ℕ) (ds : List Placed) : Type 0 where
-  closed : Closed s from ds
+  closed : ClosedList s from ds
   once : T (distinct ds)
 
 accept-of : (s : List ℕ) (from : ℕ) (ds : List Placed) → abbreviationsOf s from ≡ some ds → Accept s from ds
@@ -780,7 +774,7 @@ accept-of s from ds h = of (declarationsFrom s from) refl h
         ⊎-elim
         (λ t. let l : some (r .0) ≡ some ds = sym (check-yes _ _ t) ∙ g in
         let l′ : r .0 ≡ ds = cc in
-        record { closed = subst (Closed s from) l′ (closed-of s (r .0) from (r .1) k); once = subst (λ x. T (distinct x)) l′ t })
+        record { closed = subst (ClosedList s from) l′ (closed-of s (r .0) from (r .1) k); once = subst (λ x. T (distinct x)) l′ t })
         (λ t. let l : none ≡ some ds = sym (check-no _ _ t) ∙ g in
         let z : _≡_ {A = ℕ} 0 1 = cc in absurd (omega arith))
         (either (distinct (r .0)))
@@ -819,7 +813,7 @@ module _ (s : List ℕ) (from : ℕ) where
     listed-coded : Coded s ds
     listed-coded = chain-coded (closed-of s ds from end g .chain)
 
-    module _ (m : List ℕ) (o : Ordered s (slotsOf ds) m Accepted) where
+    module _ (m : List ℕ) (o : Ordered s (slotsOf ds) m Ascending) where
       ordered-slots : m ≡ slotsOf (byCode ds)
       ordered-slots =
           let q : Drawn (slotsOf ds) m = drawn-of (o .swaps) in
@@ -836,7 +830,7 @@ module _ (s : List ℕ) (from : ℕ) where
           bind-at checkDistinct g
           ∙ check-yes _ _ (order-distinct s ds listed-coded (subst (Strict (slotCode s)) ordered-slots (strict-of (slotCode s) m (o .ascending refl))))
 
-    ordered-refused : (m : List ℕ) → Ordered s (slotsOf ds) m Refused → abbreviationsOf s from ≡ none
+    ordered-refused : (m : List ℕ) → Ordered s (slotsOf ds) m Repeated → abbreviationsOf s from ≡ none
     unfolding abbreviationsOf checkDistinct
     ordered-refused m o =
         let q : Drawn (slotsOf ds) m = drawn-of (o .swaps) in
@@ -863,25 +857,25 @@ module _ (s : List ℕ) (from : ℕ) where
         below a b h d = ⊎-elim (λ t. ltb-yes {a = a} {b = b} t) (λ t. let u : b ≤ a = ltb-no {a = a} {b = b} t in absurd (d (omega arith))) (either (ltb a b))
 
     -- what the slots are in order, and the rest of the index
-    ordered-index : (m : List ℕ) (n : ℕ) (r : Checked) → Ordered s (slotsOf ds) m r → length ds ≤ n
-        → (r ≡ checkedOf s from) × (r ≡ Accepted → m ++ drop (length ds) (zeros n) ≡ indexOf s from n)
-    unfolding checkedOf asChecked indexOf indexFor indexed
-    ordered-index m n Accepted o h =
+    ordered-index : (m : List ℕ) (n : ℕ) (a : Arranged) → Ordered s (slotsOf ds) m a → length ds ≤ n
+        → (accepted a ≡ checkedOf s from) × (accepted a ≡ Accepted → m ++ drop (length ds) (zeros n) ≡ indexOf s from n)
+    unfolding checkedOf asChecked accepted indexOf indexFor indexed
+    ordered-index m n Ascending o h =
         let a : abbreviationsOf s from ≡ some ds = ordered-accepted m o in (
           sym (ap asChecked a),
           λ _. ap (λ (l : List ℕ). l ++ drop (length ds) (zeros n)) (ordered-slots m o)
               ∙ sym (ap (indexFor n) a ∙ pick-yes _ _ _ (yes-leb {a = length ds} {b = length (zeros n)} (omega (arith, length-replicate {A = ℕ} n 0)))),
         )
-    ordered-index m n Refused o h = (sym (ap asChecked (ordered-refused m o)), λ e. absurd (refused-not e))
+    ordered-index m n Repeated o h = (sym (ap asChecked (ordered-refused m o)), λ e. absurd (refused-not e))
 
 module _ (s : List ℕ) (from count : ℕ) (l₀ l : List ℕ) (same : length l ≡ length l₀) (h : Of count ≡ countOf (declarationsFrom s from)) where
   pub over-filled : (m : List ℕ) → length l < count → m ≡ zeros (length l) → m ≡ indexOf s from (length l₀)
   over-filled m g e = e ∙ ap zeros same ∙ over-index s from count (length l₀) h (omega arith)
 
   -- the slots ordered in their part of the index
-  pub filled-index : (m : List ℕ) (r : Checked) → l₀ ≡ zeros (length l₀) → Gathered s from l₀ l → count ≤ length l → Ordered s (take count l) m r
-      → (r ≡ checkedOf s from) × (r ≡ Accepted → m ++ drop count l ≡ indexOf s from (length l₀))
-  filled-index m r z w i o =
+  pub filled-index : (m : List ℕ) (r : Checked) (a : Arranged) → l₀ ≡ zeros (length l₀) → Gathered s from l₀ l → count ≤ length l
+      → Ordered s (take count l) m a → r ≡ accepted a → (r ≡ checkedOf s from) × (r ≡ Accepted → m ++ drop count l ≡ indexOf s from (length l₀))
+  filled-index m r a z w i o u =
       let n : ℕ = length l₀ in
       let q : (r : Scanned Placed ℕ) × (declarationsFrom s from ≡ some r) × (count ≡ length (r .0)) = counted-list s from count (declarationsFrom s from) h in
       let ds : List Placed = q .0 .0 in
@@ -890,9 +884,9 @@ module _ (s : List ℕ) (from count : ℕ) (l₀ l : List ℕ) (same : length l 
       let c : length (slotsOf ds) ≡ count = slots-length ds ∙ k in
       let t : take count l ≡ slotsOf ds = ap (take count) e ∙ take-at (slotsOf ds) (drop (length ds) (zeros n)) count c in
       let d : drop count l ≡ drop (length ds) (zeros n) = ap (drop count) e ∙ drop-at (slotsOf ds) (drop (length ds) (zeros n)) count c in
-      let x : (r ≡ checkedOf s from) × (r ≡ Accepted → m ++ drop (length ds) (zeros n) ≡ indexOf s from n) =
-      ordered-index s from ds (q .0 .1) (q .1) m n r (subst (λ (y : List ℕ). Ordered s y m r) t o) (omega arith) in
-      (x .0, λ a. ap (λ (y : List ℕ). m ++ y) d ∙ x .1 a)
+      let x : (accepted a ≡ checkedOf s from) × (accepted a ≡ Accepted → m ++ drop (length ds) (zeros n) ≡ indexOf s from n) =
+      ordered-index s from ds (q .0 .1) (q .1) m n a (subst (λ (y : List ℕ). Ordered s y m a) t o) (omega arith) in
+      (u ∙ x .0, λ b. ap (λ (y : List ℕ). m ++ y) d ∙ x .1 (sym u ∙ b))
 
 -- ---- lookup
 
@@ -916,7 +910,7 @@ module _ (s : List ℕ) (from : ℕ) (index : List ℕ) (code i : ℕ) (i-is : i
   at-guess : b ≡ holdsCode s (getD index (code - 1) 0) code
   at-guess = p ∙ ap (λ (n : ℕ). holdsCode s n code) g
 
-  pub find-first : b ≡ true → (f : Found) → f ≡ headIn s guess → f ≡ findHead s from index code
+  pub find-first : b ≡ true → (f : DeclarationFound) → f ≡ headIn s guess → f ≡ findHead s from index code
   unfolding findHead
   find-first t f e = e ∙ ap (headIn s) g ∙ sym (pick-yes _ _ _ (subst T (sym t ∙ at-guess) tt))
 
@@ -932,7 +926,7 @@ module _ (s : List ℕ) (from : ℕ) (index : List ℕ) (code i : ℕ) (i-is : i
     unfolding findHead
     past-first = pick-no _ _ _ (subst (λ (b : Bool). T (not b)) (sym n ∙ at-guess) tt)
 
-    pub find-halved : b′ ≡ true → (f : Found) → f ≡ headIn s slot → f ≡ findHead s from index code
+    pub find-halved : b′ ≡ true → (f : DeclarationFound) → f ≡ headIn s slot → f ≡ findHead s from index code
     find-halved t f e = e ∙ ap (headIn s) h ∙ sym (past-first ∙ pick-yes _ _ _ (subst T (sym t ∙ at-slot) tt))
 
     pub find-search : b′ ≡ false → searchAt s (length s) code from ≡ findHead s from index code
@@ -945,7 +939,7 @@ pub record Somewhere (s : List ℕ) (d : Declaration) : Type 0 where
   pub next : Cursor
   pub is : declarationAt s place ≡ Declared d next
 
-unfoldable FoundLaw : List ℕ → Found → Type 0
+unfoldable FoundLaw : List ℕ → DeclarationFound → Type 0
 FoundLaw s (Found′ d) = Somewhere s d
 FoundLaw s Nothing = Unit {0}
 
@@ -955,7 +949,7 @@ step-found s at (Declared d c) e = record { place = at; next = c; is = e }
 step-found s at (Last c) e = tt
 step-found s at NoDeclaration e = tt
 
-unfoldable TurnLaw : List ℕ → Turn (Unit {0}) Found → Type 0
+unfoldable TurnLaw : List ℕ → Turn (Unit {0}) DeclarationFound → Type 0
 TurnLaw s (more a n) = Unit {0}
 TurnLaw s (stop f) = FoundLaw s f
 TurnLaw s bad = Unit {0}
@@ -966,7 +960,7 @@ turn-found s code at (Declared d c) e = pick-either (TurnLaw s) (eqb (d .code) c
 turn-found s code at (Last c) e = tt
 turn-found s code at NoDeclaration e = tt
 
-on-turn : (s : List ℕ) (t : Turn (Unit {0}) Found) (k : Unit {0} → ℕ → Option (Scanned (Unit {0}) Found)) → TurnLaw s t → ((a : Unit {0}) (n : ℕ) → FoundLaw s (foundBy (k a n)))
+on-turn : (s : List ℕ) (t : Turn (Unit {0}) DeclarationFound) (k : Unit {0} → ℕ → Option (Scanned (Unit {0}) DeclarationFound)) → TurnLaw s t → ((a : Unit {0}) (n : ℕ) → FoundLaw s (foundBy (k a n)))
     → FoundLaw s (foundBy (onTurn t k))
 unfolding TurnLaw FoundLaw onTurn foundBy
 on-turn s (more a n) k q h = h a n
@@ -986,7 +980,7 @@ unfolding searchAt scan
 search-found s to code at = within-found s to code _ at
 
 -- so its attribute specifications can be read
-found-whole : (s : List ℕ) (f : Found) → FoundLaw s f → wholeFound s f ≡ f
+found-whole : (s : List ℕ) (f : DeclarationFound) → FoundLaw s f → wholeFound s f ≡ f
 unfolding FoundLaw wholeFound wholeDeclaration movedDeclaration declarationFound pastAttributes scannedTo
 found-whole s (Found′ d) q = ap (λ (o : Option (Scanned AttributeSpec ℕ)). declarationFound (movedDeclaration (scannedTo o) (Declared d))) (declaration-inside s (q .place) d (q .next) (q .is) .past .read)
 found-whole s Nothing q = refl
@@ -994,7 +988,7 @@ found-whole s Nothing q = refl
 search-whole : (s : List ℕ) (to code at : ℕ) → wholeFound s (searchAt s to code at) ≡ searchAt s to code at
 search-whole s to code at = found-whole s (searchAt s to code at) (search-found s to code at)
 
-whole-pick : (s : List ℕ) (b : Bool) (f g : Found) → wholeFound s (pick b f g) ≡ pick b (wholeFound s f) (wholeFound s g)
+whole-pick : (s : List ℕ) (b : Bool) (f g : DeclarationFound) → wholeFound s (pick b f g) ≡ pick b (wholeFound s f) (wholeFound s g)
 unfolding pick
 whole-pick s true f g = refl
 whole-pick s false f g = refl
@@ -1028,27 +1022,7 @@ find-plain s from n ds h code =
     ∙ through-else (getD (indexed (zeros n) ds) (code - 1) 0) code _ k (q .once) (index-slots n (code - 1) ds)
     (through-else (getD (indexed (zeros n) ds) (slotOf s (indexed (zeros n) ds) code) 0) code _ k (q .once) (index-slots n (slotOf s (indexed (zeros n) ds) code) ds) f)
 
-find-found : (s : List ℕ) (from : ℕ) (index : List ℕ) (code : ℕ) → FoundLaw s (findAt s from index code)
-unfolding through
-find-found s from index code =
-    subst (FoundLaw s) (sym (find-whole s from index code))
-    (pick-either (FoundLaw s) (holdsCode s (getD index (code - 1) 0) code) _ _
-    (λ _. step-found s (getD index (code - 1) 0 - 1) (declarationAt s (getD index (code - 1) 0 - 1)) refl)
-    (λ _. pick-either (FoundLaw s) (holdsCode s (getD index (slotOf s index code) 0) code) _ _
-    (λ _. step-found s (getD index (slotOf s index code) 0 - 1) (declarationAt s (getD index (slotOf s index code) 0 - 1)) refl)
-    (λ _. search-found s (length s) code from)))
-
 -- what the reader of a head finds is, where it is whole, what is found
-pub found-at : (s : List ℕ) (from : ℕ) (index : List ℕ) (code : ℕ) (f : Found) → f ≡ findHead s from index code → wholeFound s f ≡ findAt s from index code
+pub found-at : (s : List ℕ) (from : ℕ) (index : List ℕ) (code : ℕ) (f : DeclarationFound) → f ≡ findHead s from index code → wholeFound s f ≡ findAt s from index code
 unfolding findAt
 found-at s from index code f q = ap (wholeFound s) q
-
-pub find-somewhere : (s : List ℕ) (from : ℕ) (index : List ℕ) (code : ℕ) (d : Declaration) → findAt s from index code ≡ Found′ d → Somewhere s d
-unfolding FoundLaw
-find-somewhere s from index code d e = subst (FoundLaw s) e (find-found s from index code)
-
-pub find-attributes : (s : List ℕ) (from : ℕ) (index : List ℕ) (code : ℕ) (d : Declaration) → findAt s from index code ≡ Found′ d
-    → (q : Somewhere s d) × Past s (d .attributes .at) (q .next)
-find-attributes s from index code d e =
-    let q : Somewhere s d = find-somewhere s from index code d e in
-    (q, declaration-inside s (q .place) d (q .next) (q .is) .past)

@@ -1,25 +1,28 @@
 -- One step of an expression that is read to its end: an operation's own pieces, or those of the expression that an entry value holds, and then the rest.
 use mathlib.Core.Path.{_≡_, refl, ap, ap₂, sym, _∙_, subst}
-use Prim.Native.Nat.{ℕ, zero, suc, _+_, _-_, _≤_, _<_}
+use Prim.Native.Nat.{ℕ, suc, _+_, _-_, _≤_}
 use mathlib.Core.Bool.{Bool, true, false, not}
 use mathlib.Core.Option.{Option, none, some}
-use mathlib.Core.List.{List, [], _∷_, _++_, append-assoc, append-nil}
+use mathlib.Core.List.{List, [], _∷_, _++_, append-nil}
 use native.Mathlib.Omega.{arith}
 use lib.ListN.{length, take, drop, length-append}
 use lib.Seq.{length-take-le, drop-drop}
 use lib.Dec.{T, leb, eqb}
 use mir.Facts.{leb-yes, yes-leb, eqb-yes}
-use Rattle.readers.specs.Choice.{pick, check, check-yes, bind, bind-at, bind-none, _or_, All, all-some, all-of, all-check, all-bind, all-none, Took, took-length}
+use Rattle.readers.specs.Choice.{pick, check, bind, _or_}
+use Rattle.readers.proofs.Choice.{check-yes, bind-at, bind-none, All, all-some, all-of, all-check, all-bind}
 use Rattle.readers.specs.Numbers.{Groups, uleb}
-use Rattle.readers.specs.Layout.{fixed, Token, nothing, number, bounded, forms, signed, link, string, run, block, expression, unknown, Layout, done, fail, field, Piece, copied, Read, ReadOf, RunOf, ExpressionReader, asBytes, LebLaw, uleb-law, asExpression, tokenIn, readIn, before, bytesOf, pieceBytes, bytes-append}
+use Rattle.readers.specs.Layout.{fixed, Token, nothing, number, bounded, forms, signed, link, string, run, block, expression, unknown, Layout, done, fail, field, Piece, verbatim, Read, ReadOf, RunOf, ExpressionReader, asBytes, asExpression, tokenIn, readIn, before, bytesOf, pieceBytes}
+use Rattle.readers.proofs.Layouts.{LebLaw, uleb-law, bytes-append}
 use Rattle.readers.specs.Tokens.{tokenOf, numberAs}
 use Rattle.readers.specs.Operations.{rows, unreadableRow, rowOf, rowLayout, operation, operationRow}
 use Rattle.readers.specs.Fields.{size, fieldOf}
-use Rattle.readers.specs.Expression.{allPieces, andRest, expressionIn, expression-more}
-use Rattle.readers.specs.References.{Named, namesIn, nameIn, anyAbsolute, isAbsolute, referenceOf, namesOf}
+use Rattle.readers.specs.Expression.{allPieces, andRest, expressionIn}
+use Rattle.readers.proofs.Expression.{expression-more}
+use Rattle.readers.specs.References.{namesIn, nameIn, anyAbsolute, isAbsolute, referenceOf, namesOf}
 use Rattle.readers.specs.declared.cursor.Encoding.{Encoding}
 use Rattle.readers.specs.declared.operations.Operation.{Operation}
-use Rattle.readers.proofs.OperationReads.{token1, token2, token3, madeOf, Held, read-four, span, code-is, first-from, rest-is, past, starts, ends}
+use Rattle.readers.proofs.OperationReads.{token1, token2, token3, madeOf, OperationHeld, read-four, span, code-is, first-from, past, starts, ends}
 use Rattle.readers.proofs.OperationPieces.{names-append, absolute-append, tokenNames, tokenAbsolute, Names, token-names, row-below, row-names, row-absolute, Wide, row-wide, isExpression, row-plain}
 
 -- ---- tokens that are no expression are read alike by all
@@ -115,7 +118,7 @@ nothing-plain = refl
 unfoldable pub EntryLaw : List ℕ → ReadOf → Groups → Type 0
 EntryLaw s r t =
     (uleb s ≡ some t) × (t .1 ≤ length (t .2)) × (suc (t .0) ≤ length s) × (t .2 ≡ drop (suc (t .0)) s)
-    × (r ≡ (record { seen = 0; start = suc (t .0); pieces = copied (take (suc (t .0)) s) ∷ copied (take (t .1) (t .2)) ∷ [] }, drop (t .1) (t .2)))
+    × (r ≡ (record { seen = 0; start = suc (t .0); pieces = verbatim (take (suc (t .0)) s) ∷ verbatim (take (t .1) (t .2)) ∷ [] }, drop (t .1) (t .2)))
 
 pub entry-token : (big : Bool) (s : List ℕ) → All (λ r. (t : Groups) × EntryLaw s r t) (tokenIn big asBytes expression s)
 unfolding tokenIn asExpression asBytes bind EntryLaw
@@ -125,7 +128,7 @@ entry-token big s =
 
 -- by any reader: the same length, and what that reader makes of the bytes
 pub entry-read : (big : Bool) (ex : ExpressionReader) (s : List ℕ) (r : ReadOf) (t : Groups) → EntryLaw s r t
-    → tokenIn big ex expression s ≡ bind (ex (take (t .1) (t .2))) (λ ps. some (record { seen = 0; start = suc (t .0); pieces = copied (take (suc (t .0)) s) ∷ ps }, drop (t .1) (t .2)))
+    → tokenIn big ex expression s ≡ bind (ex (take (t .1) (t .2))) (λ ps. some (record { seen = 0; start = suc (t .0); pieces = verbatim (take (suc (t .0)) s) ∷ ps }, drop (t .1) (t .2)))
 unfolding tokenIn asExpression EntryLaw
 entry-read big ex s r t q = bind-at _ (q .0) ∙ check-yes _ _ (yes-leb {a = t .1} {b = length (t .2)} (q .1))
 
@@ -147,7 +150,7 @@ nothing-read : (big : Bool) (s : List ℕ) → All (λ r. (r .0 .pieces ≡ []) 
 unfolding tokenIn
 nothing-read big s = all-some (λ (r : ReadOf). (r .0 .pieces ≡ []) × (r .1 ≡ s)) (refl, refl)
 
-module _ (e : Encoding) (x : List ℕ) (at : ℕ) (op : Operation) (h : Held e x at op) where
+module _ (e : Encoding) (x : List ℕ) (at : ℕ) (op : Operation) (h : OperationHeld e x at op) where
   abbrev big : Bool
   big = e .«big_endian»
 
@@ -237,7 +240,7 @@ module _ (e : Encoding) (x : List ℕ) (at : ℕ) (op : Operation) (h : Held e x
 
     -- its code and its length
     abbrev pub lead : List Piece
-    lead = copied (take 1 x) ∷ copied (take (suc (entry-held .0 .0)) (h .x1)) ∷ []
+    lead = verbatim (take 1 x) ∷ verbatim (take (suc (entry-held .0 .0)) (h .x1)) ∷ []
 
     abbrev pub inner : List ℕ
     inner = take (entry-held .0 .1) (entry-held .0 .2)
@@ -246,11 +249,11 @@ module _ (e : Encoding) (x : List ℕ) (at : ℕ) (op : Operation) (h : Held e x
     unfolding andRest EntryLaw allPieces
     entry-some ps q =
         let g : Groups = entry-held .0 in
-        let a : Read = record { seen = 0; start = suc (g .0); pieces = copied (take (suc (g .0)) (h .x1)) ∷ ps } in
+        let a : Read = record { seen = 0; start = suc (g .0); pieces = verbatim (take (suc (g .0)) (h .x1)) ∷ ps } in
         let two : h .x2 ≡ drop (g .1) (g .2) = ap (λ (r : ReadOf). r .1) (entry-held .1 .4) in
         let own-is : allPieces (h .c ∷ a ∷ h .b ∷ h .d ∷ []) ≡ lead ++ ps =
-        ap₂ (λ (u v : List Piece). u ++ (copied (take (suc (g .0)) (h .x1)) ∷ (ps ++ v))) (code-is e x at op h .1) (ap₂ (λ (u v : List Piece). u ++ (v ++ [])) (second-nothing .0) (third-nothing .0))
-        ∙ ap (λ (l : List Piece). copied (take 1 x) ∷ copied (take (suc (g .0)) (h .x1)) ∷ l) (append-nil ps) in
+        ap₂ (λ (u v : List Piece). u ++ (verbatim (take (suc (g .0)) (h .x1)) ∷ (ps ++ v))) (code-is e x at op h .1) (ap₂ (λ (u v : List Piece). u ++ (v ++ [])) (second-nothing .0) (third-nothing .0))
+        ∙ ap (λ (l : List Piece). verbatim (take 1 x) ∷ verbatim (take (suc (g .0)) (h .x1)) ∷ l) (append-nil ps) in
         expression-more e x (let l : 1 ≤ length x = code-is e x at op h .0 in omega arith)
         ∙ bind-at _ (read-four e (expressionIn e) x (h .c) a (h .b) (h .d) (h .x1) (h .x2) (h .x3) (h .rest)
         (plain-token big (expressionIn e) asBytes (number (fixed 1)) x code-plain ∙ h .code)

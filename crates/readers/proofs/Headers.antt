@@ -8,7 +8,8 @@ use native.Mathlib.Omega.{arith}
 use lib.ListN.{length, take, getD}
 use lib.Dec.{T, eqb}
 use mir.Facts.{yes-leb, no-leb, yes-eqb, no-eqb}
-use Rattle.readers.specs.Choice.{pick, pick-yes, pick-no, _or_}
+use Rattle.readers.specs.Choice.{pick, _or_}
+use Rattle.readers.proofs.Choice.{pick-yes, pick-no}
 use Rattle.readers.specs.Cursors.{fixedAt}
 use Rattle.readers.specs.Header.{present, right, headerMade, headerFields, headerOf}
 use Rattle.readers.specs.declared.cursor.Cursor.{Cursor}

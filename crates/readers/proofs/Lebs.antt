@@ -4,8 +4,7 @@ use Prim.Native.Nat.{ℕ, zero, suc, _+_, _*_, _-_, _^_, _/_, _%_, _≤_, _<_}
 use native.Mathlib.Omega.{arith}
 use native.Mathlib.Numerals.{add-one}
 use native.Mathlib.Nat.{pow-suc, pow-le-pow-right, mul-le-mul-right}
-use mathlib.Core.Bool.{not}
-use mathlib.Core.Logic.{_⊎_, ⊎-elim}
+use mathlib.Core.Logic.{⊎-elim}
 use mathlib.Core.List.{List, [], _∷_}
 use mathlib.Core.Option.{Option, none, some}
 use lib.ListN.{length, drop, getD, drop-of-length-le, length-drop}
@@ -15,9 +14,12 @@ use lib.Pow.{areBytes}
 use mir.Syntax.{w8}
 use mir.Val.{Fits}
 use mir.Facts.{yes-ltb, no-ltb, ltb-yes, ltb-no, yes-leb, no-leb, yes-eqb, no-eqb, yes-and}
-use Rattle.readers.specs.Choice.{pick-yes, pick-no, check, check-yes, check-no, bind, bind-at, bind-none, bind-bind, bind-ext, either, All, all-of, all-some, all-pick, all-bind, all-triv}
-use Rattle.readers.specs.Numbers.{Groups as Read, groups, below, GroupsLaw, groups-law, ExactGroups, groups-exact, uleb, unsigned64, sleb, signed64, negative}
-use Rattle.readers.specs.Layout.{short, within16, LebLaw, uleb-law, sleb-law, short-law, formsIn, afterForm, forms-step, FormsLaw, forms-law}
+use Rattle.readers.specs.Choice.{check, bind}
+use Rattle.readers.proofs.Choice.{pick-yes, pick-no, check-yes, check-no, bind-at, bind-none, bind-bind, bind-ext, either, All, all-of, all-some, all-pick, all-bind, all-triv}
+use Rattle.readers.specs.Numbers.{Groups as Read, groups, below, uleb, unsigned64, sleb, signed64, negative}
+use Rattle.readers.proofs.Numbers.{GroupsLaw, groups-law, ExactGroups, groups-exact}
+use Rattle.readers.specs.Layout.{short, within16, formsIn, afterForm}
+use Rattle.readers.proofs.Layouts.{LebLaw, uleb-law, sleb-law, short-law, forms-step, FormsLaw, forms-law}
 use Rattle.readers.specs.Cursors.{cursor, groupsAt, asGroups, lebAt, asLebNumber, formsAt, asFormNumber}
 use Rattle.readers.specs.declared.cursor.Cursor.{Cursor}
 use Rattle.readers.specs.declared.cursor.Groups.{Groups}
@@ -190,7 +192,7 @@ pub bytes-from : (s : List ℕ) (at : ℕ) → Bytes s → Bytes (drop at s)
 bytes-from s at h i = rw (getD-drop at s i 0) (h (at + i))
 
 -- what groups that are whole say of the number that was read
-pub record Found (s : List ℕ) (at low high weight : ℕ) (next : Cursor) : Type 0 where
+pub record GroupsFound (s : List ℕ) (at low high weight : ℕ) (next : Cursor) : Type 0 where
   pub count : ℕ
   pub value : ℕ
   pub rest : List ℕ
@@ -203,7 +205,7 @@ pub record Found (s : List ℕ) (at low high weight : ℕ) (next : Cursor) : Typ
   pub fits : value < 128 ^ suc count
 
 module _ (s : List ℕ) (at low high weight : ℕ) (next : Cursor) (h : Bytes s) where
-  found-in : (o : Option Read) → groups 10 (drop at s) ≡ o → asGroups at o ≡ Whole low high weight next → Found s at low high weight next
+  found-in : (o : Option Read) → groups 10 (drop at s) ≡ o → asGroups at o ≡ Whole low high weight next → GroupsFound s at low high weight next
   unfolding asGroups
   found-in none e g = let z : _≡_ {A = ℕ} 0 1 = cc in absurd (omega arith)
   found-in (some t) e g =
@@ -226,7 +228,7 @@ module _ (s : List ℕ) (at low high weight : ℕ) (next : Cursor) (h : Bytes s)
         fits = exact .1;
       }
 
-  pub whole : (r : Groups) → r ≡ groupsAt s at → r ≡ Whole low high weight next → Found s at low high weight next
+  pub whole : (r : Groups) → r ≡ groupsAt s at → r ≡ Whole low high weight next → GroupsFound s at low high weight next
   unfolding groupsAt
   whole r e g = found-in (groups 10 (drop at s)) refl (sym e ∙ g)
 
@@ -332,7 +334,7 @@ module _ (n v : ℕ) (rest : List ℕ) where
   signed-down-no h k =
       pick-yes _ _ _ (yes-leb {a = 64 * 128 ^ n} {b = v} h) ∙ check-no _ _ (no-leb {a = 128 ^ suc n} {b = v + 2 ^ 63} k)
 
-module _ (s : List ℕ) (at low high weight : ℕ) (next : Cursor) (f : Found s at low high weight next) where
+module _ (s : List ℕ) (at low high weight : ℕ) (next : Cursor) (f : GroupsFound s at low high weight next) where
   -- unsigned
 
   pub uleb-yes : high < 2 → Value (low + high * 2 ^ 63) next ≡ lebAt uleb s at

@@ -1,4 +1,5 @@
 pub mod Constants
+pub mod FormKinds
 pub mod Widths
 pub mod Lebs
 pub mod Tokens
@@ -9,6 +10,7 @@ pub mod Specs
 pub mod SlotOrders
 pub mod Declarations
 pub mod Values
+pub mod EntryAttributes
 pub mod Streams
 pub mod Nesting
 pub mod OperationReads
@@ -19,4 +21,9 @@ pub mod Yields
 pub mod OwnReferences
 pub mod ReferenceTables
 pub mod Answers
-pub mod Refusals
+pub mod Choice
+pub mod Examples
+pub mod Expression
+pub mod Layouts
+pub mod Numbers
+pub mod Scan

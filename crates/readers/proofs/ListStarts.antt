@@ -9,7 +9,7 @@ use native.Mathlib.Nat.{mul-le-mul-right, div-mul-le-self, div-lt-iff-lt-mul}
 use lib.ListN.{length, take, drop}
 use lib.Dec.{eqb}
 use mir.Facts.{yes-leb, no-leb, eqb-yes, eqb-no}
-use Rattle.readers.specs.Choice.{pick-yes, pick-no, either}
+use Rattle.readers.proofs.Choice.{pick-yes, pick-no, either}
 use Rattle.readers.specs.Numbers.{fixedValue, littleValue, ordered}
 use Rattle.readers.specs.Cursors.{cursor, fixedAt}
 use Rattle.readers.specs.Lists.{listStart, fromBase, listOffset}

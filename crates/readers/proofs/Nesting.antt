@@ -7,7 +7,7 @@ use native.Mathlib.Omega.{arith}
 use lib.ListN.{length, getD, List·getD-eq-default}
 use lib.Dec.{T}
 use mir.Facts.{yes-ltb, no-ltb, yes-eqb, no-eqb}
-use Rattle.readers.specs.Choice.{pick-yes, pick-no}
+use Rattle.readers.proofs.Choice.{pick-yes, pick-no}
 use Rattle.readers.specs.Nesting.{open′, close, top, nestingOf, opened, closed}
 use Rattle.readers.specs.declared.entries.Nesting.{Nesting}
 

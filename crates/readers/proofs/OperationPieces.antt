@@ -3,26 +3,26 @@ use mathlib.Core.Path.{_≡_, refl, ap, ap₂, sym, _∙_, subst}
 use Prim.Native.Nat.{ℕ, zero, suc, _+_, _-_, _≤_, _<_}
 use mathlib.Core.Bool.{Bool, true, false, not}
 use mathlib.Core.Logic.{⊎-elim, _≢_}
-use mathlib.Core.Option.{Option, none, some}
 use mathlib.Core.List.{List, [], _∷_, _++_, append-assoc, append-nil}
 use native.Mathlib.Omega.{arith}
-use lib.ListN.{length, take, drop, getD, length-append}
+use lib.ListN.{length, length-append}
 use lib.Dec.{T, leb, ltb, eqb}
 use mir.Facts.{ltb-yes, eqb-yes, eqb-no}
-use Rattle.readers.specs.Choice.{pick, pick-either, either, check, bind, _and_, _or_, All, all-some, all-none, all-of, all-check, all-bind, all-triv}
+use Rattle.readers.specs.Choice.{pick, bind, _and_, _or_}
+use Rattle.readers.proofs.Choice.{pick-either, either, All, all-some, all-none, all-check, all-bind, all-triv}
 use Rattle.readers.specs.Numbers.{uleb, sleb}
-use Rattle.readers.specs.Layout.{fixed, leb128, Kind, Encoded, infixed, inleb, Role, reference, typeReference, sibling, index, absolute, Token, nothing, number, bounded, forms, signed, link, string, run, block, expression, unknown, Piece, copied, linked, Read, ReadOf, asBytes, width, kindOf, NumberLaw, number-law, numberIn, formsIn, stringIn, asNumber, asBounded, asForms, asSigned, asLink, asString, asBlock, asExpression, copy, tokenIn, bytesOf, pieceBytes, numberBytes, length-number}
-use Rattle.readers.specs.Tokens.{Use, plain, as′, numberAs, tokenOf}
-use Rattle.readers.specs.Operations.{Row, rows, unreadableRow, rowOf, Codes, operations, rowAmong, operationRow}
+use Rattle.readers.specs.Layout.{fixed, leb128, Kind, Encoded, infixed, inleb, Role, reference, typeReference, sibling, index, absolute, Token, nothing, number, bounded, forms, signed, link, string, run, block, expression, unknown, Piece, verbatim, patchable, ReadOf, asBytes, width, numberIn, formsIn, stringIn, asNumber, asBounded, asForms, asSigned, asLink, asString, asBlock, asExpression, copy, tokenIn, bytesOf, pieceBytes, numberBytes}
+use Rattle.readers.proofs.Layouts.{kindOf, NumberLaw, number-law, length-number}
+use Rattle.readers.specs.Tokens.{numberAs, tokenOf}
+use Rattle.readers.specs.Operations.{rows, unreadableRow, rowOf, Codes, operations, rowAmong, operationRow}
 use Rattle.readers.specs.Fields.{size, fieldOf, linkedValue}
 use Rattle.readers.specs.References.{Named, nameIn, namesIn, isAbsolute, anyAbsolute, named, namedType, referenceOf, encodedBy, namesOf}
 use Rattle.readers.specs.declared.cursor.Encoding.{Encoding}
 use Rattle.readers.specs.declared.cursor.Cursor.{Cursor}
 use Rattle.readers.specs.declared.fields.Field.{Field}
-use Rattle.readers.specs.declared.operations.Operation.{Operation}
 use Rattle.readers.specs.declared.expressions.Yield.{Yield}
 use Rattle.readers.specs.declared.expressions.Yield.the-variants.{Reference as Yielded, End}
-use Rattle.readers.proofs.OperationReads.{token1, token2, token3, Held}
+use Rattle.readers.proofs.OperationReads.{token1, token2, token3}
 
 -- ---- names and section offsets of pieces in a row
 
@@ -47,12 +47,12 @@ module _ (big : Bool) where
 
   same-name : (m n : ℕ) (p : Piece) → length (nameIn m p) ≡ length (nameIn n p)
   unfolding nameIn
-  same-name m n (copied l) = refl
-  same-name m n (linked e reference v) = refl
-  same-name m n (linked e typeReference v) = same-pick (eqb v 0) (m, v, e) (n, v, e)
-  same-name m n (linked e sibling v) = refl
-  same-name m n (linked e (index k) v) = refl
-  same-name m n (linked e absolute v) = refl
+  same-name m n (verbatim l) = refl
+  same-name m n (patchable e reference v) = refl
+  same-name m n (patchable e typeReference v) = same-pick (eqb v 0) (m, v, e) (n, v, e)
+  same-name m n (patchable e sibling v) = refl
+  same-name m n (patchable e (index k) v) = refl
+  same-name m n (patchable e absolute v) = refl
 
   -- how many names there are does not depend on the place
   pub same-count : (m n : ℕ) (ps : List Piece) → length (namesIn big m ps) ≡ length (namesIn big n ps)
@@ -131,7 +131,7 @@ module _ (big : Bool) where
   Names at t r = (namesIn big at (r .0 .pieces) ≡ tokenNames t (fieldOf big at (r .0))) × (anyAbsolute (r .0 .pieces) ≡ tokenAbsolute t) × Sized t (fieldOf big at (r .0))
 
   link-names : (at : ℕ) (k : Kind) (role : Role) (c : Encoded) (v : ℕ) (s : List ℕ) → kindOf c ≡ k
-      → Names at (link k role) (record { seen = 0; start = 0; pieces = linked c role v ∷ [] }, s)
+      → Names at (link k role) (record { seen = 0; start = 0; pieces = patchable c role v ∷ [] }, s)
   unfolding namesIn nameIn anyAbsolute isAbsolute tokenNames tokenAbsolute Sized fieldOf size linkedValue bytesOf pieceBytes _or_
   link-names at k role c v s kind =
       let h : at + 0 ≡ at = omega arith in
@@ -143,7 +143,7 @@ module _ (big : Bool) where
       roles : (role : Role) → at + 0 ≡ at
           → encodedBy (isLeb k) (at + length (numberBytes big c v ++ []) - (at + 0)) ≡ c
           → width (encodedBy (isLeb k) (at + length (numberBytes big c v ++ []) - (at + 0))) ≡ at + length (numberBytes big c v ++ []) - (at + 0)
-          → Names at (link k role) (record { seen = 0; start = 0; pieces = linked c role v ∷ [] }, s)
+          → Names at (link k role) (record { seen = 0; start = 0; pieces = patchable c role v ∷ [] }, s)
       roles reference h w z = (ap₂ (λ x y. (x, v, y) ∷ []) (sym h) (sym w), refl, z)
       roles typeReference h w z = (append-nil _ ∙ ap₂ (λ x y. pick (eqb v 0) [] ((x, v, y) ∷ [])) (sym h) (sym w), refl, z)
       roles sibling h w z = (refl, refl, z)

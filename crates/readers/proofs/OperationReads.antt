@@ -1,25 +1,25 @@
 -- What an operation that was read is: its code, its three tokens, and the fields that they give (specs/Steps.antt).
-use mathlib.Core.Path.{_≡_, refl, ap, ap₂, sym, _∙_, subst}
-use Prim.Native.Nat.{ℕ, zero, suc, _+_, _-_, _≤_, _<_}
-use mathlib.Core.Bool.{Bool, true, false, not}
-use mathlib.Core.Logic.{_⊎_, inl, inr, ⊎-elim}
+use mathlib.Core.Path.{_≡_, refl, ap, sym, _∙_, subst}
+use Prim.Native.Nat.{ℕ, suc, _+_, _≤_, _<_}
+use mathlib.Core.Bool.{Bool}
 use mathlib.Core.Option.{Option, none, some}
-use mathlib.Core.List.{List, [], _∷_, _++_, append-assoc, append-nil}
+use mathlib.Core.List.{List, [], _∷_, _++_}
 use native.Mathlib.Omega.{arith}
-use lib.ListN.{length, take, drop, getD, length-append, length-take, length-drop}
-use lib.Seq.{length-take-le, drop-drop}
-use lib.Dec.{T, leb, ltb, eqb}
-use mir.Facts.{leb-yes, yes-leb}
-use Rattle.readers.specs.Choice.{pick, pick-yes, pick-no, check, bind, bind-at, bind-none, All, all-some, all-none, all-of, all-check, all-bind, all-triv, Took, took-none, took-add, took-length}
+use lib.ListN.{length, take, drop, length-append, length-drop}
+use lib.Seq.{length-take-le}
+use lib.Dec.{leb}
+use mir.Facts.{leb-yes}
+use Rattle.readers.specs.Choice.{check, bind}
+use Rattle.readers.proofs.Choice.{bind-at, bind-none, All, all-some, all-none, all-of, all-check, all-bind, all-triv, Took, took-add, took-length}
 use Rattle.readers.specs.Numbers.{Groups, uleb, sleb, fixedValue}
-use Rattle.readers.specs.Layout.{fixed, infixed, Kind, Token, nothing, number, bounded, forms, signed, link, string, run, block, expression, unknown, Layout, done, fail, field, Piece, copied, Read, ReadOf, RunOf, ExpressionReader, asBytes, width, kindOf, NumberLaw, number-law, numberIn, LebLaw, uleb-law, formsIn, stringIn, asNumber, asBounded, asForms, asSigned, asLink, asString, asBlock, asExpression, copy, tokenIn, TokenLaw, token-law, readIn, before, bytesOf, pieceBytes, writeAll, as-bytes-law}
+use Rattle.readers.specs.Layout.{fixed, infixed, Token, nothing, number, bounded, forms, signed, link, string, run, block, expression, unknown, verbatim, Read, ReadOf, ExpressionReader, asBytes, width, numberIn, formsIn, stringIn, asNumber, asBounded, asForms, asSigned, asLink, asString, asBlock, asExpression, copy, tokenIn, readIn, before, bytesOf, pieceBytes}
+use Rattle.readers.proofs.Layouts.{NumberLaw, number-law, LebLaw, uleb-law, TokenLaw, token-law, as-bytes-law}
 use Rattle.readers.specs.Tokens.{tokenOf, plain}
-use Rattle.readers.specs.Operations.{Row, rowLayout, rowOf, operation, operationRow}
+use Rattle.readers.specs.Operations.{rowLayout, rowOf, operation, operationRow}
 use Rattle.readers.specs.Cursors.{cursor}
 use Rattle.readers.specs.Fields.{size, fieldOf, rowOfReads}
 use Rattle.readers.specs.Steps.{rowOperation, operationOfReads, asOperation, operationAt}
 use Rattle.readers.specs.declared.cursor.Encoding.{Encoding}
-use Rattle.readers.specs.declared.fields.Field.{Field}
 use Rattle.readers.specs.declared.operations.Operation.{Operation}
 use Rattle.readers.specs.declared.operations.OperationRead.{OperationRead}
 use Rattle.readers.specs.declared.operations.OperationRead.the-variants.{Read as Operation′, Unreadable as NoOperation}
@@ -52,7 +52,7 @@ module _ (e : Encoding) where
       }
 
   -- x holds the operation op, whose place is at: its code c and its tokens a, b, d, each read from what the one before left
-  pub record Held (x : List ℕ) (at : ℕ) (op : Operation) : Type 0 where
+  pub record OperationHeld (x : List ℕ) (at : ℕ) (op : Operation) : Type 0 where
     pub c : Read
     pub a : Read
     pub b : Read
@@ -68,7 +68,7 @@ module _ (e : Encoding) where
     pub made : op ≡ madeOf at c a b d
 
   unfoldable pub Cases : List ℕ → ℕ → OperationRead → Type 0
-  Cases x at (Operation′ op) = Held x at op
+  Cases x at (Operation′ op) = OperationHeld x at op
   Cases x at NoOperation = readIn big asBytes (operation e) x ≡ none
 
   -- the reader, token by token
@@ -130,7 +130,7 @@ module _ (e : Encoding) where
   copy-start v k n s h l = omega (arith, length-append (take n s) [], length-take-le n s l)
 
   expression-start : (s : List ℕ) (t : Groups) → Took s (suc (t .0)) (t .2)
-      → suc (t .0) ≤ size (big e) (record { seen = 0; start = suc (t .0); pieces = copied (take (suc (t .0)) s) ∷ copied (take (t .1) (t .2)) ∷ [] })
+      → suc (t .0) ≤ size (big e) (record { seen = 0; start = suc (t .0); pieces = verbatim (take (suc (t .0)) s) ∷ verbatim (take (t .1) (t .2)) ∷ [] })
   unfolding size bytesOf pieceBytes
   expression-start s t q =
       let a : List ℕ = take (suc (t .0)) s in
@@ -165,23 +165,23 @@ module _ (e : Encoding) where
   token-took t s r rest q = all-of (TokenLaw (big e) asBytes t s) (token-law (big e) asBytes (as-bytes-law (big e)) t s) q .0
 
   -- a code is one byte, and nothing that a rewriting changes
-  code-law : (s : List ℕ) → All (λ r. (1 ≤ length s) × (r .0 .pieces ≡ copied (take 1 s) ∷ []) × (size (big e) (r .0) ≡ 1)) (tokenIn (big e) asBytes (number (fixed 1)) s)
+  code-law : (s : List ℕ) → All (λ r. (1 ≤ length s) × (r .0 .pieces ≡ verbatim (take 1 s) ∷ []) × (size (big e) (r .0) ≡ 1)) (tokenIn (big e) asBytes (number (fixed 1)) s)
   unfolding tokenIn asNumber copy size bytesOf pieceBytes numberIn width
   code-law s =
       all-bind (λ t. (t .0 ≡ infixed 1) × (1 ≤ length s)) _ (check (leb 1 8) (check (leb 1 (length s)) (some (infixed 1, fixedValue (big e) (take 1 s), drop 1 s)))) _
       (all-check _ _ _ (λ u. all-check _ _ _ (λ v. all-some (λ t. (t .0 ≡ infixed 1) × (1 ≤ length s)) (refl, leb-yes v))))
-      (λ t q u. all-some (λ r. (1 ≤ length s) × (r .0 .pieces ≡ copied (take 1 s) ∷ []) × (size (big e) (r .0) ≡ 1)) (
+      (λ t q u. all-some (λ r. (1 ≤ length s) × (r .0 .pieces ≡ verbatim (take 1 s) ∷ []) × (size (big e) (r .0) ≡ 1)) (
         u .1,
-        ap (λ w. copied (take (width w) s) ∷ []) (u .0),
+        ap (λ w. verbatim (take (width w) s) ∷ []) (u .0),
         ap (λ w. length (take (width w) s ++ [])) (u .0) ∙ (let h : 1 ≤ length s = u .1 in omega (arith, length-append (take 1 s) [], length-take-le 1 s h)),
       ))
 
-  module _ (x : List ℕ) (at : ℕ) (op : Operation) (h : Held e x at op) where
+  module _ (x : List ℕ) (at : ℕ) (op : Operation) (h : OperationHeld e x at op) where
     abbrev pub span : ℕ
     span = size (big e) (h .c) + size (big e) (h .a) + size (big e) (h .b) + size (big e) (h .d)
 
-    pub code-is : (1 ≤ length x) × (h .c .pieces ≡ copied (take 1 x) ∷ []) × (size (big e) (h .c) ≡ 1)
-    code-is = all-of (λ r. (1 ≤ length x) × (r .0 .pieces ≡ copied (take 1 x) ∷ []) × (size (big e) (r .0) ≡ 1)) (code-law x) (h .code)
+    pub code-is : (1 ≤ length x) × (h .c .pieces ≡ verbatim (take 1 x) ∷ []) × (size (big e) (h .c) ≡ 1)
+    code-is = all-of (λ r. (1 ≤ length x) × (r .0 .pieces ≡ verbatim (take 1 x) ∷ []) × (size (big e) (r .0) ≡ 1)) (code-law x) (h .code)
 
     pub first-from : Took x (size (big e) (h .c)) (h .x1)
     first-from = token-took _ x (h .c) (h .x1) (h .code)
@@ -218,7 +218,7 @@ module _ (e : Encoding) where
         (omega arith, omega arith, omega arith, omega arith, omega arith)
 
   -- the operation at a place, with what it holds
-  pub operation-held : (s : List ℕ) (at : ℕ) (op : Operation) → operationAt e s at ≡ Operation′ op → Held e (drop at s) at op
+  pub operation-held : (s : List ℕ) (at : ℕ) (op : Operation) → operationAt e s at ≡ Operation′ op → OperationHeld e (drop at s) at op
   unfolding operationAt Cases
   operation-held s at op q = subst (λ o. Cases e (drop at s) at o) q (cases e (drop at s) at)
 
@@ -230,7 +230,7 @@ module _ (e : Encoding) where
   pub operation-inside : (s : List ℕ) (at : ℕ) (op : Operation) → operationAt e s at ≡ Operation′ op
       → (at < op .next .at) × (op .next .at ≤ length s) × (at < op .first .start) × (op .first .start ≤ op .first .end) × (op .first .end ≤ op .next .at)
   operation-inside s at op q =
-      let h : Held e (drop at s) at op = operation-held s at op q in
+      let h : OperationHeld e (drop at s) at op = operation-held s at op q in
       let one : 1 ≤ length (drop at s) = code-is (drop at s) at op h .0 in
       let w : (at < op .next .at) × (op .next .at ≤ at + length (drop at s)) × (at < op .first .start) × (op .first .start ≤ op .first .end) × (op .first .end ≤ op .next .at) = held-inside (drop at s) at op h in
       let n : op .next .at ≤ length s = omega (arith, w .1, length-drop at s) in

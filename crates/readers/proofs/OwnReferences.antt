@@ -1,16 +1,17 @@
 -- What an operation names by itself, return by return (specs/References.antt: namedType, referenceOf, ownWalk).
-use mathlib.Core.Path.{_≡_, refl, ap, ap₂, sym, _∙_}
+use mathlib.Core.Path.{_≡_, ap, sym, _∙_}
 use Prim.Native.Nat.{ℕ, _-_, _≤_, _<_}
 use mathlib.Core.Bool.{Bool, true, false, not}
 use lib.Dec.{T, leb, ltb, eqb}
 use mir.Facts.{yes-ltb, no-ltb, yes-leb, no-leb, yes-eqb, no-eqb}
-use Rattle.readers.specs.Choice.{pick, pick-yes, pick-no, _or_}
-use Rattle.readers.specs.References.{named, namedType, referenceOf, counted, ownWalk}
+use Rattle.readers.specs.Choice.{_or_}
+use Rattle.readers.proofs.Choice.{pick-yes, pick-no}
+use Rattle.readers.specs.References.{named, namedType, referenceOf}
+use Rattle.readers.specs.inner.References.{counted, ownWalk}
 use Rattle.readers.specs.declared.cursor.Cursor.{Cursor}
 use Rattle.readers.specs.declared.fields.Field.{Field}
 use Rattle.readers.specs.declared.operations.Operation.{Operation}
-use Rattle.readers.specs.declared.expressions.Walk.{Walk}
-use Rattle.readers.specs.declared.expressions.Walk.the-variants.{Walked, Unreadable}
+use Rattle.readers.specs.declared.expressions.Walk.the-variants.{Walked}
 use Rattle.readers.specs.declared.expressions.Reference.{Reference}
 use Rattle.readers.specs.declared.expressions.Yield.{Yield}
 use Rattle.readers.specs.declared.expressions.Yield.the-variants.{Reference as Yielded, End}

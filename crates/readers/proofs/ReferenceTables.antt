@@ -1,14 +1,15 @@
 -- Tables of numbers: cleared, and filled with references.
-use mathlib.Core.Path.{_≡_, refl, ap, ap₂, sym, _∙_, subst}
+use mathlib.Core.Path.{_≡_, refl, ap, ap₂, sym, _∙_}
 use Prim.Native.Nat.{ℕ, zero, suc, _+_, _*_, _-_, _≤_, _<_}
 use mathlib.Core.List.{List, [], _∷_, _++_, append-assoc, append-nil}
 use native.Mathlib.Omega.{arith}
 use native.Mathlib.Numerals.{add-one}
-use lib.ListN.{length, take, drop, set, replicate, length-append, length-replicate, length-set}
+use lib.ListN.{length, take, set, length-append, length-set}
 use lib.Seq.{take-suc-set, take-length, set-at, append-snoc}
 use Rattle.readers.specs.Choice.{zeros}
 use Rattle.readers.specs.Layout.{width}
-use Rattle.readers.specs.References.{Named, encodedBy, numbersOf, Room, flatFrom, nextReference}
+use Rattle.readers.specs.References.{Named, encodedBy, numbersOf, flatFrom, nextReference}
+use Rattle.readers.specs.inner.References.{Room}
 use Rattle.readers.specs.declared.cursor.Encoding.{Encoding}
 use Rattle.readers.specs.declared.expressions.Reference.{Reference}
 use Rattle.readers.specs.declared.expressions.Yield.{Yield}

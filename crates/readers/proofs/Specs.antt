@@ -7,10 +7,12 @@ use native.Mathlib.Omega.{arith}
 use lib.ListN.{length}
 use lib.Dec.{eqb}
 use mir.Facts.{yes-eqb, no-eqb}
-use Rattle.readers.specs.Choice.{pick-yes, pick-no, pick-either, bind, All, all-some, all-none, all-bind, all-of}
+use Rattle.readers.specs.Choice.{bind}
+use Rattle.readers.proofs.Choice.{pick-yes, pick-no, pick-either, All, all-some, all-none, all-bind, all-of}
 use Rattle.readers.specs.Numbers.{sleb}
 use Rattle.readers.specs.Layout.{short}
-use Rattle.readers.specs.Scan.{Scanned, push, onTurn, scanWithin, scan, Goes, scan-stop, scan-bad, scan-more}
+use Rattle.readers.specs.Scan.{Scanned, push, onTurn, scanWithin, scan}
+use Rattle.readers.proofs.Scan.{Goes, scan-stop, scan-bad, scan-more}
 use Rattle.readers.specs.Cursors.{cursor, lebAt}
 use Rattle.readers.specs.Abbreviations.{numberSpec, implicitSpec, specAt, specTurn, attributesFrom, scannedTo, pastAttributes}
 use Rattle.readers.specs.declared.cursor.Cursor.{Cursor}

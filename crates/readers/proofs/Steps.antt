@@ -11,8 +11,9 @@ use lib.ListN.{length, getD, drop, drop-of-length-le}
 use lib.Seq.{drop-cons}
 use lib.Dec.{T, leb, ltb, eqb}
 use mir.Facts.{yes-leb, no-leb, yes-ltb, no-ltb, ltb-yes, ltb-no, no-eqb, eqb-yes, eqb-no}
-use Rattle.readers.specs.Choice.{pick, _and_, pick-yes, pick-no, either, check, check-yes, bind, bind-at}
-use Rattle.readers.specs.Layout.{fixed, infixed, number, copied, Read, RunOf, Layout, field, done, width, copy, asNumber, before, numberIn, tokenIn, readIn, asBytes, pieceBytes, bytesOf}
+use Rattle.readers.specs.Choice.{pick, _and_, check, bind}
+use Rattle.readers.proofs.Choice.{pick-yes, pick-no, either, check-yes, bind-at}
+use Rattle.readers.specs.Layout.{fixed, infixed, number, verbatim, Read, RunOf, Layout, field, done, width, copy, asNumber, before, numberIn, tokenIn, readIn, asBytes, pieceBytes, bytesOf}
 use Rattle.readers.specs.Operations.{rowLayout, rowOf, operation, operationRow, Codes, rowAmong, locationEntries, rangeEntries, listRow}
 use Rattle.readers.specs.Cursors.{cursor}
 use Rattle.readers.specs.Fields.{size, asRow, rowAt}
@@ -20,9 +21,9 @@ use Rattle.readers.specs.Steps.{rowOperation, operationOfReads, asOperat
 use Rattle.readers.specs.declared.cursor.Cursor.{Cursor}
 use Rattle.readers.specs.declared.cursor.Encoding.{Encoding}
 use Rattle.readers.specs.declared.fields.Field.{Field}
-use Rattle.readers.specs.declared.fields.Row.{Row}
-use Rattle.readers.specs.declared.fields.RowRead.{RowRead}
-use Rattle.readers.specs.declared.fields.RowRead.the-variants.{Read as Row′, Unreadable as NoRow}
+use Rattle.readers.specs.declared.fields.Operands.{Operands}
+use Rattle.readers.specs.declared.fields.OperandsRead.{OperandsRead}
+use Rattle.readers.specs.declared.fields.OperandsRead.the-variants.{Read as Row′, Unreadable as NoRow}
 use Rattle.readers.specs.declared.operations.Operation.{Operation}
 use Rattle.readers.specs.declared.operations.OperationRead.the-variants.{Read as Operation′, Unreadable as NoOperation}
 use Rattle.readers.specs.declared.operations.ListEntry.{ListEntry}
@@ -75,7 +76,7 @@ module _ (location : Bool) (k : ℕ) where
 -- ---- a layout that begins with a byte
 
 abbrev byteRead : ℕ → Read
-byteRead b = record { seen = b; start = 0; pieces = copied (b ∷ []) ∷ [] }
+byteRead b = record { seen = b; start = 0; pieces = verbatim (b ∷ []) ∷ [] }
 
 module _ (big : Bool) (g : ℕ → Layout) where
   byte-number : (b : ℕ) (t : List ℕ) → numberIn big (fixed 1) (b ∷ t) ≡ some (infixed 1, b, t)
@@ -122,7 +123,7 @@ module _ (e : Encoding) (s : List ℕ) (at : ℕ) where
       ∙ of-row code (readIn (e .«big_endian») asBytes (rowLayout e (rowOf (operationRow code))) (drop (at + 1) s))
 
   -- the same, of the row l that was read
-  module _ (l : ℕ) (r : RowRead) (h : at < length s) (p : l ≡ operationRow code) (q : r ≡ rowAt e s (at + 1) l) where
+  module _ (l : ℕ) (r : OperandsRead) (h : at < length s) (p : l ≡ operationRow code) (q : r ≡ rowAt e s (at + 1) l) where
     of-code : operationAt e s at ≡ rowOperation l r
     of-code = operation-step h ∙ ap (λ m. rowOperation m (rowAt e s (at + 1) m)) (sym p) ∙ ap (rowOperation l) (sym q)
 
@@ -130,7 +131,7 @@ module _ (e : Encoding) (s : List ℕ) (at : ℕ) where
     unfolding rowOperation
     operation-none x = of-code ∙ ap (rowOperation l) x
 
-    pub operation-some : (f : Row) → r ≡ Row′ f
+    pub operation-some : (f : Operands) → r ≡ Row′ f
         → operationAt e s at ≡ Operation′ (record { row = l; first = f .first; second = f .second; next = cursor (f .third .end) })
     unfolding rowOperation
     operation-some f x = of-code ∙ ap (rowOperation l) x
@@ -174,7 +175,7 @@ module _ (e : Encoding) (location : Bool) (s : List ℕ) (at : ℕ) where
       ∙ ap (λ g. rowEntry kind (asRow (e .«big_endian») (at + 1) (readIn (e .«big_endian») asBytes g (drop (at + 1) s)))) (pick-no _ _ _ (no-eqb {a = kind} {b = 0} f))
 
   -- the same, of the row l that was read
-  module _ (l : ℕ) (r : RowRead) (h : at < length s) (z : kind ≡ 0 → ⊥) (p : l ≡ listRow location kind) (q : r ≡ rowAt e s (at + 1) l) where
+  module _ (l : ℕ) (r : OperandsRead) (h : at < length s) (z : kind ≡ 0 → ⊥) (p : l ≡ listRow location kind) (q : r ≡ rowAt e s (at + 1) l) where
     of-row-read : listEntryAt e location s at ≡ rowEntry kind r
     of-row-read = entry-step h z ∙ ap (λ m. rowEntry kind (rowAt e s (at + 1) m)) (sym p) ∙ ap (rowEntry kind) (sym q)
 
@@ -182,7 +183,7 @@ module _ (e : Encoding) (location : Bool) (s : List ℕ) (at : ℕ) where
     unfolding rowEntry
     entry-none x = of-row-read ∙ ap (rowEntry kind) x
 
-    pub entry-some : (f : Row) → r ≡ Row′ f
+    pub entry-some : (f : Operands) → r ≡ Row′ f
         → listEntryAt e location s at ≡ Entry (record { kind = kind; first = f .first; second = f .second; third = f .third; next = cursor (f .third .end) })
     unfolding rowEntry
     entry-some f x = of-row-read ∙ ap (rowEntry kind) x
@@ -202,7 +203,7 @@ inside-same : (s : List ℕ) (a a′ : ℕ) (f f′ : Field) → a ≡ a′ → 
 inside-same s a a′ f f′ p q i = rw (p, q) i
 
 -- a row after a byte ends past it
-between : (e : Encoding) (s : List ℕ) (at : ℕ) (r : Row) → at < length s
+between : (e : Encoding) (s : List ℕ) (at : ℕ) (r : Operands) → at < length s
     → Inside s (at + 1) (r .first) × Inside s (r .first .end) (r .second) × Inside s (r .second .end) (r .third)
     → (at < r .third .end) × (r .third .end ≤ length s) × (r .second .end ≤ r .third .end)
 between e s at r h i =
@@ -214,14 +215,14 @@ between e s at r h i =
 pub record Stepped (e : Encoding) (s : List ℕ) (at : ℕ) (o : Operation) : Type 0 where
   pub here : at < length s
   pub code : o .row ≡ operationRow (getD s at 0)
-  pub fields : Row
+  pub fields : Operands
   pub read : rowAt e s (at + 1) (o .row) ≡ Row′ fields
   pub first : o .first ≡ fields .first
   pub second : o .second ≡ fields .second
   pub next : o .next ≡ cursor (fields .third .end)
 
 module _ (e : Encoding) (s : List ℕ) (at : ℕ) (o : Operation) where
-  stepped-in : at < length s → (r : RowRead) → rowAt e s (at + 1) (operationRow (getD s at 0)) ≡ r
+  stepped-in : at < length s → (r : OperandsRead) → rowAt e s (at + 1) (operationRow (getD s at 0)) ≡ r
       → rowOperation (operationRow (getD s at 0)) r ≡ Operation′ o → Stepped e s at o
   unfolding rowOperation
   stepped-in h (Row′ r) q x =
@@ -260,7 +261,7 @@ pub record Entered (e : Encoding) (location : Bool) (s : List ℕ) (at : ℕ) (o
   pub here : at < length s
   pub kind : o .kind ≡ getD s at 0
   pub other : getD s at 0 ≡ 0 → ⊥
-  pub fields : Row
+  pub fields : Operands
   pub read : rowAt e s (at + 1) (listRow location (o .kind)) ≡ Row′ fields
   pub first : o .first ≡ fields .first
   pub second : o .second ≡ fields .second
@@ -268,7 +269,7 @@ pub record Entered (e : Encoding) (location : Bool) (s : List ℕ) (at : ℕ) (o
   pub next : o .next ≡ cursor (fields .third .end)
 
 module _ (e : Encoding) (location : Bool) (s : List ℕ) (at : ℕ) (o : ListEntry) where
-  entered-in : at < length s → (getD s at 0 ≡ 0 → ⊥) → (r : RowRead) → rowAt e s (at + 1) (listRow location (getD s at 0)) ≡ r
+  entered-in : at < length s → (getD s at 0 ≡ 0 → ⊥) → (r : OperandsRead) → rowAt e s (at + 1) (listRow location (getD s at 0)) ≡ r
       → rowEntry (getD s at 0) r ≡ Entry o → Entered e location s at o
   unfolding rowEntry
   entered-in h f (Row′ r) q x =

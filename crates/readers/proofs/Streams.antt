@@ -2,15 +2,17 @@
 use mathlib.Core.Path.{_≡_, refl, ap, sym, _∙_, subst}
 use Prim.Native.Nat.{ℕ, zero, suc, _+_, _-_, _≤_, _<_}
 use native.Mathlib.Omega.{arith}
-use mathlib.Core.List.{List, [], _∷_}
+use mathlib.Core.List.{List}
 use mathlib.Core.Option.{Option, none, some}
 use mathlib.Core.Logic.{⊎-elim}
 use lib.ListN.{length, drop, length-drop}
 use lib.Dec.{ltb, eqb}
 use mir.Facts.{ltb-yes, ltb-no}
-use Rattle.readers.specs.Choice.{pick, pick-either, either, All}
+use Rattle.readers.specs.Choice.{pick}
+use Rattle.readers.proofs.Choice.{pick-either, either, All}
 use Rattle.readers.specs.Numbers.{uleb}
-use Rattle.readers.specs.Layout.{RunOf, Layout, asBytes, readIn, writeAll, ReadLaw, read-law, as-bytes-law}
+use Rattle.readers.specs.Layout.{RunOf, Layout, asBytes, writeAll}
+use Rattle.readers.proofs.Layouts.{ReadLaw, read-law, as-bytes-law}
 use Rattle.readers.specs.Abbreviations.{attributesFrom}
 use Rattle.readers.specs.Cursors.{cursor, lebAt}
 use Rattle.readers.specs.Entries.{specsLayout, asPast, valuesAt, stepAt}
@@ -23,12 +25,12 @@ use Rattle.readers.specs.declared.cursor.Number.the-variants.{Value, Unr
 use Rattle.readers.specs.declared.cursor.Moved.{Moved}
 use Rattle.readers.specs.declared.cursor.Moved.the-variants.{To, Unreadable as Nowhere}
 use Rattle.readers.specs.declared.abbreviations.Declaration.{Declaration}
-use Rattle.readers.specs.declared.abbreviations.Found.{Found}
-use Rattle.readers.specs.declared.abbreviations.Found.the-variants.{Declaration as Found′, Nothing}
+use Rattle.readers.specs.declared.abbreviations.DeclarationFound.{DeclarationFound}
+use Rattle.readers.specs.declared.abbreviations.DeclarationFound.the-variants.{Declaration as Found′, Nothing}
 use Rattle.readers.specs.declared.entries.Entry.{Entry}
 use Rattle.readers.specs.declared.entries.Step.{Step}
 use Rattle.readers.specs.declared.entries.Step.the-variants.{Entry as Entry′, Terminator, End, Unreadable}
-use Rattle.readers.specs.Stream.{Item, entry, terminator, Items, push, onStep, itemsWithin, itemsFrom}
+use Rattle.readers.specs.Stream.{entry, terminator, Items, push, onStep, itemsWithin, itemsFrom}
 
 -- ---- how far values come
 
@@ -65,7 +67,7 @@ StepInside unit at (Terminator c) = (at < c .at) × (c .at ≤ length unit)
 StepInside unit at End = Unit {0}
 StepInside unit at Unreadable = Unit {0}
 
-module _ (e : Encoding) (abbreviations : List ℕ) (look : ℕ → Found) (unit : List ℕ) where
+module _ (e : Encoding) (abbreviations : List ℕ) (look : ℕ → DeclarationFound) (unit : List ℕ) where
   module _ (at : ℕ) where
     values-step : (values : Cursor) (d : Declaration) → at < values .at → values .at ≤ length unit
         → (m : Moved) → valuesAt e abbreviations (d .attributes .at) unit (values .at) ≡ m → StepInside unit at (entryStep e abbreviations look unit at values d m)
@@ -75,7 +77,7 @@ module _ (e : Encoding) (abbreviations : List ℕ) (look : ℕ → Found) (unit 
         record { here = refl; coded = lo; ahead = i .0; within = i .1 }
     values-step values d lo hi Nowhere q = tt
 
-    found-step : (values : Cursor) → at < values .at → values .at ≤ length unit → (f : Found) → StepInside unit at (foundStep e abbreviations look unit at values f)
+    found-step : (values : Cursor) → at < values .at → values .at ≤ length unit → (f : DeclarationFound) → StepInside unit at (foundStep e abbreviations look unit at values f)
     unfolding foundStep StepInside
     found-step values lo hi (Found′ d) = values-step values d lo hi (valuesAt e abbreviations (d .attributes .at) unit (values .at)) refl
     found-step values lo hi Nothing = tt
@@ -136,14 +138,14 @@ module _ (e : Encoding) (abbreviations : List ℕ) (look : ℕ → Found) (unit 
 
 -- ---- two look-ups that agree
 
-module _ (e : Encoding) (abbreviations : List ℕ) (look look′ : ℕ → Found) (same : (code : ℕ) → look code ≡ look′ code) (unit : List ℕ) where
+module _ (e : Encoding) (abbreviations : List ℕ) (look look′ : ℕ → DeclarationFound) (same : (code : ℕ) → look code ≡ look′ code) (unit : List ℕ) where
   module _ (at : ℕ) where
     same-values : (values : Cursor) (d : Declaration) (m : Moved) → entryStep e abbreviations look unit at values d m ≡ entryStep e abbreviations look′ unit at values d m
     unfolding entryStep
     same-values values d (To next) = refl
     same-values values d Nowhere = refl
 
-    same-found : (values : Cursor) (f : Found) → foundStep e abbreviations look unit at values f ≡ foundStep e abbreviations look′ unit at values f
+    same-found : (values : Cursor) (f : DeclarationFound) → foundStep e abbreviations look unit at values f ≡ foundStep e abbreviations look′ unit at values f
     unfolding foundStep
     same-found values (Found′ d) = same-values values d (valuesAt e abbreviations (d .attributes .at) unit (values .at))
     same-found values Nothing = refl

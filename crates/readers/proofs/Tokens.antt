@@ -11,13 +11,16 @@ use lib.ListN.{length, take, drop, length-append, length-drop, drop-of-length-le
 use lib.Seq.{length-take-le, drop-drop, take-nil, take-all}
 use lib.Dec.{T, leb, eqb}
 use mir.Facts.{yes-leb, no-leb, leb-yes, leb-no, no-eqb, eqb-yes, eqb-no}
-use Rattle.readers.specs.Choice.{pick, pick-yes, pick-no, either, check, bind, All, all-some, all-none, all-check, all-bind, all-triv, Took, took-length}
+use Rattle.readers.specs.Choice.{pick, check, bind}
+use Rattle.readers.proofs.Choice.{pick-yes, pick-no, either, All, all-some, all-none, all-check, all-bind, all-triv, Took, took-length}
 use Rattle.readers.specs.Numbers.{Groups, uleb, sleb}
-use Rattle.readers.specs.Layout.{Kind, fixed, leb128, Found, width, Role, Piece, copied, Read, ReadOf, Token, nothing, number, bounded, forms, signed, link, string, run, block, expression, unknown, field, done, asBytes, asLeb, copy, asNumber, asLink, asBounded, asForms, asSigned, asString, asBlock, asExpression, before, numberIn, stringIn, formsIn, tokenIn, readIn, numberBytes, pieceBytes, bytesOf, length-number, NumberLaw, number-law, LebLaw, uleb-law, sleb-law, StringLaw, string-law, TokenLaw, token-law, as-bytes-law}
+use Rattle.readers.specs.Layout.{Kind, fixed, leb128, ReadFound, width, Role, Piece, verbatim, Read, ReadOf, Token, nothing, number, bounded, forms, signed, link, string, run, block, expression, unknown, field, done, asBytes, asLeb, copy, asNumber, asLink, asBounded, asForms, asSigned, asString, asBlock, asExpression, before, numberIn, stringIn, formsIn, tokenIn, readIn, numberBytes, pieceBytes, bytesOf}
+use Rattle.readers.proofs.Layouts.{length-number, NumberLaw, number-law, LebLaw, uleb-law, sleb-law, StringLaw, string-law, TokenLaw, token-law, as-bytes-law}
 use Rattle.readers.specs.Tokens.{Use, plain, as′, numberAs, tokenOf}
-use Rattle.readers.specs.Operations.{Row as Tokens, rows, unreadableRow, rowOf, rowLayout}
+use Rattle.readers.specs.Operations.{OperandRow as Tokens, rows, unreadableRow, rowOf, rowLayout}
 use Rattle.readers.specs.Cursors.{cursor, asLebNumber, lebAt, asFixed, fixedAt, skipAt, asMoved, stringAt}
-use Rattle.readers.specs.Fields.{linkedValue, size, fieldOf, asField, rowOfReads, asRow, tokenAt, fieldAt, rowAt, numberField, boundedField, blockField, numberAt, partOf, exprlocAt}
+use Rattle.readers.specs.Fields.{linkedValue, size, fieldOf, asField, rowOfReads, asRow, tokenAt, fieldAt, rowAt, blockField, partOf, exprlocAt}
+use Rattle.readers.specs.inner.Fields.{numberField, boundedField, numberAt}
 use Rattle.readers.specs.declared.cursor.Encoding.{Encoding}
 use Rattle.readers.specs.declared.cursor.Cursor.{Cursor}
 use Rattle.readers.specs.declared.cursor.Number.{Number}
@@ -27,9 +30,9 @@ use Rattle.readers.specs.declared.cursor.Moved.the-variants.{To, Unreada
 use Rattle.readers.specs.declared.fields.Field.{Field}
 use Rattle.readers.specs.declared.fields.FieldRead.{FieldRead}
 use Rattle.readers.specs.declared.fields.FieldRead.the-variants.{Read as Field′, Unreadable as NoField}
-use Rattle.readers.specs.declared.fields.Row.{Row}
-use Rattle.readers.specs.declared.fields.RowRead.{RowRead}
-use Rattle.readers.specs.declared.fields.RowRead.the-variants.{Read as Row′, Unreadable as NoRow}
+use Rattle.readers.specs.declared.fields.Operands.{Operands}
+use Rattle.readers.specs.declared.fields.OperandsRead.{OperandsRead}
+use Rattle.readers.specs.declared.fields.OperandsRead.the-variants.{Read as Row′, Unreadable as NoRow}
 
 abbrev order : Encoding → Bool
 order e = e .«big_endian»
@@ -115,12 +118,12 @@ module _ (big : Bool) (at : ℕ) where
   as-whole : (v n : ℕ) (s : List ℕ) → n ≤ length s → asField big at (some (copy v 0 n s)) ≡ Field′ (aField v at (at + n))
   as-whole v n s h = as-copied v 0 n s h ∙ ap (λ m. Field′ (aField v m (at + n))) (let e : at + 0 ≡ at = omega arith in e)
 
-  on-number : (k : Kind) (s : List ℕ) (o : Option Found) → All (NumberLaw big k s) o → asField big at (bind o (asNumber s)) ≡ numberField at (asFixed at o)
+  on-number : (k : Kind) (s : List ℕ) (o : Option ReadFound) → All (NumberLaw big k s) o → asField big at (bind o (asNumber s)) ≡ numberField at (asFixed at o)
   unfolding All bind asField asNumber asFixed numberField
   on-number k s none q = refl
   on-number k s (some r) q = as-whole (r .1) (width (r .0)) s (q .1 .0)
 
-  on-link : (role : Role) (o : Option Found) → asField big at (bind o (asLink role)) ≡ numberField at (asFixed at o)
+  on-link : (role : Role) (o : Option ReadFound) → asField big at (bind o (asLink role)) ≡ numberField at (asFixed at o)
   unfolding bind asField fieldOf size bytesOf pieceBytes linkedValue asLink asFixed numberField
   on-link role none = refl
   on-link role (some r) =
@@ -165,7 +168,7 @@ module _ (big : Bool) (at : ℕ) where
   left-after : (s rest : List ℕ) (w : ℕ) → Took (drop at s) w rest → length rest ≡ length s - (at + w)
   left-after s rest w q = omega (arith, took-length (drop at s) w rest q, length-drop at s)
 
-  on-block : (k : Kind) (s : List ℕ) (o : Option Found) → All (NumberLaw big k (drop at s)) o → asField big at (bind o (asBlock (drop at s))) ≡ blockField s (asFixed at o)
+  on-block : (k : Kind) (s : List ℕ) (o : Option ReadFound) → All (NumberLaw big k (drop at s)) o → asField big at (bind o (asBlock (drop at s))) ≡ blockField s (asFixed at o)
   unfolding All bind asField asBlock asFixed blockField
   on-block k s none q = refl
   on-block k s (some r) q =
@@ -182,7 +185,7 @@ module _ (big : Bool) (at : ℕ) where
       let w : ℕ = suc (t .0) in
       let a : List ℕ = take w (drop at s) in
       let b : List ℕ = take (t .1) (t .2) in
-      on-check (leb (t .1) (length (t .2))) (record { seen = 0; start = w; pieces = copied a ∷ copied b ∷ [] }, drop (t .1) (t .2)) (aField 0 (at + w) (at + (w + t .1)))
+      on-check (leb (t .1) (length (t .2))) (record { seen = 0; start = w; pieces = verbatim a ∷ verbatim b ∷ [] }, drop (t .1) (t .2)) (aField 0 (at + w) (at + (w + t .1)))
       (λ u. ap (λ m. Field′ (aField 0 (at + w) (at + m)))
       (length-append a (b ++ []) ∙ ap₂ _+_ (length-take-le w (drop at s) (q .0 .0)) (ap length (append-nil b) ∙ length-take-le (t .1) (t .2) (leb-yes u))))
       ∙ ap₂ (λ (x y : ℕ). pick (leb (t .1) x) (Field′ (aField 0 (at + w) y)) NoField) (left-after s (t .2) w (q .0)) (let e : at + (w + t .1) ≡ at + w + t .1 = omega arith in e)
@@ -369,19 +372,19 @@ module _ (e : Encoding) (s : List ℕ) (at : ℕ) where
 
 -- ---- a row: one field after the other
 
-unfoldable pub onField : FieldRead → (Field → RowRead) → RowRead
+unfoldable pub onField : FieldRead → (Field → OperandsRead) → OperandsRead
 onField (Field′ f) g = g f
 onField NoField g = NoRow
 
-pub on-field : (r : FieldRead) (f : Field) (g : Field → RowRead) → r ≡ Field′ f → onField r g ≡ g f
+pub on-field : (r : FieldRead) (f : Field) (g : Field → OperandsRead) → r ≡ Field′ f → onField r g ≡ g f
 unfolding onField
 on-field r f g e = ap (λ x. onField x g) e
 
-pub on-none : (r : FieldRead) (g : Field → RowRead) → r ≡ NoField → onField r g ≡ NoRow
+pub on-none : (r : FieldRead) (g : Field → OperandsRead) → r ≡ NoField → onField r g ≡ NoRow
 unfolding onField
 on-none r g e = ap (λ x. onField x g) e
 
-on-same : (r r′ : FieldRead) (g g′ : Field → RowRead) → r ≡ r′ → ((f : Field) → g f ≡ g′ f) → onField r g ≡ onField r′ g′
+on-same : (r r′ : FieldRead) (g g′ : Field → OperandsRead) → r ≡ r′ → ((f : Field) → g f ≡ g′ f) → onField r g ≡ onField r′ g′
 unfolding onField
 on-same r r′ g g′ e h = ap (λ x. onField x g) e ∙ each r′
   where
@@ -389,7 +392,7 @@ on-same r r′ g g′ e h = ap (λ x. onField x g) e ∙ each r′
     each (Field′ f) = h f
     each NoField = refl
 
-abbrev pub aRow : Field → Field → Field → Row
+abbrev pub aRow : Field → Field → Field → Operands
 aRow a b c = record { first = a; second = b; third = c }
 
 module _ (e : Encoding) (s : List ℕ) (at : ℕ) where
@@ -460,7 +463,7 @@ module _ (big : Bool) where
   unfolding size copy bytesOf pieceBytes
   copied-starts v k n l h q = let m : length (take n l ++ []) ≡ n = ap length (append-nil (take n l)) ∙ length-take-le n l q in omega arith
 
-  length-starts : (w : ℕ) (ps : List Piece) (l rest : List ℕ) → w ≤ length l → Starts (record { seen = 0; start = w; pieces = copied (take w l) ∷ ps }, rest)
+  length-starts : (w : ℕ) (ps : List Piece) (l rest : List ℕ) → w ≤ length l → Starts (record { seen = 0; start = w; pieces = verbatim (take w l) ∷ ps }, rest)
   unfolding size bytesOf pieceBytes
   length-starts w ps l rest h = omega (arith, length-append (take w l) (bytesOf big ps), length-take-le w l h)
 
@@ -505,12 +508,12 @@ module _ (e : Encoding) (s : List ℕ) (at : ℕ) (f : Field) where
   field-inside t = token-inside (tokenOf e plain t)
 
 -- what a row that was read says of each of its fields
-pub record Fields (e : Encoding) (s : List ℕ) (at l : ℕ) (r : Row) : Type 0 where
+pub record Fields (e : Encoding) (s : List ℕ) (at l : ℕ) (r : Operands) : Type 0 where
   pub first : fieldAt e s at (rowOf l .first) ≡ Field′ (r .first)
   pub second : fieldAt e s (r .first .end) (rowOf l .second) ≡ Field′ (r .second)
   pub third : fieldAt e s (r .second .end) (rowOf l .third) ≡ Field′ (r .third)
 
-module _ (e : Encoding) (s : List ℕ) (at l : ℕ) (r : Row) where
+module _ (e : Encoding) (s : List ℕ) (at l : ℕ) (r : Operands) where
   third-of : (f g : Field) (o : FieldRead) → fieldAt e s at (rowOf l .first) ≡ Field′ f → fieldAt e s (f .end) (rowOf l .second) ≡ Field′ g → fieldAt e s (g .end) (rowOf l .third) ≡ o
       → onField o (λ h. Row′ (aRow f g h)) ≡ Row′ r → Fields e s at l r
   unfolding onField
@@ -538,14 +541,6 @@ module _ (e : Encoding) (s : List ℕ) (at l : ℕ) (r : Row) where
   row-inside x =
       let q : Fields e s at l r = row-fields x in
       (field-inside e s at (r .first) _ (q .first), field-inside e s (r .first .end) (r .second) _ (q .second), field-inside e s (r .second .end) (r .third) _ (q .third))
-
-  -- a row is read to at least its place, and inside the slice where its place is
-  pub row-end : rowAt e s at l ≡ Row′ r → (at ≤ r .third .end) × (r .third .end ≤ at + (length s - at))
-  row-end x =
-      let i : Inside s at (r .first) × Inside s (r .first .end) (r .second) × Inside s (r .second .end) (r .third) = row-inside x in (
-        omega (arith, i .0 .after, i .0 .forward, i .1 .after, i .1 .forward, i .2 .after, i .2 .forward),
-        omega (arith, i .0 .after, i .0 .forward, i .0 .within, i .1 .after, i .1 .forward, i .1 .within, i .2 .within),
-      )
 
 -- ---- the bytes of a field
 

@@ -10,16 +10,20 @@ use lib.ListN.{length, getD, take, drop, length-append}
 use lib.Seq.{length-take-le, drop-drop}
 use lib.Dec.{T, ltb, leb, eqb}
 use mir.Facts.{yes-ltb, no-ltb, ltb-yes, ltb-no, yes-eqb, no-eqb, eqb-yes, eqb-no, leb-yes, leb-no}
-use Rattle.readers.specs.Choice.{pick, pick-yes, pick-no, pick-either, _and_, _or_, either, bind, bind-bind, bind-ext, All, all-some, all-bind, all-triv, all-map}
+use Rattle.readers.specs.Choice.{pick, _and_, _or_, bind}
+use Rattle.readers.proofs.Choice.{pick-yes, pick-no, pick-either, either, bind-bind, bind-ext, All, all-some, all-bind, all-triv, all-map}
 use Rattle.readers.specs.Numbers.{Groups, uleb}
-use Rattle.readers.specs.Layout.{Read, ReadOf, RunOf, ExpressionReader, Token, forms, Layout, done, fail, field, asBytes, asLeb, copy, asNumber, asForms, before, numberIn, formsIn, tokenIn, readIn, pieceBytes, bytesOf, writeAll, width, LebLaw, uleb-law, FormsLaw, forms-law, ReadLaw, read-law, as-bytes-law}
+use Rattle.readers.specs.Layout.{Read, ReadOf, RunOf, ExpressionReader, Token, forms, Layout, done, fail, field, asBytes, asLeb, copy, asNumber, asForms, before, numberIn, formsIn, tokenIn, readIn, pieceBytes, bytesOf, writeAll, width}
+use Rattle.readers.proofs.Layouts.{LebLaw, uleb-law, FormsLaw, forms-law, ReadLaw, read-law, as-bytes-law}
 use Rattle.readers.specs.Operations.{Codes}
 use Rattle.readers.specs.Forms.{formToken, formTokens, tokenAmong, useOf, valueToken, attributeLayout}
 use Rattle.readers.specs.Cursors.{cursor, asLebNumber, lebAt, fixedAt, skipAt, asFormNumber, formsAt}
-use Rattle.readers.specs.Fields.{size, fieldOf, asField, tokenAt, fieldAt, numberField, numberAt}
+use Rattle.readers.specs.Fields.{size, fieldOf, asField, tokenAt, fieldAt}
+use Rattle.readers.specs.inner.Fields.{numberField, numberAt}
 use Rattle.readers.specs.Scan.{Scanned, push}
 use Rattle.readers.specs.Abbreviations.{specAt, attributesFrom, scannedTo, pastAttributes, movedDeclaration, wholeDeclaration, declarationFound, wholeFound, findHead, findAt}
-use Rattle.readers.specs.Entries.{attributeOfReads, asAttribute, attributeAt, attributeEnd, then, attributesLayout, specsLayout, asPast, valuesAt, foundLayout, entryLayout, entryFound, stepOfReads, asStep, stepAt, headFound, headOfCode, entryHeadAt, entryOf, entryTo, headEnd, headStep}
+use Rattle.readers.specs.Entries.{attributeOfReads, asAttribute, attributeAt, attributeEnd, then, attributesLayout, specsLayout, asPast, valuesAt, foundLayout, entryLayout, entryFound, stepOfReads, asStep, stepAt, headFound, headOfCode, entryHeadAt}
+use Rattle.readers.specs.inner.Entries.{entryOf, entryTo, headEnd, headStep}
 use Rattle.readers.specs.declared.cursor.Encoding.{Encoding}
 use Rattle.readers.specs.declared.cursor.Cursor.{Cursor}
 use Rattle.readers.specs.declared.cursor.Number.{Number}
@@ -33,8 +37,8 @@ use Rattle.readers.specs.declared.abbreviations.AttributeSpec.{Attribute
 use Rattle.readers.specs.declared.abbreviations.SpecStep.the-variants.{Attribute, Last as LastSpec, Unreadable as NoSpec}
 use Rattle.readers.specs.declared.abbreviations.Declaration.{Declaration}
 use Rattle.readers.specs.declared.abbreviations.DeclarationStep.the-variants.{Declaration as Declared}
-use Rattle.readers.specs.declared.abbreviations.Found.{Found}
-use Rattle.readers.specs.declared.abbreviations.Found.the-variants.{Declaration as Found′, Nothing}
+use Rattle.readers.specs.declared.abbreviations.DeclarationFound.{DeclarationFound}
+use Rattle.readers.specs.declared.abbreviations.DeclarationFound.the-variants.{Declaration as Found′, Nothing}
 use Rattle.readers.specs.declared.attributes.Attribute.{Attribute as Valued}
 use Rattle.readers.specs.declared.attributes.AttributeRead.{AttributeRead}
 use Rattle.readers.specs.declared.attributes.AttributeRead.the-variants.{Read as Attribute′, Unreadable as NoAttribute}
@@ -466,12 +470,12 @@ module _ (e : Encoding) (abbreviations : List ℕ) (p : ℕ) (unit : List ℕ) (
 
 -- ---- entries and terminators
 
-module _ (e : Encoding) (abbreviations : List ℕ) (look : ℕ → Found) (unit : List ℕ) (at : ℕ) where
+module _ (e : Encoding) (abbreviations : List ℕ) (look : ℕ → DeclarationFound) (unit : List ℕ) (at : ℕ) where
   unfoldable pub entryStep : Cursor → Declaration → Moved → Step
   entryStep values d (To next) = Entry′ (record { offset = record { 0 = at }; declaration = d; values = values; next = next })
   entryStep values d Nowhere = Unreadable
 
-  unfoldable pub foundStep : Cursor → Found → Step
+  unfoldable pub foundStep : Cursor → DeclarationFound → Step
   foundStep values (Found′ d) = entryStep values d (valuesAt e abbreviations (d .attributes .at) unit (values .at))
   foundStep values Nothing = Unreadable
 
@@ -496,7 +500,7 @@ module _ (e : Encoding) (abbreviations : List ℕ) (look : ℕ → Found) (unit 
         ∙ ap (entryFound e abbreviations look at (at + size (order e) c) (at + size (order e) c + length (writeAll (order e) (r .0)))) k
         ∙ ap (λ m. entryFound e abbreviations look at (at + m) (at + m + length (writeAll (order e) (r .0))) (Found′ d)) w
 
-    found-read : (f : Found) → look (c .seen) ≡ f
+    found-read : (f : DeclarationFound) → look (c .seen) ≡ f
         → stepOf c (readIn (order e) asBytes (foundLayout e abbreviations look f) (drop (at + n) unit)) ≡ foundStep (cursor (at + n)) f
     unfolding foundLayout foundStep readIn bind asStep valuesAt
     found-read (Found′ d) k = entry-read d k (readIn (order e) asBytes (specsLayout e (attributesFrom abbreviations (d .attributes .at))) (drop (at + n) unit))
@@ -557,22 +561,22 @@ module _ (e : Encoding) (abbreviations : List ℕ) (look : ℕ → Found) (unit 
       unfolding codeStep
       step-terminator z = sym (step-by h ∙ ap codeStep (sym p ∙ q) ∙ pick-yes _ _ _ (yes-eqb {a = code} {b = 0} z))
 
-      module _ (z : code ≡ 0 → ⊥) (f : Found) (p′ : wholeFound abbreviations f ≡ look code) where
+      module _ (z : code ≡ 0 → ⊥) (f : DeclarationFound) (p′ : wholeFound abbreviations f ≡ look code) where
         step-code : foundStep values (wholeFound abbreviations f) ≡ stepAt e abbreviations look unit at
         unfolding codeStep
         step-code = ap (foundStep values) p′ ∙ sym (step-by h ∙ ap codeStep (sym p ∙ q) ∙ pick-no _ _ _ (no-eqb {a = code} {b = 0} z))
 
         pub step-unknown : f ≡ Nothing → Unreadable ≡ stepAt e abbreviations look unit at
         unfolding foundStep wholeFound
-        step-unknown q′ = sym (ap (λ (f : Found). foundStep values (wholeFound abbreviations f)) q′) ∙ step-code
+        step-unknown q′ = sym (ap (λ (f : DeclarationFound). foundStep values (wholeFound abbreviations f)) q′) ∙ step-code
 
         step-found : (d : Declaration) → f ≡ Found′ d → entryStep values d (valuesAt e abbreviations (d .attributes .at) unit (values .at)) ≡ stepAt e abbreviations look unit at
-        step-found d q′ = whole-step values d ∙ sym (ap (λ (f : Found). foundStep values (wholeFound abbreviations f)) q′) ∙ step-code
+        step-found d q′ = whole-step values d ∙ sym (ap (λ (f : DeclarationFound). foundStep values (wholeFound abbreviations f)) q′) ∙ step-code
 
 -- ---- heads of entries
 
 -- what the steps of the reader of a head answer
-module _ (look : ℕ → Found) (unit : List ℕ) (at : ℕ) where
+module _ (look : ℕ → DeclarationFound) (unit : List ℕ) (at : ℕ) where
   pub head-end : length unit ≤ at → EndHead ≡ entryHeadAt look unit at
   unfolding entryHeadAt
   head-end h = sym (pick-no _ _ _ (no-ltb {a = at} {b = length unit} h))
@@ -591,7 +595,7 @@ module _ (look : ℕ → Found) (unit : List ℕ) (at : ℕ) where
       unfolding headOfCode
       head-terminator z = sym (ap (headOfCode look at) q ∙ pick-yes _ _ _ (yes-eqb {a = code} {b = 0} z)) ∙ by-number
 
-      module _ (z : code ≡ 0 → ⊥) (f : Found) (p′ : f ≡ look code) where
+      module _ (z : code ≡ 0 → ⊥) (f : DeclarationFound) (p′ : f ≡ look code) where
         by-found : headFound look at values f ≡ entryHeadAt look unit at
         unfolding headOfCode
         by-found = ap (headFound look at values) p′ ∙ sym (ap (headOfCode look at) q ∙ pick-no _ _ _ (no-eqb {a = code} {b = 0} z)) ∙ by-number
@@ -606,17 +610,17 @@ module _ (look : ℕ → Found) (unit : List ℕ) (at : ℕ) where
 
 -- With where its values end a head is the step there, however the values are encoded.
 module _ (e : Encoding) (abbreviations : List ℕ) (from : ℕ) (index : List ℕ) (unit : List ℕ) (at : ℕ) where
-  abbrev heads : ℕ → Found
+  abbrev heads : ℕ → DeclarationFound
   heads = findHead abbreviations from index
 
-  abbrev whole : ℕ → Found
+  abbrev whole : ℕ → DeclarationFound
   whole = findAt abbreviations from index
 
   abbrev StepOf : HeadStep → Type 0
   StepOf r = headStep e abbreviations unit r ≡ stepAt e abbreviations whole unit at
 
   module _ (h : at < length unit) (code : ℕ) (values : Cursor) (p : Value code values ≡ lebAt uleb unit at) (z : code ≡ 0 → ⊥) where
-    found-step : (f : Found) → wholeFound abbreviations f ≡ whole code → StepOf (headFound heads at values f)
+    found-step : (f : DeclarationFound) → wholeFound abbreviations f ≡ whole code → StepOf (headFound heads at values f)
     unfolding headFound headStep entryTo entryStep
     found-step Nothing q = step-unknown e abbreviations whole unit at h _ p code values refl z Nothing q refl
     found-step (Found′ d) q =
@@ -646,7 +650,7 @@ module _ (e : Encoding) (abbreviations : List ℕ) (from : ℕ) (index : List �
   entry-headed r q = ap (headStep e abbreviations unit) q ∙ entry-head-law
 
 -- a step by its head
-module _ (e : Encoding) (abbreviations : List ℕ) (look : ℕ → Found) (unit : List ℕ) (at : ℕ) (r : HeadStep) (p : headStep e abbreviations unit r ≡ stepAt e abbreviations look unit at) where
+module _ (e : Encoding) (abbreviations : List ℕ) (look : ℕ → DeclarationFound) (unit : List ℕ) (at : ℕ) (r : HeadStep) (p : headStep e abbreviations unit r ≡ stepAt e abbreviations look unit at) where
   pub headed-end : r ≡ EndHead → End ≡ stepAt e abbreviations look unit at
   unfolding headStep
   headed-end q = sym (ap (headStep e abbreviations unit) q) ∙ p

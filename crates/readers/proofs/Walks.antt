@@ -8,15 +8,18 @@ use mathlib.Core.List.{List, [], _∷_, _++_}
 use native.Mathlib.Omega.{arith}
 use lib.ListN.{length, take, drop, length-append, length-drop, drop-of-length-le}
 use lib.Seq.{drop-drop, length-take-le}
-use lib.Dec.{T, leb, ltb, eqb}
+use lib.Dec.{T, eqb}
 use mir.Facts.{eqb-yes, yes-eqb, no-ltb, no-leb, no-eqb}
-use Rattle.readers.specs.Choice.{pick, pick-yes, pick-no, pick-either, either, bind, bind-at, bind-none, _or_, All, all-some, all-none, all-of, all-bind, Took, took-length}
-use Rattle.readers.specs.Layout.{Piece, asBytes, bytesOf, readIn}
+use Rattle.readers.specs.Choice.{pick, bind, _or_}
+use Rattle.readers.proofs.Choice.{pick-no, either, bind-none, All, all-some, all-none, all-bind, took-length}
+use Rattle.readers.specs.Layout.{Piece, bytesOf}
 use Rattle.readers.specs.Operations.{operation}
-use Rattle.readers.specs.Expression.{expressionIn, expression-none, expression-more}
+use Rattle.readers.specs.Expression.{expressionIn}
+use Rattle.readers.proofs.Expression.{expression-none, expression-more}
 use Rattle.readers.specs.Fields.{partOf}
 use Rattle.readers.specs.Steps.{operationAt}
-use Rattle.readers.specs.References.{Named, namesIn, anyAbsolute, asWalk, walkOf, ownWalk, counted, named, namedType, referenceOf, namesOf}
+use Rattle.readers.specs.References.{namesIn, anyAbsolute, asWalk, walkOf, referenceOf, namesOf}
+use Rattle.readers.specs.inner.References.{ownWalk, counted}
 use Rattle.readers.specs.declared.cursor.Encoding.{Encoding}
 use Rattle.readers.specs.declared.operations.Operation.{Operation}
 use Rattle.readers.specs.declared.operations.OperationRead.{OperationRead}
@@ -25,9 +28,9 @@ use Rattle.readers.specs.declared.expressions.Walk.{Walk}
 use Rattle.readers.specs.declared.expressions.Walk.the-variants.{Walked, Unreadable}
 use Rattle.readers.specs.declared.expressions.Yield.{Yield}
 use Rattle.readers.specs.declared.expressions.Yield.the-variants.{Reference as Yielded, End}
-use Rattle.readers.proofs.OperationReads.{Held, Cases, cases, span, rest-is, past, held-inside, code-is, operation-held, operation-none, operation-inside}
+use Rattle.readers.proofs.OperationReads.{OperationHeld, Cases, cases, span, rest-is, past, held-inside, operation-held, operation-none, operation-inside}
 use Rattle.readers.proofs.OperationPieces.{names-append, same-count, absolute-append, or-assoc}
-use Rattle.readers.proofs.Deep.{own, own-names, own-absolute, own-size, deep-plain, lead, inner, deep-entry, lead-names, lead-absolute, inner-size, inner-is, inner-ends, unreadable}
+use Rattle.readers.proofs.Deep.{own, own-names, own-absolute, deep-plain, lead, inner, deep-entry, lead-names, lead-absolute, inner-size, inner-is, unreadable}
 
 -- two walks in a row
 unfoldable pub join : Walk → Walk → Walk
@@ -103,7 +106,7 @@ module _ (e : Encoding) where
   abbrev pub walkFrom : List ℕ → ℕ → Walk
   walkFrom s at = asWalk big (expressionIn e (drop at s))
 
-  own-walk : (x : List ℕ) (at : ℕ) (op : Operation) (h : Held e x at op) → Walked (length (namesIn big 0 (own e x at op h))) (anyAbsolute (own e x at op h)) ≡ ownWalk op
+  own-walk : (x : List ℕ) (at : ℕ) (op : Operation) (h : OperationHeld e x at op) → Walked (length (namesIn big 0 (own e x at op h))) (anyAbsolute (own e x at op h)) ≡ ownWalk op
   unfolding ownWalk counted
   own-walk x at op h =
       ap₂ Walked (same-count big 0 at (own e x at op h) ∙ ap length (own-names e x at op h) ∙ count-names (referenceOf op)) (own-absolute e x at op h)
@@ -138,7 +141,7 @@ module _ (e : Encoding) where
         ∙ bind-none _ (unreadable big (expressionIn e) (operation e) (drop at s) (operation-none e s at q)))
 
     module _ (op : Operation) (q : operationAt e s at ≡ Operation′ op) where
-      abbrev held : Held e (drop at s) at op
+      abbrev held : OperationHeld e (drop at s) at op
       held = operation-held e s at op q
 
       rest-at : held .rest ≡ drop (op .next .at) s

@@ -1,6 +1,6 @@
 -- Numbers of a fixed width, runs of bytes and strings: the steps that the cursor's loops take, and how far a read comes.
 use Prim.Native.Nat.{ℕ, zero, suc, _+_, _-_, _*_, _^_, _≤_, _<_}
-use mathlib.Core.Path.{_≡_, refl, ap, ap₂, sym, _∙_}
+use mathlib.Core.Path.{_≡_, refl, ap, ap₂, sym, _∙_, subst}
 use mathlib.Core.Logic.{_⊎_, inl, inr, ⊎-elim}
 use mathlib.Core.Bool.{Bool, true, false}
 use mathlib.Core.Option.{Option, none, some}
@@ -12,8 +12,10 @@ use lib.ListN.{length, getD, take, drop, length-drop, length-reverse, List·getD
 use lib.Seq.{drop-cons, getD-at, getD-take, getD-drop, length-take-le}
 use lib.Dec.{leb}
 use mir.Facts.{yes-leb, no-leb, leb-yes, leb-no, yes-eqb, no-eqb}
-use Rattle.readers.specs.Choice.{pick, pick-yes, pick-no, check, check-yes, check-no, bind, All, all-some, all-none, all-pick, all-bind, pick-either, either}
-use Rattle.readers.specs.Numbers.{littleValue, ordered, fixedValue, length-ordered}
+use Rattle.readers.specs.Choice.{pick, bind}
+use Rattle.readers.proofs.Choice.{pick-yes, pick-no, check-yes, check-no, All, pick-either, either}
+use Rattle.readers.specs.Numbers.{littleValue, ordered, fixedValue}
+use Rattle.readers.proofs.Numbers.{length-ordered}
 use Rattle.readers.specs.Layout.{fixed, width, numberIn, stringIn}
 use Rattle.readers.specs.Cursors.{cursor, asFixed, fixedAt, skipAt, asMoved, stringAt}
 use Rattle.readers.specs.declared.cursor.Cursor.{Cursor}
@@ -178,14 +180,6 @@ four-there s at h =
     ∙ ap (λ (t : List ℕ). getD s at 0 ∷ t)
     (at′ 1 (omega arith) ∙ ap (λ (t : List ℕ). getD s (at + 1) 0 ∷ t) (at′ 2 (omega arith) ∙ ap (λ (t : List ℕ). getD s (at + 2) 0 ∷ t) (at′ 3 (omega arith))))
 
-eight-there : (s : List ℕ) (at : ℕ) → at + 8 ≤ length s
-    → drop at s ≡ getD s at 0 ∷ getD s (at + 1) 0 ∷ getD s (at + 2) 0 ∷ getD s (at + 3) 0 ∷ getD s (at + 4) 0 ∷ getD s (at + 5) 0 ∷ getD s (at + 6) 0 ∷ getD s (at + 7) 0 ∷ drop (at + 8) s
-eight-there s at h =
-    four-there s at (omega arith)
-    ∙ ap (λ (t : List ℕ). getD s at 0 ∷ getD s (at + 1) 0 ∷ getD s (at + 2) 0 ∷ getD s (at + 3) 0 ∷ t)
-    (four-there s (at + 4) (omega arith)
-    ∙ rw (let z : at + 4 + 1 ≡ at + 5 = omega arith in z, let z : at + 4 + 2 ≡ at + 6 = omega arith in z, let z : at + 4 + 3 ≡ at + 7 = omega arith in z, let z : at + 4 + 4 ≡ at + 8 = omega arith in z) refl)
-
 -- what four bytes come to, and eight
 four-value : (a b c d : ℕ) → littleValue (a ∷ b ∷ c ∷ d ∷ []) ≡ a + 256 * (b + 256 * (c + 256 * d))
 unfolding littleValue
@@ -195,48 +189,66 @@ eight-value : (a b c d e f g h : ℕ) → littleValue (a ∷ b ∷ c ∷ d ∷ e
 unfolding littleValue
 eight-value a b c d e f g h = omega arith
 
+two-fours : (a b c d e f g i : ℕ) (l m rest : List ℕ) → l ≡ a ∷ b ∷ c ∷ d ∷ m → m ≡ e ∷ f ∷ g ∷ i ∷ rest
+    → (fixedValue true (take 4 m) + 4294967296 * fixedValue true (take 4 l) ≡ fixedValue true (take 8 l))
+    × (fixedValue false (take 4 l) + 4294967296 * fixedValue false (take 4 m) ≡ fixedValue false (take 8 l))
+unfolding fixedValue ordered
+two-fours a b c d e f g i l m rest p q = rw (p, q) (
+  ap₂ (λ (x y : ℕ). x + 4294967296 * y) (four-value i g f e) (four-value d c b a) ∙ sym (eight-value i g f e d c b a),
+  ap₂ (λ (x y : ℕ). x + 4294967296 * y) (four-value a b c d) (four-value e f g i) ∙ sym (eight-value a b c d e f g i),
+)
+
 module _ (s : List ℕ) (at : ℕ) where
   abbrev here : ℕ → ℕ
   here k = getD s (at + k) 0
 
-  -- a number of n bytes that were read one by one
-  by-bytes : (big big′ : Bool) → big′ ≡ big → (n : ℕ) → n ≤ 8 → n ≤ length s - at → (l : List ℕ) → take n (drop at s) ≡ l → (v : ℕ) → v ≡ fixedValue big l
-      → Value v (cursor (at + n)) ≡ fixedAt big′ n s at
-  by-bytes big big′ b n e h l q v w =
-      ap (λ (v : ℕ). Value v (cursor (at + n)))
-      (w ∙ sym (ap (fixedValue big) q))
-      ∙ sym (fixed-is big n s at e h) ∙ ap (λ (b : Bool). fixedAt b n s at) (sym b)
-
   -- four bytes of which the lowest comes first, or last
-  module _ (h : 4 ≤ length s - at) (v : ℕ) where
-    pub four-little : v ≡ getD s at 0 + 256 * (here 1 + 256 * (here 2 + 256 * here 3)) → (big : Bool) → big ≡ false → Value v (cursor (at + 4)) ≡ fixedAt big 4 s at
-    unfolding fixedValue ordered
-    four-little q big b =
-        by-bytes false big b 4 (omega arith) h (getD s at 0 ∷ here 1 ∷ here 2 ∷ here 3 ∷ []) (ap (take 4) (four-there s at (omega arith))) v (q ∙ sym (four-value (getD s at 0) (here 1) (here 2) (here 3)))
+  module _ (h : at + 4 ≤ length s) (v : ℕ) (big : Bool) where
+    abbrev fourOf : Bool → ℕ
+    fourOf b = fixedValue b (take 4 (drop at s))
 
-    pub four-big : v ≡ here 3 + 256 * (here 2 + 256 * (here 1 + 256 * getD s at 0)) → (big : Bool) → big ≡ true → Value v (cursor (at + 4)) ≡ fixedAt big 4 s at
+    pub four-little : v ≡ getD s at 0 + 256 * (here 1 + 256 * (here 2 + 256 * here 3)) → big ≡ false → v ≡ fourOf big
     unfolding fixedValue ordered
-    four-big q big b =
-        by-bytes true big b 4 (omega arith) h (getD s at 0 ∷ here 1 ∷ here 2 ∷ here 3 ∷ []) (ap (take 4) (four-there s at (omega arith))) v (q ∙ sym (four-value (here 3) (here 2) (here 1) (getD s at 0)))
+    four-little q b =
+        q
+        ∙ sym (four-value (getD s at 0) (here 1) (here 2) (here 3))
+        ∙ sym (ap (λ (l : List ℕ). fixedValue false (take 4 l)) (four-there s at h))
+        ∙ ap fourOf (sym b)
 
-  -- eight
-  module _ (h : 8 ≤ length s - at) (low high : ℕ) where
-    abbrev eight : List ℕ
-    eight = getD s at 0 ∷ here 1 ∷ here 2 ∷ here 3 ∷ here 4 ∷ here 5 ∷ here 6 ∷ here 7 ∷ []
-
-    pub eight-little : low ≡ getD s at 0 + 256 * (here 1 + 256 * (here 2 + 256 * here 3)) → high ≡ here 4 + 256 * (here 5 + 256 * (here 6 + 256 * here 7))
-        → (big : Bool) → big ≡ false → Value (low + 4294967296 * high) (cursor (at + 8)) ≡ fixedAt big 8 s at
+    pub four-big : v ≡ here 3 + 256 * (here 2 + 256 * (here 1 + 256 * getD s at 0)) → big ≡ true → v ≡ fourOf big
     unfolding fixedValue ordered
-    eight-little p q big b =
-        by-bytes false big b 8 (omega arith) h eight (ap (take 8) (eight-there s at (omega arith))) _
-        (ap₂ (λ (x y : ℕ). x + 4294967296 * y) p q ∙ sym (eight-value (getD s at 0) (here 1) (here 2) (here 3) (here 4) (here 5) (here 6) (here 7)))
+    four-big q b =
+        q
+        ∙ sym (four-value (here 3) (here 2) (here 1) (getD s at 0))
+        ∙ sym (ap (λ (l : List ℕ). fixedValue true (take 4 l)) (four-there s at h))
+        ∙ ap fourOf (sym b)
 
-    pub eight-big : low ≡ here 7 + 256 * (here 6 + 256 * (here 5 + 256 * here 4)) → high ≡ here 3 + 256 * (here 2 + 256 * (here 1 + 256 * getD s at 0))
-        → (big : Bool) → big ≡ true → Value (low + 4294967296 * high) (cursor (at + 8)) ≡ fixedAt big 8 s at
-    unfolding fixedValue ordered
-    eight-big p q big b =
-        by-bytes true big b 8 (omega arith) h eight (ap (take 8) (eight-there s at (omega arith))) _
-        (ap₂ (λ (x y : ℕ). x + 4294967296 * y) p q ∙ sym (eight-value (here 7) (here 6) (here 5) (here 4) (here 3) (here 2) (here 1) (getD s at 0)))
+  pub four-is : (big : Bool) → 4 ≤ length s - at → (v : ℕ) → v ≡ fixedValue big (take 4 (drop at s))
+      → Value v (cursor (at + 4)) ≡ fixedAt big 4 s at
+  four-is big h v q = ap (λ (v : ℕ). Value v (cursor (at + 4))) q ∙ sym (fixed-is big 4 s at (omega arith) h)
+
+  -- eight, by the four first and the four last
+  module _ (h : 8 ≤ length s - at) (big : Bool) (first last : ℕ)
+      (p : first ≡ fixedValue big (take 4 (drop at s))) (q : last ≡ fixedValue big (take 4 (drop (at + 4) s))) where
+    parts :
+        (fixedValue true (take 4 (drop (at + 4) s)) + 4294967296 * fixedValue true (take 4 (drop at s)) ≡ fixedValue true (take 8 (drop at s)))
+        × (fixedValue false (take 4 (drop at s)) + 4294967296 * fixedValue false (take 4 (drop (at + 4) s)) ≡ fixedValue false (take 8 (drop at s)))
+    parts = two-fours _ _ _ _ _ _ _ _ (drop at s) (drop (at + 4) s) _ (four-there s at (omega arith)) (four-there s (at + 4) (omega arith))
+
+    eight-is : (v : ℕ) → v ≡ fixedValue big (take 8 (drop at s)) → Value v (cursor (at + 8)) ≡ fixedAt big 8 s at
+    eight-is v e = ap (λ (v : ℕ). Value v (cursor (at + 8))) e ∙ sym (fixed-is big 8 s at (omega arith) h)
+
+    pub eight-big : big ≡ true → Value (last + 4294967296 * first) (cursor (at + 8)) ≡ fixedAt big 8 s at
+    eight-big b =
+        eight-is _ (ap₂ (λ (x y : ℕ). x + 4294967296 * y) q p
+        ∙ subst (λ (c : Bool). fixedValue c (take 4 (drop (at + 4) s)) + 4294967296 * fixedValue c (take 4 (drop at s)) ≡ fixedValue c (take 8 (drop at s)))
+        (sym b) (parts .0))
+
+    pub eight-little : big ≡ false → Value (first + 4294967296 * last) (cursor (at + 8)) ≡ fixedAt big 8 s at
+    eight-little b =
+        eight-is _ (ap₂ (λ (x y : ℕ). x + 4294967296 * y) p q
+        ∙ subst (λ (c : Bool). fixedValue c (take 4 (drop at s)) + 4294967296 * fixedValue c (take 4 (drop (at + 4) s)) ≡ fixedValue c (take 8 (drop at s)))
+        (sym b) (parts .1))
 
 -- the answer of a width that was looked at
 module _ (big : Bool) (w : ℕ) (s : List ℕ) (at : ℕ) (r : Number) where
@@ -255,14 +267,6 @@ skip-over s at n h = sym (pick-no _ _ _ (no-leb {a = n} {b = length s - at} h))
 pub skip-to : (s : List ℕ) (at n : ℕ) → n ≤ length s - at → To (cursor (at + n)) ≡ skipAt s at n
 unfolding skipAt
 skip-to s at n h = sym (pick-yes _ _ _ (yes-leb {a = n} {b = length s - at} h))
-
-pub skip-inside : (s : List ℕ) (at n : ℕ) (c : Cursor) → skipAt s at n ≡ To c → (c .at ≡ at + n) × (n ≤ length s - at)
-skip-inside s at n c e =
-    ⊎-elim
-    (λ h. let q : cursor (at + n) ≡ c = cc (skip-to s at n (leb-yes {a = n} {b = length s - at} h)) in
-    (ap (λ (d : Cursor). d .at) (sym q), leb-yes {a = n} {b = length s - at} h))
-    (λ h. let z : _≡_ {A = ℕ} 0 1 = cc (skip-over s at n (leb-no {a = n} {b = length s - at} h)) in absurd (omega arith))
-    (either (leb n (length s - at)))
 
 -- ---- a string
 
@@ -288,18 +292,6 @@ module _ (s : List ℕ) (at : ℕ) where
       ∙ longer (getD s at 0) (stringIn (drop (suc at) s))
       ∙ ap (λ n. asMoved (at + 1) (stringIn (drop n s))) (sym (add-one at))
 
-string-took : (s : List ℕ) → All (λ r. (0 < length (r .0)) × (length (r .0) ≤ length s)) (stringIn s)
-unfolding stringIn
-string-took [] = all-none _
-string-took (b ∷ s) =
-    all-pick _ _ _ _
-    (λ _. all-some _ (let g : 0 < 1 = omega arith in g, let g : 1 ≤ suc (length s) = omega arith in g))
-    (λ _. all-bind _ _ (stringIn s) _ (string-took s)
-    (λ r e q. all-some _ (
-      let g : 0 < suc (length (r .0)) = omega arith in g,
-      let g : suc (length (r .0)) ≤ suc (length s) = (let h : length (r .0) ≤ length s = q .1 in omega arith) in g,
-    )))
-
 moved-inside : (n at : ℕ) (c : Cursor) (o : Option (List ℕ × List ℕ)) → All (λ r. (0 < length (r .0)) × (length (r .0) ≤ n)) o → asMoved at o ≡ To c → (at < c .at) × (c .at ≤ at + n)
 unfolding asMoved All
 moved-inside n at c none q e = let z : _≡_ {A = ℕ} 0 1 = cc in absurd (omega arith)
@@ -307,9 +299,3 @@ moved-inside n at c (some r) q e =
     let k : cursor (at + length (r .0)) ≡ c = cc in
     let k′ : at + length (r .0) ≡ c .at = ap (λ (d : Cursor). d .at) k in
     (omega (arith, q .0), omega (arith, q .1))
-
-pub string-inside : (s : List ℕ) (at : ℕ) (c : Cursor) → stringAt s at ≡ To c → (at < c .at) × (c .at ≤ length s)
-unfolding stringAt
-string-inside s at c e =
-    let q : (at < c .at) × (c .at ≤ at + length (drop at s)) = moved-inside (length (drop at s)) at c (stringIn (drop at s)) (string-took (drop at s)) e in
-    (q .0, omega (arith, q .0, q .1, length-drop at s))

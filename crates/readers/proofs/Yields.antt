@@ -1,23 +1,27 @@
 -- One reference after the other (specs/References.antt): together they are the references of the whole expression, nested ones included.
 use mathlib.Core.Path.{_≡_, refl, ap, ap₂, sym, _∙_, subst}
 use Prim.Native.Nat.{ℕ, zero, suc, _+_, _-_, _≤_, _<_}
-use mathlib.Core.Bool.{Bool, true, false, not}
+use mathlib.Core.Bool.{Bool, not}
 use mathlib.Core.Logic.{⊎-elim, _≢_}
 use mathlib.Core.Option.{Option, none, some}
 use mathlib.Core.List.{List, [], _∷_, _++_, append-assoc, append-nil}
 use native.Mathlib.Omega.{arith}
-use lib.ListN.{length, take, drop, length-append, length-drop, drop-of-length-le, take-append-drop}
+use lib.ListN.{length, take, drop, length-append, length-drop, take-append-drop}
 use lib.Seq.{drop-drop, length-take-le, take-take, take-nil, take-length}
-use lib.Dec.{T, leb, ltb, eqb}
-use mir.Facts.{leb-yes, eqb-yes, eqb-no, yes-eqb, no-eqb, no-ltb, yes-ltb, ltb-yes, ltb-no}
-use Rattle.readers.specs.Choice.{pick, pick-yes, pick-no, pick-either, either, bind, bind-at, bind-none, All, all-some, all-none, all-of, all-bind, all-both, all-map, Took, took-length}
-use Rattle.readers.specs.Scan.{Turn, more, stop, bad, Scanned, push, scan, Goes, scan-stop, scan-more}
-use Rattle.readers.specs.Layout.{Piece, width, Read, asBytes, bytesOf, bytes-append, writeAll, readIn, ReadLaw, read-law, as-bytes-law, WholeLaw}
+use lib.Dec.{T, ltb, eqb}
+use mir.Facts.{eqb-yes, eqb-no, yes-eqb, no-eqb, no-ltb, yes-ltb, ltb-yes, ltb-no}
+use Rattle.readers.specs.Choice.{bind}
+use Rattle.readers.proofs.Choice.{pick-yes, pick-no, pick-either, either, bind-none, All, all-some, all-none, all-of, all-bind, all-both, all-map}
+use Rattle.readers.specs.Scan.{Turn, more, stop, bad, Scanned, push, scan}
+use Rattle.readers.proofs.Scan.{Goes, scan-stop, scan-more}
+use Rattle.readers.specs.Layout.{Piece, width, Read, asBytes, bytesOf, writeAll, readIn}
+use Rattle.readers.proofs.Layouts.{bytes-append, ReadLaw, read-law, as-bytes-law, WholeLaw}
 use Rattle.readers.specs.Operations.{operation}
-use Rattle.readers.specs.Expression.{expressionIn, expression-none, expression-more, expression-law, write-pieces}
+use Rattle.readers.specs.Expression.{expressionIn}
+use Rattle.readers.proofs.Expression.{expression-none, expression-more, expression-law, write-pieces}
 use Rattle.readers.specs.Fields.{size, fieldOf, rowOfReads}
 use Rattle.readers.specs.Steps.{asOperation, rowOperation, operationOfReads, operationAt}
-use Rattle.readers.specs.References.{Named, namesIn, referenceOf, named, namedType, encodedBy, namesOf, yieldTurn, operationTurn, walkTurn, yielded, nextReference, flatOperation, flatTurn, flat, flattened, flatFrom, Yields, no-more, one-more}
+use Rattle.readers.specs.References.{Named, namesIn, referenceOf, named, namedType, encodedBy, namesOf, yieldTurn, operationTurn, walkTurn, yielded, nextReference, flatOperation, flatTurn, flat, flattened, flatFrom}
 use Rattle.readers.specs.declared.cursor.Encoding.{Encoding}
 use Rattle.readers.specs.declared.cursor.Cursor.{Cursor}
 use Rattle.readers.specs.declared.fields.Field.{Field}
@@ -27,7 +31,7 @@ use Rattle.readers.specs.declared.operations.OperationRead.the-variants.
 use Rattle.readers.specs.declared.expressions.Reference.{Reference}
 use Rattle.readers.specs.declared.expressions.Yield.{Yield}
 use Rattle.readers.specs.declared.expressions.Yield.the-variants.{Reference as Yielded, End}
-use Rattle.readers.proofs.OperationReads.{Held, Cases, cases, read-four, span, rest-is, past, held-inside, code-is, operation-held, operation-none, operation-inside}
+use Rattle.readers.proofs.OperationReads.{OperationHeld, Cases, cases, read-four, span, rest-is, past, held-inside, code-is, operation-held, operation-inside}
 use Rattle.readers.proofs.OperationPieces.{names-append, Wide}
 use Rattle.readers.proofs.Deep.{own, own-names, own-wide, own-size, deep-plain, lead, inner, deep-entry, lead-names, lead-size, inner-size, inner-is, inner-ends, unreadable}
 
@@ -242,25 +246,6 @@ module _ (e : Encoding) (s : List ℕ) where
   pub flat-next : (at : ℕ) → flatFrom e s at ≡ flatBy (nextReference e s at)
   flat-next at = by-within (length s - at) at (omega arith)
 
-  -- one after the other, these are all
-  none-left : (at : ℕ) (y : Yield) → nextReference e s at ≡ y → flatBy y ≡ [] → Yields e s at []
-  unfolding flatBy
-  none-left at End p h = no-more p
-  none-left at (Yielded r) p h = let z : _≡_ {A = ℕ} 0 1 = cc in absurd (omega arith)
-
-  one-left : (x : Named) (xs : List Named) → ((n : ℕ) → flatFrom e s n ≡ xs → Yields e s n xs) → (at : ℕ) (y : Yield) → nextReference e s at ≡ y → flatBy y ≡ x ∷ xs
-      → Yields e s at (x ∷ xs)
-  unfolding flatBy
-  one-left x xs ih at End p h = let z : _≡_ {A = ℕ} 0 1 = cc in absurd (omega arith)
-  one-left x xs ih at (Yielded r) p h =
-      let i : (r .place, r .target .0, encodedBy (r .leb) (r .width)) ≡ x = cc in
-      let j : flatFrom e s (r .next .at) ≡ xs = cc in
-      subst (λ z. Yields e s at (z ∷ xs)) i (one-more r p (ih (r .next .at) j))
-
-  pub yields : (rs : List Named) (at : ℕ) → flatFrom e s at ≡ rs → Yields e s at rs
-  yields [] at q = none-left at _ refl (sym (flat-next at) ∙ q)
-  yields (x ∷ xs) at q = one-left x xs (yields xs) at _ refl (sym (flat-next at) ∙ q)
-
   -- ---- their widths
 
   wide-own : (y : Yield) → Wide y → (z : Yield) → (y ≡ End → Wide z) → ((r : Reference) → y ≡ Yielded r → z ≡ Yielded r) → Wide z
@@ -305,7 +290,7 @@ module _ (e : Encoding) (s : List ℕ) where
     part-length : length part ≡ n
     part-length = length-take-le n (drop o s) (omega (arith, length-drop o s))
 
-    module _ (op : Operation) (h : Held e part o op) where
+    module _ (op : Operation) (h : OperationHeld e part o op) where
       abbrev m : ℕ
       m = span e part o op h
 

@@ -1,13 +1,13 @@
--- Abbreviation declarations (DWARF 5, 7.5.3; document 01, "Readers": tag, name and form nonzero, within 16 bits and at most three bytes each, children
--- byte 0 or 1, no code twice, the list closed by code 0).
-use Prim.Native.Nat.{ℕ, suc, _+_, _-_, _≤_}
+-- Abbreviation declarations (DWARF 5, 7.5.3; document 01, "Readers": tag, name and form nonzero, within 16 bits and
+-- at most three bytes each, children byte 0 or 1, no code twice, the list closed by code 0).
+use Prim.Native.Nat.{ℕ, _+_, _-_}
 use mathlib.Core.Bool.{Bool, true, false, not}
-use mathlib.Core.Path.{_≡_}
 use mathlib.Core.List.{List, [], _∷_, _++_}
 use mathlib.Core.Option.{Option, none, some}
 use lib.ListN.{length, drop, getD}
 use lib.Dec.{ltb, leb, eqb}
 use Rattle.readers.specs.Choice.{pick, check, bind, _and_, zeros}
+use Rattle.readers.specs.Codes.{«DW_CHILDREN_yes», «DW_FORM_implicit_const»}
 use Rattle.readers.specs.Numbers.{uleb, sleb}
 use Rattle.readers.specs.Layout.{short}
 use Rattle.readers.specs.Scan.{Turn, more, stop, bad, Scanned, scan}
@@ -26,10 +26,8 @@ use Rattle.readers.specs.declared.abbreviations.DeclarationStep.{Declara
 use Rattle.readers.specs.declared.abbreviations.DeclarationStep.the-variants.{Declaration as Declared, Last, Unreadable as NoDeclaration}
 use Rattle.readers.specs.declared.abbreviations.Checked.{Checked}
 use Rattle.readers.specs.declared.abbreviations.Checked.the-variants.{Accepted, Refused}
-use Rattle.readers.specs.declared.abbreviations.Count.{Count}
-use Rattle.readers.specs.declared.abbreviations.Count.the-variants.{Of, Unreadable as Uncounted}
-use Rattle.readers.specs.declared.abbreviations.Found.{Found}
-use Rattle.readers.specs.declared.abbreviations.Found.the-variants.{Declaration as Found′, Nothing}
+use Rattle.readers.specs.declared.abbreviations.DeclarationFound.{DeclarationFound}
+use Rattle.readers.specs.declared.abbreviations.DeclarationFound.the-variants.{Declaration as Found′, Nothing}
 
 -- ---- attribute specifications
 
@@ -37,11 +35,12 @@ unfoldable pub numberSpec : Number → (ℕ → ℕ → SpecStep) → SpecStep
 numberSpec (Value v c) k = k v (c .at)
 numberSpec Unreadable k = NoSpec
 
--- implicit_const (0x21) has its value in the declaration
+-- implicit_const has its value in the declaration
 unfoldable pub implicitSpec : List ℕ → ℕ → ℕ → ℕ → SpecStep
 implicitSpec s name form at =
-    pick (eqb form 0x21)
-    (numberSpec (lebAt sleb s at) (λ v next. Attribute (record { name = name; form = form; implicit = v; next = cursor next })))
+    pick (eqb form «DW_FORM_implicit_const»)
+    (numberSpec (lebAt sleb s at) (λ v next.
+    Attribute (record { name = name; form = form; implicit = v; next = cursor next })))
     (Attribute (record { name = name; form = form; implicit = 0; next = cursor at }))
 
 -- a name and a form; both 0 close the list
@@ -79,7 +78,8 @@ unfoldable pub movedDeclaration : Moved → (Cursor → DeclarationStep) → Dec
 movedDeclaration (To c) k = k c
 movedDeclaration Nowhere k = NoDeclaration
 
--- a code, a tag, a children byte, and where the attribute specifications start; code 0 closes the list
+-- a code, a tag, a byte that is DW_CHILDREN_no (0) or DW_CHILDREN_yes (1), and where the attribute specifications
+-- start; code 0 closes the list
 unfoldable pub headAt : List ℕ → ℕ → DeclarationStep
 headAt s at =
     numberDeclaration (lebAt uleb s at) (λ code afterCode.
@@ -87,8 +87,13 @@ headAt s at =
     (numberDeclaration (lebAt short s afterCode) (λ tag afterTag.
     pick (eqb tag 0) NoDeclaration
     (numberDeclaration (fixedAt false 1 s afterTag) (λ children attributes.
-    pick (leb children 1)
-    (Declared (record { code = code; tag = tag; children = eqb children 1; attributes = cursor attributes }) (cursor attributes))
+    pick (leb children «DW_CHILDREN_yes»)
+    (Declared (record {
+      code = code;
+      tag = tag;
+      children = eqb children «DW_CHILDREN_yes»;
+      attributes = cursor attributes;
+    }) (cursor attributes))
     NoDeclaration)))))
 
 -- and the attribute specifications
@@ -113,11 +118,11 @@ unfoldable pub declarationsFrom : List ℕ → ℕ → Option (Scanned Placed �
 declarationsFrom s at = scan (length s) (λ n. declarationTurn n (declarationAt s n)) at
 
 -- the declaration with a code: the plain search
-unfoldable pub declaredIn : List Placed → ℕ → Found
+unfoldable pub declaredIn : List Placed → ℕ → DeclarationFound
 declaredIn [] code = Nothing
 declaredIn (d ∷ ds) code = pick (eqb (d .1 .code) code) (Found′ (d .1)) (declaredIn ds code)
 
-unfoldable pub isFound : Found → Bool
+unfoldable pub isFound : DeclarationFound → Bool
 isFound (Found′ d) = true
 isFound Nothing = false
 
@@ -140,11 +145,6 @@ asChecked (some ds) = Accepted
 unfoldable pub checkedOf : List ℕ → ℕ → Checked
 checkedOf s from = asChecked (abbreviationsOf s from)
 
--- how many there are
-unfoldable pub countOf : Option (Scanned Placed ℕ) → Count
-countOf none = Uncounted
-countOf (some r) = Of (length (r .0))
-
 -- ---- the index: one more than the place of each declaration, in ascending order of their codes
 
 unfoldable pub insertByCode : Placed → List Placed → List Placed
@@ -159,10 +159,6 @@ unfoldable pub slotsOf : List Placed → List ℕ
 slotsOf [] = []
 slotsOf (d ∷ ds) = (d .0 + 1) ∷ slotsOf ds
 
--- from l to m the slots of the declarations are written, if there is room for them
-abbrev pub Gathered : List ℕ → ℕ → List ℕ → List ℕ → Type 0
-Gathered s at l m = (ds : List Placed) (e : ℕ) → declarationsFrom s at ≡ some (ds, e) → length ds ≤ length l → m ≡ slotsOf ds ++ drop (length ds) l
-
 -- an index that is too short for the declarations stays as it is
 unfoldable pub indexed : List ℕ → List Placed → List ℕ
 indexed index ds = pick (leb (length ds) (length index)) (slotsOf (byCode ds) ++ drop (length ds) index) index
@@ -176,26 +172,27 @@ indexOf s from n = indexFor n (abbreviationsOf s from)
 
 -- ---- lookup
 
-unfoldable pub searchTurn : ℕ → DeclarationStep → Turn (Unit {0}) Found
+unfoldable pub searchTurn : ℕ → DeclarationStep → Turn (Unit {0}) DeclarationFound
 searchTurn code (Declared d c) = pick (eqb (d .code) code) (stop (Found′ d)) (more tt (c .at))
 searchTurn code (Last c) = stop Nothing
 searchTurn code NoDeclaration = stop Nothing
 
-unfoldable pub foundBy : Option (Scanned (Unit {0}) Found) → Found
+unfoldable pub foundBy : Option (Scanned (Unit {0}) DeclarationFound) → DeclarationFound
 foundBy none = Nothing
 foundBy (some r) = r .1
 
 -- the first declaration with a code that starts before `to`
-unfoldable pub searchAt : List ℕ → ℕ → ℕ → ℕ → Found
-searchAt s to code at = foundBy (scan (length s) (λ n. pick (ltb n to) (searchTurn code (declarationAt s n)) (stop Nothing)) at)
+unfoldable pub searchAt : List ℕ → ℕ → ℕ → ℕ → DeclarationFound
+searchAt s to code at =
+    foundBy (scan (length s) (λ n. pick (ltb n to) (searchTurn code (declarationAt s n)) (stop Nothing)) at)
 
-unfoldable pub declarationFound : DeclarationStep → Found
+unfoldable pub declarationFound : DeclarationStep → DeclarationFound
 declarationFound (Declared d c) = Found′ d
 declarationFound (Last c) = Nothing
 declarationFound NoDeclaration = Nothing
 
 -- what is found by the head of its declaration, if the attribute specifications can be read too
-unfoldable pub wholeFound : List ℕ → Found → Found
+unfoldable pub wholeFound : List ℕ → DeclarationFound → DeclarationFound
 wholeFound s (Found′ d) = declarationFound (wholeDeclaration s (Declared d (d .attributes)))
 wholeFound s Nothing = Nothing
 
@@ -204,16 +201,17 @@ unfoldable pub holdsCode : List ℕ → ℕ → ℕ → Bool
 holdsCode s slot code = pick (eqb slot 0) false (eqb (slotCode s slot) code)
 
 -- the head of the declaration whose place a slot holds
-unfoldable pub headIn : List ℕ → ℕ → Found
+unfoldable pub headIn : List ℕ → ℕ → DeclarationFound
 headIn s slot = declarationFound (headAt s (slot - 1))
 
--- the head of a code's declaration: at the slot that a code has where they are numbered from 1 on; else at the one where it stands by halves; else by the plain search
-unfoldable pub findHead : List ℕ → ℕ → List ℕ → ℕ → Found
+-- the head of a code's declaration: at the slot that a code has where they are numbered from 1 on; else at the one
+-- where it stands by halves; else by the plain search
+unfoldable pub findHead : List ℕ → ℕ → List ℕ → ℕ → DeclarationFound
 findHead s from index code =
     pick (holdsCode s (getD index (code - 1) 0) code) (headIn s (getD index (code - 1) 0))
     (pick (holdsCode s (getD index (slotOf s index code) 0) code) (headIn s (getD index (slotOf s index code) 0))
     (searchAt s (length s) code from))
 
 -- and the whole declaration
-unfoldable pub findAt : List ℕ → ℕ → List ℕ → ℕ → Found
+unfoldable pub findAt : List ℕ → ℕ → List ℕ → ℕ → DeclarationFound
 findAt s from index code = wholeFound s (findHead s from index code)

@@ -1,5 +1,5 @@
 -- What the cursor's methods answer: the definitions, read from a place of a slice on.
-use Prim.Native.Nat.{ℕ, suc, _+_, _*_, _-_, _^_, _/_, _%_}
+use Prim.Native.Nat.{ℕ, suc, _+_, _-_, _^_, _/_, _%_}
 use mathlib.Core.Bool.{Bool}
 use mathlib.Core.List.{List}
 use mathlib.Core.Option.{Option, none, some}
@@ -7,7 +7,7 @@ use lib.ListN.{length, drop}
 use lib.Dec.{leb}
 use Rattle.readers.specs.Choice.{pick}
 use Rattle.readers.specs.Numbers.{Groups as Read, groups}
-use Rattle.readers.specs.Layout.{fixed, Found, width, numberIn, stringIn, formsIn}
+use Rattle.readers.specs.Layout.{fixed, ReadFound, width, numberIn, stringIn, formsIn}
 use Rattle.readers.specs.declared.cursor.Cursor.{Cursor}
 use Rattle.readers.specs.declared.cursor.Number.{Number}
 use Rattle.readers.specs.declared.cursor.Number.the-variants.{Value, Unreadable}
@@ -36,7 +36,7 @@ unfoldable pub lebAt : (List ℕ → Option Read) → List ℕ → ℕ → Numbe
 lebAt R s at = asLebNumber at (R (drop at s))
 
 -- a number of w bytes
-unfoldable pub asFixed : ℕ → Option Found → Number
+unfoldable pub asFixed : ℕ → Option ReadFound → Number
 asFixed at none = Unreadable
 asFixed at (some t) = Value (t .1) (cursor (at + width (t .0)))
 

@@ -1,4 +1,5 @@
--- Entries of a unit (DWARF 5, 2.2, 2.3 and 7.5.2 to 7.5.4): an abbreviation code and the values of the declaration's attributes; code 0 is a terminator.
+-- Entries of a unit (DWARF 5, 2.2, 2.3 and 7.5.2 to 7.5.4): an abbreviation code and the values of the declaration's
+-- attributes; code 0 is a terminator.
 use Prim.Native.Nat.{ℕ, _+_}
 use mathlib.Core.Bool.{Bool}
 use mathlib.Core.List.{List, [], _∷_}
@@ -20,14 +21,10 @@ use Rattle.readers.specs.declared.cursor.Number.the-variants.{Value, Unr
 use Rattle.readers.specs.declared.cursor.Moved.{Moved}
 use Rattle.readers.specs.declared.cursor.Moved.the-variants.{To, Unreadable as Nowhere}
 use Rattle.readers.specs.declared.abbreviations.AttributeSpec.{AttributeSpec}
-use Rattle.readers.specs.declared.abbreviations.Declaration.{Declaration}
-use Rattle.readers.specs.declared.abbreviations.Found.{Found}
-use Rattle.readers.specs.declared.abbreviations.Found.the-variants.{Declaration as Found′, Nothing}
-use Rattle.readers.specs.declared.attributes.Attribute.{Attribute}
+use Rattle.readers.specs.declared.abbreviations.DeclarationFound.{DeclarationFound}
+use Rattle.readers.specs.declared.abbreviations.DeclarationFound.the-variants.{Declaration as Found′, Nothing}
 use Rattle.readers.specs.declared.attributes.AttributeRead.{AttributeRead}
 use Rattle.readers.specs.declared.attributes.AttributeRead.the-variants.{Read as Attribute′, Unreadable as NoAttribute}
-use Rattle.readers.specs.declared.entries.Entry.{Entry}
-use Rattle.readers.specs.declared.entries.EntryHead.{EntryHead}
 use Rattle.readers.specs.declared.entries.HeadStep.{HeadStep}
 use Rattle.readers.specs.declared.entries.HeadStep.the-variants.{Entry as Head, Terminator as TerminatorHead, End as EndHead, Unreadable as NoHead}
 use Rattle.readers.specs.declared.entries.Step.{Step}
@@ -40,14 +37,17 @@ module _ (big : Bool) where
   unfoldable pub attributeOfReads : ℕ → ℕ → List Read → AttributeRead
   attributeOfReads form at [] = NoAttribute
   attributeOfReads form at (v ∷ []) = Attribute′ (record { form = form; field = fieldOf big at v })
-  attributeOfReads form at (f ∷ v ∷ rs) = Attribute′ (record { form = f .seen; field = fieldOf big (at + size big f) v })
+  attributeOfReads form at (f ∷ v ∷ rs) =
+      Attribute′ (record { form = f .seen; field = fieldOf big (at + size big f) v })
 
   unfoldable pub asAttribute : ℕ → ℕ → Option RunOf → AttributeRead
   asAttribute form at none = NoAttribute
   asAttribute form at (some r) = attributeOfReads form at (r .0)
 
 unfoldable pub attributeAt : Encoding → List ℕ → ℕ → ℕ → ℕ → AttributeRead
-attributeAt e s at name form = asAttribute (e .«big_endian») form at (readIn (e .«big_endian») asBytes (attributeLayout e name form) (drop at s))
+attributeAt e s at name form =
+    asAttribute (e .«big_endian») form at
+    (readIn (e .«big_endian») asBytes (attributeLayout e name form) (drop at s))
 
 -- where it ends
 unfoldable pub attributeEnd : AttributeRead → Moved
@@ -77,12 +77,13 @@ asPast big at (some r) = To (cursor (at + length (writeAll big (r .0))))
 -- past the values of the attributes whose specifications start at a place of the abbreviations
 unfoldable pub valuesAt : Encoding → List ℕ → ℕ → List ℕ → ℕ → Moved
 valuesAt e abbreviations specs unit at =
-    asPast (e .«big_endian») at (readIn (e .«big_endian») asBytes (specsLayout e (attributesFrom abbreviations specs)) (drop at unit))
+    asPast (e .«big_endian») at
+    (readIn (e .«big_endian») asBytes (specsLayout e (attributesFrom abbreviations specs)) (drop at unit))
 
 -- ---- entries and terminators
 
-module _ (e : Encoding) (abbreviations : List ℕ) (look : ℕ → Found) where
-  unfoldable pub foundLayout : Found → Layout
+module _ (e : Encoding) (abbreviations : List ℕ) (look : ℕ → DeclarationFound) where
+  unfoldable pub foundLayout : DeclarationFound → Layout
   foundLayout Nothing = fail
   foundLayout (Found′ d) = specsLayout e (attributesFrom abbreviations (d .attributes .at))
 
@@ -90,15 +91,18 @@ module _ (e : Encoding) (abbreviations : List ℕ) (look : ℕ → Found) where
   unfoldable pub entryLayout : Layout
   entryLayout = field (number leb128) (λ code. pick (eqb code 0) done (foundLayout (look code)))
 
-  unfoldable pub entryFound : ℕ → ℕ → ℕ → Found → Step
+  unfoldable pub entryFound : ℕ → ℕ → ℕ → DeclarationFound → Step
   entryFound at values next Nothing = Unreadable
-  entryFound at values next (Found′ d) = Entry′ (record { offset = record { 0 = at }; declaration = d; values = cursor values; next = cursor next })
+  entryFound at values next (Found′ d) =
+      Entry′ (record { offset = record { 0 = at }; declaration = d; values = cursor values; next = cursor next })
 
   unfoldable pub stepOfReads : ℕ → List Read → Step
   stepOfReads at [] = Unreadable
   stepOfReads at (c ∷ rs) =
       pick (eqb (c .seen) 0) (Terminator (cursor (at + size (e .«big_endian») c)))
-      (entryFound at (at + size (e .«big_endian») c) (at + size (e .«big_endian») c + length (writeAll (e .«big_endian») rs)) (look (c .seen)))
+      (entryFound at (at + size (e .«big_endian») c)
+      (at + size (e .«big_endian») c + length (writeAll (e .«big_endian») rs))
+      (look (c .seen)))
 
   unfoldable pub asStep : ℕ → Option RunOf → Step
   asStep at none = Unreadable
@@ -106,12 +110,13 @@ module _ (e : Encoding) (abbreviations : List ℕ) (look : ℕ → Found) where
 
   -- the entry or terminator at a place of the unit; its end ends the stream
   unfoldable pub stepAt : List ℕ → ℕ → Step
-  stepAt unit at = pick (ltb at (length unit)) (asStep at (readIn (e .«big_endian») asBytes entryLayout (drop at unit))) End
+  stepAt unit at =
+      pick (ltb at (length unit)) (asStep at (readIn (e .«big_endian») asBytes entryLayout (drop at unit))) End
 
 -- ---- the head of an entry: its code and what that declares, the values of its attributes unread
 
-module _ (look : ℕ → Found) where
-  unfoldable pub headFound : ℕ → Cursor → Found → HeadStep
+module _ (look : ℕ → DeclarationFound) where
+  unfoldable pub headFound : ℕ → Cursor → DeclarationFound → HeadStep
   headFound at values Nothing = NoHead
   headFound at values (Found′ d) = Head (record { offset = record { 0 = at }; declaration = d; values = values })
 
@@ -122,22 +127,3 @@ module _ (look : ℕ → Found) where
   -- the head of the entry, or the terminator, at a place of the unit; its end ends the stream
   unfoldable pub entryHeadAt : List ℕ → ℕ → HeadStep
   entryHeadAt unit at = pick (ltb at (length unit)) (headOfCode at (lebAt uleb unit at)) EndHead
-
--- ---- an entry by its head
-
-abbrev pub entryOf : EntryHead → Cursor → Entry
-entryOf h next = record { offset = h .offset; declaration = h .declaration; values = h .values; next = next }
-
--- and where its values end
-unfoldable pub entryTo : EntryHead → Moved → Step
-entryTo h (To next) = Entry′ (entryOf h next)
-entryTo h Nowhere = Unreadable
-
-abbrev pub headEnd : Encoding → List ℕ → List ℕ → EntryHead → Moved
-headEnd e abbreviations unit h = valuesAt e abbreviations (h .declaration .attributes .at) unit (h .values .at)
-
-unfoldable pub headStep : Encoding → List ℕ → List ℕ → HeadStep → Step
-headStep e abbreviations unit (Head h) = entryTo h (headEnd e abbreviations unit h)
-headStep e abbreviations unit (TerminatorHead next) = Terminator next
-headStep e abbreviations unit EndHead = End
-headStep e abbreviations unit NoHead = Unreadable

@@ -1,32 +1,31 @@
--- What the readers of tokens and rows answer: what the layouts read (Layout.antt), from a place of a slice on, an expression as its bytes.
+-- What the readers of tokens and rows answer: what the layouts read (Layout.antt), from a place of a slice on, an
+-- expression as its bytes.
 use Prim.Native.Nat.{ℕ, _+_, _-_}
 use mathlib.Core.Bool.{Bool}
 use mathlib.Core.List.{List, [], _∷_}
 use mathlib.Core.Option.{Option, none, some}
 use lib.ListN.{length, take, drop}
-use lib.Dec.{leb, eqb}
+use lib.Dec.{leb}
 use Rattle.readers.specs.Choice.{pick}
 use Rattle.readers.specs.Numbers.{uleb}
-use Rattle.readers.specs.Layout.{Encoded, Role, Piece, copied, linked, Read, ReadOf, RunOf, Token, expression, Layout, asBytes, bytesOf, tokenIn, readIn}
+use Rattle.readers.specs.Layout.{Piece, verbatim, patchable, Read, ReadOf, RunOf, Token, asBytes, bytesOf, tokenIn, readIn}
 use Rattle.readers.specs.Tokens.{plain, tokenOf}
 use Rattle.readers.specs.Operations.{rowLayout, rowOf}
-use Rattle.readers.specs.Cursors.{lebAt, fixedAt}
+use Rattle.readers.specs.Cursors.{lebAt}
 use Rattle.readers.specs.declared.cursor.Encoding.{Encoding}
-use Rattle.readers.specs.declared.cursor.Cursor.{Cursor}
 use Rattle.readers.specs.declared.cursor.Number.{Number}
 use Rattle.readers.specs.declared.cursor.Number.the-variants.{Value, Unreadable}
 use Rattle.readers.specs.declared.fields.Field.{Field}
 use Rattle.readers.specs.declared.fields.FieldRead.{FieldRead}
 use Rattle.readers.specs.declared.fields.FieldRead.the-variants.{Read as Field′, Unreadable as NoField}
-use Rattle.readers.specs.declared.fields.Row.{Row}
-use Rattle.readers.specs.declared.fields.RowRead.{RowRead}
-use Rattle.readers.specs.declared.fields.RowRead.the-variants.{Read as Row′, Unreadable as NoRow}
+use Rattle.readers.specs.declared.fields.OperandsRead.{OperandsRead}
+use Rattle.readers.specs.declared.fields.OperandsRead.the-variants.{Read as Row′, Unreadable as NoRow}
 
 -- the number that a token read: of a link its value, else what the layout sees
 unfoldable pub linkedValue : List Piece → ℕ → ℕ
 linkedValue [] v = v
-linkedValue (copied l ∷ ps) v = v
-linkedValue (linked e r w ∷ ps) v = w
+linkedValue (verbatim l ∷ ps) v = v
+linkedValue (patchable e r w ∷ ps) v = w
 
 module _ (big : Bool) where
   -- how many bytes a token read
@@ -41,14 +40,14 @@ module _ (big : Bool) where
   asField at none = NoField
   asField at (some r) = Field′ (fieldOf at (r .0))
 
-  unfoldable pub rowOfReads : ℕ → List Read → RowRead
+  unfoldable pub rowOfReads : ℕ → List Read → OperandsRead
   rowOfReads at [] = NoRow
   rowOfReads at (a ∷ []) = NoRow
   rowOfReads at (a ∷ b ∷ []) = NoRow
   rowOfReads at (a ∷ b ∷ c ∷ rs) =
       Row′ (record { first = fieldOf at a; second = fieldOf (at + size a) b; third = fieldOf (at + size a + size b) c })
 
-  unfoldable pub asRow : ℕ → Option RunOf → RowRead
+  unfoldable pub asRow : ℕ → Option RunOf → OperandsRead
   asRow at none = NoRow
   asRow at (some r) = rowOfReads at (r .0)
 
@@ -61,30 +60,15 @@ unfoldable pub fieldAt : Encoding → List ℕ → ℕ → ℕ → FieldRead
 fieldAt e s at t = tokenAt e s at (tokenOf e plain t)
 
 -- a row by its layout number
-unfoldable pub rowAt : Encoding → List ℕ → ℕ → ℕ → RowRead
+unfoldable pub rowAt : Encoding → List ℕ → ℕ → ℕ → OperandsRead
 rowAt e s at l = asRow (e .«big_endian») at (readIn (e .«big_endian») asBytes (rowLayout e (rowOf l)) (drop at s))
 
 -- ---- the steps on the way
 
-unfoldable pub numberField : ℕ → Number → FieldRead
-numberField at (Value v c) = Field′ (record { value = v; start = at; end = c .at })
-numberField at Unreadable = NoField
-
-unfoldable pub boundedField : ℕ → Number → FieldRead
-boundedField at (Value v c) = pick (leb v 65535) (Field′ (record { value = v; start = at; end = c .at })) NoField
-boundedField at Unreadable = NoField
-
 unfoldable pub blockField : List ℕ → Number → FieldRead
-blockField s (Value v c) = pick (leb v (length s - c .at)) (Field′ (record { value = 0; start = c .at; end = c .at + v })) NoField
+blockField s (Value v c) =
+    pick (leb v (length s - c .at)) (Field′ (record { value = 0; start = c .at; end = c .at + v })) NoField
 blockField s Unreadable = NoField
-
--- a number by its token
-unfoldable pub numberAt : Encoding → List ℕ → ℕ → ℕ → Number
-numberAt e s at t =
-    pick (leb t 8) (fixedAt (e .«big_endian») t s at)
-    (pick (eqb t 9) (fixedAt (e .«big_endian») (e .«address_size») s at)
-    (pick (eqb t 10) (fixedAt (e .«big_endian») (e .«offset_size») s at)
-    (lebAt uleb s at)))
 
 -- an exprloc (7.5.5, class exprloc): a length, and that many bytes
 unfoldable pub exprlocAt : List ℕ → ℕ → FieldRead

@@ -1,15 +1,16 @@
--- The header of the first unit of a section (DWARF 5, 7.5.1.1 and 7.5.1.2; document 01, "Readers" and the order of refusals 1 and 2).
+-- The header of the first unit of a section (DWARF 5, 7.5.1.1 and 7.5.1.2; document 01, "Readers" and the order of
+-- refusals 1 and 2).
 use Prim.Native.Nat.{ℕ, _+_, _-_}
 use mathlib.Core.Bool.{Bool, false}
 use mathlib.Core.List.{List}
 use lib.ListN.{length, take}
 use lib.Dec.{leb, eqb}
 use Rattle.readers.specs.Choice.{pick, _or_}
+use Rattle.readers.specs.Codes.{«DW_UT_compile», «DW_UT_split_compile»}
 use Rattle.readers.specs.Cursors.{fixedAt}
 use Rattle.readers.specs.declared.cursor.Encoding.{Encoding}
 use Rattle.readers.specs.declared.cursor.Number.{Number}
 use Rattle.readers.specs.declared.cursor.Number.the-variants.{Value, Unreadable}
-use Rattle.readers.specs.declared.header.UnitHeader.{UnitHeader}
 use Rattle.readers.specs.declared.header.HeaderRead.{HeaderRead}
 use Rattle.readers.specs.declared.header.HeaderRead.the-variants.{Unit as Unit′, Empty, Refused}
 
@@ -28,20 +29,29 @@ encodingOf addressSize = record { version = 5; «offset_size» = 4; «address_si
 
 unfoldable pub headerMade : List ℕ → ℕ → ℕ → ℕ → ℕ → HeaderRead
 headerMade u unitType addressSize abbreviations first =
-    Unit′ (record { encoding = encodingOf addressSize; «unit_type» = unitType; abbreviations = abbreviations; first = record { 0 = first }; end = length u })
+    Unit′ (record {
+      encoding = encodingOf addressSize;
+      «unit_type» = unitType;
+      abbreviations = abbreviations;
+      first = record { 0 = first };
+      end = length u;
+    })
 
--- version (2 bytes), unit_type (1): 1 DW_UT_compile or 5 DW_UT_split_compile, address_size (1): 4 or 8, debug_abbrev_offset (4), and for type 5 dwo_id (8)
+-- version (2 bytes), unit_type (1), address_size (1): 4 or 8, debug_abbrev_offset (4), and for DW_UT_split_compile
+-- dwo_id (8)
 unfoldable pub headerFields : List ℕ → HeaderRead
 headerFields u =
     present (fixedAt false 2 u 4) (λ version. right (eqb version 5)
-    (present (fixedAt false 1 u 6) (λ unitType. right (eqb unitType 1 or eqb unitType 5)
+    (present (fixedAt false 1 u 6) (λ unitType.
+    right (eqb unitType «DW_UT_compile» or eqb unitType «DW_UT_split_compile»)
     (present (fixedAt false 1 u 7) (λ addressSize. right (eqb addressSize 4 or eqb addressSize 8)
     (present (fixedAt false 4 u 8) (λ abbreviations.
-    pick (eqb unitType 1)
+    pick (eqb unitType «DW_UT_compile»)
     (headerMade u unitType addressSize abbreviations 12)
     (present (fixedAt false 8 u 12) (λ _. headerMade u unitType addressSize abbreviations 20)))))))))
 
--- unit_length (4): 0xfffffff0 and above is no length of the 32-bit format (7.4); the unit is what it covers, and must be there
+-- unit_length (4): 0xfffffff0 and above is no length of the 32-bit format (7.4); the unit is what it covers, and must
+-- be there
 unfoldable pub headerOf : List ℕ → HeaderRead
 headerOf s =
     pick (eqb (length s) 0) Empty

@@ -1,4 +1,5 @@
 pub mod Choice
+pub mod Codes
 pub mod Numbers
 pub mod Layout
 pub mod Tokens
@@ -11,12 +12,12 @@ pub mod Fields
 pub mod Steps
 pub mod References
 pub mod Header
-pub mod RefusalNumbers
 pub mod Lists
 pub mod Slots
 pub mod Abbreviations
 pub mod Entries
+pub mod EntryAttributes
 pub mod Stream
 pub mod Nesting
 pub mod Refusals
-pub mod Examples
+pub mod inner

@@ -1,6 +1,5 @@
 -- Where a list starts (DWARF 5, 7.28 and 7.29; document 01, "Roots": what can't be resolved).
 use Prim.Native.Nat.{ℕ, _+_, _*_}
-use mathlib.Core.Bool.{Bool}
 use mathlib.Core.List.{List}
 use lib.ListN.{length}
 use lib.Dec.{leb}
@@ -20,7 +19,8 @@ unfoldable pub fromBase : List ℕ → ℕ → Number → ListOffset
 fromBase s base (Value v c) = listStart s (base + v)
 fromBase s base Unreadable = Unresolved
 
--- The offset with an index stands in the table at the base, a section offset an index, and counts from the base. Sums and products have no bound here:
--- above 64 bits they lie past every section's end.
+-- The offset with an index stands in the table at the base, a section offset an index, and counts from the base. Sums
+-- and products have no bound here: above 64 bits they lie past every section's end.
 unfoldable pub listOffset : Encoding → List ℕ → ℕ → ℕ → ListOffset
-listOffset e s base index = fromBase s base (fixedAt (e .«big_endian») (e .«offset_size») s (base + index * e .«offset_size»))
+listOffset e s base index =
+    fromBase s base (fixedAt (e .«big_endian») (e .«offset_size») s (base + index * e .«offset_size»))

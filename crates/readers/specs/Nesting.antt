@@ -1,7 +1,6 @@
--- How entries nest (DWARF 5, 2.3): an entry whose declaration says so opens a list of children, a terminator closes the innermost open one, and one that
--- closes none changes nothing.
-use mathlib.Core.Path.{_≡_, refl, ap, sym, _∙_}
-use Prim.Native.Nat.{ℕ, suc, _+_, _-_, _^_, _≤_, _<_}
+-- How entries nest (DWARF 5, 2.3): an entry whose declaration says so opens a list of children, a terminator closes
+-- the innermost open one, and one that closes none changes nothing.
+use Prim.Native.Nat.{ℕ, _+_, _-_, _^_}
 use mathlib.Core.Bool.{Bool, true, false}
 use mathlib.Core.List.{List, [], _∷_}
 use lib.ListN.{length, getD}
@@ -23,13 +22,16 @@ unfoldable pub top : List ℕ → ℕ
 top [] = 4294967295
 top (k ∷ stack) = k
 
--- What the code keeps of it: how many are open, and the innermost. The parents of the entries so far are the rest of the stack.
+-- What the code keeps of it: how many are open, and the innermost. The parents of the entries so far are the rest of
+-- the stack.
 unfoldable pub nestingOf : List ℕ → Nesting
 nestingOf stack = record { depth = length stack; parent = record { 0 = top stack } }
 
 unfoldable pub opened : Bool → ℕ → Nesting → Nesting
-opened children k n = pick children (pick (ltb (n .depth) (2 ^ 64 - 1)) (record { depth = n .depth + 1; parent = record { 0 = k } }) n) n
+opened children k n =
+    pick children (pick (ltb (n .depth) (2 ^ 64 - 1)) (record { depth = n .depth + 1; parent = record { 0 = k } }) n) n
 
 unfoldable pub closed : List ℕ → Nesting → Nesting
 closed parents n =
-    pick (eqb (n .depth) 0) n (record { depth = n .depth - 1; parent = record { 0 = getD parents (n .parent .0) 4294967295 } })
+    pick (eqb (n .depth) 0) n
+    (record { depth = n .depth - 1; parent = record { 0 = getD parents (n .parent .0) 4294967295 } })

@@ -1,69 +1,198 @@
--- The operand layout of every operation (DWARF 5, 7.7.1, table 7.9, and the GNU codes of document 01), and the layouts of range and location
--- list entries (7.25, 7.7.3): each a row of tokens, by a layout number.
+-- The operand layout of every operation (DWARF 5, 7.7.1, table 7.9, and the GNU codes of document 01), and the
+-- layouts of range and location list entries (7.25, 7.7.3): each a row of tokens, by its number.
 use mathlib.Core.Bool.{Bool}
 use mathlib.Core.List.{List, [], _∷_}
-use Prim.Native.Nat.{ℕ}
+use Prim.Native.Nat.{ℕ, suc}
 use lib.ListN.{getD}
 use lib.Dec.{leb}
 use Rattle.readers.specs.Choice.{pick, _and_}
+use Rattle.readers.specs.Codes.{«DW_OP_addr», «DW_OP_deref», «DW_OP_const1u», «DW_OP_const1s», «DW_OP_const2u»}
+use Rattle.readers.specs.Codes.{«DW_OP_const2s», «DW_OP_const4u», «DW_OP_const4s», «DW_OP_const8u»}
+use Rattle.readers.specs.Codes.{«DW_OP_const8s», «DW_OP_constu», «DW_OP_consts», «DW_OP_dup», «DW_OP_drop»}
+use Rattle.readers.specs.Codes.{«DW_OP_over», «DW_OP_pick», «DW_OP_swap», «DW_OP_rot», «DW_OP_xderef»}
+use Rattle.readers.specs.Codes.{«DW_OP_abs», «DW_OP_and», «DW_OP_div», «DW_OP_minus», «DW_OP_mod», «DW_OP_mul»}
+use Rattle.readers.specs.Codes.{«DW_OP_neg», «DW_OP_not», «DW_OP_or», «DW_OP_plus», «DW_OP_plus_uconst»}
+use Rattle.readers.specs.Codes.{«DW_OP_shl», «DW_OP_shr», «DW_OP_shra», «DW_OP_xor», «DW_OP_bra», «DW_OP_eq»}
+use Rattle.readers.specs.Codes.{«DW_OP_ge», «DW_OP_gt», «DW_OP_le», «DW_OP_lt», «DW_OP_ne», «DW_OP_skip»}
+use Rattle.readers.specs.Codes.{«DW_OP_lit0», «DW_OP_lit31», «DW_OP_reg0», «DW_OP_reg31», «DW_OP_breg0»}
+use Rattle.readers.specs.Codes.{«DW_OP_breg31», «DW_OP_regx», «DW_OP_fbreg», «DW_OP_bregx», «DW_OP_piece»}
+use Rattle.readers.specs.Codes.{«DW_OP_deref_size», «DW_OP_xderef_size», «DW_OP_nop», «DW_OP_push_object_address»}
+use Rattle.readers.specs.Codes.{«DW_OP_call2», «DW_OP_call4», «DW_OP_call_ref», «DW_OP_form_tls_address»}
+use Rattle.readers.specs.Codes.{«DW_OP_call_frame_cfa», «DW_OP_bit_piece», «DW_OP_implicit_value»}
+use Rattle.readers.specs.Codes.{«DW_OP_stack_value», «DW_OP_implicit_pointer», «DW_OP_addrx», «DW_OP_constx»}
+use Rattle.readers.specs.Codes.{«DW_OP_entry_value», «DW_OP_const_type», «DW_OP_regval_type», «DW_OP_deref_type»}
+use Rattle.readers.specs.Codes.{«DW_OP_xderef_type», «DW_OP_convert», «DW_OP_reinterpret»}
+use Rattle.readers.specs.Codes.{«DW_OP_GNU_push_tls_address», «DW_OP_GNU_implicit_pointer»}
+use Rattle.readers.specs.Codes.{«DW_OP_GNU_entry_value», «DW_OP_GNU_const_type», «DW_OP_GNU_regval_type»}
+use Rattle.readers.specs.Codes.{«DW_OP_GNU_deref_type», «DW_OP_GNU_convert», «DW_OP_GNU_reinterpret»}
+use Rattle.readers.specs.Codes.{«DW_OP_GNU_parameter_ref», «DW_OP_GNU_addr_index», «DW_OP_GNU_const_index»}
+use Rattle.readers.specs.Codes.{«DW_OP_GNU_variable_value», «DW_RLE_base_addressx», «DW_RLE_startx_endx»}
+use Rattle.readers.specs.Codes.{«DW_RLE_startx_length», «DW_RLE_offset_pair», «DW_RLE_base_address»}
+use Rattle.readers.specs.Codes.{«DW_RLE_start_end», «DW_RLE_start_length», «DW_LLE_base_addressx»}
+use Rattle.readers.specs.Codes.{«DW_LLE_startx_endx», «DW_LLE_startx_length», «DW_LLE_offset_pair»}
+use Rattle.readers.specs.Codes.{«DW_LLE_default_location», «DW_LLE_base_address», «DW_LLE_start_end»}
+use Rattle.readers.specs.Codes.{«DW_LLE_start_length»}
 use Rattle.readers.specs.Layout.{fixed, Role, reference, typeReference, absolute, number, Layout, done, field}
-use Rattle.readers.specs.Tokens.{Use, plain, as′, tokenOf}
+use Rattle.readers.specs.Tokens.{Use, plain, as′, tokenOf, no-bytes, bytes, address, offset, uleb128, sleb128}
+use Rattle.readers.specs.Tokens.{block1, block-uleb128, exprloc, register, unreadable}
 use Rattle.readers.specs.declared.cursor.Encoding.{Encoding}
 
--- ---- rows: up to three tokens in a row, by the numbers of Tokens.antt, and what the first two are used as
+-- ---- rows: up to three tokens, by the numbers of Tokens.antt, and what the first two are used as
 
-pub record Row : Type 0 where
+pub record OperandRow : Type 0 where
   pub first : ℕ
   pub second : ℕ
   pub third : ℕ
   pub firstUse : Use
   pub secondUse : Use
 
-abbrev row3 : ℕ → ℕ → ℕ → Row
+abbrev row3 : ℕ → ℕ → ℕ → OperandRow
 row3 a b c = record { first = a; second = b; third = c; firstUse = plain; secondUse = plain }
 
-unfoldable pub unreadableRow : Row
-unreadableRow = row3 21 0 0
+abbrev row2 : ℕ → ℕ → OperandRow
+row2 a b = row3 a b no-bytes
 
--- The rows by their layout numbers. Tokens: 0 nothing, 1 2 4 8 so many bytes, 9 an address, 10 an offset, 11 ULEB128, 12 SLEB128,
--- 15 a block after a one-byte length, 18 a block after a ULEB128 length, 19 an expression, 20 a register, 21 unreadable.
-unfoldable pub rows : List Row
+abbrev row1 : ℕ → OperandRow
+row1 a = row2 a no-bytes
+
+abbrev row0 : OperandRow
+row0 = row1 no-bytes
+
+-- the first, or the second, names something
+abbrev first-as : Role → OperandRow → OperandRow
+first-as role r =
+    record { first = r .first; second = r .second; third = r .third; firstUse = as′ role; secondUse = r .secondUse }
+
+abbrev second-as : Role → OperandRow → OperandRow
+second-as role r =
+    record { first = r .first; second = r .second; third = r .third; firstUse = r .firstUse; secondUse = as′ role }
+
+unfoldable pub unreadableRow : OperandRow
+unreadableRow = row1 unreadable
+
+-- The rows, each at its number.
+unfoldable pub rows : List OperandRow
 rows =
-    unreadableRow  -- 0
-    ∷ row3 0 0 0  -- 1 no operand
-    ∷ row3 9 0 0  -- 2 an address
-    ∷ row3 1 0 0  -- 3 one byte
-    ∷ row3 2 0 0  -- 4 two bytes
-    ∷ row3 4 0 0  -- 5 four bytes
-    ∷ row3 8 0 0  -- 6 eight bytes
-    ∷ row3 11 0 0  -- 7 ULEB128
-    ∷ row3 12 0 0  -- 8 SLEB128
-    ∷ row3 20 0 0  -- 9 a register
-    ∷ row3 20 12 0  -- 10 a register, SLEB128
-    ∷ row3 11 11 0  -- 11 ULEB128, ULEB128
-    ∷ record { first = 2; second = 0; third = 0; firstUse = as′ reference; secondUse = plain }  -- 12 an entry in two bytes
-    ∷ record { first = 4; second = 0; third = 0; firstUse = as′ reference; secondUse = plain }  -- 13 an entry in four bytes
-    ∷ record { first = 11; second = 0; third = 0; firstUse = as′ typeReference; secondUse = plain }  -- 14 a type
-    ∷ record { first = 20; second = 11; third = 0; firstUse = plain; secondUse = as′ typeReference }  -- 15 a register, a type
-    ∷ record { first = 1; second = 11; third = 0; firstUse = plain; secondUse = as′ typeReference }  -- 16 one byte, a type
-    ∷ record { first = 11; second = 15; third = 0; firstUse = as′ typeReference; secondUse = plain }  -- 17 a type, a block after a one-byte length
-    ∷ row3 18 0 0  -- 18 a block after a ULEB128 length
-    ∷ row3 19 0 0  -- 19 an expression
-    ∷ record { first = 10; second = 0; third = 0; firstUse = as′ absolute; secondUse = plain }  -- 20 an offset in the section
-    ∷ record { first = 10; second = 12; third = 0; firstUse = as′ absolute; secondUse = plain }  -- 21 an offset in the section, SLEB128
-    ∷ row3 11 0 0  -- 22 an index into the address table
-    ∷ row3 9 9 0  -- 23 an address, an address
-    ∷ row3 9 11 0  -- 24 an address, ULEB128
-    ∷ row3 11 11 19  -- 25 ULEB128, ULEB128, an expression
-    ∷ row3 9 9 19  -- 26 an address, an address, an expression
-    ∷ row3 9 11 19  -- 27 an address, ULEB128, an expression
+    unreadableRow  -- row-unreadable
+    ∷ row0  -- row-none
+    ∷ row1 address  -- row-address
+    ∷ row1 (bytes 1)  -- row-bytes1
+    ∷ row1 (bytes 2)  -- row-bytes2
+    ∷ row1 (bytes 4)  -- row-bytes4
+    ∷ row1 (bytes 8)  -- row-bytes8
+    ∷ row1 uleb128  -- row-uleb128
+    ∷ row1 sleb128  -- row-sleb128
+    ∷ row1 register  -- row-register
+    ∷ row2 register sleb128  -- row-register-sleb128
+    ∷ row2 uleb128 uleb128  -- row-uleb128-uleb128
+    ∷ first-as reference (row1 (bytes 2))  -- row-reference2
+    ∷ first-as reference (row1 (bytes 4))  -- row-reference4
+    ∷ first-as typeReference (row1 uleb128)  -- row-type
+    ∷ second-as typeReference (row2 register uleb128)  -- row-register-type
+    ∷ second-as typeReference (row2 (bytes 1) uleb128)  -- row-bytes1-type
+    ∷ first-as typeReference (row2 uleb128 block1)  -- row-type-block1
+    ∷ row1 block-uleb128  -- row-block
+    ∷ row1 exprloc  -- row-expression
+    ∷ first-as absolute (row1 offset)  -- row-offset
+    ∷ first-as absolute (row2 offset sleb128)  -- row-offset-sleb128
+    ∷ row1 uleb128  -- row-address-index
+    ∷ row2 address address  -- row-address-address
+    ∷ row2 address uleb128  -- row-address-uleb128
+    ∷ row3 uleb128 uleb128 exprloc  -- row-uleb128-uleb128-expression
+    ∷ row3 address address exprloc  -- row-address-address-expression
+    ∷ row3 address uleb128 exprloc  -- row-address-uleb128-expression
     ∷ []
 
-unfoldable pub rowOf : ℕ → Row
+-- The numbers of the rows: places in the list above, in its order, each one more than the one before it.
+abbrev pub row-unreadable : ℕ
+row-unreadable = 0
+
+abbrev pub row-none : ℕ
+row-none = suc row-unreadable
+
+abbrev pub row-address : ℕ
+row-address = suc row-none
+
+abbrev pub row-bytes1 : ℕ
+row-bytes1 = suc row-address
+
+abbrev pub row-bytes2 : ℕ
+row-bytes2 = suc row-bytes1
+
+abbrev pub row-bytes4 : ℕ
+row-bytes4 = suc row-bytes2
+
+abbrev pub row-bytes8 : ℕ
+row-bytes8 = suc row-bytes4
+
+abbrev pub row-uleb128 : ℕ
+row-uleb128 = suc row-bytes8
+
+abbrev pub row-sleb128 : ℕ
+row-sleb128 = suc row-uleb128
+
+abbrev pub row-register : ℕ
+row-register = suc row-sleb128
+
+abbrev pub row-register-sleb128 : ℕ
+row-register-sleb128 = suc row-register
+
+abbrev pub row-uleb128-uleb128 : ℕ
+row-uleb128-uleb128 = suc row-register-sleb128
+
+abbrev pub row-reference2 : ℕ
+row-reference2 = suc row-uleb128-uleb128
+
+abbrev pub row-reference4 : ℕ
+row-reference4 = suc row-reference2
+
+abbrev pub row-type : ℕ
+row-type = suc row-reference4
+
+abbrev pub row-register-type : ℕ
+row-register-type = suc row-type
+
+abbrev pub row-bytes1-type : ℕ
+row-bytes1-type = suc row-register-type
+
+abbrev pub row-type-block1 : ℕ
+row-type-block1 = suc row-bytes1-type
+
+abbrev pub row-block : ℕ
+row-block = suc row-type-block1
+
+abbrev pub row-expression : ℕ
+row-expression = suc row-block
+
+abbrev pub row-offset : ℕ
+row-offset = suc row-expression
+
+abbrev pub row-offset-sleb128 : ℕ
+row-offset-sleb128 = suc row-offset
+
+abbrev pub row-address-index : ℕ
+row-address-index = suc row-offset-sleb128
+
+abbrev pub row-address-address : ℕ
+row-address-address = suc row-address-index
+
+abbrev pub row-address-uleb128 : ℕ
+row-address-uleb128 = suc row-address-address
+
+abbrev pub row-uleb128-uleb128-expression : ℕ
+row-uleb128-uleb128-expression = suc row-address-uleb128
+
+abbrev pub row-address-address-expression : ℕ
+row-address-address-expression = suc row-uleb128-uleb128-expression
+
+abbrev pub row-address-uleb128-expression : ℕ
+row-address-uleb128-expression = suc row-address-address-expression
+
+unfoldable pub rowOf : ℕ → OperandRow
 rowOf l = getD rows l unreadableRow
 
 -- A row of tokens; none of them steers the others.
-unfoldable pub rowLayout : Encoding → Row → Layout
+unfoldable pub rowLayout : Encoding → OperandRow → Layout
 rowLayout e r =
     field (tokenOf e (r .firstUse) (r .first)) (λ _.
     field (tokenOf e (r .secondUse) (r .second)) (λ _.
@@ -71,7 +200,7 @@ rowLayout e r =
 
 -- ---- operations
 
--- the codes `from` to `to`, and their layout number
+-- the codes `from` to `upto`, and the number of their row
 pub record Codes : Type 0 where
   pub from : ℕ
   pub upto : ℕ
@@ -80,64 +209,99 @@ pub record Codes : Type 0 where
 abbrev codes : ℕ → ℕ → ℕ → Codes
 codes a b l = record { from = a; upto = b; row = l }
 
+abbrev pub code : ℕ → ℕ → Codes
+code a l = codes a a l
+
 unfoldable pub operations : List Codes
 operations =
-    codes 0x03 0x03 2  -- addr
-    ∷ codes 0x06 0x06 1  -- deref
-    ∷ codes 0x08 0x09 3  -- const1u const1s
-    ∷ codes 0x0a 0x0b 4  -- const2u const2s
-    ∷ codes 0x0c 0x0d 5  -- const4u const4s
-    ∷ codes 0x0e 0x0f 6  -- const8u const8s
-    ∷ codes 0x10 0x10 7  -- constu
-    ∷ codes 0x11 0x11 8  -- consts
-    ∷ codes 0x12 0x14 1  -- dup drop over
-    ∷ codes 0x15 0x15 3  -- pick
-    ∷ codes 0x16 0x22 1  -- swap rot xderef abs and div minus mod mul neg not or plus
-    ∷ codes 0x23 0x23 7  -- plus_uconst
-    ∷ codes 0x24 0x27 1  -- shl shr shra xor
-    ∷ codes 0x28 0x28 4  -- bra
-    ∷ codes 0x29 0x2e 1  -- eq ge gt le lt ne
-    ∷ codes 0x2f 0x2f 4  -- skip
-    ∷ codes 0x30 0x6f 1  -- lit0 to lit31, reg0 to reg31
-    ∷ codes 0x70 0x8f 8  -- breg0 to breg31
-    ∷ codes 0x90 0x90 9  -- regx
-    ∷ codes 0x91 0x91 8  -- fbreg
-    ∷ codes 0x92 0x92 10  -- bregx
-    ∷ codes 0x93 0x93 7  -- piece
-    ∷ codes 0x94 0x95 3  -- deref_size xderef_size
-    ∷ codes 0x96 0x97 1  -- nop push_object_address
-    ∷ codes 0x98 0x98 12  -- call2
-    ∷ codes 0x99 0x99 13  -- call4
-    ∷ codes 0x9a 0x9a 20  -- call_ref
-    ∷ codes 0x9b 0x9c 1  -- form_tls_address call_frame_cfa
-    ∷ codes 0x9d 0x9d 11  -- bit_piece
-    ∷ codes 0x9e 0x9e 18  -- implicit_value
-    ∷ codes 0x9f 0x9f 1  -- stack_value
-    ∷ codes 0xa0 0xa0 21  -- implicit_pointer
-    ∷ codes 0xa1 0xa1 22  -- addrx
-    ∷ codes 0xa2 0xa2 7  -- constx
-    ∷ codes 0xa3 0xa3 19  -- entry_value
-    ∷ codes 0xa4 0xa4 17  -- const_type
-    ∷ codes 0xa5 0xa5 15  -- regval_type
-    ∷ codes 0xa6 0xa7 16  -- deref_type xderef_type
-    ∷ codes 0xa8 0xa9 14  -- convert reinterpret
-    ∷ codes 0xe0 0xe0 1  -- GNU_push_tls_address
-    ∷ codes 0xf2 0xf2 21  -- GNU_implicit_pointer
-    ∷ codes 0xf3 0xf3 19  -- GNU_entry_value
-    ∷ codes 0xf4 0xf4 17  -- GNU_const_type
-    ∷ codes 0xf5 0xf5 15  -- GNU_regval_type
-    ∷ codes 0xf6 0xf6 16  -- GNU_deref_type
-    ∷ codes 0xf7 0xf7 14  -- GNU_convert
-    ∷ codes 0xf9 0xf9 14  -- GNU_reinterpret
-    ∷ codes 0xfa 0xfa 13  -- GNU_parameter_ref
-    ∷ codes 0xfb 0xfb 22  -- GNU_addr_index
-    ∷ codes 0xfc 0xfc 7  -- GNU_const_index
-    ∷ codes 0xfd 0xfd 20  -- GNU_variable_value
+    code «DW_OP_addr» row-address
+    ∷ code «DW_OP_deref» row-none
+    ∷ code «DW_OP_const1u» row-bytes1
+    ∷ code «DW_OP_const1s» row-bytes1
+    ∷ code «DW_OP_const2u» row-bytes2
+    ∷ code «DW_OP_const2s» row-bytes2
+    ∷ code «DW_OP_const4u» row-bytes4
+    ∷ code «DW_OP_const4s» row-bytes4
+    ∷ code «DW_OP_const8u» row-bytes8
+    ∷ code «DW_OP_const8s» row-bytes8
+    ∷ code «DW_OP_constu» row-uleb128
+    ∷ code «DW_OP_consts» row-sleb128
+    ∷ code «DW_OP_dup» row-none
+    ∷ code «DW_OP_drop» row-none
+    ∷ code «DW_OP_over» row-none
+    ∷ code «DW_OP_pick» row-bytes1
+    ∷ code «DW_OP_swap» row-none
+    ∷ code «DW_OP_rot» row-none
+    ∷ code «DW_OP_xderef» row-none
+    ∷ code «DW_OP_abs» row-none
+    ∷ code «DW_OP_and» row-none
+    ∷ code «DW_OP_div» row-none
+    ∷ code «DW_OP_minus» row-none
+    ∷ code «DW_OP_mod» row-none
+    ∷ code «DW_OP_mul» row-none
+    ∷ code «DW_OP_neg» row-none
+    ∷ code «DW_OP_not» row-none
+    ∷ code «DW_OP_or» row-none
+    ∷ code «DW_OP_plus» row-none
+    ∷ code «DW_OP_plus_uconst» row-uleb128
+    ∷ code «DW_OP_shl» row-none
+    ∷ code «DW_OP_shr» row-none
+    ∷ code «DW_OP_shra» row-none
+    ∷ code «DW_OP_xor» row-none
+    ∷ code «DW_OP_bra» row-bytes2
+    ∷ code «DW_OP_eq» row-none
+    ∷ code «DW_OP_ge» row-none
+    ∷ code «DW_OP_gt» row-none
+    ∷ code «DW_OP_le» row-none
+    ∷ code «DW_OP_lt» row-none
+    ∷ code «DW_OP_ne» row-none
+    ∷ code «DW_OP_skip» row-bytes2
+    ∷ codes «DW_OP_lit0» «DW_OP_lit31» row-none
+    ∷ codes «DW_OP_reg0» «DW_OP_reg31» row-none
+    ∷ codes «DW_OP_breg0» «DW_OP_breg31» row-sleb128
+    ∷ code «DW_OP_regx» row-register
+    ∷ code «DW_OP_fbreg» row-sleb128
+    ∷ code «DW_OP_bregx» row-register-sleb128
+    ∷ code «DW_OP_piece» row-uleb128
+    ∷ code «DW_OP_deref_size» row-bytes1
+    ∷ code «DW_OP_xderef_size» row-bytes1
+    ∷ code «DW_OP_nop» row-none
+    ∷ code «DW_OP_push_object_address» row-none
+    ∷ code «DW_OP_call2» row-reference2
+    ∷ code «DW_OP_call4» row-reference4
+    ∷ code «DW_OP_call_ref» row-offset
+    ∷ code «DW_OP_form_tls_address» row-none
+    ∷ code «DW_OP_call_frame_cfa» row-none
+    ∷ code «DW_OP_bit_piece» row-uleb128-uleb128
+    ∷ code «DW_OP_implicit_value» row-block
+    ∷ code «DW_OP_stack_value» row-none
+    ∷ code «DW_OP_implicit_pointer» row-offset-sleb128
+    ∷ code «DW_OP_addrx» row-address-index
+    ∷ code «DW_OP_constx» row-uleb128
+    ∷ code «DW_OP_entry_value» row-expression
+    ∷ code «DW_OP_const_type» row-type-block1
+    ∷ code «DW_OP_regval_type» row-register-type
+    ∷ code «DW_OP_deref_type» row-bytes1-type
+    ∷ code «DW_OP_xderef_type» row-bytes1-type
+    ∷ code «DW_OP_convert» row-type
+    ∷ code «DW_OP_reinterpret» row-type
+    ∷ code «DW_OP_GNU_push_tls_address» row-none
+    ∷ code «DW_OP_GNU_implicit_pointer» row-offset-sleb128
+    ∷ code «DW_OP_GNU_entry_value» row-expression
+    ∷ code «DW_OP_GNU_const_type» row-type-block1
+    ∷ code «DW_OP_GNU_regval_type» row-register-type
+    ∷ code «DW_OP_GNU_deref_type» row-bytes1-type
+    ∷ code «DW_OP_GNU_convert» row-type
+    ∷ code «DW_OP_GNU_reinterpret» row-type
+    ∷ code «DW_OP_GNU_parameter_ref» row-reference4
+    ∷ code «DW_OP_GNU_addr_index» row-address-index
+    ∷ code «DW_OP_GNU_const_index» row-uleb128
+    ∷ code «DW_OP_GNU_variable_value» row-offset
     ∷ []
 
--- the layout number of a code; 0 where no codes hold it
+-- the row of a code; unreadable where no codes hold it
 unfoldable pub rowAmong : List Codes → ℕ → ℕ
-rowAmong [] c = 0
+rowAmong [] c = row-unreadable
 rowAmong (x ∷ xs) c = pick (leb (x .from) c and leb c (x .upto)) (x .row) (rowAmong xs c)
 
 unfoldable pub operationRow : ℕ → ℕ
@@ -147,15 +311,32 @@ operationRow c = rowAmong operations c
 unfoldable pub operation : Encoding → Layout
 operation e = field (number (fixed 1)) (λ c. rowLayout e (rowOf (operationRow c)))
 
--- ---- list entries: a kind of one byte, and its operands. Kind 0 ends a list and is none of these.
+-- ---- list entries: a kind of one byte, and its operands. An end of list has no row.
 
--- 7.25, table 7.30: base_addressx startx_endx startx_length offset_pair base_address start_end start_length
+-- 7.25, table 7.30
 unfoldable pub rangeEntries : List Codes
-rangeEntries = codes 1 1 7 ∷ codes 2 4 11 ∷ codes 5 5 2 ∷ codes 6 6 23 ∷ codes 7 7 24 ∷ []
+rangeEntries =
+    code «DW_RLE_base_addressx» row-uleb128
+    ∷ code «DW_RLE_startx_endx» row-uleb128-uleb128
+    ∷ code «DW_RLE_startx_length» row-uleb128-uleb128
+    ∷ code «DW_RLE_offset_pair» row-uleb128-uleb128
+    ∷ code «DW_RLE_base_address» row-address
+    ∷ code «DW_RLE_start_end» row-address-address
+    ∷ code «DW_RLE_start_length» row-address-uleb128
+    ∷ []
 
--- 7.7.3, table 7.10: base_addressx, startx_endx startx_length offset_pair, default_location, base_address, start_end, start_length
+-- 7.7.3, table 7.10
 unfoldable pub locationEntries : List Codes
-locationEntries = codes 1 1 7 ∷ codes 2 4 25 ∷ codes 5 5 19 ∷ codes 6 6 2 ∷ codes 7 7 26 ∷ codes 8 8 27 ∷ []
+locationEntries =
+    code «DW_LLE_base_addressx» row-uleb128
+    ∷ code «DW_LLE_startx_endx» row-uleb128-uleb128-expression
+    ∷ code «DW_LLE_startx_length» row-uleb128-uleb128-expression
+    ∷ code «DW_LLE_offset_pair» row-uleb128-uleb128-expression
+    ∷ code «DW_LLE_default_location» row-expression
+    ∷ code «DW_LLE_base_address» row-address
+    ∷ code «DW_LLE_start_end» row-address-address-expression
+    ∷ code «DW_LLE_start_length» row-address-uleb128-expression
+    ∷ []
 
 unfoldable pub listRow : Bool → ℕ → ℕ
 listRow location k = rowAmong (pick location locationEntries rangeEntries) k

@@ -1,14 +1,16 @@
 -- The references of an expression (document 01, "References" and "references of an expression").
-use mathlib.Core.Path.{_≡_}
-use Prim.Native.Nat.{ℕ, _+_, _*_, _-_, _/_, _≤_}
+use Prim.Native.Nat.{ℕ, _+_, _*_, _-_, _/_}
 use mathlib.Core.Bool.{Bool, true, false}
 use mathlib.Core.List.{List, [], _∷_, _++_}
 use mathlib.Core.Option.{Option, none, some}
-use lib.ListN.{length, drop}
+use lib.ListN.{length}
 use lib.Dec.{ltb, leb, eqb}
 use Rattle.readers.specs.Choice.{pick, _or_, zeros}
 use Rattle.readers.specs.Header.{encodingOf}
-use Rattle.readers.specs.Layout.{Encoded, infixed, inleb, width, Role, reference, typeReference, sibling, index, absolute, Piece, copied, linked, pieceBytes}
+use Rattle.readers.specs.Operations.{row-reference2, row-reference4, row-type, row-bytes1-type, row-type-block1}
+use Rattle.readers.specs.Operations.{row-expression}
+use Rattle.readers.specs.Layout.{Encoded, infixed, inleb, width, reference, typeReference, sibling, index}
+use Rattle.readers.specs.Layout.{absolute, Piece, verbatim, patchable, pieceBytes}
 use Rattle.readers.specs.Expression.{expressionIn}
 use Rattle.readers.specs.Scan.{Turn, more, stop, Scanned, scan}
 use Rattle.readers.specs.Steps.{operationAt}
@@ -21,7 +23,6 @@ use Rattle.readers.specs.declared.operations.OperationRead.{OperationRea
 use Rattle.readers.specs.declared.operations.OperationRead.the-variants.{Read as Operation′, Unreadable as NoOperation}
 use Rattle.readers.specs.declared.expressions.Walk.{Walk}
 use Rattle.readers.specs.declared.expressions.Walk.the-variants.{Walked, Unreadable}
-use Rattle.readers.specs.declared.expressions.Reference.{Reference}
 use Rattle.readers.specs.declared.expressions.Yield.{Yield}
 use Rattle.readers.specs.declared.expressions.Yield.the-variants.{Reference as Yielded, End}
 use Rattle.readers.specs.declared.expressions.References.{References}
@@ -33,12 +34,12 @@ Named = ℕ × ℕ × Encoded
 
 -- Operands of call2, call4 and GNU_parameter_ref, and, where not zero, of the type operations.
 unfoldable pub nameIn : ℕ → Piece → List Named
-nameIn at (copied l) = []
-nameIn at (linked e reference v) = (at, v, e) ∷ []
-nameIn at (linked e typeReference v) = pick (eqb v 0) [] ((at, v, e) ∷ [])
-nameIn at (linked e sibling v) = []
-nameIn at (linked e (index k) v) = []
-nameIn at (linked e absolute v) = []
+nameIn at (verbatim l) = []
+nameIn at (patchable e reference v) = (at, v, e) ∷ []
+nameIn at (patchable e typeReference v) = pick (eqb v 0) [] ((at, v, e) ∷ [])
+nameIn at (patchable e sibling v) = []
+nameIn at (patchable e (index k) v) = []
+nameIn at (patchable e absolute v) = []
 
 -- the references of pieces whose first byte is at a place
 unfoldable pub namesIn : Bool → ℕ → List Piece → List Named
@@ -46,12 +47,12 @@ namesIn big at [] = []
 namesIn big at (p ∷ ps) = nameIn at p ++ namesIn big (at + length (pieceBytes big p)) ps
 
 unfoldable pub isAbsolute : Piece → Bool
-isAbsolute (copied l) = false
-isAbsolute (linked e reference v) = false
-isAbsolute (linked e typeReference v) = false
-isAbsolute (linked e sibling v) = false
-isAbsolute (linked e (index k) v) = false
-isAbsolute (linked e absolute v) = true
+isAbsolute (verbatim l) = false
+isAbsolute (patchable e reference v) = false
+isAbsolute (patchable e typeReference v) = false
+isAbsolute (patchable e sibling v) = false
+isAbsolute (patchable e (index k) v) = false
+isAbsolute (patchable e absolute v) = true
 
 -- whether an offset in the section is among the pieces
 unfoldable pub anyAbsolute : List Piece → Bool
@@ -71,36 +72,31 @@ walkOf e s = asWalk (e .«big_endian») (expressionIn e s)
 
 -- the entry that an operand names; b: whether the operand is a ULEB128 number
 unfoldable pub named : Field → Bool → Cursor → Yield
-named f b c = Yielded (record { place = f .start; target = record { 0 = f .value }; leb = b; width = f .end - f .start; next = c })
+named f b c =
+    Yielded (record { place = f .start; target = record { 0 = f .value }; leb = b; width = f .end - f .start; next = c })
 
 unfoldable pub namedType : Field → Cursor → Yield
 namedType f c = pick (eqb (f .value) 0) End (named f true c)
 
--- by the rows of Operations.antt: 12 and 13 name an entry, 14 and 17 a type by their first operand, 15 and 16 by their second
+-- By the rows of Operations.antt, in their order: two name an entry, four a type, by their first or their second
+-- operand.
 unfoldable pub referenceOf : Operation → Yield
 referenceOf op =
-    pick (ltb (op .row) 12) End
-    (pick (leb (op .row) 13) (named (op .first) false (op .next))
-    (pick (eqb (op .row) 14) (namedType (op .first) (op .next))
-    (pick (leb (op .row) 16) (namedType (op .second) (op .next))
-    (pick (eqb (op .row) 17) (namedType (op .first) (op .next))
+    pick (ltb (op .row) row-reference2) End
+    (pick (leb (op .row) row-reference4) (named (op .first) false (op .next))
+    (pick (eqb (op .row) row-type) (namedType (op .first) (op .next))
+    (pick (leb (op .row) row-bytes1-type) (namedType (op .second) (op .next))
+    (pick (eqb (op .row) row-type-block1) (namedType (op .first) (op .next))
     End))))
-
-unfoldable pub counted : Yield → ℕ
-counted (Yielded r) = 1
-counted End = 0
-
--- an operation by itself; rows 20 and 21 hold an offset in the section
-unfoldable pub ownWalk : Operation → Walk
-ownWalk op = pick (eqb (op .row) 20 or eqb (op .row) 21) (Walked 0 true) (Walked (counted (referenceOf op)) false)
 
 unfoldable pub yieldTurn : Yield → Cursor → Turn (Unit {0}) Yield
 yieldTurn (Yielded r) c = stop (Yielded r)
 yieldTurn End c = more tt (c .at)
 
--- row 19 is an entry value
+-- the one row that holds an expression is an entry value's
 unfoldable pub operationTurn : OperationRead → Turn (Unit {0}) Yield
-operationTurn (Operation′ op) = pick (eqb (op .row) 19) (more tt (op .first .start)) (yieldTurn (referenceOf op) (op .next))
+operationTurn (Operation′ op) =
+    pick (eqb (op .row) row-expression) (more tt (op .first .start)) (yieldTurn (referenceOf op) (op .next))
 operationTurn NoOperation = stop End
 
 unfoldable pub walkTurn : Encoding → List ℕ → ℕ → Turn (Unit {0}) Yield
@@ -124,16 +120,9 @@ unfoldable pub namesOf : Yield → List Named
 namesOf (Yielded r) = (r .place, r .target .0, encodedBy (r .leb) (r .width)) ∷ []
 namesOf End = []
 
--- Reference after reference from a place on, each from where the one before it ends, until there is none. From the start of an expression
--- that can be read these are its references (`walked-yields`, proofs/Answers.antt). From any other place they are what the bytes there say,
--- read as operations: nothing tells where a nested part ends.
-pub data Yields (e : Encoding) (s : List ℕ) : ℕ → List Named → Type 0 where
-  no-more : {at : ℕ} → nextReference e s at ≡ End → Yields e s at []
-  one-more : {at : ℕ} {rs : List Named} (r : Reference) → nextReference e s at ≡ Yielded r → Yields e s (r .next .at) rs
-      → Yields e s at ((r .place, r .target .0, encodedBy (r .leb) (r .width)) ∷ rs)
-
 unfoldable pub flatOperation : OperationRead → Turn (List Named) (Unit {0})
-flatOperation (Operation′ op) = pick (eqb (op .row) 19) (more [] (op .first .start)) (more (namesOf (referenceOf op)) (op .next .at))
+flatOperation (Operation′ op) =
+    pick (eqb (op .row) row-expression) (more [] (op .first .start)) (more (namesOf (referenceOf op)) (op .next .at))
 flatOperation NoOperation = stop tt
 
 unfoldable pub flatTurn : Encoding → List ℕ → ℕ → Turn (List Named) (Unit {0})
@@ -159,18 +148,13 @@ walkAnswer room (Walked n true) = Refused (refusalOfWalk (Walked n true))
 walkAnswer room (Walked n false) = pick (leb n room) (Count n) (Refused 11)
 
 unfoldable pub referencesAnswer : ℕ → ℕ → List ℕ → References
-referencesAnswer n numbers s = pick (eqb n 4 or eqb n 8) (walkAnswer (numbers / 3) (walkOf (encodingOf n) s)) (Refused 2)
+referencesAnswer n numbers s =
+    pick (eqb n 4 or eqb n 8) (walkAnswer (numbers / 3) (walkOf (encodingOf n) s)) (Refused 2)
 
 -- three numbers each: the place, the offset, the width in bytes
 unfoldable pub numbersOf : List Named → List ℕ
 numbersOf [] = []
 numbersOf (r ∷ rs) = r .0 ∷ r .1 ∷ width (r .2) ∷ numbersOf rs
-
--- a cleared table with room for the references, of which there are n
-pub record Room (rs : List Named) (table : List ℕ) (n : ℕ) : Type 0 where
-  pub count : length rs ≡ n
-  pub fits : 3 * n ≤ length table
-  pub cleared : table ≡ zeros (length table)
 
 -- the references of a readable expression
 unfoldable pub namesOr : Bool → Option (List Piece) → List Named

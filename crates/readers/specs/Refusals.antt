@@ -1,20 +1,10 @@
 -- Document 01's numbers of refusal, for each case of what a reader answers; 0 where it refuses nothing.
 use Prim.Native.Nat.{ℕ}
 use mathlib.Core.Bool.{true, false}
-use Rattle.readers.specs.declared.cursor.Moved.{Moved}
-use Rattle.readers.specs.declared.cursor.Moved.the-variants.{To, Unreadable as Nowhere}
-use Rattle.readers.specs.declared.header.HeaderRead.{HeaderRead}
-use Rattle.readers.specs.declared.header.HeaderRead.the-variants.{Unit as Unit′, Empty, Refused as Unheaded}
 use Rattle.readers.specs.declared.abbreviations.Checked.{Checked}
 use Rattle.readers.specs.declared.abbreviations.Checked.the-variants.{Accepted, Refused as Unchecked}
-use Rattle.readers.specs.declared.abbreviations.DeclarationStep.{DeclarationStep}
-use Rattle.readers.specs.declared.abbreviations.DeclarationStep.the-variants.{Declaration as Declared, Last as LastOne, Unreadable as NoDeclaration}
-use Rattle.readers.specs.declared.attributes.AttributeRead.{AttributeRead}
-use Rattle.readers.specs.declared.attributes.AttributeRead.the-variants.{Read as Attribute′, Unreadable as NoAttribute}
 use Rattle.readers.specs.declared.entries.Step.{Step}
 use Rattle.readers.specs.declared.entries.Step.the-variants.{Entry as Entry′, Terminator, End, Unreadable}
-use Rattle.readers.specs.declared.entries.HeadStep.{HeadStep}
-use Rattle.readers.specs.declared.entries.HeadStep.the-variants.{Entry as Head, Terminator as TerminatorHead, End as EndHead, Unreadable as NoHead}
 use Rattle.readers.specs.declared.operations.OperationRead.{OperationRead}
 use Rattle.readers.specs.declared.operations.OperationRead.the-variants.{Read as Operation′, Unreadable as NoOperation}
 use Rattle.readers.specs.declared.operations.ListStep.{ListStep}
@@ -23,24 +13,11 @@ use Rattle.readers.specs.declared.lists.ListOffset.{ListOffset}
 use Rattle.readers.specs.declared.lists.ListOffset.the-variants.{At, Unresolved}
 use Rattle.readers.specs.declared.expressions.Walk.{Walk}
 use Rattle.readers.specs.declared.expressions.Walk.the-variants.{Walked, Unreadable as Unwalked}
-use Rattle.readers.specs.declared.expressions.References.{References}
-use Rattle.readers.specs.declared.expressions.References.the-variants.{Count, Refused as NoReferences}
-
--- 1 or 2 (specs/Header.antt)
-abbrev pub refusalOfHeader : HeaderRead → ℕ
-refusalOfHeader (Unit′ h) = 0
-refusalOfHeader Empty = 0
-refusalOfHeader (Unheaded n) = n
 
 -- 3: the abbreviations
 abbrev pub refusalOfChecked : Checked → ℕ
 refusalOfChecked Accepted = 0
 refusalOfChecked Unchecked = 3
-
-abbrev pub refusalOfDeclaration : DeclarationStep → ℕ
-refusalOfDeclaration (Declared d c) = 0
-refusalOfDeclaration (LastOne c) = 0
-refusalOfDeclaration NoDeclaration = 3
 
 -- 4: an entry, its values too
 abbrev pub refusalOfStep : Step → ℕ
@@ -48,20 +25,6 @@ refusalOfStep (Entry′ x) = 0
 refusalOfStep (Terminator c) = 0
 refusalOfStep End = 0
 refusalOfStep Unreadable = 4
-
-abbrev pub refusalOfHead : HeadStep → ℕ
-refusalOfHead (Head x) = 0
-refusalOfHead (TerminatorHead c) = 0
-refusalOfHead EndHead = 0
-refusalOfHead NoHead = 4
-
-abbrev pub refusalOfAttribute : AttributeRead → ℕ
-refusalOfAttribute (Attribute′ a) = 0
-refusalOfAttribute NoAttribute = 4
-
-abbrev pub refusalOfValues : Moved → ℕ
-refusalOfValues (To c) = 0
-refusalOfValues Nowhere = 4
 
 -- 5: an operation, an expression or a list; 7: an expression that names something by an offset in the section
 abbrev pub refusalOfOperation : OperationRead → ℕ
@@ -82,8 +45,3 @@ abbrev pub refusalOfWalk : Walk → ℕ
 refusalOfWalk (Walked n false) = 0
 refusalOfWalk (Walked n true) = 7
 refusalOfWalk Unwalked = 5
-
--- 2, 5, 7 or 11 (specs/References.antt)
-abbrev pub refusalOfReferences : References → ℕ
-refusalOfReferences (Count n) = 0
-refusalOfReferences (NoReferences n) = n

@@ -1,12 +1,12 @@
--- The entries and terminators of a unit, one after the other (DWARF 5, 2.3 and 7.5.2): from a place on, up to the unit's end or to what can't be read.
+-- The entries and terminators of a unit, one after the other (DWARF 5, 2.3 and 7.5.2): from a place on, up to the
+-- unit's end or to what can't be read.
 use Prim.Native.Nat.{ℕ, zero, suc, _-_}
 use mathlib.Core.Bool.{Bool, true, false}
 use mathlib.Core.List.{List, [], _∷_}
 use lib.ListN.{length}
 use Rattle.readers.specs.Entries.{stepAt}
 use Rattle.readers.specs.declared.cursor.Encoding.{Encoding}
-use Rattle.readers.specs.declared.cursor.Cursor.{Cursor}
-use Rattle.readers.specs.declared.abbreviations.Found.{Found}
+use Rattle.readers.specs.declared.abbreviations.DeclarationFound.{DeclarationFound}
 use Rattle.readers.specs.declared.entries.Entry.{Entry}
 use Rattle.readers.specs.declared.entries.Step.{Step}
 use Rattle.readers.specs.declared.entries.Step.the-variants.{Entry as Entry′, Terminator, End, Unreadable}
@@ -29,7 +29,7 @@ onStep at (Terminator c) k = push (terminator at (c .at)) (k (c .at))
 onStep at End k = ([], true)
 onStep at Unreadable k = ([], false)
 
-module _ (e : Encoding) (abbreviations : List ℕ) (look : ℕ → Found) (unit : List ℕ) where
+module _ (e : Encoding) (abbreviations : List ℕ) (look : ℕ → DeclarationFound) (unit : List ℕ) where
   -- a count bounds how often
   unfoldable pub itemsWithin : ℕ → ℕ → Items
   itemsWithin zero at = ([], false)
@@ -37,3 +37,9 @@ module _ (e : Encoding) (abbreviations : List ℕ) (look : ℕ → Found) (unit 
 
   unfoldable pub itemsFrom : ℕ → Items
   itemsFrom at = itemsWithin (suc (length unit - at)) at
+
+-- how many of the items are entries
+unfoldable pub entryCount : List Item → ℕ
+entryCount [] = 0
+entryCount (terminator a b ∷ rest) = entryCount rest
+entryCount (entry y ∷ rest) = suc (entryCount rest)

@@ -3,11 +3,17 @@ ghost use mathlib.Core.Path.{_≡_};
 ghost use Prim.Native.Nat.{_-_};
 ghost use lib.ListN.{length, getD};
 ghost use Rattle.readers.specs.Choice.{zeros};
-ghost use Rattle.readers.specs.Abbreviations.{specAt, implicitSpec, pastAttributes, headAt, declarationAt, declarationsFrom, searchAt, checkedOf, countOf, Gathered, indexOf, holdsCode, headIn, findHead};
+ghost use Rattle.readers.specs.Abbreviations.{specAt, implicitSpec, pastAttributes, headAt, declarationAt};
+ghost use Rattle.readers.specs.Abbreviations.{declarationsFrom, searchAt, checkedOf};
+ghost use Rattle.readers.specs.inner.Abbreviations.{accepted, countOf, Gathered};
+ghost use Rattle.readers.specs.Abbreviations.{indexOf, holdsCode, headIn, findHead};
 ghost use Rattle.readers.specs.declared.abbreviations.Checked.the-variants.{Accepted};
+use crate::codes::DW_CHILDREN_yes;
+use crate::codes::DW_FORM_implicit_const;
 use crate::cursor::Cursor;
 use crate::cursor::Moved;
 use crate::cursor::Number;
+use crate::slots::Arranged;
 use crate::slots::order;
 use crate::slots::slot_code;
 use crate::slots::slot_of;
@@ -55,7 +61,7 @@ enum Count {
     Unreadable,
 }
 
-pub enum Found {
+pub enum DeclarationFound {
     Declaration(Declaration),
     Nothing,
 }
@@ -64,7 +70,7 @@ pub enum Found {
 fn implicit_spec(s: &[u8], name: u64, form: u64, c: Cursor) -> SpecStep
     ensures { λ r. ⌜ r ≡ implicitSpec (now (s .entry)) name form (c .at) ⌝ }
 {
-    if form != 0x21 {
+    if form != DW_FORM_implicit_const {
         return SpecStep::Attribute(AttributeSpec {
             name,
             form,
@@ -127,7 +133,8 @@ impl Cursor {
         }
     }
 
-    // The head of the declaration at a place: its code, tag and children byte, and the cursor to its attribute specifications.
+    // The head of the declaration at a place: its code, tag and children byte, and the cursor to its attribute
+    // specifications.
     pub fn head(self, s: &[u8]) -> DeclarationStep
         ensures { λ r. ⌜ r ≡ headAt (now (s .entry)) (self .at) ⌝ }
     {
@@ -146,14 +153,14 @@ impl Cursor {
         let Number::Value(children, attributes) = after_tag.fixed(s, 1, false) else {
             return DeclarationStep::Unreadable;
         };
-        if children > 1 {
+        if children > DW_CHILDREN_yes {
             return DeclarationStep::Unreadable;
         }
         DeclarationStep::Declaration(
             Declaration {
                 code,
                 tag,
-                children: children == 1,
+                children: children == DW_CHILDREN_yes,
                 attributes,
             },
             attributes,
@@ -178,7 +185,7 @@ impl Cursor {
     }
 
     // The first declaration with a code among those that start at this place and before `to`.
-    pub fn search(self, s: &[u8], to: usize, code: u64) -> Found
+    pub fn search(self, s: &[u8], to: usize, code: u64) -> DeclarationFound
         ensures { λ r. ⌜ r ≡ searchAt (now (s .entry)) to code (self .at) ⌝ }
     {
         let mut c = self;
@@ -186,23 +193,24 @@ impl Cursor {
             match c.declaration(s) {
                 DeclarationStep::Declaration(d, next) => {
                     if d.code == code {
-                        return Found::Declaration(d);
+                        return DeclarationFound::Declaration(d);
                     }
                     c = next;
                 }
                 DeclarationStep::Last(_) => {
-                    return Found::Nothing;
+                    return DeclarationFound::Nothing;
                 }
                 DeclarationStep::Unreadable => {
-                    return Found::Nothing;
+                    return DeclarationFound::Nothing;
                 }
             }
         }
-        Found::Nothing
+        DeclarationFound::Nothing
     }
 }
 
-// Writes one more than the place of each declaration into the slots of an index, in their order, as far as there is room, and counts them.
+// Writes one more than the place of each declaration into the slots of an index, in their order, as far as there is
+// room, and counts them.
 fn gather(s: &[u8], start: usize, index: &mut [u64]) -> Count
     ensures counted { λ r. ⌜ r ≡ countOf (declarationsFrom (now (s .entry)) start) ⌝ }
     ensures gathered { λ r. ⌜ Gathered (now (s .entry)) start (now (index .entry)) (now (index .exit)) ⌝ }
@@ -231,8 +239,8 @@ fn gather(s: &[u8], start: usize, index: &mut [u64]) -> Count
     }
 }
 
-// Whether the declarations can be read and no code is declared twice, by a search for each: as many steps as the square of their number. Only for an
-// index that is too short for them.
+// Whether the declarations can be read and no code is declared twice, by a search for each: as many steps as the
+// square of their number. Only for an index that is too short for them.
 fn check_plain(s: &[u8], start: usize) -> Checked
     ensures { λ r. ⌜ r ≡ checkedOf (now (s .entry)) start ⌝ }
 {
@@ -240,7 +248,11 @@ fn check_plain(s: &[u8], start: usize) -> Checked
     loop {
         match c.declaration(s) {
             DeclarationStep::Declaration(d, next) => {
-                if let Found::Declaration(_) = (Cursor { at: start }).search(s, c.at, d.code) {
+                if let DeclarationFound::Declaration(_) = (Cursor { at: start }).search(
+                    s,
+                    c.at,
+                    d.code,
+                ) {
                     return Checked::Refused;
                 }
                 c = next;
@@ -255,11 +267,22 @@ fn check_plain(s: &[u8], start: usize) -> Checked
     }
 }
 
+// Declarations are accepted where their codes can be brought in ascending order.
+fn accept(a: Arranged) -> Checked
+    ensures { λ r. ⌜ r ≡ accepted a ⌝ }
+{
+    match a {
+        Arranged::Ascending => Checked::Accepted,
+        Arranged::Repeated => Checked::Refused,
+    }
+}
+
 // Fills an index that holds zeros, as far as the declarations are accepted.
 fn fill_index(s: &[u8], start: usize, index: &mut [u64]) -> Checked
     requires { ⌜ now index ≡ zeros (length (now index)) ⌝ }
     ensures answer { λ r. ⌜ r ≡ checkedOf (now (s .entry)) start ⌝ }
-    ensures filled { λ r. ⌜ (r ≡ Accepted → now (index .exit) ≡ indexOf (now (s .entry)) start (length (now (index .entry)))) ⌝ }
+    ensures filled { λ r. ⌜
+        (r ≡ Accepted → now (index .exit) ≡ indexOf (now (s .entry)) start (length (now (index .entry)))) ⌝ }
 {
     let Count::Of(count) = gather(s, start, index) else {
         return Checked::Refused;
@@ -268,11 +291,12 @@ fn fill_index(s: &[u8], start: usize, index: &mut [u64]) -> Checked
         clear(index);
         return check_plain(s, start);
     }
-    order(s, &mut index[..count])
+    accept(order(s, &mut index[..count]))
 }
 
-// Checks the whole list of declarations that starts at an offset, and fills an index of them: one more than the place of each, in ascending order of
-// their codes, then zeros. An index with fewer numbers than there are declarations holds zeros alone, and so does one of a list that is refused.
+// Checks the whole list of declarations that starts at an offset, and fills an index of them: one more than the place
+// of each, in ascending order of their codes, then zeros. An index with fewer numbers than there are declarations
+// holds zeros alone, and so does one of a list that is refused.
 pub fn check_abbreviations(s: &[u8], from: u64, index: &mut [u64]) -> Checked
     ensures answer { λ r. ⌜ r ≡ checkedOf (now (s .entry)) from ⌝ }
     ensures filled { λ r. ⌜ now (index .exit) ≡ indexOf (now (s .entry)) from (length (now (index .entry))) ⌝ }
@@ -315,21 +339,22 @@ fn number_before(n: u64) -> usize
 }
 
 // The declaration whose place a slot holds, by its head.
-fn head_in(s: &[u8], slot: u64) -> Found
+fn head_in(s: &[u8], slot: u64) -> DeclarationFound
     ensures { λ r. ⌜ r ≡ headIn (now (s .entry)) slot ⌝ }
 {
     let at = number_before(slot);
     match (Cursor { at }).head(s) {
-        DeclarationStep::Declaration(d, _) => Found::Declaration(d),
-        DeclarationStep::Last(_) => Found::Nothing,
-        DeclarationStep::Unreadable => Found::Nothing,
+        DeclarationStep::Declaration(d, _) => DeclarationFound::Declaration(d),
+        DeclarationStep::Last(_) => DeclarationFound::Nothing,
+        DeclarationStep::Unreadable => DeclarationFound::Nothing,
     }
 }
 
-// The declaration with a code: through the slot that it has where compilers number from 1 on, else through the one that a search by halves ends at,
-// else by the plain search, which is left for a code that is not declared and for an index that is too short. Its head alone is read: whoever reads an
-// entry's values reads the attribute specifications, and finds out whether that is possible.
-pub fn find_declaration(s: &[u8], from: u64, index: &[u64], code: u64) -> Found
+// The declaration with a code: through the slot that it has where compilers number from 1 on, else through the one
+// that a search by halves ends at, else by the plain search, which is left for a code that is not declared and for an
+// index that is too short. Its head alone is read: whoever reads an entry's values reads the attribute
+// specifications, and finds out whether that is possible.
+pub fn find_declaration(s: &[u8], from: u64, index: &[u64], code: u64) -> DeclarationFound
     ensures { λ r. ⌜ r ≡ findHead (now (s .entry)) from (now (index .entry)) code ⌝ }
 {
     let guess = slot_at(index, number_before(code));

@@ -1,11 +1,13 @@
-// Where a reader stands, what it reads by, and the numbers that DWARF is made of. Each read takes the cursor and hands the next one back.
+// Where a reader stands, what it reads by, and the numbers that DWARF is made of. Each read takes the cursor and
+// hands the next one back.
 ghost use mathlib.Core.Path.{_≡_};
-ghost use Prim.Native.Nat.{_+_, _*_, _-_, _<_};
+ghost use Prim.Native.Nat.{_+_, _*_, _-_, _≤_, _<_};
 ghost use mathlib.Core.Bool.{Bool};
-ghost use lib.ListN.{length};
-ghost use Rattle.readers.specs.Numbers.{uleb, sleb};
+ghost use lib.ListN.{length, take, drop};
+ghost use Rattle.readers.specs.Numbers.{fixedValue, uleb, sleb};
 ghost use Rattle.readers.specs.Layout.{short};
 ghost use Rattle.readers.specs.Cursors.{groupsAt, lebAt, fixedAt, skipAt, stringAt, formsAt};
+use crate::codes::DW_FORM_indirect;
 
 // What a unit's fields are read by; the header makes it.
 pub struct Encoding {
@@ -26,7 +28,8 @@ pub enum Number {
     Unreadable,
 }
 
-// The groups of a LEB128 number of at most ten bytes: its value is low + high * 2^63, and weight is 128 to the number of bytes before the last.
+// The groups of a LEB128 number of at most ten bytes: its value is low + high * 2^63, and weight is 128 to the number
+// of bytes before the last.
 pub enum Groups {
     Whole {
         low: u64,
@@ -56,6 +59,18 @@ fn four_bytes(a: u8, b: u8, c: u8, d: u8) -> u64
     ensures below { λ r. ⌜ r < 4294967296 ⌝ }
 {
     (a as u64) + 256 * ((b as u64) + 256 * ((c as u64) + 256 * (d as u64)))
+}
+
+// The number that the four bytes at a place are.
+fn four_at(s: &[u8], at: usize, big_endian: bool) -> u64
+    requires { ⌜ at + 4 ≤ length (now s) ⌝ }
+    ensures is { λ r. ⌜ r ≡ fixedValue «big_endian» (take 4 (drop at (now (s .entry)))) ⌝ }
+    ensures below { λ r. ⌜ r < 4294967296 ⌝ }
+{
+    if big_endian {
+        return four_bytes(s[at + 3], s[at + 2], s[at + 1], s[at]);
+    }
+    four_bytes(s[at], s[at + 1], s[at + 2], s[at + 3])
 }
 
 impl Cursor {
@@ -220,16 +235,7 @@ impl Cursor {
         if 4 > left(s, at) {
             return Number::Unreadable;
         }
-        if big_endian {
-            return Number::Value(
-                four_bytes(s[at + 3], s[at + 2], s[at + 1], s[at]),
-                Cursor { at: at + 4 },
-            );
-        }
-        Number::Value(
-            four_bytes(s[at], s[at + 1], s[at + 2], s[at + 3]),
-            Cursor { at: at + 4 },
-        )
+        Number::Value(four_at(s, at, big_endian), Cursor { at: at + 4 })
     }
 
     // Eight bytes.
@@ -240,14 +246,12 @@ impl Cursor {
         if 8 > left(s, at) {
             return Number::Unreadable;
         }
+        let first = four_at(s, at, big_endian);
+        let last = four_at(s, at + 4, big_endian);
         if big_endian {
-            let high = four_bytes(s[at + 3], s[at + 2], s[at + 1], s[at]);
-            let low = four_bytes(s[at + 7], s[at + 6], s[at + 5], s[at + 4]);
-            return Number::Value(low + 4294967296 * high, Cursor { at: at + 8 });
+            return Number::Value(last + 4294967296 * first, Cursor { at: at + 8 });
         }
-        let low = four_bytes(s[at], s[at + 1], s[at + 2], s[at + 3]);
-        let high = four_bytes(s[at + 4], s[at + 5], s[at + 6], s[at + 7]);
-        Number::Value(low + 4294967296 * high, Cursor { at: at + 8 })
+        Number::Value(first + 4294967296 * last, Cursor { at: at + 8 })
     }
 
     // A number of a fixed width, at most eight bytes. Those of one, four and eight bytes are read at once.
@@ -341,7 +345,7 @@ impl Cursor {
         loop {
             match c.short(s) {
                 Number::Value(form, next) => {
-                    if form != 0x16 {
+                    if form != DW_FORM_indirect {
                         return Number::Value(form, next);
                     }
                     c = next;

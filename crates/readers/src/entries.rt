@@ -5,7 +5,7 @@ ghost use Rattle.readers.specs.Entries.{valuesAt, stepAt, entryHeadAt};
 ghost use Rattle.readers.specs.Abbreviations.{findAt, findHead};
 ghost use Rattle.readers.specs.Nesting.{nestingOf, opened, closed};
 use crate::abbreviations::Declaration;
-use crate::abbreviations::Found;
+use crate::abbreviations::DeclarationFound;
 use crate::abbreviations::SpecStep;
 use crate::abbreviations::find_declaration;
 use crate::cursor::Cursor;
@@ -79,10 +79,12 @@ impl Cursor {
         }
     }
 
-    // The head of the entry, or the terminator, at a place of a unit, by the abbreviations from an offset on and their index. A code that is not declared
-    // is unreadable. With where its values end it is the step there (`entry-headed` in proofs/Values.antt).
+    // The head of the entry, or the terminator, at a place of a unit, by the abbreviations from an offset on and
+    // their index. A code that is not declared is unreadable. With where its values end it is the step there
+    // (`entry-headed` in proofs/Values.antt).
     pub fn entry_head(self, unit: &[u8], abbreviations: &[u8], from: u64, index: &[u64]) -> HeadStep
-        ensures { λ r. ⌜ r ≡ entryHeadAt (findHead (now (abbreviations .entry)) from (now (index .entry))) (now (unit .entry)) (self .at) ⌝ }
+        ensures { λ r. ⌜ r
+            ≡ entryHeadAt (findHead (now (abbreviations .entry)) from (now (index .entry))) (now (unit .entry)) (self .at) ⌝ }
     {
         let at = self.at;
         if at >= unit.len() {
@@ -94,8 +96,12 @@ impl Cursor {
         if code == 0 {
             return HeadStep::Terminator(values);
         }
-        let Found::Declaration(declaration) = find_declaration(abbreviations, from, index, code)
-        else {
+        let DeclarationFound::Declaration(declaration) = find_declaration(
+            abbreviations,
+            from,
+            index,
+            code,
+        ) else {
             return HeadStep::Unreadable;
         };
         HeadStep::Entry(EntryHead {
@@ -114,7 +120,8 @@ impl Cursor {
         index: &[u64],
         e: Encoding,
     ) -> Step
-        ensures { λ r. ⌜ r ≡ stepAt e (now (abbreviations .entry)) (findAt (now (abbreviations .entry)) from (now (index .entry))) (now (unit .entry)) (self .at) ⌝ }
+        ensures { λ r. ⌜ (let declared = now (abbreviations .entry) in
+            r ≡ stepAt e declared (findAt declared from (now (index .entry))) (now (unit .entry)) (self .at)) ⌝ }
     {
         match self.entry_head(unit, abbreviations, from, index) {
             HeadStep::Entry(h) => {

@@ -5,24 +5,27 @@ ghost use Prim.Native.Nat.{_*_, _-_};
 ghost use lib.ListN.{length};
 ghost use Rattle.readers.specs.Choice.{_or_};
 ghost use Rattle.readers.specs.Choice.{zeros};
-ghost use Rattle.readers.specs.References.{walkOf, ownWalk, named, namedType, referenceOf, nextReference, flatFrom, referencesAnswer, referencesTable, numbersOf, Room};
+ghost use Rattle.readers.specs.References.{walkOf, named, namedType, referenceOf, nextReference};
+ghost use Rattle.readers.specs.inner.References.{ownWalk, Room};
+ghost use Rattle.readers.specs.References.{flatFrom, referencesAnswer, referencesTable, numbersOf};
 use crate::cursor::Cursor;
 use crate::cursor::Encoding;
 use crate::fields::Field;
+use crate::layouts::*;
 use crate::offsets::UnitOffset;
 use crate::operations::Operation;
 use crate::operations::OperationRead;
 use crate::tables::clear;
 
-// What a walk of a whole expression finds, nested ones included: how many references it holds, and whether it names anything by an offset in the
-// section.
+// What a walk of a whole expression finds, nested ones included: how many references it holds, and whether it names
+// anything by an offset in the section.
 pub enum Walk {
     Walked { references: usize, absolute: bool },
     Unreadable,
 }
 
-// A reference of an expression: where its operand stands, the offset that it names, how its operand is written (`leb`: as a ULEB128 number) and in how
-// many bytes, and where the walk goes on.
+// A reference of an expression: where its operand stands, the offset that it names, how its operand is written
+// (`leb`: as a ULEB128 number) and in how many bytes, and where the walk goes on.
 pub struct Reference {
     pub place: usize,
     pub target: UnitOffset,
@@ -80,19 +83,19 @@ fn reference_of(op: Operation) -> Yield
     let first = op.first;
     let second = op.second;
     let next = op.next;
-    if row < 12 {
+    if row < ROW_REFERENCE2 {
         return Yield::End;
     }
-    if row <= 13 {
+    if row <= ROW_REFERENCE4 {
         return named(first, false, next);
     }
-    if row == 14 {
+    if row == ROW_TYPE {
         return named_type(first, next);
     }
-    if row <= 16 {
+    if row <= ROW_BYTES1_TYPE {
         return named_type(second, next);
     }
-    if row == 17 {
+    if row == ROW_TYPE_BLOCK1 {
         return named_type(first, next);
     }
     Yield::End
@@ -103,13 +106,13 @@ fn own_walk(op: Operation) -> Walk
     ensures { λ r. ⌜ r ≡ ownWalk op ⌝ }
 {
     let row = op.row;
-    if row == 20 {
+    if row == ROW_OFFSET {
         return Walk::Walked {
             references: 0,
             absolute: true,
         };
     }
-    if row == 21 {
+    if row == ROW_OFFSET_SLEB128 {
         return Walk::Walked {
             references: 0,
             absolute: true,
@@ -151,7 +154,7 @@ pub fn walk_expression(s: &[u8], e: Encoding) -> Walk
         let row = op.row;
         let first = op.first;
         let next = op.next;
-        if row == 19 {
+        if row == ROW_EXPRESSION {
             let Walk::Walked {
                 references: more,
                 absolute: named,
@@ -182,10 +185,11 @@ pub fn walk_expression(s: &[u8], e: Encoding) -> Walk
 }
 
 impl Cursor {
-    // The next reference of an expression, at or after a place. The walk goes on inside an entry value, so that it passes each byte once.
-    // It must start at 0 of an expression that walk_expression walked to its end, and go on from each reference's `next`: then it yields the
-    // expression's references, each once, in their order (`walked-yields` in proofs/Answers.antt). From any other place it yields what the bytes
-    // there say, read as operations: it can't tell where a nested part ends.
+    // The next reference of an expression, at or after a place. The walk goes on inside an entry value, so that it
+    // passes each byte once. It must start at 0 of an expression that walk_expression walked to its end, and go on
+    // from each reference's `next`: then it yields the expression's references, each once, in their order
+    // (`walked-yields` in crates/laws). From any other place it yields what the bytes there say, read as
+    // operations: it can't tell where a nested part ends.
     pub fn next_reference(self, s: &[u8], e: Encoding) -> Yield
         ensures { λ r. ⌜ r ≡ nextReference e (now (s .entry)) (self .at) ⌝ }
     {
@@ -197,7 +201,7 @@ impl Cursor {
             let row = op.row;
             let first = op.first;
             let next = op.next;
-            if row == 19 {
+            if row == ROW_EXPRESSION {
                 c = Cursor { at: first.start };
             } else {
                 match reference_of(op) {
@@ -214,11 +218,13 @@ impl Cursor {
     }
 }
 
-// The references of an expression, in walk order: three numbers each, where its operand stands, the offset that it names, and the operand's width.
-// Refused with 2 for an address size other than 4 and 8, 5 for an unreadable expression, 7 for an offset in the section, 11 for a table that is too short.
+// The references of an expression, in walk order: three numbers each, where its operand stands, the offset that it
+// names, and the operand's width. Refused with 2 for an address size other than 4 and 8, 5 for an unreadable
+// expression, 7 for an offset in the section, 11 for a table that is too short.
 pub fn references_of_expression(s: &[u8], address_size: u8, table: &mut [u64]) -> References
     ensures answer { λ r. ⌜ r ≡ referencesAnswer «address_size» (length (now (table .entry))) (now (s .entry)) ⌝ }
-    ensures filled { λ r. ⌜ now (table .exit) ≡ referencesTable «address_size» (length (now (table .entry))) (now (s .entry)) ⌝ }
+    ensures filled { λ r. ⌜ now (table .exit)
+        ≡ referencesTable «address_size» (length (now (table .entry))) (now (s .entry)) ⌝ }
 {
     clear(table);
     if address_size != 4 {
@@ -252,7 +258,8 @@ pub fn references_of_expression(s: &[u8], address_size: u8, table: &mut [u64]) -
 // Writes the references into a cleared table that has room for them.
 fn fill_references(s: &[u8], e: Encoding, table: &mut [u64], count: usize)
     requires { ⌜ Room (flatFrom e (now s) 0) (now table) count ⌝ }
-    ensures { λ _. ⌜ now (table .exit) ≡ numbersOf (flatFrom e (now (s .entry)) 0) ++ zeros (length (now (table .entry)) - 3 * count) ⌝ }
+    ensures { λ _. ⌜ now (table .exit)
+        ≡ numbersOf (flatFrom e (now (s .entry)) 0) ++ zeros (length (now (table .entry)) - 3 * count) ⌝ }
 {
     let mut c = Cursor { at: 0 };
     let mut i: usize = 0;

@@ -2,14 +2,16 @@
 ghost use mathlib.Core.Path.{_≡_};
 ghost use lib.ListN.{take};
 ghost use Rattle.readers.specs.Header.{headerOf, headerFields};
+use crate::codes::DW_UT_compile;
+use crate::codes::DW_UT_split_compile;
 use crate::cursor::Cursor;
 use crate::cursor::Encoding;
 use crate::cursor::Number;
 use crate::cursor::left;
 use crate::offsets::UnitOffset;
 
-// A unit's header: what its fields are read by, its type, where its abbreviations start in their section, where its first entry starts, and where the
-// unit ends in the section.
+// A unit's header: what its fields are read by, its type, where its abbreviations start in their section, where its
+// first entry starts, and where the unit ends in the section.
 pub struct UnitHeader {
     pub encoding: Encoding,
     pub unit_type: u8,
@@ -18,7 +20,8 @@ pub struct UnitHeader {
     pub end: usize,
 }
 
-// The header of the first unit of a section, or why it is refused: 1 where it is cut short, 2 for a value outside the domain.
+// The header of the first unit of a section, or why it is refused: 1 where it is cut short, 2 for a value outside the
+// domain.
 pub enum HeaderRead {
     Unit(UnitHeader),
     Empty,
@@ -39,8 +42,8 @@ fn header_fields(unit: &[u8]) -> HeaderRead
         return HeaderRead::Refused(1);
     }
     let unit_type = unit[6];
-    if unit_type != 1 {
-        if unit_type != 5 {
+    if unit_type != DW_UT_compile {
+        if unit_type != DW_UT_split_compile {
             return HeaderRead::Refused(2);
         }
     }
@@ -62,7 +65,7 @@ fn header_fields(unit: &[u8]) -> HeaderRead
         address_size,
         big_endian: false,
     };
-    if unit_type == 1 {
+    if unit_type == DW_UT_compile {
         return HeaderRead::Unit(UnitHeader {
             encoding,
             unit_type,

@@ -8,13 +8,14 @@ use mathlib.Core.Option.{Option, none, some}
 use lib.ListN.{length}
 use lib.Dec.{leb, eqb}
 use mir.Facts.{leb-yes, leb-no, eqb-yes, eqb-no, yes-eqb, no-eqb}
-use Rattle.readers.specs.Choice.{pick-yes, pick-no, pick-either, zeros}
+use Rattle.readers.specs.Choice.{zeros}
+use Rattle.readers.proofs.Choice.{pick-yes, pick-no, pick-either}
 use Rattle.readers.specs.Abbreviations.{Placed, abbreviationsOf}
 use Rattle.readers.specs.Header.{headerOf}
 use Rattle.readers.specs.declared.header.UnitHeader.{UnitHeader}
 use Rattle.readers.specs.declared.header.HeaderRead.{HeaderRead}
 use Rattle.readers.specs.declared.header.HeaderRead.the-variants.{Unit as Header′, Empty, Refused as NoHeader}
-use Rattle.marking.specs.Analysis.{Sections, Rooms, Row, Analysed, analysed, refused as notAnalysed, onDeclared, unitAnalysed, headerAnalysed, analysisOf}
+use Rattle.marking.specs.Analysis.{Sections, Rooms, EntryRow, Analysed, analysed, refused as notAnalysed, onDeclared, unitAnalysed, headerAnalysed, analysisOf}
 use Rattle.marking.specs.Columns.{column, parentsIn, indexAfter, least, roomsOf, unitRooms}
 use Rattle.marking.specs.Marks.{keptCount}
 use Rattle.marking.specs.Resolution.{marksIn, unitMarks}
@@ -22,13 +23,13 @@ use Rattle.marking.specs.declared.units.UnitMarks.{UnitMarks}
 use Rattle.marking.specs.declared.units.UnitMarks.the-variants.{Marked, Refused as NotMarked}
 use Rattle.rewriting.specs.Rewriting.{Room, Collected, untouched, rewritten, refused, noLists, rowsCollected, analysedCollected, declaredCollected, headerCollected, collectOf}
 use Rattle.rewriting.specs.Outputs.{roomBy, answerFor, mapFor, outputFor, listOr, listFor, rangesIn, locationsIn, stringsIn}
-use Rattle.rewriting.specs.Leaving.{Accepts, Answers, leftBy, headerTask, taskOf, MarkedTables, ownUnit, Tabled, Blank, markedOf}
+use Rattle.rewriting.specs.inner.Leaving.{Accepts, Answers, leftBy, headerTask, taskOf, MarkedTables, ownUnit, Tabled, Blank, markedOf}
 use Rattle.rewriting.specs.declared.collect.Counts.{Counts}
 use Rattle.rewriting.specs.declared.collect.Collected.{Collected as Answer}
 use Rattle.rewriting.specs.declared.collect.Collected.the-variants.{Untouched, Rewritten, Refused}
 use Rattle.rewriting.specs.declared.collect.Task.{Task}
 use Rattle.rewriting.specs.declared.collect.Task.the-variants.{Done, Rewrite}
-use Rattle.marking.proofs.UnitLaws.{marks-each}
+use Rattle.marking.proofs.UnitMarkings.{marks-each}
 
 -- ---- slices that were cleared
 
@@ -107,7 +108,7 @@ marks-refused (analysed rows) k q = let z : _≡_ {A = ℕ} 0 1 = cc in absurd (
 marks-refused (notAnalysed n) k q = let z : n ≡ k = cc in ap (λ (m : ℕ). notAnalysed m) z
 
 record Counted (a : Analysed) (entries kept : ℕ) : Type 0 where
-  pub rows : List Row
+  pub rows : List EntryRow
   pub is : a ≡ analysed rows
   pub entries-are : entries ≡ length rows
   pub kept-are : kept ≡ keptCount (marksIn rows)
@@ -117,14 +118,14 @@ unfolding unitMarks
 marks-counted (analysed rows) entries kept q = record { rows = rows; is = refl; entries-are = cc; kept-are = cc }
 marks-counted (notAnalysed n) entries kept q = let z : _≡_ {A = ℕ} 0 1 = cc in absurd (omega arith)
 
-no-rows : (rows : List Row) → 0 ≡ length rows → rows ≡ []
+no-rows : (rows : List EntryRow) → 0 ≡ length rows → rows ≡ []
 no-rows [] q = refl
 no-rows (r ∷ rows) q = absurd (omega arith)
 
-analysed-none : (rows : List Row) (k : ℕ) → analysed rows ≡ notAnalysed k → ⊥
+analysed-none : (rows : List EntryRow) (k : ℕ) → analysed rows ≡ notAnalysed k → ⊥
 analysed-none rows k q = let z : _≡_ {A = ℕ} 0 1 = cc in absurd (omega arith)
 
-none-analysed : (rows : List Row) (k : ℕ) → notAnalysed k ≡ analysed rows → ⊥
+none-analysed : (rows : List EntryRow) (k : ℕ) → notAnalysed k ≡ analysed rows → ⊥
 none-analysed rows k q = let z : _≡_ {A = ℕ} 0 1 = cc in absurd (omega arith)
 
 undeclared : (o : Option (List Placed)) (k : List Placed → Analysed) → o ≡ none → onDeclared o k ≡ notAnalysed 3
@@ -179,19 +180,19 @@ module _ (x : Sections) (room : Room) (t : Bool) (section : List ℕ) where
   unfolding collectOf
   collected-none entries kept q z =
       let w : Counted (analysisOf x section tables) entries kept = marks-counted (analysisOf x section tables) entries kept q in
-      by-header (headerOf section) refl .1 (w .is ∙ ap (λ (rows : List Row). analysed rows) (no-rows (w .rows) (sym z ∙ w .entries-are)))
+      by-header (headerOf section) refl .1 (w .is ∙ ap (λ (rows : List EntryRow). analysed rows) (no-rows (w .rows) (sym z ∙ w .entries-are)))
 
   -- a unit that has entries
   pub record Marking (h : UnitHeader) (entries kept : ℕ) : Type 0 where
     pub declared : List Placed
-    pub rows : List Row
+    pub rows : List EntryRow
     pub declared-are : abbreviationsOf (x .abbreviations) (h .abbreviations) ≡ some declared
     pub analysis-is : analysisOf x section tables ≡ analysed rows
     pub entries-are : entries ≡ length (marksIn rows)
     pub kept-are : kept ≡ keptCount (marksIn rows)
     pub collected : collectOf x room t section ≡ markedOf x room t (ownUnit h section declared) rows
 
-  of-rows : (h : UnitHeader) (ds : List Placed) (rows : List Row) → (0 ≡ length rows → ⊥) → rowsCollected x room t (ownUnit h section ds) rows ≡ markedOf x room t (ownUnit h section ds) rows
+  of-rows : (h : UnitHeader) (ds : List Placed) (rows : List EntryRow) → (0 ≡ length rows → ⊥) → rowsCollected x room t (ownUnit h section ds) rows ≡ markedOf x room t (ownUnit h section ds) rows
   unfolding rowsCollected
   of-rows h ds [] e = absurd (e refl)
   of-rows h ds (r ∷ rows) e = refl
@@ -338,7 +339,7 @@ module _ (x : Sections) (tables : Rooms) (t : Bool) (section : List ℕ) (task :
         }
 
     rewrite-answers : (a : Answer) (map′ ranges′ locations′ strings′ out′ : List ℕ)
-        → ((x′ : Sections) (tables′ : Rooms) (ds : List Placed) (rows : List Row) → Tabled x′ tables′ section h ds rows s index parents ends marks entries kept → Blank map ranges locations strings out
+        → ((x′ : Sections) (tables′ : Rooms) (ds : List Placed) (rows : List EntryRow) → Tabled x′ tables′ section h ds rows s index parents ends marks entries kept → Blank map ranges locations strings out
         → Answers (markedOf x′ (roomBy tables′ (length map) (length ranges) (length locations) (length strings) (length out)) t (ownUnit h section ds) rows) a (length map) (length ranges) (length locations) (length strings) (length out) map′ ranges′ locations′ strings′ out′)
         → Answered a map′ ranges′ locations′ strings′ out′
     rewrite-answers a map′ ranges′ locations′ strings′ out′ f =
@@ -356,7 +357,7 @@ module _ (t : Bool) (section : List ℕ) (task : Task) (s index parents ends mar
   marked-done a e x tables w b = done-answers x tables t section task s index parents ends marks w map ranges locations strings out b a e
 
   pub marked-rewrite : (h : UnitHeader) (entries kept : ℕ) → task ≡ Rewrite h entries kept → (a : Answer) (map′ ranges′ locations′ strings′ out′ : List ℕ)
-      → ((x : Sections) (tables : Rooms) (ds : List Placed) (rows : List Row) → Tabled x tables section h ds rows s index parents ends marks entries kept → Blank map ranges locations strings out
+      → ((x : Sections) (tables : Rooms) (ds : List Placed) (rows : List EntryRow) → Tabled x tables section h ds rows s index parents ends marks entries kept → Blank map ranges locations strings out
       → Answers (markedOf x (roomBy tables (length map) (length ranges) (length locations) (length strings) (length out)) t (ownUnit h section ds) rows) a (length map) (length ranges) (length locations) (length strings) (length out) map′ ranges′ locations′ strings′ out′)
       → Wanted a map′ ranges′ locations′ strings′ out′
   marked-rewrite h entries kept e a map′ ranges′ locations′ strings′ out′ f x tables w b =

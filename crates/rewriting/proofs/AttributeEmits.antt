@@ -8,11 +8,12 @@ use lib.ListN.{length, drop}
 use lib.Dec.{T, leb}
 use lib.Pow.{areBytes}
 use mir.Facts.{yes-eqb, no-eqb}
-use Rattle.readers.specs.Choice.{pick, pick-yes, pick-no, _and_}
+use Rattle.readers.specs.Choice.{pick, _and_}
+use Rattle.readers.proofs.Choice.{pick-yes, pick-no}
 use Rattle.readers.specs.Layout.{index, Piece, Read, readIn, writeAll, patchAll, patchPieces, bytesOf, numberBytes}
 use Rattle.readers.specs.Expression.{expressionIn}
 use Rattle.readers.specs.References.{encodedBy}
-use Rattle.readers.specs.Forms.{useOf, formToken, attributeLayout}
+use Rattle.readers.specs.Forms.{useOf, formToken, attributeLayout, listForm}
 use Rattle.readers.specs.Entries.{attributeAt}
 use Rattle.readers.specs.declared.cursor.Encoding.{Encoding}
 use Rattle.readers.specs.declared.attributes.Attribute.{Attribute}
@@ -20,9 +21,10 @@ use Rattle.readers.specs.declared.attributes.AttributeRead.the-variants.{Read a
 use Rattle.marking.specs.EntryReferences.{partOf}
 use Rattle.rewriting.specs.Places.{Place, newOf, siblingOf}
 use Rattle.rewriting.specs.Indices.{rankOr}
-use Rattle.rewriting.specs.Written.{asMapped}
+use Rattle.rewriting.specs.inner.Written.{asMapped}
 use Rattle.rewriting.specs.Rewriting.{Lists, newValue, piecesRefusal, readsRefusal, orSelf, listAt}
-use Rattle.rewriting.specs.Emission.{between, Wide, numberRefusal, offsetRefusal, listForm, lebForm, Lent}
+use Rattle.rewriting.specs.Emission.{between}
+use Rattle.rewriting.specs.inner.Emission.{Wide, numberRefusal, offsetRefusal, lebForm, Lent}
 use Rattle.rewriting.specs.declared.emit.Emitted.{Emitted}
 use Rattle.rewriting.specs.declared.emit.Emitted.the-variants.{To}
 use Rattle.rewriting.specs.declared.lists.ListCount.{ListCount}

@@ -9,13 +9,13 @@ use lib.ListN.{length, getD, set, drop, drop-of-length-le, length-set, List·get
 use lib.Seq.{getD-set-same, getD-set-other}
 use lib.Dec.{ltb}
 use mir.Facts.{ltb-yes, ltb-no}
-use Rattle.readers.specs.Choice.{either}
+use Rattle.readers.proofs.Choice.{either}
 use Rattle.rewriting.specs.Ascending.{Ascending}
 use Rattle.rewriting.specs.Indices.{rankIn}
-use Rattle.rewriting.specs.Places.{Place, newOf, firstFrom, orElse, siblingOf}
-use Rattle.rewriting.specs.Maps.{oldOffsets}
-use Rattle.rewriting.specs.Written.{numberAt, MapHeld, place, asMapped}
-use Rattle.rewriting.specs.Bounds.{AsDeep, BoundsFrom, Bounds}
+use Rattle.rewriting.specs.Places.{Place, newOf, firstFrom, orElse, siblingOf, oldOffsets}
+use Rattle.rewriting.specs.Written.{numberAt}
+use Rattle.rewriting.specs.inner.Written.{MapHeld, asMapped}
+use Rattle.rewriting.specs.inner.Bounds.{AsDeep, BoundsFrom, Bounds}
 use Rattle.readers.specs.declared.offsets.UnitOffset.{UnitOffset}
 use Rattle.rewriting.specs.declared.map.Mapped.the-variants.{To, Nothing}
 use Rattle.rewriting.proofs.Ranks.{rank-above}
@@ -23,10 +23,10 @@ use Rattle.rewriting.proofs.Places.{nowhere, length-olds, old-of, depth
 
 -- ---- a block that is deeper than so
 
-pub block-deeper : (bounds : List ℕ) (i depth row n m : ℕ) → i ≤ 8 * row → 8 * row ≤ i → n ≡ getD bounds (2 * row + 1) 0 → depth < n → m ≡ getD bounds (2 * row) 0
+pub block-deeper : (bounds : List ℕ) (i depth k n m : ℕ) → i ≤ 8 * k → 8 * k ≤ i → n ≡ getD bounds (2 * k + 1) 0 → depth < n → m ≡ getD bounds (2 * k) 0
     → (ps : List Place) → Bounds ps bounds → AsDeep ps (depth + 1) i (8 * m)
-block-deeper bounds i depth row n m a b e d f ps h =
-    record { deep = λ j p q l. let k : getD bounds (2 * row + 1) 0 ≤ (getD ps j nowhere) .depth = h .row row (omega arith) .deep j (omega arith) (omega arith) l in omega arith }
+block-deeper bounds i depth k n m a b e d f ps h =
+    record { deep = λ j p q l. let z : getD bounds (2 * k + 1) 0 ≤ (getD ps j nowhere) .depth = h .block k (omega arith) .deep j (omega arith) (omega arith) l in omega arith }
 
 -- ---- from a place on
 
@@ -146,13 +146,13 @@ least-all map places from i to least p l ps h e = record { deep = λ j a b w. p 
 pub least-done : (map : List ℕ) (places from i to least : ℕ) → Least map places from i least → to ≤ i → (ps : List Place) → MapHeld ps map → places ≡ length ps → AsDeep ps least from to
 least-done map places from i to least p l ps h e = record { deep = λ j a b w. p .deep ps h e .deep j a (omega arith) w }
 
--- ---- a row
+-- ---- a block
 
 -- its own places, and two blocks after them
-pub row-joined : (ps : List Place) (bounds : List ℕ) (k next middle end own n m least r : ℕ) → BoundsFrom (k + 1) ps bounds → next ≡ k + 1 → AsDeep ps own (8 * k) (8 * next) → k < middle
+pub block-joined : (ps : List Place) (bounds : List ℕ) (k next middle end own n m least r : ℕ) → BoundsFrom (k + 1) ps bounds → next ≡ k + 1 → AsDeep ps own (8 * k) (8 * next) → k < middle
     → middle ≡ getD bounds (2 * next) 0 → end ≡ getD bounds (2 * middle) 0 → n ≡ getD bounds (2 * next + 1) 0 → m ≡ getD bounds (2 * middle + 1) 0
     → least ≤ n → least ≤ m → r ≤ own → r ≤ least → AsDeep ps r (8 * k) (8 * end)
-row-joined ps bounds k next middle end own n m least r h s o g a b c d e₁ e₂ e₃ e₄ =
+block-joined ps bounds k next middle end own n m least r h s o g a b c d e₁ e₂ e₃ e₄ =
     record {
       deep = λ j from to l.
           ⊎-elim
@@ -160,19 +160,19 @@ row-joined ps bounds k next middle end own n m least r h s o g a b c d e₁ e₂
           (λ t. let t₁ : 8 * next ≤ j = ltb-no {a = j} {b = 8 * next} t in
           ⊎-elim
           (λ u. let u₁ : j < 8 * middle = ltb-yes {a = j} {b = 8 * middle} u in
-          let z : getD bounds (2 * next + 1) 0 ≤ (getD ps j nowhere) .depth = h .row next (omega arith) .deep j t₁ (omega arith) l in omega arith)
+          let z : getD bounds (2 * next + 1) 0 ≤ (getD ps j nowhere) .depth = h .block next (omega arith) .deep j t₁ (omega arith) l in omega arith)
           (λ u. let u₁ : 8 * middle ≤ j = ltb-no {a = j} {b = 8 * middle} u in
-          let z : getD bounds (2 * middle + 1) 0 ≤ (getD ps j nowhere) .depth = h .row middle (omega arith) .deep j u₁ (omega arith) l in omega arith)
+          let z : getD bounds (2 * middle + 1) 0 ≤ (getD ps j nowhere) .depth = h .block middle (omega arith) .deep j u₁ (omega arith) l in omega arith)
           (either (ltb j (8 * middle))))
           (either (ltb j (8 * next)));
     }
 
--- ---- the table, from a row on
+-- ---- the table, from a block on
 
-pub rows-none : (ps : List Place) (bounds : List ℕ) (k places numbers : ℕ) → numbers ≡ length bounds → k ≤ numbers / 2 → (k < numbers / 2 → places < 8 * k) → places ≡ length ps → BoundsFrom k ps bounds
-rows-none ps bounds k places numbers s a f e =
+pub bounds-none : (ps : List Place) (bounds : List ℕ) (k places numbers : ℕ) → numbers ≡ length bounds → k ≤ numbers / 2 → (k < numbers / 2 → places < 8 * k) → places ≡ length ps → BoundsFrom k ps bounds
+bounds-none ps bounds k places numbers s a f e =
     record {
-      row = λ g le.
+      block = λ g le.
           ⊎-elim
           (λ t. let z : places < 8 * k = f (ltb-yes {a = k} {b = numbers / 2} t) in record { deep = λ j p q l. absurd (omega arith) })
           (λ t. let z : numbers / 2 ≤ k = ltb-no {a = k} {b = numbers / 2} t in
@@ -180,11 +180,11 @@ rows-none ps bounds k places numbers s a f e =
           (either (ltb k (numbers / 2)));
     }
 
-pub rows-more : (ps : List Place) (bounds : List ℕ) (k end least : ℕ) → 2 * k + 1 < length bounds → BoundsFrom (k + 1) ps bounds → AsDeep ps least (8 * k) (8 * end)
+pub bounds-more : (ps : List Place) (bounds : List ℕ) (k end least : ℕ) → 2 * k + 1 < length bounds → BoundsFrom (k + 1) ps bounds → AsDeep ps least (8 * k) (8 * end)
     → BoundsFrom k ps (set (set bounds (2 * k) end) (2 * k + 1) least)
-rows-more ps bounds k end least w h d =
+bounds-more ps bounds k end least w h d =
     record {
-      row = λ g le.
+      block = λ g le.
           ⊎-elim
           (λ t.
           let lt : k < g = ltb-yes {a = k} {b = g} t in
@@ -193,7 +193,7 @@ rows-more ps bounds k end least w h d =
           getD-set-other (set bounds (2 * k) end) (2 * k + 1) (2 * g) least 0 (λ q. omega arith) ∙ getD-set-other bounds (2 * k) (2 * g) end 0 (λ q. omega arith) in
           let z : getD after (2 * g + 1) 0 ≡ getD bounds (2 * g + 1) 0 =
           getD-set-other (set bounds (2 * k) end) (2 * k + 1) (2 * g + 1) least 0 (λ q. omega arith) ∙ getD-set-other bounds (2 * k) (2 * g + 1) end 0 (λ q. omega arith) in
-          record { deep = λ j p q l. let v : getD bounds (2 * g + 1) 0 ≤ (getD ps j nowhere) .depth = h .row g (omega arith) .deep j p (omega arith) l in omega arith })
+          record { deep = λ j p q l. let v : getD bounds (2 * g + 1) 0 ≤ (getD ps j nowhere) .depth = h .block g (omega arith) .deep j p (omega arith) l in omega arith })
           (λ t.
           let s : k ≡ g = (let q : g ≤ k = ltb-no {a = k} {b = g} t in omega arith) in
           subst (λ n. AsDeep ps (getD (set (set bounds (2 * k) end) (2 * k + 1) least) (2 * n + 1) 0) (8 * n) (8 * getD (set (set bounds (2 * k) end) (2 * k + 1) least) (2 * n) 0)) s
@@ -210,10 +210,10 @@ rows-more ps bounds k end least w h d =
 pub record Filling (map : List ℕ) (places : ℕ) (bounds₀ bounds : List ℕ) (k : ℕ) : Type 0 where
   pub size : length bounds ≡ length bounds₀
   pub room : k ≤ length bounds₀ / 2
-  pub rows : (ps : List Place) → MapHeld ps map → places ≡ length ps → BoundsFrom k ps bounds
+  pub blocks : (ps : List Place) → MapHeld ps map → places ≡ length ps → BoundsFrom k ps bounds
 
 pub filling-start : (map : List ℕ) (places : ℕ) (bounds : List ℕ) (k : ℕ) → k ≤ length bounds / 2 → (k < length bounds / 2 → places < 8 * k) → Filling map places bounds bounds k
-filling-start map places bounds k a f = record { size = refl; room = a; rows = λ ps h e. rows-none ps bounds k places (length bounds) refl a f e }
+filling-start map places bounds k a f = record { size = refl; room = a; blocks = λ ps h e. bounds-none ps bounds k places (length bounds) refl a f e }
 
 pub filling-more : (map : List ℕ) (places : ℕ) (bounds₀ bounds : List ℕ) (k end least : ℕ) → Filling map places bounds₀ bounds k → 0 < k
     → ((ps : List Place) → MapHeld ps map → places ≡ length ps → BoundsFrom (k - 1 + 1) ps bounds → AsDeep ps least (8 * (k - 1)) (8 * end))
@@ -224,11 +224,11 @@ filling-more map places bounds₀ bounds k end least p l f =
     record {
       size = length-set (set bounds (2 * (k - 1)) end) (2 * (k - 1) + 1) least ∙ length-set bounds (2 * (k - 1)) end ∙ s;
       room = omega arith;
-      rows = λ ps h e.
+      blocks = λ ps h e.
           let q : k ≡ k - 1 + 1 = omega arith in
-          let b : BoundsFrom (k - 1 + 1) ps bounds = subst (λ n. BoundsFrom n ps bounds) q (p .rows ps h e) in
-          rows-more ps bounds (k - 1) end least (omega arith) b (f ps h e b);
+          let b : BoundsFrom (k - 1 + 1) ps bounds = subst (λ n. BoundsFrom n ps bounds) q (p .blocks ps h e) in
+          bounds-more ps bounds (k - 1) end least (omega arith) b (f ps h e b);
     }
 
 pub filling-done : (map : List ℕ) (places : ℕ) (bounds₀ bounds : List ℕ) (k : ℕ) → Filling map places bounds₀ bounds k → k ≤ 0 → (ps : List Place) → MapHeld ps map → places ≡ length ps → Bounds ps bounds
-filling-done map places bounds₀ bounds k p l ps h e = subst (λ n. BoundsFrom n ps bounds) (let q : k ≡ 0 = omega arith in q) (p .rows ps h e)
+filling-done map places bounds₀ bounds k p l ps h e = subst (λ n. BoundsFrom n ps bounds) (let q : k ≡ 0 = omega arith in q) (p .blocks ps h e)

@@ -9,7 +9,8 @@ use mathlib.Core.Logic.{⊎-elim}
 use lib.ListN.{length}
 use lib.Dec.{eqb, ltb}
 use borrow.Author.Tests.{eq-eqb, ne-eqb}
-use Rattle.readers.specs.Choice.{pick-either, pick-yes, pick-no, either, _and_, _or_, bind, check}
+use Rattle.readers.specs.Choice.{_and_, _or_, bind, check}
+use Rattle.readers.proofs.Choice.{pick-either, pick-yes, pick-no, either}
 use Rattle.readers.specs.Layout.{Read, RunOf}
 use Rattle.readers.specs.Scan.{Scanned, push}
 use Rattle.readers.specs.Abbreviations.{Placed, specAt, declarationAt, declarationsFrom, distinct, checkDistinct, abbreviationsOf, declaredIn, findAt}
@@ -25,19 +26,20 @@ use Rattle.readers.specs.declared.abbreviations.SpecStep.the-variants.{Attribut
 use Rattle.readers.specs.declared.abbreviations.Declaration.{Declaration}
 use Rattle.readers.specs.declared.abbreviations.DeclarationStep.{DeclarationStep}
 use Rattle.readers.specs.declared.abbreviations.DeclarationStep.the-variants.{Declaration as Declared, Last, Unreadable as NoDeclaration}
-use Rattle.readers.specs.declared.abbreviations.Found.{Found as Found″}
-use Rattle.readers.specs.declared.abbreviations.Found.the-variants.{Declaration as Found′, Nothing}
+use Rattle.readers.specs.declared.abbreviations.TablesFound.{TablesFound as Found″}
+use Rattle.readers.specs.declared.abbreviations.TablesFound.the-variants.{Declaration as Found′, Nothing}
 use Rattle.readers.specs.declared.attributes.AttributeRead.{AttributeRead}
 use Rattle.readers.specs.declared.attributes.AttributeRead.the-variants.{Read as Attribute′, Unreadable as NoAttribute}
 use Rattle.readers.specs.declared.entries.Step.{Step}
 use Rattle.readers.specs.declared.entries.Step.the-variants.{Entry as Entry′, Terminator, End, Unreadable}
-use Rattle.marking.specs.Roots.{Valued, onSpec, specsFrom, onAttribute, valuesOf, entryValues}
-use Rattle.marking.proofs.Attributes.{specs-step}
+use Rattle.readers.specs.EntryAttributes.{Valued, onSpec, specsFrom, onAttribute, valuesOf, entryValues}
+use Rattle.readers.proofs.EntryAttributes.{specs-step}
 use Rattle.marking.specs.Analysis.{Sections}
-use Rattle.rewriting.specs.Indices.{declares, specsDeclare, tableDeclares}
+use Rattle.rewriting.specs.Indices.{declares}
+use Rattle.rewriting.specs.inner.Indices.{specsDeclare, tableDeclares}
 use Rattle.rewriting.specs.Rewriting.{Unit as Unit′, itemDeclares, anyDeclares}
-use Rattle.rewriting.specs.NextKept.{itemsBy}
-use Rattle.rewriting.specs.IndexLists.{ReadAs, Found, isAbsent}
+use Rattle.rewriting.specs.inner.NextKept.{itemsBy}
+use Rattle.rewriting.specs.inner.IndexLists.{ReadAs, TablesFound, isAbsent}
 use Rattle.rewriting.specs.declared.kept.Reading.{Reading}
 use Rattle.rewriting.proofs.ItemsStand.{EveryItem, Stands, items-stand}
 use Rattle.rewriting.proofs.IndexTurns.{item-declares, absent-named}
@@ -215,7 +217,7 @@ module _ (e : Encoding) (s : List ℕ) (look : ℕ → Found″) (unit : List �
   unfolding stepAt StepHas
   step-has at = pick-either (StepHas P) (ltb at (length unit)) _ _ (λ _. run-has at _) (λ _. tt)
 
-module _ (x : Sections) (u : Unit′) (r : Reading) (s table unit : List ℕ) (w : ReadAs x u r s unit) (f : Found u r s table) (name : ℕ) (h : tableDeclares s name (u .declared) ≡ false) where
+module _ (x : Sections) (u : Unit′) (r : Reading) (s table unit : List ℕ) (w : ReadAs x u r s unit) (f : TablesFound u r s table) (name : ℕ) (h : tableDeclares s name (u .declared) ≡ false) where
   abbrev look : ℕ → Found″
   look = findAt s (r .from) table
 

@@ -11,17 +11,20 @@ use lib.ListN.{length, take, drop, length-append, length-drop}
 use lib.Seq.{length-take-le}
 use lib.Dec.{T, eqb}
 use mir.Facts.{yes-ltb}
-use Rattle.readers.specs.Choice.{pick, pick-yes, pick-no, either, check-yes, bind, bind-at, All, all-some, all-none, all-of, all-check, all-bind, all-triv}
+use Rattle.readers.specs.Choice.{pick, bind}
+use Rattle.readers.proofs.Choice.{pick-yes, pick-no, either, check-yes, bind-at, All, all-some, all-none, all-of, all-check, all-bind, all-triv}
 use Rattle.readers.specs.Numbers.{uleb}
-use Rattle.readers.specs.Layout.{leb128, kindOf, width, Encoded, infixed, inleb, Token, nothing, number, bounded, forms, signed, link, string, run, block, expression, unknown, Layout, done, fail, field, copied, Read, ReadOf, RunOf, ExpressionReader, asBytes, NumberLaw, number-law, numberIn, asNumber, copy, LebLaw, uleb-law, asExpression, tokenIn, readIn, before, ReadLaw, read-law, bytesOf, pieceBytes, writeAll, Patch, patchRead, patchAll, WholeLaw, ExpressionLaw, same-size}
-use Rattle.readers.specs.Expression.{expressionIn, expression-law}
+use Rattle.readers.specs.Layout.{leb128, width, Encoded, infixed, inleb, Token, nothing, number, bounded, forms, signed, link, string, run, block, expression, unknown, Layout, done, fail, field, verbatim, Read, ReadOf, RunOf, ExpressionReader, asBytes, numberIn, asNumber, copy, asExpression, tokenIn, readIn, before, bytesOf, pieceBytes, writeAll, Patch, patchRead, patchAll}
+use Rattle.readers.proofs.Layouts.{kindOf, NumberLaw, number-law, LebLaw, uleb-law, ReadLaw, read-law, WholeLaw, ExpressionLaw, same-size}
+use Rattle.readers.specs.Expression.{expressionIn}
+use Rattle.readers.proofs.Expression.{expression-law}
 use Rattle.readers.specs.Fields.{size}
 use Rattle.readers.specs.Cursors.{cursor}
 use Rattle.readers.specs.Entries.{foundLayout, entryLayout, entryFound, stepOfReads, asStep, stepAt}
 use Rattle.readers.specs.declared.cursor.Encoding.{Encoding}
 use Rattle.readers.specs.declared.abbreviations.Declaration.{Declaration}
-use Rattle.readers.specs.declared.abbreviations.Found.{Found}
-use Rattle.readers.specs.declared.abbreviations.Found.the-variants.{Declaration as Found′, Nothing}
+use Rattle.readers.specs.declared.abbreviations.DeclarationFound.{DeclarationFound}
+use Rattle.readers.specs.declared.abbreviations.DeclarationFound.the-variants.{Declaration as Found′, Nothing}
 use Rattle.readers.specs.declared.entries.Step.{Step}
 use Rattle.readers.specs.declared.entries.Step.the-variants.{Entry as Entry′, Terminator, End, Unreadable}
 
@@ -86,7 +89,7 @@ module _ (big : Bool) (ex : ExpressionReader) where
         let a : List ℕ = take (suc (t .0)) s in
         let b : List ℕ = take (t .1) (t .2) in
         all-some (TokenAsBytes expression s) (record {
-          it = record { seen = 0; start = suc (t .0); pieces = copied a ∷ copied b ∷ [] };
+          it = record { seen = 0; start = suc (t .0); pieces = verbatim a ∷ verbatim b ∷ [] };
           is = bind-at _ q ∙ check-yes _ _ w;
           alike = refl;
           wide =
@@ -156,7 +159,7 @@ EndsAt n (Terminator c) = c .at ≡ n
 EndsAt n End = ⊥
 EndsAt n Unreadable = ⊥
 
-module _ (e : Encoding) (abbreviations : List ℕ) (look : ℕ → Found) where
+module _ (e : Encoding) (abbreviations : List ℕ) (look : ℕ → DeclarationFound) where
   abbrev order : Bool
   order = e .«big_endian»
 
@@ -189,7 +192,7 @@ module _ (e : Encoding) (abbreviations : List ℕ) (look : ℕ → Found) where
   Sort r = TerminatorRead (r .0) ⊎ EntryRead (r .0)
 
   module _ (ex : ExpressionReader) where
-    found-kind : (c : Read) → T (not (eqb (c .seen) 0)) → (s : List ℕ) (f : Found) → look (c .seen) ≡ f
+    found-kind : (c : Read) → T (not (eqb (c .seen) 0)) → (s : List ℕ) (f : DeclarationFound) → look (c .seen) ≡ f
         → All Sort (bind (readIn order ex (foundLayout e abbreviations look f) s) (before c))
     unfolding foundLayout before bind readIn
     found-kind c t s (Found′ d) h =

@@ -16,9 +16,9 @@ use Rattle.readers.specs.declared.cursor.Cursor.{Cursor}
 use Rattle.readers.specs.declared.entries.Entry.{Entry}
 use Rattle.readers.specs.declared.entries.Step.{Step}
 use Rattle.readers.specs.declared.entries.Step.the-variants.{Entry as Entry′, Terminator, End, Unreadable}
-use Rattle.rewriting.specs.Parents.{entriesIn}
-use Rattle.rewriting.specs.Ends.{endNumber, EndsHeld}
-use Rattle.rewriting.specs.NextKept.{itemsBy}
+use Rattle.readers.specs.Stream.{entryCount}
+use Rattle.rewriting.specs.inner.Ends.{endNumber, EndsHeld}
+use Rattle.rewriting.specs.inner.NextKept.{itemsBy}
 use Rattle.rewriting.specs.declared.kept.Reading.{Reading}
 use Rattle.rewriting.proofs.KeptSteps.{items-entry, items-terminator, items-end, items-bad}
 
@@ -55,16 +55,16 @@ module _ (r : Reading) (abbreviations index unit : List ℕ) (first : ℕ) (ends
   -- so many entries were put
   pub record Ending (ends : List ℕ) (at count : ℕ) : Type 0 where
     pub size : length ends ≡ length ends₀
-    pub many : entriesIn (items first) ≡ count + entriesIn (items at)
+    pub many : entryCount (items first) ≡ count + entryCount (items at)
     pub passed : count ≤ at
     pub onward : length unit < 2 ^ 32 → (final : List ℕ) → ((i : ℕ) → i < count → getD final i 0 ≡ getD ends i 0)
         → EndsHeld final count (items at) → EndsHeld final 0 (items first)
 
   abbrev pub Ended : List ℕ → Type 0
-  Ended ends = length unit < 2 ^ 32 → entriesIn (items first) ≤ length ends₀ → EndsHeld ends 0 (items first)
+  Ended ends = length unit < 2 ^ 32 → entryCount (items first) ≤ length ends₀ → EndsHeld ends 0 (items first)
 
   pub ending-start : Ending ends₀ first 0
-  ending-start = record { size = refl; many = (let z : entriesIn (items first) ≡ 0 + entriesIn (items first) = omega arith in z); passed = omega arith; onward = λ u final a h. h }
+  ending-start = record { size = refl; many = (let z : entryCount (items first) ≡ 0 + entryCount (items first) = omega arith in z); passed = omega arith; onward = λ u final a h. h }
 
   module _ (ends : List ℕ) (at count : ℕ) (g : Ending ends at count) (o : Step) (p : o ≡ step at) where
     module _ (final : List ℕ) (z : getD final count 0 ≡ 0) (a : (i : ℕ) → i < count → getD final i 0 ≡ getD ends i 0) where
@@ -83,12 +83,12 @@ module _ (r : Reading) (abbreviations index unit : List ℕ) (first : ℕ) (ends
       ending-terminator-less = let i = terminator-inside (r .encoding) abbreviations (findAt abbreviations (r .from) index) unit at c (sym p ∙ q) in omega (arith, i .0, i .1)
 
       pub ending-terminator : Ending ends (c .at) count
-      unfolding entriesIn EndsHeld
+      unfolding entryCount EndsHeld
       ending-terminator =
           let e : items at ≡ terminator at (c .at) ∷ items (c .at) = items-terminator (r .encoding) abbreviations (findAt abbreviations (r .from) index) unit at c (sym p ∙ q) in
           record {
             size = g .size;
-            many = g .many ∙ ap (λ (is : List Item). count + entriesIn is) e;
+            many = g .many ∙ ap (λ (is : List Item). count + entryCount is) e;
             passed = (let i = terminator-inside (r .encoding) abbreviations (findAt abbreviations (r .from) index) unit at c (sym p ∙ q) in omega (arith, g .passed, i .0));
             onward = λ u final a h. g .onward u final a (subst (λ (is : List Item). EndsHeld final count is) (sym e) h);
           }
@@ -100,9 +100,9 @@ module _ (r : Reading) (abbreviations index unit : List ℕ) (first : ℕ) (ends
       here : items at ≡ entry x ∷ items (x .next .at)
       here = items-entry (r .encoding) abbreviations (findAt abbreviations (r .from) index) unit at x (sym p ∙ q)
 
-      more : entriesIn (items first) ≡ count + suc (entriesIn (items (x .next .at)))
-      unfolding entriesIn
-      more = g .many ∙ ap (λ (is : List Item). count + entriesIn is) here
+      more : entryCount (items first) ≡ count + suc (entryCount (items (x .next .at)))
+      unfolding entryCount
+      more = g .many ∙ ap (λ (is : List Item). count + entryCount is) here
 
       pub ending-full : (k : ℕ) → k ≡ count → length ends ≤ k → Ended ends
       ending-full k e h _ l = absurd (omega (arith, more, g .size))
@@ -128,4 +128,4 @@ module _ (r : Reading) (abbreviations index unit : List ℕ) (first : ℕ) (ends
             (subst (λ (is : List Item). EndsHeld final count is) (sym here) (f, t))
 
         pub ending-entry : Ending (set ends k v) (x .next .at) (count + 1)
-        ending-entry = record { size = length-set ends k v ∙ g .size; many = (let z : entriesIn (items first) ≡ count + 1 + entriesIn (items (x .next .at)) = omega (arith, more) in z); passed = omega (arith, g .passed, inside .coded, inside .ahead); onward = put-onward }
+        ending-entry = record { size = length-set ends k v ∙ g .size; many = (let z : entryCount (items first) ≡ count + 1 + entryCount (items (x .next .at)) = omega (arith, more) in z); passed = omega (arith, g .passed, inside .coded, inside .ahead); onward = put-onward }

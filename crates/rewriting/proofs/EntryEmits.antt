@@ -9,10 +9,13 @@ use mathlib.Core.Logic.{_⊎_, inl, inr, ⊎-elim}
 use lib.ListN.{length, take, drop, length-append, length-drop}
 use lib.Seq.{length-take-le, drop-drop}
 use lib.Dec.{T, eqb}
-use Rattle.readers.specs.Choice.{pick, pick-yes, pick-no, either, bind, All, all-some, all-none, all-of, all-bind, all-triv, Took}
+use Rattle.readers.specs.Choice.{pick, bind}
+use Rattle.readers.proofs.Choice.{pick-yes, pick-no, either, All, all-some, all-none, all-of, all-bind, all-triv, Took}
 use Rattle.readers.specs.Scan.{Scanned, push}
-use Rattle.readers.specs.Layout.{leb128, width, Token, Layout, done, field, copied, Read, ReadOf, RunOf, asBytes, ExpressionLaw, NumberLaw, number-law, numberIn, asNumber, copy, tokenIn, readIn, before, ReadLaw, read-law, bytesOf, pieceBytes, writeAll, Patch, patchPieces, patchRead, patchAll, same-size}
-use Rattle.readers.specs.Expression.{expressionIn, expression-law}
+use Rattle.readers.specs.Layout.{leb128, width, Token, Layout, done, field, verbatim, Read, ReadOf, RunOf, asBytes, numberIn, asNumber, copy, tokenIn, readIn, before, bytesOf, pieceBytes, writeAll, Patch, patchPieces, patchRead, patchAll}
+use Rattle.readers.proofs.Layouts.{ExpressionLaw, NumberLaw, number-law, ReadLaw, read-law, same-size}
+use Rattle.readers.specs.Expression.{expressionIn}
+use Rattle.readers.proofs.Expression.{expression-law}
 use Rattle.readers.specs.Forms.{valueToken, attributeLayout}
 use Rattle.readers.specs.Fields.{size, fieldOf, asField, tokenAt}
 use Rattle.readers.specs.Cursors.{cursor}
@@ -26,8 +29,8 @@ use Rattle.readers.specs.declared.abbreviations.AttributeSpec.{AttributeSpec}
 use Rattle.readers.specs.declared.abbreviations.SpecStep.{SpecStep}
 use Rattle.readers.specs.declared.abbreviations.SpecStep.the-variants.{Attribute as Spec, Last as LastSpec, Unreadable as NoSpec}
 use Rattle.readers.specs.declared.abbreviations.Declaration.{Declaration}
-use Rattle.readers.specs.declared.abbreviations.Found.{Found}
-use Rattle.readers.specs.declared.abbreviations.Found.the-variants.{Declaration as Found′, Nothing}
+use Rattle.readers.specs.declared.abbreviations.DeclarationFound.{DeclarationFound}
+use Rattle.readers.specs.declared.abbreviations.DeclarationFound.the-variants.{Declaration as Found′, Nothing}
 use Rattle.readers.specs.declared.attributes.Attribute.{Attribute}
 use Rattle.readers.specs.declared.attributes.AttributeRead.{AttributeRead}
 use Rattle.readers.specs.declared.attributes.AttributeRead.the-variants.{Read as Attribute′, Unreadable as NoAttribute}
@@ -35,11 +38,11 @@ use Rattle.readers.specs.declared.entries.Entry.{Entry}
 use Rattle.readers.specs.declared.entries.Step.the-variants.{Entry as Entry′, Terminator}
 use Rattle.readers.proofs.Values.{joined, read-then}
 use Rattle.readers.proofs.Specs.{attributes-more, attributes-last, attributes-bad}
-use Rattle.marking.specs.Roots.{taken, takenBy, nextAttribute}
-use Rattle.marking.specs.declared.root_test.EntryAttribute.{EntryAttribute}
-use Rattle.marking.proofs.Attributes.{Stepped, stepped}
-use Rattle.marking.specs.declared.root_test.NextAttribute.{NextAttribute}
-use Rattle.marking.specs.declared.root_test.NextAttribute.the-variants.{More, NoMore}
+use Rattle.readers.specs.EntryAttributes.{taken, takenBy, nextAttribute}
+use Rattle.readers.specs.declared.entry_attributes.EntryAttribute.{EntryAttribute}
+use Rattle.readers.proofs.EntryAttributes.{Stepped, stepped}
+use Rattle.readers.specs.declared.entry_attributes.NextAttribute.{NextAttribute}
+use Rattle.readers.specs.declared.entry_attributes.NextAttribute.the-variants.{More, NoMore}
 use Rattle.rewriting.specs.Places.{Place}
 use Rattle.rewriting.specs.Rewriting.{Lists, newValue, readsRefusal, piecesRefusal, orNext}
 use Rattle.rewriting.specs.Emission.{between}
@@ -350,13 +353,13 @@ module _ (lists : Lists) (map : List Place) (depth : ℕ) (e : Encoding) (l : e 
 
 -- ---- the code
 
-module _ (e : Encoding) (l : e .«big_endian» ≡ false) (abbreviations : List ℕ) (look : ℕ → Found) (unit : List ℕ) (start : ℕ) where
+module _ (e : Encoding) (l : e .«big_endian» ≡ false) (abbreviations : List ℕ) (look : ℕ → DeclarationFound) (unit : List ℕ) (start : ℕ) where
   -- an entry's code, and how its attributes were read
   record Coded (r : RunOf) : Type 0 where
     pub code : Read
     pub wide : ℕ
     pub fits : wide ≤ length (drop start unit)
-    pub pieces : code .pieces ≡ copied (take wide (drop start unit)) ∷ []
+    pub pieces : code .pieces ≡ verbatim (take wide (drop start unit)) ∷ []
     pub others : List Read
     pub is : r .0 ≡ code ∷ others
     pub other : T (not (eqb (code .seen) 0))
@@ -367,7 +370,7 @@ module _ (e : Encoding) (l : e .«big_endian» ≡ false) (abbreviations : List 
   abbrev Kinds : RunOf → Type 0
   Kinds r = TerminatorRead e abbreviations look (r .0) ⊎ Coded r
 
-  found-kinds : (v n : ℕ) → n ≤ length (drop start unit) → T (not (eqb v 0)) → (f : Found) → look v ≡ f
+  found-kinds : (v n : ℕ) → n ≤ length (drop start unit) → T (not (eqb v 0)) → (f : DeclarationFound) → look v ≡ f
       → All Kinds (bind (readIn false (expressionIn e) (foundLayout e abbreviations look f) (drop n (drop start unit))) (before (copy v 0 n (drop start unit) .0)))
   unfolding foundLayout before bind readIn copy
   found-kinds v n i t (Found′ d) h =

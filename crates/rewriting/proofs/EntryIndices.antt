@@ -10,13 +10,16 @@ use lib.ListN.{length, getD, take, drop}
 use lib.Seq.{drop-drop}
 use lib.Dec.{T, eqb, leb}
 use mir.Facts.{leb-yes, leb-no, eqb-yes, eqb-no, no-eqb}
-use Rattle.readers.specs.Choice.{pick, pick-yes, pick-no, pick-either, either, _and_, _or_, bind, bind-at, bind-bind, check-yes, All, all-some, all-none, all-of, all-bind, all-check, all-triv}
+use Rattle.readers.specs.Choice.{pick, _and_, _or_, bind}
+use Rattle.readers.proofs.Choice.{pick-yes, pick-no, pick-either, either, bind-at, bind-bind, check-yes, All, all-some, all-none, all-of, all-bind, all-check, all-triv}
 use Rattle.readers.specs.Numbers.{uleb, sleb}
-use Rattle.readers.specs.Layout.{Kind, leb128, Role, reference, typeReference, sibling, index, absolute, Token, nothing, number, bounded, forms, signed, link, string, run, block, expression, unknown, Layout, done, fail, field, Piece, copied, linked, Read, ReadOf, RunOf, ExpressionReader, asBytes, copy, asNumber, asBounded, asForms, asSigned, asLink, asString, asBlock, asExpression, numberIn, formsIn, stringIn, tokenIn, readIn, before, TokenLaw, token-law, as-bytes-law}
-use Rattle.readers.specs.Expression.{allPieces, andRest, expressionWithin, expressionIn, expression-law}
-use Rattle.readers.specs.Operations.{Row, unreadableRow, rows, rowOf, rowLayout, operationRow, operation}
+use Rattle.readers.specs.Layout.{Kind, leb128, Role, reference, typeReference, sibling, index, absolute, Token, nothing, number, bounded, forms, signed, link, string, run, block, expression, unknown, Layout, done, fail, field, Piece, verbatim, patchable, Read, ReadOf, RunOf, ExpressionReader, asBytes, copy, asNumber, asBounded, asForms, asSigned, asLink, asString, asBlock, asExpression, numberIn, formsIn, stringIn, tokenIn, readIn, before}
+use Rattle.readers.proofs.Layouts.{TokenLaw, token-law, as-bytes-law}
+use Rattle.readers.specs.Expression.{allPieces, andRest, expressionWithin, expressionIn}
+use Rattle.readers.proofs.Expression.{expression-law}
+use Rattle.readers.specs.Operations.{OperandRow, unreadableRow, rows, rowOf, rowLayout, operationRow, operation}
 use Rattle.readers.specs.Tokens.{Use, plain, as′, numberAs, tokenOf}
-use Rattle.readers.specs.Forms.{formTokens, tokenAmong, formToken, useOf, valueToken, attributeLayout}
+use Rattle.readers.specs.Forms.{formTokens, tokenAmong, formToken, useOf, valueToken, attributeLayout, listForm}
 use Rattle.readers.specs.Fields.{size, linkedValue, fieldOf, asField, tokenAt}
 use Rattle.readers.specs.Cursors.{formsAt, asFormNumber}
 use Rattle.readers.specs.Scan.{Scanned}
@@ -25,109 +28,19 @@ use Rattle.readers.specs.Entries.{attributeAt, attributesLayout, specsLayout, f
 use Rattle.readers.proofs.Values.{valued, behindForms, attribute-direct, attribute-indirect, joined, read-then}
 use Rattle.readers.specs.declared.cursor.Encoding.{Encoding}
 use Rattle.readers.specs.declared.abbreviations.AttributeSpec.{AttributeSpec}
-use Rattle.readers.specs.declared.abbreviations.Found.{Found}
-use Rattle.readers.specs.declared.abbreviations.Found.the-variants.{Declaration as Found′, Nothing}
+use Rattle.readers.specs.declared.abbreviations.DeclarationFound.{DeclarationFound}
+use Rattle.readers.specs.declared.abbreviations.DeclarationFound.the-variants.{Declaration as Found′, Nothing}
 use Rattle.readers.specs.declared.attributes.Attribute.{Attribute}
 use Rattle.readers.specs.declared.attributes.AttributeRead.{AttributeRead}
 use Rattle.readers.specs.declared.attributes.AttributeRead.the-variants.{Read as Attribute′}
 use Rattle.readers.specs.declared.entries.Step.{Step}
 use Rattle.readers.specs.declared.entries.Step.the-variants.{Entry as Entry′, Terminator, End, Unreadable}
-use Rattle.marking.specs.Roots.{onAttribute, valuesOf, entryValues}
-use Rattle.marking.proofs.Attributes.{specs-all}
+use Rattle.readers.specs.EntryAttributes.{onAttribute, valuesOf, entryValues}
+use Rattle.readers.proofs.EntryAttributes.{specs-all}
 use Rattle.rewriting.specs.Indices.{indexIn, indicesIn, readIndices}
-use Rattle.rewriting.specs.IndexLists.{roleList, useList, formList, valueIndex, valueIndices}
-use Rattle.rewriting.specs.Emission.{listForm}
+use Rattle.rewriting.specs.inner.IndexLists.{formList, valueIndex, valueIndices}
+use Rattle.readers.proofs.FormKinds.{roleList, useList}
 use Rattle.rewriting.proofs.DeepReads.{deep-step}
-use Rattle.rewriting.proofs.FormKinds as Kinds
-
--- ---- the list of a form
-
-module _ (name : ℕ) where
-  list-ranges : (f : ℕ) → f ≡ 0x23 → 0 ≡ useList (useOf name f)
-  unfolding useList roleList useOf pick _and_ _or_
-  list-ranges f h = sym (ap (λ (f : ℕ). useList (useOf name f)) h)
-
-  list-locations : (f : ℕ) → f ≡ 0x22 → 1 ≡ useList (useOf name f)
-  unfolding useList roleList useOf pick _and_ _or_
-  list-locations f h = sym (ap (λ (f : ℕ). useList (useOf name f)) h)
-
-  list-strx : (f : ℕ) → f ≡ 0x1a → 2 ≡ useList (useOf name f)
-  unfolding useList roleList useOf pick _and_ _or_
-  list-strx f h = sym (ap (λ (f : ℕ). useList (useOf name f)) h)
-
-  list-gnu : (f : ℕ) → f ≡ 0x1f02 → 2 ≡ useList (useOf name f)
-  unfolding useList roleList useOf pick _and_ _or_
-  list-gnu f h = sym (ap (λ (f : ℕ). useList (useOf name f)) h)
-
-  -- strx1 to strx4
-  list-strings : (f : ℕ) → 0x25 ≤ f → f ≤ 0x28 → 2 ≡ useList (useOf name f)
-  unfolding useList roleList useOf pick _and_ _or_
-  list-strings f h k =
-      ⊎-elim (λ t. sym (ap (λ (f : ℕ). useList (useOf name f)) (eqb-yes {a = f} {b = 0x25} t)))
-      (λ t. ⊎-elim (λ t′. sym (ap (λ (f : ℕ). useList (useOf name f)) (eqb-yes {a = f} {b = 0x26} t′)))
-      (λ t′. ⊎-elim (λ t″. sym (ap (λ (f : ℕ). useList (useOf name f)) (eqb-yes {a = f} {b = 0x27} t″)))
-      (λ t″. sym (ap (λ (f : ℕ). useList (useOf name f)) (let z : f ≡ 0x28 = omega (arith, eqb-no {a = f} {b = 0x25} t, eqb-no {a = f} {b = 0x26} t′, eqb-no {a = f} {b = 0x27} t″) in z)))
-      (either (eqb f 0x27)))
-      (either (eqb f 0x26)))
-      (either (eqb f 0x25))
-
-  module _ (f : ℕ) (r : f ≡ 0x23 → ⊥) (l : f ≡ 0x22 → ⊥) (s : f ≡ 0x1a → ⊥) (g : f ≡ 0x1f02 → ⊥) where
-    own : (b : Bool) → useList (as′ (pick b sibling reference)) ≡ 3
-    unfolding useList roleList pick
-    own true = refl
-    own false = refl
-
-    no-or : (a b c : Bool) → T (not a) → T (not b) → T (not c) → T (not (a or b or c))
-    unfolding _or_
-    no-or true b c h k m = absurd h
-    no-or false true c h k m = absurd k
-    no-or false false true h k m = absurd m
-    no-or false false false h k m = tt
-
-    other-list : T (not (leb 0x25 f and leb f 0x28)) → useList (useOf name f) ≡ 3
-    unfolding useOf useList roleList
-    other-list n =
-        pick-either (λ (u : Use). useList u ≡ 3) (leb 0x11 f and leb f 0x15) _ _ (λ _. own (eqb name 0x01))
-        (λ _. pick-either (λ (u : Use). useList u ≡ 3) (eqb f 0x10) _ _ (λ _. refl)
-        (λ _. ap useList
-        (pick-no _ _ _ (no-eqb {a = f} {b = 0x23} r)
-        ∙ pick-no _ _ _ (no-eqb {a = f} {b = 0x22} l)
-        ∙ pick-no _ _ _ (no-or (eqb f 0x1a) (leb 0x25 f and leb f 0x28) (eqb f 0x1f02) (no-eqb {a = f} {b = 0x1a} s) n (no-eqb {a = f} {b = 0x1f02} g)))))
-
-    no-and : (a b : Bool) → (T a → T b → ⊥) → T (not (a and b))
-    unfolding _and_
-    no-and true true h = h tt tt
-    no-and true false h = tt
-    no-and false b h = tt
-
-    list-below : f < 0x25 → 3 ≡ useList (useOf name f)
-    list-below h = sym (other-list (no-and (leb 0x25 f) (leb f 0x28) (λ t _. let z : 0x25 ≤ f = leb-yes {a = 0x25} {b = f} t in absurd (omega arith))))
-
-    list-above : 0x28 < f → 3 ≡ useList (useOf name f)
-    list-above h = sym (other-list (no-and (leb 0x25 f) (leb f 0x28) (λ _ t. let z : f ≤ 0x28 = leb-yes {a = f} {b = 0x28} t in absurd (omega arith))))
-
--- the list of a form (specs/Emission.antt) is that of its use, under any name
-pub form-list : (name f : ℕ) → listForm f ≡ useList (useOf name f)
-form-list name f =
-    ⊎-elim (λ a. sym (Kinds.list-ranges f (eqb-yes {a = f} {b = 0x23} a)) ∙ list-ranges name f (eqb-yes {a = f} {b = 0x23} a))
-    (λ a. ⊎-elim (λ b. sym (Kinds.list-locations f (eqb-yes {a = f} {b = 0x22} b)) ∙ list-locations name f (eqb-yes {a = f} {b = 0x22} b))
-    (λ b. ⊎-elim (λ c. sym (Kinds.list-strings f (eqb-yes {a = f} {b = 0x1a} c)) ∙ list-strx name f (eqb-yes {a = f} {b = 0x1a} c))
-    (λ c. ⊎-elim (λ d. sym (Kinds.list-gnu f (eqb-yes {a = f} {b = 0x1f02} d)) ∙ list-gnu name f (eqb-yes {a = f} {b = 0x1f02} d))
-    (λ d. ⊎-elim
-    (λ l. ⊎-elim
-    (λ h. sym (Kinds.list-fixed f (leb-yes {a = 0x25} {b = f} l) (leb-yes {a = f} {b = 0x28} h)) ∙ list-strings name f (leb-yes {a = 0x25} {b = f} l) (leb-yes {a = f} {b = 0x28} h))
-    (λ h. let z : 0x28 < f = leb-no {a = f} {b = 0x28} h in
-    sym (Kinds.list-above f z (eqb-no {a = f} {b = 0x1f02} d))
-    ∙ list-above name f (eqb-no {a = f} {b = 0x23} a) (eqb-no {a = f} {b = 0x22} b) (eqb-no {a = f} {b = 0x1a} c) (eqb-no {a = f} {b = 0x1f02} d) z)
-    (either (leb f 0x28)))
-    (λ l. let z : f < 0x25 = leb-no {a = 0x25} {b = f} l in
-    sym (Kinds.list-below f z (eqb-no {a = f} {b = 0x23} a) (eqb-no {a = f} {b = 0x22} b) (eqb-no {a = f} {b = 0x1a} c))
-    ∙ list-below name f (eqb-no {a = f} {b = 0x23} a) (eqb-no {a = f} {b = 0x22} b) (eqb-no {a = f} {b = 0x1a} c) (eqb-no {a = f} {b = 0x1f02} d) z)
-    (either (leb 0x25 f)))
-    (either (eqb f 0x1f02)))
-    (either (eqb f 0x1a)))
-    (either (eqb f 0x22)))
-    (either (eqb f 0x23))
 
 -- ---- indices of some pieces after others
 
@@ -181,7 +94,7 @@ module _ (k : ℕ) where
       pub alike : r .0 .seen ≡ it .seen
       pub indices : indicesIn k (r .0 .pieces) ≡ tokenIndex t (linkedValue (it .pieces) (it .seen))
 
-    link-index : (e : _) (r : Role) (v : ℕ) → indicesIn k (linked e r v ∷ []) ≡ roleIndex r v
+    link-index : (e : _) (r : Role) (v : ℕ) → indicesIn k (patchable e r v ∷ []) ≡ roleIndex r v
     unfolding indicesIn indexIn roleIndex
     link-index e reference v = refl
     link-index e typeReference v = refl
@@ -220,7 +133,7 @@ module _ (k : ℕ) where
           (λ t q _. all-check _ _ _ (λ u.
           all-bind (λ (ps : List Piece). indicesIn k ps ≡ []) _ (ex (take (t .1) (t .2))) _ (no-indices (take (t .1) (t .2)))
           (λ ps q′ n. all-some (Indexed expression s) (record {
-            it = record { seen = 0; start = suc (t .0); pieces = copied (take (suc (t .0)) s) ∷ copied (take (t .1) (t .2)) ∷ [] };
+            it = record { seen = 0; start = suc (t .0); pieces = verbatim (take (suc (t .0)) s) ∷ verbatim (take (t .1) (t .2)) ∷ [] };
             is = bind-at _ q ∙ check-yes _ _ u;
             alike = refl;
             indices = n;
@@ -287,10 +200,10 @@ module _ (k : ℕ) where
 
     -- ---- operations have none
 
-    abbrev PlainRow : Row → Type 0
+    abbrev PlainRow : OperandRow → Type 0
     PlainRow r = (useList (r .firstUse) ≡ 3) × (useList (r .secondUse) ≡ 3)
 
-    unfoldable plainRows : List Row → Bool
+    unfoldable plainRows : List OperandRow → Bool
     plainRows [] = true
     plainRows (r ∷ rs) = eqb (useList (r .firstUse)) 3 and (eqb (useList (r .secondUse)) 3 and plainRows rs)
 
@@ -299,7 +212,7 @@ module _ (k : ℕ) where
     both true b t = (tt, t)
     both false b t = absurd t
 
-    plain-row : (rs : List Row) → T (plainRows rs) → (l : ℕ) → PlainRow (getD rs l unreadableRow)
+    plain-row : (rs : List OperandRow) → T (plainRows rs) → (l : ℕ) → PlainRow (getD rs l unreadableRow)
     unfolding plainRows unreadableRow useList
     plain-row [] h l = (refl, refl)
     plain-row (r ∷ rs) h zero =
@@ -544,7 +457,7 @@ module _ (k : ℕ) where
 
         -- ---- an entry or a terminator
 
-        module _ (abbreviations : List ℕ) (look : ℕ → Found) where
+        module _ (abbreviations : List ℕ) (look : ℕ → DeclarationFound) where
           -- the indices at a step: those of an entry's values
           unfoldable pub StepIndices : Step → List ℕ → Type 0
           StepIndices (Entry′ y) is = is ≡ valueIndices k (entryValues e abbreviations (y .declaration .attributes .at) unit (y .values .at))
@@ -564,7 +477,7 @@ module _ (k : ℕ) where
               (sym (specs-all abbreviations p o q)) (values-read (o .0) at)
 
           module _ (at : ℕ) (c : Read) (none-in : indicesIn k (c .pieces) ≡ []) where
-            found-at : T (not (eqb (c .seen) 0)) → (f : Found) → look (c .seen) ≡ f
+            found-at : T (not (eqb (c .seen) 0)) → (f : DeclarationFound) → look (c .seen) ≡ f
                 → All (At at) (bind (readIn big deep (foundLayout e abbreviations look f) (drop (at + size big c) unit)) (before c))
             unfolding foundLayout readIn before bind readIndices stepOfReads entryFound StepIndices
             found-at t Nothing h = all-none _

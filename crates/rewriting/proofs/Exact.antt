@@ -9,12 +9,16 @@ use lib.Seq.{length-take-le}
 use lib.Dec.{T, ltb}
 use lib.Pow.{areBytes}
 use mir.Facts.{yes-ltb, ltb-yes, leb-yes, and-yes, yes-and}
-use Rattle.readers.specs.Choice.{pick-either, _and_, All, all-some, all-none, all-check, all-bind, all-both, all-triv}
-use Rattle.readers.specs.Numbers.{Groups, groups, GroupsLaw, groups-law, ExactGroups, groups-exact, uleb, unsigned64, sleb, fixedValue, fixedBytes, fixed-bytes}
-use Rattle.readers.specs.Layout.{Kind, fixed, leb128, Role, reference, typeReference, sibling, index, absolute, Token, nothing, number, bounded, forms, signed, link, string, run, block, expression, unknown, Layout, done, fail, field, Piece, copied, linked, Read, ReadOf, RunOf, ExpressionReader, Found, asLeb, copy, asNumber, asLink, asBounded, asForms, asSigned, asString, asBlock, asExpression, LebLaw, uleb-law, numberIn, formsIn, stringIn, tokenIn, readIn, before, numberBytes, pieceBytes, bytesOf, writeAll, bytes-append, Fit}
+use Rattle.readers.specs.Choice.{_and_}
+use Rattle.readers.proofs.Choice.{pick-either, All, all-some, all-none, all-check, all-bind, all-both, all-triv}
+use Rattle.readers.specs.Numbers.{Groups, groups, uleb, unsigned64, sleb, fixedValue, fixedBytes}
+use Rattle.readers.proofs.Numbers.{GroupsLaw, groups-law, ExactGroups, groups-exact, fixed-bytes}
+use Rattle.readers.specs.Layout.{Kind, fixed, leb128, Role, reference, typeReference, sibling, index, absolute, Token, nothing, number, bounded, forms, signed, link, string, run, block, expression, unknown, Layout, done, fail, field, Piece, verbatim, patchable, Read, ReadOf, RunOf, ExpressionReader, ReadFound, asLeb, copy, asNumber, asLink, asBounded, asForms, asSigned, asString, asBlock, asExpression, numberIn, formsIn, stringIn, tokenIn, readIn, before, numberBytes, pieceBytes, bytesOf, writeAll, Fit}
+use Rattle.readers.proofs.Layouts.{LebLaw, uleb-law, bytes-append}
 use Rattle.readers.specs.Tokens.{Use, plain, as′, numberAs, tokenOf}
-use Rattle.readers.specs.Operations.{Row, rows, rowOf, unreadableRow, rowLayout, operation, operationRow}
-use Rattle.readers.specs.Expression.{allPieces, andRest, expressionWithin, expressionIn, write-pieces}
+use Rattle.readers.specs.Operations.{OperandRow, rows, rowOf, unreadableRow, rowLayout, operation, operationRow}
+use Rattle.readers.specs.Expression.{allPieces, andRest, expressionWithin, expressionIn}
+use Rattle.readers.proofs.Expression.{write-pieces}
 use Rattle.readers.specs.declared.cursor.Encoding.{Encoding}
 use Rattle.readers.proofs.Lebs.{Bytes}
 
@@ -64,8 +68,8 @@ LayoutOk ok fail = Unit {0}
 LayoutOk ok (field t k) = T (tokenOk ok t) × ((n : ℕ) → LayoutOk ok (k n))
 
 unfoldable pub Right : (Role → Bool) → Piece → Type 0
-Right ok (copied l) = Unit {0}
-Right ok (linked e r v) = Fit e v × T (ok r)
+Right ok (verbatim l) = Unit {0}
+Right ok (patchable e r v) = Fit e v × T (ok r)
 
 unfoldable pub Rights : (Role → Bool) → List Piece → Type 0
 Rights ok [] = Unit {0}
@@ -100,7 +104,7 @@ module _ (big : Bool) (ok : Role → Bool) where
 
   -- ---- numbers
 
-  abbrev NumberExact : List ℕ → Found → Type 0
+  abbrev NumberExact : List ℕ → ReadFound → Type 0
   NumberExact s t = (numberBytes big (t .0) (t .1) ++ t .2 ≡ s) × Fit (t .0) (t .1)
 
   pub number-exact : (k : Kind) (s : List ℕ) → T (areBytes s) → All (NumberExact s) (numberIn big k s)
@@ -129,12 +133,12 @@ module _ (big : Bool) (ok : Role → Bool) where
   unfolding bytesOf Rights
   nothing-exact s = (refl, tt)
 
-  link-exact : (role : Role) (s : List ℕ) (t : Found) → T (ok role) → NumberExact s t → TokenExact s (record { seen = 0; start = 0; pieces = linked (t .0) role (t .1) ∷ [] }, t .2)
+  link-exact : (role : Role) (s : List ℕ) (t : ReadFound) → T (ok role) → NumberExact s t → TokenExact s (record { seen = 0; start = 0; pieces = patchable (t .0) role (t .1) ∷ [] }, t .2)
   unfolding bytesOf pieceBytes Rights Right
   link-exact role s t o q = (ap (λ x. x ++ t .2) (append-nil (numberBytes big (t .0) (t .1))) ∙ q .0, ((q .1, o), tt))
 
   expression-exact : (s : List ℕ) (t : Groups) → LebLaw uleb s t → (ps : List Piece) → Exactly (take (t .1) (t .2)) ps
-      → TokenExact s (record { seen = 0; start = suc (t .0); pieces = copied (take (suc (t .0)) s) ∷ ps }, drop (t .1) (t .2))
+      → TokenExact s (record { seen = 0; start = suc (t .0); pieces = verbatim (take (suc (t .0)) s) ∷ ps }, drop (t .1) (t .2))
   unfolding bytesOf pieceBytes Rights Right
   expression-exact s t q ps p =
       let a : List ℕ = take (suc (t .0)) s in (
@@ -205,7 +209,7 @@ module _ (ok : Role → Bool) (e : Encoding) where
       pick-either (λ x. T (tokenOk ok x)) _ _ _ (λ _. tt) (λ _.
       pick-either (λ x. T (tokenOk ok x)) _ _ _ (λ _. tt) (λ _. tt))))))))))))))
 
-  unfoldable rowsOk : List Row → Bool
+  unfoldable rowsOk : List OperandRow → Bool
   rowsOk [] = true
   rowsOk (r ∷ rs) = useOk ok (r .firstUse) and (useOk ok (r .secondUse) and rowsOk rs)
 
@@ -214,14 +218,14 @@ module _ (ok : Role → Bool) (e : Encoding) where
   and-both true b h = (tt, h)
   and-both false b h = absurd h
 
-  row-among : (rs : List Row) (l : ℕ) → T (rowsOk rs) → T (useOk ok (getD rs l unreadableRow .firstUse)) × T (useOk ok (getD rs l unreadableRow .secondUse))
+  row-among : (rs : List OperandRow) (l : ℕ) → T (rowsOk rs) → T (useOk ok (getD rs l unreadableRow .firstUse)) × T (useOk ok (getD rs l unreadableRow .secondUse))
   unfolding rowsOk unreadableRow useOk
   row-among [] l h = (tt, tt)
   row-among (r ∷ rs) zero h = let p = and-both (useOk ok (r .firstUse)) (useOk ok (r .secondUse) and rowsOk rs) h in (p .0, and-both (useOk ok (r .secondUse)) (rowsOk rs) (p .1) .0)
   row-among (r ∷ rs) (suc l) h =
       let p = and-both (useOk ok (r .firstUse)) (useOk ok (r .secondUse) and rowsOk rs) h in row-among rs l (and-both (useOk ok (r .secondUse)) (rowsOk rs) (p .1) .1)
 
-  row-ok : (r : Row) → T (useOk ok (r .firstUse)) → T (useOk ok (r .secondUse)) → LayoutOk ok (rowLayout e r)
+  row-ok : (r : OperandRow) → T (useOk ok (r .firstUse)) → T (useOk ok (r .secondUse)) → LayoutOk ok (rowLayout e r)
   unfolding LayoutOk rowLayout useOk
   row-ok r a b = (token-ok (r .firstUse) (r .first) a, λ _. (token-ok (r .secondUse) (r .second) b, λ _. (token-ok plain (r .third) tt, λ _. tt)))
 

@@ -6,7 +6,8 @@ use mathlib.Core.Bool.{Bool, true, false, not}
 use mathlib.Core.List.{List, [], _∷_}
 use lib.Dec.{T, eqb, leb}
 use mir.Facts.{eqb-yes, yes-eqb}
-use Rattle.readers.specs.Choice.{pick, pick-either, _and_, _or_}
+use Rattle.readers.specs.Choice.{pick, _and_, _or_}
+use Rattle.readers.proofs.Choice.{pick-either}
 use Rattle.readers.specs.Layout.{Kind, Token, nothing, number, bounded, forms, signed, link, string, run, block, expression, unknown}
 use Rattle.readers.specs.Tokens.{Use, plain, as′, numberAs, tokenOf}
 use Rattle.readers.specs.Operations.{Codes}

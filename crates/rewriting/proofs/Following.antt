@@ -1,33 +1,25 @@
--- The header, the items and the rows of an accepted unit. Assumes nothing.
+-- An accepted unit, and the rows of its items. Assumes nothing.
 use mathlib.Core.Path.{_≡_}
 use Prim.Native.Nat.{ℕ}
-use mathlib.Core.Bool.{true}
 use mathlib.Core.List.{List, []}
 use lib.ListN.{take}
-use Rattle.readers.specs.Abbreviations.{Placed, declaredIn}
-use Rattle.readers.specs.Stream.{itemsFrom}
+use Rattle.readers.specs.Abbreviations.{Placed, abbreviationsOf}
 use Rattle.readers.specs.declared.header.UnitHeader.{UnitHeader}
-use Rattle.marking.specs.Analysis.{Sections, Row}
-use Rattle.marking.specs.UnitSurvivors.{RowsOf}
-use Rattle.marking.proofs.Rows.{UnitRows}
-use Rattle.marking.proofs.EachRow.{items-whole, items-rows, own-rows}
-use Rattle.rewriting.specs.Rewriting.{Room, itemsIn}
-use Rattle.rewriting.proofs.HeaderAgain.{HeaderLaw, header-laws}
-use Rattle.rewriting.proofs.Accepted.{unitOf, Accepted}
+use Rattle.marking.specs.Analysis.{Sections, EntryRow, analysed, analysisOf}
+use Rattle.marking.specs.EntryRows.{RowsOf}
+use Rattle.marking.proofs.EachRow.{items-rows}
+use Rattle.rewriting.specs.Rewriting.{Room, itemsIn, unitOf}
+use mathlib.Core.Option.{some}
+use Rattle.readers.specs.Header.{headerOf}
+use Rattle.readers.specs.declared.header.HeaderRead.the-variants.{Unit as Header′}
 
-module _ (x : Sections) (room : Room) (section : List ℕ) (h : UnitHeader) (ds : List Placed) (rows : List Row) (a : Accepted x room section h ds rows) where
-  -- the items end at the unit's end
-  pub accepted-whole : itemsFrom (h .encoding) (x .abbreviations) (declaredIn ds) (take (h .end) section) (h .first .0) .1 ≡ true
-  accepted-whole = items-whole x section (room .tables) h ds rows (a .header) (a .declared) (a .analysis)
+pub record Accepted (x : Sections) (room : Room) (section : List ℕ) (h : UnitHeader) (ds : List Placed) (rows : List EntryRow) : Type 0 where
+  pub header : headerOf section ≡ Header′ h
+  pub declared : abbreviationsOf (x .abbreviations) (h .abbreviations) ≡ some ds
+  pub analysis : analysisOf x section (room .tables) ≡ analysed rows
 
+module _ (x : Sections) (room : Room) (section : List ℕ) (h : UnitHeader) (ds : List Placed) (rows : List EntryRow) (a : Accepted x room section h ds rows) where
   -- each row is that of its entry
   pub accepted-follow : RowsOf (h .encoding) x (take (h .end) section) 0 [] 12 12 (itemsIn x (unitOf h section ds)) rows
   unfolding itemsIn
   accepted-follow = items-rows x section (room .tables) h ds rows (a .header) (a .declared) (a .analysis)
-
-  -- its header, and how its rows stand
-  pub accepted-header : HeaderLaw (take (h .end) section) h
-  accepted-header = header-laws section h (a .header)
-
-  pub accepted-rows : UnitRows (take (h .end) section) (room .tables) (h .first .0) rows
-  accepted-rows = own-rows x section (room .tables) h ds rows (a .header) (a .declared) (a .analysis)

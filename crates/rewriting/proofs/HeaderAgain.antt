@@ -9,9 +9,11 @@ use lib.ListN.{length, take, drop, length-drop, length-append, take-append-drop}
 use lib.Seq.{length-take-le, take-all, take-at, take-append-le, drop-append-le, drop-append-add}
 use lib.Dec.{T, leb, eqb}
 use mir.Facts.{leb-yes, leb-no}
-use Rattle.readers.specs.Choice.{pick, pick-yes, pick-no, pick-either, _or_}
+use Rattle.readers.specs.Choice.{pick, _or_}
+use Rattle.readers.proofs.Choice.{pick-yes, pick-no, pick-either}
 use Rattle.readers.specs.Cursors.{cursor, fixedAt}
-use Rattle.readers.specs.Numbers.{fixedBytes, fixedValue, length-fixed, fixed-value}
+use Rattle.readers.specs.Numbers.{fixedBytes, fixedValue}
+use Rattle.readers.proofs.Numbers.{length-fixed, fixed-value}
 use Rattle.readers.proofs.Widths.{fixed-is, fixed-inside}
 use Rattle.readers.proofs.Headers.{length-there}
 use Rattle.readers.specs.Header.{present, right, encodingOf, headerMade, headerFields, headerOf}
@@ -21,7 +23,7 @@ use Rattle.readers.specs.declared.cursor.Number.the-variants.{Value, Unreadable
 use Rattle.readers.specs.declared.header.UnitHeader.{UnitHeader}
 use Rattle.readers.specs.declared.header.HeaderRead.{HeaderRead}
 use Rattle.readers.specs.declared.header.HeaderRead.the-variants.{Unit as Unit′, Empty, Refused}
-pub use Rattle.rewriting.specs.Thinned.{withEnd}
+use Rattle.rewriting.specs.Rewriting.{withEnd}
 
 -- a header, where there is one
 unfoldable pub Reads : (UnitHeader → Type 0) → HeaderRead → Type 0

@@ -9,11 +9,14 @@ use lib.Seq.{length-take-le, drop-append-le}
 use lib.Dec.{ltb, leb}
 use borrow.Author.Tests.{lt-ltb, le-ltb, le-leb, lt-leb, leb-true}
 use Rattle.readers.specs.Choice.{pick, _and_}
-use Rattle.readers.specs.Numbers.{fixedBytes, length-fixed}
+use Rattle.readers.specs.Numbers.{fixedBytes}
+use Rattle.readers.proofs.Numbers.{length-fixed}
 use Rattle.readers.specs.Layout.{numberBytes}
 use Rattle.readers.specs.References.{encodedBy}
-use Rattle.rewriting.specs.Written.{bytesFit, numberFits, unfit, Put, over, put}
-use Rattle.rewriting.specs.Emission.{Within, headerBytes, headerFits, headerCount, headerOver}
+use Rattle.rewriting.specs.Written.{over, put}
+use Rattle.rewriting.specs.inner.Written.{bytesFit, numberFits, unfit, Put}
+use Rattle.rewriting.specs.Emission.{headerBytes, headerFits, headerCount, headerOver}
+use Rattle.rewriting.specs.inner.Emission.{Within}
 use Rattle.rewriting.specs.declared.emit.Emitted.the-variants.{To}
 use Rattle.rewriting.proofs.Emissions.{within-to}
 use Rattle.rewriting.proofs.Putting.{and-first, and-second, true-first, true-second, over-room}

@@ -1,8 +1,8 @@
--- Tables that hold nothing yet, a map's bytes, and when a number is written, in the terms of what is refused.
+-- Tables that hold nothing yet, and when a number is written, in the terms of what is refused.
 use Prim.Native.Nat.{ℕ, suc, _-_, _*_, _^_, _≤_, _<_}
-use mathlib.Core.Path.{_≡_, refl, ap, _∙_}
+use mathlib.Core.Path.{_≡_, refl, ap}
 use mathlib.Core.Bool.{Bool, true, false}
-use mathlib.Core.List.{List, [], _++_}
+use mathlib.Core.List.{List, []}
 use native.Mathlib.Omega.{arith}
 use native.Mathlib.Nat.{mul-zero}
 use lib.ListN.{length, length-replicate}
@@ -13,14 +13,13 @@ use Rattle.readers.specs.Layout.{infixed, inleb}
 use Rattle.readers.specs.References.{encodedBy}
 use Rattle.rewriting.specs.Ascending.{Ascending}
 use Rattle.marking.specs.Resolution.{Ascending as From}
-use Rattle.rewriting.specs.Places.{Place}
-use Rattle.rewriting.specs.Maps.{oldOffsets}
+use Rattle.rewriting.specs.Places.{Place, oldOffsets}
 use Rattle.rewriting.specs.Rewriting.{Lists, fits}
-use Rattle.rewriting.specs.Written.{groupsFit, bytesFit, numberFits, runBytes, Held, ListHeld, columns, mapBytes, MapHeld}
+use Rattle.rewriting.specs.Written.{groupsFit, runBytes, columns}
+use Rattle.rewriting.specs.inner.Written.{bytesFit, numberFits, NumbersHeld, ListHeld, MapHeld}
 use Rattle.marking.proofs.Members.{nothing-in}
-use Rattle.rewriting.proofs.Places.{length-columns}
 
-held-none : (width n : ℕ) → Held width [] (zeros n)
+held-none : (width n : ℕ) → NumbersHeld width [] (zeros n)
 unfolding runBytes
 held-none width n =
     let l : length (zeros n) ≡ n = length-replicate n 0 in
@@ -31,20 +30,8 @@ pub list-none : (n : ℕ) → ListHeld [] (zeros n)
 unfolding From
 list-none n = record { held = held-none 8 n; ascending = tt }
 
-pub map-none : (n : ℕ) → MapHeld [] (zeros n)
-unfolding From columns oldOffsets
-map-none n = record { held = held-none 4 n; ascending = tt }
-
-pub map-held : (ps : List Place) (bytes : List ℕ) → Held 4 (columns ps) bytes → Ascending (oldOffsets ps) → MapHeld ps bytes
+pub map-held : (ps : List Place) (bytes : List ℕ) → NumbersHeld 4 (columns ps) bytes → Ascending (oldOffsets ps) → MapHeld ps bytes
 map-held ps bytes h f = record { held = h; ascending = f }
-
--- a map's bytes, and zeros after them
-pub map-bytes : (ps : List Place) (bytes : List ℕ) → Held 4 (columns ps) bytes → (bytes ≡ mapBytes ps ++ zeros (length bytes - 12 * length ps)) × (12 * length ps ≤ length bytes)
-unfolding mapBytes
-map-bytes ps bytes h =
-    let c : length (columns ps) ≡ 3 * length ps = length-columns ps in
-    let r : 4 * length (columns ps) ≤ length bytes = h .room in
-    (h .are ∙ ap (λ n. runBytes 4 (columns ps) ++ zeros n) (let e : length bytes - 4 * length (columns ps) ≡ length bytes - 12 * length ps = omega arith in e), omega arith)
 
 -- a number is written exactly where the part has room for it and nothing is refused
 and-groups : (a b c : Bool) → (true and a and b and c) ≡ (b and a and c and true)

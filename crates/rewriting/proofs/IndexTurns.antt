@@ -15,20 +15,21 @@ use Rattle.readers.specs.Stream.{Item, entry}
 use Rattle.readers.proofs.Streams.{EntryInside, step-inside, terminator-inside}
 use Rattle.readers.specs.declared.cursor.Encoding.{Encoding}
 use Rattle.readers.specs.declared.cursor.Cursor.{Cursor}
-use Rattle.readers.specs.declared.abbreviations.Found.{Found as Declared}
+use Rattle.readers.specs.declared.abbreviations.DeclarationFound.{DeclarationFound as Declared}
 use Rattle.readers.specs.declared.entries.Entry.{Entry}
 use Rattle.readers.specs.declared.entries.Step.{Step}
 use Rattle.readers.specs.declared.entries.Step.the-variants.{Entry as Entry′, Terminator, End as StepEnd, Unreadable}
-use Rattle.marking.specs.Roots.{entryValues, nextAttribute}
-use Rattle.marking.specs.declared.root_test.EntryAttribute.{EntryAttribute}
-use Rattle.marking.specs.declared.root_test.NextAttribute.{NextAttribute}
-use Rattle.marking.specs.declared.root_test.NextAttribute.the-variants.{More, NoMore}
-use Rattle.marking.proofs.Attributes.{stepped, stepped-on, no-more}
+use Rattle.readers.specs.EntryAttributes.{entryValues, nextAttribute}
+use Rattle.readers.specs.declared.entry_attributes.EntryAttribute.{EntryAttribute}
+use Rattle.readers.specs.declared.entry_attributes.NextAttribute.{NextAttribute}
+use Rattle.readers.specs.declared.entry_attributes.NextAttribute.the-variants.{More, NoMore}
+use Rattle.readers.proofs.EntryAttributes.{stepped, stepped-on, no-more}
 use Rattle.marking.specs.Analysis.{Sections, valuesOfEntry}
-use Rattle.rewriting.specs.Indices.{declares}
+use Rattle.rewriting.specs.Indices.{declares, isShort}
 use Rattle.rewriting.specs.Rewriting.{Unit as Unit′, itemDeclares, anyDeclares}
-use Rattle.rewriting.specs.NextKept.{itemsBy}
-use Rattle.rewriting.specs.IndexLists.{useList, formList, kindIndex, valueIndex, valueIndices, ReadAs, isAbsent, isShort}
+use Rattle.rewriting.specs.inner.NextKept.{itemsBy}
+use Rattle.rewriting.specs.inner.IndexLists.{formList, kindIndex, valueIndex, valueIndices, ReadAs, isAbsent}
+use Rattle.readers.proofs.FormKinds.{useList}
 use Rattle.rewriting.specs.declared.kept.Reading.{Reading}
 use Rattle.rewriting.specs.declared.lists.ListCount.{ListCount}
 use Rattle.rewriting.specs.declared.lists.ListCount.the-variants.{Present, Absent}

@@ -8,9 +8,11 @@ use mathlib.Core.List.{List, [], _∷_, _++_, append-nil}
 use mathlib.Core.Logic.{⊎-elim}
 use lib.ListN.{length, take, drop}
 use lib.Seq.{length-take-le}
-use Rattle.readers.specs.Choice.{All, all-some, all-of, all-bind, all-triv}
-use Rattle.readers.specs.Layout.{leb128, width, number, Layout, field, copied, Piece, Read, ReadOf, RunOf, ExpressionReader, NumberLaw, number-law, numberIn, asNumber, copy, tokenIn, readIn, before, bytesOf, pieceBytes, writeAll, Patch, patchAll}
-use Rattle.readers.specs.Expression.{expressionIn, expression-law}
+use Rattle.readers.proofs.Choice.{All, all-some, all-of, all-bind, all-triv}
+use Rattle.readers.specs.Layout.{leb128, width, number, Layout, field, verbatim, Piece, Read, ReadOf, RunOf, ExpressionReader, numberIn, asNumber, copy, tokenIn, readIn, before, bytesOf, pieceBytes, writeAll, Patch, patchAll}
+use Rattle.readers.proofs.Layouts.{NumberLaw, number-law}
+use Rattle.readers.specs.Expression.{expressionIn}
+use Rattle.readers.proofs.Expression.{expression-law}
 use Rattle.readers.specs.Cursors.{cursor}
 use Rattle.readers.specs.Abbreviations.{declaredIn, findAt}
 use Rattle.readers.specs.Entries.{entryLayout, stepAt}
@@ -19,22 +21,22 @@ use Rattle.readers.specs.Stream.{Item}
 use Rattle.readers.proofs.Streams.{step-look}
 use Rattle.readers.specs.declared.cursor.Encoding.{Encoding}
 use Rattle.readers.specs.declared.cursor.Cursor.{Cursor}
-use Rattle.readers.specs.declared.abbreviations.Found.{Found}
+use Rattle.readers.specs.declared.abbreviations.DeclarationFound.{DeclarationFound}
 use Rattle.readers.specs.declared.entries.Entry.{Entry}
 use Rattle.readers.specs.declared.entries.Nesting.{Nesting}
 use Rattle.readers.specs.declared.entries.Step.{Step}
 use Rattle.readers.specs.declared.entries.Step.the-variants.{Entry as Entry′, Terminator}
 use Rattle.marking.specs.Analysis.{Sections}
-use Rattle.rewriting.specs.Places.{Place, Standing, keptFrom, offsetOf}
+use Rattle.rewriting.specs.Places.{Place, NestedItem, keptFrom, offsetOf}
 use Rattle.rewriting.specs.Rewriting.{Unit as Unit′, Lists, itemsIn, readsOr, readsAt, newValue, orNext, readsRefusal, refusalFrom, bytesFrom}
-use Rattle.rewriting.specs.NextKept.{openKept, itemsBy, Stood, keptAt, NextItem, Answers}
-use Rattle.rewriting.specs.IndexLists.{ReadDeep, AllRead, Passable}
+use Rattle.rewriting.specs.inner.NextKept.{openKept, itemsBy, Stood, keptAt, NextItem, Answers}
+use Rattle.rewriting.specs.inner.IndexLists.{ReadDeep, AllRead, PassInput}
 use Rattle.rewriting.specs.Emission.{between}
 use Rattle.rewriting.specs.declared.emit.Emitted.{Emitted}
 use Rattle.rewriting.specs.declared.emit.Emitted.the-variants.{To, Refused}
 use Rattle.rewriting.specs.declared.kept.Reading.{Reading}
-use Rattle.rewriting.specs.declared.kept.Stand.{Stand}
-use Rattle.rewriting.specs.declared.kept.Kept.{Kept}
+use Rattle.rewriting.specs.declared.kept.PassPosition.{PassPosition}
+use Rattle.rewriting.specs.declared.kept.KeptItem.{KeptItem}
 use Rattle.rewriting.specs.declared.kept.KeptStep.{KeptStep}
 use Rattle.rewriting.specs.declared.kept.KeptStep.the-variants.{Item as Item′, End}
 use Rattle.rewriting.proofs.DeepReads.{TerminatorRead, deep-kind, deep-terminator, deep-entry}
@@ -45,20 +47,20 @@ use Rattle.rewriting.proofs.KeptPasses.{shown-offset, next-forward, nex
 use Rattle.rewriting.proofs.KeptItems.{next-entry, next-terminator}
 use Rattle.rewriting.proofs.ListAnswers.{items-are}
 
--- ---- a terminator: its code, copied
+-- ---- a terminator: its code, verbatim
 
 module _ (big : Bool) (ex : ExpressionReader) (s : List ℕ) where
-  -- what was read begins with a copied number
+  -- what was read begins with a verbatim number
   pub record Headed (r : RunOf) : Type 0 where
     pub code : Read
     pub others : List Read
     pub wide : ℕ
     pub fits : wide ≤ length s
     pub is : r .0 ≡ code ∷ others
-    pub pieces : code .pieces ≡ copied (take wide s) ∷ []
+    pub pieces : code .pieces ≡ verbatim (take wide s) ∷ []
 
   abbrev Copied : ReadOf → Type 0
-  Copied r = (n : ℕ) × ((n ≤ length s) × (r .0 .pieces ≡ copied (take n s) ∷ []))
+  Copied r = (n : ℕ) × ((n ≤ length s) × (r .0 .pieces ≡ verbatim (take n s) ∷ []))
 
   headed : (k : ℕ → Layout) → All Headed (readIn big ex (field (number leb128) k) s)
   unfolding readIn tokenIn asNumber copy before
@@ -68,7 +70,7 @@ module _ (big : Bool) (ex : ExpressionReader) (s : List ℕ) where
       (λ r q h. all-bind (λ _. Unit {0}) Headed (readIn big ex (k (r .0 .seen)) (r .1)) _ (all-triv _)
       (λ r′ q′ _. all-some Headed (record { code = r .0; others = r′ .0; wide = h .0; fits = h .1 .0; is = refl; pieces = h .1 .1 })))
 
-module _ (e : Encoding) (l : e .«big_endian» ≡ false) (abbreviations : List ℕ) (look : ℕ → Found) (unit : List ℕ) (start end : ℕ)
+module _ (e : Encoding) (l : e .«big_endian» ≡ false) (abbreviations : List ℕ) (look : ℕ → DeclarationFound) (unit : List ℕ) (start end : ℕ)
     (step : stepAt e abbreviations look unit start ≡ Terminator (cursor end)) (rs : List Read) (rest : List ℕ)
     (deep : readIn false (expressionIn e) (entryLayout e abbreviations look) (drop start unit) ≡ some (rs, rest)) where
   ordered : readIn (e .«big_endian») (expressionIn e) (entryLayout e abbreviations look) (drop start unit) ≡ some (rs, rest)
@@ -127,7 +129,7 @@ module _ (e : Encoding) (l : e .«big_endian» ≡ false) (abbreviations : List 
 -- ---- the loop
 
 module _ (r : Reading) (s table unit parents ends marks : List ℕ) (first : ℕ) where
-  abbrev look : ℕ → Found
+  abbrev look : ℕ → DeclarationFound
   look = findAt s (r .from) table
 
   abbrev items : ℕ → List Item
@@ -137,17 +139,17 @@ module _ (r : Reading) (s table unit parents ends marks : List ℕ) (first : ℕ
     abbrev pub Whole : List ℕ → Emitted → List ℕ → Type 0
     Whole out₀ z out′ = EmitsAt (refusalFrom x u lists ps (keptFrom marks 0 [] (itemsIn x u))) (bytesFrom x u lists ps (keptFrom marks 0 [] (itemsIn x u))) out₀ 0 z out′
 
-    abbrev From : List Standing → List ℕ → ℕ → Emitted → List ℕ → Type 0
+    abbrev From : List NestedItem → List ℕ → ℕ → Emitted → List ℕ → Type 0
     From kept out to z out′ = EmitsAt (refusalFrom x u lists ps kept) (bytesFrom x u lists ps kept) out to z out′
 
     -- a pass that has written what it met: what is said of the items from here on is said of all
-    pub record Writing (out₀ : List ℕ) (t : Stand) (out : List ℕ) (to : ℕ) : Type 0 where
+    pub record Writing (out₀ : List ℕ) (t : PassPosition) (out : List ℕ) (to : ℕ) : Type 0 where
       pub stack : List ℕ
       pub stood : Stood items parents ends t stack
       pub deep : AllRead x u (keptAt items parents ends marks t stack)
       pub onward : (z : Emitted) (out′ : List ℕ) → From (keptAt items parents ends marks t stack) out to z out′ → Whole out₀ z out′
 
-    module _ (p : Passable x u r s table unit parents ends marks first) (l : r .encoding .«big_endian» ≡ false) where
+    module _ (p : PassInput x u r s table unit parents ends marks first) (l : r .encoding .«big_endian» ≡ false) where
       pub writing-start : first ≡ u .header .first .0 → (out₀ : List ℕ) (n : Nesting) → n ≡ nestingOf [] → Writing out₀ (stand first 0 n) out₀ 0
       unfolding openKept
       writing-start q out₀ n m =
@@ -159,18 +161,18 @@ module _ (r : Reading) (s table unit parents ends marks : List ℕ) (first : ℕ
                 subst (λ (is : List Item). From (keptFrom marks 0 [] is) out₀ 0 z out′) (ap items q ∙ items-are x u r s table unit (p .read) (p .found)) h;
           }
 
-      module _ (out₀ : List ℕ) (t : Stand) (out : List ℕ) (to : ℕ) (g : Writing out₀ t out to) (o : KeptStep) (a : Answers items parents ends marks unit t o) where
+      module _ (out₀ : List ℕ) (t : PassPosition) (out : List ℕ) (to : ℕ) (g : Writing out₀ t out to) (o : KeptStep) (a : Answers items parents ends marks unit t o) where
         pub writing-end : o ≡ End → Whole out₀ (To to) out
         unfolding refusalFrom bytesFrom
         writing-end q =
             let e : keptAt items parents ends marks t (g .stack) ≡ [] = next-end items parents ends marks unit t o a q (g .stack) (p .small) (g .stood) in
-            g .onward (To to) out (subst (λ (kept : List Standing). From kept out to (To to) out) (sym e) (emits-none out to))
+            g .onward (To to) out (subst (λ (kept : List NestedItem). From kept out to (To to) out) (sym e) (emits-none out to))
 
-        module _ (y : Kept) (q : o ≡ Item′ y) where
+        module _ (y : KeptItem) (q : o ≡ Item′ y) where
           next : NextItem items parents ends marks t (g .stack) y
           next = next-item items parents ends marks unit t o a y q (g .stack) (p .small) (g .stood)
 
-          abbrev others : List Standing
+          abbrev others : List NestedItem
           others = keptAt items parents ends marks (y .next) (next .after)
 
           read-here : ReadDeep x u (offsetOf (next .standing .item)) × AllRead x u others
@@ -210,7 +212,7 @@ module _ (r : Reading) (s table unit parents ends marks : List ℕ) (first : ℕ
               let tail : List ℕ = bytesFrom x u lists ps others in
               let little : u .header .encoding .«big_endian» ≡ false = ap (λ (e : Encoding). e .«big_endian») (p .read .encoding-is) ∙ l in
               g .onward z out′
-              (subst (λ (kept : List Standing). From kept out to z out′) (sym (next .whole))
+              (subst (λ (kept : List NestedItem). From kept out to z out′) (sym (next .whole))
               (emits-as
               (ap₂ (λ (d : ℕ) (zs : List Read). orNext lists ps d (readsRefusal lists ps d zs) rest) (next .deep) (sym reads-are))
               (ap₂ (λ (d : ℕ) (zs : List Read). writeAll false (patchAll (newValue lists ps d) zs) ++ tail) (next .deep) (sym reads-are)
@@ -236,7 +238,7 @@ module _ (r : Reading) (s table unit parents ends marks : List ℕ) (first : ℕ
 
           -- an entry
           module _ (i : y .«is_entry» ≡ true) (b : Emitted) (out₁ : List ℕ)
-              (f : (look′ : ℕ → Found) (z : Entry) (rs : List Read) (rest : List ℕ) → stepAt (r .encoding) s look′ unit (y .start .0) ≡ Entry′ z → y .specs ≡ z .declaration .attributes → y .values ≡ z .values
+              (f : (look′ : ℕ → DeclarationFound) (z : Entry) (rs : List Read) (rest : List ℕ) → stepAt (r .encoding) s look′ unit (y .start .0) ≡ Entry′ z → y .specs ≡ z .declaration .attributes → y .values ≡ z .values
               → readIn false (expressionIn (r .encoding)) (entryLayout (r .encoding) s look′) (drop (y .start .0) unit) ≡ some (rs, rest)
               → EmitsAt (readsRefusal lists ps (y .depth) rs) (writeAll false (patchAll (newValue lists ps (y .depth)) rs)) out to b out₁) where
             entry-here : Here b out₁

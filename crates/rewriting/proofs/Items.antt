@@ -8,7 +8,7 @@ use mathlib.Core.Logic.{⊎-elim}
 use lib.ListN.{length}
 use lib.Dec.{ltb, eqb}
 use mir.Facts.{ltb-yes, ltb-no}
-use Rattle.readers.specs.Choice.{pick-either, either}
+use Rattle.readers.proofs.Choice.{pick-either, either}
 use Rattle.readers.specs.Numbers.{uleb}
 use Rattle.readers.specs.Cursors.{lebAt}
 use Rattle.readers.specs.Entries.{valuesAt, stepAt}
@@ -20,8 +20,8 @@ use Rattle.readers.specs.declared.cursor.Number.the-variants.{Value, Unreadable
 use Rattle.readers.specs.declared.cursor.Moved.{Moved}
 use Rattle.readers.specs.declared.cursor.Moved.the-variants.{To, Unreadable as Nowhere}
 use Rattle.readers.specs.declared.abbreviations.Declaration.{Declaration}
-use Rattle.readers.specs.declared.abbreviations.Found.{Found}
-use Rattle.readers.specs.declared.abbreviations.Found.the-variants.{Declaration as Found′, Nothing}
+use Rattle.readers.specs.declared.abbreviations.DeclarationFound.{DeclarationFound}
+use Rattle.readers.specs.declared.abbreviations.DeclarationFound.the-variants.{Declaration as Found′, Nothing}
 use Rattle.readers.specs.declared.entries.Entry.{Entry}
 use Rattle.readers.specs.declared.entries.Step.{Step}
 use Rattle.readers.specs.declared.entries.Step.the-variants.{Entry as Entry′, Terminator, End, Unreadable}
@@ -36,14 +36,14 @@ Within (Terminator c) = Unit {0}
 Within End = ⊥
 Within Unreadable = Unit {0}
 
-module _ (e : Encoding) (abbreviations : List ℕ) (look : ℕ → Found) (unit : List ℕ) where
+module _ (e : Encoding) (abbreviations : List ℕ) (look : ℕ → DeclarationFound) (unit : List ℕ) where
   module _ (at : ℕ) where
     values-within : (values : Cursor) (d : Declaration) (m : Moved) → Within (entryStep e abbreviations look unit at values d m)
     unfolding entryStep Within
     values-within values d (To next) = tt
     values-within values d Nowhere = tt
 
-    found-within : (values : Cursor) (f : Found) → Within (foundStep e abbreviations look unit at values f)
+    found-within : (values : Cursor) (f : DeclarationFound) → Within (foundStep e abbreviations look unit at values f)
     unfolding foundStep Within
     found-within values (Found′ d) = values-within values d (valuesAt e abbreviations (d .attributes .at) unit (values .at))
     found-within values Nothing = tt

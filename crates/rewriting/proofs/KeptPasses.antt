@@ -7,17 +7,17 @@ use lib.ListN.{length}
 use Rattle.readers.specs.Nesting.{nestingOf}
 use Rattle.readers.specs.Stream.{Item, entry, terminator}
 use Rattle.readers.specs.declared.entries.Nesting.{Nesting}
-use Rattle.rewriting.specs.Places.{Standing, offsetOf, sizeOf, sizeFrom}
-use Rattle.rewriting.specs.Parents.{Chained}
-use Rattle.rewriting.specs.NextKept.{openKept, ShowsItem, Forward, Stood, keptAt, NextItem, Next, Answers}
-use Rattle.rewriting.specs.Measures.{ColumnsHeld, keptOfUnit, Measures}
-use Rattle.rewriting.specs.declared.kept.Stand.{Stand}
-use Rattle.rewriting.specs.declared.kept.Kept.{Kept}
+use Rattle.rewriting.specs.Places.{NestedItem, offsetOf, sizeOf, sizeFrom}
+use Rattle.readers.proofs.Nesting.{Chain}
+use Rattle.rewriting.specs.inner.NextKept.{openKept, ShowsItem, Forward, Stood, keptAt, NextItem, Next, Answers}
+use Rattle.rewriting.specs.inner.Measures.{ColumnsHeld, keptOfUnit, Measures}
+use Rattle.rewriting.specs.declared.kept.PassPosition.{PassPosition}
+use Rattle.rewriting.specs.declared.kept.KeptItem.{KeptItem}
 use Rattle.rewriting.specs.declared.kept.KeptStep.{KeptStep}
 use Rattle.rewriting.specs.declared.kept.KeptStep.the-variants.{Item as Item′, End}
 use Rattle.rewriting.proofs.KeptSteps.{stand}
 
-pub shown-size : (x : Kept) (i : Item) → ShowsItem x i → sizeOf i ≡ x .end .at - x .start .0
+pub shown-size : (x : KeptItem) (i : Item) → ShowsItem x i → sizeOf i ≡ x .end .at - x .start .0
 unfolding ShowsItem sizeOf
 shown-size x (entry y) h =
     let a : x .start .0 ≡ y .offset .0 = h .1 in
@@ -28,7 +28,7 @@ shown-size x (terminator a b) h =
     let b : x .end .at ≡ b = h .2 in
     omega arith
 
-pub shown-offset : (x : Kept) (i : Item) → ShowsItem x i → offsetOf i ≡ x .start .0
+pub shown-offset : (x : KeptItem) (i : Item) → ShowsItem x i → offsetOf i ≡ x .start .0
 unfolding ShowsItem offsetOf
 shown-offset x (entry y) h = sym (h .1)
 shown-offset x (terminator a b) h = sym (h .1)
@@ -36,12 +36,12 @@ shown-offset x (terminator a b) h = sym (h .1)
 module _ (items : ℕ → List Item) (parents ends marks unit : List ℕ) where
   -- ---- an answer, by its cases
 
-  module _ (s : Stand) (r : KeptStep) (a : Answers items parents ends marks unit s r) where
-    pub next-forward : (x : Kept) → r ≡ Item′ x → (s .at .at ≤ x .start .0) × (x .start .0 < x .end .at) × (x .end .at ≤ length unit) × (x .next .at .at ≡ x .end .at)
+  module _ (s : PassPosition) (r : KeptStep) (a : Answers items parents ends marks unit s r) where
+    pub next-forward : (x : KeptItem) → r ≡ Item′ x → (s .at .at ≤ x .start .0) × (x .start .0 < x .end .at) × (x .end .at ≤ length unit) × (x .next .at .at ≡ x .end .at)
     unfolding Forward
     next-forward x q = subst (Forward unit (s .at .at)) q (a .forward)
 
-    pub next-item : (x : Kept) → r ≡ Item′ x → (stack : List ℕ) → length unit < 2 ^ 32 → Stood items parents ends s stack → NextItem items parents ends marks s stack x
+    pub next-item : (x : KeptItem) → r ≡ Item′ x → (stack : List ℕ) → length unit < 2 ^ 32 → Stood items parents ends s stack → NextItem items parents ends marks s stack x
     unfolding Next
     next-item x q stack u h = subst (Next items parents ends marks s stack) q (a .next stack u h)
 
@@ -49,7 +49,7 @@ module _ (items : ℕ → List Item) (parents ends marks unit : List ℕ) where
     unfolding Next
     next-end q stack u h = subst (Next items parents ends marks s stack) q (a .next stack u h)
 
-    pub next-less : (x : Kept) → r ≡ Item′ x → length unit - x .next .at .at < length unit - s .at .at
+    pub next-less : (x : KeptItem) → r ≡ Item′ x → length unit - x .next .at .at < length unit - s .at .at
     next-less x q =
         let f = next-forward x q in
         let f0 : s .at .at ≤ x .start .0 = f .0 in
@@ -61,7 +61,7 @@ module _ (items : ℕ → List Item) (parents ends marks unit : List ℕ) where
   -- ---- the start
 
   pub stood-start : (first : ℕ) (n : Nesting) → n ≡ nestingOf [] → ColumnsHeld items parents ends first → Stood items parents ends (stand first 0 n) []
-  unfolding Chained
+  unfolding Chain
   stood-start first n m h =
       record { nested = m; chained = tt; counted = (let z : 0 ≤ 0 = omega arith in z); passed = omega arith; holds = h .0; ends-hold = h .1 }
 
@@ -71,13 +71,13 @@ module _ (items : ℕ → List Item) (parents ends marks unit : List ℕ) where
 
   -- ---- how many there are
 
-  pub record Counted (first : ℕ) (s : Stand) (places bytes : ℕ) : Type 0 where
+  pub record Counted (first : ℕ) (s : PassPosition) (places bytes : ℕ) : Type 0 where
     pub stack : List ℕ
     pub stood : Stood items parents ends s stack
     pub many : length (keptOfUnit items marks first) ≡ places + length (keptAt items parents ends marks s stack)
     pub size : first + sizeFrom (keptOfUnit items marks first) ≡ bytes + sizeFrom (keptAt items parents ends marks s stack)
 
-  pub record Measuring (first : ℕ) (s : Stand) (places bytes : ℕ) : Type 0 where
+  pub record Measuring (first : ℕ) (s : PassPosition) (places bytes : ℕ) : Type 0 where
     pub room : first + places ≤ bytes
     pub passed : bytes ≤ s .at .at
     pub inside : first ≤ length unit → s .at .at ≤ length unit
@@ -95,11 +95,11 @@ module _ (items : ℕ → List Item) (parents ends marks unit : List ℕ) where
               stood = stood-start first n m h;
               many =
                   (let l : length (keptOfUnit items marks first) ≡ length (keptAt items parents ends marks (stand first 0 n) []) = ap length (kept-start first n) in omega arith);
-              size = ap (λ (k : List Standing). first + sizeFrom k) (kept-start first n);
+              size = ap (λ (k : List NestedItem). first + sizeFrom k) (kept-start first n);
             };
       }
 
-  module _ (first : ℕ) (s : Stand) (places bytes : ℕ) (m : Measuring first s places bytes) (r : KeptStep) (a : Answers items parents ends marks unit s r) where
+  module _ (first : ℕ) (s : PassPosition) (places bytes : ℕ) (m : Measuring first s places bytes) (r : KeptStep) (a : Answers items parents ends marks unit s r) where
     pub measuring-end : r ≡ End → Measures items unit parents ends marks first (record { places = places; bytes = bytes })
     unfolding sizeFrom
     measuring-end q =
@@ -114,7 +114,7 @@ module _ (items : ℕ → List Item) (parents ends marks unit : List ℕ) where
               (omega (arith, d .many), omega (arith, d .size));
         }
 
-    module _ (x : Kept) (q : r ≡ Item′ x) where
+    module _ (x : KeptItem) (q : r ≡ Item′ x) where
       pub measuring-fits : (places < x .end .at) × (x .start .0 ≤ x .end .at) × (bytes + (x .end .at - x .start .0) ≤ x .end .at) × (x .end .at ≤ length unit)
       measuring-fits =
           let f = next-forward s r a x q in

@@ -10,7 +10,8 @@ use lib.ListN.{length, getD, List·getD-eq-default}
 use lib.Dec.{eqb, leb}
 use borrow.Author.Tests.{eq-eqb, ne-eqb}
 use mir.Facts.{yes-eqb, no-eqb}
-use Rattle.readers.specs.Choice.{pick, pick-yes, pick-no}
+use Rattle.readers.specs.Choice.{pick}
+use Rattle.readers.proofs.Choice.{pick-yes, pick-no}
 use Rattle.readers.specs.Numbers.{uleb}
 use Rattle.readers.specs.Cursors.{lebAt}
 use Rattle.readers.specs.Abbreviations.{pastAttributes, movedDeclaration, wholeDeclaration, declarationFound, wholeFound}
@@ -29,18 +30,18 @@ use Rattle.readers.specs.declared.cursor.Moved.{Moved}
 use Rattle.readers.specs.declared.cursor.Moved.the-variants.{To, Unreadable as Nowhere}
 use Rattle.readers.specs.declared.abbreviations.Declaration.{Declaration}
 use Rattle.readers.specs.declared.abbreviations.DeclarationStep.the-variants.{Declaration as Declared}
-use Rattle.readers.specs.declared.abbreviations.Found.{Found}
-use Rattle.readers.specs.declared.abbreviations.Found.the-variants.{Declaration as Found′, Nothing}
+use Rattle.readers.specs.declared.abbreviations.DeclarationFound.{DeclarationFound}
+use Rattle.readers.specs.declared.abbreviations.DeclarationFound.the-variants.{Declaration as Found′, Nothing}
 use Rattle.readers.specs.declared.entries.Entry.{Entry}
 use Rattle.readers.specs.declared.entries.Nesting.{Nesting}
 use Rattle.readers.specs.declared.entries.Step.{Step}
 use Rattle.readers.specs.declared.entries.Step.the-variants.{Entry as Entry′, Terminator, End as StepEnd, Unreadable}
 use Rattle.marking.specs.Marks.{isKept}
-use Rattle.rewriting.specs.Places.{Standing, opened, closed, innermost, withIf, keptFrom}
-use Rattle.rewriting.specs.Parents.{parentsFrom, HoldsFrom, Chained}
-use Rattle.rewriting.specs.Ends.{endNumber, EndsHeld}
-use Rattle.rewriting.specs.NextKept.{openKept, closesKept, ShowsItem, Forward, Stood, keptAt, Next, Answers}
-use Rattle.rewriting.specs.declared.kept.Stand.{Stand}
+use Rattle.rewriting.specs.Places.{NestedItem, opened, closed, innermost, withIf, keptFrom}
+use Rattle.rewriting.specs.inner.Parents.{parentsFrom, HoldsFrom}
+use Rattle.rewriting.specs.inner.Ends.{endNumber, EndsHeld}
+use Rattle.rewriting.specs.inner.NextKept.{openKept, closesKept, ShowsItem, Forward, Stood, keptAt, Next, Answers}
+use Rattle.rewriting.specs.declared.kept.PassPosition.{PassPosition}
 use Rattle.rewriting.specs.declared.kept.KeptStep.the-variants.{Item as Item′, End}
 
 -- ---- tests
@@ -89,19 +90,14 @@ open-innermost marks [] = sym (closes-outside marks (nestingOf []) refl)
 open-innermost marks (k ∷ stack) =
     sym (closes-inside marks (nestingOf (k ∷ stack)) _ (λ q. absurd (let z : suc (length stack) ≡ 0 = q in omega arith)) refl)
 
-chain-of : (parents stack : List ℕ) → Chained parents stack → Chain parents stack
-unfolding Chained Chain
-chain-of parents [] h = tt
-chain-of parents (k ∷ stack) h = (h .0, chain-of parents stack (h .1))
-
-chained-open : (parents : List ℕ) (children : Bool) (k : ℕ) (stack : List ℕ) → getD parents k 4294967295 ≡ top stack → Chained parents stack
-    → Chained parents (open′ children k stack)
-unfolding Chained open′
+chained-open : (parents : List ℕ) (children : Bool) (k : ℕ) (stack : List ℕ) → getD parents k 4294967295 ≡ top stack → Chain parents stack
+    → Chain parents (open′ children k stack)
+unfolding Chain open′
 chained-open parents true k stack e h = (e, h)
 chained-open parents false k stack e h = h
 
-chained-close : (parents stack : List ℕ) → Chained parents stack → Chained parents (close stack)
-unfolding Chained close
+chained-close : (parents stack : List ℕ) → Chain parents stack → Chain parents (close stack)
+unfolding Chain close
 chained-close parents [] h = tt
 chained-close parents (k ∷ stack) h = h .1
 
@@ -115,11 +111,11 @@ unfolding close
 length-close [] = omega arith
 length-close (k ∷ stack) = let h : length stack ≤ suc (length stack) = omega arith in h
 
-with-yes : (b : Bool) (x : Standing) (xs : List Standing) → b ≡ true → withIf b x xs ≡ x ∷ xs
+with-yes : (b : Bool) (x : NestedItem) (xs : List NestedItem) → b ≡ true → withIf b x xs ≡ x ∷ xs
 unfolding withIf
 with-yes b x xs e = ap (λ (b : Bool). withIf b x xs) e
 
-with-no : (b : Bool) (x : Standing) (xs : List Standing) → b ≡ false → withIf b x xs ≡ xs
+with-no : (b : Bool) (x : NestedItem) (xs : List NestedItem) → b ≡ false → withIf b x xs ≡ xs
 unfolding withIf
 with-no b x xs e = ap (λ (b : Bool). withIf b x xs) e
 
@@ -146,10 +142,10 @@ whole-same s d d′ q = of (pastAttributes s (d .attributes .at)) q
 
 -- ---- one step
 
-abbrev pub stand : ℕ → ℕ → Nesting → Stand
+abbrev pub stand : ℕ → ℕ → Nesting → PassPosition
 stand at count n = record { at = record { at = at }; count = record { 0 = count }; nesting = n }
 
-module _ (e : Encoding) (abbreviations : List ℕ) (look : ℕ → Found) (unit : List ℕ) where
+module _ (e : Encoding) (abbreviations : List ℕ) (look : ℕ → DeclarationFound) (unit : List ℕ) where
   abbrev pub items : ℕ → List Item
   items at = itemsFrom e abbreviations look unit at .0
 
@@ -190,7 +186,7 @@ module _ (e : Encoding) (abbreviations : List ℕ) (look : ℕ → Found) (unit 
     coded-values d k (To next) q = inl (record { of = record { offset = record { 0 = at }; declaration = d; values = values; next = next }; is = q; from = refl; declared = k })
     coded-values d k Nowhere q = inr q
 
-    coded-found : (f : Found) → look code ≡ f → stepAt e abbreviations look unit at ≡ foundStep e abbreviations look unit at values f → Coded
+    coded-found : (f : DeclarationFound) → look code ≡ f → stepAt e abbreviations look unit at ≡ foundStep e abbreviations look unit at values f → Coded
     unfolding foundStep
     coded-found (Found′ d) k q = coded-values d k (valuesAt e abbreviations (d .attributes .at) unit (values .at)) q
     coded-found Nothing k q = inr q
@@ -204,7 +200,7 @@ module _ (e : Encoding) (abbreviations : List ℕ) (look : ℕ → Found) (unit 
   module _ (parents ends marks : List ℕ) where
     -- ---- after an entry
 
-    entry-holds : (t : Stand) (stack : List ℕ) (x : Entry) → stepAt e abbreviations look unit (t .at .at) ≡ Entry′ x → Stood items parents ends t stack
+    entry-holds : (t : PassPosition) (stack : List ℕ) (x : Entry) → stepAt e abbreviations look unit (t .at .at) ≡ Entry′ x → Stood items parents ends t stack
         → (getD parents (t .count .0) 4294967295 ≡ top stack)
         × HoldsFrom parents (t .count .0 + 1) (parentsFrom (t .count .0 + 1) (open′ (x .declaration .children) (t .count .0) stack) (items (x .next .at)))
     unfolding parentsFrom HoldsFrom
@@ -216,12 +212,12 @@ module _ (e : Encoding) (abbreviations : List ℕ) (look : ℕ → Found) (unit 
               (sym (add-one (t .count .0))) (h .1),
         )
 
-    entry-ends : (t : Stand) (x : Entry) → stepAt e abbreviations look unit (t .at .at) ≡ Entry′ x → EndsHeld ends (t .count .0) (items (t .at .at))
+    entry-ends : (t : PassPosition) (x : Entry) → stepAt e abbreviations look unit (t .at .at) ≡ Entry′ x → EndsHeld ends (t .count .0) (items (t .at .at))
         → (getD ends (t .count .0) 0 ≡ endNumber (x .next .at) (x .declaration .children)) × EndsHeld ends (suc (t .count .0)) (items (x .next .at))
     unfolding EndsHeld
     entry-ends t x q h = subst (EndsHeld ends (t .count .0)) (items-entry (t .at .at) x q) h
 
-    entry-stood : (t : Stand) (stack : List ℕ) (x : Entry) (n : Nesting) → stepAt e abbreviations look unit (t .at .at) ≡ Entry′ x
+    entry-stood : (t : PassPosition) (stack : List ℕ) (x : Entry) (n : Nesting) → stepAt e abbreviations look unit (t .at .at) ≡ Entry′ x
         → n ≡ openedBy (x .declaration .children) (t .count .0) (t .nesting) → length unit < 2 ^ 32 → Stood items parents ends t stack
         → Stood items parents ends (stand (x .next .at) (t .count .0 + 1) n) (open′ (x .declaration .children) (t .count .0) stack)
     entry-stood t stack x n q m u s =
@@ -237,7 +233,7 @@ module _ (e : Encoding) (abbreviations : List ℕ) (look : ℕ → Found) (unit 
           ends-hold = subst (λ (k : ℕ). EndsHeld ends k (items (x .next .at))) (sym (add-one (t .count .0))) (entry-ends t x q (s .ends-hold) .1);
         }
 
-    entry-kept : (t : Stand) (stack : List ℕ) (x : Entry) → stepAt e abbreviations look unit (t .at .at) ≡ Entry′ x
+    entry-kept : (t : PassPosition) (stack : List ℕ) (x : Entry) → stepAt e abbreviations look unit (t .at .at) ≡ Entry′ x
         → keptAt items parents ends marks t stack
         ≡ withIf (isKept marks (t .count .0)) (record { item = entry x; depth = length stack })
         (keptFrom marks (t .count .0 + 1) (openKept marks (open′ (x .declaration .children) (t .count .0) stack)) (items (x .next .at)))
@@ -251,17 +247,17 @@ module _ (e : Encoding) (abbreviations : List ℕ) (look : ℕ → Found) (unit 
 
     -- ---- after a terminator
 
-    terminator-ends : (t : Stand) (c : Cursor) → stepAt e abbreviations look unit (t .at .at) ≡ Terminator c → EndsHeld ends (t .count .0) (items (t .at .at)) → EndsHeld ends (t .count .0) (items (c .at))
+    terminator-ends : (t : PassPosition) (c : Cursor) → stepAt e abbreviations look unit (t .at .at) ≡ Terminator c → EndsHeld ends (t .count .0) (items (t .at .at)) → EndsHeld ends (t .count .0) (items (c .at))
     unfolding EndsHeld
     terminator-ends t c q h = subst (EndsHeld ends (t .count .0)) (items-terminator (t .at .at) c q) h
 
-    terminator-stood : (t : Stand) (stack : List ℕ) (c : Cursor) (n : Nesting) → stepAt e abbreviations look unit (t .at .at) ≡ Terminator c
+    terminator-stood : (t : PassPosition) (stack : List ℕ) (c : Cursor) (n : Nesting) → stepAt e abbreviations look unit (t .at .at) ≡ Terminator c
         → n ≡ closedBy parents (t .nesting) → Stood items parents ends t stack → Stood items parents ends (stand (c .at) (t .count .0) n) (close stack)
     unfolding parentsFrom
     terminator-stood t stack c n q m s =
         let i = terminator-inside e abbreviations look unit (t .at .at) c q in
         record {
-          nested = m ∙ ap (closedBy parents) (s .nested) ∙ closed-is parents stack (chain-of parents stack (s .chained));
+          nested = m ∙ ap (closedBy parents) (s .nested) ∙ closed-is parents stack (s .chained);
           chained = chained-close parents stack (s .chained);
           counted = omega (arith, length-close stack, s .counted);
           passed = omega (arith, s .passed, i .0);
@@ -269,7 +265,7 @@ module _ (e : Encoding) (abbreviations : List ℕ) (look : ℕ → Found) (unit 
           ends-hold = terminator-ends t c q (s .ends-hold);
         }
 
-    terminator-kept : (t : Stand) (stack : List ℕ) (c : Cursor) → stepAt e abbreviations look unit (t .at .at) ≡ Terminator c → t .nesting ≡ nestingOf stack
+    terminator-kept : (t : PassPosition) (stack : List ℕ) (c : Cursor) → stepAt e abbreviations look unit (t .at .at) ≡ Terminator c → t .nesting ≡ nestingOf stack
         → keptAt items parents ends marks t stack
         ≡ withIf (closesKept marks (t .nesting)) (record { item = terminator (t .at .at) (c .at); depth = length stack })
         (keptFrom marks (t .count .0) (openKept marks (close stack)) (items (c .at)))
@@ -283,22 +279,22 @@ module _ (e : Encoding) (abbreviations : List ℕ) (look : ℕ → Found) (unit 
 
     -- ---- the loop: what is kept from the start on is what is kept from here on
 
-    pub record Walked (s : Stand) (stack : List ℕ) (t : Stand) : Type 0 where
+    pub record Walked (s : PassPosition) (stack : List ℕ) (t : PassPosition) : Type 0 where
       pub now : List ℕ
       pub stood : Stood items parents ends t now
       pub same : keptAt items parents ends marks s stack ≡ keptAt items parents ends marks t now
 
-    abbrev pub Walking : Stand → Stand → Type 0
+    abbrev pub Walking : PassPosition → PassPosition → Type 0
     Walking s t = (s .at .at ≤ t .at .at) × ((stack : List ℕ) → length unit < 2 ^ 32 → Stood items parents ends s stack → Walked s stack t)
 
-    pub walking-start : (s : Stand) → Walking s s
+    pub walking-start : (s : PassPosition) → Walking s s
     walking-start s = (omega arith, λ stack u h. record { now = stack; stood = h; same = refl })
 
-    depth-of : (t : Stand) (stack : List ℕ) → t .nesting ≡ nestingOf stack → t .nesting .depth ≡ length stack
+    depth-of : (t : PassPosition) (stack : List ℕ) → t .nesting ≡ nestingOf stack → t .nesting .depth ≡ length stack
     unfolding nestingOf
     depth-of t stack m = ap (λ (n : Nesting). n .depth) m
 
-    module _ (s t : Stand) (w : Walking s t) where
+    module _ (s t : PassPosition) (w : Walking s t) where
       pub end-end : stepAt e abbreviations look unit (t .at .at) ≡ StepEnd → Answers items parents ends marks unit s End
       unfolding Forward Next keptFrom
       end-end q =
@@ -427,7 +423,7 @@ module _ (e : Encoding) (abbreviations : List ℕ) (look : ℕ → Found) (unit 
           past-code = uleb-inside unit (t .at .at) code values (sym p ∙ q)
 
           module _ (z : code ≡ 0 → ⊥) where
-            pub stop-unknown : (f : Found) → wholeFound abbreviations f ≡ look code → f ≡ Nothing → Answers items parents ends marks unit s End
+            pub stop-unknown : (f : DeclarationFound) → wholeFound abbreviations f ≡ look code → f ≡ Nothing → Answers items parents ends marks unit s End
             stop-unknown f k l = end-bad (sym (step-unknown e abbreviations look unit (t .at .at) h b p code values q z f k l))
 
             stop-unless : ((x : CodedEntry (t .at .at) code values) (stack : List ℕ) → Stood items parents ends t stack → length unit < 2 ^ 32 → ⊥) → Answers items parents ends marks unit s End
@@ -488,7 +484,7 @@ module _ (e : Encoding) (abbreviations : List ℕ) (look : ℕ → Found) (unit 
                         (entry-on (x .of) (x .is) m (o ∙ ap (λ (c : Bool). openedBy c (t .count .0) (t .nesting)) (opens x (v .now) (v .stood))) k .1 stack u g),
                   )
 
-                  pub ends-item : (f : Found) → wholeFound abbreviations f ≡ look code → (d : Declaration) → f ≡ Found′ d → isKept marks (t .count .0) ≡ true
+                  pub ends-item : (f : DeclarationFound) → wholeFound abbreviations f ≡ look code → (d : Declaration) → f ≡ Found′ d → isKept marks (t .count .0) ≡ true
                       → Answers items parents ends marks unit s (Item′ (record {
                         start = record { 0 = t .at .at };
                         end = record { at = n / 2 };

@@ -8,37 +8,40 @@ use mathlib.Core.Option.{Option, none, some}
 use mathlib.Core.Logic.{⊎-elim}
 use lib.ListN.{length}
 use lib.Dec.{T, ltb, leb}
-use mir.Facts.{ltb-yes, ltb-no, yes-ltb, no-ltb, leb-yes, leb-no}
-use Rattle.readers.specs.Choice.{pick, either, _or_, zeros}
+use mir.Facts.{ltb-yes, ltb-no, leb-yes, leb-no}
+use borrow.Author.Tests.{lt-ltb, le-ltb}
+use Rattle.readers.specs.Choice.{pick, _or_, zeros}
+use Rattle.readers.proofs.Choice.{either}
 use Rattle.readers.specs.Abbreviations.{declaredIn, findAt}
 use Rattle.readers.specs.Stream.{Item, Items, itemsFrom}
 use Rattle.readers.proofs.Streams.{items-look}
 use Rattle.readers.specs.declared.cursor.Encoding.{Encoding}
 use Rattle.marking.specs.Analysis.{Sections}
-use Rattle.rewriting.specs.Places.{Standing, keptFrom}
-use Rattle.rewriting.specs.Parents.{parentsFrom, HoldsFrom}
-use Rattle.rewriting.specs.Ends.{EndsHeld}
-use Rattle.rewriting.specs.Indices.{countOf}
+use Rattle.rewriting.specs.Places.{NestedItem, keptFrom}
+use Rattle.rewriting.specs.inner.Parents.{parentsFrom, HoldsFrom}
+use Rattle.rewriting.specs.inner.Ends.{EndsHeld}
+use Rattle.rewriting.specs.Indices.{countOf, isShort}
 use Rattle.rewriting.specs.Rewriting.{Unit as Unit′, itemsIn, listOf, listsOf}
-use Rattle.rewriting.specs.NextKept.{itemsBy}
-use Rattle.rewriting.specs.Written.{runBytes, ListHeld}
-use Rattle.rewriting.specs.IndexLists.{Filled, ReadAs, Found, AllRead, Passable, isAbsent, ListAnswer, isShort}
+use Rattle.rewriting.specs.inner.NextKept.{itemsBy}
+use Rattle.rewriting.specs.Written.{runBytes}
+use Rattle.rewriting.specs.inner.Written.{ListHeld}
+use Rattle.rewriting.specs.inner.Gathering.{Filled}
+use Rattle.rewriting.specs.inner.IndexLists.{ReadAs, TablesFound, AllRead, PassInput, isAbsent, ListAnswer}
 use Rattle.rewriting.specs.declared.kept.Reading.{Reading}
 use Rattle.rewriting.specs.declared.lists.ListCount.{ListCount}
 use Rattle.rewriting.specs.declared.lists.ListCount.the-variants.{Present, Absent}
-use Rattle.rewriting.proofs.ItemsStand.{Every}
-use Rattle.rewriting.proofs.Rereading.{Readable}
+use Rattle.rewriting.proofs.ItemsStand.{Every, Readable}
 use Rattle.rewriting.proofs.IndexTurns.{absent-plain, absent-named}
 
 -- ---- a unit as the code reads it
 
 module _ (x : Sections) (u : Unit′) where
-  pub all-read : (kept : List Standing) → Every (Readable x u) kept → AllRead x u kept
+  pub all-read : (kept : List NestedItem) → Every (Readable x u) kept → AllRead x u kept
   unfolding Every AllRead
   all-read [] h = tt
   all-read (s ∷ kept) h = (record { run = h .0 .run; is = h .0 .is }, all-read kept (h .1))
 
-  module _ (r : Reading) (s table unit : List ℕ) (w : ReadAs x u r s unit) (f : Found u r s table) where
+  module _ (r : Reading) (s table unit : List ℕ) (w : ReadAs x u r s unit) (f : TablesFound u r s table) where
     -- its items
     pub items-are : itemsBy r s table unit (u .header .first .0) ≡ itemsIn x u
     unfolding itemsIn
@@ -51,7 +54,7 @@ module _ (x : Sections) (u : Unit′) where
 
     -- what a pass asks for, of the unit's own items
     pub passable : (parents ends marks : List ℕ) → length unit < 2 ^ 32 → HoldsFrom parents 0 (parentsFrom 0 [] (itemsIn x u)) → EndsHeld ends 0 (itemsIn x u)
-        → Every (Readable x u) (keptFrom marks 0 [] (itemsIn x u)) → Passable x u r s table unit parents ends marks (u .header .first .0)
+        → Every (Readable x u) (keptFrom marks 0 [] (itemsIn x u)) → PassInput x u r s table unit parents ends marks (u .header .first .0)
     passable parents ends marks l h k d =
         record {
           small = l;
@@ -64,7 +67,7 @@ module _ (x : Sections) (u : Unit′) where
 
   -- ---- its lists: DW_AT_ranges 0x55, DW_AT_location 0x02, and no name for the strings
 
-  module _ (t : Bool) (kept : List Standing) (h : t ≡ false) where
+  module _ (t : Bool) (kept : List NestedItem) (h : t ≡ false) where
     unless : (b : Bool) → b ≡ t or b
     unfolding _or_
     unless b = sym (ap (λ (t : Bool). t or b) h)
@@ -82,7 +85,7 @@ module _ (x : Sections) (u : Unit′) where
     strings-are = ap (λ (b : Bool). listOf x u b 2 kept) (absent-plain x u 0 (itemsIn x u) refl ∙ sym h)
 
   -- with type units
-  module _ (t : Bool) (kept : List Standing) (h : t ≡ true) where
+  module _ (t : Bool) (kept : List NestedItem) (h : t ≡ true) where
     pub no-ranges : listsOf x u t kept .ranges ≡ none
     unfolding listsOf listOf pick _or_
     no-ranges = ap (λ (t : Bool). listsOf x u t kept .ranges) h
@@ -97,22 +100,14 @@ module _ (x : Sections) (u : Unit′) where
 
 -- ---- whether a list is too short, and what it holds where it is not
 
-is-yes : (b : Bool) → T b → b ≡ true
-is-yes true h = refl
-is-yes false h = absurd h
-
-is-no : (b : Bool) → T (not b) → b ≡ false
-is-no true h = absurd h
-is-no false h = refl
-
 same-test : (a b c d : ℕ) → (a < b → c < d) → (c < d → a < b) → ltb a b ≡ ltb c d
 same-test a b c d f g =
-    ⊎-elim (λ t. is-yes (ltb a b) t ∙ sym (is-yes (ltb c d) (yes-ltb {a = c} {b = d} (f (ltb-yes {a = a} {b = b} t)))))
-    (λ t. is-no (ltb a b) t ∙ sym (is-no (ltb c d) (no-ltb {a = c} {b = d} (below t))))
+    ⊎-elim (λ t. let h : a < b = ltb-yes t in lt-ltb a b h ∙ sym (lt-ltb c d (f h)))
+    (λ t. let h : b ≤ a = ltb-no {a = a} {b = b} t in le-ltb a b h ∙ sym (le-ltb c d (below h)))
     (either (ltb a b))
   where
-    below : T (not (ltb a b)) → d ≤ c
-    below t = ⊎-elim (λ (v : T (ltb c d)). absurd (let z : a < b = g (ltb-yes {a = c} {b = d} v) in omega (arith, ltb-no {a = a} {b = b} t))) (λ (v : T (not (ltb c d))). ltb-no {a = c} {b = d} v) (either (ltb c d))
+    below : b ≤ a → d ≤ c
+    below h = ⊎-elim (λ (v : T (ltb c d)). absurd (let z : a < b = g (ltb-yes v) in omega arith)) (λ (v : T (not (ltb c d))). ltb-no {a = c} {b = d} v) (either (ltb c d))
 
 filled-short : (ys list : List ℕ) (n : ℕ) (after : List ℕ) → Filled ys list n after → ltb (length list / 8) n ≡ ltb (length list / 8) (length ys)
 filled-short ys list n after f =
@@ -125,7 +120,7 @@ filled-short ys list n after f =
 pub answer-short : (o : Option (List ℕ)) (list : List ℕ) (c : ListCount) (after : List ℕ) → ListAnswer o list c after
     → isShort c (length list / 8) ≡ ltb (length list / 8) (countOf o)
 unfolding ListAnswer isShort countOf
-answer-short none list Absent after h = sym (is-no (ltb (length list / 8) 0) (no-ltb {a = length list / 8} {b = 0} (omega arith)))
+answer-short none list Absent after h = sym (le-ltb (length list / 8) 0 (omega arith))
 answer-short none list (Present n) after h = absurd h
 answer-short (some ys) list Absent after h = absurd h
 answer-short (some ys) list (Present n) after h = filled-short ys list n after h

@@ -8,19 +8,20 @@ use mathlib.Core.Option.{Option, none, some}
 use lib.ListN.{length}
 use lib.Dec.{ltb, leb}
 use borrow.Author.Tests.{ltb-true, ltb-false, leb-true, le-leb, lt-leb}
-use Rattle.readers.specs.Choice.{pick, _and_, zeros}
+use Rattle.readers.specs.Choice.{_and_, zeros}
 use Rattle.readers.specs.Stream.{Item}
 use Rattle.marking.specs.Analysis.{Sections}
 use Rattle.marking.specs.Columns.{padTo}
 use Rattle.rewriting.specs.Places.{keptFrom}
-use Rattle.rewriting.specs.Indices.{countOf}
+use Rattle.rewriting.specs.Indices.{countOf, isShort}
 use Rattle.rewriting.specs.Rewriting.{Unit as Unit′, Lists, itemsIn, listOf, listsOf}
-use Rattle.rewriting.specs.NextKept.{itemsBy}
-use Rattle.rewriting.specs.Written.{runBytes, ListHeld}
-use Rattle.rewriting.specs.IndexLists.{Filled, ReadAs, Found, Passable, Listing, isAbsent, ListAnswer, isShort}
-use Rattle.rewriting.specs.Emission.{Lent, Lends}
+use Rattle.rewriting.specs.inner.NextKept.{itemsBy}
+use Rattle.rewriting.specs.Written.{runBytes}
+use Rattle.rewriting.specs.inner.Written.{ListHeld}
+use Rattle.rewriting.specs.inner.IndexLists.{PassInput, Listing, isAbsent, ListAnswer, Settles}
+use Rattle.rewriting.specs.inner.Emission.{Lent}
 use Rattle.rewriting.specs.Outputs.{listCount, listOr, rangesIn, locationsIn, stringsIn}
-use Rattle.rewriting.specs.Leaving.{haveRoom, ListsAnswer}
+use Rattle.rewriting.specs.inner.Leaving.{haveRoom, ListsAnswer}
 use Rattle.rewriting.specs.declared.kept.Reading.{Reading}
 use Rattle.rewriting.specs.declared.lists.ListCount.{ListCount}
 use Rattle.rewriting.specs.declared.lists.ListCount.the-variants.{Absent}
@@ -85,12 +86,12 @@ module _ (t : Bool) (r : Reading) (s table unit parents ends marks : List ℕ) (
   abbrev items : List Item
   items = itemsBy r s table unit first
 
-  pub items-here : (x : Sections) (u : Unit′) → Passable x u r s table unit parents ends marks first → first ≡ u .header .first .0 → items ≡ itemsIn x u
+  pub items-here : (x : Sections) (u : Unit′) → PassInput x u r s table unit parents ends marks first → first ≡ u .header .first .0 → items ≡ itemsIn x u
   items-here x u p f = ap (λ (n : ℕ). itemsBy r s table unit n) f ∙ items-are x u r s table unit (p .read) (p .found)
 
   -- what is known of one
   abbrev Answered : (Lists → Option (List ℕ)) → List ℕ → ListCount → List ℕ → Type 0
-  Answered field list c after = (x : Sections) (u : Unit′) → Passable x u r s table unit parents ends marks first → first ≡ u .header .first .0
+  Answered field list c after = (x : Sections) (u : Unit′) → PassInput x u r s table unit parents ends marks first → first ≡ u .header .first .0
       → list ≡ zeros (length list) → ListAnswer (field (listsOf x u t (keptFrom marks 0 [] (itemsIn x u)))) list c after
 
   -- it is absent with type units
@@ -110,29 +111,25 @@ module _ (t : Bool) (r : Reading) (s table unit parents ends marks : List ℕ) (
 
   -- it was gathered and settled
   module _ (h : t ≡ false) (list : List ℕ) (n : ℕ) (mid : List ℕ) (l : length mid ≡ length list) (c : ListCount) (after : List ℕ) where
-    abbrev Settled : ℕ → Type 0
-    Settled name = (x : Sections) (u : Unit′) (ys list₀ : List ℕ) → ReadAs x u r s unit → Found u r s table → list₀ ≡ zeros (length mid) → Filled ys list₀ n mid
-        → ListAnswer (pick (isAbsent x u name items) none (some ys)) list₀ c after
-
-    settled : (k name : ℕ) → Listing k r s table unit parents ends marks first list n mid → Settled name
-        → (x : Sections) (u : Unit′) → Passable x u r s table unit parents ends marks first → first ≡ u .header .first .0 → list ≡ zeros (length list)
+    settled : (k name : ℕ) → Listing k r s table unit parents ends marks first list n mid → Settles r s table unit first name n mid c after
+        → (x : Sections) (u : Unit′) → PassInput x u r s table unit parents ends marks first → first ≡ u .header .first .0 → list ≡ zeros (length list)
         → ListAnswer (listOf x u (isAbsent x u name (itemsIn x u)) k (keptFrom marks 0 [] (itemsIn x u))) list c after
     unfolding listOf
     settled k name g s x u p f z =
         subst (λ (is : List Item). ListAnswer (listOf x u (isAbsent x u name is) k (keptFrom marks 0 [] is)) list c after) (items-here x u p f)
         (s x u _ list (p .read) (p .found) (z ∙ ap zeros (sym l)) (g x u p (subst (ListHeld []) (sym z) (list-none (length list)))))
 
-    pub settled-ranges : Listing 0 r s table unit parents ends marks first list n mid → Settled 0x55 → Answered rangesIn list c after
+    pub settled-ranges : Listing 0 r s table unit parents ends marks first list n mid → Settles r s table unit first 0x55 n mid c after → Answered rangesIn list c after
     settled-ranges g s x u p f z = subst (λ (o : Option (List ℕ)). ListAnswer o list c after) (ranges-are x u t _ h) (settled 0 0x55 g s x u p f z)
 
-    pub settled-locations : Listing 1 r s table unit parents ends marks first list n mid → Settled 0x02 → Answered locationsIn list c after
+    pub settled-locations : Listing 1 r s table unit parents ends marks first list n mid → Settles r s table unit first 0x02 n mid c after → Answered locationsIn list c after
     settled-locations g s x u p f z = subst (λ (o : Option (List ℕ)). ListAnswer o list c after) (locations-are x u t _ h) (settled 1 0x02 g s x u p f z)
 
-    pub settled-strings : Listing 2 r s table unit parents ends marks first list n mid → Settled 0 → Answered stringsIn list c after
+    pub settled-strings : Listing 2 r s table unit parents ends marks first list n mid → Settles r s table unit first 0 n mid c after → Answered stringsIn list c after
     settled-strings g s x u p f z = subst (λ (o : Option (List ℕ)). ListAnswer o list c after) (strings-are x u t _ h) (settled 2 0 g s x u p f z)
 
   abbrev Wanted : List ℕ → List ℕ → List ℕ → Listed → List ℕ → List ℕ → List ℕ → Type 0
-  Wanted ranges locations strings c ranges′ locations′ strings′ = (x : Sections) (u : Unit′) → Passable x u r s table unit parents ends marks first → first ≡ u .header .first .0
+  Wanted ranges locations strings c ranges′ locations′ strings′ = (x : Sections) (u : Unit′) → PassInput x u r s table unit parents ends marks first → first ≡ u .header .first .0
       → ranges ≡ zeros (length ranges) → locations ≡ zeros (length locations) → strings ≡ zeros (length strings)
       → ListsAnswer (listsOf x u t (keptFrom marks 0 [] (itemsIn x u))) (length ranges) (length locations) (length strings) c ranges′ locations′ strings′
 

@@ -8,13 +8,14 @@ use Rattle.readers.specs.Choice.{zeros}
 use Rattle.readers.specs.Nesting.{nestingOf}
 use Rattle.readers.specs.Stream.{Item}
 use Rattle.readers.specs.declared.entries.Nesting.{Nesting}
-use Rattle.rewriting.specs.Places.{Standing, Place, sizeOf, placesFrom}
-use Rattle.rewriting.specs.Written.{runBytes, Held, columns, mapBytes, place, withPlace}
-use Rattle.rewriting.specs.NextKept.{Stood, keptAt, Answers}
-use Rattle.rewriting.specs.Measures.{ColumnsHeld, keptOfUnit}
-use Rattle.rewriting.specs.MapFilled.{Fills}
-use Rattle.rewriting.specs.declared.kept.Stand.{Stand}
-use Rattle.rewriting.specs.declared.kept.Kept.{Kept}
+use Rattle.rewriting.specs.Places.{NestedItem, Place, sizeOf, placesFrom}
+use Rattle.rewriting.specs.Written.{runBytes, columns, mapBytes}
+use Rattle.rewriting.specs.inner.Written.{NumbersHeld, place, withPlace}
+use Rattle.rewriting.specs.inner.NextKept.{Stood, keptAt, Answers}
+use Rattle.rewriting.specs.inner.Measures.{ColumnsHeld, keptOfUnit}
+use Rattle.rewriting.specs.inner.MapFilled.{Fills}
+use Rattle.rewriting.specs.declared.kept.PassPosition.{PassPosition}
+use Rattle.rewriting.specs.declared.kept.KeptItem.{KeptItem}
 use Rattle.rewriting.specs.declared.kept.KeptStep.{KeptStep}
 use Rattle.rewriting.specs.declared.kept.KeptStep.the-variants.{Item as Item′, End}
 use Rattle.marking.proofs.Members.{nothing-in}
@@ -28,12 +29,12 @@ unfolding columns
 length-columns [] = refl
 length-columns (p ∷ ps) = let h : length (columns ps) ≡ 3 * length ps = length-columns ps in let g : suc (suc (suc (length (columns ps)))) ≡ 3 * suc (length ps) = omega arith in g
 
-pub length-places : (n : ℕ) (kept : List Standing) → length (placesFrom n kept) ≡ length kept
+pub length-places : (n : ℕ) (kept : List NestedItem) → length (placesFrom n kept) ≡ length kept
 unfolding placesFrom
 length-places n [] = refl
 length-places n (s ∷ kept) = ap suc (length-places (n + sizeOf (s .item)) kept)
 
-held-none : (bytes : List ℕ) → bytes ≡ zeros (length bytes) → Held 4 (columns []) bytes
+held-none : (bytes : List ℕ) → bytes ≡ zeros (length bytes) → NumbersHeld 4 (columns []) bytes
 unfolding columns runBytes
 held-none bytes h =
     record {
@@ -42,7 +43,7 @@ held-none bytes h =
       small = λ v m. absurd (nothing-in v m);
     }
 
-held-bytes : (ps : List Place) (n : ℕ) (bytes : List ℕ) → Held 4 (columns ps) bytes → length ps ≡ n → bytes ≡ mapBytes ps ++ zeros (length bytes - 12 * n)
+held-bytes : (ps : List Place) (n : ℕ) (bytes : List ℕ) → NumbersHeld 4 (columns ps) bytes → length ps ≡ n → bytes ≡ mapBytes ps ++ zeros (length bytes - 12 * n)
 unfolding mapBytes
 held-bytes ps n bytes h l =
     let c : length (columns ps) ≡ 3 * length ps = length-columns ps in
@@ -53,21 +54,21 @@ held-bytes ps n bytes h l =
 -- what a place more does to a map
 abbrev pub Puts : List ℕ → ℕ → ℕ → ℕ → ℕ → List ℕ → Type 0
 Puts map i old new depth map′ =
-    (ps : List Place) → Held 4 (columns ps) map → i ≡ length ps → i < length map / 12 → old < 4294967296 → new < 4294967296 → depth < 4294967296
-    → Held 4 (columns (withPlace ps (place old new depth))) map′
+    (ps : List Place) → NumbersHeld 4 (columns ps) map → i ≡ length ps → i < length map / 12 → old < 4294967296 → new < 4294967296 → depth < 4294967296
+    → NumbersHeld 4 (columns (withPlace ps (place old new depth))) map′
 
 module _ (items : ℕ → List Item) (parents ends marks unit : List ℕ) (first : ℕ) (map₀ : List ℕ) where
-  pub record Filled (map : List ℕ) (s : Stand) (i new : ℕ) : Type 0 where
+  pub record Filled (map : List ℕ) (s : PassPosition) (i new : ℕ) : Type 0 where
     pub stack : List ℕ
     pub stood : Stood items parents ends s stack
     pub done : List Place
-    pub held : Held 4 (columns done) map
+    pub held : NumbersHeld 4 (columns done) map
     pub counted : i ≡ length done
     pub many : length (keptOfUnit items marks first) ≡ i + length (keptAt items parents ends marks s stack)
     pub whole : placesFrom first (keptOfUnit items marks first) ≡ done ++ placesFrom new (keptAt items parents ends marks s stack)
 
   -- measured up to here, and filled so far
-  pub record Placing (map : List ℕ) (s : Stand) (i new : ℕ) : Type 0 where
+  pub record Placing (map : List ℕ) (s : PassPosition) (i new : ℕ) : Type 0 where
     pub measuring : Measuring items parents ends marks unit first s i new
     pub same : length map ≡ length map₀
     pub filled : length unit < 2 ^ 32 → ColumnsHeld items parents ends first → 12 * length (keptOfUnit items marks first) ≤ length map₀ → map₀ ≡ zeros (length map₀)
@@ -92,19 +93,19 @@ module _ (items : ℕ → List Item) (parents ends marks unit : List ℕ) (first
             };
       }
 
-  module _ (map : List ℕ) (s : Stand) (i new : ℕ) (f : Placing map s i new) where
+  module _ (map : List ℕ) (s : PassPosition) (i new : ℕ) (f : Placing map s i new) where
     pub placing-size : length map ≡ length map₀
     placing-size = f .same
 
     module _ (r : KeptStep) (a : Answers items parents ends marks unit s r) where
       end-held : r ≡ End → length unit < 2 ^ 32 → ColumnsHeld items parents ends first → 12 * length (keptOfUnit items marks first) ≤ length map₀ → map₀ ≡ zeros (length map₀)
-          → Held 4 (columns (placesFrom first (keptOfUnit items marks first))) map
+          → NumbersHeld 4 (columns (placesFrom first (keptOfUnit items marks first))) map
       unfolding placesFrom
       end-held q u h m z =
           let d = f .filled u h m z in
           let e : keptAt items parents ends marks s (d .stack) ≡ [] = next-end items parents ends marks unit s r a q (d .stack) u (d .stood) in
-          subst (λ (ps : List Place). Held 4 (columns ps) map)
-          (sym (d .whole ∙ ap (λ (k : List Standing). d .done ++ placesFrom new k) e ∙ append-nil (d .done)))
+          subst (λ (ps : List Place). NumbersHeld 4 (columns ps) map)
+          (sym (d .whole ∙ ap (λ (k : List NestedItem). d .done ++ placesFrom new k) e ∙ append-nil (d .done)))
           (d .held)
 
       pub placing-end : r ≡ End → Fills items unit parents ends marks first map₀ map
@@ -116,7 +117,7 @@ module _ (items : ℕ → List Item) (parents ends marks unit : List ℕ) (first
                 ∙ ap (λ (n : ℕ). mapBytes (placesFrom first (keptOfUnit items marks first)) ++ zeros (n - 12 * length (keptOfUnit items marks first))) (f .same);
           }
 
-      module _ (x : Kept) (q : r ≡ Item′ x) where
+      module _ (x : KeptItem) (q : r ≡ Item′ x) where
         pub placing-more : (map′ : List ℕ) → length map′ ≡ length map → Puts map i (x .start .0) new (x .depth) map′ → Placing map′ (x .next) (i + 1) (new + (x .end .at - x .start .0))
         unfolding placesFrom
         placing-more map′ l p =
@@ -142,7 +143,7 @@ module _ (items : ℕ → List Item) (parents ends marks unit : List ℕ) (first
                     many = omega (arith, d .many);
                     whole =
                         d .whole
-                        ∙ ap (λ (k : List Standing). d .done ++ placesFrom new k) (y .whole)
+                        ∙ ap (λ (k : List NestedItem). d .done ++ placesFrom new k) (y .whole)
                         ∙ ap₂ (λ (p : Place) (n : ℕ). d .done ++ (p ∷ placesFrom n (keptAt items parents ends marks (x .next) (y .after))))
                         (ap₂ (λ (o v : ℕ). place o new v) (shown-offset x (y .standing .item) (y .shows)) (sym (y .deep)))
                         (ap (λ (n : ℕ). new + n) (shown-size x (y .standing .item) (y .shows)))

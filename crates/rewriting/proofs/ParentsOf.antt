@@ -7,43 +7,44 @@ use mathlib.Core.List.{List, [], _∷_, _++_, append-assoc}
 use mathlib.Core.Option.{Option, none, some}
 use lib.ListN.{length, getD, length-append}
 use lib.Dec.{ltb, leb}
-use Rattle.readers.specs.Choice.{pick-either}
+use Rattle.readers.proofs.Choice.{pick-either}
 use Rattle.readers.specs.Abbreviations.{Placed, declaredIn, abbreviationsOf, indexOf, findAt}
 use Rattle.readers.specs.Nesting.{open′, close, top}
 use Rattle.readers.specs.Stream.{Item, entry, terminator, Items, itemsFrom}
 use Rattle.readers.specs.declared.cursor.Encoding.{Encoding}
 use Rattle.readers.proofs.Declarations.{find-plain}
 use Rattle.readers.proofs.Streams.{items-look}
-use Rattle.marking.specs.EntryReferences.{Found, found, refused as refusedAfter}
-use Rattle.marking.specs.declared.roots.Verdict.{Verdict}
-use Rattle.marking.specs.declared.roots.Verdict.the-variants.{Live, Dead, Refused as Failed}
-use Rattle.marking.specs.Analysis.{Sections, Rooms, Row, Analysed, analysed, refused, onto, onVerdict, onFound, Reached, reached, startOf, rootOf, namesOf, baseOf, analyseItems, onDeclared, unitAnalysed}
+use Rattle.marking.specs.EntryReferences.{ReferencesFound, found, refused as refusedAfter}
+use Rattle.marking.specs.declared.root_test.Verdict.{Verdict}
+use Rattle.marking.specs.declared.root_test.Verdict.the-variants.{Live, Dead, Refused as Failed}
+use Rattle.marking.specs.Analysis.{Sections, Rooms, EntryRow, Analysed, analysed, refused, onto, onVerdict, onFound, Reached, reached, startOf, rootOf, namesOf, baseOf, analyseItems, onDeclared, unitAnalysed}
 use Rattle.marking.specs.Columns.{parentsIn, padTo}
-use Rattle.rewriting.specs.Parents.{parentsFrom, entriesIn, HoldsFrom}
+use Rattle.readers.specs.Stream.{entryCount}
+use Rattle.rewriting.specs.inner.Parents.{parentsFrom, HoldsFrom}
 
 -- ---- what holds of the rows of an analysis, if it has any
 
-unfoldable Rows : (List Row → Type 0) → Analysed → Type 0
+unfoldable Rows : (List EntryRow → Type 0) → Analysed → Type 0
 Rows P (analysed rows) = P rows
 Rows P (refused n) = Unit {0}
 
-rows-verdict : (P : List Row → Type 0) (v : Verdict) (k : ℕ → Analysed) → ((n : ℕ) → Rows P (k n)) → Rows P (onVerdict v k)
+rows-verdict : (P : List EntryRow → Type 0) (v : Verdict) (k : ℕ → Analysed) → ((n : ℕ) → Rows P (k n)) → Rows P (onVerdict v k)
 unfolding Rows onVerdict
 rows-verdict P Live k h = h 1
 rows-verdict P Dead k h = h 0
 rows-verdict P (Failed n) k h = tt
 
-rows-found : (P : List Row → Type 0) (f : Found) (k : List ℕ → Analysed) → ((names : List ℕ) → Rows P (k names)) → Rows P (onFound f k)
+rows-found : (P : List EntryRow → Type 0) (f : ReferencesFound) (k : List ℕ → Analysed) → ((names : List ℕ) → Rows P (k names)) → Rows P (onFound f k)
 unfolding Rows onFound
 rows-found P (found xs) k h = h xs
 rows-found P (refusedAfter xs n) k h = tt
 
-rows-onto : (P Q : List Row → Type 0) (r : Row) (a : Analysed) → ((rows : List Row) → Q rows → P (r ∷ rows)) → Rows Q a → Rows P (onto r a)
+rows-onto : (P Q : List EntryRow → Type 0) (r : EntryRow) (a : Analysed) → ((rows : List EntryRow) → Q rows → P (r ∷ rows)) → Rows Q a → Rows P (onto r a)
 unfolding Rows onto
 rows-onto P Q r (analysed rows) h q = h rows q
 rows-onto P Q r (refused n) h q = tt
 
-rows-map : (P Q : List Row → Type 0) (a : Analysed) → ((rows : List Row) → P rows → Q rows) → Rows P a → Rows Q a
+rows-map : (P Q : List EntryRow → Type 0) (a : Analysed) → ((rows : List EntryRow) → P rows → Q rows) → Rows P a → Rows Q a
 unfolding Rows
 rows-map P Q (analysed rows) h q = h rows q
 rows-map P Q (refused n) h q = tt
@@ -51,13 +52,13 @@ rows-map P Q (refused n) h q = tt
 -- ---- item by item
 
 -- the rows of items from entry k on
-pub record RowsOf (k : ℕ) (stack : List ℕ) (items : List Item) (rows : List Row) : Type 0 where
+pub record RowsOf (k : ℕ) (stack : List ℕ) (items : List Item) (rows : List EntryRow) : Type 0 where
   pub parents : parentsIn rows ≡ parentsFrom k stack items
-  pub many : length rows ≡ entriesIn items
+  pub many : length rows ≡ entryCount items
 
 module _ (e : Encoding) (x : Sections) (unit : List ℕ) (room : Rooms) where
   rows-of : (p : Reached) (items : List Item) (whole : Bool) → Rows (RowsOf (p .count) (p .stack) items) (analyseItems e x unit room p items whole)
-  unfolding Rows analyseItems parentsIn parentsFrom entriesIn
+  unfolding Rows analyseItems parentsIn parentsFrom entryCount
   rows-of p [] true = record { parents = refl; many = refl }
   rows-of p [] false = tt
   rows-of p (terminator a b ∷ rest) whole =
@@ -80,12 +81,12 @@ module _ (e : Encoding) (x : Sections) (unit : List ℕ) (room : Rooms) where
 
 -- ---- a unit
 
-rows-at : (P : List Row → Type 0) (a : Analysed) (rows : List Row) → a ≡ analysed rows → Rows P a → P rows
+rows-at : (P : List EntryRow → Type 0) (a : Analysed) (rows : List EntryRow) → a ≡ analysed rows → Rows P a → P rows
 unfolding Rows
 rows-at P a rows q h = subst (Rows P) q h
 
 -- the declarations of a unit, and its rows by the items that they give
-pub record UnitRows (e : Encoding) (x : Sections) (unit : List ℕ) (from first : ℕ) (rows : List Row) : Type 0 where
+pub record UnitRows (e : Encoding) (x : Sections) (unit : List ℕ) (from first : ℕ) (rows : List EntryRow) : Type 0 where
   pub declarations : List Placed
   pub declared : abbreviationsOf (x .abbreviations) from ≡ some declarations
   pub are : RowsOf 0 [] (itemsFrom e (x .abbreviations) (declaredIn declarations) unit first .0) rows
@@ -102,12 +103,12 @@ module _ (e : Encoding) (x : Sections) (unit : List ℕ) (room : Rooms) (from fi
       (λ rows h. record { declarations = ds; declared = q; are = h }) (rows-of e x unit room startOf (items .0) (items .1))
 
   -- THE rows of a unit
-  pub unit-rows : (rows : List Row) → unitAnalysed e x unit room from first ≡ analysed rows → UnitRows e x unit from first rows
+  pub unit-rows : (rows : List EntryRow) → unitAnalysed e x unit room from first ≡ analysed rows → UnitRows e x unit from first rows
   unfolding unitAnalysed
   unit-rows rows q = rows-at (UnitRows e x unit from first) _ rows q (by-declared (abbreviationsOf (x .abbreviations) from) refl)
 
   -- by the declarations
-  pub parents-of : (rows : List Row) → unitAnalysed e x unit room from first ≡ analysed rows → (ds : List Placed) → abbreviationsOf (x .abbreviations) from ≡ some ds
+  pub parents-of : (rows : List EntryRow) → unitAnalysed e x unit room from first ≡ analysed rows → (ds : List Placed) → abbreviationsOf (x .abbreviations) from ≡ some ds
       → RowsOf 0 [] (itemsFrom e (x .abbreviations) (declaredIn ds) unit first .0) rows
   parents-of rows q ds h =
       let u : UnitRows e x unit from first rows = unit-rows rows q in
@@ -117,7 +118,7 @@ module _ (e : Encoding) (x : Sections) (unit : List ℕ) (room : Rooms) (from fi
       some-same q = cc
 
   -- as the code finds them, through an index
-  pub parents-found : (rows : List Row) → unitAnalysed e x unit room from first ≡ analysed rows → (n : ℕ)
+  pub parents-found : (rows : List EntryRow) → unitAnalysed e x unit room from first ≡ analysed rows → (n : ℕ)
       → RowsOf 0 [] (itemsFrom e (x .abbreviations) (findAt (x .abbreviations) from (indexOf (x .abbreviations) from n)) unit first .0) rows
   parents-found rows q n =
       let u : UnitRows e x unit from first rows = unit-rows rows q in
@@ -147,7 +148,7 @@ pub holds-first : (xs after : List ℕ) → HoldsFrom (xs ++ after) 0 xs
 holds-first xs after = holds-after [] xs after (xs ++ after) 0 refl refl
 
 -- THE parents column of an analysed unit
-pub parents-held : (e : Encoding) (x : Sections) (unit : List ℕ) (room : Rooms) (from first : ℕ) (rows : List Row) → unitAnalysed e x unit room from first ≡ analysed rows → (n m : ℕ)
+pub parents-held : (e : Encoding) (x : Sections) (unit : List ℕ) (room : Rooms) (from first : ℕ) (rows : List EntryRow) → unitAnalysed e x unit room from first ≡ analysed rows → (n m : ℕ)
     → HoldsFrom (padTo m (parentsIn rows)) 0
     (parentsFrom 0 [] (itemsFrom e (x .abbreviations) (findAt (x .abbreviations) from (indexOf (x .abbreviations) from n)) unit first .0))
 unfolding padTo

@@ -12,16 +12,18 @@ use lib.Seq.{drop-cons}
 use lib.Dec.{ltb, leb, eqb}
 use mir.Facts.{ltb-yes, ltb-no, yes-ltb, no-ltb, yes-eqb, no-eqb, eqb-yes, eqb-no}
 use borrow.Author.Tests.{le-leb, lt-leb}
-use Rattle.readers.specs.Choice.{pick, _and_, pick-yes, pick-no, either}
-use Rattle.readers.specs.Numbers.{fixedBytes, length-fixed}
+use Rattle.readers.specs.Choice.{pick, _and_}
+use Rattle.readers.proofs.Choice.{pick-yes, pick-no, either}
+use Rattle.readers.specs.Numbers.{fixedBytes}
+use Rattle.readers.proofs.Numbers.{length-fixed}
 use Rattle.marking.specs.Resolution.{Ascending as From}
 use Rattle.rewriting.specs.Indices.{rankIn}
-use Rattle.rewriting.specs.Places.{Place, newOf, firstFrom, orElse, siblingOf}
-use Rattle.rewriting.specs.Maps.{oldOffsets}
-use Rattle.rewriting.specs.Written.{put, numberAt, Held, columns, MapHeld, place, withPlace, asMapped, oldAt, newAt, depthAt, halved, foundAt, lookedUp}
+use Rattle.rewriting.specs.Places.{Place, newOf, firstFrom, orElse, siblingOf, oldOffsets}
+use Rattle.rewriting.specs.Written.{put, numberAt, columns, oldAt, newAt, depthAt, halved, foundAt, lookedUp}
+use Rattle.rewriting.specs.inner.Written.{NumbersHeld, MapHeld, place, withPlace, asMapped}
 use Rattle.readers.specs.declared.offsets.UnitOffset.{UnitOffset}
 use Rattle.rewriting.specs.declared.map.Mapped.the-variants.{To, Nothing}
-use Rattle.rewriting.proofs.Tables.{in-room, room-in, no-room, held-at, held-more, length-put}
+use Rattle.rewriting.proofs.Tables.{in-room, held-at, held-more, length-put}
 use Rattle.rewriting.proofs.Ranks.{rank-is, rank-most, halved-rank}
 
 -- ---- columns
@@ -178,8 +180,8 @@ pub place-put : (ps : List Place) (map map₁ map₂ map₃ : List ℕ) (i old n
     → (12 * i + 4 ≤ length map → map₁ ≡ put map (12 * i) (fixedBytes true 4 old))
     → (12 * i + 4 + 4 ≤ length map₁ → map₂ ≡ put map₁ (12 * i + 4) (fixedBytes true 4 new))
     → (12 * i + 8 + 4 ≤ length map₂ → map₃ ≡ put map₂ (12 * i + 8) (fixedBytes true 4 depth))
-    → Held 4 (columns ps) map → i ≡ length ps → old < 4294967296 → new < 4294967296 → depth < 4294967296
-    → Held 4 (columns (withPlace ps (place old new depth))) map₃
+    → NumbersHeld 4 (columns ps) map → i ≡ length ps → old < 4294967296 → new < 4294967296 → depth < 4294967296
+    → NumbersHeld 4 (columns (withPlace ps (place old new depth))) map₃
 place-put ps map map₁ map₂ map₃ i old new depth r f g k h e a b d =
     let c : length (columns ps) ≡ 3 * length ps = length-columns ps in
     let xs₁ : List ℕ = columns ps ++ (old ∷ []) in
@@ -188,10 +190,10 @@ place-put ps map map₁ map₂ map₃ i old new depth r f g k h e a b d =
     let c₂ : length xs₂ ≡ length xs₁ + 1 = length-append xs₁ (new ∷ []) in
     let m₁ : map₁ ≡ put map (4 * length (columns ps)) (fixedBytes true 4 old) = f (omega arith) ∙ ap (λ n. put map n (fixedBytes true 4 old)) (let q : 12 * i ≡ 4 * length (columns ps) = omega arith in q) in
     let l₁ : length map₁ ≡ length map = ap length m₁ ∙ length-put map (4 * length (columns ps)) (fixedBytes true 4 old) (omega (arith, length-fixed true 4 old)) in
-    let h₁ : Held 4 xs₁ map₁ = rw m₁ (held-more 4 (columns ps) map old h (omega arith) a) in
+    let h₁ : NumbersHeld 4 xs₁ map₁ = rw m₁ (held-more 4 (columns ps) map old h (omega arith) a) in
     let m₂ : map₂ ≡ put map₁ (4 * length xs₁) (fixedBytes true 4 new) = g (omega arith) ∙ ap (λ n. put map₁ n (fixedBytes true 4 new)) (let q : 12 * i + 4 ≡ 4 * length xs₁ = omega arith in q) in
     let l₂ : length map₂ ≡ length map = ap length m₂ ∙ length-put map₁ (4 * length xs₁) (fixedBytes true 4 new) (omega (arith, length-fixed true 4 new)) ∙ l₁ in
-    let h₂ : Held 4 xs₂ map₂ = rw m₂ (held-more 4 xs₁ map₁ new h₁ (omega arith) b) in
+    let h₂ : NumbersHeld 4 xs₂ map₂ = rw m₂ (held-more 4 xs₁ map₁ new h₁ (omega arith) b) in
     let m₃ : map₃ ≡ put map₂ (4 * length xs₂) (fixedBytes true 4 depth) = k (omega arith) ∙ ap (λ n. put map₂ n (fixedBytes true 4 depth)) (let q : 12 * i + 8 ≡ 4 * length xs₂ = omega arith in q) in
     rw (columns-append ps (place old new depth), m₃) (held-more 4 xs₂ map₂ depth h₂ (omega arith) d)
 

@@ -12,9 +12,12 @@ use lib.Seq.{drop-cons, take-suc, take-at, getD-take, set-at, append-snoc, lengt
 use lib.Dec.{ltb, leb, eqb}
 use mir.Facts.{ltb-yes, ltb-no}
 use borrow.Author.Tests.{lt-ltb, le-ltb, le-leb, lt-leb, ltb-true, leb-true, eq-eqb, ne-eqb}
-use Rattle.readers.specs.Choice.{pick, _and_, zeros, either}
-use Rattle.readers.specs.Numbers.{padded, length-padded, littleBytes, ordered, fixedBytes, length-fixed}
-use Rattle.rewriting.specs.Written.{groupsFit, bytesFit, numberFits, unfit, Put, paddedAnswer, paddedOut, over, put, putIn, numberAt, valueOr, numberThere}
+use Rattle.readers.specs.Choice.{pick, _and_, zeros}
+use Rattle.readers.proofs.Choice.{either}
+use Rattle.readers.specs.Numbers.{padded, littleBytes, ordered, fixedBytes}
+use Rattle.readers.proofs.Numbers.{length-padded, length-fixed}
+use Rattle.rewriting.specs.Written.{groupsFit, paddedAnswer, paddedOut, over, put, putIn, numberAt, valueOr, numberThere}
+use Rattle.rewriting.specs.inner.Written.{bytesFit, numberFits, unfit, Put}
 use Rattle.rewriting.specs.declared.numbers.Padded.{Padded}
 use Rattle.rewriting.specs.declared.numbers.Padded.the-variants.{Written, Refused}
 use Rattle.readers.specs.Layout.{numberBytes}

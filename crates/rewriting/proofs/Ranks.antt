@@ -7,7 +7,8 @@ use native.Mathlib.Omega.{arith}
 use lib.ListN.{length, getD}
 use lib.Dec.{ltb}
 use mir.Facts.{ltb-yes, ltb-no, yes-ltb, no-ltb}
-use Rattle.readers.specs.Choice.{pick, pick-either, pick-yes, pick-no, either}
+use Rattle.readers.specs.Choice.{pick}
+use Rattle.readers.proofs.Choice.{pick-either, pick-yes, pick-no, either}
 use Rattle.marking.specs.Resolution.{Ascending as From}
 use Rattle.rewriting.specs.Ascending.{Ascending}
 use Rattle.rewriting.specs.Indices.{rankIn}
@@ -59,51 +60,6 @@ rank-is xs v i f h e = is-from 0 xs v i f h e
 
 -- ---- the search
 
-module _ {A : Type 0} where
-  -- After some turns: whatever the table holds, the rank lies between low and high.
-  pub record Ranking (Held : A → Type 0) (numbers : A → List ℕ) (count value low high : ℕ) : Type 0 where
-    pub order : low ≤ high
-    pub top : high ≤ count
-    pub found : (a : A) → Held a → count ≡ length (numbers a) → (low ≤ rankIn (numbers a) value) × (rankIn (numbers a) value ≤ high)
-
-  module _ (Held : A → Type 0) (numbers : A → List ℕ) (count value : ℕ) where
-    pub ranking-start : Ranking Held numbers count value 0 count
-    ranking-start =
-        record { order = omega arith; top = omega arith; found = λ a h e. (omega arith, let r : rankIn (numbers a) value ≤ length (numbers a) = rank-most (numbers a) value in omega arith) }
-
-    module _ (low high middle r : ℕ) (p : Ranking Held numbers count value low high) (l : low < high) (m : middle ≡ low + (high - low) / 2)
-        (is : (a : A) → Held a → count ≡ length (numbers a) → middle < length (numbers a) → r ≡ getD (numbers a) middle 0) where
-      inside : middle < count
-      inside = omega (arith, p .top)
-
-      pub ranking-right : ((a : A) → Held a → Ascending (numbers a)) → r < value → Ranking Held numbers count value (middle + 1) high
-      ranking-right f h =
-          record {
-            order = omega arith;
-            top = p .top;
-            found = λ a q e.
-                let b : middle < length (numbers a) = omega (arith, inside) in
-                let g : r ≡ getD (numbers a) middle 0 = is a q e b in
-                let k : middle < rankIn (numbers a) value = rank-above (numbers a) value middle (f a q) b (omega arith) in
-                (omega arith, p .found a q e .1);
-          }
-
-      pub ranking-left : value ≤ r → Ranking Held numbers count value low middle
-      ranking-left h =
-          record {
-            order = omega arith;
-            top = omega (arith, inside);
-            found = λ a q e.
-                let b : middle < length (numbers a) = omega (arith, inside) in
-                let g : r ≡ getD (numbers a) middle 0 = is a q e b in
-                (p .found a q e .0, rank-below (numbers a) value middle b (omega arith));
-          }
-
-    pub ranking-done : (low high : ℕ) → Ranking Held numbers count value low high → high ≤ low → (a : A) → Held a → count ≡ length (numbers a) → low ≡ rankIn (numbers a) value
-    ranking-done low high p l a q e = omega (arith, p .found a q e .0, p .found a q e .1)
-
--- ---- the search in any table
-
 module _ (at : ℕ → ℕ) (v : ℕ) where
   halved-over : (n low high : ℕ) → high ≤ low → halved n at v low high ≡ low
   unfolding halved
@@ -139,25 +95,33 @@ module _ (at : ℕ → ℕ) (v : ℕ) where
       (either (ltb low high))
 
   -- after some turns
-  pub record Halving (count low high : ℕ) : Type 0 where
-    pub order : low ≤ high
-    pub top : high ≤ count
-    pub found : (n : ℕ) → high - low ≤ n → halved count at v 0 count ≡ halved n at v low high
+  pub record Halving (n from to low high : ℕ) : Type 0 where
+    pub order : from ≤ to → low ≤ high
+    pub top : high ≤ to
+    pub found : (m : ℕ) → high - low ≤ m → halved n at v from to ≡ halved m at v low high
 
-  pub halving-start : (count : ℕ) → Halving count 0 count
-  halving-start count = record { order = omega arith; top = omega arith; found = λ n h. halved-enough count n 0 count (omega arith) h }
+  pub halving-start : (n from to : ℕ) → to - from ≤ n → Halving n from to from to
+  halving-start n from to h = record { order = λ o. o; top = omega arith; found = λ m k. halved-enough n m from to h k }
 
-  module _ (count low high middle r : ℕ) (p : Halving count low high) (l : low < high) (m : middle ≡ low + (high - low) / 2) (is : r ≡ at middle) where
-    pub halving-right : r < v → Halving count (middle + 1) high
+  module _ (n from to low high middle r : ℕ) (p : Halving n from to low high) (l : low < high) (m : middle ≡ low + (high - low) / 2) (is : r ≡ at middle) where
+    pub halving-right : r < v → Halving n from to (middle + 1) high
     halving-right h =
-        record { order = omega arith; top = p .top; found = λ n k. p .found (suc (high - low)) (omega arith) ∙ halved-right (high - low) low high middle l m (omega arith) ∙ halved-enough (high - low) n (middle + 1) high (omega arith) k }
+        record {
+          order = λ _. omega arith;
+          top = p .top;
+          found = λ k e. p .found (suc (high - low)) (omega arith) ∙ halved-right (high - low) low high middle l m (omega arith) ∙ halved-enough (high - low) k (middle + 1) high (omega arith) e;
+        }
 
-    pub halving-left : v ≤ r → Halving count low middle
+    pub halving-left : v ≤ r → Halving n from to low middle
     halving-left h =
-        record { order = omega arith; top = omega (arith, p .top); found = λ n k. p .found (suc (high - low)) (omega arith) ∙ halved-left (high - low) low high middle l m (omega arith) ∙ halved-enough (high - low) n low middle (omega arith) k }
+        record {
+          order = λ _. omega arith;
+          top = omega (arith, p .top);
+          found = λ k e. p .found (suc (high - low)) (omega arith) ∙ halved-left (high - low) low high middle l m (omega arith) ∙ halved-enough (high - low) k low middle (omega arith) e;
+        }
 
-  pub halving-done : (count low high : ℕ) → Halving count low high → high ≤ low → low ≡ halved count at v 0 count
-  halving-done count low high p l = sym (p .found 0 (omega arith) ∙ halved-over 0 low high l)
+  pub halving-done : (n from to low high : ℕ) → Halving n from to low high → high ≤ low → low ≡ halved n at v from to
+  halving-done n from to low high p l = sym (p .found 0 (omega arith) ∙ halved-over 0 low high l)
 
   -- where the numbers ascend it is the rank
   pub halved-rank : (xs : List ℕ) → Ascending xs → ((i : ℕ) → i < length xs → at i ≡ getD xs i 0) → (n low high : ℕ) → high - low ≤ n → low ≤ rankIn xs v → rankIn xs v ≤ high → high ≤ length xs

@@ -10,9 +10,11 @@ use lib.ListN.{length, take, drop, length-append}
 use lib.Seq.{length-take-le, drop-drop}
 use lib.Dec.{T, eqb, leb, ltb}
 use mir.Facts.{leb-yes, eqb-yes, eqb-no, no-eqb, yes-eqb}
-use Rattle.readers.specs.Choice.{pick, pick-yes, pick-no, pick-either, either, _and_, bind, bind-at, bind-bind, check-yes, All, all-some, all-of, all-bind, all-check, all-triv}
+use Rattle.readers.specs.Choice.{pick, _and_, bind}
+use Rattle.readers.proofs.Choice.{pick-yes, pick-no, pick-either, either, bind-at, bind-bind, check-yes, All, all-some, all-of, all-bind, all-check, all-triv}
 use Rattle.readers.specs.Numbers.{uleb}
-use Rattle.readers.specs.Layout.{leb128, Token, nothing, number, bounded, forms, signed, link, string, run, block, expression, unknown, Layout, done, field, copied, Piece, Read, ReadOf, RunOf, ExpressionReader, asBytes, copy, asForms, formsIn, LebLaw, uleb-law, asExpression, tokenIn, readIn, before, bytesOf, pieceBytes, writeAll, TokenLaw, token-law, as-bytes-law}
+use Rattle.readers.specs.Layout.{leb128, Token, nothing, number, bounded, forms, signed, link, string, run, block, expression, unknown, Layout, done, field, verbatim, Piece, Read, ReadOf, RunOf, ExpressionReader, asBytes, copy, asForms, formsIn, asExpression, tokenIn, readIn, before, bytesOf, pieceBytes, writeAll}
+use Rattle.readers.proofs.Layouts.{LebLaw, uleb-law, TokenLaw, token-law, as-bytes-law}
 use Rattle.readers.specs.Expression.{expressionIn}
 use Rattle.readers.specs.Fields.{size, fieldOf, asField, tokenAt}
 use Rattle.readers.specs.Forms.{valueToken, attributeLayout}
@@ -28,25 +30,23 @@ use Rattle.readers.proofs.Values.{valued, behindForms, attribute-direct, attrib
 use Rattle.readers.specs.declared.cursor.Encoding.{Encoding}
 use Rattle.readers.specs.declared.abbreviations.AttributeSpec.{AttributeSpec}
 use Rattle.readers.specs.declared.abbreviations.Declaration.{Declaration}
-use Rattle.readers.specs.declared.abbreviations.Found.{Found as Declared}
-use Rattle.readers.specs.declared.abbreviations.Found.the-variants.{Declaration as Found′, Nothing}
+use Rattle.readers.specs.declared.abbreviations.ReferencesFound.{ReferencesFound as Declared}
+use Rattle.readers.specs.declared.abbreviations.ReferencesFound.the-variants.{Declaration as Found′, Nothing}
 use Rattle.readers.specs.declared.entries.Entry.{Entry}
 use Rattle.readers.specs.declared.entries.Step.{Step}
 use Rattle.readers.specs.declared.entries.Step.the-variants.{Entry as Entry′, Terminator, End, Unreadable as NoStep}
 use Rattle.readers.specs.declared.attributes.Attribute.{Attribute}
 use Rattle.readers.specs.declared.attributes.AttributeRead.{AttributeRead}
 use Rattle.readers.specs.declared.attributes.AttributeRead.the-variants.{Read as Attribute′}
-use Rattle.marking.specs.Roots.{Valued, onAttribute, valuesOf, entryValues}
-use Rattle.marking.specs.EntryReferences.{Found, found, refused, after, andThen, targets, walkFound, expressionFound, partOf, Locations, locationsBy, attributeFound, attributesFound}
-use Rattle.marking.proofs.Attributes.{specs-all}
-use Rattle.marking.specs.Analysis.{Sections, Row, valuesOfEntry, namesOf, baseOf}
-use Rattle.rewriting.specs.Places.{Standing, keptFrom, offsetOf}
-use Rattle.rewriting.specs.Rewriting.{Unit as Unit′, itemsIn, Room}
-use Rattle.rewriting.proofs.ItemsStand.{EveryItem, Every, every-kept, Stands, items-stand}
-use Rattle.rewriting.proofs.Rereading.{deepAt, Readable}
-use Rattle.rewriting.proofs.Accepted.{unitOf, Accepted}
-use Rattle.marking.specs.UnitSurvivors.{RowOf, RowsOf}
-use Rattle.rewriting.proofs.Following.{accepted-follow}
+use Rattle.readers.specs.EntryAttributes.{Valued, onAttribute, valuesOf, entryValues}
+use Rattle.marking.specs.EntryReferences.{ReferencesFound, found, refused, after, andThen, targets, walkFound, expressionFound, partOf, Locations, locationsBy, attributeFound, attributesFound}
+use Rattle.readers.proofs.EntryAttributes.{specs-all}
+use Rattle.marking.specs.Analysis.{Sections, EntryRow, valuesOfEntry, namesOf, baseOf}
+use Rattle.rewriting.specs.Places.{NestedItem, keptFrom, offsetOf}
+use Rattle.rewriting.specs.Rewriting.{Unit as Unit′, itemsIn, Room, unitOf}
+use Rattle.rewriting.proofs.ItemsStand.{EveryItem, Every, every-kept, Stands, items-stand, deepAt, Readable}
+use Rattle.marking.specs.EntryRows.{RowOf, RowsOf}
+use Rattle.rewriting.proofs.Following.{accepted-follow, Accepted}
 use Rattle.rewriting.proofs.Expressions.{isExpression, value-exprloc}
 
 -- something was read
@@ -94,7 +94,7 @@ module _ (e : Encoding) (unit : List ℕ) where
 
   -- its payload
   part-is : (at n m : ℕ) (q : List ℕ) → q ≡ drop n (drop at unit) → m ≤ length q → n ≤ length (drop at unit)
-      → partOf unit (fieldOf big at (record { seen = 0; start = n; pieces = copied (take n (drop at unit)) ∷ copied (take m q) ∷ [] })) ≡ take m q
+      → partOf unit (fieldOf big at (record { seen = 0; start = n; pieces = verbatim (take n (drop at unit)) ∷ verbatim (take m q) ∷ [] })) ≡ take m q
   unfolding partOf fieldOf size bytesOf pieceBytes
   part-is at n m q h l k =
       let a : List ℕ = take n (drop at unit) in
@@ -115,10 +115,10 @@ module _ (e : Encoding) (unit : List ℕ) where
       by-pieces t q w (deep (take (t .1) (t .2))) refl i)))
     where
       by-pieces : (t : _) → uleb (drop at unit) ≡ some t → T (leb (t .1) (length (t .2))) → (o : Option (List Piece)) → deep (take (t .1) (t .2)) ≡ o → Is o
-          → DeepToken expression (drop at unit) (record { seen = 0; start = suc (t .0); pieces = copied (take (suc (t .0)) (drop at unit)) ∷ copied (take (t .1) (t .2)) ∷ [] }, drop (t .1) (t .2))
+          → DeepToken expression (drop at unit) (record { seen = 0; start = suc (t .0); pieces = verbatim (take (suc (t .0)) (drop at unit)) ∷ verbatim (take (t .1) (t .2)) ∷ [] }, drop (t .1) (t .2))
       by-pieces t q w none p i = absurd i
       by-pieces t q w (some ps) p i = record {
-        it = record { seen = 0; start = suc (t .0); pieces = copied (take (suc (t .0)) (drop at unit)) ∷ ps };
+        it = record { seen = 0; start = suc (t .0); pieces = verbatim (take (suc (t .0)) (drop at unit)) ∷ ps };
         is = bind-at _ q ∙ check-yes _ _ w ∙ bind-at _ p;
       }
 
@@ -221,13 +221,13 @@ module _ (e : Encoding) (unit : List ℕ) where
 
 -- ---- what was judged
 
-record Both (f g : Found) : Type 0 where
+record Both (f g : ReferencesFound) : Type 0 where
   pub ys : List ℕ
   pub first : f ≡ found ys
   pub zs : List ℕ
   pub next : g ≡ found zs
 
-both-found : (f g : Found) (names : List ℕ) → andThen f g ≡ found names → Both f g
+both-found : (f g : ReferencesFound) (names : List ℕ) → andThen f g ≡ found names → Both f g
 unfolding andThen after
 both-found (found ys) (found zs) names q = record { ys = ys; first = refl; zs = zs; next = refl }
 both-found (found ys) (refused zs n) names q = let z : _≡_ {A = ℕ} 0 1 = cc in absurd (omega arith)
@@ -388,7 +388,7 @@ module _ (e : Encoding) (x : Sections) (look : ℕ → Declared) (unit : List �
   abbrev ReadDeep : Item → Type 0
   ReadDeep i = Is (readIn order (expressionIn e) layout (drop (offsetOf i) unit))
 
-  entry-deep : (stack : List ℕ) (rb lb : ℕ) (y : Entry) (r : Row) → RowOf e x unit stack rb lb y r → Stands e (x .abbreviations) look unit (entry y) → ReadDeep (entry y)
+  entry-deep : (stack : List ℕ) (rb lb : ℕ) (y : Entry) (r : EntryRow) → RowOf e x unit stack rb lb y r → Stands e (x .abbreviations) look unit (entry y) → ReadDeep (entry y)
   unfolding Stands offsetOf JudgedStep
   entry-deep stack rb lb y r q s =
       step-deep (y .offset .0) (subst JudgedStep (sym s) (record { base = baseOf e x unit 0x8c lb y; names = r .names; names-are = q .names-are }))
@@ -397,7 +397,7 @@ module _ (e : Encoding) (x : Sections) (look : ℕ → Declared) (unit : List �
   unfolding Stands offsetOf JudgedStep
   terminator-deep a b s = step-deep a (subst JudgedStep (sym s) tt)
 
-  items-deep : (k : ℕ) (stack : List ℕ) (rb lb : ℕ) (items : List Item) (rows : List Row) → RowsOf e x unit k stack rb lb items rows → EveryItem (Stands e (x .abbreviations) look unit) items → EveryItem ReadDeep items
+  items-deep : (k : ℕ) (stack : List ℕ) (rb lb : ℕ) (items : List Item) (rows : List EntryRow) → RowsOf e x unit k stack rb lb items rows → EveryItem (Stands e (x .abbreviations) look unit) items → EveryItem ReadDeep items
   unfolding RowsOf EveryItem
   items-deep k stack rb lb [] rows f s = tt
   items-deep k stack rb lb (terminator a b ∷ rest) rows f s = (terminator-deep a b (s .0), items-deep k (close stack) rb lb rest rows f (s .1))
@@ -407,18 +407,18 @@ module _ (e : Encoding) (x : Sections) (look : ℕ → Declared) (unit : List �
 
 -- ---- of an accepted unit
 
-every-map : (P Q : Standing → Type 0) → ((s : Standing) → P s → Q s) → (kept : List Standing) → Every P kept → Every Q kept
+every-map : (P Q : NestedItem → Type 0) → ((s : NestedItem) → P s → Q s) → (kept : List NestedItem) → Every P kept → Every Q kept
 unfolding Every
 every-map P Q f [] h = tt
 every-map P Q f (s ∷ kept) h = (f s (h .0), every-map P Q f kept (h .1))
 
-module _ (x : Sections) (u : Unit′) (s : Standing) where
+module _ (x : Sections) (u : Unit′) (s : NestedItem) where
   is-readable : (o : Option RunOf) → deepAt x u (offsetOf (s .item)) ≡ o → Is o → Readable x u s
   unfolding Is
   is-readable none q i = absurd i
   is-readable (some r) q i = record { run = r; is = q }
 
-module _ (x : Sections) (room : Room) (section : List ℕ) (h : UnitHeader) (ds : List Placed) (rows : List Row) (a : Accepted x room section h ds rows) where
+module _ (x : Sections) (room : Room) (section : List ℕ) (h : UnitHeader) (ds : List Placed) (rows : List EntryRow) (a : Accepted x room section h ds rows) where
   abbrev unit : Unit′
   unit = unitOf h section ds
 

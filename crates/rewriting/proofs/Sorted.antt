@@ -1,18 +1,19 @@
 -- An index list is ascending and holds exactly the numbers that were put into it; a number's rank is its place.
-use Prim.Native.Nat.{ℕ, suc, _≤_, _<_}
-use mathlib.Core.Path.{_≡_, refl, sym}
+use Prim.Native.Nat.{ℕ, suc, _≤_}
+use mathlib.Core.Path.{_≡_, refl}
 use mathlib.Core.List.{List, [], _∷_, _++_}
 use mathlib.Core.Logic.{_⊎_, inl, inr, ⊎-elim, _↔_}
 use native.Mathlib.Omega.{arith}
-use lib.ListN.{length, getD}
+use lib.ListN.{length}
 use lib.Dec.{ltb, eqb}
 use mir.Facts.{ltb-yes, ltb-no, eqb-yes, eqb-no}
-use Rattle.readers.specs.Choice.{pick, pick-either}
+use Rattle.readers.specs.Choice.{pick}
+use Rattle.readers.proofs.Choice.{pick-either}
 use Rattle.marking.specs.Resolution.{Ascending as From}
 use Rattle.marking.specs.Members.{Member, here, there}
-use Rattle.marking.proofs.Members.{nothing-in, in-cases, from-member}
+use Rattle.marking.proofs.Members.{nothing-in, in-cases}
 use Rattle.rewriting.specs.Ascending.{Ascending}
-use Rattle.rewriting.specs.Indices.{insert, insertAll, rankIn}
+use Rattle.rewriting.specs.Indices.{insert, insertAll}
 
 -- ---- ascending lists
 
@@ -95,33 +96,6 @@ pub sorted-member : (v : ℕ) (vs : List ℕ) → Member v (insertAll vs []) ↔
 sorted-member v vs =
     ((λ m. ⊎-elim (λ (n : Member v vs). n) (λ (n : Member v []). absurd (nothing-in v n)) (all-out v vs [] m)), all-new v vs [])
 
--- ---- ranks
-
--- a number's rank is its place
-pub record Ranked (xs : List ℕ) (v : ℕ) (n : ℕ) : Type 0 where
-  pub inside : n < length xs
-  pub placed : getD xs n 0 ≡ v
-
-ranked-from : (low v : ℕ) (xs : List ℕ) → From low xs → Member v xs → Ranked xs v (rankIn xs v)
-unfolding From rankIn
-ranked-from low v [] f m = absurd (nothing-in v m)
-ranked-from low v (x ∷ xs) f (here e) =
-    pick-either (Ranked (x ∷ xs) v) (ltb x v) (suc (rankIn xs v)) 0
-    (λ t. absurd (omega (arith, ltb-yes {a = x} {b = v} t)))
-    (λ t. record { inside = omega arith; placed = sym e })
-ranked-from low v (x ∷ xs) f (there m) =
-    let r : Ranked xs v (rankIn xs v) = ranked-from (suc x) v xs (f .1) m in
-    pick-either (Ranked (x ∷ xs) v) (ltb x v) (suc (rankIn xs v)) 0
-    (λ t. record { inside = omega (arith, r .inside); placed = r .placed })
-    (λ t. absurd (omega (arith, ltb-no {a = x} {b = v} t, from-member (suc x) v xs (f .1) m)))
-
-module _ (xs : List ℕ) (v : ℕ) (f : Ascending xs) (m : Member v xs) where
-  pub rank-inside : rankIn xs v < length xs
-  rank-inside = ranked-from 0 v xs f m .inside
-
-  pub rank-place : getD xs (rankIn xs v) 0 ≡ v
-  rank-place = ranked-from 0 v xs f m .placed
-
 -- ---- insertion, one number after the others
 
 pub insert-grows : (v : ℕ) (xs : List ℕ) → length xs ≤ length (insert v xs)
@@ -131,6 +105,14 @@ insert-grows v (x ∷ xs) =
     pick-either (λ (l : List ℕ). length (x ∷ xs) ≤ length l) (ltb v x) (v ∷ x ∷ xs) (pick (eqb v x) (x ∷ xs) (x ∷ insert v xs))
     (λ t. omega arith)
     (λ t. pick-either (λ (l : List ℕ). length (x ∷ xs) ≤ length l) (eqb v x) (x ∷ xs) (x ∷ insert v xs) (λ u. omega arith) (λ u. omega (arith, insert-grows v xs)))
+
+pub insert-most : (v : ℕ) (xs : List ℕ) → length (insert v xs) ≤ suc (length xs)
+unfolding insert
+insert-most v [] = omega arith
+insert-most v (x ∷ xs) =
+    pick-either (λ (l : List ℕ). length l ≤ suc (length (x ∷ xs))) (ltb v x) (v ∷ x ∷ xs) (pick (eqb v x) (x ∷ xs) (x ∷ insert v xs))
+    (λ t. omega arith)
+    (λ t. pick-either (λ (l : List ℕ). length l ≤ suc (length (x ∷ xs))) (eqb v x) (x ∷ xs) (x ∷ insert v xs) (λ u. omega arith) (λ u. omega (arith, insert-most v xs)))
 
 pub all-grow : (vs xs : List ℕ) → length xs ≤ length (insertAll vs xs)
 unfolding insertAll

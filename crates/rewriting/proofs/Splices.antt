@@ -1,4 +1,4 @@
--- An expression copied up to each reference, with the new offset in its place: the bytes of its pieces with new values. The first reference that is refused is the first piece that is.
+-- An expression verbatim up to each reference, with the new offset in its place: the bytes of its pieces with new values. The first reference that is refused is the first piece that is.
 -- Assumes nothing.
 use mathlib.Core.Path.{_≡_, refl, ap, ap₂, sym, _∙_, subst}
 use Prim.Native.Nat.{ℕ, suc, _+_, _-_, _^_, _≤_, _<_}
@@ -12,8 +12,10 @@ use lib.Seq.{take-at, drop-at, take-add, drop-drop, take-all}
 use lib.Dec.{T, ltb, leb, eqb}
 use lib.Pow.{areBytes}
 use mir.Facts.{eqb-yes, yes-ltb, yes-leb}
-use Rattle.readers.specs.Choice.{pick, pick-yes, pick-no, either, _and_, _or_, all-of}
-use Rattle.readers.specs.Layout.{Encoded, infixed, inleb, width, Role, reference, typeReference, sibling, index, absolute, Piece, copied, linked, Patch, patchPiece, patchPieces, numberBytes, pieceBytes, bytesOf, length-number, Fit}
+use Rattle.readers.specs.Choice.{pick, _and_, _or_}
+use Rattle.readers.proofs.Choice.{pick-yes, pick-no, either, all-of}
+use Rattle.readers.specs.Layout.{Encoded, infixed, inleb, width, Role, reference, typeReference, sibling, index, absolute, Piece, verbatim, patchable, Patch, patchPiece, patchPieces, numberBytes, pieceBytes, bytesOf, Fit}
+use Rattle.readers.proofs.Layouts.{length-number}
 use Rattle.readers.specs.Expression.{expressionIn}
 use Rattle.readers.specs.References.{Named, nameIn, namesIn, encodedBy, flatFrom, nextReference}
 use Rattle.readers.specs.declared.cursor.Encoding.{Encoding}
@@ -22,9 +24,10 @@ use Rattle.readers.specs.declared.expressions.Yield.{Yield}
 use Rattle.readers.specs.declared.expressions.Yield.the-variants.{Reference as Yielded, End}
 use Rattle.readers.proofs.Yields.{flatBy, flat-next, next-wide, yields-all}
 use Rattle.rewriting.specs.Places.{Place, newOf}
-use Rattle.rewriting.specs.Written.{asMapped}
+use Rattle.rewriting.specs.inner.Written.{asMapped}
 use Rattle.rewriting.specs.Rewriting.{Lists, newValue, hasPlace, fits, pieceRefusal, piecesRefusal, orNext, orSelf, isSome}
-use Rattle.rewriting.specs.Emission.{between, Wide, holds, numberRefusal, offsetRefusal}
+use Rattle.rewriting.specs.Emission.{between}
+use Rattle.rewriting.specs.inner.Emission.{Wide, holds, numberRefusal, offsetRefusal}
 use Rattle.rewriting.specs.declared.emit.Emitted.{Emitted}
 use Rattle.rewriting.specs.declared.emit.Emitted.the-variants.{To, Refused}
 use Rattle.rewriting.specs.declared.map.Mapped.{Mapped}
@@ -56,7 +59,7 @@ module _ (lists : Lists) (map : List Place) (depth : ℕ) where
   next-zero m = refl
 
   -- what stays as it is is not refused
-  pub stays : (e : Encoded) (r : Role) (v : ℕ) → T (hasPlace lists map depth r v) → newValue lists map depth r v ≡ v → Fit e v → pieceRefusal lists map depth (linked e r v) ≡ 0
+  pub stays : (e : Encoded) (r : Role) (v : ℕ) → T (hasPlace lists map depth r v) → newValue lists map depth r v ≡ v → Fit e v → pieceRefusal lists map depth (patchable e r v) ≡ 0
   unfolding pieceRefusal
   stays e r v p q h =
       pick-yes _ _ _ p ∙ pick-yes _ _ _ (subst (λ x. T (fits lists map depth e x)) (sym q) (fit-fits e v h))
@@ -64,7 +67,7 @@ module _ (lists : Lists) (map : List Place) (depth : ℕ) where
   abbrev new : ℕ → ℕ
   new v = orSelf v (newOf map v)
 
-  pub reference-refusal : (e : Encoded) (v : ℕ) → pieceRefusal lists map depth (linked e reference v) ≡ offsetRefusal e v (newOf map v)
+  pub reference-refusal : (e : Encoded) (v : ℕ) → pieceRefusal lists map depth (patchable e reference v) ≡ offsetRefusal e v (newOf map v)
   unfolding pieceRefusal offsetRefusal numberRefusal hasPlace newValue
   reference-refusal e v = ap (λ b. pick (isSome (newOf map v)) (pick b 0 9) 8) (fits-holds e (new v))
 
@@ -78,17 +81,17 @@ module _ (lists : Lists) (map : List Place) (depth : ℕ) where
   or-yes true b h = tt
   or-yes false b h = absurd h
 
-  type-refusal : (e : Encoded) (v : ℕ) → T (not (eqb v 0)) → pieceRefusal lists map depth (linked e typeReference v) ≡ offsetRefusal e v (newOf map v)
+  type-refusal : (e : Encoded) (v : ℕ) → T (not (eqb v 0)) → pieceRefusal lists map depth (patchable e typeReference v) ≡ offsetRefusal e v (newOf map v)
   unfolding pieceRefusal offsetRefusal numberRefusal hasPlace newValue
   type-refusal e v t =
       ap₂ (λ (a : Bool) (n : ℕ). pick a (pick (fits lists map depth e n) 0 9) 8) (or-no (eqb v 0) (isSome (newOf map v)) t) (pick-no _ _ _ t)
       ∙ ap (λ b. pick (isSome (newOf map v)) (pick b 0 9) 8) (fits-holds e (new v))
 
-  type-zero : (e : Encoded) (v : ℕ) → T (eqb v 0) → Fit e v → pieceRefusal lists map depth (linked e typeReference v) ≡ 0
+  type-zero : (e : Encoded) (v : ℕ) → T (eqb v 0) → Fit e v → pieceRefusal lists map depth (patchable e typeReference v) ≡ 0
   unfolding hasPlace newValue
   type-zero e v t h = stays e typeReference v (or-yes (eqb v 0) _ t) (pick-yes _ _ _ t ∙ sym (eqb-yes {a = v} {b = 0} t)) h
 
-  absolute-none : (e : Encoded) (v : ℕ) → Fit e v → pieceRefusal lists map depth (linked e absolute v) ≡ 0
+  absolute-none : (e : Encoded) (v : ℕ) → Fit e v → pieceRefusal lists map depth (patchable e absolute v) ≡ 0
   unfolding hasPlace newValue
   absolute-none e v h = stays e absolute v tt refl h
 
@@ -105,24 +108,24 @@ module _ (lists : Lists) (map : List Place) (depth : ℕ) where
   pub refusal-names : (ps : List Piece) (o : ℕ) → Rights inExpression ps → piecesRefusal lists map depth ps ≡ namesRefusal (namesIn false o ps)
   unfolding piecesRefusal namesRefusal namesIn nameIn Rights Right inExpression pieceRefusal pieceBytes
   refusal-names [] o h = refl
-  refusal-names (copied l ∷ ps) o h = next-zero (piecesRefusal lists map depth ps) ∙ refusal-names ps (o + length l) (h .1)
-  refusal-names (linked e reference v ∷ ps) o h =
+  refusal-names (verbatim l ∷ ps) o h = next-zero (piecesRefusal lists map depth ps) ∙ refusal-names ps (o + length l) (h .1)
+  refusal-names (patchable e reference v ∷ ps) o h =
       ap₂ (orNext lists map depth) (reference-refusal e v) (refusal-names ps (o + length (numberBytes false e v)) (h .1))
-  refusal-names (linked e typeReference v ∷ ps) o h =
-      let rest : List Named = namesIn false (o + length (pieceBytes false (linked e typeReference v))) ps in
+  refusal-names (patchable e typeReference v ∷ ps) o h =
+      let rest : List Named = namesIn false (o + length (pieceBytes false (patchable e typeReference v))) ps in
       ⊎-elim
-      (λ t. ap₂ (orNext lists map depth) (type-zero e v t (h .0 .0)) (refusal-names ps (o + length (pieceBytes false (linked e typeReference v))) (h .1))
+      (λ t. ap₂ (orNext lists map depth) (type-zero e v t (h .0 .0)) (refusal-names ps (o + length (pieceBytes false (patchable e typeReference v))) (h .1))
       ∙ next-zero (namesRefusal rest)
       ∙ ap (λ x. namesRefusal (x ++ rest)) (sym (pick-yes (eqb v 0) [] ((o, v, e) ∷ []) t)))
-      (λ t. ap₂ (orNext lists map depth) (type-refusal e v t) (refusal-names ps (o + length (pieceBytes false (linked e typeReference v))) (h .1))
+      (λ t. ap₂ (orNext lists map depth) (type-refusal e v t) (refusal-names ps (o + length (pieceBytes false (patchable e typeReference v))) (h .1))
       ∙ ap (λ x. namesRefusal (x ++ rest)) (sym (pick-no (eqb v 0) [] ((o, v, e) ∷ []) t)))
       (either (eqb v 0))
-  refusal-names (linked e sibling v ∷ ps) o h = absurd (h .0 .1)
-  refusal-names (linked e (index k) v ∷ ps) o h = absurd (h .0 .1)
-  refusal-names (linked e absolute v ∷ ps) o h =
+  refusal-names (patchable e sibling v ∷ ps) o h = absurd (h .0 .1)
+  refusal-names (patchable e (index k) v ∷ ps) o h = absurd (h .0 .1)
+  refusal-names (patchable e absolute v ∷ ps) o h =
       ap (λ n. orNext lists map depth n (piecesRefusal lists map depth ps)) (absolute-none e v (h .0 .0))
       ∙ next-zero (piecesRefusal lists map depth ps)
-      ∙ refusal-names ps (o + length (pieceBytes false (linked e absolute v))) (h .1)
+      ∙ refusal-names ps (o + length (pieceBytes false (patchable e absolute v))) (h .1)
 
   -- ---- their bytes
 
@@ -173,11 +176,11 @@ module _ (lists : Lists) (map : List Place) (depth : ℕ) where
     pub spliced : (ps : List Piece) (c o : ℕ) → c ≤ o → drop o s ≡ bytesOf false ps → Rights inExpression ps → Spliced ps c o
     unfolding namesIn nameIn bytesOf pieceBytes patchPieces patchPiece Rights Right inExpression newValue
     spliced [] c o le h r = whole c o le h
-    spliced (copied l ∷ ps) c o le h r =
+    spliced (verbatim l ∷ ps) c o le h r =
         kept-piece ps c o l le h (spliced ps c (o + length l) (omega arith) (past-piece o l (bytesOf false ps) h) (r .1))
-    spliced (linked e reference v ∷ ps) c o le h r =
+    spliced (patchable e reference v ∷ ps) c o le h r =
         new-piece ps c o e v (spliced ps (o + width e) (o + length (numberBytes false e v)) (omega (arith, length-number false e v)) (past-piece o (numberBytes false e v) (bytesOf false ps) h) (r .1))
-    spliced (linked e typeReference v ∷ ps) c o le h r =
+    spliced (patchable e typeReference v ∷ ps) c o le h r =
         let nb : List ℕ = numberBytes false e v in
         let rest : List Named = namesIn false (o + length nb) ps in
         ⊎-elim
@@ -188,9 +191,9 @@ module _ (lists : Lists) (map : List Place) (depth : ℕ) where
         ∙ new-piece ps c o e v (spliced ps (o + width e) (o + length nb) (omega (arith, length-number false e v)) (past-piece o nb (bytesOf false ps) h) (r .1))
         ∙ ap (λ n. between s c o ++ (numberBytes false e n ++ bytesOf false (patchPieces f ps))) (sym (pick-no (eqb v 0) 0 (new v) t)))
         (either (eqb v 0))
-    spliced (linked e sibling v ∷ ps) c o le h r = absurd (r .0 .1)
-    spliced (linked e (index k) v ∷ ps) c o le h r = absurd (r .0 .1)
-    spliced (linked e absolute v ∷ ps) c o le h r =
+    spliced (patchable e sibling v ∷ ps) c o le h r = absurd (r .0 .1)
+    spliced (patchable e (index k) v ∷ ps) c o le h r = absurd (r .0 .1)
+    spliced (patchable e absolute v ∷ ps) c o le h r =
         kept-piece ps c o (numberBytes false e v) le h (spliced ps c (o + length (numberBytes false e v)) (omega arith) (past-piece o (numberBytes false e v) (bytesOf false ps) h) (r .1))
 
 -- ---- where they stand
@@ -235,11 +238,11 @@ order-none o n q = omega arith
 pub in-order : (ps : List Piece) (o n : ℕ) → o + length (bytesOf false ps) ≡ n → Rights inExpression ps → InOrder o n (namesIn false o ps)
 unfolding namesIn nameIn bytesOf pieceBytes Rights Right inExpression
 in-order [] o n q r = order-none o n q
-in-order (copied l ∷ ps) o n q r = order-more (namesIn false (o + length l) ps) o (o + length l) n (omega arith) (in-order ps (o + length l) n (let k : o + length l + length (bytesOf false ps) ≡ n = omega (arith, length-append l (bytesOf false ps)) in k) (r .1))
-in-order (linked e reference v ∷ ps) o n q r =
+in-order (verbatim l ∷ ps) o n q r = order-more (namesIn false (o + length l) ps) o (o + length l) n (omega arith) (in-order ps (o + length l) n (let k : o + length l + length (bytesOf false ps) ≡ n = omega (arith, length-append l (bytesOf false ps)) in k) (r .1))
+in-order (patchable e reference v ∷ ps) o n q r =
     let nb : List ℕ = numberBytes false e v in
     order-named ps o n e v (r .0 .0) (in-order ps (o + length nb) n (let k : o + length nb + length (bytesOf false ps) ≡ n = omega (arith, length-append nb (bytesOf false ps)) in k) (r .1))
-in-order (linked e typeReference v ∷ ps) o n q r =
+in-order (patchable e typeReference v ∷ ps) o n q r =
     let nb : List ℕ = numberBytes false e v in
     let rest : List Named = namesIn false (o + length nb) ps in
     let ih : InOrder (o + length nb) n rest = in-order ps (o + length nb) n (let k : o + length nb + length (bytesOf false ps) ≡ n = omega (arith, length-append nb (bytesOf false ps)) in k) (r .1) in
@@ -247,9 +250,9 @@ in-order (linked e typeReference v ∷ ps) o n q r =
     (λ t. subst (λ x. InOrder o n (x ++ rest)) (sym (pick-yes (eqb v 0) [] ((o, v, e) ∷ []) t)) (order-more rest o (o + length nb) n (omega arith) ih))
     (λ t. subst (λ x. InOrder o n (x ++ rest)) (sym (pick-no (eqb v 0) [] ((o, v, e) ∷ []) t)) (order-named ps o n e v (r .0 .0) ih))
     (either (eqb v 0))
-in-order (linked e sibling v ∷ ps) o n q r = absurd (r .0 .1)
-in-order (linked e (index k) v ∷ ps) o n q r = absurd (r .0 .1)
-in-order (linked e absolute v ∷ ps) o n q r =
+in-order (patchable e sibling v ∷ ps) o n q r = absurd (r .0 .1)
+in-order (patchable e (index k) v ∷ ps) o n q r = absurd (r .0 .1)
+in-order (patchable e absolute v ∷ ps) o n q r =
     let nb : List ℕ = numberBytes false e v in
     order-more (namesIn false (o + length nb) ps) o (o + length nb) n (omega arith) (in-order ps (o + length nb) n (let k : o + length nb + length (bytesOf false ps) ≡ n = omega (arith, length-append nb (bytesOf false ps)) in k) (r .1))
 
@@ -260,10 +263,10 @@ unfolding Sound encodedBy width Wide
 wide-of true w h q = let k : w - 1 < 10 = h in let p : suc (w - 1) ≡ w = q in (omega arith, omega arith)
 wide-of false w h q = h
 
-pub record Going (lists : Lists) (map : List Place) (depth : ℕ) (pieces : List Piece) (e : Encoding) (s out₀ : List ℕ) (at : ℕ) (out : List ℕ) (from copied to : ℕ) : Type 0 where
-  pub places : InOrder copied (length s) (flatFrom e s from)
+pub record Going (lists : Lists) (map : List Place) (depth : ℕ) (pieces : List Piece) (e : Encoding) (s out₀ : List ℕ) (at : ℕ) (out : List ℕ) (from verbatim to : ℕ) : Type 0 where
+  pub places : InOrder verbatim (length s) (flatFrom e s from)
   pub onward : (r : Emitted) (out′ : List ℕ)
-      → EmitsAt (namesRefusal lists map depth (flatFrom e s from)) (splice lists map depth s copied (flatFrom e s from)) out to r out′
+      → EmitsAt (namesRefusal lists map depth (flatFrom e s from)) (splice lists map depth s verbatim (flatFrom e s from)) out to r out′
       → EmitsAt (piecesRefusal lists map depth pieces) (bytesOf false (patchPieces (newValue lists map depth) pieces)) out₀ at r out′
 
 module _ (lists : Lists) (map : List Place) (depth : ℕ) (pieces : List Piece) (e : Encoding) (s out₀ : List ℕ) (at : ℕ) where
@@ -281,20 +284,20 @@ module _ (lists : Lists) (map : List Place) (depth : ℕ) (pieces : List Piece) 
             h;
       }
 
-  module _ (out : List ℕ) (from copied to : ℕ) (g : Going lists map depth pieces e s out₀ at out from copied to) (y : Yield) (q : y ≡ nextReference e s from) where
+  module _ (out : List ℕ) (from verbatim to : ℕ) (g : Going lists map depth pieces e s out₀ at out from verbatim to) (y : Yield) (q : y ≡ nextReference e s from) where
     none-left : y ≡ End → flatFrom e s from ≡ []
     unfolding flatBy
     none-left p = flat-next e s from ∙ ap (flatBy e s) (sym q ∙ p)
 
     pub going-end : y ≡ End → (to′ : ℕ) (out′ : List ℕ)
-        → (copied ≤ length s → length s ≤ length s → EmitsAt 0 (between s copied (length s)) out to (To to′) out′)
+        → (verbatim ≤ length s → length s ≤ length s → EmitsAt 0 (between s verbatim (length s)) out to (To to′) out′)
         → EmitsAt (piecesRefusal lists map depth pieces) (bytesOf false (patchPieces (newValue lists map depth) pieces)) out₀ at (To to′) out′
     unfolding InOrder namesRefusal splice between
     going-end p to′ out′ f =
         let n : flatFrom e s from ≡ [] = none-left p in
-        let c : copied ≤ length s = subst (InOrder copied (length s)) n (g .places) in
+        let c : verbatim ≤ length s = subst (InOrder verbatim (length s)) n (g .places) in
         g .onward (To to′) out′
-        (emits-as (ap (namesRefusal lists map depth) (sym n)) (take-all (length s - copied) (drop copied s) (omega (arith, length-drop copied s)) ∙ ap (splice lists map depth s copied) (sym n)) (f c (omega arith)))
+        (emits-as (ap (namesRefusal lists map depth) (sym n)) (take-all (length s - verbatim) (drop verbatim s) (omega (arith, length-drop verbatim s)) ∙ ap (splice lists map depth s verbatim) (sym n)) (f c (omega arith)))
 
     module _ (r : Reference) (p : y ≡ Yielded r) where
       abbrev code : Encoded
@@ -310,19 +313,19 @@ module _ (lists : Lists) (map : List Place) (depth : ℕ) (pieces : List Piece) 
       is-wide : width code ≡ r .width
       is-wide = next-wide e s from r (sym q ∙ p)
 
-      where-it-is : (copied ≤ r .place) × (r .place + width code ≤ length s) × Sound code × InOrder (r .place + width code) (length s) rest
+      where-it-is : (verbatim ≤ r .place) × (r .place + width code ≤ length s) × Sound code × InOrder (r .place + width code) (length s) rest
       unfolding InOrder
-      where-it-is = subst (InOrder copied (length s)) one-more (g .places)
+      where-it-is = subst (InOrder verbatim (length s)) one-more (g .places)
 
       pub going-place : r .place + r .width ≤ length s
       going-place = let l : r .place + width code ≤ length s = where-it-is .1 in let w : width code ≡ r .width = is-wide in omega arith
 
-      module _ (to₁ : ℕ) (out₁ : List ℕ) (f : copied ≤ r .place → r .place ≤ length s → EmitsAt 0 (between s copied (r .place)) out to (To to₁) out₁)
+      module _ (to₁ : ℕ) (out₁ : List ℕ) (f : verbatim ≤ r .place → r .place ≤ length s → EmitsAt 0 (between s verbatim (r .place)) out to (To to₁) out₁)
           (mapped : Mapped) (m : mapped ≡ asMapped (newOf map (r .target .0))) (a : Emitted) (out₂ : List ℕ)
           (h : (o : Option ℕ) (v : ℕ) → mapped ≡ asMapped o → Wide (r .leb) (r .width) → EmitsAt (offsetRefusal code v o) (numberBytes false code (orSelf v o)) out₁ to₁ a out₂) where
-        before-it : EmitsAt 0 (between s copied (r .place)) out to (To to₁) out₁
+        before-it : EmitsAt 0 (between s verbatim (r .place)) out to (To to₁) out₁
         before-it =
-            let c : copied ≤ r .place = where-it-is .0 in
+            let c : verbatim ≤ r .place = where-it-is .0 in
             let l : r .place + width code ≤ length s = where-it-is .1 in
             f c (omega arith)
 
@@ -345,8 +348,8 @@ module _ (lists : Lists) (map : List Place) (depth : ℕ) (pieces : List Piece) 
             g .onward z out₃
             (emits-as
             (next-zero lists map depth _ ∙ ap (namesRefusal lists map depth) (sym one-more))
-            (ap (splice lists map depth s copied) (sym one-more))
-            (emits-then lists map depth 0 _ (between s copied (r .place)) _ out to to₁ out₁ z out₃ before-it k))
+            (ap (splice lists map depth s verbatim) (sym one-more))
+            (emits-then lists map depth 0 _ (between s verbatim (r .place)) _ out to to₁ out₁ z out₃ before-it k))
 
         pub going-refused : (k : ℕ) → a ≡ Refused k
             → EmitsAt (piecesRefusal lists map depth pieces) (bytesOf false (patchPieces (newValue lists map depth) pieces)) out₀ at (Refused k) out₂

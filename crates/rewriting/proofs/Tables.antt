@@ -3,19 +3,23 @@ use Prim.Native.Nat.{ℕ, zero, suc, _+_, _-_, _*_, _/_, _^_, _≤_, _<_}
 use mathlib.Core.Path.{_≡_, refl, ap, ap₂, sym, _∙_}
 use mathlib.Core.Bool.{true}
 use mathlib.Core.List.{List, [], _∷_, _++_, append-assoc, append-nil}
-use mathlib.Core.Logic.{_⊎_, inl, inr, ⊎-elim}
+use mathlib.Core.Logic.{⊎-elim}
 use native.Mathlib.Nat.{mul-suc, mul-zero}
 use native.Mathlib.Numerals.{add-one}
 use native.Mathlib.Omega.{arith}
 use lib.ListN.{length, getD, take, drop, length-append, length-drop, length-replicate, take-append-drop}
 use lib.Seq.{take-at, drop-at, drop-append-add, length-take-le}
 use mir.Facts.{yes-ltb, no-ltb}
-use Rattle.readers.specs.Choice.{pick-yes, pick-no, zeros}
-use Rattle.readers.specs.Numbers.{fixedBytes, fixedValue, length-fixed, fixed-value}
+use Rattle.readers.specs.Choice.{zeros}
+use Rattle.readers.proofs.Choice.{pick-yes, pick-no}
+use Rattle.readers.specs.Numbers.{fixedBytes, fixedValue}
+use Rattle.readers.proofs.Numbers.{length-fixed, fixed-value}
 use Rattle.marking.specs.Members.{Member, here, there}
-use Rattle.rewriting.specs.Written.{put, numberAt, inRoom, runBytes, Held}
+use Rattle.rewriting.specs.Written.{put, numberAt, inRoom, runBytes, oldAt}
+use Rattle.rewriting.specs.inner.Written.{NumbersHeld}
 use Rattle.marking.proofs.Members.{nothing-in}
 use Rattle.rewriting.proofs.Putting.{drop-zeros}
+use Rattle.marking.proofs.Members.{in-either}
 
 -- every number of a list is below a bound
 abbrev pub Small : ℕ → List ℕ → Type 0
@@ -40,6 +44,11 @@ no-room i n x h = sym (pick-no _ _ _ (no-ltb {a = i} {b = n} h))
 -- of an index list
 pub number-there : (list : List ℕ) (i r : ℕ) → r ≡ inRoom i (length list / 8) (numberAt 8 list (8 * i)) → i < length list / 8 → r ≡ numberAt 8 list (8 * i)
 number-there list i r e h = in-room i (length list / 8) _ r e h
+
+-- of a map, at the first byte of a place
+pub first-byte : (map : List ℕ) (i r : ℕ) → r ≡ inRoom i (length map / 12) (numberAt 4 map (12 * i + 0)) → r ≡ oldAt map i
+unfolding oldAt
+first-byte map i r q = q ∙ ap (λ n. inRoom i (length map / 12) (numberAt 4 map n)) (let e : 12 * i + 0 ≡ 12 * i = omega arith in e)
 
 module _ (w : ℕ) where
   pub length-run : (xs : List ℕ) → length (runBytes w xs) ≡ w * length xs
@@ -96,7 +105,7 @@ module _ (w : ℕ) where
       ∙ ap (λ l. runBytes w xs ++ (l ++ drop w rest)) (append-nil (fixedBytes true w v)))
 
   -- a number that a table holds
-  pub held-at : (xs bytes : List ℕ) (i : ℕ) → Held w xs bytes → i < length xs → numberAt w bytes (w * i) ≡ getD xs i 0
+  pub held-at : (xs bytes : List ℕ) (i : ℕ) → NumbersHeld w xs bytes → i < length xs → numberAt w bytes (w * i) ≡ getD xs i 0
   held-at xs bytes i h l =
       ap (λ s. numberAt w s (w * i)) (h .are) ∙ run-at xs (zeros (length bytes - w * length xs)) i (h .small) l
 
@@ -107,21 +116,16 @@ length-put xs n ys h =
     let b : length (ys ++ drop (n + length ys) xs) ≡ length ys + length (drop (n + length ys) xs) = length-append ys (drop (n + length ys) xs) in
     let d : length (drop (n + length ys) xs) ≡ length xs - (n + length ys) = length-drop (n + length ys) xs in omega arith)
 
-member-append : (v : ℕ) (xs ys : List ℕ) → Member v (xs ++ ys) → Member v xs ⊎ Member v ys
-member-append v [] ys m = inr m
-member-append v (x ∷ xs) ys (here e) = inl (here e)
-member-append v (x ∷ xs) ys (there m) = ⊎-elim (λ (a : Member v xs). inl (there a)) (λ (b : Member v ys). inr b) (member-append v xs ys m)
-
 pub small-append : (n : ℕ) (xs ys : List ℕ) → Small n xs → Small n ys → Small n (xs ++ ys)
-small-append n xs ys f g v m = ⊎-elim (λ (a : Member v xs). f v a) (λ (b : Member v ys). g v b) (member-append v xs ys m)
+small-append n xs ys f g v m = ⊎-elim (λ (a : Member v xs). f v a) (λ (b : Member v ys). g v b) (in-either v xs ys m)
 
 pub small-one : (n x : ℕ) → x < n → Small n (x ∷ [])
 small-one n x h v (here e) = rw e h
 small-one n x h v (there m) = absurd (nothing-in v m)
 
 -- one number more in a table that has room for it
-pub held-more : (w : ℕ) (xs bytes : List ℕ) (v : ℕ) → Held w xs bytes → w * length xs + w ≤ length bytes → v < 256 ^ w
-    → Held w (xs ++ (v ∷ [])) (put bytes (w * length xs) (fixedBytes true w v))
+pub held-more : (w : ℕ) (xs bytes : List ℕ) (v : ℕ) → NumbersHeld w xs bytes → w * length xs + w ≤ length bytes → v < 256 ^ w
+    → NumbersHeld w (xs ++ (v ∷ [])) (put bytes (w * length xs) (fixedBytes true w v))
 held-more w xs bytes v h r s =
     let m : ℕ = length bytes - w * length xs in
     let after : List ℕ = put bytes (w * length xs) (fixedBytes true w v) in

@@ -9,25 +9,27 @@ use mathlib.Core.Logic.{⊎-elim}
 use lib.ListN.{length, take, getD}
 use lib.Dec.{T, eqb, leb}
 use borrow.Author.Tests.{eq-eqb, ne-eqb}
-use Rattle.readers.specs.Choice.{pick, pick-either, _and_, zeros}
+use Rattle.readers.specs.Choice.{pick, _and_, zeros}
+use Rattle.readers.proofs.Choice.{pick-either}
 use Rattle.readers.specs.Abbreviations.{Placed, declaredIn, abbreviationsOf, indexOf, findAt}
 use Rattle.readers.specs.Stream.{Item, entry, terminator}
 use Rattle.readers.specs.declared.header.UnitHeader.{UnitHeader}
 use Rattle.readers.proofs.Declarations.{find-plain}
-use Rattle.marking.specs.Analysis.{Sections, Rooms, Row, analysed, unitAnalysed, headerAnalysed, analysisOf}
+use Rattle.marking.specs.Analysis.{Sections, Rooms, EntryRow, analysed, unitAnalysed, headerAnalysed, analysisOf}
 use Rattle.marking.specs.Columns.{padTo, parentsIn}
 use Rattle.marking.proofs.Rows.{unit-rows}
 use Rattle.marking.specs.Marks.{isKept, keptCount}
 use Rattle.marking.specs.Resolution.{marksIn}
-use Rattle.rewriting.specs.Places.{Standing, withIf, opened, closed, innermost, keptFrom}
-use Rattle.rewriting.specs.Parents.{parentsFrom, entriesIn, HoldsFrom}
-use Rattle.rewriting.specs.Ends.{EndsHeld}
-use Rattle.rewriting.specs.NextKept.{itemsBy}
+use Rattle.rewriting.specs.Places.{NestedItem, withIf, opened, closed, innermost, keptFrom}
+use Rattle.readers.specs.Stream.{entryCount}
+use Rattle.rewriting.specs.inner.Parents.{parentsFrom, HoldsFrom}
+use Rattle.rewriting.specs.inner.Ends.{EndsHeld}
+use Rattle.rewriting.specs.inner.NextKept.{itemsBy}
 use Rattle.rewriting.specs.Rewriting.{Unit as Unit′, Lists, Room, Collected, untouched, rewritten, refused, itemsIn, listsOf, listsFit, orRefused, rewriteOf, marksCollected}
-use Rattle.rewriting.specs.IndexLists.{ReadAs, Found, Passable}
-use Rattle.rewriting.specs.Emission.{Lends}
+use Rattle.rewriting.specs.inner.IndexLists.{ReadAs, TablesFound, PassInput}
+use Rattle.rewriting.specs.inner.Emission.{ListsLent}
 use Rattle.rewriting.specs.Outputs.{roomBy, listCount, countsOf, answerFor, mapFor, outputFor, listOr, listFor, rangesIn, locationsIn, stringsIn}
-use Rattle.rewriting.specs.Leaving.{Accepts, Answers, ownUnit, Tabled, Blank, markedOf, haveRoom, ListsAnswer, Writable, WriteAnswer}
+use Rattle.rewriting.specs.inner.Leaving.{Accepts, Answers, ownUnit, Tabled, Blank, markedOf, haveRoom, ListsAnswer, Writable, WriteAnswer}
 use Rattle.rewriting.specs.declared.kept.Reading.{Reading}
 use Rattle.rewriting.specs.declared.lists.ListCount.{ListCount}
 use Rattle.rewriting.specs.declared.collect.Counts.{Counts}
@@ -36,7 +38,7 @@ use Rattle.rewriting.specs.declared.collect.Listed.the-variants.{Made, S
 use Rattle.rewriting.specs.declared.collect.Collected.{Collected as Answer}
 use Rattle.rewriting.specs.declared.collect.Collected.the-variants.{Untouched, Rewritten, Refused}
 use Rattle.rewriting.proofs.HeaderAgain.{HeaderLaw, header-laws}
-use Rattle.rewriting.proofs.Accepted.{Accepted}
+use Rattle.rewriting.proofs.Following.{Accepted}
 use Rattle.rewriting.proofs.ReadableItems.{accepted-readable}
 use Rattle.rewriting.proofs.ParentsOf.{parents-held, parents-of}
 use Rattle.rewriting.proofs.UnitKept.{reading, items-read}
@@ -63,7 +65,7 @@ same-kept : (a b : List ℕ) → ((i : ℕ) → isKept a i ≡ isKept b i) → (
 unfolding keptFrom
 same-kept a b f k stack [] = refl
 same-kept a b f k stack (entry x ∷ rest) =
-    let s : Standing = record { item = entry x; depth = length stack } in
+    let s : NestedItem = record { item = entry x; depth = length stack } in
     ap (λ (z : Bool). withIf z s (keptFrom a (suc k) (opened (x .declaration .children) z stack) rest)) (f k)
     ∙ ap (withIf (isKept b k) s) (same-kept a b f (suc k) (opened (x .declaration .children) (isKept b k) stack) rest)
 same-kept a b f k stack (terminator p q ∷ rest) =
@@ -87,7 +89,7 @@ true-or-false false P f g = g refl
 
 -- ---- what is asked for
 
-module _ (x : Sections) (tables : Rooms) (section : List ℕ) (h : UnitHeader) (ds : List Placed) (rows : List Row) (s index parents ends marks : List ℕ) (entries kept : ℕ)
+module _ (x : Sections) (tables : Rooms) (section : List ℕ) (h : UnitHeader) (ds : List Placed) (rows : List EntryRow) (s index parents ends marks : List ℕ) (entries kept : ℕ)
     (w : Tabled x tables section h ds rows s index parents ends marks entries kept) (unit : List ℕ) (is : unit ≡ take (h .end) section) where
   abbrev own : Unit′
   own = ownUnit h section ds
@@ -107,7 +109,7 @@ module _ (x : Sections) (tables : Rooms) (section : List ℕ) (h : UnitHeader) (
         declared-are = ap (λ (l : List ℕ). abbreviationsOf l (h .abbreviations)) (sym (w .abbreviations-are)) ∙ w .declared-are;
       }
 
-  found : Found own how s index
+  found : TablesFound own how s index
   found code =
       ap (λ (i : List ℕ). findAt s (h .abbreviations) i code) (w .index-is)
       ∙ ap (λ (z : List ℕ). findAt z (h .abbreviations) (indexOf (x .abbreviations) (h .abbreviations) (length index)) code) (sym (w .abbreviations-are))
@@ -136,19 +138,19 @@ module _ (x : Sections) (tables : Rooms) (section : List ℕ) (h : UnitHeader) (
   below = let l : length (take (h .end) section) < 0xfffffff4 = law .short in let z : length unit < 2 ^ 32 = omega (arith, length-unit) in z
 
   -- the column of ends has room for all entries
-  entries-fit : entriesIn (itemsBy how s index unit (h .first .0)) ≤ length ends
+  entries-fit : entryCount (itemsBy how s index unit (h .first .0)) ≤ length ends
   unfolding itemsIn
   entries-fit =
-      let many : length rows ≡ entriesIn (itemsIn x own) =
+      let many : length rows ≡ entryCount (itemsIn x own) =
       parents-of (h .encoding) x (take (h .end) section) tables (h .abbreviations) (h .first .0) rows unit-analysed ds (w .declared-are) .many in
       let few : length rows ≤ tables .entries = unit-rows (h .encoding) x (take (h .end) section) tables (h .abbreviations) (h .first .0) rows unit-analysed .entries in
-      let same : entriesIn (itemsBy how s index unit (h .first .0)) ≡ entriesIn (itemsIn x own) = ap entriesIn (items-are x own how s index unit read-as found) in
+      let same : entryCount (itemsBy how s index unit (h .first .0)) ≡ entryCount (itemsIn x own) = ap entryCount (items-are x own how s index unit read-as found) in
       omega (arith, w .ends-room)
 
   abbrev pub FilledBy : List ℕ → Type 0
-  FilledBy ends′ = length unit < 2 ^ 32 → entriesIn (itemsBy how s index unit (h .first .0)) ≤ length ends → EndsHeld ends′ 0 (itemsBy how s index unit (h .first .0))
+  FilledBy ends′ = length unit < 2 ^ 32 → entryCount (itemsBy how s index unit (h .first .0)) ≤ length ends → EndsHeld ends′ 0 (itemsBy how s index unit (h .first .0))
 
-  pub unit-passes : (ends′ : List ℕ) → FilledBy ends′ → Passable x own how s index unit parents ends′ marks (h .first .0)
+  pub unit-passes : (ends′ : List ℕ) → FilledBy ends′ → PassInput x own how s index unit parents ends′ marks (h .first .0)
   unit-passes ends′ fe =
       passable x own how s index unit read-as found parents ends′ marks below parents-there
       (subst (EndsHeld ends′ 0) (items-are x own how s index unit read-as found) (fe below entries-fit))
@@ -174,7 +176,7 @@ module _ (x : Sections) (tables : Rooms) (section : List ℕ) (h : UnitHeader) (
 
 -- ---- the lists of a rewritten unit
 
-rewrite-lists : (x : Sections) (room : Room) (u : Unit′) (entries kept : ℕ) (l : Lists) (items : List Standing) (f : Lists → Option (List ℕ)) (n : ℕ)
+rewrite-lists : (x : Sections) (room : Room) (u : Unit′) (entries kept : ℕ) (l : Lists) (items : List NestedItem) (f : Lists → Option (List ℕ)) (n : ℕ)
     → Accepts (rewriteOf x room u entries kept l items) → listOr n (f l) ≡ listFor f n (rewriteOf x room u entries kept l items)
 unfolding rewriteOf orRefused Accepts listFor
 rewrite-lists x room u entries kept l items f n =
@@ -185,24 +187,24 @@ rewrite-lists x room u entries kept l items f n =
 
 module _ (t : Bool) (section : List ℕ) (h : UnitHeader) (s index parents ends marks : List ℕ) (entries kept : ℕ) (map ranges locations strings out unit : List ℕ) (is : unit ≡ take (h .end) section)
     (ends′ : List ℕ)
-    (fe : length unit < 2 ^ 32 → entriesIn (itemsBy (reading (h .abbreviations) (h .encoding)) s index unit (h .first .0)) ≤ length ends → EndsHeld ends′ 0 (itemsBy (reading (h .abbreviations) (h .encoding)) s index unit (h .first .0)))
+    (fe : length unit < 2 ^ 32 → entryCount (itemsBy (reading (h .abbreviations) (h .encoding)) s index unit (h .first .0)) ≤ length ends → EndsHeld ends′ 0 (itemsBy (reading (h .abbreviations) (h .encoding)) s index unit (h .first .0)))
     (listed : Listed) (ranges′ locations′ strings′ : List ℕ)
-    (il : (x : Sections) (u : Unit′) → Passable x u (reading (h .abbreviations) (h .encoding)) s index unit parents ends′ marks (h .first .0) → h .first .0 ≡ u .header .first .0
+    (il : (x : Sections) (u : Unit′) → PassInput x u (reading (h .abbreviations) (h .encoding)) s index unit parents ends′ marks (h .first .0) → h .first .0 ≡ u .header .first .0
     → ranges ≡ zeros (length ranges) → locations ≡ zeros (length locations) → strings ≡ zeros (length strings)
     → ListsAnswer (listsOf x u t (keptFrom marks 0 [] (itemsIn x u))) (length ranges) (length locations) (length strings) listed ranges′ locations′ strings′) where
   abbrev Goal : Answer → List ℕ → List ℕ → Type 0
-  Goal a map′ out′ = (x : Sections) (tables : Rooms) (ds : List Placed) (rows : List Row) → Tabled x tables section h ds rows s index parents ends marks entries kept → Blank map ranges locations strings out
+  Goal a map′ out′ = (x : Sections) (tables : Rooms) (ds : List Placed) (rows : List EntryRow) → Tabled x tables section h ds rows s index parents ends marks entries kept → Blank map ranges locations strings out
       → Answers (markedOf x (roomBy tables (length map) (length ranges) (length locations) (length strings) (length out)) t (ownUnit h section ds) rows) a
       (length map) (length ranges) (length locations) (length strings) (length out) map′ ranges′ locations′ strings′ out′
 
-  module _ (x : Sections) (tables : Rooms) (ds : List Placed) (rows : List Row) (w : Tabled x tables section h ds rows s index parents ends marks entries kept) (b : Blank map ranges locations strings out) where
+  module _ (x : Sections) (tables : Rooms) (ds : List Placed) (rows : List EntryRow) (w : Tabled x tables section h ds rows s index parents ends marks entries kept) (b : Blank map ranges locations strings out) where
     abbrev room : Room
     room = roomBy tables (length map) (length ranges) (length locations) (length strings) (length out)
 
     abbrev u : Unit′
     u = ownUnit h section ds
 
-    abbrev items : List Standing
+    abbrev items : List NestedItem
     items = keptFrom (marksIn rows) 0 [] (itemsIn x u)
 
     abbrev l : Lists
@@ -210,7 +212,7 @@ module _ (t : Bool) (section : List ℕ) (h : UnitHeader) (s index parents ends 
 
     those : ListsAnswer l (length ranges) (length locations) (length strings) listed ranges′ locations′ strings′
     those =
-        subst (λ (k : List Standing). ListsAnswer (listsOf x u t k) (length ranges) (length locations) (length strings) listed ranges′ locations′ strings′)
+        subst (λ (k : List NestedItem). ListsAnswer (listsOf x u t k) (length ranges) (length locations) (length strings) listed ranges′ locations′ strings′)
         (kept-here x tables section h ds rows s index parents ends marks entries kept w unit is)
         (il x u (unit-passes x tables section h ds rows s index parents ends marks entries kept w unit is ends′ fe) refl (b .ranges-blank) (b .locations-blank) (b .strings-blank))
 
@@ -271,24 +273,24 @@ module _ (t : Bool) (section : List ℕ) (h : UnitHeader) (s index parents ends 
         }
 
     module _ (p q r : ListCount) (e : listed ≡ Made p q r) (dead : kept ≡ entries → ⊥) (a : Answer) (map′ out′ : List ℕ)
-        (k : (x : Sections) (u : Unit′) (lists : Lists) (room : Room) → Passable x u (reading (h .abbreviations) (h .encoding)) s index unit parents ends′ marks (h .first .0)
-        → Lends lists ranges′ p locations′ q strings′ r → Writable u room unit (h .first .0) map out
+        (k : (x : Sections) (u : Unit′) (lists : Lists) (room : Room) → PassInput x u (reading (h .abbreviations) (h .encoding)) s index unit parents ends′ marks (h .first .0)
+        → ListsLent lists ranges′ p locations′ q strings′ r → Writable u room unit (h .first .0) map out
         → WriteAnswer (rewriteOf x room u entries kept lists (keptFrom marks 0 [] (itemsIn x u))) a (length map) (length out) map′ out′) where
       abbrev wanted : Collected
       wanted = rewriteOf x room u (length (marksIn rows)) (keptCount (marksIn rows)) l items
 
-      lent-here : Lends l ranges′ p locations′ q strings′ r
+      lent-here : ListsLent l ranges′ p locations′ q strings′ r
       lent-here =
           let z = counts p q r e in
-          subst (λ (v : ListCount). Lends l ranges′ v locations′ q strings′ r) (sym (z .0))
-          (subst (λ (v : ListCount). Lends l ranges′ (listCount (l .ranges)) locations′ v strings′ r) (sym (z .1))
-          (subst (λ (v : ListCount). Lends l ranges′ (listCount (l .ranges)) locations′ (listCount (l .locations)) strings′ v) (sym (z .2)) (those .lent (fits-made p q r e))))
+          subst (λ (v : ListCount). ListsLent l ranges′ v locations′ q strings′ r) (sym (z .0))
+          (subst (λ (v : ListCount). ListsLent l ranges′ (listCount (l .ranges)) locations′ v strings′ r) (sym (z .1))
+          (subst (λ (v : ListCount). ListsLent l ranges′ (listCount (l .ranges)) locations′ (listCount (l .locations)) strings′ v) (sym (z .2)) (those .lent (fits-made p q r e))))
 
       wrote : WriteAnswer wanted a (length map) (length out) map′ out′
       wrote =
           subst (λ (v : ℕ). WriteAnswer (rewriteOf x room u v (keptCount (marksIn rows)) l items) a (length map) (length out) map′ out′) (w .entries-are)
           (subst (λ (v : ℕ). WriteAnswer (rewriteOf x room u entries v l items) a (length map) (length out) map′ out′) (w .kept-are)
-          (subst (λ (v : List Standing). WriteAnswer (rewriteOf x room u entries kept l v) a (length map) (length out) map′ out′)
+          (subst (λ (v : List NestedItem). WriteAnswer (rewriteOf x room u entries kept l v) a (length map) (length out) map′ out′)
           (kept-here x tables section h ds rows s index parents ends marks entries kept w unit is)
           (k x u l room (unit-passes x tables section h ds rows s index parents ends marks entries kept w unit is ends′ fe) lent-here
           (unit-writable x tables section h ds rows s index parents ends marks entries kept w unit is map ranges locations strings out b))))
@@ -315,8 +317,8 @@ module _ (t : Bool) (section : List ℕ) (h : UnitHeader) (s index parents ends 
   untouched-unit p q r e k x tables ds rows w b = untouched-one x tables ds rows w b p q r e k
 
   pub written-unit : (p q r : ListCount) → listed ≡ Made p q r → (kept ≡ entries → ⊥) → (a : Answer) (map′ out′ : List ℕ)
-      → ((x : Sections) (u : Unit′) (lists : Lists) (room : Room) → Passable x u (reading (h .abbreviations) (h .encoding)) s index unit parents ends′ marks (h .first .0)
-      → Lends lists ranges′ p locations′ q strings′ r → Writable u room unit (h .first .0) map out
+      → ((x : Sections) (u : Unit′) (lists : Lists) (room : Room) → PassInput x u (reading (h .abbreviations) (h .encoding)) s index unit parents ends′ marks (h .first .0)
+      → ListsLent lists ranges′ p locations′ q strings′ r → Writable u room unit (h .first .0) map out
       → WriteAnswer (rewriteOf x room u entries kept lists (keptFrom marks 0 [] (itemsIn x u))) a (length map) (length out) map′ out′)
       → Goal a map′ out′
   written-unit p q r e dead a map′ out′ k x tables ds rows w b = written-one x tables ds rows w b p q r e dead a map′ out′ k

@@ -10,18 +10,17 @@ use Rattle.readers.specs.Stream.{Item, Items, itemsFrom}
 use Rattle.readers.specs.declared.cursor.Encoding.{Encoding}
 use Rattle.readers.proofs.Declarations.{find-plain}
 use Rattle.readers.proofs.Streams.{items-look}
-use Rattle.marking.specs.Analysis.{Sections, Rooms, Row, analysed, unitAnalysed}
+use Rattle.marking.specs.Analysis.{Sections, Rooms, EntryRow, analysed, unitAnalysed}
 use Rattle.marking.specs.Columns.{parentsIn, padTo}
 use Rattle.rewriting.specs.Places.{keptFrom, placesFrom}
-use Rattle.rewriting.specs.Written.{MapHeld}
+use Rattle.rewriting.specs.inner.Written.{MapHeld}
 use Rattle.rewriting.specs.Rewriting.{Unit as Unit′, itemsIn}
-use Rattle.rewriting.specs.NextKept.{itemsBy}
-use Rattle.rewriting.specs.Parents.{parentsFrom, HoldsFrom}
-use Rattle.rewriting.specs.Measures.{ColumnsHeld, keptOfUnit}
-use Rattle.rewriting.specs.MapFilled.{Fills}
+use Rattle.rewriting.specs.inner.NextKept.{itemsBy}
+use Rattle.rewriting.specs.inner.Parents.{parentsFrom, HoldsFrom}
+use Rattle.rewriting.specs.inner.Measures.{ColumnsHeld, keptOfUnit}
+use Rattle.rewriting.specs.inner.MapFilled.{Fills}
 use Rattle.rewriting.specs.declared.kept.Reading.{Reading}
-use Rattle.rewriting.proofs.Maps.{olds-ascending}
-use Rattle.rewriting.proofs.Sizes.{items-ascending}
+use Rattle.rewriting.proofs.Ascending.{items-ascending, olds-ascending}
 use Rattle.rewriting.proofs.ParentsOf.{parents-held}
 
 abbrev pub reading : ℕ → Encoding → Reading
@@ -44,7 +43,7 @@ module _ (x : Sections) (u : Unit′) (from n : ℕ) (h : abbreviationsOf (x .ab
       ap (keptFrom marks 0 []) (items-read from (u .header .encoding) (x .abbreviations) (u .bytes) n (u .declared) h (u .header .first .0))
 
 -- the parents column after an analysis
-pub column-held : (e : Encoding) (x : Sections) (unit : List ℕ) (room : Rooms) (from first : ℕ) (rows : List Row) → unitAnalysed e x unit room from first ≡ analysed rows → (n m : ℕ)
+pub column-held : (e : Encoding) (x : Sections) (unit : List ℕ) (room : Rooms) (from first : ℕ) (rows : List EntryRow) → unitAnalysed e x unit room from first ≡ analysed rows → (n m : ℕ)
     → HoldsFrom (padTo m (parentsIn rows)) 0 (parentsFrom 0 [] (itemsBy (reading from e) (x .abbreviations) (indexOf (x .abbreviations) from n) unit first))
 column-held e x unit room from first rows q n m = parents-held e x unit room from first rows q n m
 

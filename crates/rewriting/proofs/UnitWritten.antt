@@ -11,26 +11,30 @@ use lib.Seq.{length-take-le, take-at, drop-append-add}
 use lib.Dec.{T, eqb, leb}
 use mir.Facts.{eqb-yes, eqb-no}
 use borrow.Author.Tests.{le-leb, lt-leb, eq-eqb, ne-eqb}
-use Rattle.readers.specs.Choice.{pick, either, zeros}
-use Rattle.readers.specs.Numbers.{fixedBytes, length-fixed}
+use Rattle.readers.specs.Choice.{pick, zeros}
+use Rattle.readers.proofs.Choice.{either}
+use Rattle.readers.specs.Numbers.{fixedBytes}
+use Rattle.readers.proofs.Numbers.{length-fixed}
 use Rattle.readers.specs.Layout.{Read, writeAll, Patch, patchAll}
-use Rattle.readers.specs.Expression.{expressionIn, expression-law}
+use Rattle.readers.specs.Expression.{expressionIn}
+use Rattle.readers.proofs.Expression.{expression-law}
 use Rattle.readers.specs.Abbreviations.{declaredIn}
 use Rattle.readers.specs.Stream.{Item}
 use Rattle.readers.specs.declared.cursor.Encoding.{Encoding}
 use Rattle.marking.specs.Analysis.{Sections}
 use Rattle.marking.specs.Columns.{padTo}
-use Rattle.rewriting.specs.Places.{Standing, keptFrom, offsetOf, sizeOf, Place, placesFrom, sizeFrom}
+use Rattle.rewriting.specs.Places.{NestedItem, keptFrom, offsetOf, sizeOf, Place, placesFrom, sizeFrom}
 use Rattle.rewriting.specs.Rewriting.{Unit as Unit′, Lists, Room, Collected, untouched, rewritten, refused, itemsIn, readsOr, readsAt, newValue, refusalFrom, bytesFrom, unitBytes, orRefused, rewriteOf}
-use Rattle.rewriting.specs.NextKept.{itemsBy}
-use Rattle.rewriting.specs.Written.{put, runBytes, columns, mapBytes, ListHeld, MapHeld}
-use Rattle.rewriting.specs.Bounds.{Bounds}
-use Rattle.rewriting.specs.IndexLists.{ReadDeep, AllRead, Passable}
-use Rattle.rewriting.specs.Measures.{Measures}
-use Rattle.rewriting.specs.MapFilled.{Fills}
-use Rattle.rewriting.specs.Emission.{Lent, Lends}
+use Rattle.rewriting.specs.inner.NextKept.{itemsBy}
+use Rattle.rewriting.specs.Written.{put, runBytes, columns, mapBytes}
+use Rattle.rewriting.specs.inner.Written.{ListHeld, MapHeld}
+use Rattle.rewriting.specs.inner.Bounds.{Bounds}
+use Rattle.rewriting.specs.inner.IndexLists.{ReadDeep, AllRead, PassInput}
+use Rattle.rewriting.specs.inner.Measures.{Measures}
+use Rattle.rewriting.specs.inner.MapFilled.{Fills}
+use Rattle.rewriting.specs.inner.Emission.{Lent, ListsLent}
 use Rattle.rewriting.specs.Outputs.{listCount, countsOf, answerFor, mapFor, outputFor}
-use Rattle.rewriting.specs.Leaving.{Accepts, Writable, WriteAnswer}
+use Rattle.rewriting.specs.inner.Leaving.{Accepts, Writable, WriteAnswer}
 use Rattle.rewriting.specs.declared.kept.Reading.{Reading}
 use Rattle.rewriting.specs.declared.passes.Size.{Size}
 use Rattle.rewriting.specs.declared.lists.ListCount.{ListCount}
@@ -42,8 +46,7 @@ use Rattle.rewriting.specs.declared.collect.Collected.{Collected as Answ
 use Rattle.rewriting.specs.declared.collect.Collected.the-variants.{Untouched, Rewritten, Refused}
 use Rattle.rewriting.proofs.Emissions.{EmitsAt}
 use Rattle.rewriting.proofs.DeepReads.{like-width, like-patched, deep-ends}
-use Rattle.rewriting.proofs.ItemsStand.{Every, every-kept, Stands, items-stand}
-use Rattle.rewriting.proofs.Rereading.{StandsThere, deepAt, size-of}
+use Rattle.rewriting.proofs.ItemsStand.{Every, every-kept, Stands, items-stand, StandsThere, deepAt, size-of}
 use Rattle.rewriting.proofs.Putting.{drop-zeros}
 use Rattle.rewriting.proofs.Tables.{length-run}
 use Rattle.rewriting.proofs.Places.{length-columns}
@@ -62,7 +65,7 @@ module _ (x : Sections) (u : Unit′) (lists : Lists) (places : List Place) wher
   unfolding readsAt readsOr
   reads-of at d = ap (readsOr x u) (d .is)
 
-  item-width : (s : Standing) → StandsThere x u s → ReadDeep x u (offsetOf (s .item))
+  item-width : (s : NestedItem) → StandsThere x u s → ReadDeep x u (offsetOf (s .item))
       → length (writeAll (e .«big_endian») (patchAll (newValue lists places (s .depth)) (readsAt x u (offsetOf (s .item))))) ≡ sizeOf (s .item)
   item-width s t d =
       let at : ℕ = offsetOf (s .item) in
@@ -73,7 +76,7 @@ module _ (x : Sections) (u : Unit′) (lists : Lists) (places : List Place) wher
       ∙ size-of e (x .abbreviations) (declaredIn (u .declared)) (u .bytes) (s .item) _ t
       (deep-ends e (x .abbreviations) (declaredIn (u .declared)) (expressionIn e) (expression-law e) (u .bytes) at rs (d .run .1) q)
 
-  pub all-width : (kept : List Standing) → Every (StandsThere x u) kept → AllRead x u kept → length (bytesFrom x u lists places kept) ≡ sizeFrom kept
+  pub all-width : (kept : List NestedItem) → Every (StandsThere x u) kept → AllRead x u kept → length (bytesFrom x u lists places kept) ≡ sizeFrom kept
   unfolding Every AllRead bytesFrom sizeFrom
   all-width [] h d = refl
   all-width (s ∷ kept) h d =
@@ -116,7 +119,7 @@ write-refused c k map out map′ out′ h =
 
 -- ---- the cases of the answer
 
-module _ (x : Sections) (u : Unit′) (lists : Lists) (room : Room) (entries kept : ℕ) (items : List Standing) where
+module _ (x : Sections) (u : Unit′) (lists : Lists) (room : Room) (entries kept : ℕ) (items : List NestedItem) where
   abbrev with′ : ℕ → Collected
   with′ f = rewritten (record { entries = entries; kept = kept; lists = lists; map = placesFrom f items; output = unitBytes x u lists (placesFrom f items) items })
 
@@ -150,13 +153,13 @@ module _ (x : Sections) (u : Unit′) (lists : Lists) (room : Room) (entries kep
 module _ (r : Reading) (s table unit parents ends marks : List ℕ) (first entries kept : ℕ) (rl : List ℕ) (rc : ListCount) (ll : List ℕ) (lc : ListCount) (sl : List ℕ) (sc : ListCount) (map out : List ℕ)
     (z : Size) (m : Measures (itemsBy r s table unit) unit parents ends marks first z) (map′ : List ℕ) (fills : Fills (itemsBy r s table unit) unit parents ends marks first map map′) (as-long : length map′ ≡ length map) where
   abbrev Goal : Answer → List ℕ → Type 0
-  Goal a out′ = (x : Sections) (u : Unit′) (lists : Lists) (room : Room) → Passable x u r s table unit parents ends marks first → Lends lists rl rc ll lc sl sc → Writable u room unit first map out
+  Goal a out′ = (x : Sections) (u : Unit′) (lists : Lists) (room : Room) → PassInput x u r s table unit parents ends marks first → ListsLent lists rl rc ll lc sl sc → Writable u room unit first map out
       → WriteAnswer (rewriteOf x room u entries kept lists (keptFrom marks 0 [] (itemsIn x u))) a (length map) (length out) map′ out′
 
-  abbrev items : List Standing
+  abbrev items : List NestedItem
   items = keptFrom marks 0 [] (itemsBy r s table unit first)
 
-  module _ (x : Sections) (u : Unit′) (lists : Lists) (room : Room) (p : Passable x u r s table unit parents ends marks first) (l : Lends lists rl rc ll lc sl sc) (w : Writable u room unit first map out) where
+  module _ (x : Sections) (u : Unit′) (lists : Lists) (room : Room) (p : PassInput x u r s table unit parents ends marks first) (l : ListsLent lists rl rc ll lc sl sc) (w : Writable u room unit first map out) where
     places-are : z .places ≡ length items
     places-are = m .found (p .small) (p .holds, p .ends-hold) .0
 
@@ -186,8 +189,8 @@ module _ (r : Reading) (s table unit parents ends marks : List ℕ) (first entri
         (same : length out₁ ≡ length out)
         (at : ℕ) (headed : 4 ≤ first → first ≤ length unit → first ≤ length out → 4 ≤ z .bytes → z .bytes - 4 < 2 ^ 32 → (at ≡ first) × (out₁ ≡ put out 0 (fixedBytes false 4 (z .bytes - 4) ++ drop 4 (take first unit))))
         (emitted : Emitted)
-        (emits : (x : Sections) (u : Unit′) (lists : Lists) (ps : List Place) → Passable x u r s table unit parents ends marks first → first ≡ u .header .first .0 → r .encoding .«big_endian» ≡ false
-        → MapHeld ps map′ → z .places ≡ length ps → Bounds ps bounds → Lends lists rl rc ll lc sl sc
+        (emits : (x : Sections) (u : Unit′) (lists : Lists) (ps : List Place) → PassInput x u r s table unit parents ends marks first → first ≡ u .header .first .0 → r .encoding .«big_endian» ≡ false
+        → MapHeld ps map′ → z .places ≡ length ps → Bounds ps bounds → ListsLent lists rl rc ll lc sl sc
         → EmitsAt (refusalFrom x u lists ps (keptFrom marks 0 [] (itemsIn x u))) (bytesFrom x u lists ps (keptFrom marks 0 [] (itemsIn x u))) out₁ at emitted out₂) where
       abbrev ps : List Place
       ps = placesFrom first items
@@ -319,8 +322,8 @@ module _ (r : Reading) (s table unit parents ends marks : List ℕ) (first entri
       (same : length out₁ ≡ length out)
       (at : ℕ) (headed : 4 ≤ first → first ≤ length unit → first ≤ length out → 4 ≤ z .bytes → z .bytes - 4 < 2 ^ 32 → (at ≡ first) × (out₁ ≡ put out 0 (fixedBytes false 4 (z .bytes - 4) ++ drop 4 (take first unit))))
       (emitted : Emitted)
-      (emits : (x : Sections) (u : Unit′) (lists : Lists) (ps : List Place) → Passable x u r s table unit parents ends marks first → first ≡ u .header .first .0 → r .encoding .«big_endian» ≡ false
-      → MapHeld ps map′ → z .places ≡ length ps → Bounds ps bounds → Lends lists rl rc ll lc sl sc
+      (emits : (x : Sections) (u : Unit′) (lists : Lists) (ps : List Place) → PassInput x u r s table unit parents ends marks first → first ≡ u .header .first .0 → r .encoding .«big_endian» ≡ false
+      → MapHeld ps map′ → z .places ≡ length ps → Bounds ps bounds → ListsLent lists rl rc ll lc sl sc
       → EmitsAt (refusalFrom x u lists ps (keptFrom marks 0 [] (itemsIn x u))) (bytesFrom x u lists ps (keptFrom marks 0 [] (itemsIn x u))) out₁ at emitted out₂) where
     pub unit-written : (to : ℕ) → emitted ≡ To to → Goal (Rewritten (record { entries = entries; kept = kept; places = z .places; bytes = z .bytes; ranges = rc; locations = lc; strings = sc })) out₂
     unit-written to q x u lists room p l w = by-items x u lists room p l w _ out₂ (was-written x u lists room p l w few less out₁ out₂ bounds bounded same at headed emitted emits to q)

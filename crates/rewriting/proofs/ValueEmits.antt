@@ -1,4 +1,4 @@
--- The emission of a value, by its form: an expression, a reference, an index, or copied bytes. Assumes nothing.
+-- The emission of a value, by its form: an expression, a reference, an index, or verbatim bytes. Assumes nothing.
 use mathlib.Core.Path.{_≡_, refl, ap, ap₂, sym, _∙_, subst}
 use Prim.Native.Nat.{ℕ, suc, _+_, _-_, _≤_}
 use native.Mathlib.Omega.{arith}
@@ -10,9 +10,11 @@ use lib.Seq.{length-take-le, take-at, drop-drop}
 use lib.Dec.{T}
 use lib.Pow.{areBytes}
 use mir.Facts.{leb-yes, yes-leb}
-use Rattle.readers.specs.Choice.{pick, _and_, check-yes, bind, bind-at, All, all-some, all-of, all-check, all-bind, all-both, all-triv}
+use Rattle.readers.specs.Choice.{pick, _and_, bind}
+use Rattle.readers.proofs.Choice.{check-yes, bind-at, All, all-some, all-of, all-check, all-bind, all-both, all-triv}
 use Rattle.readers.specs.Numbers.{Groups, uleb}
-use Rattle.readers.specs.Layout.{Kind, Encoded, infixed, inleb, width, kindOf, Role, reference, typeReference, sibling, index, absolute, Token, link, expression, Piece, copied, linked, Read, ReadOf, Found, asBytes, NumberLaw, number-law, numberIn, asLink, LebLaw, uleb-law, asExpression, tokenIn, numberBytes, length-number, bytesOf, pieceBytes, writeAll, patchPiece, patchPieces, patchAll, Fit}
+use Rattle.readers.specs.Layout.{Kind, Encoded, infixed, inleb, width, Role, reference, typeReference, sibling, index, absolute, Token, link, expression, Piece, verbatim, patchable, Read, ReadOf, ReadFound, asBytes, numberIn, asLink, asExpression, tokenIn, numberBytes, bytesOf, pieceBytes, writeAll, patchPiece, patchPieces, patchAll, Fit}
+use Rattle.readers.proofs.Layouts.{kindOf, NumberLaw, number-law, LebLaw, uleb-law, length-number}
 use Rattle.readers.specs.Expression.{expressionIn}
 use Rattle.readers.specs.References.{encodedBy}
 use Rattle.readers.specs.Forms.{valueToken}
@@ -27,9 +29,10 @@ use Rattle.readers.proofs.Tokens.{Inside, token-inside}
 use Rattle.marking.specs.EntryReferences.{partOf}
 use Rattle.rewriting.specs.Places.{Place, newOf, siblingOf}
 use Rattle.rewriting.specs.Indices.{rankOr}
-use Rattle.rewriting.specs.Written.{asMapped}
+use Rattle.rewriting.specs.inner.Written.{asMapped}
 use Rattle.rewriting.specs.Rewriting.{Lists, newValue, hasPlace, pieceRefusal, piecesRefusal, readsRefusal, orNext, orSelf, isSome, listAt}
-use Rattle.rewriting.specs.Emission.{between, Wide, numberRefusal, offsetRefusal, lebForm}
+use Rattle.rewriting.specs.Emission.{between}
+use Rattle.rewriting.specs.inner.Emission.{Wide, numberRefusal, offsetRefusal, lebForm}
 use Rattle.rewriting.specs.declared.emit.Emitted.{Emitted}
 use Rattle.rewriting.specs.declared.emit.Emitted.the-variants.{To}
 use Rattle.rewriting.specs.declared.map.Mapped.{Mapped}
@@ -42,11 +45,11 @@ use Rattle.rewriting.proofs.ValueParts.{between-from, between-join, nex
 -- ---- refusals by role
 
 module _ (lists : Lists) (map : List Place) (depth : ℕ) where
-  sibling-refusal : (e : Encoded) (v : ℕ) → pieceRefusal lists map depth (linked e sibling v) ≡ offsetRefusal e v (siblingOf map depth v)
+  sibling-refusal : (e : Encoded) (v : ℕ) → pieceRefusal lists map depth (patchable e sibling v) ≡ offsetRefusal e v (siblingOf map depth v)
   unfolding pieceRefusal offsetRefusal numberRefusal hasPlace newValue
   sibling-refusal e v = ap (λ b. pick (isSome (siblingOf map depth v)) (pick b 0 9) 8) (fits-holds lists map depth e (orSelf v (siblingOf map depth v)))
 
-  index-refusal : (e : Encoded) (k v : ℕ) → pieceRefusal lists map depth (linked e (index k) v) ≡ numberRefusal e (rankOr (listAt lists k) v)
+  index-refusal : (e : Encoded) (k v : ℕ) → pieceRefusal lists map depth (patchable e (index k) v) ≡ numberRefusal e (rankOr (listAt lists k) v)
   unfolding pieceRefusal numberRefusal hasPlace newValue pick
   index-refusal e k v = ap (λ b. pick b 0 9) (fits-holds lists map depth e (rankOr (listAt lists k) v))
 
@@ -54,36 +57,36 @@ module _ (lists : Lists) (map : List Place) (depth : ℕ) where
   stay-bytes : (ps : List Piece) → Rights onlyAbsolute ps → bytesOf false (patchPieces (newValue lists map depth) ps) ≡ bytesOf false ps
   unfolding bytesOf patchPieces patchPiece pieceBytes Rights Right onlyAbsolute newValue
   stay-bytes [] h = refl
-  stay-bytes (copied l ∷ ps) h = ap (λ x. l ++ x) (stay-bytes ps (h .1))
-  stay-bytes (linked e reference v ∷ ps) h = absurd (h .0 .1)
-  stay-bytes (linked e typeReference v ∷ ps) h = absurd (h .0 .1)
-  stay-bytes (linked e sibling v ∷ ps) h = absurd (h .0 .1)
-  stay-bytes (linked e (index k) v ∷ ps) h = absurd (h .0 .1)
-  stay-bytes (linked e absolute v ∷ ps) h = ap (λ x. numberBytes false e v ++ x) (stay-bytes ps (h .1))
+  stay-bytes (verbatim l ∷ ps) h = ap (λ x. l ++ x) (stay-bytes ps (h .1))
+  stay-bytes (patchable e reference v ∷ ps) h = absurd (h .0 .1)
+  stay-bytes (patchable e typeReference v ∷ ps) h = absurd (h .0 .1)
+  stay-bytes (patchable e sibling v ∷ ps) h = absurd (h .0 .1)
+  stay-bytes (patchable e (index k) v ∷ ps) h = absurd (h .0 .1)
+  stay-bytes (patchable e absolute v ∷ ps) h = ap (λ x. numberBytes false e v ++ x) (stay-bytes ps (h .1))
 
-  absolute-stays : (e : Encoded) (v : ℕ) → Fit e v → pieceRefusal lists map depth (linked e absolute v) ≡ 0
+  absolute-stays : (e : Encoded) (v : ℕ) → Fit e v → pieceRefusal lists map depth (patchable e absolute v) ≡ 0
   unfolding hasPlace newValue
   absolute-stays e v h = stays lists map depth e absolute v tt refl h
 
-  copied-stays : (l : List ℕ) → pieceRefusal lists map depth (copied l) ≡ 0
+  copied-stays : (l : List ℕ) → pieceRefusal lists map depth (verbatim l) ≡ 0
   unfolding pieceRefusal
   copied-stays l = refl
 
   stay-refusal : (ps : List Piece) → Rights onlyAbsolute ps → piecesRefusal lists map depth ps ≡ 0
   unfolding piecesRefusal Rights Right onlyAbsolute
   stay-refusal [] h = refl
-  stay-refusal (copied l ∷ ps) h = ap₂ (orNext lists map depth) (copied-stays l) (stay-refusal ps (h .1)) ∙ next-zero lists map depth 0
-  stay-refusal (linked e reference v ∷ ps) h = absurd (h .0 .1)
-  stay-refusal (linked e typeReference v ∷ ps) h = absurd (h .0 .1)
-  stay-refusal (linked e sibling v ∷ ps) h = absurd (h .0 .1)
-  stay-refusal (linked e (index k) v ∷ ps) h = absurd (h .0 .1)
-  stay-refusal (linked e absolute v ∷ ps) h = ap₂ (orNext lists map depth) (absolute-stays e v (h .0 .0)) (stay-refusal ps (h .1)) ∙ next-zero lists map depth 0
+  stay-refusal (verbatim l ∷ ps) h = ap₂ (orNext lists map depth) (copied-stays l) (stay-refusal ps (h .1)) ∙ next-zero lists map depth 0
+  stay-refusal (patchable e reference v ∷ ps) h = absurd (h .0 .1)
+  stay-refusal (patchable e typeReference v ∷ ps) h = absurd (h .0 .1)
+  stay-refusal (patchable e sibling v ∷ ps) h = absurd (h .0 .1)
+  stay-refusal (patchable e (index k) v ∷ ps) h = absurd (h .0 .1)
+  stay-refusal (patchable e absolute v ∷ ps) h = ap₂ (orNext lists map depth) (absolute-stays e v (h .0 .0)) (stay-refusal ps (h .1)) ∙ next-zero lists map depth 0
 
-  one-link : (e : Encoded) (r : Role) (v : ℕ) → piecesRefusal lists map depth (linked e r v ∷ []) ≡ pieceRefusal lists map depth (linked e r v)
+  one-link : (e : Encoded) (r : Role) (v : ℕ) → piecesRefusal lists map depth (patchable e r v ∷ []) ≡ pieceRefusal lists map depth (patchable e r v)
   unfolding piecesRefusal
-  one-link e r v = next-last lists map depth (pieceRefusal lists map depth (linked e r v))
+  one-link e r v = next-last lists map depth (pieceRefusal lists map depth (patchable e r v))
 
-  first-copied : (l : List ℕ) (ps : List Piece) → piecesRefusal lists map depth (copied l ∷ ps) ≡ piecesRefusal lists map depth ps
+  first-copied : (l : List ℕ) (ps : List Piece) → piecesRefusal lists map depth (verbatim l ∷ ps) ≡ piecesRefusal lists map depth ps
   unfolding piecesRefusal
   first-copied l ps = ap (λ n. orNext lists map depth n (piecesRefusal lists map depth ps)) (copied-stays l) ∙ next-zero lists map depth _
 
@@ -104,12 +107,12 @@ record LinkRead (kind : Kind) (role : Role) (r : ReadOf) : Type 0 where
   pub number : ℕ
   pub sort : kindOf code ≡ kind
   pub fit : Fit code number
-  pub is : r .0 ≡ record { seen = 0; start = 0; pieces = linked code role number ∷ [] }
+  pub is : r .0 ≡ record { seen = 0; start = 0; pieces = patchable code role number ∷ [] }
 
 link-read : (e : Encoding) (kind : Kind) (role : Role) (s : List ℕ) → T (areBytes s) → All (LinkRead kind role) (tokenIn false (expressionIn e) (link kind role) s)
 unfolding tokenIn asLink
 link-read e kind role s h =
-    all-bind (λ (t : Found). NumberLaw false kind s t × ((numberBytes false (t .0) (t .1) ++ t .2 ≡ s) × Fit (t .0) (t .1))) _ (numberIn false kind s) _
+    all-bind (λ (t : ReadFound). NumberLaw false kind s t × ((numberBytes false (t .0) (t .1) ++ t .2 ≡ s) × Fit (t .0) (t .1))) _ (numberIn false kind s) _
     (all-both _ _ _ (number-law false kind s) (number-exact false onlyAbsolute kind s h))
     (λ t q p. all-some (LinkRead kind role) (record { code = t .0; number = t .1; sort = p .0 .0; fit = p .1 .1; is = refl }))
 
@@ -120,7 +123,7 @@ record ExpressionRead (e : Encoding) (s : List ℕ) (r : ReadOf) : Type 0 where
   pub fits-in : t .1 ≤ length (t .2)
   pub pieces : List Piece
   pub inner : expressionIn e (take (t .1) (t .2)) ≡ some pieces
-  pub is : r .0 ≡ record { seen = 0; start = suc (t .0); pieces = copied (take (suc (t .0)) s) ∷ pieces }
+  pub is : r .0 ≡ record { seen = 0; start = suc (t .0); pieces = verbatim (take (suc (t .0)) s) ∷ pieces }
 
 expression-read : (e : Encoding) (s : List ℕ) → All (ExpressionRead e s) (tokenIn false (expressionIn e) expression s)
 unfolding tokenIn asExpression
@@ -203,7 +206,7 @@ module _ (e : Encoding) (unit : List ℕ) (values name : ℕ) (value : Attribute
       m = read-of .t .1
 
       abbrev bytes-read : Read
-      bytes-read = record { seen = 0; start = k; pieces = copied (take k there) ∷ copied (take m (read-of .t .2)) ∷ [] }
+      bytes-read = record { seen = 0; start = k; pieces = verbatim (take k there) ∷ verbatim (take m (read-of .t .2)) ∷ [] }
 
       as-bytes-read : tokenIn false asBytes expression there ≡ some (bytes-read, drop m (read-of .t .2))
       unfolding tokenIn asExpression asBytes bind
@@ -234,7 +237,7 @@ module _ (e : Encoding) (unit : List ℕ) (values name : ℕ) (value : Attribute
           ap₂ (λ (n o : ℕ). take n (drop o unit)) (let z : value .field .end - value .field .start ≡ m = omega (arith, starts, ends) in z) starts
           ∙ ap (take m) (sym (drop-drop k (w .o) unit) ∙ sym (read-of .law .0 .1))
 
-      its-pieces : w .v .pieces ≡ copied (take k there) ∷ read-of .pieces
+      its-pieces : w .v .pieces ≡ verbatim (take k there) ∷ read-of .pieces
       its-pieces = ap (λ (y : Read). y .pieces) (read-of .is)
 
       pub expression-emits : (part : List ℕ) → part ≡ partOf unit (value .field) → (r : Emitted) (out₂ : List ℕ)
@@ -266,7 +269,7 @@ module _ (e : Encoding) (unit : List ℕ) (values name : ℕ) (value : Attribute
       the-number = link-of .number
 
       abbrev the-read : Read
-      the-read = record { seen = 0; start = 0; pieces = linked code role the-number ∷ [] }
+      the-read = record { seen = 0; start = 0; pieces = patchable code role the-number ∷ [] }
 
       link-plain : isExpression (formIs e name f) ≡ false
       unfolding isExpression
@@ -300,11 +303,11 @@ module _ (e : Encoding) (unit : List ℕ) (values name : ℕ) (value : Attribute
         link-wide =
             wide-of leb′ n (subst Sound (sym code-is) (fit-sound code the-number (link-of .fit))) (ap width code-is ∙ sym n-is)
 
-        link-emits : (z : ℕ) (v : ℕ) → z ≡ pieceRefusal lists map depth (linked code role the-number) → v ≡ newValue lists map depth role the-number
+        link-emits : (z : ℕ) (v : ℕ) → z ≡ pieceRefusal lists map depth (patchable code role the-number) → v ≡ newValue lists map depth role the-number
             → (r : Emitted) (out₂ : List ℕ) → EmitsAt z (numberBytes false code v) out₁ to r out₂ → Whole r out₂
         unfolding bytesOf pieceBytes patchPieces patchPiece
         link-emits z v y x r out₂ h =
-            let ps : w .v .pieces ≡ linked code role the-number ∷ [] = ap (λ (y : Read). y .pieces) (link-of .is) in
+            let ps : w .v .pieces ≡ patchable code role the-number ∷ [] = ap (λ (y : Read). y .pieces) (link-of .is) in
             after-start z (numberBytes false code v) r out₂
             (y ∙ sym (ap (piecesRefusal lists map depth) ps ∙ one-link lists map depth code role the-number))
             (ap (λ o. between unit values o ++ numberBytes false code v) link-start
@@ -315,7 +318,7 @@ module _ (e : Encoding) (unit : List ℕ) (values name : ℕ) (value : Attribute
         abbrev Offset : Option ℕ → Emitted → List ℕ → Type 0
         Offset o r out₂ = EmitsAt (offsetRefusal (encodedBy leb′ n) (value .field .value) o) (numberBytes false (encodedBy leb′ n) (orSelf (value .field .value) o)) out₁ to r out₂
 
-        offset-emits : (o : ℕ → Option ℕ) → ((v : ℕ) → pieceRefusal lists map depth (linked code role v) ≡ offsetRefusal code v (o v)) → ((v : ℕ) → newValue lists map depth role v ≡ orSelf v (o v))
+        offset-emits : (o : ℕ → Option ℕ) → ((v : ℕ) → pieceRefusal lists map depth (patchable code role v) ≡ offsetRefusal code v (o v)) → ((v : ℕ) → newValue lists map depth role v ≡ orSelf v (o v))
             → (r : Emitted) (out₂ : List ℕ) → Offset (o (value .field .value)) r out₂ → Whole r out₂
         offset-emits o y x r out₂ h =
             link-emits (offsetRefusal code the-number (o the-number)) (orSelf the-number (o the-number)) (sym (y the-number)) (sym (x the-number)) r out₂
@@ -327,7 +330,7 @@ module _ (e : Encoding) (unit : List ℕ) (values name : ℕ) (value : Attribute
         index-emits k y v x r out₂ h =
             let is : v ≡ rankOr (listAt lists k) the-number = x ∙ ap (rankOr (listAt lists k)) link-value in
             link-emits (numberRefusal code v) v
-            (ap (numberRefusal code) is ∙ sym (ap (λ z. pieceRefusal lists map depth (linked code z the-number)) y ∙ index-refusal lists map depth code k the-number))
+            (ap (numberRefusal code) is ∙ sym (ap (λ z. pieceRefusal lists map depth (patchable code z the-number)) y ∙ index-refusal lists map depth code k the-number))
             (is ∙ ap (λ z. newValue lists map depth z the-number) (sym y)) r out₂
             (emits-as (ap (λ c. numberRefusal c v) code-is) (ap (λ c. numberBytes false c v) code-is) (h link-wide))
 
@@ -336,7 +339,7 @@ module _ (e : Encoding) (unit : List ℕ) (values name : ℕ) (value : Attribute
             → Whole r out₂
         unfolding newValue
         reference-emits y r out₂ new x h =
-            offset-emits (newOf map) (λ v. ap (λ z. pieceRefusal lists map depth (linked code z v)) y ∙ reference-refusal lists map depth code v) (λ v. ap (λ z. newValue lists map depth z v) y) r out₂
+            offset-emits (newOf map) (λ v. ap (λ z. pieceRefusal lists map depth (patchable code z v)) y ∙ reference-refusal lists map depth code v) (λ v. ap (λ z. newValue lists map depth z v) y) r out₂
             (h (newOf map (value .field .value)) (value .field .value) x link-wide)
 
         pub sibling-emits : role ≡ sibling → (r : Emitted) (out₂ : List ℕ) (new : Mapped) → new ≡ asMapped (siblingOf map depth (value .field .value))
@@ -344,10 +347,10 @@ module _ (e : Encoding) (unit : List ℕ) (values name : ℕ) (value : Attribute
             → Whole r out₂
         unfolding newValue
         sibling-emits y r out₂ new x h =
-            offset-emits (siblingOf map depth) (λ v. ap (λ z. pieceRefusal lists map depth (linked code z v)) y ∙ sibling-refusal lists map depth code v) (λ v. ap (λ z. newValue lists map depth z v) y) r out₂
+            offset-emits (siblingOf map depth) (λ v. ap (λ z. pieceRefusal lists map depth (patchable code z v)) y ∙ sibling-refusal lists map depth code v) (λ v. ap (λ z. newValue lists map depth z v) y) r out₂
             (h (siblingOf map depth (value .field .value)) (value .field .value) x link-wide)
 
-    -- ---- what is copied
+    -- ---- what is verbatim
 
     module _ (u : T (tokenOk onlyAbsolute (formIs e name f))) (p : isExpression (formIs e name f) ≡ false) where
       exactly : TokenExact false onlyAbsolute there (w .v, w .rest)

@@ -7,14 +7,15 @@ use mathlib.Core.List.{List, [], _∷_}
 use mathlib.Core.Logic.{⊎-elim, _≢_}
 use lib.Dec.{T, leb, eqb}
 use mir.Facts.{eqb-yes, eqb-no, yes-eqb, leb-yes}
-use Rattle.readers.specs.Choice.{pick, pick-yes, pick-no, pick-either, either, _and_, _or_}
+use Rattle.readers.specs.Choice.{pick, _and_, _or_}
+use Rattle.readers.proofs.Choice.{pick-yes, pick-no, pick-either, either}
 use Rattle.readers.specs.Layout.{Kind, fixed, leb128, Role, reference, typeReference, sibling, index, absolute, Token, nothing, number, forms, link, expression}
 use Rattle.readers.specs.Tokens.{Use, plain, as′, numberAs, tokenOf}
 use Rattle.readers.specs.Operations.{Codes}
-use Rattle.readers.specs.Forms.{formTokens, tokenAmong, formToken, useOf}
+use Rattle.readers.specs.Forms.{formTokens, tokenAmong, formToken, useOf, listForm}
 use Rattle.readers.specs.declared.cursor.Encoding.{Encoding}
 use Rattle.readers.proofs.OperationPieces.{isLeb, isExpression}
-use Rattle.rewriting.specs.Emission.{listForm, lebForm}
+use Rattle.rewriting.specs.inner.Emission.{lebForm}
 use Rattle.rewriting.proofs.Exact.{useOk}
 
 -- ---- Bools

@@ -10,8 +10,10 @@ use lib.ListN.{length, take, drop, length-drop}
 use lib.Seq.{take-add, drop-drop}
 use lib.Dec.{eqb}
 use mir.Facts.{eqb-yes, eqb-no}
-use Rattle.readers.specs.Choice.{_and_, _or_, pick, pick-yes, pick-no, either, bind, All, all-some, all-of, all-bind, all-triv}
-use Rattle.readers.specs.Layout.{forms, done, field, copied, Read, ReadOf, RunOf, ExpressionReader, FormsLaw, forms-law, formsIn, asForms, copy, tokenIn, readIn, before, bytesOf, pieceBytes, writeAll, Patch, patchPiece, patchPieces, patchRead, patchAll}
+use Rattle.readers.specs.Choice.{_and_, _or_, pick, bind}
+use Rattle.readers.proofs.Choice.{pick-yes, pick-no, either, All, all-some, all-of, all-bind, all-triv}
+use Rattle.readers.specs.Layout.{forms, done, field, verbatim, Read, ReadOf, RunOf, ExpressionReader, formsIn, asForms, copy, tokenIn, readIn, before, bytesOf, pieceBytes, writeAll, Patch, patchPiece, patchPieces, patchRead, patchAll}
+use Rattle.readers.proofs.Layouts.{FormsLaw, forms-law}
 use Rattle.readers.specs.Expression.{expressionIn}
 use Rattle.readers.specs.Forms.{valueToken, attributeLayout}
 use Rattle.readers.specs.Cursors.{asFormNumber, formsAt}
@@ -55,7 +57,7 @@ module _ (lists : Lists) (map : List Place) (depth : ℕ) where
   unfolding readsRefusal
   one-refusal v = next-last (piecesRefusal lists map depth (v .pieces))
 
-  pub copied-refusal : (f : Read) (l : List ℕ) → f .pieces ≡ copied l ∷ [] → (rs : List Read) → readsRefusal lists map depth (f ∷ rs) ≡ readsRefusal lists map depth rs
+  pub copied-refusal : (f : Read) (l : List ℕ) → f .pieces ≡ verbatim l ∷ [] → (rs : List Read) → readsRefusal lists map depth (f ∷ rs) ≡ readsRefusal lists map depth rs
   unfolding readsRefusal piecesRefusal pieceRefusal orNext pick
   copied-refusal f l h rs = ap (λ ps. orNext lists map depth (piecesRefusal lists map depth ps) (readsRefusal lists map depth rs)) h
 
@@ -63,7 +65,7 @@ pub one-written : (f : Patch) (v : Read) → writeAll false (patchAll f (v ∷ [
 unfolding writeAll patchAll patchRead
 one-written f v = append-nil (bytesOf false (patchPieces f (v .pieces)))
 
-pub copied-written : (f : Patch) (c : Read) (l : List ℕ) → c .pieces ≡ copied l ∷ [] → (rs : List Read)
+pub copied-written : (f : Patch) (c : Read) (l : List ℕ) → c .pieces ≡ verbatim l ∷ [] → (rs : List Read)
     → writeAll false (patchAll f (c ∷ rs)) ≡ l ++ writeAll false (patchAll f rs)
 unfolding writeAll patchAll patchRead bytesOf pieceBytes patchPieces patchPiece
 copied-written f c l h rs =

@@ -10,7 +10,7 @@ use lib.ListN.{length, drop, length-drop}
 use lib.Seq.{drop-drop}
 use lib.Dec.{T, ltb, eqb}
 use mir.Facts.{ltb-yes, ltb-no}
-use Rattle.readers.specs.Choice.{pick-either, either, Took, took-add}
+use Rattle.readers.proofs.Choice.{pick-either, either, Took, took-add}
 use Rattle.readers.specs.Layout.{Token, Read, asBytes, tokenIn}
 use Rattle.readers.specs.Fields.{size, fieldOf, asField, tokenAt}
 use Rattle.readers.specs.Operations.{operationRow}
@@ -26,7 +26,7 @@ use Rattle.readers.specs.declared.operations.OperationRead.the-variants.{Read a
 use Rattle.readers.specs.declared.expressions.Reference.{Reference}
 use Rattle.readers.specs.declared.expressions.Yield.{Yield}
 use Rattle.readers.specs.declared.expressions.Yield.the-variants.{Reference as Yielded, End}
-use Rattle.readers.proofs.OperationReads.{Held, token2, token-took, first-from, past, code-is, operation-held, operation-inside}
+use Rattle.readers.proofs.OperationReads.{OperationHeld, token2, token-took, first-from, past, code-is, operation-held, operation-inside}
 use Rattle.readers.proofs.Tokens.{Inside, token-inside}
 use Rattle.readers.proofs.Yields.{next-end, next-none, next-entry, next-own, next-pass}
 
@@ -65,7 +65,7 @@ module _ (e : Encoding) (s : List ℕ) where
       pick-either (Placed at) _ _ _ (λ _. type-in at (op .first) (op .next) f) (λ _. tt)))))
 
   module _ (at : ℕ) (op : Operation) (q : operationAt e s at ≡ Operation′ op) where
-    held : Held e (drop at s) at op
+    held : OperationHeld e (drop at s) at op
     held = operation-held e s at op q
 
     abbrev before : ℕ

@@ -11,7 +11,7 @@ use Rattle.marking.specs.Marks.{isKept}
 use Rattle.readers.specs.Stream.{Item, entry, terminator}
 
 -- an item, and how deep it stands: how many entries are open around it
-pub record Standing : Type 0 where
+pub record NestedItem : Type 0 where
   pub item : Item
   pub depth : ℕ
 
@@ -28,12 +28,12 @@ unfoldable pub innermost : List Bool → Bool
 innermost [] = false
 innermost (b ∷ stack) = b
 
-unfoldable pub withIf : Bool → Standing → List Standing → List Standing
+unfoldable pub withIf : Bool → NestedItem → List NestedItem → List NestedItem
 withIf true x xs = x ∷ xs
 withIf false x xs = xs
 
 -- the kept items, by the marks of the entries from number k on
-unfoldable pub keptFrom : List ℕ → ℕ → List Bool → List Item → List Standing
+unfoldable pub keptFrom : List ℕ → ℕ → List Bool → List Item → List NestedItem
 keptFrom marks k stack [] = []
 keptFrom marks k stack (entry x ∷ rest) =
     withIf (isKept marks k) (record { item = entry x; depth = length stack })
@@ -57,11 +57,11 @@ pub record Place : Type 0 where
   pub new : ℕ
   pub depth : ℕ
 
-unfoldable pub placesFrom : ℕ → List Standing → List Place
+unfoldable pub placesFrom : ℕ → List NestedItem → List Place
 placesFrom new [] = []
 placesFrom new (x ∷ xs) = record { old = offsetOf (x .item); new = new; depth = x .depth } ∷ placesFrom (new + sizeOf (x .item)) xs
 
-unfoldable pub sizeFrom : List Standing → ℕ
+unfoldable pub sizeFrom : List NestedItem → ℕ
 sizeFrom [] = 0
 sizeFrom (x ∷ xs) = sizeOf (x .item) + sizeFrom xs
 
@@ -82,3 +82,7 @@ orElse (some v) b = some v
 -- "A sibling whose target isn't in the map gets the first mapped place at or after it that is no deeper than the sibling's owner."
 unfoldable pub siblingOf : List Place → ℕ → ℕ → Option ℕ
 siblingOf map depth v = orElse (newOf map v) (firstFrom map depth v)
+
+unfoldable pub oldOffsets : List Place → List ℕ
+oldOffsets [] = []
+oldOffsets (p ∷ ps) = p .old ∷ oldOffsets ps

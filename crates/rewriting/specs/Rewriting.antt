@@ -6,9 +6,10 @@ use mathlib.Core.Option.{Option, none, some}
 use lib.ListN.{length, take, drop}
 use lib.Dec.{ltb, leb, eqb}
 use Rattle.readers.specs.Choice.{pick, _and_, _or_}
+use Rattle.readers.specs.Codes.{«DW_AT_location», «DW_AT_ranges»}
 use Rattle.readers.specs.Numbers.{fixedBytes}
 use Rattle.readers.specs.Layout.{Encoded, infixed, inleb, Role, reference, typeReference, sibling, index, absolute}
-use Rattle.readers.specs.Layout.{Piece, copied, linked, Read, RunOf, Patch, patchAll, readIn, writeAll}
+use Rattle.readers.specs.Layout.{Piece, verbatim, patchable, Read, RunOf, Patch, patchAll, readIn, writeAll}
 use Rattle.readers.specs.Expression.{expressionIn}
 use Rattle.readers.specs.Entries.{entryLayout}
 use Rattle.readers.specs.Header.{headerOf}
@@ -19,12 +20,12 @@ use Rattle.readers.specs.declared.header.HeaderRead.{HeaderRead}
 use Rattle.readers.specs.declared.header.HeaderRead.the-variants.{Unit as Unit′, Empty, Refused}
 use Rattle.marking.specs.Marks.{keptCount}
 use Rattle.readers.specs.Stream.{Item, entry, terminator, itemsFrom}
-use Rattle.marking.specs.Analysis.{Sections, Rooms, Row, Analysed, analysed, refused as notAnalysed, valuesOfEntry, analysisOf}
+use Rattle.marking.specs.Analysis.{Sections, Rooms, EntryRow, Analysed, analysed, refused as notAnalysed, valuesOfEntry, analysisOf}
 use Rattle.marking.specs.Resolution.{marksIn}
 use Rattle.rewriting.specs.declared.map.Mapped.the-variants.{Nothing}
 use Rattle.rewriting.specs.declared.collect.Listed.the-variants.{Short}
 use Rattle.rewriting.specs.Refusals.{refusalOfMapped, refusalOfListed}
-use Rattle.rewriting.specs.Places.{Standing, keptFrom, offsetOf, Place, placesFrom, sizeFrom, newOf, siblingOf}
+use Rattle.rewriting.specs.Places.{NestedItem, keptFrom, offsetOf, Place, placesFrom, sizeFrom, newOf, siblingOf}
 use Rattle.rewriting.specs.Indices.{insertAll, readIndices, declares, rankOr, countOf}
 
 -- ---- a unit: how it is read
@@ -68,7 +69,7 @@ pub record Lists : Type 0 where
 
 module _ (x : Sections) (u : Unit) where
   -- the indices of the kept entries
-  unfoldable pub indicesFrom : ℕ → List Standing → List ℕ
+  unfoldable pub indicesFrom : ℕ → List NestedItem → List ℕ
   indicesFrom k [] = []
   indicesFrom k (s ∷ rest) = readIndices k (readsAt x u (offsetOf (s .item))) ++ indicesFrom k rest
 
@@ -80,15 +81,15 @@ module _ (x : Sections) (u : Unit) where
   anyDeclares name [] = false
   anyDeclares name (i ∷ rest) = itemDeclares name i or anyDeclares name rest
 
-  unfoldable pub listOf : Bool → ℕ → List Standing → Option (List ℕ)
+  unfoldable pub listOf : Bool → ℕ → List NestedItem → Option (List ℕ)
   listOf absent k kept = pick absent none (some (insertAll (indicesFrom k kept) []))
 
-  -- DW_AT_ranges 0x55, DW_AT_location 0x02
-  unfoldable pub listsOf : Bool → List Standing → Lists
+  -- DW_AT_ranges, DW_AT_location
+  unfoldable pub listsOf : Bool → List NestedItem → Lists
   listsOf typeUnits kept =
       record {
-        ranges = listOf (typeUnits or anyDeclares 0x55 (itemsIn x u)) 0 kept;
-        locations = listOf (typeUnits or anyDeclares 0x02 (itemsIn x u)) 1 kept;
+        ranges = listOf (typeUnits or anyDeclares «DW_AT_ranges» (itemsIn x u)) 0 kept;
+        locations = listOf (typeUnits or anyDeclares «DW_AT_location» (itemsIn x u)) 1 kept;
         strings = listOf typeUnits 2 kept;
       }
 
@@ -129,8 +130,8 @@ module _ (lists : Lists) (map : List Place) (depth : ℕ) where
 
   -- 8 where a target has no place, 9 where a value does not fit, 0 where nothing is refused
   unfoldable pub pieceRefusal : Piece → ℕ
-  pieceRefusal (copied l) = 0
-  pieceRefusal (linked e r v) = pick (hasPlace r v) (pick (fits e (newValue r v)) 0 9) (refusalOfMapped Nothing)
+  pieceRefusal (verbatim l) = 0
+  pieceRefusal (patchable e r v) = pick (hasPlace r v) (pick (fits e (newValue r v)) 0 9) (refusalOfMapped Nothing)
 
   unfoldable pub orNext : ℕ → ℕ → ℕ
   orNext n m = pick (eqb n 0) m n
@@ -145,19 +146,19 @@ module _ (lists : Lists) (map : List Place) (depth : ℕ) where
 
 module _ (x : Sections) (u : Unit) (lists : Lists) (map : List Place) where
   -- the first refusal in stream order
-  unfoldable pub refusalFrom : List Standing → ℕ
+  unfoldable pub refusalFrom : List NestedItem → ℕ
   refusalFrom [] = 0
   refusalFrom (s ∷ rest) = orNext lists map (s .depth) (readsRefusal lists map (s .depth) (readsAt x u (offsetOf (s .item)))) (refusalFrom rest)
 
   -- the kept items written anew
-  unfoldable pub bytesFrom : List Standing → List ℕ
+  unfoldable pub bytesFrom : List NestedItem → List ℕ
   bytesFrom [] = []
   bytesFrom (s ∷ rest) =
       writeAll (u .header .encoding .«big_endian») (patchAll (newValue lists map (s .depth)) (readsAt x u (offsetOf (s .item))))
       ++ bytesFrom rest
 
   -- "The length field is the new size less 4."
-  unfoldable pub unitBytes : List Standing → List ℕ
+  unfoldable pub unitBytes : List NestedItem → List ℕ
   unitBytes kept =
       fixedBytes (u .header .encoding .«big_endian») 4 (u .header .first .0 + sizeFrom kept - 4)
       ++ drop 4 (take (u .header .first .0) (u .bytes)) ++ bytesFrom kept
@@ -199,7 +200,7 @@ module _ (x : Sections) (room : Room) where
   orRefused n c = pick (eqb n 0) c (refused n)
 
   -- something is dead: 13 map, 14 output too short, then 8 and 9 in stream order
-  unfoldable pub rewriteOf : Unit → ℕ → ℕ → Lists → List Standing → Collected
+  unfoldable pub rewriteOf : Unit → ℕ → ℕ → Lists → List NestedItem → Collected
   rewriteOf u entries kept lists items =
       pick (leb (length items) (room .places))
       (pick (leb (u .header .first .0 + sizeFrom items) (room .bytes))
@@ -214,14 +215,14 @@ module _ (x : Sections) (room : Room) where
       (refused 14))
       (refused 13)
 
-  unfoldable pub marksCollected : Bool → Unit → List ℕ → List Standing → Collected
+  unfoldable pub marksCollected : Bool → Unit → List ℕ → List NestedItem → Collected
   marksCollected typeUnits u marks items =
       pick (listsFit room (listsOf x u typeUnits items))
       (pick (eqb (keptCount marks) (length marks)) (untouched (length marks) (listsOf x u typeUnits items))
       (rewriteOf u (length marks) (keptCount marks) (listsOf x u typeUnits items) items))
       (refused (refusalOfListed Short))
 
-  unfoldable pub rowsCollected : Bool → Unit → List Row → Collected
+  unfoldable pub rowsCollected : Bool → Unit → List EntryRow → Collected
   rowsCollected typeUnits u [] = untouched 0 noLists
   rowsCollected typeUnits u (r ∷ rows) = marksCollected typeUnits u (marksIn (r ∷ rows)) (keptFrom (marksIn (r ∷ rows)) 0 [] (itemsIn x u))
 
@@ -242,3 +243,7 @@ module _ (x : Sections) (room : Room) where
   -- THE answer of collect
   unfoldable pub collectOf : Bool → List ℕ → Collected
   collectOf typeUnits section = headerCollected typeUnits section (headerOf section)
+
+-- the same header of a unit of another length
+abbrev pub withEnd : UnitHeader → ℕ → UnitHeader
+withEnd h n = record { encoding = h .encoding; «unit_type» = h .«unit_type»; abbreviations = h .abbreviations; first = h .first; end = n }

@@ -5,14 +5,14 @@ ghost use lib.ListN.{length};
 ghost use Rattle.readers.specs.Choice.{zeros};
 ghost use Rattle.readers.specs.Abbreviations.{Placed};
 ghost use Rattle.readers.specs.Header.{headerOf};
-ghost use Rattle.marking.specs.Analysis.{Sections, Rooms, Row, sections};
+ghost use Rattle.marking.specs.Analysis.{Sections, Rooms, EntryRow, sections};
 ghost use Rattle.rewriting.specs.Places.{keptFrom};
 ghost use Rattle.rewriting.specs.Rewriting.{Unit as Unit′, Lists, Room, itemsIn, listsOf, noLists, untouched, rewriteOf, collectOf};
-ghost use Rattle.rewriting.specs.IndexLists.{Passable};
-ghost use Rattle.rewriting.specs.Emission.{Lends};
+ghost use Rattle.rewriting.specs.inner.IndexLists.{PassInput};
+ghost use Rattle.rewriting.specs.inner.Emission.{ListsLent};
 ghost use Rattle.rewriting.specs.Outputs.{roomBy, roomOf, answerFor, mapFor, listFor, outputFor, rangesIn, locationsIn, stringsIn};
-ghost use Rattle.rewriting.specs.Leaving.{Answers, ownUnit, Tabled, Blank, markedOf, ListsAnswer, Writable, WriteAnswer};
-ghost use Rattle.rewriting.specs.Leaving.{leftBy, taskOf, MarkedTables};
+ghost use Rattle.rewriting.specs.inner.Leaving.{Answers, ownUnit, Tabled, Blank, markedOf, ListsAnswer, Writable, WriteAnswer};
+ghost use Rattle.rewriting.specs.inner.Leaving.{leftBy, taskOf, MarkedTables};
 use crate::emit::Emitted;
 use crate::indices::is_short;
 use crate::indices::settle;
@@ -25,16 +25,18 @@ use crate::siblings::fill_bounds;
 use crate::writing::emit_dies;
 use crate::writing::emit_header;
 use marking::analysis::clear_columns;
-use marking::columns::clear_bytes;
-use marking::columns::clear_indexes;
 use marking::units::UnitMarks;
 use marking::units::mark_unit;
+use readers::codes::DW_AT_location;
+use readers::codes::DW_AT_ranges;
 use readers::header::HeaderRead;
 use readers::header::UnitHeader;
 use readers::header::unit_header;
 use readers::header::unit_part;
 use readers::offsets::UnitOffset;
 use readers::tables::clear;
+use readers::tables::clear_bytes;
+use readers::tables::clear_indexes;
 
 // What an accepted answer counts: entries, kept ones, map places, output bytes (both 0 where untouched), and the numbers
 // of each list.
@@ -157,7 +159,7 @@ fn index_lists(
 ) -> Listed
     ensures { λ c. ⌜
         ((x : Sections) (u : Unit′)
-        → Passable x u r (now (abbreviations .entry)) (now (index .entry)) (now (unit .entry)) (now (parents .entry))
+        → PassInput x u r (now (abbreviations .entry)) (now (index .entry)) (now (unit .entry)) (now (parents .entry))
         (now (ends .entry)) (now (marks .entry)) (first .0)
         → first .0 ≡ u .header .first .0
         → now («range_list» .entry) ≡ zeros (length (now («range_list» .entry)))
@@ -194,7 +196,7 @@ fn index_lists(
         r,
         index,
         first,
-        0x55,
+        DW_AT_ranges,
         g.ranges,
         range_list,
     );
@@ -207,7 +209,7 @@ fn index_lists(
         r,
         index,
         first,
-        0x02,
+        DW_AT_location,
         g.locations,
         location_list,
     );
@@ -259,9 +261,9 @@ fn write_unit(
 ) -> Collected
     ensures { λ c. ⌜
         ((x : Sections) (u : Unit′) (lists : Lists) (room : Room)
-        → Passable x u r (now (abbreviations .entry)) (now (index .entry)) (now (unit .entry)) (now (parents .entry))
+        → PassInput x u r (now (abbreviations .entry)) (now (index .entry)) (now (unit .entry)) (now (parents .entry))
         (now (ends .entry)) (now (marks .entry)) (first .0)
-        → Lends lists (now («range_list» .entry)) ranges (now («location_list» .entry)) locations
+        → ListsLent lists (now («range_list» .entry)) ranges (now («location_list» .entry)) locations
         (now («string_list» .entry)) strings
         → Writable u room (now (unit .entry)) (first .0) (now (map .entry)) (now (out .entry))
         → WriteAnswer (rewriteOf x room u entries kept lists (keptFrom (now (marks .entry)) 0 [] (itemsIn x u)))
@@ -342,7 +344,7 @@ fn rewrite_unit(
     out: &mut [u8],
 ) -> Collected
     ensures { λ c. ⌜
-        ((x : Sections) (tables : Rooms) (ds : List Placed) (rows : List Row)
+        ((x : Sections) (tables : Rooms) (ds : List Placed) (rows : List EntryRow)
         → Tabled x tables (now (section .entry)) h ds rows (now (abbreviations .entry)) (now (index .entry))
         (now (parents .entry)) (now (ends .entry)) (now (marks .entry)) entries kept
         → Blank (now (map .entry)) (now («range_list» .entry)) (now («location_list» .entry))

@@ -8,20 +8,21 @@ ghost use Prim.Native.Nat.{ℕ, _+_, _-_, _^_, _≤_, _<_};
 ghost use lib.ListN.{length, drop};
 ghost use Rattle.readers.specs.Layout.{Read, Piece, readIn, writeAll, patchAll, bytesOf, patchPieces, numberBytes};
 ghost use Rattle.readers.specs.Expression.{expressionIn};
-ghost use Rattle.readers.specs.Forms.{attributeLayout};
+ghost use Rattle.readers.specs.Forms.{attributeLayout, listForm};
 ghost use Rattle.readers.specs.Entries.{attributeAt, entryLayout, stepAt};
 ghost use Rattle.readers.specs.References.{encodedBy};
-ghost use Rattle.readers.specs.declared.abbreviations.Found.{Found};
+ghost use Rattle.readers.specs.declared.abbreviations.DeclarationFound.{DeclarationFound};
 ghost use Rattle.readers.specs.declared.entries.Entry.{Entry};
 ghost use Rattle.readers.specs.declared.entries.Step.the-variants.{Entry as Entry′};
 ghost use Rattle.readers.specs.declared.attributes.AttributeRead.the-variants.{Read as Attribute′};
 ghost use Rattle.rewriting.specs.Places.{Place};
 ghost use Rattle.rewriting.specs.Indices.{rankOr};
-ghost use Rattle.rewriting.specs.Written.{asMapped, MapHeld, over};
-ghost use Rattle.rewriting.specs.Bounds.{Bounds};
+ghost use Rattle.rewriting.specs.Written.{over};
+ghost use Rattle.rewriting.specs.inner.Written.{asMapped, MapHeld};
+ghost use Rattle.rewriting.specs.inner.Bounds.{Bounds};
 ghost use Rattle.rewriting.specs.Rewriting.{Lists, newValue, readsRefusal, piecesRefusal, orSelf};
-ghost use Rattle.rewriting.specs.Emission.{between, copiedCount, Emits, Within, onward, Wide};
-ghost use Rattle.rewriting.specs.Emission.{numberRefusal, offsetRefusal, listForm, lebForm, Lent, Lends};
+ghost use Rattle.rewriting.specs.Emission.{between, copiedCount};
+ghost use Rattle.rewriting.specs.inner.Emission.{Emits, Within, onward, Wide, numberRefusal, offsetRefusal, lebForm, Lent, ListsLent};
 ghost use Rattle.rewriting.specs.declared.emit.Emitted.the-variants.{To};
 use crate::lists::ListCount;
 use crate::lists::rank;
@@ -30,11 +31,22 @@ use crate::map::new_offset;
 use crate::numbers::put_bytes;
 use crate::numbers::put_number;
 use crate::siblings::sibling_offset;
-use marking::root_test::EntryAttribute;
-use marking::root_test::NextAttribute;
-use marking::root_test::next_attribute;
+use readers::attributes::list_of;
+use readers::codes::DW_AT_sibling;
+use readers::codes::DW_FORM_GNU_str_index;
+use readers::codes::DW_FORM_exprloc;
+use readers::codes::DW_FORM_loclistx;
+use readers::codes::DW_FORM_ref_udata;
+use readers::codes::DW_FORM_ref1;
+use readers::codes::DW_FORM_rnglistx;
+use readers::codes::DW_FORM_strx;
+use readers::codes::DW_FORM_strx1;
+use readers::codes::DW_FORM_strx4;
 use readers::cursor::Cursor;
 use readers::cursor::Encoding;
+use readers::entry_attributes::EntryAttribute;
+use readers::entry_attributes::NextAttribute;
+use readers::entry_attributes::next_attribute;
 use readers::expressions::Yield;
 use readers::fields::Field;
 use readers::offsets::UnitOffset;
@@ -156,48 +168,23 @@ fn emit_expression(s: &[u8], e: Encoding, map: &[u8], places: usize, out: &mut [
     }
 }
 
-// The number of the index list of a form: 0 ranges, 1 locations, 2 strings; 3 for a form that is no index.
-pub fn list_of(form: u64) -> u8
-    ensures { λ r. ⌜ r ≡ listForm form ⌝ }
-{
-    if form == 0x23 {
-        return 0;
-    }
-    if form == 0x22 {
-        return 1;
-    }
-    if form == 0x1a {
-        return 2;
-    }
-    if form < 0x25 {
-        return 3;
-    }
-    if form <= 0x28 {
-        return 2;
-    }
-    if form == 0x1f02 {
-        return 2;
-    }
-    3
-}
-
 // Whether a form's value is a ULEB128 number.
 fn is_leb(form: u64) -> bool
     ensures { λ r. ⌜ r ≡ lebForm form ⌝ }
 {
-    if form == 0x15 {
+    if form == DW_FORM_ref_udata {
         return true;
     }
-    if form == 0x1a {
+    if form == DW_FORM_strx {
         return true;
     }
-    if form == 0x22 {
+    if form == DW_FORM_loclistx {
         return true;
     }
-    if form == 0x23 {
+    if form == DW_FORM_rnglistx {
         return true;
     }
-    form == 0x1f02
+    form == DW_FORM_GNU_str_index
 }
 
 // An index by its rank; as it is where its list is absent.
@@ -239,7 +226,7 @@ fn emit_attribute(
         ((lists : Lists) (ps : List Place) (rs : List Read) (rest : List ℕ)
         → e .«big_endian» ≡ false
         → MapHeld ps (now (map .entry)) → places ≡ length ps → Bounds ps (now (bounds .entry))
-        → Lends lists (now (ranges .entry)) «ranges_count» (now (locations .entry)) «locations_count»
+        → ListsLent lists (now (ranges .entry)) «ranges_count» (now (locations .entry)) «locations_count»
         (now (strings .entry)) «strings_count»
         → values .at ≤ length (now (unit .entry))
         → attributeAt e (now (unit .entry)) (values .at) (a .name) (a .declared) ≡ Attribute′ (a .value)
@@ -254,15 +241,15 @@ fn emit_attribute(
     let form = v.form;
     let to = emit_bytes(bytes_between(unit, values.at, field.start), out);
     let leb = is_leb(form);
-    if form == 0x18 {
+    if form == DW_FORM_exprloc {
         return after(
             to,
             emit_expression(field.expression(unit), e, map, places, &mut out[to..]),
         );
     }
-    if form >= 0x11 {
-        if form <= 0x15 {
-            if a.name == 0x01 {
+    if form >= DW_FORM_ref1 {
+        if form <= DW_FORM_ref_udata {
+            if a.name == DW_AT_sibling {
                 return after(
                     to,
                     emit_offset(
@@ -344,10 +331,10 @@ pub(crate) fn emit_entry(
 ) -> Emitted
     ensures within { λ r. ⌜ Within (now (out .entry)) r (now (out .exit)) ⌝ }
     ensures bytes { λ r. ⌜
-        ((lists : Lists) (ps : List Place) (look : ℕ → Found) (x : Entry) (rs : List Read) (rest : List ℕ)
+        ((lists : Lists) (ps : List Place) (look : ℕ → DeclarationFound) (x : Entry) (rs : List Read) (rest : List ℕ)
         → e .«big_endian» ≡ false
         → MapHeld ps (now (map .entry)) → places ≡ length ps → Bounds ps (now (bounds .entry))
-        → Lends lists (now (ranges .entry)) «ranges_count» (now (locations .entry)) «locations_count»
+        → ListsLent lists (now (ranges .entry)) «ranges_count» (now (locations .entry)) «locations_count»
         (now (strings .entry)) «strings_count»
         → stepAt e (now (abbreviations .entry)) look (now (unit .entry)) (start .0) ≡ Entry′ x
         → specs ≡ x .declaration .attributes → values ≡ x .values

@@ -1,40 +1,39 @@
 // The index lists of a unit: the indices of its kept entries, ascending without repeats, or absent.
 ghost use mathlib.Core.Path.{_≡_};
 ghost use Prim.Native.Nat.{ℕ, _/_};
-ghost use mathlib.Core.List.{List, [], _∷_};
-ghost use mathlib.Core.Option.{none, some};
+ghost use mathlib.Core.List.{List};
+ghost use mathlib.Core.Option.{some};
 ghost use lib.ListN.{length};
-ghost use Rattle.readers.specs.Choice.{pick, zeros};
 ghost use Rattle.readers.specs.Abbreviations.{Placed, abbreviationsOf};
-ghost use Rattle.marking.specs.Roots.{specsFrom, entryValues};
+ghost use Rattle.readers.specs.EntryAttributes.{specsFrom, entryValues};
 ghost use Rattle.marking.specs.Analysis.{Sections};
-ghost use Rattle.rewriting.specs.Gathering.{Gathered};
-ghost use Rattle.rewriting.specs.Indices.{insertAll, declares, specsDeclare, tableDeclares};
+ghost use Rattle.rewriting.specs.inner.Gathering.{Gathers};
+ghost use Rattle.rewriting.specs.Indices.{declares, isShort};
+ghost use Rattle.rewriting.specs.inner.Indices.{specsDeclare, tableDeclares};
 ghost use Rattle.rewriting.specs.Rewriting.{Unit as Unit′, anyDeclares};
-ghost use Rattle.rewriting.specs.NextKept.{itemsBy};
-ghost use Rattle.rewriting.specs.IndexLists.{kindIndex, valueIndices, Filled, PutsOn, FinishedTo, FinishedIn, ReadAs, Found, Gathers, Listing, Refilling, isAbsent, ListAnswer, isShort};
-use crate::emit::list_of;
-use crate::gathering::Finished;
+ghost use Rattle.rewriting.specs.inner.NextKept.{itemsBy};
+ghost use Rattle.rewriting.specs.inner.IndexLists.{kindIndex, valueIndices, ReadAs, TablesFound, Puts, Listing, isAbsent};
+ghost use Rattle.rewriting.specs.inner.IndexLists.{Settles};
 use crate::gathering::add;
 use crate::gathering::finish;
 use crate::kept::KeptStep;
+use crate::kept::PassPosition;
 use crate::kept::Reading;
-use crate::kept::Stand;
 use crate::kept::next_kept;
 use crate::lists::ListCount;
-use crate::lists::insert;
-use crate::lists::room;
-use marking::columns::clear_bytes;
-use marking::root_test::NextAttribute;
-use marking::root_test::next_attribute;
 use readers::abbreviations::DeclarationStep;
 use readers::abbreviations::SpecStep;
+use readers::attributes::list_of;
+use readers::codes::DW_FORM_sec_offset;
 use readers::cursor::Cursor;
 use readers::cursor::Encoding;
 use readers::entries::Nesting;
 use readers::entries::Step;
+use readers::entry_attributes::NextAttribute;
+use readers::entry_attributes::next_attribute;
 use readers::offsets::EntryIndex;
 use readers::offsets::UnitOffset;
+use readers::tables::clear_bytes;
 
 // Whether an entry declares an attribute of a name in sec_offset.
 fn entry_declares(
@@ -45,7 +44,8 @@ fn entry_declares(
     name: u64,
     e: Encoding,
 ) -> bool
-    ensures { λ b. ⌜ b ≡ declares name (entryValues e (now (abbreviations .entry)) (specs .at) (now (unit .entry)) (values .at)) ⌝ }
+    ensures { λ b. ⌜
+        b ≡ declares name (entryValues e (now (abbreviations .entry)) (specs .at) (now (unit .entry)) (values .at)) ⌝ }
 {
     let mut p = specs;
     let mut from = values;
@@ -56,7 +56,7 @@ fn entry_declares(
         p = a.next;
         from = a.values;
         if a.name == name {
-            if a.declared == 0x17 {
+            if a.declared == DW_FORM_sec_offset {
                 return true;
             }
         }
@@ -72,7 +72,11 @@ fn any_declares(
     first: UnitOffset,
     name: u64,
 ) -> bool
-    ensures { λ b. ⌜ ((x : Sections) (u : Unit′) → ReadAs x u r (now (abbreviations .entry)) (now (unit .entry)) → b ≡ anyDeclares x u name (itemsBy r (now (abbreviations .entry)) (now (index .entry)) (now (unit .entry)) (first .0))) ⌝ }
+    ensures { λ b. ⌜
+        (let s = now (abbreviations .entry) in
+        let bytes = now (unit .entry) in
+        ((x : Sections) (u : Unit′) → ReadAs x u r s bytes
+        → b ≡ anyDeclares x u name (itemsBy r s (now (index .entry)) bytes (first .0)))) ⌝ }
 {
     let mut at = Cursor {
         at: first.0 as usize,
@@ -114,39 +118,28 @@ pub struct Lengths {
     pub strings: usize,
 }
 
-// One value more in a list: in its place where ordered, else at the end of what is gathered. A list that is too short stays so.
-fn put_index(list: &mut [u8], count: usize, value: u64, ordered: bool) -> usize
-    ensures { λ n. ⌜ PutsOn ordered (value ∷ []) count (now (list .entry)) n (now (list .exit)) ⌝ }
-{
-    if ordered {
-        if count > room(list) {
-            return count;
-        }
-        return insert(list, count, value);
-    }
-    add(list, count, value)
-}
-
 // One value more in the list of a kind: 0 ranges, 1 locations, 2 strings, 3 none.
 fn put_by_kind(
     kind: u8,
     value: u64,
-    ordered: bool,
     range_list: &mut [u8],
     location_list: &mut [u8],
     string_list: &mut [u8],
     g: Lengths,
 ) -> Lengths
-    ensures ranges { λ n. ⌜ PutsOn ordered (kindIndex 0 kind value) (g .ranges) (now («range_list» .entry)) (n .ranges) (now («range_list» .exit)) ⌝ }
-    ensures locations { λ n. ⌜ PutsOn ordered (kindIndex 1 kind value) (g .locations) (now («location_list» .entry)) (n .locations) (now («location_list» .exit)) ⌝ }
-    ensures strings { λ n. ⌜ PutsOn ordered (kindIndex 2 kind value) (g .strings) (now («string_list» .entry)) (n .strings) (now («string_list» .exit)) ⌝ }
+    ensures { λ n. ⌜
+        Gathers (kindIndex 0 kind value) (g .ranges) (now («range_list» .entry)) (n .ranges) (now («range_list» .exit))
+        × (Gathers (kindIndex 1 kind value)
+        (g .locations) (now («location_list» .entry)) (n .locations) (now («location_list» .exit))
+        × Gathers (kindIndex 2 kind value)
+        (g .strings) (now («string_list» .entry)) (n .strings) (now («string_list» .exit))) ⌝ }
 {
     let ranges = g.ranges;
     let locations = g.locations;
     let strings = g.strings;
     if kind == 0 {
         return Lengths {
-            ranges: put_index(range_list, ranges, value, ordered),
+            ranges: add(range_list, ranges, value),
             locations,
             strings,
         };
@@ -154,7 +147,7 @@ fn put_by_kind(
     if kind == 1 {
         return Lengths {
             ranges,
-            locations: put_index(location_list, locations, value, ordered),
+            locations: add(location_list, locations, value),
             strings,
         };
     }
@@ -162,7 +155,7 @@ fn put_by_kind(
         return Lengths {
             ranges,
             locations,
-            strings: put_index(string_list, strings, value, ordered),
+            strings: add(string_list, strings, value),
         };
     }
     g
@@ -175,15 +168,18 @@ fn entry_gather(
     specs: Cursor,
     values: Cursor,
     e: Encoding,
-    ordered: bool,
     range_list: &mut [u8],
     location_list: &mut [u8],
     string_list: &mut [u8],
     counts: Lengths,
 ) -> Lengths
-    ensures ranges { λ n. ⌜ PutsOn ordered (valueIndices 0 (entryValues e (now (abbreviations .entry)) (specs .at) (now (unit .entry)) (values .at))) (counts .ranges) (now («range_list» .entry)) (n .ranges) (now («range_list» .exit)) ⌝ }
-    ensures locations { λ n. ⌜ PutsOn ordered (valueIndices 1 (entryValues e (now (abbreviations .entry)) (specs .at) (now (unit .entry)) (values .at))) (counts .locations) (now («location_list» .entry)) (n .locations) (now («location_list» .exit)) ⌝ }
-    ensures strings { λ n. ⌜ PutsOn ordered (valueIndices 2 (entryValues e (now (abbreviations .entry)) (specs .at) (now (unit .entry)) (values .at))) (counts .strings) (now («string_list» .entry)) (n .strings) (now («string_list» .exit)) ⌝ }
+    ensures { λ n. ⌜
+        (let vs = entryValues e (now (abbreviations .entry)) (specs .at) (now (unit .entry)) (values .at) in
+        Gathers (valueIndices 0 vs) (counts .ranges) (now («range_list» .entry)) (n .ranges) (now («range_list» .exit))
+        × (Gathers (valueIndices 1 vs)
+        (counts .locations) (now («location_list» .entry)) (n .locations) (now («location_list» .exit))
+        × Gathers (valueIndices 2 vs)
+        (counts .strings) (now («string_list» .entry)) (n .strings) (now («string_list» .exit)))) ⌝ }
 {
     let mut p = specs;
     let mut from = values;
@@ -197,7 +193,6 @@ fn entry_gather(
         g = put_by_kind(
             list_of(v.form),
             field.value,
-            ordered,
             range_list,
             location_list,
             string_list,
@@ -218,16 +213,19 @@ fn gather(
     ends: &[u64],
     marks: &[u8],
     first: UnitOffset,
-    ordered: bool,
     range_list: &mut [u8],
     location_list: &mut [u8],
     string_list: &mut [u8],
 ) -> Lengths
-    ensures ranges { λ n. ⌜ Gathers 0 ordered r (now (abbreviations .entry)) (now (index .entry)) (now (unit .entry)) (now (parents .entry)) (now (ends .entry)) (now (marks .entry)) (first .0) (now («range_list» .entry)) (n .ranges) (now («range_list» .exit)) ⌝ }
-    ensures locations { λ n. ⌜ Gathers 1 ordered r (now (abbreviations .entry)) (now (index .entry)) (now (unit .entry)) (now (parents .entry)) (now (ends .entry)) (now (marks .entry)) (first .0) (now («location_list» .entry)) (n .locations) (now («location_list» .exit)) ⌝ }
-    ensures strings { λ n. ⌜ Gathers 2 ordered r (now (abbreviations .entry)) (now (index .entry)) (now (unit .entry)) (now (parents .entry)) (now (ends .entry)) (now (marks .entry)) (first .0) (now («string_list» .entry)) (n .strings) (now («string_list» .exit)) ⌝ }
+    ensures { λ n. ⌜
+        (let made : ℕ → List ℕ → ℕ → List ℕ → Type 0 = (λ k.
+        Puts k r (now (abbreviations .entry)) (now (index .entry)) (now (unit .entry))
+        (now (parents .entry)) (now (ends .entry)) (now (marks .entry)) (first .0)) in
+        made 0 (now («range_list» .entry)) (n .ranges) (now («range_list» .exit))
+        × (made 1 (now («location_list» .entry)) (n .locations) (now («location_list» .exit))
+        × made 2 (now («string_list» .entry)) (n .strings) (now («string_list» .exit)))) ⌝ }
 {
-    let mut s = Stand {
+    let mut s = PassPosition {
         at: Cursor {
             at: first.0 as usize,
         },
@@ -253,7 +251,6 @@ fn gather(
                 x.specs,
                 x.values,
                 r.encoding,
-                ordered,
                 range_list,
                 location_list,
                 string_list,
@@ -263,94 +260,7 @@ fn gather(
     }
 }
 
-// The same, each value in its place, whatever the lists held.
-fn gather_in_order(
-    unit: &[u8],
-    abbreviations: &[u8],
-    r: Reading,
-    index: &[u64],
-    parents: &[u32],
-    ends: &[u64],
-    marks: &[u8],
-    first: UnitOffset,
-    range_list: &mut [u8],
-    location_list: &mut [u8],
-    string_list: &mut [u8],
-) -> Lengths
-    ensures ranges { λ n. ⌜ Refilling 0 r (now (abbreviations .entry)) (now (index .entry)) (now (unit .entry)) (now (parents .entry)) (now (ends .entry)) (now (marks .entry)) (first .0) (now («range_list» .entry)) (n .ranges) (now («range_list» .exit)) ⌝ }
-    ensures locations { λ n. ⌜ Refilling 1 r (now (abbreviations .entry)) (now (index .entry)) (now (unit .entry)) (now (parents .entry)) (now (ends .entry)) (now (marks .entry)) (first .0) (now («location_list» .entry)) (n .locations) (now («location_list» .exit)) ⌝ }
-    ensures strings { λ n. ⌜ Refilling 2 r (now (abbreviations .entry)) (now (index .entry)) (now (unit .entry)) (now (parents .entry)) (now (ends .entry)) (now (marks .entry)) (first .0) (now («string_list» .entry)) (n .strings) (now («string_list» .exit)) ⌝ }
-{
-    clear_bytes(range_list);
-    clear_bytes(location_list);
-    clear_bytes(string_list);
-    gather(
-        unit,
-        abbreviations,
-        r,
-        index,
-        parents,
-        ends,
-        marks,
-        first,
-        true,
-        range_list,
-        location_list,
-        string_list,
-    )
-}
-
-// How many numbers a gathered list has, as above. Unsure: it was not in order.
-pub enum ListFinished {
-    Length(usize),
-    Unsure,
-}
-
-// How many each of the three has.
-pub enum ListsFinished {
-    All(Lengths),
-    Unsure,
-}
-
-// A gathered list as an index list.
-fn finish_list(list: &mut [u8], count: usize) -> ListFinished
-    ensures { λ r. ⌜ ((vs : List ℕ) → Gathered vs (now (list .entry)) count → FinishedTo (insertAll vs []) (now (list .entry)) r (now (list .exit))) ⌝ }
-{
-    match finish(list, count) {
-        Finished::Done(n) => ListFinished::Length(n),
-        Finished::Short => ListFinished::Length(room(list) + 1),
-        Finished::Unsure => ListFinished::Unsure,
-    }
-}
-
-// The three.
-fn finish_lists(
-    range_list: &mut [u8],
-    location_list: &mut [u8],
-    string_list: &mut [u8],
-    g: Lengths,
-) -> ListsFinished
-    ensures ranges { λ r. ⌜ ((vs : List ℕ) → Gathered vs (now («range_list» .entry)) (g .ranges) → FinishedIn (λ n. n .ranges) (insertAll vs []) (now («range_list» .entry)) r (now («range_list» .exit))) ⌝ }
-    ensures locations { λ r. ⌜ ((vs : List ℕ) → Gathered vs (now («location_list» .entry)) (g .locations) → FinishedIn (λ n. n .locations) (insertAll vs []) (now («location_list» .entry)) r (now («location_list» .exit))) ⌝ }
-    ensures strings { λ r. ⌜ ((vs : List ℕ) → Gathered vs (now («string_list» .entry)) (g .strings) → FinishedIn (λ n. n .strings) (insertAll vs []) (now («string_list» .entry)) r (now («string_list» .exit))) ⌝ }
-{
-    let ListFinished::Length(ranges) = finish_list(range_list, g.ranges) else {
-        return ListsFinished::Unsure;
-    };
-    let ListFinished::Length(locations) = finish_list(location_list, g.locations) else {
-        return ListsFinished::Unsure;
-    };
-    let ListFinished::Length(strings) = finish_list(string_list, g.strings) else {
-        return ListsFinished::Unsure;
-    };
-    ListsFinished::All(Lengths {
-        ranges,
-        locations,
-        strings,
-    })
-}
-
-// The indices of the kept entries as index lists: gathered in any order and sorted, and in order from the start where the sorted lists turn out not to be.
+// The indices of the kept entries as index lists: gathered in any order, and sorted.
 pub(crate) fn sorted_lists(
     unit: &[u8],
     abbreviations: &[u8],
@@ -364,9 +274,13 @@ pub(crate) fn sorted_lists(
     location_list: &mut [u8],
     string_list: &mut [u8],
 ) -> Lengths
-    ensures ranges { λ n. ⌜ Listing 0 r (now (abbreviations .entry)) (now (index .entry)) (now (unit .entry)) (now (parents .entry)) (now (ends .entry)) (now (marks .entry)) (first .0) (now («range_list» .entry)) (n .ranges) (now («range_list» .exit)) ⌝ }
-    ensures locations { λ n. ⌜ Listing 1 r (now (abbreviations .entry)) (now (index .entry)) (now (unit .entry)) (now (parents .entry)) (now (ends .entry)) (now (marks .entry)) (first .0) (now («location_list» .entry)) (n .locations) (now («location_list» .exit)) ⌝ }
-    ensures strings { λ n. ⌜ Listing 2 r (now (abbreviations .entry)) (now (index .entry)) (now (unit .entry)) (now (parents .entry)) (now (ends .entry)) (now (marks .entry)) (first .0) (now («string_list» .entry)) (n .strings) (now («string_list» .exit)) ⌝ }
+    ensures { λ n. ⌜
+        (let made : ℕ → List ℕ → ℕ → List ℕ → Type 0 = (λ k.
+        Listing k r (now (abbreviations .entry)) (now (index .entry)) (now (unit .entry))
+        (now (parents .entry)) (now (ends .entry)) (now (marks .entry)) (first .0)) in
+        made 0 (now («range_list» .entry)) (n .ranges) (now («range_list» .exit))
+        × (made 1 (now («location_list» .entry)) (n .locations) (now («location_list» .exit))
+        × made 2 (now («string_list» .entry)) (n .strings) (now («string_list» .exit)))) ⌝ }
 {
     let g = gather(
         unit,
@@ -377,26 +291,14 @@ pub(crate) fn sorted_lists(
         ends,
         marks,
         first,
-        false,
         range_list,
         location_list,
         string_list,
     );
-    match finish_lists(range_list, location_list, string_list, g) {
-        ListsFinished::All(n) => n,
-        ListsFinished::Unsure => gather_in_order(
-            unit,
-            abbreviations,
-            r,
-            index,
-            parents,
-            ends,
-            marks,
-            first,
-            range_list,
-            location_list,
-            string_list,
-        ),
+    Lengths {
+        ranges: finish(range_list, g.ranges),
+        locations: finish(location_list, g.locations),
+        strings: finish(string_list, g.strings),
     }
 }
 
@@ -410,7 +312,7 @@ fn specs_declare(abbreviations: &[u8], specs: Cursor, name: u64) -> bool
             SpecStep::Attribute(a) => {
                 p = a.next;
                 if a.name == name {
-                    if a.form == 0x17 {
+                    if a.form == DW_FORM_sec_offset {
                         return true;
                     }
                 }
@@ -427,7 +329,9 @@ fn specs_declare(abbreviations: &[u8], specs: Cursor, name: u64) -> bool
 
 // Whether any declaration of a unit does, used or not.
 fn table_declares(abbreviations: &[u8], from: u64, name: u64) -> bool
-    ensures { λ b. ⌜ ((ds : List Placed) → abbreviationsOf (now (abbreviations .entry)) from ≡ some ds → b ≡ tableDeclares (now (abbreviations .entry)) name ds) ⌝ }
+    ensures { λ b. ⌜
+        (let s = now (abbreviations .entry) in
+        ((ds : List Placed) → abbreviationsOf s from ≡ some ds → b ≡ tableDeclares s name ds)) ⌝ }
 {
     let mut at = Cursor { at: from as usize };
     loop {
@@ -448,8 +352,8 @@ fn table_declares(abbreviations: &[u8], from: u64, name: u64) -> bool
     }
 }
 
-// Whether a list is absent: where an entry declares the attribute of a name in sec_offset. A list without such an attribute has the name 0. No entry does
-// where no declaration of the unit does, and then the unit is not looked through.
+// Whether a list is absent: where an entry declares the attribute of a name in sec_offset. A list without such an
+// attribute has the name 0. No entry does where no declaration of the unit does: then the unit is not looked through.
 fn is_absent(
     unit: &[u8],
     abbreviations: &[u8],
@@ -458,7 +362,12 @@ fn is_absent(
     first: UnitOffset,
     name: u64,
 ) -> bool
-    ensures { λ b. ⌜ ((x : Sections) (u : Unit′) → ReadAs x u r (now (abbreviations .entry)) (now (unit .entry)) → Found u r (now (abbreviations .entry)) (now (index .entry)) → b ≡ isAbsent x u name (itemsBy r (now (abbreviations .entry)) (now (index .entry)) (now (unit .entry)) (first .0))) ⌝ }
+    ensures { λ b. ⌜
+        (let s = now (abbreviations .entry) in
+        let table = now (index .entry) in
+        let bytes = now (unit .entry) in
+        ((x : Sections) (u : Unit′) → ReadAs x u r s bytes → TablesFound u r s table
+        → b ≡ isAbsent x u name (itemsBy r s table bytes (first .0)))) ⌝ }
 {
     if name == 0 {
         return false;
@@ -480,7 +389,9 @@ pub(crate) fn settle(
     count: usize,
     list: &mut [u8],
 ) -> ListCount
-    ensures { λ c. ⌜ ((x : Sections) (u : Unit′) (ys list₀ : List ℕ) → ReadAs x u r (now (abbreviations .entry)) (now (unit .entry)) → Found u r (now (abbreviations .entry)) (now (index .entry)) → list₀ ≡ zeros (length (now (list .entry))) → Filled ys list₀ count (now (list .entry)) → ListAnswer (pick (isAbsent x u name (itemsBy r (now (abbreviations .entry)) (now (index .entry)) (now (unit .entry)) (first .0))) none (some ys)) list₀ c (now (list .exit))) ⌝ }
+    ensures { λ c. ⌜
+        Settles r (now (abbreviations .entry)) (now (index .entry)) (now (unit .entry)) (first .0)
+        name count (now (list .entry)) c (now (list .exit)) ⌝ }
 {
     if is_absent(unit, abbreviations, r, index, first, name) {
         if count > 0 {

@@ -3,11 +3,11 @@ ghost use mathlib.Core.Path.{_≡_};
 ghost use Prim.Native.Nat.{ℕ, _^_, _≤_, _<_};
 ghost use lib.ListN.{length, getD};
 ghost use Rattle.marking.specs.Marks.{isKept};
-ghost use Rattle.rewriting.specs.Parents.{entriesIn};
-ghost use Rattle.rewriting.specs.Ends.{endNumber, EndsHeld};
-ghost use Rattle.rewriting.specs.NextKept.{closesKept, itemsBy, Answers};
+ghost use Rattle.readers.specs.Stream.{entryCount};
+ghost use Rattle.rewriting.specs.inner.Ends.{endNumber, EndsHeld};
+ghost use Rattle.rewriting.specs.inner.NextKept.{closesKept, itemsBy, Answers};
 use marking::columns::place;
-use readers::abbreviations::Found;
+use readers::abbreviations::DeclarationFound;
 use readers::abbreviations::find_declaration;
 use readers::cursor::Cursor;
 use readers::cursor::Encoding;
@@ -24,7 +24,7 @@ pub struct Reading {
 }
 
 // Where a pass through the kept items stands: the next place, the index of the next entry, and the open ones.
-pub struct Stand {
+pub struct PassPosition {
     pub at: Cursor,
     pub count: EntryIndex,
     pub nesting: Nesting,
@@ -32,18 +32,18 @@ pub struct Stand {
 
 // A kept item: its offset, the cursor past it, its depth, for an entry where its specifications and its values start, and
 // where the pass goes on.
-pub struct Kept {
+pub struct KeptItem {
     pub start: UnitOffset,
     pub end: Cursor,
     pub depth: u64,
     pub is_entry: bool,
     pub specs: Cursor,
     pub values: Cursor,
-    pub next: Stand,
+    pub next: PassPosition,
 }
 
 pub enum KeptStep {
-    Item(Kept),
+    Item(KeptItem),
     End,
 }
 
@@ -105,7 +105,7 @@ pub(crate) fn fill_ends(
 )
     ensures { λ _. ⌜ (
         let items = itemsBy r (now (abbreviations .entry)) (now (index .entry)) (now (unit .entry)) (first .0) in
-        length (now (unit .entry)) < 2 ^ 32 → entriesIn items ≤ length (now (ends .entry))
+        length (now (unit .entry)) < 2 ^ 32 → entryCount items ≤ length (now (ends .entry))
         → EndsHeld (now (ends .exit)) 0 items
         ) ⌝ }
 {
@@ -165,7 +165,7 @@ pub(crate) fn next_kept(
     parents: &[u32],
     ends: &[u64],
     marks: &[u8],
-    s: Stand,
+    s: PassPosition,
 ) -> KeptStep
     ensures { λ x. ⌜ (
         let items = itemsBy r (now (abbreviations .entry)) (now (index .entry)) (now (unit .entry)) in
@@ -189,14 +189,14 @@ pub(crate) fn next_kept(
             nesting = nesting.after_terminator(parents);
             at = values;
             if kept {
-                return KeptStep::Item(Kept {
+                return KeptStep::Item(KeptItem {
                     start,
                     end: at,
                     depth,
                     is_entry: false,
                     specs: values,
                     values,
-                    next: Stand { at, count, nesting },
+                    next: PassPosition { at, count, nesting },
                 });
             }
         } else {
@@ -216,19 +216,23 @@ pub(crate) fn next_kept(
             count = EntryIndex(count.0 + 1);
             at = Cursor { at: end };
             if kept {
-                let Found::Declaration(d) = find_declaration(abbreviations, r.from, index, code)
-                else {
+                let DeclarationFound::Declaration(d) = find_declaration(
+                    abbreviations,
+                    r.from,
+                    index,
+                    code,
+                ) else {
                     return KeptStep::End;
                 };
                 let specs = d.attributes;
-                return KeptStep::Item(Kept {
+                return KeptStep::Item(KeptItem {
                     start,
                     end: at,
                     depth,
                     is_entry: true,
                     specs,
                     values,
-                    next: Stand { at, count, nesting },
+                    next: PassPosition { at, count, nesting },
                 });
             }
         }

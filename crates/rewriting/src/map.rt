@@ -1,11 +1,10 @@
 // The map: old offset, new offset and depth of each place, four big-endian bytes each, in ascending order.
 ghost use mathlib.Core.Path.{_≡_};
-ghost use Prim.Native.Nat.{_/_, _<_};
-ghost use mathlib.Core.List.{List};
+ghost use Prim.Native.Nat.{_+_, _*_, _/_, _≤_};
 ghost use lib.ListN.{length};
 ghost use lib.Dec.{eqb};
-ghost use Rattle.rewriting.specs.Places.{Place};
-ghost use Rattle.rewriting.specs.Written.{Held, columns, place, withPlace, oldAt, newAt, depthAt, halved, lookedUp};
+ghost use Rattle.rewriting.specs.Written.{numberAt, inRoom, oldAt, newAt, depthAt, halved, lookedUp};
+ghost use Rattle.rewriting.specs.inner.Written.{WithPlace};
 use crate::numbers::big_endian_at;
 use crate::numbers::put_big_endian;
 use readers::offsets::UnitOffset;
@@ -16,38 +15,41 @@ pub enum Mapped {
 }
 
 // How many places a map has room for.
-pub fn room(map: &[u8]) -> usize
+pub fn most_places(map: &[u8]) -> usize
     ensures { λ r. ⌜ r ≡ length (now (map .entry)) / 12 ⌝ }
 {
     map.len() / 12
+}
+
+// The number of a place that stands at a byte of it; 0 where there is no such place.
+fn number_of(map: &[u8], i: usize, byte: usize) -> u64
+    requires { ⌜ byte ≤ 8 ⌝ }
+    ensures { λ r. ⌜
+        r ≡ inRoom i (length (now (map .entry)) / 12) (numberAt 4 (now (map .entry)) (12 * i + byte)) ⌝ }
+{
+    if i >= most_places(map) {
+        return 0;
+    }
+    big_endian_at(map, 12 * i + byte, 4)
 }
 
 // What a place has: its old offset, its new one and its depth; 0 where there is none.
 pub fn old_at(map: &[u8], i: usize) -> UnitOffset
     ensures { λ r. ⌜ r .0 ≡ oldAt (now (map .entry)) i ⌝ }
 {
-    if i >= room(map) {
-        return UnitOffset(0);
-    }
-    UnitOffset(big_endian_at(map, 12 * i, 4))
+    UnitOffset(number_of(map, i, 0))
 }
 
 pub fn new_at(map: &[u8], i: usize) -> UnitOffset
     ensures { λ r. ⌜ r .0 ≡ newAt (now (map .entry)) i ⌝ }
 {
-    if i >= room(map) {
-        return UnitOffset(0);
-    }
-    UnitOffset(big_endian_at(map, 12 * i + 4, 4))
+    UnitOffset(number_of(map, i, 4))
 }
 
 pub fn depth_at(map: &[u8], i: usize) -> u64
     ensures { λ r. ⌜ r ≡ depthAt (now (map .entry)) i ⌝ }
 {
-    if i >= room(map) {
-        return 0;
-    }
-    big_endian_at(map, 12 * i + 8, 4)
+    number_of(map, i, 8)
 }
 
 // Whether a place has an old offset.
@@ -60,9 +62,9 @@ pub fn has_old(map: &[u8], i: usize, old: UnitOffset) -> bool
 
 // One place more, where there is room for it.
 pub(crate) fn put_place(map: &mut [u8], i: usize, old: UnitOffset, new: UnitOffset, depth: u64)
-    ensures { λ _. ⌜ ((ps : List Place) → Held 4 (columns ps) (now (map .entry)) → i ≡ length ps → i < length (now (map .entry)) / 12 → old .0 < 4294967296 → new .0 < 4294967296 → depth < 4294967296 → Held 4 (columns (withPlace ps (place (old .0) (new .0) depth))) (now (map .exit))) ⌝ }
+    ensures { λ _. ⌜ WithPlace i (old .0) (new .0) depth (now (map .entry)) (now (map .exit)) ⌝ }
 {
-    if i >= room(map) {
+    if i >= most_places(map) {
         return;
     }
     put_big_endian(map, 12 * i, 4, old.0);

@@ -9,11 +9,12 @@ ghost use Rattle.readers.specs.Choice.{zeros};
 ghost use Rattle.readers.specs.Numbers.{padded, fixedBytes};
 ghost use Rattle.readers.specs.Layout.{numberBytes};
 ghost use Rattle.readers.specs.References.{encodedBy};
-ghost use Rattle.rewriting.specs.Written.{groupsFit, bytesFit, numberFits, unfit, Put, paddedAnswer, paddedOut};
+ghost use Rattle.rewriting.specs.Written.{groupsFit, paddedAnswer, paddedOut};
+ghost use Rattle.rewriting.specs.inner.Written.{bytesFit, numberFits, unfit, Put};
 ghost use Rattle.rewriting.specs.Written.{over, putIn, numberThere};
-use marking::columns::clear_bytes;
 use readers::cursor::Cursor;
 use readers::cursor::Number;
+use readers::tables::clear_bytes;
 
 // The answer of write_uleb128_padded.
 pub enum Padded {

@@ -1,11 +1,11 @@
 // The pass through the kept items that measures them and fills the map (gc.rs: the offset-computation pass of
 // `rewrite_unit`).
-ghost use Rattle.rewriting.specs.NextKept.{itemsBy};
-ghost use Rattle.rewriting.specs.Measures.{Measures};
-ghost use Rattle.rewriting.specs.MapFilled.{Fills};
+ghost use Rattle.rewriting.specs.inner.NextKept.{itemsBy};
+ghost use Rattle.rewriting.specs.inner.Measures.{Measures};
+ghost use Rattle.rewriting.specs.inner.MapFilled.{Fills};
 use crate::kept::KeptStep;
+use crate::kept::PassPosition;
 use crate::kept::Reading;
-use crate::kept::Stand;
 use crate::kept::next_kept;
 use crate::map::put_place;
 use readers::cursor::Cursor;
@@ -37,7 +37,7 @@ pub(crate) fn place_items(
         (now (map .entry)) (now (map .exit)))
         ) ⌝ }
 {
-    let mut s = Stand {
+    let mut s = PassPosition {
         at: Cursor {
             at: first.0 as usize,
         },

@@ -7,17 +7,18 @@ ghost use lib.ListN.{length};
 ghost use Rattle.marking.specs.Analysis.{Sections};
 ghost use Rattle.rewriting.specs.Places.{Place, keptFrom};
 ghost use Rattle.rewriting.specs.Rewriting.{Unit as Unit′, Lists, itemsIn, refusalFrom, bytesFrom};
-ghost use Rattle.rewriting.specs.Written.{MapHeld};
-ghost use Rattle.rewriting.specs.Bounds.{Bounds};
-ghost use Rattle.rewriting.specs.IndexLists.{Passable};
-ghost use Rattle.rewriting.specs.Emission.{Emits, Within, Lends, headerCount, headerOver};
+ghost use Rattle.rewriting.specs.inner.Written.{MapHeld};
+ghost use Rattle.rewriting.specs.inner.Bounds.{Bounds};
+ghost use Rattle.rewriting.specs.inner.IndexLists.{PassInput};
+ghost use Rattle.rewriting.specs.Emission.{headerCount, headerOver};
+ghost use Rattle.rewriting.specs.inner.Emission.{Emits, Within, ListsLent};
 use crate::emit::Emitted;
 use crate::emit::bytes_between;
 use crate::emit::emit_bytes;
 use crate::emit::emit_entry;
 use crate::kept::KeptStep;
+use crate::kept::PassPosition;
 use crate::kept::Reading;
-use crate::kept::Stand;
 use crate::kept::next_kept;
 use crate::lists::ListCount;
 use crate::numbers::put_bytes;
@@ -51,17 +52,17 @@ pub(crate) fn emit_dies(
     ensures within { λ t. ⌜ Within (now (out .entry)) t (now (out .exit)) ⌝ }
     ensures bytes { λ t. ⌜
         ((x : Sections) (u : Unit′) (lists : Lists) (ps : List Place)
-        → Passable x u r (now (abbreviations .entry)) (now (index .entry)) (now (unit .entry)) (now (parents .entry))
+        → PassInput x u r (now (abbreviations .entry)) (now (index .entry)) (now (unit .entry)) (now (parents .entry))
         (now (ends .entry)) (now (marks .entry)) (first .0)
         → first .0 ≡ u .header .first .0 → r .encoding .«big_endian» ≡ false
         → MapHeld ps (now (map .entry)) → places ≡ length ps → Bounds ps (now (bounds .entry))
-        → Lends lists (now (ranges .entry)) «ranges_count» (now (locations .entry)) «locations_count»
+        → ListsLent lists (now (ranges .entry)) «ranges_count» (now (locations .entry)) «locations_count»
         (now (strings .entry)) «strings_count»
         → let items = keptFrom (now (marks .entry)) 0 [] (itemsIn x u) in
         Emits (refusalFrom x u lists ps items) (bytesFrom x u lists ps items) (now (out .entry)) t (now (out .exit)))
         ⌝ }
 {
-    let mut s = Stand {
+    let mut s = PassPosition {
         at: Cursor {
             at: first.0 as usize,
         },

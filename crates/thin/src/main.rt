@@ -2,5 +2,5 @@
 fn main() {
     let mut input = [0u8; 65537];
     let n = io::read_full(0, &mut input);
-    listing::answers::thin(&input[..n]);
+    printing::answers::thin(&input[..n]);
 }

@@ -1,6 +1,6 @@
 -- `analyse_entries` writes the rows one after the other, and answers what is analysed from the first entry on. The measure is what is left of the unit. Assumes nothing.
 use mathlib.Core.Path.{refl, ap, sym, _∙_}
-use Prim.Native.Nat.{_-_}
+use Prim.Native.Nat.{_-_, _<_}
 use native.Mathlib.Omega.{arith}
 use borrow.Author.Needs.{needs}
 use lib.ListN.{length}
@@ -109,16 +109,19 @@ returns-3 : tie.Need-returns-3 Inv-loop μ-loop
 unfolding valuesOfEntry baseOf
 returns-3 c = head-over (c .before .before .before .before .before .before .before .before .before .before .before .before .before .before .before .before .before .before .before .loop .inv) _ _ (head-step _ _ _ _ _ _ (entry-headed _ _ _ _ _ _ _ (c .before .before .before .before .before .before .before .before .before .before .before .before .before .before .before .before .before .before .entry-head .ensures)) _ (c .before .before .before .before .before .before .before .before .before .before .before .before .before .before .before .before .x .given .1) _ refl) (c .before .before .before .before .before .before .before .before .before .before .before .before .before .before .if1 .left) _ _ (c .before .before .before .before .before .before .before .before .before .base-after .ensures) (c .before .before .before .before .before .before .before .before .base-after2 .ensures) _ (c .before .before .before .before .before .before .analyse-entry .ensures .1) _ _ _ (sym (c .before .before .root .given .1) ∙ c .before .before .before .before .before .before .analyse-entry .ensures .0) (c .if2 .taken)
 
-mul-offsets : tie.Need-mul-offsets Inv-loop μ-loop
+-- the index of an entry is small
+few : (c : tie.Else2 Inv-loop μ-loop) → c .before .before .before .before .before .before .before .before .before .before .before .before .before .before .before .before .before .before .before .loop .count < 0xfffffffe
 unfolding valuesOfEntry baseOf
-mul-offsets c = omega (arith, head-ahead (c .before .before .before .before .before .before .before .before .before .before .before .before .before .before .before .before .before .before .before .loop .inv) _ _ (head-step _ _ _ _ _ _ (entry-headed _ _ _ _ _ _ _ (c .before .before .before .before .before .before .before .before .before .before .before .before .before .before .before .before .before .before .entry-head .ensures)) _ (c .before .before .before .before .before .before .before .before .before .before .before .before .before .before .before .before .x .given .1) _ refl) (c .before .before .before .before .before .before .before .before .before .before .before .before .before .before .if1 .left) _ _ (c .before .before .before .before .before .before .before .before .before .base-after .ensures) (c .before .before .before .before .before .before .before .before .base-after2 .ensures) _ (c .before .before .before .before .before .before .analyse-entry .ensures .1) _ _ _ (sym (c .before .before .root .given .1) ∙ c .before .before .before .before .before .before .analyse-entry .ensures .0) .2)
+few c = head-ahead (c .before .before .before .before .before .before .before .before .before .before .before .before .before .before .before .before .before .before .before .loop .inv) _ _ (head-step _ _ _ _ _ _ (entry-headed _ _ _ _ _ _ _ (c .before .before .before .before .before .before .before .before .before .before .before .before .before .before .before .before .before .before .entry-head .ensures)) _ (c .before .before .before .before .before .before .before .before .before .before .before .before .before .before .before .before .x .given .1) _ refl) (c .before .before .before .before .before .before .before .before .before .before .before .before .before .before .if1 .left) _ _ (c .before .before .before .before .before .before .before .before .before .base-after .ensures) (c .before .before .before .before .before .before .before .before .base-after2 .ensures) _ (c .before .before .before .before .before .before .analyse-entry .ensures .1) _ _ _ (sym (c .before .before .root .given .1) ∙ c .before .before .before .before .before .before .analyse-entry .ensures .0) .2
+
+mul-offsets : tie.Need-mul-offsets Inv-loop μ-loop
+mul-offsets c = omega (arith, few c)
 
 slice-write-offsets : tie.Need-slice-write-offsets Inv-loop μ-loop
 slice-write-offsets c = omega (arith, c .before .before .before .before .before .before .before .before .before .before .before .before .before .before .before .before .before .before .before .loop .inv .offsets-are .size, c .before .before .before .before .before .before .before .before .before .before .before .before .before .before .before .before .before .before .before .loop .inv .offsets-room, c .before .before .before .before .before .before .before .before .before .before .before .before .before .before .if1 .left)
 
 mul-parents : tie.Need-mul-parents Inv-loop μ-loop
-unfolding valuesOfEntry baseOf
-mul-parents c = omega (arith, head-ahead (c .before .before .before .before .before .before .before .before .before .before .before .before .before .before .before .before .before .before .before .loop .inv) _ _ (head-step _ _ _ _ _ _ (entry-headed _ _ _ _ _ _ _ (c .before .before .before .before .before .before .before .before .before .before .before .before .before .before .before .before .before .before .entry-head .ensures)) _ (c .before .before .before .before .before .before .before .before .before .before .before .before .before .before .before .before .x .given .1) _ refl) (c .before .before .before .before .before .before .before .before .before .before .before .before .before .before .if1 .left) _ _ (c .before .before .before .before .before .before .before .before .before .base-after .ensures) (c .before .before .before .before .before .before .before .before .base-after2 .ensures) _ (c .before .before .before .before .before .before .analyse-entry .ensures .1) _ _ _ (sym (c .before .before .root .given .1) ∙ c .before .before .before .before .before .before .analyse-entry .ensures .0) .2)
+mul-parents c = omega (arith, few c)
 
 slice-write-parents : tie.Need-slice-write-parents Inv-loop μ-loop
 slice-write-parents c = omega (arith, c .before .before .before .before .before .before .before .before .before .before .before .before .before .before .before .before .before .before .before .loop .inv .parents-are .size, c .before .before .before .before .before .before .before .before .before .before .before .before .before .before .before .before .before .before .before .loop .inv .parents-room, c .before .before .before .before .before .before .before .before .before .before .before .before .before .before .if1 .left)
@@ -126,27 +129,24 @@ slice-write-parents c = omega (arith, c .before .before .before .before .before 
 slice-write-roots : tie.Need-slice-write-roots Inv-loop μ-loop
 slice-write-roots c = omega (arith, c .before .before .before .before .before .before .before .before .before .before .before .before .before .before .before .before .before .before .before .loop .inv .roots-are .size, c .before .before .before .before .before .before .before .before .before .before .before .before .before .before .before .before .before .before .before .loop .inv .roots-room, c .before .before .before .before .before .before .before .before .before .before .before .before .before .before .if1 .left)
 
-mul-ends : tie.Need-mul-ends Inv-loop μ-loop
-unfolding valuesOfEntry baseOf
-mul-ends c = omega (arith, head-ahead (c .before .before .before .before .before .before .before .before .before .before .before .before .before .before .before .before .before .before .before .loop .inv) _ _ (head-step _ _ _ _ _ _ (entry-headed _ _ _ _ _ _ _ (c .before .before .before .before .before .before .before .before .before .before .before .before .before .before .before .before .before .before .entry-head .ensures)) _ (c .before .before .before .before .before .before .before .before .before .before .before .before .before .before .before .before .x .given .1) _ refl) (c .before .before .before .before .before .before .before .before .before .before .before .before .before .before .if1 .left) _ _ (c .before .before .before .before .before .before .before .before .before .base-after .ensures) (c .before .before .before .before .before .before .before .before .base-after2 .ensures) _ (c .before .before .before .before .before .before .analyse-entry .ensures .1) _ _ _ (sym (c .before .before .root .given .1) ∙ c .before .before .before .before .before .before .analyse-entry .ensures .0) .2)
+mul-reference-ends : tie.Need-mul-reference-ends Inv-loop μ-loop
+mul-reference-ends c = omega (arith, few c)
 
-slice-write-ends : tie.Need-slice-write-ends Inv-loop μ-loop
-slice-write-ends c = omega (arith, c .before .before .before .before .before .before .before .before .before .before .before .before .before .before .before .before .before .before .before .loop .inv .ends-are .size, c .before .before .before .before .before .before .before .before .before .before .before .before .before .before .before .before .before .before .before .loop .inv .ends-room, c .before .before .before .before .before .before .before .before .before .before .before .before .before .before .if1 .left)
+slice-write-reference-ends : tie.Need-slice-write-reference-ends Inv-loop μ-loop
+slice-write-reference-ends c = omega (arith, c .before .before .before .before .before .before .before .before .before .before .before .before .before .before .before .before .before .before .before .loop .inv .ends-are .size, c .before .before .before .before .before .before .before .before .before .before .before .before .before .before .before .before .before .before .before .loop .inv .ends-room, c .before .before .before .before .before .before .before .before .before .before .before .before .before .before .if1 .left)
 
 cast-t47 : tie.Need-cast-t47 Inv-loop μ-loop
-unfolding valuesOfEntry baseOf
-cast-t47 c = omega (arith, head-ahead (c .before .before .before .before .before .before .before .before .before .before .before .before .before .before .before .before .before .before .before .loop .inv) _ _ (head-step _ _ _ _ _ _ (entry-headed _ _ _ _ _ _ _ (c .before .before .before .before .before .before .before .before .before .before .before .before .before .before .before .before .before .before .entry-head .ensures)) _ (c .before .before .before .before .before .before .before .before .before .before .before .before .before .before .before .before .x .given .1) _ refl) (c .before .before .before .before .before .before .before .before .before .before .before .before .before .before .if1 .left) _ _ (c .before .before .before .before .before .before .before .before .before .base-after .ensures) (c .before .before .before .before .before .before .before .before .base-after2 .ensures) _ (c .before .before .before .before .before .before .analyse-entry .ensures .1) _ _ _ (sym (c .before .before .root .given .1) ∙ c .before .before .before .before .before .before .analyse-entry .ensures .0) .2)
+cast-t47 c = omega (arith, few c)
 
 after-entry-requires : tie.Need-after-entry-requires Inv-loop μ-loop
 after-entry-requires c κs = tt
 
 add-count : tie.Need-add-count Inv-loop μ-loop
-unfolding valuesOfEntry baseOf
-add-count c = omega (arith, head-ahead (c .before .before .before .before .before .before .before .before .before .before .before .before .before .before .before .before .before .before .before .before .loop .inv) _ _ (head-step _ _ _ _ _ _ (entry-headed _ _ _ _ _ _ _ (c .before .before .before .before .before .before .before .before .before .before .before .before .before .before .before .before .before .before .before .entry-head .ensures)) _ (c .before .before .before .before .before .before .before .before .before .before .before .before .before .before .before .before .before .x .given .1) _ refl) (c .before .before .before .before .before .before .before .before .before .before .before .before .before .before .before .if1 .left) _ _ (c .before .before .before .before .before .before .before .before .before .before .base-after .ensures) (c .before .before .before .before .before .before .before .before .before .base-after2 .ensures) _ (c .before .before .before .before .before .before .before .analyse-entry .ensures .1) _ _ _ (sym (c .before .before .before .root .given .1) ∙ c .before .before .before .before .before .before .before .analyse-entry .ensures .0) .2)
+add-count c = omega (arith, few (c .before))
 
 loop-less : tie.Need-loop-less Inv-loop μ-loop
 unfolding valuesOfEntry baseOf
-loop-less c = omega (arith, head-ahead (c .before .before .before .before .before .before .before .before .before .before .before .before .before .before .before .before .before .before .before .before .loop .inv) _ _ (head-step _ _ _ _ _ _ (entry-headed _ _ _ _ _ _ _ (c .before .before .before .before .before .before .before .before .before .before .before .before .before .before .before .before .before .before .before .entry-head .ensures)) _ (c .before .before .before .before .before .before .before .before .before .before .before .before .before .before .before .before .before .x .given .1) _ refl) (c .before .before .before .before .before .before .before .before .before .before .before .before .before .before .before .if1 .left) _ _ (c .before .before .before .before .before .before .before .before .before .before .base-after .ensures) (c .before .before .before .before .before .before .before .before .before .base-after2 .ensures) _ (c .before .before .before .before .before .before .before .analyse-entry .ensures .1) _ _ _ (sym (c .before .before .before .root .given .1) ∙ c .before .before .before .before .before .before .before .analyse-entry .ensures .0) .0, head-ahead (c .before .before .before .before .before .before .before .before .before .before .before .before .before .before .before .before .before .before .before .before .loop .inv) _ _ (head-step _ _ _ _ _ _ (entry-headed _ _ _ _ _ _ _ (c .before .before .before .before .before .before .before .before .before .before .before .before .before .before .before .before .before .before .before .entry-head .ensures)) _ (c .before .before .before .before .before .before .before .before .before .before .before .before .before .before .before .before .before .x .given .1) _ refl) (c .before .before .before .before .before .before .before .before .before .before .before .before .before .before .before .if1 .left) _ _ (c .before .before .before .before .before .before .before .before .before .before .base-after .ensures) (c .before .before .before .before .before .before .before .before .before .base-after2 .ensures) _ (c .before .before .before .before .before .before .before .analyse-entry .ensures .1) _ _ _ (sym (c .before .before .before .root .given .1) ∙ c .before .before .before .before .before .before .before .analyse-entry .ensures .0) .1)
+loop-less c = let a = head-ahead (c .before .before .before .before .before .before .before .before .before .before .before .before .before .before .before .before .before .before .before .before .loop .inv) _ _ (head-step _ _ _ _ _ _ (entry-headed _ _ _ _ _ _ _ (c .before .before .before .before .before .before .before .before .before .before .before .before .before .before .before .before .before .before .before .entry-head .ensures)) _ (c .before .before .before .before .before .before .before .before .before .before .before .before .before .before .before .before .before .x .given .1) _ refl) (c .before .before .before .before .before .before .before .before .before .before .before .before .before .before .before .if1 .left) _ _ (c .before .before .before .before .before .before .before .before .before .before .base-after .ensures) (c .before .before .before .before .before .before .before .before .before .base-after2 .ensures) _ (c .before .before .before .before .before .before .before .analyse-entry .ensures .1) _ _ _ (sym (c .before .before .before .root .given .1) ∙ c .before .before .before .before .before .before .before .analyse-entry .ensures .0) in omega (arith, a .0, a .1)
 
 loop-again : tie.Need-loop-again Inv-loop μ-loop
 unfolding valuesOfEntry baseOf
@@ -245,8 +245,8 @@ analyse-entries-spec =
     mul-parents
     slice-write-parents
     slice-write-roots
-    mul-ends
-    slice-write-ends
+    mul-reference-ends
+    slice-write-reference-ends
     cast-t47
     after-entry-requires
     add-count

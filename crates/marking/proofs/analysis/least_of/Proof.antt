@@ -2,7 +2,7 @@
 use mathlib.Core.Path.{sym}
 use native.Mathlib.Omega.{arith}
 use mir.Facts.{yes-leb, no-leb}
-use Rattle.readers.specs.Choice.{pick-yes, pick-no}
+use Rattle.readers.proofs.Choice.{pick-yes, pick-no}
 use Rattle.marking.specs.Columns.{least}
 use Rattle.marking.proofs.analysis.least_of.Statement.{statement}
 use Rattle.marking.proofs.analysis.least_of.Tie as tie

@@ -6,7 +6,7 @@ use lib.ListN.{length}
 use borrow.Author.Needs.{needs}
 use borrow.Author.Tests.{not-true, not-false}
 use Rattle.marking.specs.Graph.{Graph, graph}
-use Rattle.marking.specs.Passes.{sum, Sound, endFirst}
+use Rattle.marking.specs.inner.Passes.{sum, Sound, endFirst}
 use Rattle.marking.proofs.Starts.{start-sound}
 use Rattle.marking.proofs.Answers.{Taken, taken, parents-fit, pairs-fit, sound-sum, refused-answer, refused-marks, marked-answer, marked-marks}
 use Rattle.marking.proofs.marks.mark_with.Statement.{statement}
@@ -40,13 +40,13 @@ started c = let e = c .before .before in start-sound (G (start-of (e .before))) 
 
 -- after a round the marks are sound still
 sound : (c : tie.After-round Inv-loop μ-loop) → Sound (graph-of (c .before .before)) (c .round .last .1 .1 .0)
-sound c = let l = c .before .before in c .round .ensures .sound (graph-of l) (refl, refl) (l .loop .inv)
+sound c = let l = c .before .before in c .round .ensures .spread .sound (graph-of l) (refl, refl) (l .loop .inv)
 
 takes-requires : tie.Need-takes-requires Inv-loop μ-loop
 takes-requires c κs = search needs
 
-clear-requires : tie.Need-clear-requires Inv-loop μ-loop
-clear-requires c κs = search needs
+clear-bytes-requires : tie.Need-clear-bytes-requires Inv-loop μ-loop
+clear-bytes-requires c κs = search needs
 
 same-length : tie.Need-same-length Inv-loop μ-loop
 same-length c = search needs
@@ -55,7 +55,7 @@ returns : tie.Need-returns Inv-loop μ-loop
 returns c =
     let b = c .before .before .before .before .before in
     let no = sym (b .takes .ensures) ∙ not-true _ (c .before .before .before .before .if1 .taken) in
-    (refused-answer (G (start-of b)) (length (start-of b .args .marks .now)) no, refused-marks (G (start-of b)) (length (start-of b .args .marks .now)) _ no (c .before .before .clear .ensures))
+    (refused-answer (G (start-of b)) (length (start-of b .args .marks .now)) no, refused-marks (G (start-of b)) (length (start-of b .args .marks .now)) _ no (c .before .before .clear-bytes .ensures))
 
 start-requires : tie.Need-start-requires Inv-loop μ-loop
 start-requires c κs = let k = known (c .before) in k .long ∙ sym (k .form .same-roots)
@@ -127,7 +127,7 @@ mark-with-spec =
     Inv-loop
     μ-loop
     takes-requires
-    clear-requires
+    clear-bytes-requires
     same-length
     returns
     start-requires

@@ -5,7 +5,7 @@ use mathlib.Core.Bool.{false}
 use mathlib.Core.Logic.{⊎-elim}
 use native.Mathlib.Omega.{arith}
 use Rattle.marking.specs.Below.{any}
-use Rattle.marking.specs.Passes.{namesFirst, namesFirstAt}
+use Rattle.marking.specs.inner.Passes.{namesFirst, namesFirstAt}
 use Rattle.marking.proofs.Tests.{any-none, any-more, any-found, any-never}
 use Rattle.marking.proofs.Passes.{pair-inside}
 use Rattle.marking.proofs.Settled.{first-other, first-low, first-yes}

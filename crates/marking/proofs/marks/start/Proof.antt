@@ -5,7 +5,7 @@ use mathlib.Core.Logic.{⊎-elim}
 use native.Mathlib.Omega.{arith}
 use borrow.Author.Needs.{needs}
 use lib.ListN.{length, length-set}
-use Rattle.marking.specs.Passes.{startMark}
+use Rattle.marking.specs.inner.Passes.{startMark}
 use Rattle.marking.proofs.Tables.{Made, made-more, made-all}
 use Rattle.marking.proofs.Starts.{start-root, start-first, start-rest}
 use Rattle.marking.proofs.marks.start.Statement.{statement}

@@ -1,10 +1,10 @@
 -- `up` meets its contract: the turns so far are one pass, and find nothing to do where none of them did. Assumes nothing.
-use Prim.Native.Nat.{ℕ, _≤_, _<_, _-_}
+use Prim.Native.Nat.{ℕ, _≤_, _<_}
 use mathlib.Core.Path.{_≡_, refl, _∙_}
 use mathlib.Core.Bool.{true}
 use native.Mathlib.Omega.{arith}
 use lib.ListN.{length}
-use Rattle.marking.specs.Passes.{Pass, WithParents, UpAt}
+use Rattle.marking.specs.inner.Passes.{Pass, WithParents, UpAt}
 use Rattle.marking.proofs.Passes.{idle, turned-up, weaken, or-now, or-then}
 use Rattle.marking.proofs.marks.up.Statement.{statement}
 use Rattle.marking.proofs.marks.up.Tie as tie

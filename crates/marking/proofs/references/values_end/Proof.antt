@@ -1,6 +1,6 @@
 -- `values_end` answers by what the specification there is. Assumes nothing.
 use borrow.Author.Needs.{needs}
-use Rattle.marking.proofs.Attributes.{end-more, end-last, end-bad}
+use Rattle.readers.proofs.EntryAttributes.{end-more, end-last, end-bad}
 use Rattle.marking.proofs.references.values_end.Statement.{statement}
 use Rattle.marking.proofs.references.values_end.Tie as tie
 

@@ -3,7 +3,8 @@ use mathlib.Core.Path.{_≡_, refl}
 use Prim.Native.Nat.{_-_}
 use lib.ListN.{length}
 use borrow.Author.Needs.{needs}
-use Rattle.marking.specs.Roots.{baseFrom, entryValues}
+use Rattle.marking.specs.Roots.{baseFrom}
+use Rattle.readers.specs.EntryAttributes.{entryValues}
 use Rattle.marking.proofs.RootTests.{attributes-less, base-end, base-other, base-form, base-met, base-kept}
 use Rattle.marking.proofs.root_test.base_after.Statement.{statement}
 use Rattle.marking.proofs.root_test.base_after.Tie as tie

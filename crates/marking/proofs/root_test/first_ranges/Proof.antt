@@ -1,11 +1,12 @@
 -- `first_ranges` answers by the first ranges. The outer invariant: the answer over all attributes is that over those from here on, and no verdict is found yet.
 -- The inner one: the answer of the list from its start is that from its place on. Assumes nothing.
-use mathlib.Core.Path.{_≡_, refl, sym, _∙_}
+use mathlib.Core.Path.{_≡_, refl, _∙_}
 use Prim.Native.Nat.{_-_}
 use lib.ListN.{length}
 use borrow.Author.Needs.{needs}
-use Rattle.marking.specs.Roots.{rangesBy, firstRanges, entryValues}
-use Rattle.marking.specs.declared.roots.Verdict.the-variants.{Dead as isDead}
+use Rattle.marking.specs.Roots.{rangesBy, firstRanges}
+use Rattle.readers.specs.EntryAttributes.{entryValues}
+use Rattle.marking.specs.declared.root_test.Verdict.the-variants.{Dead as isDead}
 use Rattle.marking.proofs.RootTests.{first-end, first-other, first-form, first-unresolved, first-decided}
 use Rattle.marking.proofs.RootTests as tests
 use Rattle.marking.proofs.Lists.{rangesFrom, range-less, range-on, range-decided, range-end, range-none}

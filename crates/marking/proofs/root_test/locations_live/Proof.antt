@@ -3,7 +3,8 @@ use mathlib.Core.Path.{_≡_, refl}
 use Prim.Native.Nat.{_-_}
 use lib.ListN.{length}
 use borrow.Author.Needs.{needs}
-use Rattle.marking.specs.Roots.{locations, entryValues}
+use Rattle.marking.specs.Roots.{locations}
+use Rattle.readers.specs.EntryAttributes.{entryValues}
 use Rattle.marking.proofs.RootTests.{attributes-less, locations-end, locations-other, locations-list, locations-live, locations-refused, locations-dead}
 use Rattle.marking.proofs.root_test.locations_live.Statement.{statement}
 use Rattle.marking.proofs.root_test.locations_live.Tie as tie

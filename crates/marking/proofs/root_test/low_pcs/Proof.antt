@@ -4,7 +4,8 @@ use mathlib.Core.Path.{_≡_, refl}
 use Prim.Native.Nat.{_-_}
 use lib.ListN.{length}
 use borrow.Author.Needs.{needs}
-use Rattle.marking.specs.Roots.{lowPcs, entryValues}
+use Rattle.marking.specs.Roots.{lowPcs}
+use Rattle.readers.specs.EntryAttributes.{entryValues}
 use Rattle.marking.proofs.RootTests.{attributes-less, low-end, low-other, low-live, low-refused, low-dead}
 use Rattle.marking.proofs.root_test.low_pcs.Statement.{statement}
 use Rattle.marking.proofs.root_test.low_pcs.Tie as tie

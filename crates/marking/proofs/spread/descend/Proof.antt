@@ -4,7 +4,7 @@ use mathlib.Core.Path.{_≡_}
 use native.Mathlib.Omega.{arith}
 use borrow.Author.Needs.{needs}
 use lib.ListN.{length}
-use Rattle.marking.specs.Passes.{WithParents, Spread}
+use Rattle.marking.specs.inner.Passes.{WithParents, Spread}
 use Rattle.marking.proofs.Spreads.{parents-fit-still, spread-on}
 use Rattle.marking.proofs.spread.descend.Statement.{statement}
 use Rattle.marking.proofs.spread.descend.Tie as tie

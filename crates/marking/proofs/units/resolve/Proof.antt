@@ -2,15 +2,15 @@ use Prim.Native.Nat.{_-_}
 use mathlib.Core.List.{List}
 use native.Mathlib.Omega.{arith}
 use borrow.Author.Needs.{needs}
-use Rattle.marking.specs.Analysis.{Row}
-use Rattle.marking.specs.Resolution.{Held}
+use Rattle.marking.specs.Analysis.{EntryRow}
+use Rattle.marking.specs.inner.Resolution.{ReferenceColumns}
 use Rattle.marking.proofs.Columned.{Turning, turning-start, turning-end, turning-ready, turning-more, ends-inside}
 use Rattle.marking.proofs.units.resolve.Statement.{statement}
 use Rattle.marking.proofs.units.resolve.Tie as tie
 
 abbrev Inv-loop : tie.InvT-loop
 Inv-loop offsets ends entries targets pairs₀ place₀ from₀ i₀ pairs place from i =
-    (rows : List Row) → Held rows offsets ends entries targets pairs₀ → Turning rows pairs₀ pairs place from (i .0)
+    (rows : List EntryRow) → ReferenceColumns rows offsets ends entries targets pairs₀ → Turning rows pairs₀ pairs place from (i .0)
 
 abbrev μ-loop : tie.MeasureT-loop
 μ-loop offsets ends entries targets pairs₀ place₀ from₀ i₀ pairs place from i = entries - i .0

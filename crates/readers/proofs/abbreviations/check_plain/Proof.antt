@@ -1,6 +1,6 @@
 -- `check_plain` meets its contract. The invariant: the declarations before this place have no code twice. Assumes nothing.
 use Prim.Native.Nat.{_-_}
-use mathlib.Core.Path.{ap, sym, _∙_}
+use mathlib.Core.Path.{sym, _∙_}
 use native.Mathlib.Omega.{arith}
 use lib.ListN.{length}
 use Rattle.readers.proofs.Declarations.{declaration-ahead, Checking, checking-none, checking-found, checking-more, checking-last, checking-bad}

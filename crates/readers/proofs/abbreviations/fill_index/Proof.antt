@@ -1,5 +1,5 @@
 -- `fill_index` meets its contract. Assumes nothing.
-use mathlib.Core.Path.{ap, sym, _∙_}
+use mathlib.Core.Path.{sym, _∙_}
 use lib.Seq.{length-take-le}
 use Rattle.readers.proofs.Declarations.{refused-not, unreadable-refused, over-filled, filled-index}
 use borrow.Author.Needs.{needs}
@@ -45,8 +45,11 @@ order-requires c κs = search needs
 same-length-3 : tie.Need-same-length-3
 same-length-3 c = search needs
 
+accept-requires : tie.Need-accept-requires
+accept-requires c κs = search needs
+
 returns-3 : tie.Need-returns-3
-returns-3 c = filled-index _ _ _ (c .before .before .before .before .before .before .before .before .before .before .before .before .before .before .args .index .now) (c .before .before .before .before .before .before .before .before .before .before .gather .last .1 .1 .0) (c .before .before .before .before .before .before .before .before .before .before .gather .kept .1 .1 .0) (sym (c .before .before .before .before .before .before .count .given .1) ∙ c .before .before .before .before .before .before .before .before .before .before .gather .ensures .0) _ _ (c .before .before .before .before .before .before .before .before .before .before .before .before .before .before .pre) (c .before .before .before .before .before .before .before .before .before .before .gather .ensures .1) (c .before .before .before .before .if1 .left) (c .before .before .order .ensures)
+returns-3 c = filled-index _ _ _ (c .before .before .before .before .before .before .before .before .before .before .before .before .before .before .before .args .index .now) (c .before .before .before .before .before .before .before .before .before .before .before .gather .last .1 .1 .0) (c .before .before .before .before .before .before .before .before .before .before .before .gather .kept .1 .1 .0) (sym (c .before .before .before .before .before .before .before .count .given .1) ∙ c .before .before .before .before .before .before .before .before .before .before .before .gather .ensures .0) _ _ _ (c .before .before .before .before .before .before .before .before .before .before .before .before .before .before .before .pre) (c .before .before .before .before .before .before .before .before .before .before .before .gather .ensures .1) (c .before .before .before .before .before .if1 .left) (c .before .before .before .order .ensures) (c .accept .ensures)
 
 pub fill-index-spec : {M : Type 1} → statement M
 fill-index-spec =
@@ -64,5 +67,6 @@ fill-index-spec =
     slice-relend-prefix-order
     slice-aggregate-order
     order-requires
+    accept-requires
     same-length-3
     returns-3)

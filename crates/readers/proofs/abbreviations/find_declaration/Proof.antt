@@ -4,7 +4,6 @@ use Rattle.readers.proofs.Declarations.{find-first, find-halved, find-s
 use borrow.Author.Needs.{needs}
 use Rattle.readers.proofs.abbreviations.find_declaration.Statement.{statement}
 use Rattle.readers.proofs.abbreviations.find_declaration.Tie as tie
-use Rattle.readers.proofs.abbreviations.find_declaration.Reads as reads
 
 number-before-requires : tie.Need-number-before-requires
 number-before-requires c κs = search needs

@@ -1,6 +1,6 @@
 -- `gather` meets its contract. The invariant: the slots hold the declarations before this place, as far as there is room. Assumes nothing.
 use Prim.Native.Nat.{_-_}
-use mathlib.Core.Path.{ap, sym, _∙_}
+use mathlib.Core.Path.{sym, _∙_}
 use native.Mathlib.Omega.{arith}
 use lib.ListN.{length}
 use Rattle.readers.proofs.Declarations.{declaration-ahead, Gathering, gathering-none, gathering-count, gathering-more, gathering-over, gathering-last, gathering-bad}

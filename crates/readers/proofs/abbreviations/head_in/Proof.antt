@@ -5,7 +5,6 @@ use Rattle.readers.proofs.Declarations.{head-in}
 use borrow.Author.Needs.{needs}
 use Rattle.readers.proofs.abbreviations.head_in.Statement.{statement}
 use Rattle.readers.proofs.abbreviations.head_in.Tie as tie
-use Rattle.readers.proofs.abbreviations.head_in.Reads as reads
 
 number-before-requires : tie.Need-number-before-requires
 number-before-requires c κs = search needs

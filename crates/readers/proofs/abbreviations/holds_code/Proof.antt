@@ -3,7 +3,6 @@ use Rattle.readers.proofs.Declarations.{holds-none, holds-some}
 use borrow.Author.Needs.{needs}
 use Rattle.readers.proofs.abbreviations.holds_code.Statement.{statement}
 use Rattle.readers.proofs.abbreviations.holds_code.Tie as tie
-use Rattle.readers.proofs.abbreviations.holds_code.Reads as reads
 
 returns : tie.Need-returns
 returns c = holds-none _ _ _ (c .if1 .taken)

@@ -1,3 +1,4 @@
+-- `walk_expression` meets its contract: each nested expression is shorter than the one that holds it. Assumes nothing.
 use Prim.Native.Nat.{_-_}
 use mathlib.Core.Path.{refl}
 use native.Mathlib.Omega.{arith}
@@ -7,9 +8,9 @@ use Rattle.readers.proofs.Walks.{Walking, walking-start, walking-none, 
 use Prim.Native.Nat.{ℕ, _<_}
 use borrow.Fn.Kinds.{In}
 use borrow.Fn.PlainCycle.{Measures, is, falls, and}
-use Rattle.readers.proofs.expressions.walk_expression.Reads as walk-expression
-use Rattle.readers.proofs.expressions.walk_expression.Kinds as walk-expression-kinds
-use Rattle.readers.proofs.expressions.+walk_expression.Lts-walk_expression as walk-expression-lts
+use Rattle.readers.proofs.expressions.walk_expression.Reads as reads
+use Rattle.readers.proofs.expressions.walk_expression.Kinds as kinds
+use Rattle.readers.proofs.expressions.+walk_expression.Lts-walk_expression as lts
 use Rattle.readers.proofs.cursor.Cursor.operation.Reads as operation-reads
 use Rattle.readers.proofs.fields.Field.expression.Reads as expression-reads
 use Rattle.readers.proofs.expressions.either.Reads as either-reads
@@ -17,391 +18,128 @@ use Rattle.readers.proofs.expressions.own_walk.Reads as own-walk-reads
 use Rattle.readers.proofs.expressions.+walk_expression.{statement}
 use Rattle.readers.proofs.expressions.+walk_expression.Tie.{close}
 
-abbrev μ-walk-expression : Measures 1 walk-expression-kinds.ps ℕ
-μ-walk-expression κs a = length (a .0 .now)
+abbrev μ : Measures 1 kinds.ps ℕ
+μ κs a = length (a .0 .now)
 
-abbrev walk-expression-at : ℕ → In 1 walk-expression-kinds.ps
-walk-expression-at t =
-    and
-    1
-    walk-expression-kinds.ps
-    (is 1 walk-expression-kinds.ps μ-walk-expression t)
-    walk-expression.Pre
+abbrev Inv-loop : lts.InvT-loop
+Inv-loop s e c₀ references₀ absolute₀ c references absolute = Walking e s (c .at) references absolute
 
-abbrev walk-expression-below : ℕ → In 1 walk-expression-kinds.ps
-walk-expression-below t =
-    and
-    1
-    walk-expression-kinds.ps
-    (falls 1 walk-expression-kinds.ps _<_ μ-walk-expression t)
-    walk-expression.Pre
+abbrev μ-loop : lts.MeasureT-loop
+μ-loop s e c₀ references₀ absolute₀ c references absolute = length s - c .at
 
-abbrev walk-expression-Inv-loop : walk-expression-lts.InvT-loop
-walk-expression-Inv-loop s e c₀ references₀ absolute₀ c references absolute = Walking e s (c .at) references absolute
+module _ (t : ℕ) where
+  abbrev here : In 1 kinds.ps
+  here = and 1 kinds.ps (is 1 kinds.ps μ t) reads.Pre
 
-abbrev walk-expression-μ-loop : walk-expression-lts.MeasureT-loop
-walk-expression-μ-loop s e c₀ references₀ absolute₀ c references absolute = length s - c .at
+  abbrev below : In 1 kinds.ps
+  below = and 1 kinds.ps (falls 1 kinds.ps _<_ μ t) reads.Pre
 
-walk-expression-loop-holds : (t : ℕ) → walk-expression-lts.Need-loop-holds (
-  operation-reads.Asked,
-  operation-reads.Learnt,
-  expression-reads.Asked,
-  expression-reads.Learnt,
-  walk-expression-below t,
-  walk-expression.Post,
-  either-reads.Asked,
-  either-reads.Learnt,
-  own-walk-reads.Asked,
-  own-walk-reads.Learnt,
-) (walk-expression-at t) walk-expression.Post walk-expression-Inv-loop walk-expression-μ-loop
-walk-expression-loop-holds t c = walking-start _ _
+  abbrev claims : lts.Claims
+  claims = (
+    operation-reads.Asked,
+    operation-reads.Learnt,
+    expression-reads.Asked,
+    expression-reads.Learnt,
+    below,
+    reads.Post,
+    either-reads.Asked,
+    either-reads.Learnt,
+    own-walk-reads.Asked,
+    own-walk-reads.Learnt,
+  )
 
-walk-expression-operation-requires : (t : ℕ) → walk-expression-lts.Need-operation-requires (
-  operation-reads.Asked,
-  operation-reads.Learnt,
-  expression-reads.Asked,
-  expression-reads.Learnt,
-  walk-expression-below t,
-  walk-expression.Post,
-  either-reads.Asked,
-  either-reads.Learnt,
-  own-walk-reads.Asked,
-  own-walk-reads.Learnt,
-) (walk-expression-at t) walk-expression.Post walk-expression-Inv-loop walk-expression-μ-loop
-walk-expression-operation-requires t c κs = tt
+  loop-holds : lts.Need-loop-holds claims here reads.Post Inv-loop μ-loop
+  loop-holds c = walking-start _ _
 
-walk-expression-enum-known-op : (t : ℕ) → walk-expression-lts.Need-enum-known-op (
-  operation-reads.Asked,
-  operation-reads.Learnt,
-  expression-reads.Asked,
-  expression-reads.Learnt,
-  walk-expression-below t,
-  walk-expression.Post,
-  either-reads.Asked,
-  either-reads.Learnt,
-  own-walk-reads.Asked,
-  own-walk-reads.Learnt,
-) (walk-expression-at t) walk-expression.Post walk-expression-Inv-loop walk-expression-μ-loop
-walk-expression-enum-known-op t c = search needs
+  operation-requires : lts.Need-operation-requires claims here reads.Post Inv-loop μ-loop
+  operation-requires c κs = tt
 
-walk-expression-enum-told : (t : ℕ) → walk-expression-lts.Need-enum-told (
-  operation-reads.Asked,
-  operation-reads.Learnt,
-  expression-reads.Asked,
-  expression-reads.Learnt,
-  walk-expression-below t,
-  walk-expression.Post,
-  either-reads.Asked,
-  either-reads.Learnt,
-  own-walk-reads.Asked,
-  own-walk-reads.Learnt,
-) (walk-expression-at t) walk-expression.Post walk-expression-Inv-loop walk-expression-μ-loop
-walk-expression-enum-told t c = search needs
+  enum-known-op : lts.Need-enum-known-op claims here reads.Post Inv-loop μ-loop
+  enum-known-op c = search needs
 
-walk-expression-returns : (t : ℕ) → walk-expression-lts.Need-returns (
-  operation-reads.Asked,
-  operation-reads.Learnt,
-  expression-reads.Asked,
-  expression-reads.Learnt,
-  walk-expression-below t,
-  walk-expression.Post,
-  either-reads.Asked,
-  either-reads.Learnt,
-  own-walk-reads.Asked,
-  own-walk-reads.Learnt,
-) (walk-expression-at t) walk-expression.Post walk-expression-Inv-loop walk-expression-μ-loop
-walk-expression-returns t c = walking-none _ _ _ _ _ (c .before .before .before .before .before .loop .inv) (c .before .before .before .if1 .taken) _ (c .before .before .operation .ensures) (c .enum-told .given .1)
+  enum-told : lts.Need-enum-told claims here reads.Post Inv-loop μ-loop
+  enum-told c = search needs
 
-walk-expression-expression-requires : (t : ℕ) → walk-expression-lts.Need-expression-requires (
-  operation-reads.Asked,
-  operation-reads.Learnt,
-  expression-reads.Asked,
-  expression-reads.Learnt,
-  walk-expression-below t,
-  walk-expression.Post,
-  either-reads.Asked,
-  either-reads.Learnt,
-  own-walk-reads.Asked,
-  own-walk-reads.Learnt,
-) (walk-expression-at t) walk-expression.Post walk-expression-Inv-loop walk-expression-μ-loop
-walk-expression-expression-requires t c κs = tt
+  returns : lts.Need-returns claims here reads.Post Inv-loop μ-loop
+  returns c = walking-none _ _ _ _ _ (c .before .before .before .before .before .loop .inv) (c .before .before .before .if1 .taken) _ (c .before .before .operation .ensures) (c .enum-told .given .1)
 
-walk-expression-walk-expression-requires :
-    (t : ℕ) → walk-expression-lts.Need-walk-expression-requires (
-      operation-reads.Asked,
-      operation-reads.Learnt,
-      expression-reads.Asked,
-      expression-reads.Learnt,
-      walk-expression-below t,
-      walk-expression.Post,
-      either-reads.Asked,
-      either-reads.Learnt,
-      own-walk-reads.Asked,
-      own-walk-reads.Learnt,
-    ) (walk-expression-at t) walk-expression.Post walk-expression-Inv-loop walk-expression-μ-loop
-walk-expression-walk-expression-requires t c κs = (omega (arith, part-less _ _ _ _ _ (c .before .before .before .before .before .before .before .before .before .before .loop .inv) (c .before .before .before .before .before .before .before .before .if1 .taken) _ (c .before .before .before .before .before .before .before .operation .ensures) _ (c .before .before .before .before .before .op .given .1) _ (c .expression .ensures)), tt)
+  expression-requires : lts.Need-expression-requires claims here reads.Post Inv-loop μ-loop
+  expression-requires c κs = tt
 
-walk-expression-enum-known-more : (t : ℕ) → walk-expression-lts.Need-enum-known-more (
-  operation-reads.Asked,
-  operation-reads.Learnt,
-  expression-reads.Asked,
-  expression-reads.Learnt,
-  walk-expression-below t,
-  walk-expression.Post,
-  either-reads.Asked,
-  either-reads.Learnt,
-  own-walk-reads.Asked,
-  own-walk-reads.Learnt,
-) (walk-expression-at t) walk-expression.Post walk-expression-Inv-loop walk-expression-μ-loop
-walk-expression-enum-known-more t c = search needs
+  walk-expression-requires : lts.Need-walk-expression-requires claims here reads.Post Inv-loop μ-loop
+  walk-expression-requires c κs = (omega (arith, part-less _ _ _ _ _ (c .before .before .before .before .before .before .before .before .before .before .loop .inv) (c .before .before .before .before .before .before .before .before .if1 .taken) _ (c .before .before .before .before .before .before .before .operation .ensures) _ (c .before .before .before .before .before .op .given .1) _ (c .expression .ensures)), tt)
 
-walk-expression-enum-told-2 : (t : ℕ) → walk-expression-lts.Need-enum-told-2 (
-  operation-reads.Asked,
-  operation-reads.Learnt,
-  expression-reads.Asked,
-  expression-reads.Learnt,
-  walk-expression-below t,
-  walk-expression.Post,
-  either-reads.Asked,
-  either-reads.Learnt,
-  own-walk-reads.Asked,
-  own-walk-reads.Learnt,
-) (walk-expression-at t) walk-expression.Post walk-expression-Inv-loop walk-expression-μ-loop
-walk-expression-enum-told-2 t c = search needs
+  enum-known-more : lts.Need-enum-known-more claims here reads.Post Inv-loop μ-loop
+  enum-known-more c = search needs
 
-walk-expression-returns-2 : (t : ℕ) → walk-expression-lts.Need-returns-2 (
-  operation-reads.Asked,
-  operation-reads.Learnt,
-  expression-reads.Asked,
-  expression-reads.Learnt,
-  walk-expression-below t,
-  walk-expression.Post,
-  either-reads.Asked,
-  either-reads.Learnt,
-  own-walk-reads.Asked,
-  own-walk-reads.Learnt,
-) (walk-expression-at t) walk-expression.Post walk-expression-Inv-loop walk-expression-μ-loop
-walk-expression-returns-2 t c = entry-fall _ _ _ _ _ (c .before .before .before .before .before .before .before .before .before .before .before .before .before .loop .inv) (c .before .before .before .before .before .before .before .before .before .before .before .if1 .taken) _ (c .before .before .before .before .before .before .before .before .before .before .operation .ensures) _ (c .before .before .before .before .before .before .before .before .op .given .1) (c .before .before .before .before .if2 .taken) _ (c .before .before .before .expression .ensures) _ (c .before .before .walk-expression .ensures) (c .enum-told2 .given .1)
+  enum-told-2 : lts.Need-enum-told-2 claims here reads.Post Inv-loop μ-loop
+  enum-told-2 c = search needs
 
-walk-expression-add-references : (t : ℕ) → walk-expression-lts.Need-add-references (
-  operation-reads.Asked,
-  operation-reads.Learnt,
-  expression-reads.Asked,
-  expression-reads.Learnt,
-  walk-expression-below t,
-  walk-expression.Post,
-  either-reads.Asked,
-  either-reads.Learnt,
-  own-walk-reads.Asked,
-  own-walk-reads.Learnt,
-) (walk-expression-at t) walk-expression.Post walk-expression-Inv-loop walk-expression-μ-loop
-walk-expression-add-references t c = let w = walking-entry _ _ _ _ _ (c .before .before .before .before .before .before .before .before .before .before .before .before .before .before .loop .inv) (c .before .before .before .before .before .before .before .before .before .before .before .before .if1 .taken) _ (c .before .before .before .before .before .before .before .before .before .before .before .operation .ensures) _ (c .before .before .before .before .before .before .before .before .before .op .given .1) (c .before .before .before .before .before .if2 .taken) _ (c .before .before .before .before .expression .ensures) _ (c .before .before .before .walk-expression .ensures) _ _ _ (c .before .more .given .1) refl in omega (arith, w .few, w .inside)
+  returns-2 : lts.Need-returns-2 claims here reads.Post Inv-loop μ-loop
+  returns-2 c = entry-fall _ _ _ _ _ (c .before .before .before .before .before .before .before .before .before .before .before .before .before .loop .inv) (c .before .before .before .before .before .before .before .before .before .before .before .if1 .taken) _ (c .before .before .before .before .before .before .before .before .before .before .operation .ensures) _ (c .before .before .before .before .before .before .before .before .op .given .1) (c .before .before .before .before .if2 .taken) _ (c .before .before .before .expression .ensures) _ (c .before .before .walk-expression .ensures) (c .enum-told2 .given .1)
 
-walk-expression-either-requires : (t : ℕ) → walk-expression-lts.Need-either-requires (
-  operation-reads.Asked,
-  operation-reads.Learnt,
-  expression-reads.Asked,
-  expression-reads.Learnt,
-  walk-expression-below t,
-  walk-expression.Post,
-  either-reads.Asked,
-  either-reads.Learnt,
-  own-walk-reads.Asked,
-  own-walk-reads.Learnt,
-) (walk-expression-at t) walk-expression.Post walk-expression-Inv-loop walk-expression-μ-loop
-walk-expression-either-requires t c κs = tt
+  add-references : lts.Need-add-references claims here reads.Post Inv-loop μ-loop
+  add-references c = let w = walking-entry _ _ _ _ _ (c .before .before .before .before .before .before .before .before .before .before .before .before .before .before .loop .inv) (c .before .before .before .before .before .before .before .before .before .before .before .before .if1 .taken) _ (c .before .before .before .before .before .before .before .before .before .before .before .operation .ensures) _ (c .before .before .before .before .before .before .before .before .before .op .given .1) (c .before .before .before .before .before .if2 .taken) _ (c .before .before .before .before .expression .ensures) _ (c .before .before .before .walk-expression .ensures) _ _ _ (c .before .more .given .1) refl in omega (arith, w .few, w .inside)
 
-walk-expression-loop-less : (t : ℕ) → walk-expression-lts.Need-loop-less (
-  operation-reads.Asked,
-  operation-reads.Learnt,
-  expression-reads.Asked,
-  expression-reads.Learnt,
-  walk-expression-below t,
-  walk-expression.Post,
-  either-reads.Asked,
-  either-reads.Learnt,
-  own-walk-reads.Asked,
-  own-walk-reads.Learnt,
-) (walk-expression-at t) walk-expression.Post walk-expression-Inv-loop walk-expression-μ-loop
-walk-expression-loop-less t c = let i = within _ _ _ _ _ (c .before .before .before .before .before .before .before .before .before .before .before .before .before .before .before .loop .inv) (c .before .before .before .before .before .before .before .before .before .before .before .before .before .if1 .taken) _ (c .before .before .before .before .before .before .before .before .before .before .before .before .operation .ensures) _ (c .before .before .before .before .before .before .before .before .before .before .op .given .1) in omega (arith, i .0)
+  either-requires : lts.Need-either-requires claims here reads.Post Inv-loop μ-loop
+  either-requires c κs = tt
 
-walk-expression-loop-again : (t : ℕ) → walk-expression-lts.Need-loop-again (
-  operation-reads.Asked,
-  operation-reads.Learnt,
-  expression-reads.Asked,
-  expression-reads.Learnt,
-  walk-expression-below t,
-  walk-expression.Post,
-  either-reads.Asked,
-  either-reads.Learnt,
-  own-walk-reads.Asked,
-  own-walk-reads.Learnt,
-) (walk-expression-at t) walk-expression.Post walk-expression-Inv-loop walk-expression-μ-loop
-walk-expression-loop-again t c = walking-entry _ _ _ _ _ (c .before .before .before .before .before .before .before .before .before .before .before .before .before .before .before .loop .inv) (c .before .before .before .before .before .before .before .before .before .before .before .before .before .if1 .taken) _ (c .before .before .before .before .before .before .before .before .before .before .before .before .operation .ensures) _ (c .before .before .before .before .before .before .before .before .before .before .op .given .1) (c .before .before .before .before .before .before .if2 .taken) _ (c .before .before .before .before .before .expression .ensures) _ (c .before .before .before .before .walk-expression .ensures) _ _ _ (c .before .before .more .given .1) (c .either .ensures)
+  loop-less : lts.Need-loop-less claims here reads.Post Inv-loop μ-loop
+  loop-less c = let i = within _ _ _ _ _ (c .before .before .before .before .before .before .before .before .before .before .before .before .before .before .before .loop .inv) (c .before .before .before .before .before .before .before .before .before .before .before .before .before .if1 .taken) _ (c .before .before .before .before .before .before .before .before .before .before .before .before .operation .ensures) _ (c .before .before .before .before .before .before .before .before .before .before .op .given .1) in omega (arith, i .0)
 
-walk-expression-own-walk-requires : (t : ℕ) → walk-expression-lts.Need-own-walk-requires (
-  operation-reads.Asked,
-  operation-reads.Learnt,
-  expression-reads.Asked,
-  expression-reads.Learnt,
-  walk-expression-below t,
-  walk-expression.Post,
-  either-reads.Asked,
-  either-reads.Learnt,
-  own-walk-reads.Asked,
-  own-walk-reads.Learnt,
-) (walk-expression-at t) walk-expression.Post walk-expression-Inv-loop walk-expression-μ-loop
-walk-expression-own-walk-requires t c κs = tt
+  loop-again : lts.Need-loop-again claims here reads.Post Inv-loop μ-loop
+  loop-again c = walking-entry _ _ _ _ _ (c .before .before .before .before .before .before .before .before .before .before .before .before .before .before .before .loop .inv) (c .before .before .before .before .before .before .before .before .before .before .before .before .before .if1 .taken) _ (c .before .before .before .before .before .before .before .before .before .before .before .before .operation .ensures) _ (c .before .before .before .before .before .before .before .before .before .before .op .given .1) (c .before .before .before .before .before .before .if2 .taken) _ (c .before .before .before .before .before .expression .ensures) _ (c .before .before .before .before .walk-expression .ensures) _ _ _ (c .before .before .more .given .1) (c .either .ensures)
 
-walk-expression-enum-known-more-2 : (t : ℕ) → walk-expression-lts.Need-enum-known-more-2 (
-  operation-reads.Asked,
-  operation-reads.Learnt,
-  expression-reads.Asked,
-  expression-reads.Learnt,
-  walk-expression-below t,
-  walk-expression.Post,
-  either-reads.Asked,
-  either-reads.Learnt,
-  own-walk-reads.Asked,
-  own-walk-reads.Learnt,
-) (walk-expression-at t) walk-expression.Post walk-expression-Inv-loop walk-expression-μ-loop
-walk-expression-enum-known-more-2 t c = search needs
+  own-walk-requires : lts.Need-own-walk-requires claims here reads.Post Inv-loop μ-loop
+  own-walk-requires c κs = tt
 
-walk-expression-enum-told-3 : (t : ℕ) → walk-expression-lts.Need-enum-told-3 (
-  operation-reads.Asked,
-  operation-reads.Learnt,
-  expression-reads.Asked,
-  expression-reads.Learnt,
-  walk-expression-below t,
-  walk-expression.Post,
-  either-reads.Asked,
-  either-reads.Learnt,
-  own-walk-reads.Asked,
-  own-walk-reads.Learnt,
-) (walk-expression-at t) walk-expression.Post walk-expression-Inv-loop walk-expression-μ-loop
-walk-expression-enum-told-3 t c = search needs
+  enum-known-more-2 : lts.Need-enum-known-more-2 claims here reads.Post Inv-loop μ-loop
+  enum-known-more-2 c = search needs
 
-walk-expression-returns-3 : (t : ℕ) → walk-expression-lts.Need-returns-3 (
-  operation-reads.Asked,
-  operation-reads.Learnt,
-  expression-reads.Asked,
-  expression-reads.Learnt,
-  walk-expression-below t,
-  walk-expression.Post,
-  either-reads.Asked,
-  either-reads.Learnt,
-  own-walk-reads.Asked,
-  own-walk-reads.Learnt,
-) (walk-expression-at t) walk-expression.Post walk-expression-Inv-loop walk-expression-μ-loop
-walk-expression-returns-3 t c = own-fall _ _ _ _ _ (c .before .before .before .before .before .before .before .before .before .before .before .before .loop .inv) (c .before .before .before .before .before .before .before .before .before .before .if1 .taken) _ (c .before .before .before .before .before .before .before .before .before .operation .ensures) _ (c .before .before .before .before .before .before .before .op .given .1) (c .before .before .before .if2 .left) _ (c .before .before .own-walk .ensures) (c .enum-told3 .given .1)
+  enum-told-3 : lts.Need-enum-told-3 claims here reads.Post Inv-loop μ-loop
+  enum-told-3 c = search needs
 
-walk-expression-add-references-2 : (t : ℕ) → walk-expression-lts.Need-add-references-2 (
-  operation-reads.Asked,
-  operation-reads.Learnt,
-  expression-reads.Asked,
-  expression-reads.Learnt,
-  walk-expression-below t,
-  walk-expression.Post,
-  either-reads.Asked,
-  either-reads.Learnt,
-  own-walk-reads.Asked,
-  own-walk-reads.Learnt,
-) (walk-expression-at t) walk-expression.Post walk-expression-Inv-loop walk-expression-μ-loop
-walk-expression-add-references-2 t c = let w = walking-own _ _ _ _ _ (c .before .before .before .before .before .before .before .before .before .before .before .before .before .loop .inv) (c .before .before .before .before .before .before .before .before .before .before .before .if1 .taken) _ (c .before .before .before .before .before .before .before .before .before .before .operation .ensures) _ (c .before .before .before .before .before .before .before .before .op .given .1) (c .before .before .before .before .if2 .left) _ (c .before .before .before .own-walk .ensures) _ _ _ (c .before .more2 .given .1) refl in omega (arith, w .few, w .inside)
+  returns-3 : lts.Need-returns-3 claims here reads.Post Inv-loop μ-loop
+  returns-3 c = own-fall _ _ _ _ _ (c .before .before .before .before .before .before .before .before .before .before .before .before .loop .inv) (c .before .before .before .before .before .before .before .before .before .before .if1 .taken) _ (c .before .before .before .before .before .before .before .before .before .operation .ensures) _ (c .before .before .before .before .before .before .before .op .given .1) (c .before .before .before .if2 .left) _ (c .before .before .own-walk .ensures) (c .enum-told3 .given .1)
 
-walk-expression-either-requires-2 : (t : ℕ) → walk-expression-lts.Need-either-requires-2 (
-  operation-reads.Asked,
-  operation-reads.Learnt,
-  expression-reads.Asked,
-  expression-reads.Learnt,
-  walk-expression-below t,
-  walk-expression.Post,
-  either-reads.Asked,
-  either-reads.Learnt,
-  own-walk-reads.Asked,
-  own-walk-reads.Learnt,
-) (walk-expression-at t) walk-expression.Post walk-expression-Inv-loop walk-expression-μ-loop
-walk-expression-either-requires-2 t c κs = tt
+  add-references-2 : lts.Need-add-references-2 claims here reads.Post Inv-loop μ-loop
+  add-references-2 c = let w = walking-own _ _ _ _ _ (c .before .before .before .before .before .before .before .before .before .before .before .before .before .loop .inv) (c .before .before .before .before .before .before .before .before .before .before .before .if1 .taken) _ (c .before .before .before .before .before .before .before .before .before .before .operation .ensures) _ (c .before .before .before .before .before .before .before .before .op .given .1) (c .before .before .before .before .if2 .left) _ (c .before .before .before .own-walk .ensures) _ _ _ (c .before .more2 .given .1) refl in omega (arith, w .few, w .inside)
 
-walk-expression-loop-less-2 : (t : ℕ) → walk-expression-lts.Need-loop-less-2 (
-  operation-reads.Asked,
-  operation-reads.Learnt,
-  expression-reads.Asked,
-  expression-reads.Learnt,
-  walk-expression-below t,
-  walk-expression.Post,
-  either-reads.Asked,
-  either-reads.Learnt,
-  own-walk-reads.Asked,
-  own-walk-reads.Learnt,
-) (walk-expression-at t) walk-expression.Post walk-expression-Inv-loop walk-expression-μ-loop
-walk-expression-loop-less-2 t c = let i = within _ _ _ _ _ (c .before .before .before .before .before .before .before .before .before .before .before .before .before .before .loop .inv) (c .before .before .before .before .before .before .before .before .before .before .before .before .if1 .taken) _ (c .before .before .before .before .before .before .before .before .before .before .before .operation .ensures) _ (c .before .before .before .before .before .before .before .before .before .op .given .1) in omega (arith, i .0)
+  either-requires-2 : lts.Need-either-requires-2 claims here reads.Post Inv-loop μ-loop
+  either-requires-2 c κs = tt
 
-walk-expression-loop-again-2 : (t : ℕ) → walk-expression-lts.Need-loop-again-2 (
-  operation-reads.Asked,
-  operation-reads.Learnt,
-  expression-reads.Asked,
-  expression-reads.Learnt,
-  walk-expression-below t,
-  walk-expression.Post,
-  either-reads.Asked,
-  either-reads.Learnt,
-  own-walk-reads.Asked,
-  own-walk-reads.Learnt,
-) (walk-expression-at t) walk-expression.Post walk-expression-Inv-loop walk-expression-μ-loop
-walk-expression-loop-again-2 t c = walking-own _ _ _ _ _ (c .before .before .before .before .before .before .before .before .before .before .before .before .before .before .loop .inv) (c .before .before .before .before .before .before .before .before .before .before .before .before .if1 .taken) _ (c .before .before .before .before .before .before .before .before .before .before .before .operation .ensures) _ (c .before .before .before .before .before .before .before .before .before .op .given .1) (c .before .before .before .before .before .if2 .left) _ (c .before .before .before .before .own-walk .ensures) _ _ _ (c .before .before .more2 .given .1) (c .either2 .ensures)
+  loop-less-2 : lts.Need-loop-less-2 claims here reads.Post Inv-loop μ-loop
+  loop-less-2 c = let i = within _ _ _ _ _ (c .before .before .before .before .before .before .before .before .before .before .before .before .before .before .loop .inv) (c .before .before .before .before .before .before .before .before .before .before .before .before .if1 .taken) _ (c .before .before .before .before .before .before .before .before .before .before .before .operation .ensures) _ (c .before .before .before .before .before .before .before .before .before .op .given .1) in omega (arith, i .0)
 
-walk-expression-returns-4 : (t : ℕ) → walk-expression-lts.Need-returns-4 (
-  operation-reads.Asked,
-  operation-reads.Learnt,
-  expression-reads.Asked,
-  expression-reads.Learnt,
-  walk-expression-below t,
-  walk-expression.Post,
-  either-reads.Asked,
-  either-reads.Learnt,
-  own-walk-reads.Asked,
-  own-walk-reads.Learnt,
-) (walk-expression-at t) walk-expression.Post walk-expression-Inv-loop walk-expression-μ-loop
-walk-expression-returns-4 t c = walking-end _ _ _ _ _ (c .before .before .loop .inv) (c .if1 .left)
+  loop-again-2 : lts.Need-loop-again-2 claims here reads.Post Inv-loop μ-loop
+  loop-again-2 c = walking-own _ _ _ _ _ (c .before .before .before .before .before .before .before .before .before .before .before .before .before .before .loop .inv) (c .before .before .before .before .before .before .before .before .before .before .before .before .if1 .taken) _ (c .before .before .before .before .before .before .before .before .before .before .before .operation .ensures) _ (c .before .before .before .before .before .before .before .before .before .op .given .1) (c .before .before .before .before .before .if2 .left) _ (c .before .before .before .before .own-walk .ensures) _ _ _ (c .before .before .more2 .given .1) (c .either2 .ensures)
+
+  returns-4 : lts.Need-returns-4 claims here reads.Post Inv-loop μ-loop
+  returns-4 c = walking-end _ _ _ _ _ (c .before .before .loop .inv) (c .if1 .left)
 
 pub +walk-expression-spec : {M : Type 1} → statement M
-+walk-expression-spec = close μ-walk-expression λ t. walk-expression-lts.spec (
-  operation-reads.Asked,
-  operation-reads.Learnt,
-  expression-reads.Asked,
-  expression-reads.Learnt,
-  walk-expression-below t,
-  walk-expression.Post,
-  either-reads.Asked,
-  either-reads.Learnt,
-  own-walk-reads.Asked,
-  own-walk-reads.Learnt,
-)
-    (walk-expression-at t)
-    walk-expression.Post
-    walk-expression-Inv-loop
-    walk-expression-μ-loop
-    (walk-expression-loop-holds t)
-    (walk-expression-operation-requires t)
-    (walk-expression-enum-known-op t)
-    (walk-expression-enum-told t)
-    (walk-expression-returns t)
-    (walk-expression-expression-requires t)
-    (walk-expression-walk-expression-requires t)
-    (walk-expression-enum-known-more t)
-    (walk-expression-enum-told-2 t)
-    (walk-expression-returns-2 t)
-    (walk-expression-add-references t)
-    (walk-expression-either-requires t)
-    (walk-expression-loop-less t)
-    (walk-expression-loop-again t)
-    (walk-expression-own-walk-requires t)
-    (walk-expression-enum-known-more-2 t)
-    (walk-expression-enum-told-3 t)
-    (walk-expression-returns-3 t)
-    (walk-expression-add-references-2 t)
-    (walk-expression-either-requires-2 t)
-    (walk-expression-loop-less-2 t)
-    (walk-expression-loop-again-2 t)
-    (walk-expression-returns-4 t)
++walk-expression-spec =
+    close μ λ t. lts.spec (claims t) (here t) reads.Post Inv-loop μ-loop
+    (loop-holds t)
+    (operation-requires t)
+    (enum-known-op t)
+    (enum-told t)
+    (returns t)
+    (expression-requires t)
+    (walk-expression-requires t)
+    (enum-known-more t)
+    (enum-told-2 t)
+    (returns-2 t)
+    (add-references t)
+    (either-requires t)
+    (loop-less t)
+    (loop-again t)
+    (own-walk-requires t)
+    (enum-known-more-2 t)
+    (enum-told-3 t)
+    (returns-3 t)
+    (add-references-2 t)
+    (either-requires-2 t)
+    (loop-less-2 t)
+    (loop-again-2 t)
+    (returns-4 t)

@@ -1,7 +1,6 @@
 -- `header_fields` meets its contract: after each field the answer is that of the fields from there on. Assumes nothing.
 use mathlib.Core.Path.{_≡_, sym, _∙_}
 use mathlib.Core.Logic.{inl, inr, ⊎-elim}
-use native.Mathlib.Omega.{arith}
 use lib.ListN.{getD}
 use Rattle.readers.specs.Header.{headerFields, headerMade, encodingOf}
 use Rattle.readers.proofs.Headers.{atType, atSize, atAbbreviations, version-none, version-other, version-five, type-none, type-other, type-known, size-none, size-other, size-known, abbreviations-none, whole, id-none, id-there}

@@ -1,5 +1,5 @@
 -- `unit_header` meets its contract: the unit is the part of the section that its length says. Assumes nothing.
-use mathlib.Core.Path.{_≡_, sym, _∙_}
+use mathlib.Core.Path.{sym, _∙_}
 use native.Mathlib.Omega.{arith}
 use lib.Seq.{length-take-le}
 use Rattle.readers.proofs.Widths.{fixed-inside}

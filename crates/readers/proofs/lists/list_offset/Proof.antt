@@ -1,6 +1,6 @@
 -- `list_offset` meets its contract: an index whose entry would lie past the end is refused before its place is computed, so nothing wraps.
 -- Assumes nothing.
-use mathlib.Core.Path.{_≡_, sym, _∙_}
+use mathlib.Core.Path.{sym, _∙_}
 use native.Mathlib.Omega.{arith}
 use Rattle.readers.proofs.ListStarts.{start-past, within, beyond, unread, was-read, past, no-size, base-past}
 use borrow.Author.Needs.{needs}

@@ -14,9 +14,9 @@ use Rattle.readers.specs.Entries.{specsLayout}
 use Rattle.readers.specs.declared.cursor.Cursor.{Cursor}
 use Rattle.rewriting.specs.Places.{Place}
 use Rattle.rewriting.specs.Rewriting.{Lists}
-use Rattle.rewriting.specs.Written.{MapHeld}
-use Rattle.rewriting.specs.Bounds.{Bounds}
-use Rattle.rewriting.specs.Emission.{Within, Lends}
+use Rattle.rewriting.specs.inner.Written.{MapHeld}
+use Rattle.rewriting.specs.inner.Bounds.{Bounds}
+use Rattle.rewriting.specs.inner.Emission.{Within, ListsLent}
 use Rattle.rewriting.specs.declared.emit.Emitted.the-variants.{To}
 use Rattle.rewriting.proofs.Emissions.{from-start, within-self, within-trans, within-on, within-stop, inside, copied-front, copied-within, emits-on, size-small, after-small, onward-to, onward-no}
 use Rattle.rewriting.proofs.EntryEmits.{Entering, entering-begin, entry-done, entering-less, entering-end, entering-refused, entering-on}
@@ -27,7 +27,7 @@ abbrev Inv-loop : tie.InvT-loop
 Inv-loop unit abbreviations depth e map places bounds ranges ranges-count locations locations-count strings strings-count out₀ p₀ from₀ to₀ out p from to =
     Within out₀ (To to) out
     × ((lists : Lists) (ps : List Place) (whole : List Read) (rest : List ℕ) → e .«big_endian» ≡ false → MapHeld ps map → places ≡ length ps → Bounds ps bounds
-    → Lends lists ranges ranges-count locations locations-count strings strings-count → from₀ .at ≤ length unit
+    → ListsLent lists ranges ranges-count locations locations-count strings strings-count → from₀ .at ≤ length unit
     → readIn false (expressionIn e) (specsLayout e (attributesFrom abbreviations (p₀ .at))) (drop (from₀ .at) unit) ≡ some (whole, rest)
     → Entering lists ps depth e abbreviations unit whole out₀ to₀ out (p .at) (from .at) to)
 

@@ -11,8 +11,8 @@ use Rattle.readers.specs.Layout.{Piece}
 use Rattle.readers.specs.Expression.{expressionIn}
 use Rattle.rewriting.specs.Places.{Place}
 use Rattle.rewriting.specs.Rewriting.{Lists}
-use Rattle.rewriting.specs.Written.{MapHeld}
-use Rattle.rewriting.specs.Emission.{Within}
+use Rattle.rewriting.specs.inner.Written.{MapHeld}
+use Rattle.rewriting.specs.inner.Emission.{Within}
 use Rattle.rewriting.specs.declared.emit.Emitted.the-variants.{To}
 use Rattle.rewriting.proofs.Exact.{are-bytes}
 use Rattle.rewriting.proofs.Places.{looked-held}

@@ -3,7 +3,7 @@ use mathlib.Core.Path.{_≡_, refl}
 use Prim.Native.Nat.{_-_}
 use lib.ListN.{length}
 use borrow.Author.Needs.{needs}
-use Rattle.marking.specs.Roots.{entryValues}
+use Rattle.readers.specs.EntryAttributes.{entryValues}
 use Rattle.rewriting.specs.Indices.{declares}
 use Rattle.rewriting.proofs.IndexTurns.{attributes-less, declares-end, declares-yes, declares-form, declares-name}
 use Rattle.rewriting.proofs.indices.entry_declares.Statement.{statement}

@@ -4,22 +4,22 @@ use Prim.Native.Nat.{_-_}
 use lib.ListN.{length}
 use borrow.Author.Needs.{needs}
 use Rattle.rewriting.proofs.IndexTurns.{attributes-less, Indices, indices-end, indices-more}
-use Rattle.rewriting.proofs.EntryIndices.{form-list}
+use Rattle.readers.proofs.FormKinds.{form-list}
 use Rattle.rewriting.proofs.Holdings.{Filling, onward-start, onward-more, onward-end}
 use Rattle.rewriting.proofs.indices.entry_gather.Statement.{statement}
 use Rattle.rewriting.proofs.indices.entry_gather.Tie as tie
 
 abbrev Inv-loop : tie.InvT-loop
-Inv-loop unit abbreviations e ordered range-list₀ location-list₀ string-list₀ p₀ from₀ g₀ range-list location-list string-list p from g =
-    Filling ordered (Indices 0 e abbreviations unit (p₀ .at) (from₀ .at)) (g₀ .ranges) range-list₀ (Indices 0 e abbreviations unit (p .at) (from .at)) (g .ranges) range-list
-    × Filling ordered (Indices 1 e abbreviations unit (p₀ .at) (from₀ .at)) (g₀ .locations) location-list₀ (Indices 1 e abbreviations unit (p .at) (from .at)) (g .locations) location-list
-    × Filling ordered (Indices 2 e abbreviations unit (p₀ .at) (from₀ .at)) (g₀ .strings) string-list₀ (Indices 2 e abbreviations unit (p .at) (from .at)) (g .strings) string-list
+Inv-loop unit abbreviations e range-list₀ location-list₀ string-list₀ p₀ from₀ g₀ range-list location-list string-list p from g =
+    Filling (Indices 0 e abbreviations unit (p₀ .at) (from₀ .at)) (g₀ .ranges) range-list₀ (Indices 0 e abbreviations unit (p .at) (from .at)) (g .ranges) range-list
+    × Filling (Indices 1 e abbreviations unit (p₀ .at) (from₀ .at)) (g₀ .locations) location-list₀ (Indices 1 e abbreviations unit (p .at) (from .at)) (g .locations) location-list
+    × Filling (Indices 2 e abbreviations unit (p₀ .at) (from₀ .at)) (g₀ .strings) string-list₀ (Indices 2 e abbreviations unit (p .at) (from .at)) (g .strings) string-list
 
 abbrev μ-loop : tie.MeasureT-loop
-μ-loop unit abbreviations e ordered range-list₀ location-list₀ string-list₀ p₀ from₀ g₀ range-list location-list string-list p from g = length abbreviations - p .at
+μ-loop unit abbreviations e range-list₀ location-list₀ string-list₀ p₀ from₀ g₀ range-list location-list string-list p from g = length abbreviations - p .at
 
 loop-holds : tie.Need-loop-holds Inv-loop μ-loop
-loop-holds c = ((refl, onward-start _ _ _ _), (refl, onward-start _ _ _ _), (refl, onward-start _ _ _ _))
+loop-holds c = ((refl, onward-start _ _ _), (refl, onward-start _ _ _), (refl, onward-start _ _ _))
 
 next-attribute-requires : tie.Need-next-attribute-requires Inv-loop μ-loop
 next-attribute-requires c κs = search needs
@@ -44,10 +44,10 @@ returns c =
     let l = c .before .before .before in
     let n = c .before .before .next-attribute .ensures in
     let t = c .enum-told .given .1 in (
-      onward-end _ _ _ _ _ _ _ (l .loop .inv .0 .1) (indices-end 0 _ _ _ _ _ _ n t),
+      onward-end _ _ _ _ _ _ (l .loop .inv .0 .1) (indices-end 0 _ _ _ _ _ _ n t),
       (
-        onward-end _ _ _ _ _ _ _ (l .loop .inv .1 .1) (indices-end 1 _ _ _ _ _ _ n t),
-        onward-end _ _ _ _ _ _ _ (l .loop .inv .2 .1) (indices-end 2 _ _ _ _ _ _ n t),
+        onward-end _ _ _ _ _ _ (l .loop .inv .1 .1) (indices-end 1 _ _ _ _ _ _ n t),
+        onward-end _ _ _ _ _ _ (l .loop .inv .2 .1) (indices-end 2 _ _ _ _ _ _ n t),
       ),
     )
 
@@ -69,16 +69,16 @@ loop-again c =
     let i = c .before .before .before .before .before .before .before .before .before .before .before .before .list-of .ensures in
     let p = c .before .before .before .before .before .before .before .before in (
       (
-        p .put-by-kind .kept .1 .1 .1 .0 ∙ l .loop .inv .0 .0,
-        onward-more _ _ _ _ _ _ _ (l .loop .inv .0 .1) _ _ (indices-more 0 _ _ _ _ _ _ n x t _ (λ name. i ∙ form-list name _)) _ _ (p .put-by-kind .ensures .0),
+        p .put-by-kind .kept .1 .1 .0 ∙ l .loop .inv .0 .0,
+        onward-more _ _ _ _ _ _ (l .loop .inv .0 .1) _ _ (indices-more 0 _ _ _ _ _ _ n x t _ (λ name. i ∙ form-list name _)) _ _ (p .put-by-kind .ensures .0),
       ),
       (
-        p .put-by-kind .kept .1 .1 .1 .1 .0 ∙ l .loop .inv .1 .0,
-        onward-more _ _ _ _ _ _ _ (l .loop .inv .1 .1) _ _ (indices-more 1 _ _ _ _ _ _ n x t _ (λ name. i ∙ form-list name _)) _ _ (p .put-by-kind .ensures .1 .0),
+        p .put-by-kind .kept .1 .1 .1 .0 ∙ l .loop .inv .1 .0,
+        onward-more _ _ _ _ _ _ (l .loop .inv .1 .1) _ _ (indices-more 1 _ _ _ _ _ _ n x t _ (λ name. i ∙ form-list name _)) _ _ (p .put-by-kind .ensures .1 .0),
       ),
       (
-        p .put-by-kind .kept .1 .1 .1 .1 .1 .0 ∙ l .loop .inv .2 .0,
-        onward-more _ _ _ _ _ _ _ (l .loop .inv .2 .1) _ _ (indices-more 2 _ _ _ _ _ _ n x t _ (λ name. i ∙ form-list name _)) _ _ (p .put-by-kind .ensures .1 .1),
+        p .put-by-kind .kept .1 .1 .1 .1 .0 ∙ l .loop .inv .2 .0,
+        onward-more _ _ _ _ _ _ (l .loop .inv .2 .1) _ _ (indices-more 2 _ _ _ _ _ _ n x t _ (λ name. i ∙ form-list name _)) _ _ (p .put-by-kind .ensures .1 .1),
       ),
     )
 

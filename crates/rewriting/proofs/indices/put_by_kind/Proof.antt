@@ -5,8 +5,8 @@ use Rattle.rewriting.proofs.Holdings.{puts-kind, puts-other, puts-apart
 use Rattle.rewriting.proofs.indices.put_by_kind.Statement.{statement}
 use Rattle.rewriting.proofs.indices.put_by_kind.Tie as tie
 
-put-index-requires : tie.Need-put-index-requires
-put-index-requires c κs = search needs
+add-requires : tie.Need-add-requires
+add-requires c κs = search needs
 
 same-length : tie.Need-same-length
 same-length c = search needs
@@ -14,10 +14,10 @@ same-length c = search needs
 returns : tie.Need-returns
 returns c =
     let t = c .before .before .before .before .if1 .taken in
-    (puts-kind _ _ _ _ 0 _ t _ _ (c .before .before .put-index .ensures), (puts-apart _ _ _ _ 1 _ 0 t (λ q. omega arith), puts-apart _ _ _ _ 2 _ 0 t (λ q. omega arith)))
+    (puts-kind _ _ _ 0 _ t _ _ (c .before .before .add .ensures), (puts-apart _ _ _ 1 _ 0 t (λ q. omega arith), puts-apart _ _ _ 2 _ 0 t (λ q. omega arith)))
 
-put-index-requires-2 : tie.Need-put-index-requires-2
-put-index-requires-2 c κs = search needs
+add-requires-2 : tie.Need-add-requires-2
+add-requires-2 c κs = search needs
 
 same-length-2 : tie.Need-same-length-2
 same-length-2 c = search needs
@@ -25,10 +25,10 @@ same-length-2 c = search needs
 returns-2 : tie.Need-returns-2
 returns-2 c =
     let t = c .before .before .before .before .if2 .taken in
-    (puts-apart _ _ _ _ 0 _ 1 t (λ q. omega arith), (puts-kind _ _ _ _ 1 _ t _ _ (c .before .before .put-index2 .ensures), puts-apart _ _ _ _ 2 _ 1 t (λ q. omega arith)))
+    (puts-apart _ _ _ 0 _ 1 t (λ q. omega arith), (puts-kind _ _ _ 1 _ t _ _ (c .before .before .add2 .ensures), puts-apart _ _ _ 2 _ 1 t (λ q. omega arith)))
 
-put-index-requires-3 : tie.Need-put-index-requires-3
-put-index-requires-3 c κs = search needs
+add-requires-3 : tie.Need-add-requires-3
+add-requires-3 c κs = search needs
 
 same-length-3 : tie.Need-same-length-3
 same-length-3 c = search needs
@@ -36,22 +36,22 @@ same-length-3 c = search needs
 returns-3 : tie.Need-returns-3
 returns-3 c =
     let t = c .before .before .before .before .if3 .taken in
-    (puts-apart _ _ _ _ 0 _ 2 t (λ q. omega arith), (puts-apart _ _ _ _ 1 _ 2 t (λ q. omega arith), puts-kind _ _ _ _ 2 _ t _ _ (c .before .before .put-index3 .ensures)))
+    (puts-apart _ _ _ 0 _ 2 t (λ q. omega arith), (puts-apart _ _ _ 1 _ 2 t (λ q. omega arith), puts-kind _ _ _ 2 _ t _ _ (c .before .before .add3 .ensures)))
 
 returns-4 : tie.Need-returns-4
-returns-4 c = (puts-other _ _ _ _ 0 _ (c .before .before .if1 .left), (puts-other _ _ _ _ 1 _ (c .before .if2 .left), puts-other _ _ _ _ 2 _ (c .if3 .left)))
+returns-4 c = (puts-other _ _ _ 0 _ (c .before .before .if1 .left), (puts-other _ _ _ 1 _ (c .before .if2 .left), puts-other _ _ _ 2 _ (c .if3 .left)))
 
 pub put-by-kind-spec : {M : Type 1} → statement M
 put-by-kind-spec =
     tie.close
     (tie.spec
-    put-index-requires
+    add-requires
     same-length
     returns
-    put-index-requires-2
+    add-requires-2
     same-length-2
     returns-2
-    put-index-requires-3
+    add-requires-3
     same-length-3
     returns-3
     returns-4)

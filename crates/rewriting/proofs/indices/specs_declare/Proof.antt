@@ -3,8 +3,8 @@ use mathlib.Core.Path.{_≡_, refl}
 use Prim.Native.Nat.{_-_}
 use lib.ListN.{length}
 use borrow.Author.Needs.{needs}
-use Rattle.marking.specs.Roots.{specsFrom}
-use Rattle.rewriting.specs.Indices.{specsDeclare}
+use Rattle.readers.specs.EntryAttributes.{specsFrom}
+use Rattle.rewriting.specs.inner.Indices.{specsDeclare}
 use Rattle.rewriting.proofs.Declaring.{specs-last, specs-bad, specs-less, specs-yes, specs-form, specs-name}
 use Rattle.rewriting.proofs.indices.specs_declare.Statement.{statement}
 use Rattle.rewriting.proofs.indices.specs_declare.Tie as tie

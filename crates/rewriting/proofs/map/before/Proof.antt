@@ -9,13 +9,13 @@ use Rattle.rewriting.proofs.map.before.Statement.{statement}
 use Rattle.rewriting.proofs.map.before.Tie as tie
 
 abbrev Inv-loop : tie.InvT-loop
-Inv-loop map places old low₀ high₀ low high = Halving (oldAt map) (old .0) places low high
+Inv-loop map places old low₀ high₀ low high = Halving (oldAt map) (old .0) places 0 places low high
 
 abbrev μ-loop : tie.MeasureT-loop
 μ-loop map places old low₀ high₀ low high = high - low
 
 loop-holds : tie.Need-loop-holds Inv-loop μ-loop
-loop-holds c = halving-start _ _ _
+loop-holds c = halving-start _ _ _ _ _ (omega arith)
 
 sub-middle : tie.Need-sub-middle Inv-loop μ-loop
 sub-middle c = omega arith
@@ -33,16 +33,16 @@ loop-less : tie.Need-loop-less Inv-loop μ-loop
 loop-less c = omega arith
 
 loop-again : tie.Need-loop-again Inv-loop μ-loop
-loop-again c = halving-right _ _ _ _ _ _ _ (c .before .before .before .before .before .loop .inv) (omega arith) refl (c .before .before .before .old-at .ensures) (c .if1 .taken)
+loop-again c = halving-right _ _ _ _ _ _ _ _ _ (c .before .before .before .before .before .loop .inv) (omega arith) refl (c .before .before .before .old-at .ensures) (c .if1 .taken)
 
 loop-less-2 : tie.Need-loop-less-2 Inv-loop μ-loop
 loop-less-2 c = omega arith
 
 loop-again-2 : tie.Need-loop-again-2 Inv-loop μ-loop
-loop-again-2 c = halving-left _ _ _ _ _ _ _ (c .before .before .before .before .before .loop .inv) (omega arith) refl (c .before .before .before .old-at .ensures) (c .if1 .left)
+loop-again-2 c = halving-left _ _ _ _ _ _ _ _ _ (c .before .before .before .before .before .loop .inv) (omega arith) refl (c .before .before .before .old-at .ensures) (c .if1 .left)
 
 returns : tie.Need-returns Inv-loop μ-loop
-returns c = halving-done _ _ _ _ _ (c .before .loop .inv) (c .loop-test .left)
+returns c = halving-done _ _ _ _ _ _ _ (c .before .loop .inv) (c .loop-test .left)
 
 pub before-spec : {M : Type 1} → statement M
 before-spec =

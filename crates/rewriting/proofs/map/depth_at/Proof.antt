@@ -1,39 +1,16 @@
 -- `depth_at` meets its contract.
 use native.Mathlib.Omega.{arith}
-use borrow.Author.Needs.{needs}
 use Rattle.rewriting.specs.Written.{depthAt}
-use Rattle.rewriting.proofs.Tables.{room-in, no-room}
-use Rattle.rewriting.proofs.Putting.{big-endian-there}
 use Rattle.rewriting.proofs.map.depth_at.Statement.{statement}
 use Rattle.rewriting.proofs.map.depth_at.Tie as tie
 
-room-requires : tie.Need-room-requires
-room-requires c κs = search needs
+number-of-requires : tie.Need-number-of-requires
+number-of-requires c κs = omega arith
 
 returns : tie.Need-returns
 unfolding depthAt
-returns c = no-room _ _ _ (omega arith)
-
-mul-big-endian-at : tie.Need-mul-big-endian-at
-mul-big-endian-at c = search needs
-
-add-big-endian-at : tie.Need-add-big-endian-at
-add-big-endian-at c = search needs
-
-big-endian-at-requires : tie.Need-big-endian-at-requires
-big-endian-at-requires c κs = search needs
-
-returns-2 : tie.Need-returns-2
-unfolding depthAt
-returns-2 c = room-in _ _ _ _ (omega arith) (big-endian-there _ _ _ _ (c .big-endian-at .ensures) (omega arith) (omega arith))
+returns c = c .number-of .ensures
 
 pub depth-at-spec : {M : Type 1} → statement M
 depth-at-spec =
-    tie.close
-    (tie.spec
-    room-requires
-    returns
-    mul-big-endian-at
-    add-big-endian-at
-    big-endian-at-requires
-    returns-2)
+    tie.close (tie.spec number-of-requires returns)

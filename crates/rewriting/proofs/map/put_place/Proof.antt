@@ -6,8 +6,8 @@ use borrow.Author.Needs.{needs}
 use Rattle.rewriting.proofs.map.put_place.Statement.{statement}
 use Rattle.rewriting.proofs.map.put_place.Tie as tie
 
-room-requires : tie.Need-room-requires
-room-requires c κs = search needs
+most-places-requires : tie.Need-most-places-requires
+most-places-requires c κs = search needs
 
 same-length : tie.Need-same-length
 same-length c = search needs
@@ -50,7 +50,7 @@ pub put-place-spec : {M : Type 1} → statement M
 put-place-spec =
     tie.close
     (tie.spec
-    room-requires
+    most-places-requires
     same-length
     returns
     mul-put-big-endian

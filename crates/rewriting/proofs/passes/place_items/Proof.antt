@@ -3,7 +3,7 @@ use Prim.Native.Nat.{_+_, _-_, _≤_, _<_}
 use native.Mathlib.Omega.{arith}
 use borrow.Author.Needs.{needs}
 use lib.ListN.{length}
-use Rattle.rewriting.specs.NextKept.{itemsBy}
+use Rattle.rewriting.specs.inner.NextKept.{itemsBy}
 use Rattle.rewriting.proofs.KeptPasses.{measuring-end, measuring-fits, next-less}
 use Rattle.rewriting.proofs.MapFills.{Placing, placing-start, placing-size, placing-end, placing-more}
 use Rattle.rewriting.proofs.passes.place_items.Statement.{statement}

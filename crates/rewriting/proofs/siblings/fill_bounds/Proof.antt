@@ -1,4 +1,4 @@
--- `fill_bounds` meets its contract: the rows from the loop's on are bounds.
+-- `fill_bounds` meets its contract: the blocks from the loop's on have bounds.
 use Prim.Native.Nat.{_-_, _*_}
 use native.Mathlib.Omega.{arith}
 use lib.ListN.{length-set}
@@ -13,17 +13,17 @@ Inv-loop map places bounds₀ k₀ bounds k = Filling map places bounds₀ bound
 abbrev μ-loop : tie.MeasureT-loop
 μ-loop map places bounds₀ k₀ bounds k = k
 
-rows-requires : tie.Need-rows-requires Inv-loop μ-loop
-rows-requires c κs = search needs
+block-count-requires : tie.Need-block-count-requires Inv-loop μ-loop
+block-count-requires c κs = search needs
 
 loop-holds : tie.Need-loop-holds Inv-loop μ-loop
-loop-holds c = filling-start _ _ _ _ (c .rows .ensures .0) (c .rows .ensures .1)
+loop-holds c = filling-start _ _ _ _ (c .block-count .ensures .0) (c .block-count .ensures .1)
 
 sub-k : tie.Need-sub-k Inv-loop μ-loop
 sub-k c = omega arith
 
-row-at-requires : tie.Need-row-at-requires Inv-loop μ-loop
-row-at-requires c κs = search needs
+block-bound-requires : tie.Need-block-bound-requires Inv-loop μ-loop
+block-bound-requires c κs = search needs
 
 mul-bounds : tie.Need-mul-bounds Inv-loop μ-loop
 mul-bounds c = omega (arith, c .before .before .before .loop .inv .size, c .before .before .before .loop .inv .room)
@@ -44,13 +44,13 @@ mul-bounds-4 : tie.Need-mul-bounds-4 Inv-loop μ-loop
 mul-bounds-4 c = omega (arith, c .before .before .before .loop .inv .size, c .before .before .before .loop .inv .room)
 
 slice-write-bounds-2 : tie.Need-slice-write-bounds-2 Inv-loop μ-loop
-slice-write-bounds-2 c = omega (arith, c .before .before .before .loop .inv .size, c .before .before .before .loop .inv .room, length-set (c .before .before .before .loop .bounds) (2 * (c .before .before .before .loop .k - 1)) (c .row-at .result .end))
+slice-write-bounds-2 c = omega (arith, c .before .before .before .loop .inv .size, c .before .before .before .loop .inv .room, length-set (c .before .before .before .loop .bounds) (2 * (c .before .before .before .loop .k - 1)) (c .block-bound .result .end))
 
 loop-less : tie.Need-loop-less Inv-loop μ-loop
 loop-less c = omega arith
 
 loop-again : tie.Need-loop-again Inv-loop μ-loop
-loop-again c = filling-more _ _ _ _ _ _ _ (c .before .before .before .loop .inv) (omega arith) (c .row-at .ensures)
+loop-again c = filling-more _ _ _ _ _ _ _ (c .before .before .before .loop .inv) (omega arith) (c .block-bound .ensures)
 
 same-length : tie.Need-same-length Inv-loop μ-loop
 same-length c = c .before .loop .inv .size
@@ -64,10 +64,10 @@ fill-bounds-spec =
     (tie.spec
     Inv-loop
     μ-loop
-    rows-requires
+    block-count-requires
     loop-holds
     sub-k
-    row-at-requires
+    block-bound-requires
     mul-bounds
     mul-bounds-2
     slice-write-bounds

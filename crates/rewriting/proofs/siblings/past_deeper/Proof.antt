@@ -11,29 +11,29 @@ mul-if1 c = search needs
 returns : tie.Need-returns
 returns c = search needs
 
-mul-number-at : tie.Need-mul-number-at
-mul-number-at c = search needs
+mul-bound-at : tie.Need-mul-bound-at
+mul-bound-at c = search needs
 
-add-number-at : tie.Need-add-number-at
-add-number-at c = search needs
+add-bound-at : tie.Need-add-bound-at
+add-bound-at c = search needs
 
-number-at-requires : tie.Need-number-at-requires
-number-at-requires c κs = search needs
+bound-at-requires : tie.Need-bound-at-requires
+bound-at-requires c κs = search needs
 
 returns-2 : tie.Need-returns-2
 returns-2 c = search needs
 
-mul-number-at-2 : tie.Need-mul-number-at-2
-mul-number-at-2 c = search needs
+mul-bound-at-2 : tie.Need-mul-bound-at-2
+mul-bound-at-2 c = search needs
 
-number-at-requires-2 : tie.Need-number-at-requires-2
-number-at-requires-2 c κs = search needs
+bound-at-requires-2 : tie.Need-bound-at-requires-2
+bound-at-requires-2 c κs = search needs
 
 mul-result : tie.Need-mul-result
 mul-result c = search needs
 
 returns-3 : tie.Need-returns-3
-returns-3 c = block-deeper _ _ _ _ _ _ (omega arith) (omega arith) (c .before .before .number-at .ensures .0) (c .before .if2 .left) (c .number-at2 .ensures .0)
+returns-3 c = block-deeper _ _ _ _ _ _ (omega arith) (omega arith) (c .before .before .bound-at .ensures .0) (c .before .if2 .left) (c .bound-at2 .ensures .0)
 
 pub past-deeper-spec : {M : Type 1} → statement M
 past-deeper-spec =
@@ -41,11 +41,11 @@ past-deeper-spec =
     (tie.spec
     mul-if1
     returns
-    mul-number-at
-    add-number-at
-    number-at-requires
+    mul-bound-at
+    add-bound-at
+    bound-at-requires
     returns-2
-    mul-number-at-2
-    number-at-requires-2
+    mul-bound-at-2
+    bound-at-requires-2
     mul-result
     returns-3)

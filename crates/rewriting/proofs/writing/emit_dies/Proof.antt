@@ -9,10 +9,10 @@ use borrow.Author.Needs.{needs}
 use Rattle.marking.specs.Analysis.{Sections}
 use Rattle.rewriting.specs.Places.{Place}
 use Rattle.rewriting.specs.Rewriting.{Unit as Unit′, Lists}
-use Rattle.rewriting.specs.Written.{MapHeld}
-use Rattle.rewriting.specs.Bounds.{Bounds}
-use Rattle.rewriting.specs.IndexLists.{Passable}
-use Rattle.rewriting.specs.Emission.{Within, Lends}
+use Rattle.rewriting.specs.inner.Written.{MapHeld}
+use Rattle.rewriting.specs.inner.Bounds.{Bounds}
+use Rattle.rewriting.specs.inner.IndexLists.{PassInput}
+use Rattle.rewriting.specs.inner.Emission.{Within, ListsLent}
 use Rattle.rewriting.specs.declared.emit.Emitted.the-variants.{To}
 use Rattle.rewriting.proofs.KeptPasses.{next-less}
 use Rattle.rewriting.proofs.Emissions.{from-start, within-start, within-on, within-stop, inside, copied-within, copied-on, emits-on, after-small, onward-to, onward-no}
@@ -23,8 +23,8 @@ use Rattle.rewriting.proofs.writing.emit_dies.Tie as tie
 abbrev Inv-loop : tie.InvT-loop
 Inv-loop unit abbreviations r index parents ends marks map places bounds ranges ranges-count locations locations-count strings strings-count out₀ s₀ to₀ out s to =
     Within out₀ (To to) out
-    × ((x : Sections) (u : Unit′) (lists : Lists) (ps : List Place) → Passable x u r abbreviations index unit parents ends marks (s₀ .at .at) → s₀ .at .at ≡ u .header .first .0 → r .encoding .«big_endian» ≡ false
-    → MapHeld ps map → places ≡ length ps → Bounds ps bounds → Lends lists ranges ranges-count locations locations-count strings strings-count
+    × ((x : Sections) (u : Unit′) (lists : Lists) (ps : List Place) → PassInput x u r abbreviations index unit parents ends marks (s₀ .at .at) → s₀ .at .at ≡ u .header .first .0 → r .encoding .«big_endian» ≡ false
+    → MapHeld ps map → places ≡ length ps → Bounds ps bounds → ListsLent lists ranges ranges-count locations locations-count strings strings-count
     → Writing r abbreviations index unit parents ends marks (s₀ .at .at) x u lists ps out₀ s out to)
 
 abbrev μ-loop : tie.MeasureT-loop

@@ -6,7 +6,6 @@ use Rattle.readers.proofs.Values.{plain-nothing, plain-none, plain-read
 use borrow.Author.Needs.{needs}
 use Rattle.readers.proofs.cursor.Cursor.attribute.Statement.{statement}
 use Rattle.readers.proofs.cursor.Cursor.attribute.Tie as tie
-use Rattle.readers.proofs.cursor.Cursor.attribute.Reads as reads
 
 form-token-requires : tie.Need-form-token-requires
 form-token-requires c κs = search needs

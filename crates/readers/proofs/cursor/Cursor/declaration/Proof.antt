@@ -3,7 +3,6 @@ use Rattle.readers.proofs.Declarations.{declaration-none, declaration-l
 use borrow.Author.Needs.{needs}
 use Rattle.readers.proofs.cursor.Cursor.declaration.Statement.{statement}
 use Rattle.readers.proofs.cursor.Cursor.declaration.Tie as tie
-use Rattle.readers.proofs.cursor.Cursor.declaration.Reads as reads
 
 head-requires : tie.Need-head-requires
 head-requires c κs = search needs

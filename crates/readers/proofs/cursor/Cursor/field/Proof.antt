@@ -1,7 +1,8 @@
 -- `Cursor::field` meets its contract: each token by its method.
 use mathlib.Core.Path.{_∙_, ap, sym}
 use native.Mathlib.Omega.{arith}
-use Rattle.readers.specs.Fields.{numberField, boundedField, blockField}
+use Rattle.readers.specs.Fields.{blockField}
+use Rattle.readers.specs.inner.Fields.{numberField, boundedField}
 use Rattle.readers.proofs.Tokens.{past, movedField, moved-read, moved-unread, field-nothing, field-number, field-signed, field-string, field-run, field-block1, field-block2, field-block4, field-block, field-exprloc, field-bounded, field-unknown}
 use borrow.Author.Needs.{needs}
 use Rattle.readers.proofs.cursor.Cursor.field.Statement.{statement}

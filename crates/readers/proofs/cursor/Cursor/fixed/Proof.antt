@@ -3,7 +3,6 @@ use Rattle.readers.proofs.Widths.{width-one, width-is}
 use borrow.Author.Needs.{needs}
 use Rattle.readers.proofs.cursor.Cursor.fixed.Statement.{statement}
 use Rattle.readers.proofs.cursor.Cursor.fixed.Tie as tie
-use Rattle.readers.proofs.cursor.Cursor.fixed.Reads as reads
 
 byte-requires : tie.Need-byte-requires
 byte-requires c κs = search needs

@@ -1,7 +1,7 @@
 -- `Cursor::long_uleb` meets its contract. Assumes nothing.
 use borrow.Author.Needs.{needs}
 use native.Mathlib.Omega.{arith}
-use Rattle.readers.proofs.Lebs.{Found, whole, uleb-yes, uleb-no, uleb-none}
+use Rattle.readers.proofs.Lebs.{GroupsFound, whole, uleb-yes, uleb-no, uleb-none}
 use Rattle.readers.proofs.cursor.Cursor.long_uleb.Statement.{statement}
 use Rattle.readers.proofs.cursor.Cursor.long_uleb.Tie as tie
 use Rattle.readers.proofs.cursor.Cursor.long_uleb.Reads as reads
@@ -10,7 +10,7 @@ use Rattle.readers.proofs.cursor.Cursor.groups.Reads as groups-reads
 
 -- the number that the groups say, in the arm where there are groups
 found : (l : lts.After-low (groups-reads.Asked, groups-reads.Learnt) reads.Pre reads.Post)
-    → Found (l .before .before .before .before .args .s .now) (l .before .before .before .before .args .self .at) (l .low .given .0 .0) (l .low .given .0 .1 .0) (l .low .given .0 .1 .1 .0) (l .low .given .0 .1 .1 .1 .0)
+    → GroupsFound (l .before .before .before .before .args .s .now) (l .before .before .before .before .args .self .at) (l .low .given .0 .0) (l .low .given .0 .1 .0) (l .low .given .0 .1 .1 .0) (l .low .given .0 .1 .1 .1 .0)
 found l = whole _ _ _ _ _ _ (l .before .before .before .shared-slice-known .given) _ (l .before .before .groups .ensures) (l .low .given .1)
 
 groups-requires : tie.Need-groups-requires

@@ -7,7 +7,6 @@ use Rattle.readers.proofs.Values.{plain-past, end-read, end-none}
 use borrow.Author.Needs.{needs}
 use Rattle.readers.proofs.cursor.Cursor.past_attribute.Statement.{statement}
 use Rattle.readers.proofs.cursor.Cursor.past_attribute.Tie as tie
-use Rattle.readers.proofs.cursor.Cursor.past_attribute.Reads as reads
 
 form-token-requires : tie.Need-form-token-requires
 form-token-requires c κs = search needs

@@ -4,7 +4,6 @@ use Rattle.readers.proofs.Lebs.{short-one}
 use borrow.Author.Needs.{needs}
 use Rattle.readers.proofs.cursor.Cursor.short.Statement.{statement}
 use Rattle.readers.proofs.cursor.Cursor.short.Tie as tie
-use Rattle.readers.proofs.cursor.Cursor.short.Reads as reads
 
 shared-slice-read-b : tie.Need-shared-slice-read-b
 shared-slice-read-b c = search needs

@@ -4,7 +4,6 @@ use Rattle.readers.proofs.Lebs.{uleb-one}
 use borrow.Author.Needs.{needs}
 use Rattle.readers.proofs.cursor.Cursor.uleb.Statement.{statement}
 use Rattle.readers.proofs.cursor.Cursor.uleb.Tie as tie
-use Rattle.readers.proofs.cursor.Cursor.uleb.Reads as reads
 
 shared-slice-read-b : tie.Need-shared-slice-read-b
 shared-slice-read-b c = search needs

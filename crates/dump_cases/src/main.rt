@@ -1,4 +1,0 @@
-// Prints what each bundle holds that the arguments name: units of compilers.
-fn main() {
-    dumping::dump_arguments();
-}

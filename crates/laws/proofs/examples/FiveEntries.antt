@@ -1,0 +1,89 @@
+-- P1 to P10 of document 01, computed by the definitions alone: the five-entry unit, padded numbers, tombstones.
+use mathlib.Core.Path.{_≡_, refl}
+use mathlib.Core.List.{List, [], _∷_, _++_}
+use mathlib.Core.Bool.{true, false}
+use mathlib.Core.Option.{none, some}
+use Prim.Native.Nat.{ℕ}
+use Rattle.readers.specs.Choice.{pick, _and_, _or_, check, bind}
+use Rattle.readers.proofs.Choice.{All}
+use Rattle.readers.specs.Numbers.{below, groups, unsigned64, uleb, negative, signed64, sleb, padded, littleBytes, littleValue, ordered, fixedBytes, fixedValue}
+use Rattle.readers.specs.Layout.{asBytes, width, asLeb, stringIn, within16, short, afterForm, formsWithin, formsIn, copy, asNumber, asLink, asBounded, asForms, asSigned, asString, asBlock, asExpression, before, numberIn, tokenIn, readIn, numberBytes, pieceBytes, bytesOf, writeAll, patchPiece, patchPieces, patchRead, patchAll, Fit}
+use Rattle.readers.proofs.Layouts.{kindOf, FitPiece, FitPieces, FitAll}
+use Rattle.readers.specs.Tokens.{numberAs, tokenOf}
+use Rattle.readers.specs.Operations.{unreadableRow, rows, rowOf, rowLayout, operations, rowAmong, operationRow, operation, rangeEntries, locationEntries, listRow}
+use Rattle.readers.specs.Scan.{push, onTurn, scanWithin, scan}
+use Rattle.readers.proofs.Scan.{Goes}
+use Rattle.readers.specs.Expression.{allPieces, andRest, expressionWithin, expressionIn}
+use Rattle.readers.specs.Forms.{formTokens, tokenAmong, formToken, useOf, valueToken, attributeLayout}
+use Rattle.readers.specs.Cursors.{asGroups, groupsAt, asLebNumber, lebAt, asFixed, fixedAt, skipAt, asMoved, stringAt, asFormNumber, formsAt}
+use Rattle.readers.specs.Fields.{linkedValue, size, fieldOf, asField, rowOfReads, asRow, tokenAt, fieldAt, rowAt, blockField, partOf, exprlocAt}
+use Rattle.readers.specs.inner.Fields.{numberField, boundedField, numberAt}
+use Rattle.readers.specs.Steps.{rowOperation, operationOfReads, asOperation, operationAt, listEntry, rowEntry, entryOfReads, asListStep, listEntryAt}
+use Rattle.readers.specs.References.{nameIn, namesIn, isAbsolute, anyAbsolute, asWalk, walkOf, named, namedType, referenceOf, yieldTurn, operationTurn, walkTurn, yielded, nextReference, namesOf, flatOperation, flatTurn, flat, flattened, flatFrom, walkAnswer, referencesAnswer, numbersOf, namesOr, referencesIn, answerTable, referencesTable}
+use Rattle.readers.specs.inner.References.{counted, ownWalk}
+use Rattle.readers.specs.Header.{present, right, encodingOf, headerMade, headerFields, headerOf}
+use Rattle.readers.specs.Lists.{listStart, fromBase, listOffset}
+use Rattle.readers.specs.Abbreviations.{numberSpec, implicitSpec, specAt, specTurn, attributesFrom, scannedTo, pastAttributes, numberDeclaration, movedDeclaration, headAt, wholeDeclaration, declarationAt, declarationTurn, declarationsFrom, declaredIn, isFound, distinct, checkDistinct, abbreviationsOf, asChecked, checkedOf, indexed, indexFor, indexOf, searchTurn, foundBy, searchAt, declarationFound, findAt}
+use Rattle.readers.specs.Entries.{attributeOfReads, asAttribute, attributeAt, then, attributesLayout, specsLayout, asPast, valuesAt, foundLayout, entryLayout, entryFound, stepOfReads, asStep, stepAt}
+use Rattle.readers.specs.Nesting.{open′, close, top, nestingOf, opened, closed}
+use Rattle.marking.specs.Addresses.{isTombstone, byteLiveness, lookupAt}
+use Rattle.marking.specs.Walking.{onNext, walkWithin, walk}
+use Rattle.marking.proofs.Walking.{Forward}
+use Rattle.marking.specs.Roots.{orElse, onLookup, turnOf, rangeEntry, rangeStep, rangesLive, operationStep, locationLive, olderStep, olderLive, lowPc, lowPcs, locations, otherRanges, rangesOf, firstRanges, rootTest, baseFrom, baseAfter}
+use Rattle.readers.specs.EntryAttributes.{onAttribute, valuesOf, onSpec, specsWithin, specsFrom, entryValues, taken, takenBy, nextAttribute}
+use Rattle.marking.specs.EntryReferences.{after, andThen, targets, walkFound, expressionFound, locationFound, onFound, locationStep, listFound, attributeFound, attributesFound}
+use Rattle.marking.specs.Below.{any, every, count, tab}
+use Rattle.marking.specs.Graph.{isParent, isRoot, references, names, parentFits, pairFits, rootFits, wellFormed, takes}
+use Rattle.marking.specs.Markings.{climbs, isDescendant, namedBy, isTop, isLive, justified}
+use Rattle.laws.specs.Markings.{accepts, step, run, nothing}
+use Rattle.marking.specs.Marks.{has, round, rounds, keptOf, markOf, marksOf, isKept, keptCount, answerOf, endMarks}
+use Rattle.readers.specs.Stream.{push as push′Stream, onStep, itemsWithin, itemsFrom}
+use Rattle.marking.specs.Analysis.{onto, onVerdict, onFound as onFound′Analysis, valuesOfEntry, rootOf, namesOf as namesOf′Analysis, baseOf, analyseItems, onDeclared, unitAnalysed, headerAnalysed, analysisOf, Sections, sections, rooms}
+use Rattle.marking.specs.Columns.{offsetsIn, parentsIn, rootsIn, namesIn as namesIn′Columns, endsIn, padTo, column}
+use Rattle.marking.specs.Resolution.{entryFrom, pairFor, pairsOfEntry, pairsFrom, pairsIn, graphOf, marksIn, unitMarks, Ascending}
+use Rattle.marking.specs.inner.Resolution.{asEntry}
+use Rattle.rewriting.specs.Places.{opened as opened′Places, closed as closed′Places, innermost, withIf, keptFrom, offsetOf, sizeOf, placesFrom, sizeFrom, newOf, firstFrom, orElse as orElse′Places, siblingOf, Place}
+use Rattle.rewriting.specs.Indices.{insert, insertAll, rankIn, indexIn, indicesIn, readIndices, declares, rankOr, countOf}
+use Rattle.rewriting.specs.Rewriting.{itemsIn, readsOr, readsAt, indicesFrom, itemDeclares, anyDeclares, listOf, listsOf, orSelf, isSome, listAt, newValue, hasPlace, fits, pieceRefusal, orNext, piecesRefusal, readsRefusal, refusalFrom, bytesFrom, unitBytes, listsFit, orRefused, rewriteOf, marksCollected, rowsCollected, analysedCollected, declaredCollected, headerCollected, collectOf, Collected, Room, Lists, noLists, untouched, rewritten, refused as refused″}
+use Rattle.rewriting.specs.Written.{groupsFit, paddedAnswer, paddedOut}
+use Rattle.rewriting.specs.declared.numbers.Padded.the-variants.{Written, Refused as Padded′}
+
+-- 01 11 01 00 00 02 2e 00 11 1b 49 11 00 00 03 24 00 00 00 00
+abbrev pub abbreviations5 : List ℕ
+abbreviations5 = 0x01 ∷ 0x11 ∷ 0x01 ∷ 0 ∷ 0 ∷ 0x02 ∷ 0x2e ∷ 0 ∷ 0x11 ∷ 0x1b ∷ 0x49 ∷ 0x11 ∷ 0 ∷ 0 ∷ 0x03 ∷ 0x24 ∷ 0 ∷ 0 ∷ 0 ∷ 0 ∷ []
+
+abbrev pub unit5 : List ℕ
+unit5 = 0x12 ∷ 0 ∷ 0 ∷ 0 ∷ 0x05 ∷ 0 ∷ 0x01 ∷ 0x08 ∷ 0 ∷ 0 ∷ 0 ∷ 0 ∷ 0x01 ∷ 0x02 ∷ 0x00 ∷ 0x11 ∷ 0x03 ∷ 0x03 ∷ 0x02 ∷ 0x01 ∷ 0x10 ∷ 0x00 ∷ []
+
+abbrev pub room5 : Room
+room5 = record { tables = rooms 2048 8192; ranges = 8192; locations = 8192; strings = 8192; places = 4096; bytes = 65536 }
+
+abbrev pub five : List ℕ → Collected
+five table = collectOf (sections abbreviations5 [] [] table 0) room5 false unit5
+
+abbrev pub none3 : Lists
+none3 = record { ranges = some []; locations = some []; strings = some [] }
+
+abbrev pub place : ℕ → ℕ → ℕ → Place
+place o n d = record { old = o; new = n; depth = d }
+
+-- the header of a unit with a length, and a body after it
+abbrev pub header5 : ℕ → List ℕ
+header5 n = n ∷ 0 ∷ 0 ∷ 0 ∷ 0x05 ∷ 0 ∷ 0x01 ∷ 0x08 ∷ 0 ∷ 0 ∷ 0 ∷ 0 ∷ []
+
+abbrev pub rewrite5 : ℕ → List Place → List ℕ → Collected
+rewrite5 kept map output = rewritten (record { entries = 5; kept = kept; lists = none3; map = map; output = output })
+
+pub p1-to-p10 :
+    (five (1 ∷ 0 ∷ []) ≡ rewrite5 3 (place 12 12 0 ∷ place 13 13 1 ∷ place 17 16 1 ∷ place 21 17 1 ∷ []) (header5 0x0e ++ 0x01 ∷ 0x02 ∷ 0x00 ∷ 0x10 ∷ 0x03 ∷ 0x00 ∷ []))
+    × (five (0 ∷ 0 ∷ []) ≡ rewrite5 1 (place 12 12 0 ∷ place 21 13 1 ∷ []) (header5 0x0a ++ 0x01 ∷ 0x00 ∷ []))
+    × (five (0 ∷ 1 ∷ []) ≡ rewrite5 3 (place 12 12 0 ∷ place 16 13 1 ∷ place 18 14 1 ∷ place 21 17 1 ∷ []) (header5 0x0e ++ 0x01 ∷ 0x03 ∷ 0x02 ∷ 0x01 ∷ 0x0d ∷ 0x00 ∷ []))
+    × (five (1 ∷ 1 ∷ []) ≡ untouched 5 none3)
+    × (five (2 ∷ 0 ∷ []) ≡ refused″ 6)
+    × (five (1 ∷ []) ≡ refused″ 6)
+    × (collectOf (sections abbreviations5 [] [] [] 0) room5 false [] ≡ untouched 0 noLists)
+    × ((paddedAnswer 0 1 1 ≡ Written) × (paddedOut 0 1 1 ≡ 0x00 ∷ []) × (paddedAnswer 16 2 2 ≡ Written) × (paddedOut 16 2 2 ≡ 0x90 ∷ 0x00 ∷ []))
+    × (paddedAnswer 128 1 1 ≡ Padded′ 15)
+    × ((isTombstone 0xffffffff 4 ≡ true) × (isTombstone 0xffffffff 8 ≡ false) × (isTombstone 0xffffffff 2 ≡ false))
+unfolding groupsFit paddedAnswer paddedOut pick _and_ _or_ check bind All below groups unsigned64 uleb negative signed64 sleb padded littleBytes littleValue ordered fixedBytes fixedValue asBytes width kindOf asLeb stringIn within16 short afterForm formsWithin formsIn copy asNumber asLink asBounded asForms asSigned asString asBlock asExpression before numberIn tokenIn readIn numberBytes pieceBytes bytesOf writeAll patchPiece patchPieces patchRead patchAll Fit FitPiece FitPieces FitAll numberAs tokenOf unreadableRow rows rowOf rowLayout operations rowAmong operationRow operation rangeEntries locationEntries listRow push onTurn scanWithin scan Goes allPieces andRest expressionWithin expressionIn formTokens tokenAmong formToken useOf valueToken attributeLayout asGroups groupsAt asLebNumber lebAt asFixed fixedAt skipAt asMoved stringAt asFormNumber formsAt linkedValue size fieldOf asField rowOfReads asRow tokenAt fieldAt rowAt numberField boundedField blockField numberAt partOf exprlocAt rowOperation operationOfReads asOperation operationAt listEntry rowEntry entryOfReads asListStep listEntryAt nameIn namesIn isAbsolute anyAbsolute asWalk walkOf named namedType referenceOf counted ownWalk yieldTurn operationTurn walkTurn yielded nextReference namesOf flatOperation flatTurn flat flattened flatFrom walkAnswer referencesAnswer numbersOf namesOr referencesIn answerTable referencesTable present right encodingOf headerMade headerFields headerOf listStart fromBase listOffset numberSpec implicitSpec specAt specTurn attributesFrom scannedTo pastAttributes numberDeclaration movedDeclaration headAt wholeDeclaration declarationAt declarationTurn declarationsFrom declaredIn isFound distinct checkDistinct abbreviationsOf asChecked checkedOf indexed indexFor indexOf searchTurn foundBy searchAt declarationFound findAt attributeOfReads asAttribute attributeAt then attributesLayout specsLayout asPast valuesAt foundLayout entryLayout entryFound stepOfReads asStep stepAt open′ close top nestingOf opened closed isTombstone byteLiveness lookupAt onNext walkWithin walk Forward orElse onLookup turnOf rangeEntry rangeStep rangesLive operationStep locationLive olderStep olderLive lowPc onAttribute valuesOf onSpec specsWithin specsFrom entryValues taken takenBy nextAttribute lowPcs locations otherRanges rangesOf firstRanges rootTest baseFrom baseAfter after andThen targets walkFound expressionFound locationFound onFound locationStep listFound attributeFound attributesFound any every count tab isParent isRoot references names parentFits pairFits rootFits wellFormed takes climbs isDescendant namedBy isTop isLive justified accepts step run nothing has round rounds keptOf markOf marksOf isKept keptCount answerOf endMarks push′Stream onStep itemsWithin itemsFrom onto onVerdict onFound′Analysis valuesOfEntry rootOf namesOf′Analysis baseOf analyseItems onDeclared unitAnalysed headerAnalysed analysisOf offsetsIn parentsIn rootsIn namesIn′Columns endsIn padTo column entryFrom pairFor pairsOfEntry pairsFrom pairsIn graphOf marksIn unitMarks asEntry Ascending opened′Places closed′Places innermost withIf keptFrom offsetOf sizeOf placesFrom sizeFrom newOf firstFrom orElse′Places siblingOf insert insertAll rankIn indexIn indicesIn readIndices declares rankOr countOf itemsIn readsOr readsAt indicesFrom itemDeclares anyDeclares listOf listsOf orSelf isSome listAt newValue hasPlace fits pieceRefusal orNext piecesRefusal readsRefusal refusalFrom bytesFrom unitBytes listsFit orRefused rewriteOf marksCollected rowsCollected analysedCollected declaredCollected headerCollected collectOf
+p1-to-p10 = (refl, refl, refl, refl, refl, refl, refl, (refl, refl, refl, refl), refl, (refl, refl, refl))

@@ -1,0 +1,446 @@
+-- The references of an entry that can be read deep are those that its attributes name: by their forms, and by the expressions in exprloc. Assumes nothing.
+use mathlib.Core.Path.{_≡_, refl, ap, ap₂, sym, _∙_, subst}
+use Prim.Native.Nat.{ℕ, suc, _+_, _-_, _≤_}
+use native.Mathlib.Omega.{arith}
+use mathlib.Core.Bool.{Bool, true, false, not}
+use mathlib.Core.List.{List, [], _∷_, _++_, append-nil}
+use mathlib.Core.Option.{Option, none, some}
+use mathlib.Core.Logic.{⊎-elim}
+use lib.ListN.{length, take, drop, length-append}
+use lib.Seq.{length-take-le, drop-drop}
+use lib.Dec.{T, eqb, leb}
+use mir.Facts.{leb-yes, yes-eqb, eqb-yes, eqb-no, no-eqb}
+use Rattle.readers.specs.Choice.{pick, _and_, _or_, bind}
+use Rattle.readers.proofs.Choice.{pick-yes, pick-no, pick-either, either, bind-at, bind-bind, check-yes, All, all-some, all-none, all-of, all-bind, all-check, all-triv}
+use Rattle.readers.specs.Numbers.{uleb, sleb}
+use Rattle.readers.specs.Layout.{Kind, leb128, reference, sibling, Token, nothing, number, bounded, forms, signed, link, string, run, block, expression, unknown, Layout, done, field, verbatim, Read, ReadOf, RunOf, ExpressionReader, asBytes, copy, asNumber, asBounded, asForms, asSigned, asLink, asString, asBlock, asExpression, numberIn, formsIn, stringIn, tokenIn, readIn, before, bytesOf, pieceBytes}
+use Rattle.readers.proofs.Layouts.{LebLaw, uleb-law, TokenLaw, token-law, as-bytes-law}
+use Rattle.readers.specs.Expression.{expressionIn}
+use Rattle.readers.proofs.Expression.{expression-law}
+use Rattle.readers.specs.Tokens.{Use, plain, as′, numberAs, tokenOf}
+use Rattle.readers.specs.Forms.{formTokens, tokenAmong, formToken, useOf, valueToken, attributeLayout}
+use Rattle.readers.specs.Fields.{size, linkedValue, fieldOf, asField, tokenAt}
+use Rattle.readers.specs.Cursors.{formsAt, asFormNumber}
+use Rattle.readers.specs.Scan.{Scanned}
+use Rattle.readers.specs.Abbreviations.{attributesFrom}
+use Rattle.readers.specs.Entries.{attributeAt, attributesLayout, specsLayout, foundLayout, entryLayout, entryFound, stepOfReads, stepAt}
+use Rattle.readers.proofs.Values.{valued, behindForms, attribute-direct, attribute-indirect, joined, read-then}
+use Rattle.readers.specs.declared.cursor.Encoding.{Encoding}
+use Rattle.readers.specs.declared.fields.Field.{Field}
+use Rattle.readers.specs.declared.abbreviations.AttributeSpec.{AttributeSpec}
+use Rattle.readers.specs.declared.abbreviations.DeclarationFound.{DeclarationFound}
+use Rattle.readers.specs.declared.abbreviations.DeclarationFound.the-variants.{Declaration as Found′, Nothing}
+use Rattle.readers.specs.declared.attributes.Attribute.{Attribute}
+use Rattle.readers.specs.declared.attributes.AttributeRead.{AttributeRead}
+use Rattle.readers.specs.declared.attributes.AttributeRead.the-variants.{Read as Attribute′}
+use Rattle.readers.specs.declared.entries.Step.{Step}
+use Rattle.readers.specs.declared.entries.Step.the-variants.{Entry as Entry′, Terminator, End, Unreadable}
+use Rattle.readers.specs.EntryAttributes.{Valued, onAttribute, valuesOf, entryValues}
+use Rattle.marking.specs.EntryReferences.{partOf}
+use Rattle.readers.proofs.EntryAttributes.{specs-all}
+use Rattle.rewriting.proofs.DeepReads.{deep-step}
+use Rattle.rewriting.proofs.Expressions.{isExpression, value-exprloc}
+use Rattle.laws.proofs.references.NamedPieces.{roleNames, pieceNames, piecesNames, readsNames, namesOf, reads-append}
+
+-- a use that names nothing
+unfoldable NoNames : Use → Type 0
+NoNames plain = Unit {0}
+NoNames (as′ r) = (v : ℕ) → roleNames r v ≡ []
+
+own-role : (b : Bool) (v : ℕ) → roleNames (pick b sibling reference) v ≡ pick b [] (v ∷ [])
+unfolding roleNames pick
+own-role true v = refl
+own-role false v = refl
+
+unless : (b : Bool) (l : List ℕ) → T (not b) → l ≡ pick b [] l
+unless b l t = sym (pick-no b [] l t)
+
+-- forms but ref1 to ref8 and ref_udata name nothing
+other-use : (name f : ℕ) → T (not (leb 0x11 f and leb f 0x15)) → NoNames (useOf name f)
+unfolding useOf NoNames roleNames
+other-use name f n =
+    subst NoNames (sym (pick-no _ _ _ n))
+    (pick-either NoNames (eqb f 0x10) _ _ (λ _ _. refl)
+    (λ _. pick-either NoNames (eqb f 0x23) _ _ (λ _ _. refl)
+    (λ _. pick-either NoNames (eqb f 0x22) _ _ (λ _ _. refl)
+    (λ _. pick-either NoNames (eqb f 0x1a or (leb 0x25 f and leb f 0x28) or eqb f 0x1f02) _ plain (λ _ _. refl) (λ _. tt)))))
+
+module _ (e : Encoding) (unit : List ℕ) where
+  abbrev big : Bool
+  big = e .«big_endian»
+
+  abbrev deep : ExpressionReader
+  deep = expressionIn e
+
+  -- ---- a token
+
+  -- the references that a token with such a field names
+  unfoldable tokenNames : Token → Field → List ℕ
+  tokenNames nothing f = []
+  tokenNames (number w) f = []
+  tokenNames (bounded n) f = []
+  tokenNames forms f = []
+  tokenNames signed f = []
+  tokenNames (link w r) f = roleNames r (f .value)
+  tokenNames string f = []
+  tokenNames (run n) f = []
+  tokenNames (block w) f = []
+  tokenNames expression f = namesOf (deep (partOf unit f))
+  tokenNames unknown f = []
+
+  -- a token that was read deep at a place: read as bytes too, and its references by its field
+  record NamedToken (t : Token) (at : ℕ) (r : ReadOf) : Type 0 where
+    pub it : Read
+    pub is : tokenIn big asBytes t (drop at unit) ≡ some (it, r .1)
+    pub names : piecesNames (r .0 .pieces) ≡ tokenNames t (fieldOf big at it)
+
+  -- an expression's payload
+  part-is : (at n m : ℕ) (q : List ℕ) → q ≡ drop n (drop at unit) → m ≤ length q → n ≤ length (drop at unit)
+      → partOf unit (fieldOf big at (record { seen = 0; start = n; pieces = verbatim (take n (drop at unit)) ∷ verbatim (take m q) ∷ [] })) ≡ take m q
+  unfolding partOf fieldOf size bytesOf pieceBytes
+  part-is at n m q h l k =
+      let a : List ℕ = take n (drop at unit) in
+      let b : List ℕ = take m q in
+      let w : at + length (a ++ (b ++ [])) - (at + n) ≡ m =
+      omega (arith, length-append a (b ++ []), length-append b [], length-take-le n (drop at unit) k, length-take-le m q l) in
+      ap (λ (z : ℕ). take z (drop (at + n) unit)) w ∙ ap (take m) (sym (drop-drop n at unit) ∙ sym h)
+
+  expression-named : (at : ℕ) → All (NamedToken expression at) (tokenIn big deep expression (drop at unit))
+  unfolding tokenIn tokenNames piecesNames pieceNames namesOf asExpression asBytes bind
+  expression-named at =
+      let s : List ℕ = drop at unit in
+      all-bind (LebLaw uleb s) _ (uleb s) _ (uleb-law s)
+      (λ t q u. all-check _ _ _ (λ w.
+      all-bind _ _ (deep (take (t .1) (t .2))) _ (all-triv (deep (take (t .1) (t .2))))
+      (λ ps p _. all-some (NamedToken expression at) (record {
+        it = record { seen = 0; start = suc (t .0); pieces = verbatim (take (suc (t .0)) s) ∷ verbatim (take (t .1) (t .2)) ∷ [] };
+        is = bind-at _ q ∙ check-yes _ _ w;
+        names = sym (ap namesOf (ap deep (part-is at (suc (t .0)) (t .1) (t .2) (u .0 .1) (leb-yes {a = t .1} {b = length (t .2)} w) (u .0 .0)) ∙ p));
+      }))))
+
+  token-named : (t : Token) (at : ℕ) → All (NamedToken t at) (tokenIn big deep t (drop at unit))
+  unfolding tokenIn tokenNames piecesNames pieceNames asNumber asBounded asForms asSigned asLink asString asBlock copy fieldOf linkedValue
+  token-named nothing at = all-some (NamedToken nothing at) (record { it = _; is = refl; names = refl })
+  token-named (number w) at =
+      let s : List ℕ = drop at unit in
+      all-bind _ _ (numberIn big w s) _ (all-triv (numberIn big w s))
+      (λ r q _. all-some (NamedToken (number w) at) (record { it = _; is = bind-at _ q; names = refl }))
+  token-named (bounded n) at =
+      let s : List ℕ = drop at unit in
+      all-bind _ _ (uleb s) _ (all-triv (uleb s))
+      (λ r q _. all-check _ _ _ (λ u. all-some (NamedToken (bounded n) at) (record { it = _; is = bind-at _ q ∙ check-yes _ _ u; names = refl })))
+  token-named forms at =
+      let s : List ℕ = drop at unit in
+      all-bind _ _ (formsIn s) _ (all-triv (formsIn s))
+      (λ r q _. all-some (NamedToken forms at) (record { it = _; is = bind-at _ q; names = refl }))
+  token-named signed at =
+      let s : List ℕ = drop at unit in
+      all-bind _ _ (sleb s) _ (all-triv (sleb s))
+      (λ r q _. all-some (NamedToken signed at) (record { it = _; is = bind-at _ q; names = refl }))
+  token-named (link w role) at =
+      let s : List ℕ = drop at unit in
+      all-bind _ _ (numberIn big w s) _ (all-triv (numberIn big w s))
+      (λ r q _. all-some (NamedToken (link w role) at) (record { it = _; is = bind-at _ q; names = append-nil (roleNames role (r .1)) }))
+  token-named string at =
+      let s : List ℕ = drop at unit in
+      all-bind _ _ (stringIn s) _ (all-triv (stringIn s))
+      (λ r q _. all-some (NamedToken string at) (record { it = _; is = bind-at _ q; names = refl }))
+  token-named (run n) at = all-check _ _ _ (λ u. all-some (NamedToken (run n) at) (record { it = _; is = check-yes _ _ u; names = refl }))
+  token-named (block w) at =
+      let s : List ℕ = drop at unit in
+      all-bind _ _ (numberIn big w s) _ (all-triv (numberIn big w s))
+      (λ r q _. all-check _ _ _ (λ u. all-some (NamedToken (block w) at) (record { it = _; is = bind-at _ q ∙ check-yes _ _ u; names = refl })))
+  token-named expression at = expression-named at
+  token-named unknown at = all-none _
+
+  -- ---- a token that names nothing
+
+  module _ (f : Field) where
+    no-number : (u : Use) → NoNames u → (w : Kind) → tokenNames (numberAs u w) f ≡ []
+    unfolding NoNames numberAs tokenNames
+    no-number plain h w = refl
+    no-number (as′ r) h w = h (f .value)
+
+    abbrev Empty : Token → Type 0
+    Empty t = (T (isExpression t) → ⊥) → tokenNames t f ≡ []
+
+    no-token : (u : Use) → NoNames u → (n : ℕ) → Empty (tokenOf e u n)
+    unfolding tokenOf tokenNames isExpression
+    no-token u h n =
+        pick-either Empty (eqb n 0) nothing _ (λ _ _. refl)
+        (λ _. pick-either Empty (leb n 8) _ _ (λ _ _. no-number u h _)
+        (λ _. pick-either Empty (eqb n 9) _ _ (λ _ _. no-number u h _)
+        (λ _. pick-either Empty (eqb n 10) _ _ (λ _ _. no-number u h _)
+        (λ _. pick-either Empty (eqb n 11) _ _ (λ _ _. no-number u h _)
+        (λ _. pick-either Empty (eqb n 12) signed _ (λ _ _. refl)
+        (λ _. pick-either Empty (eqb n 13) string _ (λ _ _. refl)
+        (λ _. pick-either Empty (eqb n 14) (run 16) _ (λ _ _. refl)
+        (λ _. pick-either Empty (eqb n 15) (block _) _ (λ _ _. refl)
+        (λ _. pick-either Empty (eqb n 16) (block _) _ (λ _ _. refl)
+        (λ _. pick-either Empty (eqb n 17) (block _) _ (λ _ _. refl)
+        (λ _. pick-either Empty (eqb n 18) (block _) _ (λ _ _. refl)
+        (λ _. pick-either Empty (eqb n 19) expression _ (λ _ k. absurd (k tt))
+        (λ _. pick-either Empty (eqb n 20) (bounded 65535) unknown (λ _ _. refl) (λ _ _. refl))))))))))))))
+
+  -- ---- a value
+
+  -- the references that a value names by its attribute's name and its form (attributeFound, but for location lists)
+  unfoldable pub ownNames : ℕ → ℕ → Field → List ℕ
+  ownNames name form f =
+      pick (eqb name 0x01) []
+      (pick (leb 0x11 form and leb form 0x15) (f .value ∷ [])
+      (pick (eqb form 0x18) (namesOf (deep (partOf unit f))) []))
+
+  module _ (name : ℕ) (f : Field) where
+    abbrev Chosen : ℕ → Type 0
+    Chosen form = tokenNames (tokenOf e (useOf name form) (formToken form)) f ≡ ownNames name form f
+
+    of-ref1 : Chosen 0x11
+    unfolding tokenNames tokenOf numberAs useOf formToken formTokens tokenAmong ownNames pick _and_
+    of-ref1 = own-role (eqb name 0x01) (f .value)
+
+    of-ref2 : Chosen 0x12
+    unfolding tokenNames tokenOf numberAs useOf formToken formTokens tokenAmong ownNames pick _and_
+    of-ref2 = own-role (eqb name 0x01) (f .value)
+
+    of-ref4 : Chosen 0x13
+    unfolding tokenNames tokenOf numberAs useOf formToken formTokens tokenAmong ownNames pick _and_
+    of-ref4 = own-role (eqb name 0x01) (f .value)
+
+    of-ref8 : Chosen 0x14
+    unfolding tokenNames tokenOf numberAs useOf formToken formTokens tokenAmong ownNames pick _and_
+    of-ref8 = own-role (eqb name 0x01) (f .value)
+
+    of-ref-udata : Chosen 0x15
+    unfolding tokenNames tokenOf numberAs useOf formToken formTokens tokenAmong ownNames pick _and_
+    of-ref-udata = own-role (eqb name 0x01) (f .value)
+
+    -- under DW_AT_sibling it can't be read
+    of-exprloc : (name ≡ 0x01 → ⊥) → Chosen 0x18
+    unfolding tokenNames tokenOf useOf formToken formTokens tokenAmong ownNames pick _and_ _or_
+    of-exprloc n = unless (eqb name 0x01) (namesOf (deep (partOf unit f))) (no-eqb {a = name} {b = 0x01} n)
+
+    own-none : (form : ℕ) → T (not (leb 0x11 form and leb form 0x15)) → (form ≡ 0x18 → ⊥) → [] ≡ ownNames name form f
+    unfolding ownNames
+    own-none form n x =
+        pick-either (λ (l : List ℕ). [] ≡ l) (eqb name 0x01) [] _ (λ _. refl) (λ _. sym (pick-no _ _ _ n ∙ pick-no _ _ _ (no-eqb {a = form} {b = 0x18} x)))
+
+    both : (a b : Bool) → T (a and b) → T a × T b
+    unfolding _and_
+    both true b t = (tt, t)
+    both false b t = absurd t
+
+    of-reference : (form : ℕ) → 0x11 ≤ form → form ≤ 0x15 → Chosen form
+    of-reference form h k =
+        ⊎-elim (λ t. subst Chosen (sym (eqb-yes {a = form} {b = 0x11} t)) of-ref1)
+        (λ a. ⊎-elim (λ t. subst Chosen (sym (eqb-yes {a = form} {b = 0x12} t)) of-ref2)
+        (λ b. ⊎-elim (λ t. subst Chosen (sym (eqb-yes {a = form} {b = 0x13} t)) of-ref4)
+        (λ c. ⊎-elim (λ t. subst Chosen (sym (eqb-yes {a = form} {b = 0x14} t)) of-ref8)
+        (λ d. subst Chosen
+        (let z : 0x15 ≡ form = omega (arith, eqb-no {a = form} {b = 0x11} a, eqb-no {a = form} {b = 0x12} b, eqb-no {a = form} {b = 0x13} c, eqb-no {a = form} {b = 0x14} d) in z) of-ref-udata)
+        (either (eqb form 0x14)))
+        (either (eqb form 0x13)))
+        (either (eqb form 0x12)))
+        (either (eqb form 0x11))
+
+    -- a value that can be read, and is a form's token
+    chosen : (form : ℕ) → (form ≡ 0x18 → name ≡ 0x01 → ⊥) → (T (isExpression (tokenOf e (useOf name form) (formToken form))) → form ≡ 0x18) → Chosen form
+    chosen form s x =
+        ⊎-elim
+        (λ t. let b = both (leb 0x11 form) (leb form 0x15) t in of-reference form (leb-yes {a = 0x11} {b = form} (b .0)) (leb-yes {a = form} {b = 0x15} (b .1)))
+        (λ n. ⊎-elim
+        (λ t. let z : form ≡ 0x18 = eqb-yes {a = form} {b = 0x18} t in subst Chosen (sym z) (of-exprloc (s z)))
+        (λ t. let z : form ≡ 0x18 → ⊥ = eqb-no {a = form} {b = 0x18} t in
+        no-token f (useOf name form) (other-use name form n) (formToken form) (λ y. z (x y)) ∙ own-none form n z)
+        (either (eqb form 0x18)))
+        (either (leb 0x11 form and leb form 0x15))
+
+    sibling-names : (form : ℕ) → name ≡ 0x01 → [] ≡ ownNames name form f
+    unfolding ownNames
+    sibling-names form z = sym (pick-yes _ _ _ (yes-eqb {a = name} {b = 0x01} z))
+
+    constant-names : (form : ℕ) → form ≡ 0x21 → [] ≡ ownNames name form f
+    unfolding _and_
+    constant-names form z = subst (λ (g : ℕ). [] ≡ ownNames name g f) (sym z) (own-none 0x21 tt (λ y. absurd (omega arith)))
+
+    -- a sibling in exprloc and implicit_const behind indirect can't be read, and name nothing
+    unreadable-names : (form : ℕ) (a b c d : Bool) → (T a → name ≡ 0x01) → (T d → form ≡ 0x21) → T ((a and b) or (c and d)) → [] ≡ ownNames name form f
+    unfolding _and_ _or_
+    unreadable-names form true true c d h j t = sibling-names form (h tt)
+    unreadable-names form true false true d h j t = constant-names form (j t)
+    unreadable-names form true false false d h j t = absurd t
+    unreadable-names form false b true d h j t = constant-names form (j t)
+    unreadable-names form false b false d h j t = absurd t
+
+    no-sibling : (a b c : Bool) → T (not ((a and b) or c)) → T b → T a → ⊥
+    unfolding _and_ _or_
+    no-sibling true true c t u v = t
+    no-sibling true false c t u v = u
+    no-sibling false b c t u v = v
+
+    value-names : (indirect : Bool) (form : ℕ) → tokenNames (valueToken e indirect name form) f ≡ ownNames name form f
+    unfolding valueToken tokenNames
+    value-names indirect form =
+        let known : Token = tokenOf e (useOf name form) (formToken form) in
+        pick-either (λ (t : Token). tokenNames t f ≡ ownNames name form f) ((eqb name 0x01 and eqb form 0x18) or (indirect and eqb form 0x21)) unknown known
+        (λ t. unreadable-names form (eqb name 0x01) (eqb form 0x18) indirect (eqb form 0x21) (λ y. eqb-yes {a = name} {b = 0x01} y) (λ y. eqb-yes {a = form} {b = 0x21} y) t)
+        (λ n. chosen form
+        (λ y z. no-sibling (eqb name 0x01) (eqb form 0x18) (indirect and eqb form 0x21) n (yes-eqb {a = form} {b = 0x18} y) (yes-eqb {a = name} {b = 0x01} z))
+        (λ y. value-exprloc e indirect name form (subst (λ (t : Token). T (isExpression t)) (sym (pick-no _ unknown known n)) y) .0))
+
+  -- ---- a value that was read deep
+
+  -- where a token ends
+  token-rest : (t : Token) (n : ℕ) (r : ReadOf) → tokenIn big asBytes t (drop n unit) ≡ some r → r .1 ≡ drop (fieldOf big n (r .0) .end) unit
+  unfolding fieldOf size
+  token-rest t n r q =
+      let l : TokenLaw big asBytes t (drop n unit) r = all-of (TokenLaw big asBytes t (drop n unit)) (token-law big asBytes (as-bytes-law big) t (drop n unit)) q in
+      l .0 .1 ∙ drop-drop _ n unit
+
+  -- an attribute: its value, where it ends, and its references
+  record NamedValue (name form at : ℕ) (r : RunOf) : Type 0 where
+    pub value : Attribute
+    pub is : attributeAt e unit at name form ≡ Attribute′ value
+    pub rest : r .1 ≡ drop (value .field .end) unit
+    pub names : readsNames (r .0) ≡ ownNames name (value .form) (value .field)
+
+  module _ (name form at : ℕ) where
+    direct-value : T (not (eqb form 0x16)) → All (NamedValue name form at) (readIn big deep (field (valueToken e false name form) (λ _. done)) (drop at unit))
+    unfolding readIn before bind tokenAt asField valued readsNames
+    direct-value n =
+        let t : Token = valueToken e false name form in
+        all-bind (NamedToken t at) _ (tokenIn big deep t (drop at unit)) _ (token-named t at)
+        (λ r q i.
+        let f : Field = fieldOf big at (i .it) in
+        all-some (NamedValue name form at)
+        (record {
+          value = record { form = form; field = f };
+          is = attribute-direct e unit at name form (eqb-no {a = form} {b = 0x16} n) ∙ ap (λ o. valued form (asField big at o)) (i .is);
+          rest = token-rest t at (i .it, r .1) (i .is);
+          names = append-nil (piecesNames (r .0 .pieces)) ∙ i .names ∙ value-names name f false form;
+        }))
+
+    abbrev behind : ℕ → Layout
+    behind g = field (valueToken e true name g) (λ _. done)
+
+    -- the value after its form numbers
+    value-behind : T (eqb form 0x16) → (g : ℕ × ℕ) → formsIn (drop at unit) ≡ some g
+        → All (NamedValue name form at) (bind (readIn big deep (behind (g .1)) (drop (at + g .0) unit)) (before (copy (g .1) 0 (g .0) (drop at unit) .0)))
+    unfolding readIn before bind copy tokenAt asField valued formsAt asFormNumber behindForms readsNames piecesNames pieceNames
+    value-behind h g q =
+        let t : Token = valueToken e true name (g .1) in
+        let n : ℕ = at + g .0 in
+        let P : RunOf → Type 0 = NamedValue name form at in
+        subst (All P) (sym (bind-bind (tokenIn big deep t (drop n unit)) (λ (r : ReadOf). some (r .0 ∷ [], r .1)) (before (copy (g .1) 0 (g .0) (drop at unit) .0))))
+        (all-bind (NamedToken t n) P (tokenIn big deep t (drop n unit)) _ (token-named t n)
+        (λ r p i.
+        let f : Field = fieldOf big n (i .it) in
+        all-some P
+        (record {
+          value = record { form = g .1; field = f };
+          is =
+              attribute-indirect e unit at name form (eqb-yes {a = form} {b = 0x16} h)
+              ∙ ap (λ o. behindForms e unit at name form (asFormNumber at o)) q
+              ∙ ap (λ o. valued (g .1) (asField big n o)) (i .is);
+          rest = token-rest t n (i .it, r .1) (i .is);
+          names = append-nil (piecesNames (r .0 .pieces)) ∙ i .names ∙ value-names name f true (g .1);
+        })))
+
+    indirect-value : T (eqb form 0x16) → All (NamedValue name form at) (readIn big deep (field forms behind) (drop at unit))
+    unfolding readIn tokenIn asForms bind copy
+    indirect-value h =
+        let P : RunOf → Type 0 = NamedValue name form at in
+        let s : List ℕ = drop at unit in
+        subst (All P) (sym (bind-bind (formsIn s) (asForms s) (λ (r : ReadOf). bind (readIn big deep (behind (r .0 .seen)) (r .1)) (before (r .0)))))
+        (all-bind _ P (formsIn s) _ (all-triv (formsIn s))
+        (λ g q _. subst (λ (z : List ℕ). All P (bind (readIn big deep (behind (g .1)) z) (before (copy (g .1) 0 (g .0) s .0)))) (sym (drop-drop (g .0) at unit)) (value-behind h g q)))
+
+    value-read : All (NamedValue name form at) (readIn big deep (attributeLayout e name form) (drop at unit))
+    unfolding attributeLayout
+    value-read =
+        pick-either (λ g. All (NamedValue name form at) (readIn big deep g (drop at unit))) (eqb form 0x16) (field forms behind) (field (valueToken e false name form) (λ _. done))
+        indirect-value direct-value
+
+  -- ---- the values of an entry
+
+  unfoldable pub valuesNames : List Valued → List ℕ
+  valuesNames [] = []
+  valuesNames (a ∷ rest) = ownNames (a .name) (a .value .form) (a .value .field) ++ valuesNames rest
+
+  abbrev Values : List AttributeSpec → ℕ → RunOf → Type 0
+  Values specs at r = readsNames (r .0) ≡ valuesNames (valuesOf e unit specs at)
+
+  values-read : (specs : List AttributeSpec) (at : ℕ) → All (Values specs at) (readIn big deep (attributesLayout e specs) (drop at unit))
+  unfolding attributesLayout readIn readsNames valuesOf valuesNames onAttribute joined
+  values-read [] at = all-some (Values [] at) refl
+  values-read (a ∷ rest) at =
+      subst (All (Values (a ∷ rest) at)) (sym (read-then big deep (attributeLayout e (a .name) (a .form)) (attributesLayout e rest) (drop at unit)))
+      (all-bind (NamedValue (a .name) (a .form) at) _ (readIn big deep (attributeLayout e (a .name) (a .form)) (drop at unit)) _ (value-read (a .name) (a .form) at)
+      (λ r q v. all-bind (Values rest (v .value .field .end)) _ (readIn big deep (attributesLayout e rest) (r .1)) _
+      (subst (λ (z : List ℕ). All (Values rest (v .value .field .end)) (readIn big deep (attributesLayout e rest) z)) (sym (v .rest)) (values-read rest (v .value .field .end)))
+      (λ r′ q′ i. all-some (Values (a ∷ rest) at)
+      (reads-append (r .0) (r′ .0)
+      ∙ ap₂ _++_ (v .names) i
+      ∙ sym (ap (λ (o : AttributeRead). valuesNames (onAttribute a o (λ next. valuesOf e unit rest next))) (v .is))))))
+
+  -- ---- an entry or a terminator
+
+  module _ (abbreviations : List ℕ) (look : ℕ → DeclarationFound) where
+    -- the references at a step: those of an entry's values
+    unfoldable pub StepNames : Step → List ℕ → Type 0
+    StepNames (Entry′ y) ns = ns ≡ valuesNames (entryValues e abbreviations (y .declaration .attributes .at) unit (y .values .at))
+    StepNames (Terminator c) ns = ns ≡ []
+    StepNames End ns = Unit {0}
+    StepNames Unreadable ns = Unit {0}
+
+    abbrev At : ℕ → RunOf → Type 0
+    At at r = StepNames (stepOfReads e abbreviations look at (r .0)) (readsNames (r .0))
+
+    entry-values : (p at : ℕ) (o : Option (Scanned AttributeSpec ℕ)) → attributesFrom abbreviations p ≡ o
+        → All (λ (r : RunOf). readsNames (r .0) ≡ valuesNames (entryValues e abbreviations p unit at)) (readIn big deep (specsLayout e o) (drop at unit))
+    unfolding specsLayout readIn entryValues
+    entry-values p at none q = all-none _
+    entry-values p at (some o) q =
+        subst (λ (l : List AttributeSpec). All (λ (r : RunOf). readsNames (r .0) ≡ valuesNames (valuesOf e unit l at)) (readIn big deep (attributesLayout e (o .0)) (drop at unit)))
+        (sym (specs-all abbreviations p o q)) (values-read (o .0) at)
+
+    module _ (at : ℕ) (c : Read) (none-in : piecesNames (c .pieces) ≡ []) where
+      found-at : T (not (eqb (c .seen) 0)) → (f : DeclarationFound) → look (c .seen) ≡ f
+          → All (At at) (bind (readIn big deep (foundLayout e abbreviations look f) (drop (at + size big c) unit)) (before c))
+      unfolding foundLayout readIn before bind readsNames stepOfReads entryFound StepNames
+      found-at t Nothing h = all-none _
+      found-at t (Found′ d) h =
+          all-bind (λ (r : RunOf). readsNames (r .0) ≡ valuesNames (entryValues e abbreviations (d .attributes .at) unit (at + size big c))) _
+          (readIn big deep (specsLayout e (attributesFrom abbreviations (d .attributes .at))) (drop (at + size big c) unit)) _
+          (entry-values (d .attributes .at) (at + size big c) (attributesFrom abbreviations (d .attributes .at)) refl)
+          (λ r q i. all-some (At at)
+          (subst (λ (s : Step). StepNames s (readsNames (c ∷ r .0)))
+          (sym (pick-no _ _ _ t ∙ ap (entryFound e abbreviations look at (at + size big c) _) h))
+          (ap₂ _++_ none-in i)))
+
+      code-at : All (At at) (bind (readIn big deep (pick (eqb (c .seen) 0) done (foundLayout e abbreviations look (look (c .seen)))) (drop (at + size big c) unit)) (before c))
+      unfolding readIn before bind readsNames stepOfReads StepNames
+      code-at =
+          ⊎-elim
+          (λ t. subst (λ g. All (At at) (bind (readIn big deep g (drop (at + size big c) unit)) (before c))) (sym (pick-yes _ _ _ t))
+          (all-some (At at) (subst (λ (s : Step). StepNames s (readsNames (c ∷ []))) (sym (pick-yes _ _ _ t)) (ap₂ _++_ none-in refl))))
+          (λ t. subst (λ g. All (At at) (bind (readIn big deep g (drop (at + size big c) unit)) (before c))) (sym (pick-no _ _ _ t))
+          (found-at t (look (c .seen)) refl))
+          (either (eqb (c .seen) 0))
+
+    -- what is read deep at a place
+    all-at : (at : ℕ) → All (At at) (readIn big deep (entryLayout e abbreviations look) (drop at unit))
+    unfolding entryLayout readIn tokenNames size
+    all-at at =
+        all-bind (NamedToken (number leb128) at) _ (tokenIn big deep (number leb128) (drop at unit)) _ (token-named (number leb128) at)
+        (λ r q i.
+        let l : TokenLaw big deep (number leb128) (drop at unit) r =
+        all-of (TokenLaw big deep (number leb128) (drop at unit)) (token-law big deep (expression-law e) (number leb128) (drop at unit)) q in
+        subst (λ (z : List ℕ). All (At at) (bind (readIn big deep (pick (eqb (r .0 .seen) 0) done (foundLayout e abbreviations look (look (r .0 .seen)))) z) (before (r .0))))
+        (sym (l .0 .1 ∙ drop-drop _ at unit)) (code-at at (r .0) (i .names)))
+
+    -- THE references of what is read deep at a place, by the step there
+    pub deep-names : (at : ℕ) (all : RunOf) → readIn big deep (entryLayout e abbreviations look) (drop at unit) ≡ some all
+        → StepNames (stepAt e abbreviations look unit at) (readsNames (all .0))
+    deep-names at all q =
+        subst (λ (s : Step). StepNames s (readsNames (all .0))) (sym (deep-step e abbreviations look deep (expression-law e) unit at (all .0) (all .1) q)) (all-of (At at) (all-at at) q)

@@ -1,0 +1,654 @@
+-- The numbers of a role in an entry that can be read deep are those of its attributes with that use, where no operation has
+-- the role: siblings. Assumes nothing.
+use mathlib.Core.Path.{_≡_, refl, ap, ap₂, sym, _∙_, subst}
+use Prim.Native.Nat.{ℕ, zero, suc, _+_, _≤_}
+use native.Mathlib.Omega.{arith}
+use mathlib.Core.Bool.{Bool, true, false, not}
+use mathlib.Core.List.{List, [], _∷_, _++_, append-assoc, append-nil}
+use mathlib.Core.Option.{Option, none, some}
+use mathlib.Core.Logic.{⊎-elim, _↔_}
+use lib.ListN.{length, getD, take, drop}
+use lib.Seq.{drop-drop}
+use lib.Dec.{T, eqb, leb}
+use mir.Facts.{leb-yes, eqb-yes, eqb-no, no-eqb}
+use Rattle.readers.specs.Choice.{pick, _and_, _or_, bind}
+use Rattle.readers.proofs.Choice.{pick-yes, pick-no, pick-either, either, bind-at, bind-bind, check-yes, All, all-some, all-none, all-of, all-bind, all-check, all-triv}
+use Rattle.readers.specs.Numbers.{uleb, sleb}
+use Rattle.readers.specs.Layout.{Encoded, Kind, leb128, Role, reference, typeReference, sibling, index, absolute, Token, nothing, number, bounded, forms, signed, link, string, run, block, expression, unknown, Layout, done, fail, field, Piece, verbatim, patchable, Read, ReadOf, RunOf, ExpressionReader, asBytes, copy, asNumber, asBounded, asForms, asSigned, asLink, asString, asBlock, asExpression, numberIn, formsIn, stringIn, tokenIn, readIn, before}
+use Rattle.readers.proofs.Layouts.{TokenLaw, token-law, as-bytes-law}
+use Rattle.readers.specs.Expression.{allPieces, andRest, expressionWithin, expressionIn}
+use Rattle.readers.proofs.Expression.{expression-law}
+use Rattle.readers.specs.Operations.{OperandRow, unreadableRow, rows, rowOf, rowLayout, operationRow, operation}
+use Rattle.readers.specs.Tokens.{Use, plain, as′, numberAs, tokenOf}
+use Rattle.readers.specs.Forms.{formTokens, tokenAmong, formToken, useOf, valueToken, attributeLayout}
+use Rattle.readers.specs.Fields.{size, linkedValue, fieldOf, asField, tokenAt}
+use Rattle.readers.specs.Cursors.{formsAt, asFormNumber}
+use Rattle.readers.specs.Scan.{Scanned}
+use Rattle.readers.specs.Abbreviations.{attributesFrom}
+use Rattle.readers.specs.Entries.{attributeAt, attributesLayout, specsLayout, foundLayout, entryLayout, entryFound, stepOfReads, stepAt}
+use Rattle.readers.proofs.Values.{valued, behindForms, attribute-direct, attribute-indirect, joined, read-then}
+use Rattle.readers.specs.declared.cursor.Encoding.{Encoding}
+use Rattle.readers.specs.declared.abbreviations.AttributeSpec.{AttributeSpec}
+use Rattle.readers.specs.declared.abbreviations.DeclarationFound.{DeclarationFound}
+use Rattle.readers.specs.declared.abbreviations.DeclarationFound.the-variants.{Declaration as Found′, Nothing}
+use Rattle.readers.specs.declared.attributes.Attribute.{Attribute}
+use Rattle.readers.specs.declared.attributes.AttributeRead.{AttributeRead}
+use Rattle.readers.specs.declared.attributes.AttributeRead.the-variants.{Read as Attribute′}
+use Rattle.readers.specs.declared.entries.Step.{Step}
+use Rattle.readers.specs.declared.entries.Step.the-variants.{Entry as Entry′, Terminator, End, Unreadable}
+use Rattle.readers.specs.EntryAttributes.{Valued, onAttribute, valuesOf, entryValues}
+use Rattle.marking.specs.Members.{Member, here, there}
+use Rattle.marking.proofs.Members.{nothing-in, in-left, in-right, in-either}
+use Rattle.laws.specs.SameRoles.{RoleRead}
+use Rattle.laws.proofs.references.NamedPieces.{only}
+use Rattle.readers.proofs.EntryAttributes.{specs-all}
+use Rattle.rewriting.proofs.DeepReads.{deep-step}
+
+-- ---- uses
+
+-- whether a use is one that operands of operations have: no sibling, no index
+unfoldable operandUse : Use → Bool
+operandUse plain = true
+operandUse (as′ reference) = true
+operandUse (as′ typeReference) = true
+operandUse (as′ sibling) = false
+operandUse (as′ (index k)) = false
+operandUse (as′ absolute) = true
+
+no-and : (a b : Bool) → (T a → T b → ⊥) → T (not (a and b))
+unfolding _and_
+no-and true true h = h tt tt
+no-and true false h = tt
+no-and false b h = tt
+
+no-or : (a b c : Bool) → T (not a) → T (not b) → T (not c) → T (not (a or b or c))
+unfolding _or_
+no-or true b c h k m = absurd h
+no-or false true c h k m = absurd k
+no-or false false true h k m = absurd m
+no-or false false false h k m = tt
+
+above : (n f : ℕ) → n ≤ f → (f ≡ n → ⊥) → suc n ≤ f
+above n f l h = omega arith
+
+-- ref1 to ref8 and ref_udata, strx1 to strx4, one by one
+no-reference-form : (f : ℕ) → (f ≡ 0x11 → ⊥) → (f ≡ 0x12 → ⊥) → (f ≡ 0x13 → ⊥) → (f ≡ 0x14 → ⊥) → (f ≡ 0x15 → ⊥) → 0x11 ≤ f → f ≤ 0x15 → ⊥
+no-reference-form f a b c d e l h =
+    let z : 0x16 ≤ f = above 0x15 f (above 0x14 f (above 0x13 f (above 0x12 f (above 0x11 f l a) b) c) d) e in below f z h
+  where
+    below : (f : ℕ) → 0x16 ≤ f → f ≤ 0x15 → ⊥
+    below f l h = omega arith
+
+no-string-form : (f : ℕ) → (f ≡ 0x25 → ⊥) → (f ≡ 0x26 → ⊥) → (f ≡ 0x27 → ⊥) → (f ≡ 0x28 → ⊥) → 0x25 ≤ f → f ≤ 0x28 → ⊥
+no-string-form f a b c d l h =
+    let z : 0x29 ≤ f = above 0x28 f (above 0x27 f (above 0x26 f (above 0x25 f l a) b) c) d in below f z h
+  where
+    below : (f : ℕ) → 0x29 ≤ f → f ≤ 0x28 → ⊥
+    below f l h = omega arith
+
+-- a role that is sought, by a test for it
+module _ (sought : Role → Bool) (no-reference : sought reference ≡ false) (no-type : sought typeReference ≡ false) (no-absolute : sought absolute ≡ false) where
+  unfoldable pub roleSought : Role → ℕ → List ℕ
+  roleSought r v = pick (sought r) (v ∷ []) []
+
+  unfoldable pub pieceSought : Piece → List ℕ
+  pieceSought (verbatim l) = []
+  pieceSought (patchable e r v) = roleSought r v
+
+  unfoldable pub piecesSought : List Piece → List ℕ
+  piecesSought [] = []
+  piecesSought (p ∷ ps) = pieceSought p ++ piecesSought ps
+
+  unfoldable pub readsSought : List Read → List ℕ
+  readsSought [] = []
+  readsSought (r ∷ rs) = piecesSought (r .pieces) ++ readsSought rs
+
+  -- by its use
+  unfoldable pub useSought : Use → Bool
+  useSought plain = false
+  useSought (as′ r) = sought r
+
+  unfoldable pub ownSought : ℕ → Attribute → List ℕ
+  ownSought name v = pick (useSought (useOf name (v .form))) (v .field .value ∷ []) []
+
+  unfoldable pub valuesSought : List Valued → List ℕ
+  valuesSought [] = []
+  valuesSought (a ∷ rest) = ownSought (a .name) (a .value) ++ valuesSought rest
+
+  in-append : (ps qs : List Piece) → piecesSought (ps ++ qs) ≡ piecesSought ps ++ piecesSought qs
+  unfolding piecesSought
+  in-append [] qs = refl
+  in-append (p ∷ ps) qs = ap (λ (l : List ℕ). pieceSought p ++ l) (in-append ps qs) ∙ sym (append-assoc (pieceSought p) (piecesSought ps) (piecesSought qs))
+
+  read-append : (rs qs : List Read) → readsSought (rs ++ qs) ≡ readsSought rs ++ readsSought qs
+  unfolding readsSought
+  read-append [] qs = refl
+  read-append (r ∷ rs) qs =
+      ap (λ (l : List ℕ). piecesSought (r .pieces) ++ l) (read-append rs qs) ∙ sym (append-assoc (piecesSought (r .pieces)) (readsSought rs) (readsSought qs))
+
+  in-pieces : (rs : List Read) → piecesSought (allPieces rs) ≡ readsSought rs
+  unfolding allPieces piecesSought readsSought
+  in-pieces [] = refl
+  in-pieces (r ∷ rs) = in-append (r .pieces) (allPieces rs) ∙ ap (λ (l : List ℕ). piecesSought (r .pieces) ++ l) (in-pieces rs)
+
+  -- ---- the numbers that a token with a value is
+
+  unfoldable tokenSought : Token → ℕ → List ℕ
+  tokenSought nothing v = []
+  tokenSought (number w) v = []
+  tokenSought (bounded n) v = []
+  tokenSought forms v = []
+  tokenSought signed v = []
+  tokenSought (link w r) v = roleSought r v
+  tokenSought string v = []
+  tokenSought (run n) v = []
+  tokenSought (block w) v = []
+  tokenSought expression v = []
+  tokenSought unknown v = []
+
+  abbrev NoneSought : ExpressionReader → Type 0
+  NoneSought ex = (s : List ℕ) → All (λ (ps : List Piece). piecesSought ps ≡ []) (ex s)
+
+  module _ (big : Bool) (ex : ExpressionReader) where
+    -- a token that was read: read as bytes too, and what is sought of it by its value
+    record SoughtToken (t : Token) (s : List ℕ) (r : ReadOf) : Type 0 where
+      pub it : Read
+      pub is : tokenIn big asBytes t s ≡ some (it, r .1)
+      pub alike : r .0 .seen ≡ it .seen
+      pub numbers : piecesSought (r .0 .pieces) ≡ tokenSought t (linkedValue (it .pieces) (it .seen))
+
+    link-sought : (e : _) (r : Role) (v : ℕ) → piecesSought (patchable e r v ∷ []) ≡ roleSought r v
+    unfolding piecesSought pieceSought
+    link-sought e r v = append-nil _
+
+    module _ (none-sought : NoneSought ex) where
+      token-sought : (t : Token) (s : List ℕ) → All (SoughtToken t s) (tokenIn big ex t s)
+      unfolding tokenIn tokenSought piecesSought pieceSought asNumber asBounded asForms asSigned asLink asString asBlock asExpression asBytes copy linkedValue bind
+      token-sought nothing s = all-some (SoughtToken nothing s) (record { it = _; is = refl; alike = refl; numbers = refl })
+      token-sought (number w) s =
+          all-bind _ _ (numberIn big w s) _ (all-triv (numberIn big w s))
+          (λ r q _. all-some (SoughtToken (number w) s) (record { it = _; is = bind-at _ q; alike = refl; numbers = refl }))
+      token-sought (bounded n) s =
+          all-bind _ _ (uleb s) _ (all-triv (uleb s))
+          (λ r q _. all-check _ _ _ (λ u. all-some (SoughtToken (bounded n) s) (record { it = _; is = bind-at _ q ∙ check-yes _ _ u; alike = refl; numbers = refl })))
+      token-sought forms s =
+          all-bind _ _ (formsIn s) _ (all-triv (formsIn s))
+          (λ r q _. all-some (SoughtToken forms s) (record { it = _; is = bind-at _ q; alike = refl; numbers = refl }))
+      token-sought signed s =
+          all-bind _ _ (sleb s) _ (all-triv (sleb s))
+          (λ r q _. all-some (SoughtToken signed s) (record { it = _; is = bind-at _ q; alike = refl; numbers = refl }))
+      token-sought (link w role) s =
+          all-bind _ _ (numberIn big w s) _ (all-triv (numberIn big w s))
+          (λ r q _. all-some (SoughtToken (link w role) s) (record { it = _; is = bind-at _ q; alike = refl; numbers = link-sought (r .0) role (r .1) }))
+      token-sought string s =
+          all-bind _ _ (stringIn s) _ (all-triv (stringIn s))
+          (λ r q _. all-some (SoughtToken string s) (record { it = _; is = bind-at _ q; alike = refl; numbers = refl }))
+      token-sought (run n) s = all-check _ _ _ (λ u. all-some (SoughtToken (run n) s) (record { it = _; is = check-yes _ _ u; alike = refl; numbers = refl }))
+      token-sought (block w) s =
+          all-bind _ _ (numberIn big w s) _ (all-triv (numberIn big w s))
+          (λ r q _. all-check _ _ _ (λ u. all-some (SoughtToken (block w) s) (record { it = _; is = bind-at _ q ∙ check-yes _ _ u; alike = refl; numbers = refl })))
+      token-sought expression s =
+          all-bind _ _ (uleb s) _ (all-triv (uleb s))
+          (λ t q _. all-check _ _ _ (λ u.
+          all-bind (λ (ps : List Piece). piecesSought ps ≡ []) _ (ex (take (t .1) (t .2))) _ (none-sought (take (t .1) (t .2)))
+          (λ ps q′ n. all-some (SoughtToken expression s) (record {
+            it = record { seen = 0; start = suc (t .0); pieces = verbatim (take (suc (t .0)) s) ∷ verbatim (take (t .1) (t .2)) ∷ [] };
+            is = bind-at _ q ∙ check-yes _ _ u;
+            alike = refl;
+            numbers = n;
+          }))))
+      token-sought unknown s = all-none _
+
+      -- ---- a layout without them
+
+      unfoldable Without : Layout → Type 0
+      Without done = Unit {0}
+      Without fail = Unit {0}
+      Without (field t g) = ((v : ℕ) → tokenSought t v ≡ []) × ((n : ℕ) → Without (g n))
+
+      none-read : (g : Layout) → Without g → (s : List ℕ) → All (λ (r : RunOf). readsSought (r .0) ≡ []) (readIn big ex g s)
+      unfolding readIn before readsSought Without
+      none-read done h s = all-some (λ (r : RunOf). readsSought (r .0) ≡ []) refl
+      none-read fail h s = all-none _
+      none-read (field t g) h s =
+          all-bind (SoughtToken t s) _ (tokenIn big ex t s) _ (token-sought t s)
+          (λ r q i. all-bind (λ (r : RunOf). readsSought (r .0) ≡ []) _ (readIn big ex (g (r .0 .seen)) (r .1)) _ (none-read (g (r .0 .seen)) (h .1 (r .0 .seen)) (r .1))
+          (λ r′ q′ n. all-some (λ (r : RunOf). readsSought (r .0) ≡ []) (ap₂ _++_ (i .numbers ∙ h .0 _) n)))
+
+  -- ---- a use that is not sought
+
+  none-of : (b : Bool) (v : ℕ) → b ≡ false → pick b (v ∷ []) [] ≡ []
+  unfolding pick
+  none-of b v q = ap (λ (b : Bool). pick b (v ∷ []) []) q
+
+  operand-none : (u : Use) → T (operandUse u) → useSought u ≡ false
+  unfolding operandUse useSought
+  operand-none plain t = refl
+  operand-none (as′ reference) t = no-reference
+  operand-none (as′ typeReference) t = no-type
+  operand-none (as′ sibling) t = absurd t
+  operand-none (as′ (index k)) t = absurd t
+  operand-none (as′ absolute) t = no-absolute
+
+  no-number : (u : Use) → useSought u ≡ false → (w : Kind) (v : ℕ) → tokenSought (numberAs u w) v ≡ []
+  unfolding useSought numberAs tokenSought roleSought
+  no-number plain h w v = refl
+  no-number (as′ r) h w v = none-of (sought r) v h
+
+  abbrev Empty : ℕ → Token → Type 0
+  Empty v t = tokenSought t v ≡ []
+
+  no-token : (e : Encoding) (u : Use) → useSought u ≡ false → (n v : ℕ) → tokenSought (tokenOf e u n) v ≡ []
+  unfolding tokenOf tokenSought
+  no-token e u h n v =
+      pick-either (Empty v) (eqb n 0) nothing _ (λ _. refl)
+      (λ _. pick-either (Empty v) (leb n 8) _ _ (λ _. no-number u h _ v)
+      (λ _. pick-either (Empty v) (eqb n 9) _ _ (λ _. no-number u h _ v)
+      (λ _. pick-either (Empty v) (eqb n 10) _ _ (λ _. no-number u h _ v)
+      (λ _. pick-either (Empty v) (eqb n 11) _ _ (λ _. no-number u h _ v)
+      (λ _. pick-either (Empty v) (eqb n 12) signed _ (λ _. refl)
+      (λ _. pick-either (Empty v) (eqb n 13) string _ (λ _. refl)
+      (λ _. pick-either (Empty v) (eqb n 14) (run 16) _ (λ _. refl)
+      (λ _. pick-either (Empty v) (eqb n 15) (block _) _ (λ _. refl)
+      (λ _. pick-either (Empty v) (eqb n 16) (block _) _ (λ _. refl)
+      (λ _. pick-either (Empty v) (eqb n 17) (block _) _ (λ _. refl)
+      (λ _. pick-either (Empty v) (eqb n 18) (block _) _ (λ _. refl)
+      (λ _. pick-either (Empty v) (eqb n 19) expression _ (λ _. refl)
+      (λ _. pick-either (Empty v) (eqb n 20) (bounded 65535) unknown (λ _. refl) (λ _. refl))))))))))))))
+
+  -- ---- operations have none
+
+  abbrev PlainRow : OperandRow → Type 0
+  PlainRow r = (useSought (r .firstUse) ≡ false) × (useSought (r .secondUse) ≡ false)
+
+  unfoldable plainRows : List OperandRow → Bool
+  plainRows [] = true
+  plainRows (r ∷ rs) = operandUse (r .firstUse) and (operandUse (r .secondUse) and plainRows rs)
+
+  both : (a b : Bool) → T (a and b) → T a × T b
+  unfolding _and_
+  both true b t = (tt, t)
+  both false b t = absurd t
+
+  plain-row : (rs : List OperandRow) → T (plainRows rs) → (l : ℕ) → PlainRow (getD rs l unreadableRow)
+  unfolding plainRows unreadableRow useSought
+  plain-row [] h l = (refl, refl)
+  plain-row (r ∷ rs) h zero =
+      let a = both _ _ h in
+      let b = both _ _ (a .1) in
+      (operand-none (r .firstUse) (a .0), operand-none (r .secondUse) (b .0))
+  plain-row (r ∷ rs) h (suc l) = plain-row rs (both _ _ (both _ _ h .1) .1) l
+
+  rows-plain : T (plainRows rows)
+  unfolding plainRows rows unreadableRow operandUse _and_
+  rows-plain = tt
+
+  row-of : (l : ℕ) → PlainRow (rowOf l)
+  unfolding rowOf
+  row-of l = plain-row rows rows-plain l
+
+  module _ (e : Encoding) where
+    module _ (ex : ExpressionReader) (none-sought : NoneSought ex) where
+      operation-without : Without (e .«big_endian») ex none-sought (operation e)
+      unfolding Without operation rowLayout tokenSought useSought
+      operation-without = (
+        (λ v. refl),
+        λ c.
+            let p : PlainRow (rowOf (operationRow c)) = row-of (operationRow c) in (
+              no-token e _ (p .0) _,
+              λ _. (no-token e _ (p .1) _, λ _. (no-token e plain refl _, λ _. tt)),
+            ),
+      )
+
+    within-none : (f : ℕ) → NoneSought (expressionWithin e f)
+    unfolding expressionWithin piecesSought andRest
+    within-none zero [] = all-some (λ (ps : List Piece). piecesSought ps ≡ []) refl
+    within-none zero (b ∷ s) = all-none _
+    within-none (suc f) [] = all-some (λ (ps : List Piece). piecesSought ps ≡ []) refl
+    within-none (suc f) (b ∷ s) =
+        all-bind (λ (r : RunOf). readsSought (r .0) ≡ []) _ (readIn (e .«big_endian») (expressionWithin e f) (operation e) (b ∷ s)) _
+        (none-read (e .«big_endian») (expressionWithin e f) (within-none f) (operation e) (operation-without (expressionWithin e f) (within-none f)) (b ∷ s))
+        (λ r q n. all-bind (λ (ps : List Piece). piecesSought ps ≡ []) _ (expressionWithin e f (r .1)) _ (within-none f (r .1))
+        (λ qs q′ n′. all-some (λ (ps : List Piece). piecesSought ps ≡ []) (in-append (allPieces (r .0)) qs ∙ ap₂ _++_ (in-pieces (r .0) ∙ n) n′)))
+
+    -- expressions have none
+    pub expression-none : NoneSought (expressionIn e)
+    unfolding expressionIn
+    expression-none s = within-none (length s) s
+
+    -- ---- the number of a value
+
+    abbrev Chosen : ℕ → ℕ → Type 0
+    Chosen name f = (v : ℕ) → tokenSought (tokenOf e (useOf name f) (formToken f)) v ≡ pick (useSought (useOf name f)) (v ∷ []) []
+
+    of-10 : (name : ℕ) → Chosen name 0x10
+    unfolding tokenSought roleSought tokenOf numberAs useOf formToken formTokens tokenAmong useSought pick _and_ _or_
+    of-10 name v = refl
+
+    of-11 : (name : ℕ) → Chosen name 0x11
+    unfolding tokenSought roleSought tokenOf numberAs useOf formToken formTokens tokenAmong useSought pick _and_ _or_
+    of-11 name v = refl
+
+    of-12 : (name : ℕ) → Chosen name 0x12
+    unfolding tokenSought roleSought tokenOf numberAs useOf formToken formTokens tokenAmong useSought pick _and_ _or_
+    of-12 name v = refl
+
+    of-13 : (name : ℕ) → Chosen name 0x13
+    unfolding tokenSought roleSought tokenOf numberAs useOf formToken formTokens tokenAmong useSought pick _and_ _or_
+    of-13 name v = refl
+
+    of-14 : (name : ℕ) → Chosen name 0x14
+    unfolding tokenSought roleSought tokenOf numberAs useOf formToken formTokens tokenAmong useSought pick _and_ _or_
+    of-14 name v = refl
+
+    of-15 : (name : ℕ) → Chosen name 0x15
+    unfolding tokenSought roleSought tokenOf numberAs useOf formToken formTokens tokenAmong useSought pick _and_ _or_
+    of-15 name v = refl
+
+    of-1a : (name : ℕ) → Chosen name 0x1a
+    unfolding tokenSought roleSought tokenOf numberAs useOf formToken formTokens tokenAmong useSought pick _and_ _or_
+    of-1a name v = refl
+
+    of-22 : (name : ℕ) → Chosen name 0x22
+    unfolding tokenSought roleSought tokenOf numberAs useOf formToken formTokens tokenAmong useSought pick _and_ _or_
+    of-22 name v = refl
+
+    of-23 : (name : ℕ) → Chosen name 0x23
+    unfolding tokenSought roleSought tokenOf numberAs useOf formToken formTokens tokenAmong useSought pick _and_ _or_
+    of-23 name v = refl
+
+    of-25 : (name : ℕ) → Chosen name 0x25
+    unfolding tokenSought roleSought tokenOf numberAs useOf formToken formTokens tokenAmong useSought pick _and_ _or_
+    of-25 name v = refl
+
+    of-26 : (name : ℕ) → Chosen name 0x26
+    unfolding tokenSought roleSought tokenOf numberAs useOf formToken formTokens tokenAmong useSought pick _and_ _or_
+    of-26 name v = refl
+
+    of-27 : (name : ℕ) → Chosen name 0x27
+    unfolding tokenSought roleSought tokenOf numberAs useOf formToken formTokens tokenAmong useSought pick _and_ _or_
+    of-27 name v = refl
+
+    of-28 : (name : ℕ) → Chosen name 0x28
+    unfolding tokenSought roleSought tokenOf numberAs useOf formToken formTokens tokenAmong useSought pick _and_ _or_
+    of-28 name v = refl
+
+    of-1f02 : (name : ℕ) → Chosen name 0x1f02
+    unfolding tokenSought roleSought tokenOf numberAs useOf formToken formTokens tokenAmong useSought pick _and_ _or_
+    of-1f02 name v = refl
+
+    of-plain : (name f : ℕ) → useOf name f ≡ plain → Chosen name f
+    unfolding useSought
+    of-plain name f h v =
+        let z : useSought (useOf name f) ≡ false = ap useSought h in
+        no-token e (useOf name f) z (formToken f) v ∙ sym (none-of (useSought (useOf name f)) v z)
+
+    otherwise : (name f g : ℕ) → Chosen name g → ((f ≡ g → ⊥) → Chosen name f) → Chosen name f
+    otherwise name f g c k = ⊎-elim (λ t. subst (Chosen name) (sym (eqb-yes {a = f} {b = g} t)) c) (λ t. k (eqb-no {a = f} {b = g} t)) (either (eqb f g))
+
+    chosen : (name f : ℕ) → Chosen name f
+    unfolding useOf
+    chosen name f =
+        otherwise name f 0x10 (of-10 name) (λ n10.
+        otherwise name f 0x11 (of-11 name) (λ n11.
+        otherwise name f 0x12 (of-12 name) (λ n12.
+        otherwise name f 0x13 (of-13 name) (λ n13.
+        otherwise name f 0x14 (of-14 name) (λ n14.
+        otherwise name f 0x15 (of-15 name) (λ n15.
+        otherwise name f 0x1a (of-1a name) (λ n1a.
+        otherwise name f 0x22 (of-22 name) (λ n22.
+        otherwise name f 0x23 (of-23 name) (λ n23.
+        otherwise name f 0x25 (of-25 name) (λ n25.
+        otherwise name f 0x26 (of-26 name) (λ n26.
+        otherwise name f 0x27 (of-27 name) (λ n27.
+        otherwise name f 0x28 (of-28 name) (λ n28.
+        otherwise name f 0x1f02 (of-1f02 name) (λ n1f02.
+        of-plain name f
+        (pick-no _ _ _ (no-and (leb 0x11 f) (leb f 0x15)
+        (λ t u. no-reference-form f n11 n12 n13 n14 n15 (leb-yes {a = 0x11} {b = f} t) (leb-yes {a = f} {b = 0x15} u)))
+        ∙ pick-no _ _ _ (no-eqb {a = f} {b = 0x10} n10)
+        ∙ pick-no _ _ _ (no-eqb {a = f} {b = 0x23} n23)
+        ∙ pick-no _ _ _ (no-eqb {a = f} {b = 0x22} n22)
+        ∙ pick-no _ _ _ (no-or (eqb f 0x1a) (leb 0x25 f and leb f 0x28) (eqb f 0x1f02) (no-eqb {a = f} {b = 0x1a} n1a)
+        (no-and (leb 0x25 f) (leb f 0x28)
+        (λ t u. no-string-form f n25 n26 n27 n28 (leb-yes {a = 0x25} {b = f} t) (leb-yes {a = f} {b = 0x28} u)))
+        (no-eqb {a = f} {b = 0x1f02} n1f02)))))))))))))))))
+
+    abbrev NotSought : ℕ → ℕ → ℕ → Type 0
+    NotSought name v f = [] ≡ pick (useSought (useOf name f)) (v ∷ []) []
+
+    exprloc-none : (name v : ℕ) → NotSought name v 0x18
+    unfolding useSought useOf pick _and_ _or_
+    exprloc-none name v = refl
+
+    implicit-none : (name v : ℕ) → NotSought name v 0x21
+    unfolding useSought useOf pick _and_ _or_
+    implicit-none name v = refl
+
+    unknown-none : (name : ℕ) (a b c d : Bool) (f v : ℕ) → (T b → f ≡ 0x18) → (T d → f ≡ 0x21) → T ((a and b) or (c and d)) → NotSought name v f
+    unfolding _and_ _or_
+    unknown-none name true true c d f v h g t = subst (NotSought name v) (sym (h tt)) (exprloc-none name v)
+    unknown-none name true false true d f v h g t = subst (NotSought name v) (sym (g t)) (implicit-none name v)
+    unknown-none name true false false d f v h g t = absurd t
+    unknown-none name false b true d f v h g t = subst (NotSought name v) (sym (g t)) (implicit-none name v)
+    unknown-none name false b false d f v h g t = absurd t
+
+    value-sought : (indirect : Bool) (name f v : ℕ) → tokenSought (valueToken e indirect name f) v ≡ pick (useSought (useOf name f)) (v ∷ []) []
+    unfolding valueToken tokenSought
+    value-sought indirect name f v =
+        pick-either (λ (t : Token). tokenSought t v ≡ pick (useSought (useOf name f)) (v ∷ []) [])
+        ((eqb name 0x01 and eqb f 0x18) or (indirect and eqb f 0x21)) unknown (tokenOf e (useOf name f) (formToken f))
+        (λ t. unknown-none name (eqb name 0x01) (eqb f 0x18) indirect (eqb f 0x21) f v (λ u. eqb-yes {a = f} {b = 0x18} u) (λ u. eqb-yes {a = f} {b = 0x21} u) t)
+        (λ _. chosen name f v)
+
+    -- ---- a value that was read deep
+
+    module _ (unit : List ℕ) where
+      abbrev big : Bool
+      big = e .«big_endian»
+
+      abbrev deep : ExpressionReader
+      deep = expressionIn e
+
+      -- where a token ends
+      token-rest : (t : Token) (n : ℕ) (r : ReadOf) → tokenIn big asBytes t (drop n unit) ≡ some r → r .1 ≡ drop (fieldOf big n (r .0) .end) unit
+      unfolding fieldOf size
+      token-rest t n r q =
+          let l : TokenLaw big asBytes t (drop n unit) r = all-of (TokenLaw big asBytes t (drop n unit)) (token-law big asBytes (as-bytes-law big) t (drop n unit)) q in
+          l .0 .1 ∙ drop-drop _ n unit
+
+      -- an attribute: its value, where it ends, and what is sought of it
+      record ValueRead (name form at : ℕ) (r : RunOf) : Type 0 where
+        pub value : Attribute
+        pub is : attributeAt e unit at name form ≡ Attribute′ value
+        pub rest : r .1 ≡ drop (value .field .end) unit
+        pub numbers : readsSought (r .0) ≡ ownSought name value
+
+      module _ (name form at : ℕ) where
+        direct-value : T (not (eqb form 0x16)) → All (ValueRead name form at) (readIn big deep (field (valueToken e false name form) (λ _. done)) (drop at unit))
+        unfolding readIn before bind tokenAt asField valued readsSought ownSought fieldOf
+        direct-value n =
+            let t : Token = valueToken e false name form in
+            all-bind (SoughtToken big deep t (drop at unit)) _ (tokenIn big deep t (drop at unit)) _ (token-sought big deep expression-none t (drop at unit))
+            (λ r q i.
+            let v : Attribute = record { form = form; field = fieldOf big at (i .it) } in
+            all-some (ValueRead name form at)
+            (record {
+              value = v;
+              is = attribute-direct e unit at name form (eqb-no {a = form} {b = 0x16} n) ∙ ap (λ o. valued form (asField big at o)) (i .is);
+              rest = token-rest t at (i .it, r .1) (i .is);
+              numbers = append-nil (piecesSought (r .0 .pieces)) ∙ i .numbers ∙ value-sought false name form (linkedValue (i .it .pieces) (i .it .seen));
+            }))
+
+        abbrev behind : ℕ → Layout
+        behind f = field (valueToken e true name f) (λ _. done)
+
+        value-behind : T (eqb form 0x16) → (f : ℕ × ℕ) → formsIn (drop at unit) ≡ some f
+            → All (ValueRead name form at) (bind (readIn big deep (behind (f .1)) (drop (at + f .0) unit)) (before (copy (f .1) 0 (f .0) (drop at unit) .0)))
+        unfolding readIn before bind copy tokenAt asField valued formsAt asFormNumber behindForms readsSought piecesSought pieceSought ownSought fieldOf
+        value-behind h f q =
+            let t : Token = valueToken e true name (f .1) in
+            let n : ℕ = at + f .0 in
+            let P : RunOf → Type 0 = ValueRead name form at in
+            subst (All P) (sym (bind-bind (tokenIn big deep t (drop n unit)) (λ (r : ReadOf). some (r .0 ∷ [], r .1)) (before (copy (f .1) 0 (f .0) (drop at unit) .0))))
+            (all-bind (SoughtToken big deep t (drop n unit)) P (tokenIn big deep t (drop n unit)) _ (token-sought big deep expression-none t (drop n unit))
+            (λ r p i.
+            let v : Attribute = record { form = f .1; field = fieldOf big n (i .it) } in
+            all-some P
+            (record {
+              value = v;
+              is =
+                  attribute-indirect e unit at name form (eqb-yes {a = form} {b = 0x16} h)
+                  ∙ ap (λ o. behindForms e unit at name form (asFormNumber at o)) q
+                  ∙ ap (λ o. valued (f .1) (asField big n o)) (i .is);
+              rest = token-rest t n (i .it, r .1) (i .is);
+              numbers = append-nil (piecesSought (r .0 .pieces)) ∙ i .numbers ∙ value-sought true name (f .1) (linkedValue (i .it .pieces) (i .it .seen));
+            })))
+
+        indirect-value : T (eqb form 0x16) → All (ValueRead name form at) (readIn big deep (field forms behind) (drop at unit))
+        unfolding readIn tokenIn asForms bind copy
+        indirect-value h =
+            let P : RunOf → Type 0 = ValueRead name form at in
+            let s : List ℕ = drop at unit in
+            subst (All P) (sym (bind-bind (formsIn s) (asForms s) (λ (r : ReadOf). bind (readIn big deep (behind (r .0 .seen)) (r .1)) (before (r .0)))))
+            (all-bind _ P (formsIn s) _ (all-triv (formsIn s))
+            (λ f q _. subst (λ (z : List ℕ). All P (bind (readIn big deep (behind (f .1)) z) (before (copy (f .1) 0 (f .0) s .0)))) (sym (drop-drop (f .0) at unit)) (value-behind h f q)))
+
+        value-read : All (ValueRead name form at) (readIn big deep (attributeLayout e name form) (drop at unit))
+        unfolding attributeLayout
+        value-read =
+            pick-either (λ g. All (ValueRead name form at) (readIn big deep g (drop at unit))) (eqb form 0x16) (field forms behind) (field (valueToken e false name form) (λ _. done))
+            indirect-value direct-value
+
+      -- ---- the values of an entry
+
+      abbrev Values : List AttributeSpec → ℕ → RunOf → Type 0
+      Values specs at r = readsSought (r .0) ≡ valuesSought (valuesOf e unit specs at)
+
+      values-read : (specs : List AttributeSpec) (at : ℕ) → All (Values specs at) (readIn big deep (attributesLayout e specs) (drop at unit))
+      unfolding attributesLayout readIn readsSought valuesOf valuesSought onAttribute joined
+      values-read [] at = all-some (Values [] at) refl
+      values-read (a ∷ rest) at =
+          subst (All (Values (a ∷ rest) at)) (sym (read-then big deep (attributeLayout e (a .name) (a .form)) (attributesLayout e rest) (drop at unit)))
+          (all-bind (ValueRead (a .name) (a .form) at) _ (readIn big deep (attributeLayout e (a .name) (a .form)) (drop at unit)) _ (value-read (a .name) (a .form) at)
+          (λ r q v. all-bind (Values rest (v .value .field .end)) _ (readIn big deep (attributesLayout e rest) (r .1)) _
+          (subst (λ (z : List ℕ). All (Values rest (v .value .field .end)) (readIn big deep (attributesLayout e rest) z)) (sym (v .rest)) (values-read rest (v .value .field .end)))
+          (λ r′ q′ i. all-some (Values (a ∷ rest) at)
+          (read-append (r .0) (r′ .0)
+          ∙ ap₂ _++_ (v .numbers) i
+          ∙ sym (ap (λ (o : AttributeRead). valuesSought (onAttribute a o (λ next. valuesOf e unit rest next))) (v .is))))))
+
+      -- ---- an entry or a terminator
+
+      module _ (abbreviations : List ℕ) (look : ℕ → DeclarationFound) where
+        -- those at a step: those of an entry's values
+        unfoldable pub StepSought : Step → List ℕ → Type 0
+        StepSought (Entry′ y) is = is ≡ valuesSought (entryValues e abbreviations (y .declaration .attributes .at) unit (y .values .at))
+        StepSought (Terminator c) is = is ≡ []
+        StepSought End is = Unit {0}
+        StepSought Unreadable is = Unit {0}
+
+        abbrev At : ℕ → RunOf → Type 0
+        At at r = StepSought (stepOfReads e abbreviations look at (r .0)) (readsSought (r .0))
+
+        entry-values : (p at : ℕ) (o : Option (Scanned AttributeSpec ℕ)) → attributesFrom abbreviations p ≡ o
+            → All (λ (r : RunOf). readsSought (r .0) ≡ valuesSought (entryValues e abbreviations p unit at)) (readIn big deep (specsLayout e o) (drop at unit))
+        unfolding specsLayout readIn entryValues
+        entry-values p at none q = all-none _
+        entry-values p at (some o) q =
+            subst (λ (l : List AttributeSpec). All (λ (r : RunOf). readsSought (r .0) ≡ valuesSought (valuesOf e unit l at)) (readIn big deep (attributesLayout e (o .0)) (drop at unit)))
+            (sym (specs-all abbreviations p o q)) (values-read (o .0) at)
+
+        module _ (at : ℕ) (c : Read) (none-in : piecesSought (c .pieces) ≡ []) where
+          found-at : T (not (eqb (c .seen) 0)) → (f : DeclarationFound) → look (c .seen) ≡ f
+              → All (At at) (bind (readIn big deep (foundLayout e abbreviations look f) (drop (at + size big c) unit)) (before c))
+          unfolding foundLayout readIn before bind readsSought stepOfReads entryFound StepSought
+          found-at t Nothing h = all-none _
+          found-at t (Found′ d) h =
+              all-bind (λ (r : RunOf). readsSought (r .0) ≡ valuesSought (entryValues e abbreviations (d .attributes .at) unit (at + size big c))) _
+              (readIn big deep (specsLayout e (attributesFrom abbreviations (d .attributes .at))) (drop (at + size big c) unit)) _
+              (entry-values (d .attributes .at) (at + size big c) (attributesFrom abbreviations (d .attributes .at)) refl)
+              (λ r q i. all-some (At at)
+              (subst (λ (s : Step). StepSought s (readsSought (c ∷ r .0)))
+              (sym (pick-no _ _ _ t ∙ ap (entryFound e abbreviations look at (at + size big c) _) h))
+              (ap₂ _++_ none-in i)))
+
+          code-at : All (At at) (bind (readIn big deep (pick (eqb (c .seen) 0) done (foundLayout e abbreviations look (look (c .seen)))) (drop (at + size big c) unit)) (before c))
+          unfolding readIn before bind readsSought stepOfReads StepSought
+          code-at =
+              ⊎-elim
+              (λ t. subst (λ g. All (At at) (bind (readIn big deep g (drop (at + size big c) unit)) (before c))) (sym (pick-yes _ _ _ t))
+              (all-some (At at) (subst (λ (s : Step). StepSought s (readsSought (c ∷ []))) (sym (pick-yes _ _ _ t)) (ap₂ _++_ none-in refl))))
+              (λ t. subst (λ g. All (At at) (bind (readIn big deep g (drop (at + size big c) unit)) (before c))) (sym (pick-no _ _ _ t))
+              (found-at t (look (c .seen)) refl))
+              (either (eqb (c .seen) 0))
+
+        -- what is read deep at a place
+        all-at : (at : ℕ) → All (At at) (readIn big deep (entryLayout e abbreviations look) (drop at unit))
+        unfolding entryLayout readIn tokenSought size
+        all-at at =
+            all-bind (SoughtToken big deep (number leb128) (drop at unit)) _ (tokenIn big deep (number leb128) (drop at unit)) _
+            (token-sought big deep expression-none (number leb128) (drop at unit))
+            (λ r q i.
+            let l : TokenLaw big deep (number leb128) (drop at unit) r =
+            all-of (TokenLaw big deep (number leb128) (drop at unit)) (token-law big deep (expression-law e) (number leb128) (drop at unit)) q in
+            subst (λ (z : List ℕ). All (At at) (bind (readIn big deep (pick (eqb (r .0 .seen) 0) done (foundLayout e abbreviations look (look (r .0 .seen)))) z) (before (r .0))))
+            (sym (l .0 .1 ∙ drop-drop _ at unit)) (code-at at (r .0) (i .numbers)))
+
+        -- THE numbers sought in what is read deep at a place, by the step there
+        pub deep-sought : (at : ℕ) (all : RunOf) → readIn big deep (entryLayout e abbreviations look) (drop at unit) ≡ some all
+            → StepSought (stepAt e abbreviations look unit at) (readsSought (all .0))
+        deep-sought at all q =
+            subst (λ (s : Step). StepSought s (readsSought (all .0))) (sym (deep-step e abbreviations look deep (expression-law e) unit at (all .0) (all .1) q)) (all-of (At at) (all-at at) q)
+
+  -- ---- a number that is sought has the role
+
+  module _ (own : Role) (own-is : T (sought own)) (only-own : (r : Role) → T (sought r) → r ≡ own) (v : ℕ) where
+    record OwnIn (ps : List Piece) : Type 0 where
+      pub encoded : Encoded
+      pub within : Member (patchable encoded own v) ps
+
+    piece-out : (p : Piece) (ps : List Piece) → Member v (pieceSought p) → OwnIn (p ∷ ps)
+    unfolding pieceSought roleSought
+    piece-out (verbatim l) ps m = absurd (nothing-in v m)
+    piece-out (patchable e r w) ps m =
+        pick-either (λ (l : List ℕ). Member v l → OwnIn (patchable e r w ∷ ps)) (sought r) (w ∷ []) []
+        (λ t n. record { encoded = e; within = here (ap (patchable e own) (only v w n) ∙ ap (λ (r : Role). patchable e r w) (sym (only-own r t))) })
+        (λ t n. absurd (nothing-in v n)) m
+
+    pieces-out : (ps : List Piece) → Member v (piecesSought ps) → OwnIn ps
+    unfolding piecesSought
+    pieces-out [] m = absurd (nothing-in v m)
+    pieces-out (p ∷ ps) m =
+        ⊎-elim
+        (λ n. piece-out p ps n)
+        (λ n. let q : OwnIn ps = pieces-out ps n in record { encoded = q .encoded; within = there (q .within) })
+        (in-either v (pieceSought p) (piecesSought ps) m)
+
+    own-in : (e : Encoded) → Member v (pieceSought (patchable e own v))
+    unfolding pieceSought roleSought
+    own-in e = subst (Member v) (sym (pick-yes _ _ _ own-is)) (here refl)
+
+    pieces-in : (ps : List Piece) (e : Encoded) → Member (patchable e own v) ps → Member v (piecesSought ps)
+    unfolding piecesSought
+    pieces-in [] e m = absurd (nothing-in (patchable e own v) m)
+    pieces-in (p ∷ ps) e (here q) = in-left v (pieceSought p) (piecesSought ps) (subst (λ (z : Piece). Member v (pieceSought z)) q (own-in e))
+    pieces-in (p ∷ ps) e (there m) = in-right v (pieceSought p) (piecesSought ps) (pieces-in ps e m)
+
+    reads-out : (rs : List Read) → Member v (readsSought rs) → RoleRead rs own v
+    unfolding readsSought
+    reads-out [] m = absurd (nothing-in v m)
+    reads-out (r ∷ rs) m =
+        ⊎-elim
+        (λ n. let q : OwnIn (r .pieces) = pieces-out (r .pieces) n in record { read = r; among = here refl; encoded = q .encoded; within = q .within })
+        (λ n. let q : RoleRead rs own v = reads-out rs n in record { read = q .read; among = there (q .among); encoded = q .encoded; within = q .within })
+        (in-either v (piecesSought (r .pieces)) (readsSought rs) m)
+
+    reads-in : (rs : List Read) (r : Read) → Member r rs → Member v (piecesSought (r .pieces)) → Member v (readsSought rs)
+    unfolding readsSought
+    reads-in [] r m n = absurd (nothing-in r m)
+    reads-in (q ∷ rs) r (here e) n = in-left v (piecesSought (q .pieces)) (readsSought rs) (subst (λ (z : Read). Member v (piecesSought (z .pieces))) e n)
+    reads-in (q ∷ rs) r (there m) n = in-right v (piecesSought (q .pieces)) (readsSought rs) (reads-in rs r m n)
+
+    pub reads-members : (rs : List Read) → Member v (readsSought rs) ↔ RoleRead rs own v
+    reads-members rs = (reads-out rs, λ q. reads-in rs (q .read) (q .among) (pieces-in (q .read .pieces) (q .encoded) (q .within)))

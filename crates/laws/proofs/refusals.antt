@@ -1,0 +1,8 @@
+-- Which number a call refuses with, and when.
+pub mod ReaderRefusals
+pub mod MarkingRefusals
+pub mod CollectRefusals
+pub mod ValueRefusals
+pub mod NewValues
+pub mod Accepting
+pub mod CallRefusals

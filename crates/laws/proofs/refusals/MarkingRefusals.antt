@@ -1,0 +1,410 @@
+-- "A refusal carries a number of document 01": the root test's is 5 or 6, the references' 5 or 7, the analysis' one of 1 to 7, 10 and 11, `mark`'s 16. Assumes nothing.
+use mathlib.Core.Path.{_≡_, refl, ap, sym, _∙_, subst}
+use Prim.Native.Nat.{ℕ, zero, suc, _+_}
+use native.Mathlib.Omega.{arith}
+use mathlib.Core.Bool.{Bool, true, false}
+use mathlib.Core.List.{List, [], _∷_}
+use mathlib.Core.Option.{Option, none, some}
+use lib.ListN.{length, take}
+use lib.Dec.{T, ltb, leb}
+use Rattle.readers.specs.Choice.{pick, _and_, _or_}
+use Rattle.readers.proofs.Choice.{pick-either}
+use Rattle.laws.specs.RefusalNumbers.{OneOf, RootRefusal, ScanRefusal, EntriesRefusal, AnalysisRefusal, MarkRefusal}
+use Rattle.readers.specs.Header.{headerOf}
+use Rattle.readers.specs.Abbreviations.{Placed, declaredIn, abbreviationsOf}
+use Rattle.readers.specs.Stream.{Item, entry, terminator, itemsFrom}
+use Rattle.readers.specs.declared.cursor.Encoding.{Encoding}
+use Rattle.readers.specs.declared.header.UnitHeader.{UnitHeader}
+use Rattle.readers.specs.declared.header.HeaderRead.{HeaderRead}
+use Rattle.readers.specs.declared.header.HeaderRead.the-variants.{Unit as Unit′, Empty, Refused}
+use Rattle.readers.specs.declared.expressions.Walk.{Walk}
+use Rattle.readers.specs.declared.expressions.Walk.the-variants.{Walked, Unreadable as NoWalk}
+use Rattle.readers.specs.declared.entries.Entry.{Entry as Entry′}
+use Rattle.readers.specs.declared.lists.ListOffset.{ListOffset}
+use Rattle.readers.specs.declared.lists.ListOffset.the-variants.{At, Unresolved}
+use Rattle.readers.specs.declared.operations.ListEntry.{ListEntry}
+use Rattle.readers.specs.declared.operations.ListStep.{ListStep}
+use Rattle.readers.specs.declared.operations.ListStep.the-variants.{Entry, End, Unreadable as NoEntry}
+use Rattle.readers.specs.declared.operations.OperationRead.{OperationRead}
+use Rattle.readers.specs.declared.operations.OperationRead.the-variants.{Read as Operation′, Unreadable as NoOperation}
+use Rattle.readers.specs.declared.attributes.Attribute.{Attribute}
+use Rattle.laws.proofs.refusals.ReaderRefusals.{isOneOf, areOf, one-of, wider, HeaderNumbered, header-numbered}
+use Rattle.marking.specs.declared.addresses.AddressLookup.{AddressLookup}
+use Rattle.marking.specs.declared.addresses.AddressLookup.the-variants.{Live as Alive, Dead as NotAlive, Fails}
+use Rattle.marking.specs.declared.root_test.Verdict.{Verdict}
+use Rattle.marking.specs.declared.root_test.Verdict.the-variants.{Live, Dead, Refused as Failed}
+use Rattle.marking.specs.declared.units.UnitMarks.{UnitMarks}
+use Rattle.marking.specs.declared.units.UnitMarks.the-variants.{Marked, Refused as Refused″}
+use Rattle.marking.specs.declared.marks.Marked.{Marked as Marked′}
+use Rattle.marking.specs.declared.marks.Marked.the-variants.{Kept as KeptCount, Refused as Refused′}
+use Rattle.marking.specs.Walking.{Next, go, stop, onNext, walkWithin, walk}
+use Rattle.marking.specs.Roots.{Flagged, place, Turn, Ranges, orElse, onLookup, rangeEntry, rangeStep, rangesLive, operationStep, locationLive, olderStep, olderLive, lowPc, lowPcs, locations, otherRanges, rangesOf, firstRanges, rootTest}
+use Rattle.readers.specs.EntryAttributes.{Valued}
+use Rattle.marking.specs.EntryReferences.{ReferencesFound, found, refused as refusedAfter, after, andThen, walkFound, expressionFound, Reached as Along, locationFound, onFound as onLocation, locationStep, listFound, Locations, attributeFound, attributesFound}
+use Rattle.marking.specs.Analysis.{Sections, Rooms, EntryRow, Analysed, analysed, refused as notAnalysed, onto, onVerdict, onFound, Reached, startOf, rootOf, namesOf, analyseItems, onDeclared, unitAnalysed, headerAnalysed, analysisOf}
+use Rattle.marking.specs.Graph.{Graph, takes}
+use Rattle.marking.specs.Marks.{keptCount, marksOf, answerOf}
+use Rattle.marking.specs.Resolution.{unitMarks}
+
+-- ---- walks
+
+module _ {S B : Type 0} (P : B → Type 0) where
+  unfoldable NextNumbered : Next S B → Type 0
+  NextNumbered (go s) = Unit {0}
+  NextNumbered (stop b) = P b
+
+  next-numbered : (n : Next S B) → NextNumbered n → (k : S → B) → ((s : S) → P (k s)) → P (onNext n k)
+  unfolding NextNumbered onNext
+  next-numbered (go s) q k h = h s
+  next-numbered (stop b) q k h = q
+
+  within-numbered : (f : S → Next S B) (d : B) → ((s : S) → NextNumbered (f s)) → P d → (k : ℕ) (s : S) → P (walkWithin k f d s)
+  unfolding walkWithin
+  within-numbered f d each end zero s = end
+  within-numbered f d each end (suc k) s = next-numbered (f s) (each s) _ (λ t. within-numbered f d each end k t)
+
+  walk-numbered : (f : S → Next S B) (d : B) → ((s : S) → NextNumbered (f s)) → P d → (at : S → ℕ) (n : ℕ) (s : S) → P (walk at n f d s)
+  unfolding walk
+  walk-numbered f d each end at n s = within-numbered f d each end _ s
+
+-- ---- the root test: 5 or 6
+
+unfoldable pub VerdictNumbered : Verdict → Type 0
+VerdictNumbered Live = Unit {0}
+VerdictNumbered Dead = Unit {0}
+VerdictNumbered (Failed n) = RootRefusal n
+
+abbrev TurnNumbered : Turn → Type 0
+TurnNumbered t = NextNumbered {S = Flagged} VerdictNumbered t
+
+else-numbered : (v w : Verdict) → VerdictNumbered v → VerdictNumbered w → VerdictNumbered (orElse v w)
+unfolding orElse VerdictNumbered
+else-numbered Dead w p q = q
+else-numbered Live w p q = tt
+else-numbered (Failed n) w p q = p
+
+lookup-numbered : {X : Type 0} (P : X → Type 0) (l : AddressLookup) (r : Verdict → X) (a b : X) → P (r (Failed 6)) → P a → P b → P (onLookup l r a b)
+unfolding onLookup
+lookup-numbered P Alive r a b p q s = q
+lookup-numbered P NotAlive r a b p q s = s
+lookup-numbered P Fails r a b p q s = p
+
+six-numbered : VerdictNumbered (Failed 6)
+unfolding VerdictNumbered isOneOf _or_
+six-numbered = one-of _ 6 tt
+
+five-numbered : VerdictNumbered (Failed 5)
+unfolding VerdictNumbered isOneOf _or_
+five-numbered = one-of _ 5 tt
+
+live-numbered : VerdictNumbered Live
+unfolding VerdictNumbered
+live-numbered = tt
+
+dead-numbered : VerdictNumbered Dead
+unfolding VerdictNumbered
+dead-numbered = tt
+
+stop-numbered : (v : Verdict) → VerdictNumbered v → TurnNumbered (stop v)
+unfolding NextNumbered
+stop-numbered v q = q
+
+go-numbered : (p : Flagged) → TurnNumbered (go p)
+unfolding NextNumbered
+go-numbered p = tt
+
+module _ (e : Encoding) (table : List ℕ) where
+  entry-numbered : (dead : Bool) (x : ListEntry) → TurnNumbered (rangeEntry e table dead x)
+  unfolding rangeEntry
+  entry-numbered dead x =
+      pick-either TurnNumbered _ _ _ (λ _. lookup-numbered TurnNumbered _ _ _ _ (stop-numbered _ six-numbered) (go-numbered _) (go-numbered _))
+      (λ _. pick-either TurnNumbered _ _ _ (λ _. lookup-numbered TurnNumbered _ _ _ _ (stop-numbered _ six-numbered) (stop-numbered _ live-numbered) (go-numbered _))
+      (λ _. pick-either TurnNumbered _ _ _ (λ _. pick-either TurnNumbered _ _ _ (λ _. go-numbered _) (λ _. stop-numbered _ live-numbered))
+      (λ _. pick-either TurnNumbered _ _ _ (λ _. go-numbered _)
+      (λ _. pick-either TurnNumbered _ _ _ (λ _. go-numbered _) (λ _. stop-numbered _ live-numbered)))))
+
+  step-numbered : (dead : Bool) (t : ListStep) → TurnNumbered (rangeStep e table dead t)
+  unfolding rangeStep
+  step-numbered dead (Entry x) = entry-numbered dead x
+  step-numbered dead End = stop-numbered _ dead-numbered
+  step-numbered dead NoEntry = stop-numbered _ five-numbered
+
+  ranges-numbered : (s : List ℕ) (o : ListOffset) → VerdictNumbered (rangesLive e table s o)
+  unfolding rangesLive
+  ranges-numbered s (At c) = walk-numbered VerdictNumbered _ _ (λ p. step-numbered _ _) dead-numbered place _ _
+  ranges-numbered s Unresolved = live-numbered
+
+  operation-numbered : (live : Bool) (o : OperationRead) → TurnNumbered (operationStep e table live o)
+  unfolding operationStep
+  operation-numbered live (Operation′ op) =
+      pick-either TurnNumbered _ _ _ (λ _. lookup-numbered TurnNumbered _ _ _ _ (stop-numbered _ six-numbered) (go-numbered _) (go-numbered _)) (λ _. go-numbered _)
+  operation-numbered live NoOperation = stop-numbered _ five-numbered
+
+  location-numbered : (s : List ℕ) → VerdictNumbered (locationLive e table s)
+  unfolding locationLive
+  location-numbered s =
+      walk-numbered VerdictNumbered _ _
+      (λ p. pick-either TurnNumbered _ _ _ (λ _. operation-numbered _ _) (λ _. stop-numbered _ (pick-either VerdictNumbered _ _ _ (λ _. live-numbered) (λ _. dead-numbered))))
+      dead-numbered place _ _
+
+  low-numbered : (v : Attribute) → VerdictNumbered (lowPc e table v)
+  unfolding lowPc
+  low-numbered v =
+      pick-either VerdictNumbered _ _ _ (λ _. lookup-numbered VerdictNumbered _ _ _ _ six-numbered live-numbered dead-numbered)
+      (λ _. pick-either VerdictNumbered _ _ _ (λ _. pick-either VerdictNumbered _ _ _ (λ _. dead-numbered) (λ _. live-numbered)) (λ _. live-numbered))
+
+  lows-numbered : (vs : List Valued) → VerdictNumbered (lowPcs e table vs)
+  unfolding lowPcs
+  lows-numbered [] = dead-numbered
+  lows-numbered (a ∷ vs) = pick-either VerdictNumbered _ _ _ (λ _. else-numbered _ _ (low-numbered _) (lows-numbered vs)) (λ _. lows-numbered vs)
+
+  locations-numbered : (unit : List ℕ) (vs : List Valued) → VerdictNumbered (locations e table unit vs)
+  unfolding locations
+  locations-numbered unit [] = dead-numbered
+  locations-numbered unit (a ∷ vs) = pick-either VerdictNumbered _ _ _ (λ _. else-numbered _ _ (location-numbered _) (locations-numbered unit vs)) (λ _. locations-numbered unit vs)
+
+older-step-numbered : (t : ListStep) → TurnNumbered (olderStep t)
+unfolding olderStep
+older-step-numbered (Entry x) = pick-either TurnNumbered _ _ _ (λ _. go-numbered _) (λ _. stop-numbered _ live-numbered)
+older-step-numbered End = stop-numbered _ dead-numbered
+older-step-numbered NoEntry = stop-numbered _ five-numbered
+
+older-numbered : (e : Encoding) (s : List ℕ) (o : ListOffset) → VerdictNumbered (olderLive e s o)
+unfolding olderLive
+older-numbered e s (At c) = walk-numbered VerdictNumbered _ _ (λ p. older-step-numbered _) dead-numbered place _ _
+older-numbered e s Unresolved = live-numbered
+
+module _ (e : Encoding) (x : Ranges) where
+  ranges-of-numbered : (v : Attribute) → VerdictNumbered (rangesOf e x v)
+  unfolding rangesOf otherRanges
+  ranges-of-numbered v =
+      pick-either VerdictNumbered _ _ _ (λ _. ranges-numbered e (x .table) (x .ranges) _)
+      (λ _. pick-either VerdictNumbered _ _ _ (λ _. older-numbered e (x .ranges) _) (λ _. live-numbered))
+
+  first-numbered : (vs : List Valued) → VerdictNumbered (firstRanges e x vs)
+  unfolding firstRanges
+  first-numbered [] = dead-numbered
+  first-numbered (a ∷ vs) = pick-either VerdictNumbered _ _ _ (λ _. ranges-of-numbered _) (λ _. first-numbered vs)
+
+  root-numbered : (unit : List ℕ) (tag : ℕ) (vs : List Valued) → VerdictNumbered (rootTest e x unit tag vs)
+  unfolding rootTest
+  root-numbered unit tag vs =
+      pick-either VerdictNumbered _ _ _ (λ _. else-numbered _ _ (lows-numbered e (x .table) vs) (first-numbered vs))
+      (λ _. pick-either VerdictNumbered _ _ _ (λ _. locations-numbered e (x .table) unit vs) (λ _. dead-numbered))
+
+  pub root-refusal : (unit : List ℕ) (tag : ℕ) (vs : List Valued) (n : ℕ) → rootTest e x unit tag vs ≡ Failed n → RootRefusal n
+  unfolding VerdictNumbered
+  root-refusal unit tag vs n q = subst VerdictNumbered q (root-numbered unit tag vs)
+
+-- ---- references: 5 or 7
+
+unfoldable pub FoundNumbered : ReferencesFound → Type 0
+FoundNumbered (found xs) = Unit {0}
+FoundNumbered (refusedAfter xs n) = ScanRefusal n
+
+found-numbered : (xs : List ℕ) → FoundNumbered (found xs)
+unfolding FoundNumbered
+found-numbered xs = tt
+
+no-numbered : (xs : List ℕ) (n : ℕ) → ScanRefusal n → FoundNumbered (refusedAfter xs n)
+unfolding FoundNumbered
+no-numbered xs n q = q
+
+no-five : ScanRefusal 5
+unfolding isOneOf _or_
+no-five = one-of _ 5 tt
+
+no-seven : ScanRefusal 7
+unfolding isOneOf _or_
+no-seven = one-of _ 7 tt
+
+after-numbered : (xs : List ℕ) (f : ReferencesFound) → FoundNumbered f → FoundNumbered (after xs f)
+unfolding after FoundNumbered
+after-numbered xs (found ys) q = tt
+after-numbered xs (refusedAfter ys n) q = q
+
+then-numbered : (f g : ReferencesFound) → FoundNumbered f → FoundNumbered g → FoundNumbered (andThen f g)
+unfolding andThen FoundNumbered
+then-numbered (found xs) g p q = after-numbered xs g q
+then-numbered (refusedAfter xs n) g p q = p
+
+walk-found-numbered : (xs : List ℕ) (w : Walk) → FoundNumbered (walkFound xs w)
+unfolding walkFound FoundNumbered
+walk-found-numbered xs NoWalk = no-five
+walk-found-numbered xs (Walked n true) = no-seven
+walk-found-numbered xs (Walked n false) = tt
+
+expression-numbered : (e : Encoding) (s : List ℕ) → FoundNumbered (expressionFound e s)
+unfolding expressionFound
+expression-numbered e s = walk-found-numbered _ _
+
+located-numbered : (e : Encoding) (s : List ℕ) (x : ListEntry) → FoundNumbered (locationFound e s x)
+unfolding locationFound
+located-numbered e s x = pick-either FoundNumbered _ _ _ (λ _. found-numbered _) (λ _. expression-numbered e _)
+
+on-numbered : (sofar : List ℕ) (x : ListEntry) (f : ReferencesFound) → FoundNumbered f → NextNumbered {S = Along} FoundNumbered (onLocation sofar x f)
+unfolding onLocation NextNumbered FoundNumbered
+on-numbered sofar x (found ys) q = tt
+on-numbered sofar x (refusedAfter ys n) q = q
+
+location-step-numbered : (e : Encoding) (s sofar : List ℕ) (t : ListStep) → NextNumbered {S = Along} FoundNumbered (locationStep e s sofar t)
+unfolding locationStep NextNumbered FoundNumbered
+location-step-numbered e s sofar (Entry x) = on-numbered sofar x _ (located-numbered e s x)
+location-step-numbered e s sofar End = tt
+location-step-numbered e s sofar NoEntry = no-five
+
+list-numbered : (e : Encoding) (s : List ℕ) (o : ListOffset) → FoundNumbered (listFound e s o)
+unfolding listFound
+list-numbered e s (At c) = walk-numbered {S = Along} FoundNumbered _ _ (λ p. location-step-numbered e s _ _) (found-numbered []) _ _ _
+list-numbered e s Unresolved = no-numbered [] 5 no-five
+
+attribute-numbered : (e : Encoding) (x : Locations) (a : Valued) → FoundNumbered (attributeFound e x a)
+unfolding attributeFound
+attribute-numbered e x a =
+    pick-either FoundNumbered _ _ _ (λ _. found-numbered _)
+    (λ _. pick-either FoundNumbered _ _ _ (λ _. no-numbered [] 7 no-seven)
+    (λ _. pick-either FoundNumbered _ _ _ (λ _. found-numbered _)
+    (λ _. pick-either FoundNumbered _ _ _ (λ _. expression-numbered e _)
+    (λ _. pick-either FoundNumbered _ _ _ (λ _. found-numbered _)
+    (λ _. pick-either FoundNumbered _ _ _ (λ _. list-numbered e _ _)
+    (λ _. pick-either FoundNumbered _ _ _ (λ _. list-numbered e _ _) (λ _. found-numbered _)))))))
+
+attributes-numbered : (e : Encoding) (x : Locations) (vs : List Valued) → FoundNumbered (attributesFound e x vs)
+unfolding attributesFound
+attributes-numbered e x [] = found-numbered []
+attributes-numbered e x (a ∷ vs) = then-numbered _ _ (attribute-numbered e x a) (attributes-numbered e x vs)
+
+pub scan-refusal : (e : Encoding) (x : Locations) (vs : List Valued) (xs : List ℕ) (n : ℕ) → attributesFound e x vs ≡ refusedAfter xs n → ScanRefusal n
+unfolding FoundNumbered
+scan-refusal e x vs xs n q = subst FoundNumbered q (attributes-numbered e x vs)
+
+-- ---- the analysis
+
+-- a refusal is one of some numbers
+unfoldable pub AnalysedOf : List ℕ → Analysed → Type 0
+AnalysedOf ms (analysed rows) = Unit {0}
+AnalysedOf ms (notAnalysed n) = OneOf ms n
+
+pub analysed-of : (ms : List ℕ) (a : Analysed) (n : ℕ) → AnalysedOf ms a → a ≡ notAnalysed n → OneOf ms n
+unfolding AnalysedOf
+analysed-of ms a n h q = subst (AnalysedOf ms) q h
+
+pub none-of : (ms : List ℕ) (n : ℕ) → OneOf ms n → AnalysedOf ms (notAnalysed n)
+unfolding AnalysedOf
+none-of ms n q = q
+
+pub rows-of : (ms : List ℕ) (rows : List EntryRow) → AnalysedOf ms (analysed rows)
+unfolding AnalysedOf
+rows-of ms rows = tt
+
+pub wider-of : (ms ks : List ℕ) (a : Analysed) → T (areOf ks ms) → AnalysedOf ms a → AnalysedOf ks a
+unfolding AnalysedOf
+wider-of ms ks (analysed rows) t h = tt
+wider-of ms ks (notAnalysed n) t h = wider ms ks n t h
+
+pub onto-of : (ms : List ℕ) (r : EntryRow) (a : Analysed) → AnalysedOf ms a → AnalysedOf ms (onto r a)
+unfolding onto AnalysedOf
+onto-of ms r (analysed rows) q = tt
+onto-of ms r (notAnalysed n) q = q
+
+pub verdict-of : (ms : List ℕ) → T (areOf ms (5 ∷ 6 ∷ [])) → (v : Verdict) (k : ℕ → Analysed) → VerdictNumbered v → ((n : ℕ) → AnalysedOf ms (k n))
+    → AnalysedOf ms (onVerdict v k)
+unfolding onVerdict VerdictNumbered
+verdict-of ms t Live k q h = h 1
+verdict-of ms t Dead k q h = h 0
+verdict-of ms t (Failed n) k q h = none-of ms n (wider (5 ∷ 6 ∷ []) ms n t q)
+
+pub names-of : (ms : List ℕ) → T (areOf ms (5 ∷ 7 ∷ [])) → (f : ReferencesFound) (k : List ℕ → Analysed) → FoundNumbered f
+    → ((xs : List ℕ) → f ≡ found xs → AnalysedOf ms (k xs)) → AnalysedOf ms (onFound f k)
+unfolding onFound FoundNumbered
+names-of ms t (found xs) k q h = h xs refl
+names-of ms t (refusedAfter xs n) k q h = none-of ms n (wider (5 ∷ 7 ∷ []) ms n t q)
+
+abbrev entryNumbers : List ℕ
+entryNumbers = 4 ∷ 10 ∷ 5 ∷ 6 ∷ 7 ∷ 11 ∷ []
+
+abbrev analysisNumbers : List ℕ
+analysisNumbers = 1 ∷ 2 ∷ 3 ∷ 4 ∷ 5 ∷ 6 ∷ 7 ∷ 10 ∷ 11 ∷ []
+
+module _ (e : Encoding) (x : Sections) (unit : List ℕ) where
+  pub root-of : (base : ℕ) (y : Entry′) → VerdictNumbered (rootOf e x unit base y)
+  unfolding rootOf
+  root-of base y = root-numbered e _ unit _ _
+
+  pub references-of : (base : ℕ) (y : Entry′) → FoundNumbered (namesOf e x unit base y)
+  unfolding namesOf
+  references-of base y = attributes-numbered e _ _
+
+  items-of : (room : Rooms) (p : Reached) (is : List Item) (whole : Bool) → AnalysedOf entryNumbers (analyseItems e x unit room p is whole)
+  unfolding analyseItems isOneOf areOf _or_ _and_
+  items-of room p [] true = rows-of entryNumbers []
+  items-of room p [] false = none-of entryNumbers 4 (one-of entryNumbers 4 tt)
+  items-of room p (terminator a b ∷ is) whole = items-of room _ is whole
+  items-of room p (entry y ∷ is) whole =
+      pick-either (AnalysedOf entryNumbers) _ _ _
+      (λ _. verdict-of entryNumbers tt _ _ (root-of _ y) (λ root. names-of entryNumbers tt _ _ (references-of _ y)
+      (λ names _. pick-either (AnalysedOf entryNumbers) _ _ _
+      (λ _. onto-of entryNumbers _ _ (items-of room _ is whole)) (λ _. none-of entryNumbers 11 (one-of entryNumbers 11 tt)))))
+      (λ _. none-of entryNumbers 10 (one-of entryNumbers 10 tt))
+
+pub declared-of : (ms : List ℕ) → OneOf ms 3 → (o : Option (List Placed)) (k : List Placed → Analysed) → ((ds : List Placed) → o ≡ some ds → AnalysedOf ms (k ds))
+    → AnalysedOf ms (onDeclared o k)
+unfolding onDeclared
+declared-of ms t none k h = none-of ms 3 t
+declared-of ms t (some ds) k h = h ds refl
+
+header-of : (x : Sections) (section : List ℕ) (room : Rooms) (h : HeaderRead) → HeaderNumbered h → AnalysedOf analysisNumbers (headerAnalysed x section room h)
+unfolding headerAnalysed unitAnalysed HeaderNumbered isOneOf areOf _or_ _and_
+header-of x section room Empty q = rows-of analysisNumbers []
+header-of x section room (Refused n) q = none-of analysisNumbers n (wider (1 ∷ 2 ∷ []) analysisNumbers n tt q)
+header-of x section room (Unit′ h) q =
+    declared-of analysisNumbers (one-of analysisNumbers 3 tt) _ _ (λ ds _. wider-of entryNumbers analysisNumbers _ tt (items-of _ x _ room _ _ _))
+
+analysis-of : (x : Sections) (section : List ℕ) (room : Rooms) → AnalysedOf analysisNumbers (analysisOf x section room)
+unfolding analysisOf
+analysis-of x section room = header-of x section room (headerOf section) (header-numbered section)
+
+-- "A refusal carries a number of document 01"
+pub analysis-refusal : (x : Sections) (section : List ℕ) (room : Rooms) (n : ℕ) → analysisOf x section room ≡ notAnalysed n → AnalysisRefusal n
+analysis-refusal x section room n q = analysed-of analysisNumbers (analysisOf x section room) n (analysis-of x section room) q
+
+-- where the header and the abbreviations are read, it is one of the entries
+declared-entries : (x : Sections) (section : List ℕ) (room : Rooms) (h : UnitHeader) (o : Option (List Placed)) (ds : List Placed) → o ≡ some ds
+    → AnalysedOf entryNumbers (onDeclared o (λ ds. analyseItems (h .encoding) x (take (h .end) section) room startOf (itemsFrom (h .encoding) (x .abbreviations) (declaredIn ds) (take (h .end) section) (h .first .0) .0) (itemsFrom (h .encoding) (x .abbreviations) (declaredIn ds) (take (h .end) section) (h .first .0) .1)))
+unfolding onDeclared
+declared-entries x section room h none ds q = let z : _≡_ {A = ℕ} 0 1 = cc in absurd (omega arith)
+declared-entries x section room h (some es) ds q = items-of (h .encoding) x (take (h .end) section) room _ _ _
+
+pub entries-refusal : (x : Sections) (section : List ℕ) (room : Rooms) (h : UnitHeader) (ds : List Placed) (n : ℕ)
+    → headerOf section ≡ Unit′ h → abbreviationsOf (x .abbreviations) (h .abbreviations) ≡ some ds → analysisOf x section room ≡ notAnalysed n → EntriesRefusal n
+unfolding analysisOf headerAnalysed unitAnalysed
+entries-refusal x section room h ds n q d a =
+    analysed-of entryNumbers _ n (declared-entries x section room h (abbreviationsOf (x .abbreviations) (h .abbreviations)) ds d)
+    (sym (ap (headerAnalysed x section room) q) ∙ a)
+
+-- ---- marks
+
+-- the marks of a unit are refused as its analysis is
+unfoldable MarksNumbered : UnitMarks → Type 0
+MarksNumbered (Marked n k) = Unit {0}
+MarksNumbered (Refused″ n) = AnalysisRefusal n
+
+marks-numbered : (a : Analysed) → AnalysedOf analysisNumbers a → MarksNumbered (unitMarks a)
+unfolding unitMarks MarksNumbered AnalysedOf
+marks-numbered (analysed rows) h = tt
+marks-numbered (notAnalysed n) h = h
+
+pub unit-marks-refusal : (x : Sections) (section : List ℕ) (room : Rooms) (n : ℕ) → unitMarks (analysisOf x section room) ≡ Refused″ n → AnalysisRefusal n
+unfolding MarksNumbered
+unit-marks-refusal x section room n q = subst MarksNumbered q (marks-numbered (analysisOf x section room) (analysis-of x section room))
+
+-- `mark`: 16
+unfoldable MarkNumbered : Marked′ → Type 0
+MarkNumbered (KeptCount n) = Unit {0}
+MarkNumbered (Refused′ n) = MarkRefusal n
+
+pub mark-refusal : (g : Graph) (n k : ℕ) → answerOf g n ≡ Refused′ k → MarkRefusal k
+unfolding answerOf MarkNumbered isOneOf _or_
+mark-refusal g n k q =
+    subst MarkNumbered q
+    (pick-either MarkNumbered (takes g n) (KeptCount (keptCount (marksOf g))) (Refused′ 16) (λ _. tt) (λ _. one-of _ 16 tt))

@@ -1,0 +1,126 @@
+-- "A refusal carries a number of document 01": the header's is 1 or 2, that of the references of an expression 2, 5, 7 or 11. Assumes nothing.
+use mathlib.Core.Path.{_≡_, refl, sym, subst}
+use Prim.Native.Nat.{ℕ, _-_, _/_}
+use mathlib.Core.Bool.{Bool, true, false}
+use mathlib.Core.List.{List, [], _∷_}
+use mathlib.Core.Logic.{_⊎_, inl, inr, ⊎-elim}
+use lib.ListN.{length}
+use lib.Dec.{T, eqb, leb}
+use mir.Facts.{eqb-yes}
+use Rattle.readers.specs.Choice.{pick, _and_, _or_}
+use Rattle.readers.proofs.Choice.{pick-either, either}
+use Rattle.readers.specs.Header.{present, right, encodingOf, headerMade, headerFields, headerOf}
+use Rattle.readers.specs.References.{walkOf, walkAnswer, referencesAnswer}
+use Rattle.laws.specs.RefusalNumbers.{OneOf, HeaderRefusal, ReferencesRefusal}
+use Rattle.readers.specs.declared.cursor.Number.{Number}
+use Rattle.readers.specs.declared.cursor.Number.the-variants.{Value, Unreadable}
+use Rattle.readers.specs.declared.header.HeaderRead.{HeaderRead}
+use Rattle.readers.specs.declared.header.HeaderRead.the-variants.{Unit as Unit′, Empty, Refused}
+use Rattle.readers.specs.declared.expressions.Walk.{Walk}
+use Rattle.readers.specs.declared.expressions.Walk.the-variants.{Walked, Unreadable as NoWalk}
+use Rattle.readers.specs.declared.expressions.References.{References}
+use Rattle.readers.specs.declared.expressions.References.the-variants.{Count, Refused as Refused′}
+
+-- ---- one of some numbers
+
+-- the test of it, and of some numbers that they are among others
+unfoldable pub isOneOf : List ℕ → ℕ → Bool
+isOneOf [] n = false
+isOneOf (m ∷ ms) n = eqb n m or isOneOf ms n
+
+unfoldable pub areOf : List ℕ → List ℕ → Bool
+areOf ks [] = true
+areOf ks (m ∷ ms) = isOneOf ks m and areOf ks ms
+
+or-cases : (a b : Bool) → T (a or b) → T a ⊎ T b
+unfolding _or_
+or-cases true b t = inl tt
+or-cases false b t = inr t
+
+and-both : (a b : Bool) → T (a and b) → T a × T b
+unfolding _and_
+and-both true b t = (tt, t)
+and-both false b t = absurd t
+
+pub one-of : (ms : List ℕ) (n : ℕ) → T (isOneOf ms n) → OneOf ms n
+unfolding OneOf isOneOf
+one-of [] n t = t
+one-of (m ∷ ms) n t = ⊎-elim (λ e. inl (eqb-yes {a = n} {b = m} e)) (λ u. inr (one-of ms n u)) (or-cases (eqb n m) (isOneOf ms n) t)
+
+-- one of a few is one of more
+pub wider : (ms ks : List ℕ) (n : ℕ) → T (areOf ks ms) → OneOf ms n → OneOf ks n
+unfolding OneOf areOf
+wider [] ks n t o = absurd o
+wider (m ∷ ms) ks n t (inl e) = subst (OneOf ks) (sym e) (one-of ks m (and-both (isOneOf ks m) (areOf ks ms) t .0))
+wider (m ∷ ms) ks n t (inr o) = wider ms ks n (and-both (isOneOf ks m) (areOf ks ms) t .1) o
+
+-- one of one
+pub alone : (m n : ℕ) → OneOf (m ∷ []) n → n ≡ m
+unfolding OneOf
+alone m n (inl e) = e
+alone m n (inr o) = absurd o
+
+-- ---- the header: 1 or 2
+
+unfoldable pub HeaderNumbered : HeaderRead → Type 0
+HeaderNumbered Empty = Unit {0}
+HeaderNumbered (Refused n) = HeaderRefusal n
+HeaderNumbered (Unit′ h) = Unit {0}
+
+one-numbered : HeaderNumbered (Refused 1)
+unfolding HeaderNumbered isOneOf _or_
+one-numbered = one-of _ 1 tt
+
+two-numbered : HeaderNumbered (Refused 2)
+unfolding HeaderNumbered isOneOf _or_
+two-numbered = one-of _ 2 tt
+
+present-numbered : (v : Number) (k : ℕ → HeaderRead) → ((n : ℕ) → HeaderNumbered (k n)) → HeaderNumbered (present v k)
+unfolding present
+present-numbered (Value v c) k h = h v
+present-numbered Unreadable k h = one-numbered
+
+right-numbered : (b : Bool) (h : HeaderRead) → HeaderNumbered h → HeaderNumbered (right b h)
+unfolding right
+right-numbered b h q = pick-either HeaderNumbered b h (Refused 2) (λ _. q) (λ _. two-numbered)
+
+made-numbered : (u : List ℕ) (t a o f : ℕ) → HeaderNumbered (headerMade u t a o f)
+unfolding headerMade HeaderNumbered
+made-numbered u t a o f = tt
+
+fields-numbered : (u : List ℕ) → HeaderNumbered (headerFields u)
+unfolding headerFields
+fields-numbered u =
+    present-numbered _ _ (λ v. right-numbered _ _ (present-numbered _ _ (λ t. right-numbered _ _
+    (present-numbered _ _ (λ a. right-numbered _ _ (present-numbered _ _ (λ o.
+    pick-either HeaderNumbered (eqb t 1) _ _ (λ _. made-numbered u t a o 12) (λ _. present-numbered _ _ (λ _. made-numbered u t a o 20)))))))))
+
+pub header-numbered : (s : List ℕ) → HeaderNumbered (headerOf s)
+unfolding headerOf HeaderNumbered
+header-numbered s =
+    pick-either HeaderNumbered (eqb (length s) 0) Empty _ (λ _. tt)
+    (λ _. present-numbered _ _ (λ n. pick-either HeaderNumbered (leb 0xfffffff0 n) (Refused 2) _ (λ _. two-numbered)
+    (λ _. pick-either HeaderNumbered (leb n (length s - 4)) _ (Refused 1) (λ _. fields-numbered _) (λ _. one-numbered))))
+
+pub header-refusal : (s : List ℕ) (n : ℕ) → headerOf s ≡ Refused n → HeaderRefusal n
+unfolding HeaderNumbered
+header-refusal s n q = subst HeaderNumbered q (header-numbered s)
+
+-- ---- the references of an expression: 2, 5, 7 or 11
+
+unfoldable ReferencesNumbered : References → Type 0
+ReferencesNumbered (Count n) = Unit {0}
+ReferencesNumbered (Refused′ n) = ReferencesRefusal n
+
+walk-numbered : (room : ℕ) (w : Walk) → ReferencesNumbered (walkAnswer room w)
+unfolding walkAnswer ReferencesNumbered isOneOf _or_
+walk-numbered room NoWalk = one-of _ 5 tt
+walk-numbered room (Walked n true) = one-of _ 7 tt
+walk-numbered room (Walked n false) = pick-either ReferencesNumbered (leb n room) (Count n) (Refused′ 11) (λ _. tt) (λ _. one-of _ 11 tt)
+
+pub references-refusal : (n numbers : ℕ) (s : List ℕ) (k : ℕ) → referencesAnswer n numbers s ≡ Refused′ k → ReferencesRefusal k
+unfolding referencesAnswer ReferencesNumbered isOneOf _or_
+references-refusal n numbers s k q =
+    subst ReferencesNumbered q
+    (pick-either ReferencesNumbered (eqb n 4 or eqb n 8) (walkAnswer (numbers / 3) (walkOf (encodingOf n) s)) (Refused′ 2)
+    (λ _. walk-numbered (numbers / 3) (walkOf (encodingOf n) s)) (λ _. one-of _ 2 tt))

@@ -1,0 +1,3 @@
+-- Full and short.
+pub mod TableRoom
+pub mod RoomLaws

@@ -1,0 +1,21 @@
+-- What is left out of a unit: the items that are not kept.
+use Prim.Native.Nat.{ℕ, suc, _+_}
+use mathlib.Core.Bool.{Bool, not}
+use mathlib.Core.List.{List, [], _∷_}
+use lib.ListN.{length}
+use Rattle.marking.specs.Marks.{isKept}
+use Rattle.readers.specs.Stream.{Item, entry, terminator}
+use Rattle.rewriting.specs.Places.{NestedItem, opened, closed, innermost, withIf, sizeOf}
+
+unfoldable pub leftFrom : List ℕ → ℕ → List Bool → List Item → List NestedItem
+leftFrom marks k stack [] = []
+leftFrom marks k stack (entry x ∷ rest) =
+    withIf (not (isKept marks k)) (record { item = entry x; depth = length stack })
+    (leftFrom marks (suc k) (opened (x .declaration .children) (isKept marks k) stack) rest)
+leftFrom marks k stack (terminator a b ∷ rest) =
+    withIf (not (innermost stack)) (record { item = terminator a b; depth = length stack }) (leftFrom marks k (closed stack) rest)
+
+-- the sizes of items together
+unfoldable pub sizesOf : List Item → ℕ
+sizesOf [] = 0
+sizesOf (i ∷ rest) = sizeOf i + sizesOf rest

@@ -1,0 +1,59 @@
+-- The numbers that each call refuses with (document 01, "Operations and their numbers").
+use mathlib.Core.Path.{_≡_}
+use Prim.Native.Nat.{ℕ}
+use mathlib.Core.Logic.{_⊎_}
+use mathlib.Core.List.{List, [], _∷_}
+
+-- n is one of some numbers
+unfoldable pub OneOf : List ℕ → ℕ → Type 0
+OneOf [] n = ⊥
+OneOf (m ∷ ms) n = (n ≡ m) ⊎ OneOf ms n
+
+-- "Header in byte order: 1 cut short .., 2 a value outside the domain"
+abbrev pub HeaderRefusal : ℕ → Type 0
+HeaderRefusal n = OneOf (1 ∷ 2 ∷ []) n
+
+-- "references of an expression. In this order 2 (address size not 4 or 8), 5, 7, 11"
+abbrev pub ReferencesRefusal : ℕ → Type 0
+ReferencesRefusal n = OneOf (2 ∷ 5 ∷ 7 ∷ 11 ∷ []) n
+
+-- "root test 5 (unreadable list or expression) or 6 (address table fails)"
+abbrev pub RootRefusal : ℕ → Type 0
+RootRefusal n = OneOf (5 ∷ 6 ∷ []) n
+
+-- "references in attribute order 5 or 7"
+abbrev pub ScanRefusal : ℕ → Type 0
+ScanRefusal n = OneOf (5 ∷ 7 ∷ []) n
+
+-- "Then entry by entry: 4 unreadable entry; 10 entry table full; root test ..; references ..; once the entry's references
+-- are read, 11 reference table full."
+abbrev pub EntriesRefusal : ℕ → Type 0
+EntriesRefusal n = OneOf (4 ∷ 10 ∷ 5 ∷ 6 ∷ 7 ∷ 11 ∷ []) n
+
+-- the header's 1 and 2, "3 abbreviations", and those of the entries
+abbrev pub AnalysisRefusal : ℕ → Type 0
+AnalysisRefusal n = OneOf (1 ∷ 2 ∷ 3 ∷ 4 ∷ 5 ∷ 6 ∷ 7 ∷ 10 ∷ 11 ∷ []) n
+
+-- the same with tables that are long enough
+abbrev pub InputRefusal : ℕ → Type 0
+InputRefusal n = OneOf (1 ∷ 2 ∷ 3 ∷ 4 ∷ 5 ∷ 6 ∷ 7 ∷ []) n
+
+-- "mark": 16
+abbrev pub MarkRefusal : ℕ → Type 0
+MarkRefusal n = OneOf (16 ∷ []) n
+
+abbrev pub CollectRefusal : ℕ → Type 0
+CollectRefusal n = OneOf (1 ∷ 2 ∷ 3 ∷ 4 ∷ 5 ∷ 6 ∷ 7 ∷ 8 ∷ 9 ∷ 10 ∷ 11 ∷ 12 ∷ 13 ∷ 14 ∷ []) n
+
+-- the same with room enough
+abbrev pub RoomyRefusal : ℕ → Type 0
+RoomyRefusal n = OneOf (1 ∷ 2 ∷ 3 ∷ 4 ∷ 5 ∷ 6 ∷ 7 ∷ 8 ∷ 9 ∷ []) n
+
+-- "padded number": 15
+abbrev pub PaddedRefusal : ℕ → Type 0
+PaddedRefusal n = OneOf (15 ∷ []) n
+
+-- 256 untouched, 257 rewritten, and 2 more where the counts have no room
+abbrev pub CallNumber : ℕ → Type 0
+CallNumber n =
+    OneOf (1 ∷ 2 ∷ 3 ∷ 4 ∷ 5 ∷ 6 ∷ 7 ∷ 8 ∷ 9 ∷ 10 ∷ 11 ∷ 12 ∷ 13 ∷ 14 ∷ 256 ∷ 257 ∷ 258 ∷ 259 ∷ []) n

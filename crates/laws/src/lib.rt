@@ -1,0 +1,1 @@
+// What is claimed of every answer: the definitions of it in specs/, its proofs in proofs/. No functions.

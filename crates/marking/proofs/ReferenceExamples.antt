@@ -1,0 +1,46 @@
+-- The scan of references computed, by the definitions alone (docs/DECISIONS.md has the points).
+use mathlib.Core.Path.{_≡_, refl}
+use mathlib.Core.List.{[], _∷_}
+use Rattle.readers.specs.Choice.{pick, check, bind, _and_, _or_}
+use Rattle.readers.specs.Numbers.{groups, below, uleb, unsigned64, ordered, littleValue, fixedValue}
+use Rattle.readers.specs.Layout.{asBytes, width, asLeb, copy, asNumber, asLink, asBounded, asBlock, asExpression}
+use Rattle.readers.specs.Layout.{before, numberIn, tokenIn, readIn, numberBytes, pieceBytes, bytesOf}
+use Rattle.readers.specs.Tokens.{numberAs, tokenOf}
+use Rattle.readers.specs.Operations.{unreadableRow, rows, rowOf, rowLayout, operations, rowAmong, operationRow}
+use Rattle.readers.specs.Operations.{operation, locationEntries, listRow}
+use Rattle.readers.specs.Expression.{allPieces, andRest, expressionWithin, expressionIn}
+use Rattle.readers.specs.References.{nameIn, namesIn, isAbsolute, anyAbsolute, asWalk, walkOf, namesOr, referencesIn}
+use Rattle.readers.specs.Cursors.{cursor}
+use Rattle.readers.specs.Fields.{linkedValue, size, fieldOf, rowOfReads}
+use Rattle.readers.specs.Steps.{listEntry, rowEntry, entryOfReads, asListStep, listEntryAt}
+use Rattle.readers.specs.Header.{encodingOf}
+use Rattle.readers.specs.declared.lists.ListOffset.the-variants.{At, Unresolved}
+use Rattle.marking.specs.Walking.{onNext, walkWithin, walk}
+use Rattle.marking.specs.EntryReferences.{found, refused, targets, walkFound, expressionFound, partOf}
+use Rattle.marking.specs.EntryReferences.{locationFound, onFound, locationStep, listFound}
+
+expressions :
+    (expressionFound (encodingOf 8) (0x98 ∷ 0 ∷ 0 ∷ []) ≡ found (0 ∷ []))  -- call2 names 0 too
+    × (expressionFound (encodingOf 8) (0xa8 ∷ 0 ∷ []) ≡ found [])  -- convert to no type
+    × (expressionFound (encodingOf 8) (0xa3 ∷ 3 ∷ 0x98 ∷ 7 ∷ 0 ∷ 0xa8 ∷ 9 ∷ []) ≡ found (7 ∷ 9 ∷ []))  -- an entry value's, in walk order
+    × (expressionFound (encodingOf 8) (0xfd ∷ 0 ∷ 0 ∷ 0 ∷ 0 ∷ []) ≡ refused [] 7)
+    × (expressionFound (encodingOf 8) (0x9a ∷ 0 ∷ 0 ∷ 0 ∷ 0 ∷ 0xa3 ∷ 1 ∷ 0xff ∷ []) ≡ refused [] 5)  -- 5 before 7, nested ones too
+unfolding expressionFound walkFound targets walkOf asWalk referencesIn namesOr namesIn nameIn anyAbsolute isAbsolute
+    expressionIn expressionWithin andRest allPieces encodingOf operation operationRow operations rowAmong rowOf rows
+    unreadableRow rowLayout tokenOf numberAs readIn tokenIn numberIn before asNumber asBounded asLink asBlock
+    asExpression asLeb copy uleb groups below unsigned64 fixedValue ordered littleValue width bytesOf pieceBytes
+    numberBytes pick check bind _and_ _or_
+expressions = (refl, refl, refl, refl, refl)
+
+lists :
+    (listFound (encodingOf 8) (5 ∷ 3 ∷ 0x98 ∷ 0x63 ∷ 0 ∷ 0 ∷ []) (At (cursor 0)) ≡ found (0x63 ∷ []))  -- a default location, and the end
+    × (listFound (encodingOf 8) (5 ∷ 5 ∷ 0x9a ∷ 0 ∷ 0 ∷ 0 ∷ 0 ∷ 0xff ∷ []) (At (cursor 0)) ≡ refused [] 7)  -- judged before the next entry is read
+    × (listFound (encodingOf 8) (1 ∷ 0 ∷ 9 ∷ []) (At (cursor 0)) ≡ refused [] 5)  -- an unknown kind
+    × (listFound (encodingOf 8) [] Unresolved ≡ refused [] 5)
+unfolding listFound locationStep onFound locationFound partOf walk walkWithin onNext listEntryAt asListStep entryOfReads
+    rowEntry listEntry listRow locationEntries asBytes size fieldOf linkedValue rowOfReads expressionFound walkFound
+    targets walkOf asWalk referencesIn namesOr namesIn nameIn anyAbsolute isAbsolute expressionIn expressionWithin
+    andRest allPieces encodingOf operation operationRow operations rowAmong rowOf rows unreadableRow rowLayout tokenOf
+    numberAs readIn tokenIn numberIn before asNumber asBounded asLink asBlock asExpression asLeb copy uleb groups below
+    unsigned64 fixedValue ordered littleValue width bytesOf pieceBytes numberBytes pick check bind _and_ _or_
+lists = (refl, refl, refl, refl)

@@ -1,0 +1,103 @@
+-- Worked examples: tables 7.7 and 7.8 of DWARF 5, and what document 01 says of numbers, headers, abbreviations and
+-- expressions, computed by the definitions.
+use mathlib.Core.Path.{_≡_, refl}
+use Prim.Native.Nat.{ℕ, _^_, _-_}
+use mathlib.Core.Bool.{true, false}
+use mathlib.Core.List.{List, [], _∷_}
+use mathlib.Core.Option.{none, some}
+use Rattle.readers.specs.Choice.{pick, check, bind, _and_, _or_}
+use Rattle.readers.specs.Numbers.{groups, below, uleb, unsigned64, sleb, signed64, negative, ordered, littleValue, fixedValue}
+use Rattle.readers.specs.Layout.{short, within16, numberIn, width}
+use Rattle.readers.specs.Cursors.{fixedAt, asFixed, lebAt, asLebNumber}
+use Rattle.readers.specs.Scan.{push, onTurn, scanWithin, scan}
+use Rattle.readers.specs.Slots.{codeOf, slotCode, slotWithin, slotOf}
+use Rattle.readers.specs.Abbreviations.{numberSpec, implicitSpec, specAt, specTurn, attributesFrom, scannedTo}
+use Rattle.readers.specs.Abbreviations.{pastAttributes, numberDeclaration, movedDeclaration, headAt}
+use Rattle.readers.specs.Abbreviations.{wholeDeclaration, declarationAt, declarationTurn, declarationsFrom}
+use Rattle.readers.specs.Abbreviations.{declaredIn, isFound, distinct, checkDistinct, abbreviationsOf}
+use Rattle.readers.specs.Abbreviations.{insertByCode, byCode, slotsOf, indexed, indexFor, indexOf}
+use Rattle.readers.specs.Header.{present, right, encodingOf, headerMade, headerFields, headerOf}
+use Rattle.readers.specs.declared.header.HeaderRead.the-variants.{Empty, Refused}
+
+-- ---- 7.6, table 7.7: unsigned numbers
+
+uleb-examples :
+    (uleb (0x02 ∷ []) ≡ some (0, 2, []))
+    × (uleb (0x7f ∷ []) ≡ some (0, 127, []))
+    × (uleb (0x80 ∷ 0x01 ∷ []) ≡ some (1, 128, []))
+    × (uleb (0x81 ∷ 0x01 ∷ []) ≡ some (1, 129, []))
+    × (uleb (0xb9 ∷ 0x64 ∷ []) ≡ some (1, 12857, []))
+unfolding uleb groups below unsigned64 pick check bind
+uleb-examples = (refl, refl, refl, refl, refl)
+
+-- ---- 7.6, table 7.8: signed numbers, as two's complement
+
+sleb-examples :
+    (sleb (0x02 ∷ []) ≡ some (0, 2, []))
+    × (sleb (0x7e ∷ []) ≡ some (0, 2 ^ 64 - 2, []))
+    × (sleb (0xff ∷ 0x00 ∷ []) ≡ some (1, 127, []))
+    × (sleb (0x81 ∷ 0x7f ∷ []) ≡ some (1, 2 ^ 64 - 127, []))
+    × (sleb (0x80 ∷ 0x01 ∷ []) ≡ some (1, 128, []))
+    × (sleb (0x80 ∷ 0x7f ∷ []) ≡ some (1, 2 ^ 64 - 128, []))
+    × (sleb (0x81 ∷ 0x01 ∷ []) ≡ some (1, 129, []))
+    × (sleb (0xff ∷ 0x7e ∷ []) ≡ some (1, 2 ^ 64 - 129, []))
+unfolding sleb groups below signed64 negative pick check bind
+sleb-examples = (refl, refl, refl, refl, refl, refl, refl, refl)
+
+-- ---- at most ten bytes, within 64 bits; padding is taken
+
+limits :
+    (uleb (0xff ∷ 0xff ∷ 0xff ∷ 0xff ∷ 0xff ∷ 0xff ∷ 0xff ∷ 0xff ∷ 0xff ∷ 0x01 ∷ []) ≡ some (9, 2 ^ 64 - 1, []))
+    × (uleb (0xff ∷ 0xff ∷ 0xff ∷ 0xff ∷ 0xff ∷ 0xff ∷ 0xff ∷ 0xff ∷ 0xff ∷ 0x02 ∷ []) ≡ none)
+    × (uleb (0x80 ∷ 0x80 ∷ 0x80 ∷ 0x80 ∷ 0x80 ∷ 0x80 ∷ 0x80 ∷ 0x80 ∷ 0x80 ∷ 0x00 ∷ []) ≡ some (9, 0, []))
+    × (uleb (0x80 ∷ 0x80 ∷ 0x80 ∷ 0x80 ∷ 0x80 ∷ 0x80 ∷ 0x80 ∷ 0x80 ∷ 0x80 ∷ 0x80 ∷ 0x00 ∷ []) ≡ none)
+    × (uleb (0x80 ∷ []) ≡ none)
+    × (sleb (0x80 ∷ 0x80 ∷ 0x80 ∷ 0x80 ∷ 0x80 ∷ 0x80 ∷ 0x80 ∷ 0x80 ∷ 0x80 ∷ 0x7f ∷ []) ≡ some (9, 2 ^ 63, []))
+    × (sleb (0x80 ∷ 0x80 ∷ 0x80 ∷ 0x80 ∷ 0x80 ∷ 0x80 ∷ 0x80 ∷ 0x80 ∷ 0x80 ∷ 0x01 ∷ []) ≡ none)
+    × (short (0xff ∷ 0xff ∷ 0x03 ∷ []) ≡ some (2, 65535, []))
+    × (short (0x80 ∷ 0x80 ∷ 0x04 ∷ []) ≡ none)
+    × (short (0x81 ∷ 0x80 ∷ 0x80 ∷ 0x00 ∷ []) ≡ none)
+unfolding uleb sleb short within16 groups below unsigned64 signed64 negative pick check bind
+limits = (refl, refl, refl, refl, refl, refl, refl, refl, refl, refl)
+
+-- ---- fixed widths, in either order
+
+orders :
+    (fixedValue false (0x12 ∷ 0x34 ∷ 0x56 ∷ []) ≡ 0x563412)
+    × (fixedValue true (0x12 ∷ 0x34 ∷ 0x56 ∷ []) ≡ 0x123456)
+unfolding fixedValue ordered littleValue
+orders = (refl, refl)
+
+-- ---- the order of the header's refusals: the length before what follows it, then each field first there, then right
+
+headers :
+    (headerOf [] ≡ Empty)
+    × (headerOf (0x08 ∷ 0 ∷ 0 ∷ []) ≡ Refused 1)
+    × (headerOf (0xf0 ∷ 0xff ∷ 0xff ∷ 0xff ∷ []) ≡ Refused 2)
+    × (headerOf (0x03 ∷ 0 ∷ 0 ∷ 0 ∷ 4 ∷ 0 ∷ []) ≡ Refused 1)
+    × (headerOf (0x02 ∷ 0 ∷ 0 ∷ 0 ∷ 4 ∷ 0 ∷ []) ≡ Refused 2)
+    × (headerOf (0x02 ∷ 0 ∷ 0 ∷ 0 ∷ 5 ∷ 0 ∷ 1 ∷ 8 ∷ 0 ∷ 0 ∷ 0 ∷ 0 ∷ []) ≡ Refused 1)
+    × (headerOf (0x08 ∷ 0 ∷ 0 ∷ 0 ∷ 5 ∷ 0 ∷ 2 ∷ 8 ∷ 0 ∷ 0 ∷ 0 ∷ 0 ∷ []) ≡ Refused 2)
+    × (headerOf (0x08 ∷ 0 ∷ 0 ∷ 0 ∷ 5 ∷ 0 ∷ 1 ∷ 3 ∷ 0 ∷ 0 ∷ 0 ∷ 0 ∷ []) ≡ Refused 2)
+    × (headerOf (0x08 ∷ 0 ∷ 0 ∷ 0 ∷ 5 ∷ 0 ∷ 5 ∷ 8 ∷ 0 ∷ 0 ∷ 0 ∷ 0 ∷ []) ≡ Refused 1)
+unfolding headerOf headerFields present right headerMade encodingOf fixedAt asFixed numberIn width fixedValue
+    ordered littleValue pick check _or_
+headers = (refl, refl, refl, refl, refl, refl, refl, refl, refl)
+
+-- ---- the index: declarations with the codes 9, 2 and 5 at 0, 5 and 10 in the order of their codes; zeros where it has no room for them
+
+nine-two-five : List ℕ
+nine-two-five = 9 ∷ 0x34 ∷ 0 ∷ 0 ∷ 0 ∷ 2 ∷ 0x34 ∷ 0 ∷ 0 ∷ 0 ∷ 5 ∷ 0x34 ∷ 0 ∷ 0 ∷ 0 ∷ 0 ∷ []
+
+indices :
+    (indexOf nine-two-five 0 5 ≡ 6 ∷ 11 ∷ 1 ∷ 0 ∷ 0 ∷ [])
+    × (indexOf nine-two-five 0 2 ≡ 0 ∷ 0 ∷ [])
+    × (slotOf nine-two-five (6 ∷ 11 ∷ 1 ∷ 0 ∷ 0 ∷ []) 2 ≡ 0)
+    × (slotOf nine-two-five (6 ∷ 11 ∷ 1 ∷ 0 ∷ 0 ∷ []) 5 ≡ 1)
+    × (slotOf nine-two-five (6 ∷ 11 ∷ 1 ∷ 0 ∷ 0 ∷ []) 9 ≡ 2)
+unfolding nine-two-five indexOf indexFor indexed slotsOf byCode insertByCode abbreviationsOf checkDistinct distinct
+    isFound declaredIn declarationsFrom declarationTurn declarationAt headAt wholeDeclaration movedDeclaration
+    numberDeclaration pastAttributes scannedTo attributesFrom specTurn specAt implicitSpec numberSpec slotOf
+    slotWithin slotCode codeOf scan scanWithin onTurn push lebAt asLebNumber short within16 uleb groups below
+    unsigned64 fixedAt asFixed numberIn width fixedValue ordered littleValue pick check bind _and_ _or_
+indices = (refl, refl, refl, refl, refl)

@@ -1,0 +1,8 @@
+-- What only contracts inside this crate, and proofs, need.
+pub mod Abbreviations
+pub mod Entries
+pub mod EntryAttributes
+pub mod Fields
+pub mod References
+pub mod Refusals
+pub mod Slots

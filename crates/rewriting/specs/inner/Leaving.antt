@@ -1,0 +1,143 @@
+-- What the parts of collect answer, and what they leave in the lent slices: after a refusal nothing is said of these.
+use mathlib.Core.Path.{_≡_}
+use Prim.Native.Nat.{ℕ, _/_, _≤_}
+use mathlib.Core.Bool.{Bool, true, false}
+use mathlib.Core.List.{List, []}
+use mathlib.Core.Option.{some}
+use lib.ListN.{length, take}
+use lib.Dec.{leb, eqb}
+use Rattle.readers.specs.Choice.{pick, _and_, zeros}
+use Rattle.readers.specs.Abbreviations.{Placed, abbreviationsOf, indexOf}
+use Rattle.readers.specs.Header.{headerOf}
+use Rattle.readers.specs.declared.header.UnitHeader.{UnitHeader}
+use Rattle.readers.specs.declared.header.HeaderRead.{HeaderRead}
+use Rattle.readers.specs.declared.header.HeaderRead.the-variants.{Unit as Header′, Empty, Refused as NoHeader}
+use Rattle.marking.specs.Analysis.{Sections, Rooms, EntryRow, analysed, analysisOf}
+use Rattle.marking.specs.Columns.{padTo, column, parentsIn, indexAfter}
+use Rattle.marking.specs.Marks.{keptCount}
+use Rattle.marking.specs.Resolution.{marksIn, unitMarks}
+use Rattle.marking.specs.declared.units.UnitMarks.{UnitMarks}
+use Rattle.marking.specs.declared.units.UnitMarks.the-variants.{Marked, Refused as NotMarked}
+use Rattle.rewriting.specs.Places.{keptFrom}
+use Rattle.rewriting.specs.Indices.{countOf}
+use Rattle.rewriting.specs.Rewriting.{Unit as Unit′, itemsIn, Lists, Room, Collected, untouched, rewritten, refused, noLists, marksCollected}
+use Rattle.rewriting.specs.inner.Emission.{ListsLent}
+use Rattle.rewriting.specs.Outputs.{listCount, answerFor, mapFor, outputFor, listOr, listFor, rangesIn, locationsIn, stringsIn}
+use Rattle.rewriting.specs.declared.collect.Listed.{Listed}
+use Rattle.rewriting.specs.declared.collect.Listed.the-variants.{Made, Short}
+use Rattle.rewriting.specs.declared.collect.Collected.{Collected as Answer}
+use Rattle.rewriting.specs.declared.collect.Collected.the-variants.{Untouched, Rewritten, Refused}
+use Rattle.rewriting.specs.declared.collect.Task.{Task}
+use Rattle.rewriting.specs.declared.collect.Task.the-variants.{Done, Rewrite}
+
+-- ---- the whole
+
+-- no refusal
+unfoldable pub Accepts : Collected → Type 0
+Accepts (untouched n l) = Unit {0}
+Accepts (rewritten w) = Unit {0}
+Accepts (refused n) = ⊥
+
+-- the answer, and the slices as they are left, by their lengths
+pub record Answers (c : Collected) (r : Answer) (map ranges locations strings out : ℕ)
+    (map′ ranges′ locations′ strings′ out′ : List ℕ) : Type 0 where
+  pub told : r ≡ answerFor c
+  pub map-left : Accepts c → map′ ≡ mapFor map c
+  pub ranges-left : Accepts c → ranges′ ≡ listFor rangesIn ranges c
+  pub locations-left : Accepts c → locations′ ≡ listFor locationsIn locations c
+  pub strings-left : Accepts c → strings′ ≡ listFor stringsIn strings c
+  pub out-left : Accepts c → out′ ≡ outputFor out c
+
+-- a slice once an answer is known: zeros after a refusal
+unfoldable pub leftBy : Answer → List ℕ → List ℕ
+leftBy (Untouched c) s = s
+leftBy (Rewritten c) s = s
+leftBy (Refused n) s = zeros (length s)
+
+-- ---- what is to be done once the entries are marked
+
+unfoldable pub headerTask : HeaderRead → ℕ → ℕ → Task
+headerTask Empty entries kept = Done (answerFor (untouched 0 noLists))
+headerTask (NoHeader n) entries kept = Done (Refused n)
+headerTask (Header′ h) entries kept = Rewrite h entries kept
+
+unfoldable pub taskOf : HeaderRead → UnitMarks → Task
+taskOf o (NotMarked n) = Done (Refused n)
+taskOf o (Marked entries kept) = pick (eqb entries 0) (Done (answerFor (untouched 0 noLists))) (headerTask o entries kept)
+
+-- the tables that marking leaves, and what is to be done
+pub record MarkedTables (x : Sections) (tables : Rooms) (section : List ℕ) (task : Task)
+    (abbreviations index parents ends marks : List ℕ) : Type 0 where
+  pub abbreviations-are : x .abbreviations ≡ abbreviations
+  pub task-is : task ≡ taskOf (headerOf section) (unitMarks (analysisOf x section tables))
+  pub index-is : index ≡ indexAfter (x .abbreviations) (headerOf section) (length index)
+  pub parents-are : parents ≡ column parentsIn (length parents) (analysisOf x section tables)
+  pub marks-are : marks ≡ column marksIn (length marks) (analysisOf x section tables)
+  pub ends-room : tables .entries ≤ length ends
+
+-- ---- a unit whose entries were marked
+
+-- the first unit of a section
+abbrev pub ownUnit : UnitHeader → List ℕ → List Placed → Unit′
+ownUnit h section ds = record { header = h; bytes = take (h .end) section; declared = ds }
+
+-- the tables that marking leaves, and its counts
+pub record Tabled (x : Sections) (tables : Rooms) (section : List ℕ) (h : UnitHeader) (ds : List Placed) (rows : List EntryRow)
+    (abbreviations index parents ends marks : List ℕ) (entries kept : ℕ) : Type 0 where
+  pub abbreviations-are : x .abbreviations ≡ abbreviations
+  pub header-is : headerOf section ≡ Header′ h
+  pub declared-are : abbreviationsOf (x .abbreviations) (h .abbreviations) ≡ some ds
+  pub analysis-is : analysisOf x section tables ≡ analysed rows
+  pub index-is : index ≡ indexOf (x .abbreviations) (h .abbreviations) (length index)
+  pub parents-are : parents ≡ padTo (length parents) (parentsIn rows)
+  pub marks-are : marks ≡ padTo (length marks) (marksIn rows)
+  pub ends-room : tables .entries ≤ length ends
+  pub entries-are : entries ≡ length (marksIn rows)
+  pub kept-are : kept ≡ keptCount (marksIn rows)
+
+-- slices that hold nothing yet
+pub record Blank (map ranges locations strings out : List ℕ) : Type 0 where
+  pub map-blank : map ≡ zeros (length map)
+  pub ranges-blank : ranges ≡ zeros (length ranges)
+  pub locations-blank : locations ≡ zeros (length locations)
+  pub strings-blank : strings ≡ zeros (length strings)
+  pub out-blank : out ≡ zeros (length out)
+
+-- the answer for it
+abbrev pub markedOf : Sections → Room → Bool → Unit′ → List EntryRow → Collected
+markedOf x room typeUnits u rows = marksCollected x room typeUnits u (marksIn rows) (keptFrom (marksIn rows) 0 [] (itemsIn x u))
+
+-- ---- its lists
+
+unfoldable pub haveRoom : Lists → ℕ → ℕ → ℕ → Bool
+haveRoom l ranges locations strings =
+    leb (countOf (l .ranges)) (ranges / 8) and leb (countOf (l .locations)) (locations / 8)
+    and leb (countOf (l .strings)) (strings / 8)
+
+pub record ListsAnswer (l : Lists) (ranges locations strings : ℕ) (r : Listed) (ranges′ locations′ strings′ : List ℕ) : Type 0 where
+  pub short : haveRoom l ranges locations strings ≡ false → r ≡ Short
+  pub made : haveRoom l ranges locations strings ≡ true → r ≡ Made (listCount (l .ranges)) (listCount (l .locations)) (listCount (l .strings))
+  pub lent : haveRoom l ranges locations strings ≡ true
+      → ListsLent l ranges′ (listCount (l .ranges)) locations′ (listCount (l .locations)) strings′ (listCount (l .strings))
+  pub ranges-left : haveRoom l ranges locations strings ≡ true → ranges′ ≡ listOr ranges (l .ranges)
+  pub locations-left : haveRoom l ranges locations strings ≡ true → locations′ ≡ listOr locations (l .locations)
+  pub strings-left : haveRoom l ranges locations strings ≡ true → strings′ ≡ listOr strings (l .strings)
+
+-- ---- its map and output
+
+-- what writing asks for besides a pass and the lists: the first entry inside the unit, little-endian numbers, the room that
+-- there is, nothing written yet
+pub record Writable (u : Unit′) (room : Room) (unit : List ℕ) (first : ℕ) (map out : List ℕ) : Type 0 where
+  pub first-is : first ≡ u .header .first .0
+  pub twelve : 12 ≤ first
+  pub inside : first ≤ length unit
+  pub little : u .header .encoding .«big_endian» ≡ false
+  pub places-are : room .places ≡ length map / 12
+  pub bytes-are : room .bytes ≡ length out
+  pub map-blank : map ≡ zeros (length map)
+  pub out-blank : out ≡ zeros (length out)
+
+pub record WriteAnswer (c : Collected) (r : Answer) (map out : ℕ) (map′ out′ : List ℕ) : Type 0 where
+  pub told : r ≡ answerFor c
+  pub map-left : Accepts c → map′ ≡ mapFor map c
+  pub out-left : Accepts c → out′ ≡ outputFor out c

@@ -1,0 +1,189 @@
+"""Units, bundles, and the files of the test crates: what the scripts of tests/ and oracle/ are built from.
+
+Bytes are hexadecimal text, or bytes as they stand. `H ..` is a unit by the bytes behind its header, which gets the
+right length: `H` has type 1 and address size 8, `H4` address size 4, `H5` type 5. Abbreviations are `code tag children
+name/form ..`, with `;` between them; `name/form/bytes` has implicit_const's value. A5 are
+those of the five-entry unit. T is a list section of 12 zeros and a table of one offset, 4; its list follows."""
+import importlib.util
+import os
+import subprocess
+import sys
+
+TESTS = os.path.dirname(os.path.abspath(__file__))
+CRATES = os.path.join(TESTS, '..', 'crates')
+A5 = '01 11 01 00 00 02 2e 00 11 1b 49 11 00 00 03 24 00 00 00 00'
+FIVE = 'H 01 020011 03 03 020110 00'
+T = '00' * 12 + '04000000'
+BIG = '808080808080808040'  # 2^62
+HEADERS = {'H': '0500 01 08 00000000', 'H4': '0500 01 04 00000000', 'H5': '0500 05 08 00000000 1122334455667788'}
+
+
+def need(*packages):
+    """Installs the Debian packages that are missing, or ends."""
+    if subprocess.run([os.path.join(TESTS, 'packages'), *packages]).returncode:
+        sys.exit(2)
+
+
+def need_module(name, package):
+    """The same for a package that holds a Python module."""
+    if importlib.util.find_spec(name) is None:
+        need(package)
+        importlib.invalidate_caches()
+
+
+# ---- bytes
+
+def octets(text):
+    return text if isinstance(text, bytes) else bytes.fromhex(text)
+
+
+def uleb(n):
+    out = b''
+    while n > 127:
+        out += bytes([n & 127 | 128])
+        n >>= 7
+    return out + bytes([n])
+
+
+def counted(data):
+    """Bytes after their number."""
+    return uleb(len(data)) + data
+
+
+def entry_values(levels, inside=b''):
+    """So many operations DW_OP_entry_value, each inside the one before."""
+    for _ in range(levels):
+        inside = b'\xa3' + counted(inside)
+    return inside
+
+
+def abbreviations(text):
+    out = b''
+    for words in (line.split() for line in text.split(';') if line.strip()):
+        out += uleb(int(words[0])) + uleb(int(words[1], 16)) + bytes(['children' in words])
+        for pair in (w.split('/') for w in words[2:] if w != 'children'):
+            out += b''.join(uleb(int(w, 16)) for w in pair[:2]) + b''.join(octets(w) for w in pair[2:])
+        out += bytes(2)
+    return out + bytes(1)
+
+
+def table(text):
+    """Abbreviations in bytes, or by a description, which has a `/` or a `;`."""
+    return octets(text) if isinstance(text, bytes) or not set(text) & set('/;') else abbreviations(text)
+
+
+def header(body, kind='H'):
+    rest = octets(HEADERS[kind]) + body
+    return len(rest).to_bytes(4, 'little') + rest
+
+
+def unit(text):
+    """A unit by `H ..`; its bytes behind H as bytes; any other text as it stands."""
+    if isinstance(text, bytes):
+        return header(text)
+    kind, _, body = text.partition(' ')
+    return header(octets(body), kind) if kind in HEADERS else octets(text)
+
+
+# ---- bundles: the length of the rest, version 1, five parts, each after its length
+
+def bundle(parts):
+    rest = b'\1' + b''.join(len(p).to_bytes(4, 'big') + p for p in parts)
+    return len(rest).to_bytes(4, 'big') + rest
+
+
+def bundle_of(of_unit, of_table, locations='', ranges='', addresses='', tail=''):
+    return bundle([unit(of_unit) + octets(tail), table(of_table)] + [octets(p) for p in (locations, ranges, addresses)])
+
+
+def parts(data):
+    """The five parts of a bundle; nothing where it is none."""
+    if int.from_bytes(data[:4], 'big') != len(data) - 4 or data[4:5] != b'\1':
+        return None
+    at, out = 5, []
+    for _ in range(5):
+        size = int.from_bytes(data[at:at + 4], 'big')
+        out.append(data[at + 4:at + 4 + size])
+        at += 4 + size
+    return out
+
+
+def bundles(stream):
+    """Bundles that stand one after another."""
+    out = []
+    while stream:
+        size = 4 + int.from_bytes(stream[:4], 'big')
+        out.append(stream[:size])
+        stream = stream[size:]
+    return out
+
+
+def placed(name, cases):
+    """The lines of a file of bundles: its name, and before each answer the place of its bundle."""
+    out, at = '== %s\n' % name, 0
+    for data, lines in cases:
+        out += '-- %d\n%s' % (at, lines)
+        at += len(data)
+    return out
+
+
+# ---- the files of a crate
+
+class Part:
+    """A part of a test crate's arguments and of what it prints: a heading, what is asked for, files, lines."""
+    def __init__(self, heading, word, files, lines):
+        self.heading = '# %s\n' % heading
+        self.args = word + '\n' + ''.join(f + '\n' for f in files) if word else None
+        self.lines = lines
+
+
+def by_heading(text):
+    """A file by its headings, in its order."""
+    out, at = {}, None
+    for line in text.splitlines(keepends=True):
+        if line.startswith('# '):
+            at = line
+            assert at not in out, at
+            out[at] = []
+        else:
+            out[at].append(line)
+    return {heading: ''.join(lines) for heading, lines in out.items()}
+
+
+def read(path):
+    if not os.path.exists(path):
+        return b''
+    with open(path, 'rb') as f:
+        return f.read()
+
+
+def with_parts(crate, made):
+    """args and stdout of a crate with these parts in place of theirs."""
+    args, stdout = (by_heading(read(os.path.join(CRATES, crate, name)).decode()) for name in ('args', 'stdout'))
+    for part in made:
+        stdout[part.heading] = part.lines
+        if part.args is not None:
+            args[part.heading] = part.args
+    return {crate + '/' + name: ''.join(h + text for h, text in held.items()).encode()
+            for name, held in (('args', args), ('stdout', stdout))}
+
+
+def write(made, checking):
+    """Writes files under crates/, or compares them: how many differ, or stand in data/ and are in no part."""
+    wrong = 0
+    for name, data in made.items():
+        path = os.path.join(CRATES, name)
+        if checking:
+            if not os.path.exists(path) or read(path) != data:
+                wrong += 1
+                print('%s differs' % name)
+        else:
+            os.makedirs(os.path.dirname(path), exist_ok=True)
+            with open(path, 'wb') as f:
+                f.write(data)
+    for crate in {name.split('/')[0] for name in made if name.endswith('/args')}:
+        named = read(os.path.join(CRATES, crate, 'args')).decode().splitlines()
+        for name in sorted(set(os.listdir(os.path.join(CRATES, crate, 'data'))) - set(named)):
+            wrong += 1
+            print('%s/data/%s is in no part' % (crate, name))
+    return wrong
