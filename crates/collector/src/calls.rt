@@ -33,15 +33,13 @@ pub extern "C" fn collector_collect_lent(
     out: &mut [u8],
     counts: &mut [u8],
 ) -> u64
-    ensures { λ r. ⌜
-        (let room =
-        roomOf (length (now (marks .entry))) (length (now (pairs .entry))) (length (now (offsets .entry)))
+    ensures { λ r. ⌜ (
+        let room = roomOf (length (now (marks .entry))) (length (now (pairs .entry))) (length (now (offsets .entry)))
         (length (now (parents .entry))) (length (now (roots .entry))) (length (now (ends .entry)))
         (length (now (targets .entry))) (length (now (map .entry))) (length (now («range_list» .entry)))
         (length (now («location_list» .entry))) (length (now («string_list» .entry))) (length (now (out .entry))) in
-        let answer =
-        collectedOf (now (section .entry)) (now (abbreviations .entry)) (now (locations .entry)) (now (ranges .entry))
-        (now (addresses .entry)) «ranges_base» «type_units» room in
+        let answer = collectedOf (now (section .entry)) (now (abbreviations .entry)) (now (locations .entry))
+        (now (ranges .entry)) (now (addresses .entry)) «ranges_base» «type_units» room in
         (r ≡ numberFor (length (now (counts .entry))) (answerFor answer))
         × (now (counts .exit) ≡ countsFor (length (now (counts .entry))) (answerFor answer))
         × (now (map .exit) ≡ mapFor (length (now (map .entry))) answer)
@@ -57,8 +55,8 @@ pub extern "C" fn collector_collect_lent(
         × (now (marks .exit) ≡ zeros (length (now (marks .entry))))
         × (now (targets .exit) ≡ zeros (length (now (targets .entry))))
         × (now (pairs .exit) ≡ zeros (length (now (pairs .entry))))
-        × (now (work .exit) ≡ zeros (length (now (work .entry)))))
-        ⌝ }
+        × (now (work .exit) ≡ zeros (length (now (work .entry))))
+        ) ⌝ }
 {
     let answer = collect(
         section,
@@ -103,21 +101,19 @@ pub extern "C" fn collector_collect(
     out: &mut [u8],
     counts: &mut [u8],
 ) -> u64
-    ensures { λ r. ⌜
-        (let room =
-        ownRoom (length (now (map .entry))) (length (now («range_list» .entry)))
+    ensures { λ r. ⌜ (
+        let room = ownRoom (length (now (map .entry))) (length (now («range_list» .entry)))
         (length (now («location_list» .entry))) (length (now («string_list» .entry))) (length (now (out .entry))) in
-        let answer =
-        collectedOf (now (section .entry)) (now (abbreviations .entry)) (now (locations .entry)) (now (ranges .entry))
-        (now (addresses .entry)) «ranges_base» «type_units» room in
+        let answer = collectedOf (now (section .entry)) (now (abbreviations .entry)) (now (locations .entry))
+        (now (ranges .entry)) (now (addresses .entry)) «ranges_base» «type_units» room in
         (r ≡ numberFor (length (now (counts .entry))) (answerFor answer))
         × (now (counts .exit) ≡ countsFor (length (now (counts .entry))) (answerFor answer))
         × (now (map .exit) ≡ mapFor (length (now (map .entry))) answer)
         × (now («range_list» .exit) ≡ listFor rangesIn (length (now («range_list» .entry))) answer)
         × (now («location_list» .exit) ≡ listFor locationsIn (length (now («location_list» .entry))) answer)
         × (now («string_list» .exit) ≡ listFor stringsIn (length (now («string_list» .entry))) answer)
-        × (now (out .exit) ≡ outputFor (length (now (out .entry))) answer))
-        ⌝ }
+        × (now (out .exit) ≡ outputFor (length (now (out .entry))) answer)
+        ) ⌝ }
 {
     let mut index = [0u64; 1024];
     let mut offsets = [0u64; 2048];

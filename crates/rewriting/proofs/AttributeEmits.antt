@@ -25,8 +25,8 @@ use Rattle.rewriting.specs.inner.Written.{asMapped}
 use Rattle.rewriting.specs.Rewriting.{Lists, newValue, piecesRefusal, readsRefusal, orSelf, listAt}
 use Rattle.rewriting.specs.Emission.{between}
 use Rattle.rewriting.specs.inner.Emission.{Wide, numberRefusal, offsetRefusal, lebForm, Lent}
-use Rattle.rewriting.specs.declared.emit.Emitted.{Emitted}
-use Rattle.rewriting.specs.declared.emit.Emitted.the-variants.{To}
+use Rattle.rewriting.specs.declared.emit_entry.Emitted.{Emitted}
+use Rattle.rewriting.specs.declared.emit_entry.Emitted.the-variants.{To}
 use Rattle.rewriting.specs.declared.lists.ListCount.{ListCount}
 use Rattle.rewriting.specs.declared.map.Mapped.{Mapped}
 use Rattle.rewriting.proofs.Emissions.{EmitsAt}

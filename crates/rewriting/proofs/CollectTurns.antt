@@ -25,11 +25,11 @@ use Rattle.rewriting.specs.Rewriting.{Unit as Unit′, readsOr, readsAt,
 use Rattle.rewriting.specs.inner.NextKept.{openKept, itemsBy, ShowsItem, Forward, Stood, keptAt, NextItem, Next, Answers}
 use Rattle.rewriting.specs.inner.Gathering.{Gathers}
 use Rattle.rewriting.specs.inner.IndexLists.{valueIndices, ReadAs, TablesFound, ReadDeep, AllRead, PassInput, Puts}
-use Rattle.rewriting.specs.declared.kept.Reading.{Reading}
-use Rattle.rewriting.specs.declared.kept.PassPosition.{PassPosition}
-use Rattle.rewriting.specs.declared.kept.KeptItem.{KeptItem}
-use Rattle.rewriting.specs.declared.kept.KeptStep.{KeptStep}
-use Rattle.rewriting.specs.declared.kept.KeptStep.the-variants.{Item as Item′, End}
+use Rattle.rewriting.specs.declared.kept_items.Reading.{Reading}
+use Rattle.rewriting.specs.declared.kept_items.PassPosition.{PassPosition}
+use Rattle.rewriting.specs.declared.kept_items.KeptItem.{KeptItem}
+use Rattle.rewriting.specs.declared.kept_items.KeptStep.{KeptStep}
+use Rattle.rewriting.specs.declared.kept_items.KeptStep.the-variants.{Item as Item′, End}
 use Rattle.rewriting.proofs.ItemsStand.{Every, Stands, kept-stand}
 use Rattle.rewriting.proofs.EntryIndices.{StepIndices, deep-indices}
 use Rattle.rewriting.proofs.GatherLaws.{gathered-none}

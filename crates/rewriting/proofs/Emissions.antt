@@ -24,8 +24,8 @@ use Rattle.rewriting.specs.Emission.{between, copiedCount}
 use Rattle.rewriting.specs.inner.Emission.{Emits, Within, onward, Wide, holds, numberRefusal, offsetRefusal, Lent}
 use Rattle.rewriting.proofs.Putting.{fit-room, bytes-room}
 use Rattle.readers.specs.declared.offsets.UnitOffset.{UnitOffset}
-use Rattle.rewriting.specs.declared.emit.Emitted.{Emitted}
-use Rattle.rewriting.specs.declared.emit.Emitted.the-variants.{To, Refused}
+use Rattle.rewriting.specs.declared.emit_entry.Emitted.{Emitted}
+use Rattle.rewriting.specs.declared.emit_entry.Emitted.the-variants.{To, Refused}
 use Rattle.rewriting.specs.declared.lists.ListCount.{ListCount}
 use Rattle.rewriting.specs.declared.lists.ListCount.the-variants.{Present, Absent}
 use Rattle.rewriting.specs.declared.map.Mapped.{Mapped}

@@ -19,7 +19,7 @@ use Rattle.readers.specs.declared.entries.Step.the-variants.{Entry as Entry′,
 use Rattle.readers.specs.Stream.{entryCount}
 use Rattle.rewriting.specs.inner.Ends.{endNumber, EndsHeld}
 use Rattle.rewriting.specs.inner.NextKept.{itemsBy}
-use Rattle.rewriting.specs.declared.kept.Reading.{Reading}
+use Rattle.rewriting.specs.declared.kept_items.Reading.{Reading}
 use Rattle.rewriting.proofs.KeptSteps.{items-entry, items-terminator, items-end, items-bad}
 
 pub number-yes : (end : ℕ) (children : Bool) → children ≡ true → end < 2 ^ 32 → 2 * end + 1 ≡ endNumber end children

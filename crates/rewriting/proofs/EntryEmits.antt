@@ -46,8 +46,8 @@ use Rattle.readers.specs.declared.entry_attributes.NextAttribute.the-variants.{
 use Rattle.rewriting.specs.Places.{Place}
 use Rattle.rewriting.specs.Rewriting.{Lists, newValue, readsRefusal, piecesRefusal, orNext}
 use Rattle.rewriting.specs.Emission.{between}
-use Rattle.rewriting.specs.declared.emit.Emitted.{Emitted}
-use Rattle.rewriting.specs.declared.emit.Emitted.the-variants.{To, Refused}
+use Rattle.rewriting.specs.declared.emit_entry.Emitted.{Emitted}
+use Rattle.rewriting.specs.declared.emit_entry.Emitted.the-variants.{To, Refused}
 use Rattle.rewriting.proofs.DeepReads.{Like, like-width, like-patched, TokenAsBytes, token-as-bytes, LayoutAsBytes, as-bytes, TerminatorRead, EntryRead, deep-terminator, deep-entry, deep-inside}
 use Rattle.rewriting.proofs.Emissions.{EmitsAt, emits-none, emits-as, emits-then, emits-stop}
 use Rattle.rewriting.proofs.Splices.{next-zero}

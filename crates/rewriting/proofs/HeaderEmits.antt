@@ -17,7 +17,7 @@ use Rattle.rewriting.specs.Written.{over, put}
 use Rattle.rewriting.specs.inner.Written.{bytesFit, numberFits, unfit, Put}
 use Rattle.rewriting.specs.Emission.{headerBytes, headerFits, headerCount, headerOver}
 use Rattle.rewriting.specs.inner.Emission.{Within}
-use Rattle.rewriting.specs.declared.emit.Emitted.the-variants.{To}
+use Rattle.rewriting.specs.declared.emit_entry.Emitted.the-variants.{To}
 use Rattle.rewriting.proofs.Emissions.{within-to}
 use Rattle.rewriting.proofs.Putting.{and-first, and-second, true-first, true-second, over-room}
 

@@ -30,7 +30,7 @@ use Rattle.rewriting.specs.Rewriting.{Unit as Unit′, itemDeclares, any
 use Rattle.rewriting.specs.inner.NextKept.{itemsBy}
 use Rattle.rewriting.specs.inner.IndexLists.{formList, kindIndex, valueIndex, valueIndices, ReadAs, isAbsent}
 use Rattle.readers.proofs.FormKinds.{useList}
-use Rattle.rewriting.specs.declared.kept.Reading.{Reading}
+use Rattle.rewriting.specs.declared.kept_items.Reading.{Reading}
 use Rattle.rewriting.specs.declared.lists.ListCount.{ListCount}
 use Rattle.rewriting.specs.declared.lists.ListCount.the-variants.{Present, Absent}
 use Rattle.rewriting.proofs.KeptSteps.{items-entry, items-terminator, items-end, items-bad}

@@ -32,13 +32,13 @@ use Rattle.rewriting.specs.Rewriting.{Unit as Unit′, Lists, itemsIn, r
 use Rattle.rewriting.specs.inner.NextKept.{openKept, itemsBy, Stood, keptAt, NextItem, Answers}
 use Rattle.rewriting.specs.inner.IndexLists.{ReadDeep, AllRead, PassInput}
 use Rattle.rewriting.specs.Emission.{between}
-use Rattle.rewriting.specs.declared.emit.Emitted.{Emitted}
-use Rattle.rewriting.specs.declared.emit.Emitted.the-variants.{To, Refused}
-use Rattle.rewriting.specs.declared.kept.Reading.{Reading}
-use Rattle.rewriting.specs.declared.kept.PassPosition.{PassPosition}
-use Rattle.rewriting.specs.declared.kept.KeptItem.{KeptItem}
-use Rattle.rewriting.specs.declared.kept.KeptStep.{KeptStep}
-use Rattle.rewriting.specs.declared.kept.KeptStep.the-variants.{Item as Item′, End}
+use Rattle.rewriting.specs.declared.emit_entry.Emitted.{Emitted}
+use Rattle.rewriting.specs.declared.emit_entry.Emitted.the-variants.{To, Refused}
+use Rattle.rewriting.specs.declared.kept_items.Reading.{Reading}
+use Rattle.rewriting.specs.declared.kept_items.PassPosition.{PassPosition}
+use Rattle.rewriting.specs.declared.kept_items.KeptItem.{KeptItem}
+use Rattle.rewriting.specs.declared.kept_items.KeptStep.{KeptStep}
+use Rattle.rewriting.specs.declared.kept_items.KeptStep.the-variants.{Item as Item′, End}
 use Rattle.rewriting.proofs.DeepReads.{TerminatorRead, deep-kind, deep-terminator, deep-entry}
 use Rattle.rewriting.proofs.Emissions.{EmitsAt, emits-none, emits-as, emits-then, emits-stop}
 use Rattle.rewriting.proofs.ValueParts.{between-from, copied-refusal, copied-written}

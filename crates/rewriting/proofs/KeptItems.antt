@@ -12,8 +12,8 @@ use Rattle.readers.specs.declared.abbreviations.DeclarationFound.{DeclarationFo
 use Rattle.readers.specs.declared.entries.Entry.{Entry}
 use Rattle.readers.specs.declared.entries.Step.the-variants.{Entry as Entry′, Terminator}
 use Rattle.rewriting.specs.inner.NextKept.{openKept, ShowsItem, NextItem}
-use Rattle.rewriting.specs.declared.kept.PassPosition.{PassPosition}
-use Rattle.rewriting.specs.declared.kept.KeptItem.{KeptItem}
+use Rattle.rewriting.specs.declared.kept_items.PassPosition.{PassPosition}
+use Rattle.rewriting.specs.declared.kept_items.KeptItem.{KeptItem}
 use Rattle.rewriting.proofs.ItemsStand.{Every, Stands, kept-stand}
 use Rattle.rewriting.proofs.KeptSteps.{items}
 

@@ -11,10 +11,10 @@ use Rattle.rewriting.specs.Places.{NestedItem, offsetOf, sizeOf, sizeFro
 use Rattle.readers.proofs.Nesting.{Chain}
 use Rattle.rewriting.specs.inner.NextKept.{openKept, ShowsItem, Forward, Stood, keptAt, NextItem, Next, Answers}
 use Rattle.rewriting.specs.inner.Measures.{ColumnsHeld, keptOfUnit, Measures}
-use Rattle.rewriting.specs.declared.kept.PassPosition.{PassPosition}
-use Rattle.rewriting.specs.declared.kept.KeptItem.{KeptItem}
-use Rattle.rewriting.specs.declared.kept.KeptStep.{KeptStep}
-use Rattle.rewriting.specs.declared.kept.KeptStep.the-variants.{Item as Item′, End}
+use Rattle.rewriting.specs.declared.kept_items.PassPosition.{PassPosition}
+use Rattle.rewriting.specs.declared.kept_items.KeptItem.{KeptItem}
+use Rattle.rewriting.specs.declared.kept_items.KeptStep.{KeptStep}
+use Rattle.rewriting.specs.declared.kept_items.KeptStep.the-variants.{Item as Item′, End}
 use Rattle.rewriting.proofs.KeptSteps.{stand}
 
 pub shown-size : (x : KeptItem) (i : Item) → ShowsItem x i → sizeOf i ≡ x .end .at - x .start .0

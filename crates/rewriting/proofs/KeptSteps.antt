@@ -41,8 +41,8 @@ use Rattle.rewriting.specs.Places.{NestedItem, opened, closed, innermost
 use Rattle.rewriting.specs.inner.Parents.{parentsFrom, HoldsFrom}
 use Rattle.rewriting.specs.inner.Ends.{endNumber, EndsHeld}
 use Rattle.rewriting.specs.inner.NextKept.{openKept, closesKept, ShowsItem, Forward, Stood, keptAt, Next, Answers}
-use Rattle.rewriting.specs.declared.kept.PassPosition.{PassPosition}
-use Rattle.rewriting.specs.declared.kept.KeptStep.the-variants.{Item as Item′, End}
+use Rattle.rewriting.specs.declared.kept_items.PassPosition.{PassPosition}
+use Rattle.rewriting.specs.declared.kept_items.KeptStep.the-variants.{Item as Item′, End}
 
 -- ---- tests
 

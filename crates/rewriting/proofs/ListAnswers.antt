@@ -27,7 +27,7 @@ use Rattle.rewriting.specs.Written.{runBytes}
 use Rattle.rewriting.specs.inner.Written.{ListHeld}
 use Rattle.rewriting.specs.inner.Gathering.{Filled}
 use Rattle.rewriting.specs.inner.IndexLists.{ReadAs, TablesFound, AllRead, PassInput, isAbsent, ListAnswer}
-use Rattle.rewriting.specs.declared.kept.Reading.{Reading}
+use Rattle.rewriting.specs.declared.kept_items.Reading.{Reading}
 use Rattle.rewriting.specs.declared.lists.ListCount.{ListCount}
 use Rattle.rewriting.specs.declared.lists.ListCount.the-variants.{Present, Absent}
 use Rattle.rewriting.proofs.ItemsStand.{Every, Readable}

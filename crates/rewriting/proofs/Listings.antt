@@ -22,7 +22,7 @@ use Rattle.rewriting.specs.inner.IndexLists.{PassInput, Listing, isAbsen
 use Rattle.rewriting.specs.inner.Emission.{Lent}
 use Rattle.rewriting.specs.Outputs.{listCount, listOr, rangesIn, locationsIn, stringsIn}
 use Rattle.rewriting.specs.inner.Leaving.{haveRoom, ListsAnswer}
-use Rattle.rewriting.specs.declared.kept.Reading.{Reading}
+use Rattle.rewriting.specs.declared.kept_items.Reading.{Reading}
 use Rattle.rewriting.specs.declared.lists.ListCount.{ListCount}
 use Rattle.rewriting.specs.declared.lists.ListCount.the-variants.{Absent}
 use Rattle.rewriting.specs.declared.collect.Listed.{Listed}

@@ -14,10 +14,10 @@ use Rattle.rewriting.specs.inner.Written.{NumbersHeld, place, withPlace}
 use Rattle.rewriting.specs.inner.NextKept.{Stood, keptAt, Answers}
 use Rattle.rewriting.specs.inner.Measures.{ColumnsHeld, keptOfUnit}
 use Rattle.rewriting.specs.inner.MapFilled.{Fills}
-use Rattle.rewriting.specs.declared.kept.PassPosition.{PassPosition}
-use Rattle.rewriting.specs.declared.kept.KeptItem.{KeptItem}
-use Rattle.rewriting.specs.declared.kept.KeptStep.{KeptStep}
-use Rattle.rewriting.specs.declared.kept.KeptStep.the-variants.{Item as Item′, End}
+use Rattle.rewriting.specs.declared.kept_items.PassPosition.{PassPosition}
+use Rattle.rewriting.specs.declared.kept_items.KeptItem.{KeptItem}
+use Rattle.rewriting.specs.declared.kept_items.KeptStep.{KeptStep}
+use Rattle.rewriting.specs.declared.kept_items.KeptStep.the-variants.{Item as Item′, End}
 use Rattle.marking.proofs.Members.{nothing-in}
 use Rattle.rewriting.proofs.KeptSteps.{stand}
 use Rattle.rewriting.proofs.KeptPasses.{shown-size, shown-offset, next-forward, next-item, next-end, stood-start, kept-start, Measuring, measuring-start, measuring-more}

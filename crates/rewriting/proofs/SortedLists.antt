@@ -5,7 +5,7 @@ use lib.ListN.{length}
 use mathlib.Core.List.{List}
 use Rattle.rewriting.specs.inner.Gathering.{Finishes}
 use Rattle.rewriting.specs.inner.IndexLists.{Puts, Listing}
-use Rattle.rewriting.specs.declared.kept.Reading.{Reading}
+use Rattle.rewriting.specs.declared.kept_items.Reading.{Reading}
 use Rattle.rewriting.proofs.Holdings.{filled-along}
 
 -- the list of a kind

@@ -28,8 +28,8 @@ use Rattle.rewriting.specs.inner.Written.{asMapped}
 use Rattle.rewriting.specs.Rewriting.{Lists, newValue, hasPlace, fits, pieceRefusal, piecesRefusal, orNext, orSelf, isSome}
 use Rattle.rewriting.specs.Emission.{between}
 use Rattle.rewriting.specs.inner.Emission.{Wide, holds, numberRefusal, offsetRefusal}
-use Rattle.rewriting.specs.declared.emit.Emitted.{Emitted}
-use Rattle.rewriting.specs.declared.emit.Emitted.the-variants.{To, Refused}
+use Rattle.rewriting.specs.declared.emit_entry.Emitted.{Emitted}
+use Rattle.rewriting.specs.declared.emit_entry.Emitted.the-variants.{To, Refused}
 use Rattle.rewriting.specs.declared.map.Mapped.{Mapped}
 use Rattle.rewriting.proofs.Emissions.{EmitsAt, emits-as, emits-then, emits-stop}
 use Rattle.rewriting.proofs.Exact.{Right, Rights, inExpression, Exactly, expression-exactly}

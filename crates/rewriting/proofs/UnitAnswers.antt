@@ -30,7 +30,7 @@ use Rattle.rewriting.specs.inner.IndexLists.{ReadAs, TablesFound, PassIn
 use Rattle.rewriting.specs.inner.Emission.{ListsLent}
 use Rattle.rewriting.specs.Outputs.{roomBy, listCount, countsOf, answerFor, mapFor, outputFor, listOr, listFor, rangesIn, locationsIn, stringsIn}
 use Rattle.rewriting.specs.inner.Leaving.{Accepts, Answers, ownUnit, Tabled, Blank, markedOf, haveRoom, ListsAnswer, Writable, WriteAnswer}
-use Rattle.rewriting.specs.declared.kept.Reading.{Reading}
+use Rattle.rewriting.specs.declared.kept_items.Reading.{Reading}
 use Rattle.rewriting.specs.declared.lists.ListCount.{ListCount}
 use Rattle.rewriting.specs.declared.collect.Counts.{Counts}
 use Rattle.rewriting.specs.declared.collect.Listed.{Listed}

@@ -19,7 +19,7 @@ use Rattle.rewriting.specs.inner.NextKept.{itemsBy}
 use Rattle.rewriting.specs.inner.Parents.{parentsFrom, HoldsFrom}
 use Rattle.rewriting.specs.inner.Measures.{ColumnsHeld, keptOfUnit}
 use Rattle.rewriting.specs.inner.MapFilled.{Fills}
-use Rattle.rewriting.specs.declared.kept.Reading.{Reading}
+use Rattle.rewriting.specs.declared.kept_items.Reading.{Reading}
 use Rattle.rewriting.proofs.Ascending.{items-ascending, olds-ascending}
 use Rattle.rewriting.proofs.ParentsOf.{parents-held}
 

@@ -35,12 +35,12 @@ use Rattle.rewriting.specs.inner.MapFilled.{Fills}
 use Rattle.rewriting.specs.inner.Emission.{Lent, ListsLent}
 use Rattle.rewriting.specs.Outputs.{listCount, countsOf, answerFor, mapFor, outputFor}
 use Rattle.rewriting.specs.inner.Leaving.{Accepts, Writable, WriteAnswer}
-use Rattle.rewriting.specs.declared.kept.Reading.{Reading}
-use Rattle.rewriting.specs.declared.passes.Size.{Size}
+use Rattle.rewriting.specs.declared.kept_items.Reading.{Reading}
+use Rattle.rewriting.specs.declared.offset_pass.Size.{Size}
 use Rattle.rewriting.specs.declared.lists.ListCount.{ListCount}
 use Rattle.rewriting.specs.declared.lists.ListCount.the-variants.{Present, Absent}
-use Rattle.rewriting.specs.declared.emit.Emitted.{Emitted}
-use Rattle.rewriting.specs.declared.emit.Emitted.the-variants.{To, Refused as NotEmitted}
+use Rattle.rewriting.specs.declared.emit_entry.Emitted.{Emitted}
+use Rattle.rewriting.specs.declared.emit_entry.Emitted.the-variants.{To, Refused as NotEmitted}
 use Rattle.rewriting.specs.declared.collect.Counts.{Counts}
 use Rattle.rewriting.specs.declared.collect.Collected.{Collected as Answer}
 use Rattle.rewriting.specs.declared.collect.Collected.the-variants.{Untouched, Rewritten, Refused}

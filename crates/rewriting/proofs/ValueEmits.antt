@@ -33,8 +33,8 @@ use Rattle.rewriting.specs.inner.Written.{asMapped}
 use Rattle.rewriting.specs.Rewriting.{Lists, newValue, hasPlace, pieceRefusal, piecesRefusal, readsRefusal, orNext, orSelf, isSome, listAt}
 use Rattle.rewriting.specs.Emission.{between}
 use Rattle.rewriting.specs.inner.Emission.{Wide, numberRefusal, offsetRefusal, lebForm}
-use Rattle.rewriting.specs.declared.emit.Emitted.{Emitted}
-use Rattle.rewriting.specs.declared.emit.Emitted.the-variants.{To}
+use Rattle.rewriting.specs.declared.emit_entry.Emitted.{Emitted}
+use Rattle.rewriting.specs.declared.emit_entry.Emitted.the-variants.{To}
 use Rattle.rewriting.specs.declared.map.Mapped.{Mapped}
 use Rattle.rewriting.proofs.Emissions.{EmitsAt, emits-as, emits-then}
 use Rattle.rewriting.proofs.Exact.{tokenOk, Right, Rights, ExactReader, Exactly, TokenExact, number-exact, token-exact, are-drop}

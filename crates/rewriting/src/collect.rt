@@ -13,17 +13,17 @@ ghost use Rattle.rewriting.specs.inner.Emission.{ListsLent};
 ghost use Rattle.rewriting.specs.Outputs.{roomBy, roomOf, answerFor, mapFor, listFor, outputFor, rangesIn, locationsIn, stringsIn};
 ghost use Rattle.rewriting.specs.inner.Leaving.{Answers, ownUnit, Tabled, Blank, markedOf, ListsAnswer, Writable, WriteAnswer};
 ghost use Rattle.rewriting.specs.inner.Leaving.{leftBy, taskOf, MarkedTables};
-use crate::emit::Emitted;
+use crate::emit_entry::Emitted;
+use crate::emit_unit::emit_dies;
+use crate::emit_unit::emit_header;
 use crate::indices::is_short;
 use crate::indices::settle;
 use crate::indices::sorted_lists;
-use crate::kept::Reading;
-use crate::kept::fill_ends;
+use crate::kept_items::Reading;
+use crate::kept_items::fill_ends;
 use crate::lists::ListCount;
-use crate::passes::place_items;
+use crate::offset_pass::place_items;
 use crate::siblings::fill_bounds;
-use crate::writing::emit_dies;
-use crate::writing::emit_header;
 use marking::analysis::clear_columns;
 use marking::units::UnitMarks;
 use marking::units::mark_unit;
@@ -349,8 +349,7 @@ fn rewrite_unit(
         (now (parents .entry)) (now (ends .entry)) (now (marks .entry)) entries kept
         → Blank (now (map .entry)) (now («range_list» .entry)) (now («location_list» .entry))
         (now («string_list» .entry)) (now (out .entry))
-        → let room =
-        roomBy tables (length (now (map .entry))) (length (now («range_list» .entry)))
+        → let room = roomBy tables (length (now (map .entry))) (length (now («range_list» .entry)))
         (length (now («location_list» .entry))) (length (now («string_list» .entry))) (length (now (out .entry))) in
         Answers (markedOf x room «type_units» (ownUnit h (now (section .entry)) ds) rows) c (length (now (map .entry)))
         (length (now («range_list» .entry))) (length (now («location_list» .entry)))
@@ -492,8 +491,7 @@ fn collect_marked(
         (now (parents .entry)) (now (ends .entry)) (now (marks .entry))
         → Blank (now (map .entry)) (now («range_list» .entry)) (now («location_list» .entry))
         (now («string_list» .entry)) (now (out .entry))
-        → let room =
-        roomBy tables (length (now (map .entry))) (length (now («range_list» .entry)))
+        → let room = roomBy tables (length (now (map .entry))) (length (now («range_list» .entry)))
         (length (now («location_list» .entry))) (length (now («string_list» .entry))) (length (now (out .entry))) in
         Answers (collectOf x room «type_units» (now (section .entry))) c (length (now (map .entry)))
         (length (now («range_list» .entry))) (length (now («location_list» .entry)))
@@ -552,20 +550,18 @@ fn collect_unit(
     string_list: &mut [u8],
     out: &mut [u8],
 ) -> Collected
-    ensures { λ r. ⌜
-        (let x =
-        sections (now (abbreviations .entry)) (now (locations .entry)) (now (ranges .entry))
+    ensures { λ r. ⌜ (
+        let x = sections (now (abbreviations .entry)) (now (locations .entry)) (now (ranges .entry))
         (now (addresses .entry)) «ranges_base» in
-        let room =
-        roomOf (length (now (marks .entry))) (length (now (pairs .entry))) (length (now (offsets .entry)))
+        let room = roomOf (length (now (marks .entry))) (length (now (pairs .entry))) (length (now (offsets .entry)))
         (length (now (parents .entry))) (length (now (roots .entry))) (length (now (ends .entry)))
         (length (now (targets .entry))) (length (now (map .entry))) (length (now («range_list» .entry)))
         (length (now («location_list» .entry))) (length (now («string_list» .entry))) (length (now (out .entry))) in
         Answers (collectOf x room «type_units» (now (section .entry))) r (length (now (map .entry)))
         (length (now («range_list» .entry))) (length (now («location_list» .entry)))
         (length (now («string_list» .entry))) (length (now (out .entry)))
-        (now (map .exit)) (now («range_list» .exit)) (now («location_list» .exit)) (now («string_list» .exit)) (now (out .exit)))
-        ⌝ }
+        (now (map .exit)) (now («range_list» .exit)) (now («location_list» .exit)) (now («string_list» .exit)) (now (out .exit))
+        ) ⌝ }
 {
     clear_outputs(map, range_list, location_list, string_list, out);
     let marked = mark_unit(
@@ -633,12 +629,10 @@ pub fn collect(
     string_list: &mut [u8],
     out: &mut [u8],
 ) -> Collected
-    ensures { λ r. ⌜
-        (let x =
-        sections (now (abbreviations .entry)) (now (locations .entry)) (now (ranges .entry))
+    ensures { λ r. ⌜ (
+        let x = sections (now (abbreviations .entry)) (now (locations .entry)) (now (ranges .entry))
         (now (addresses .entry)) «ranges_base» in
-        let room =
-        roomOf (length (now (marks .entry))) (length (now (pairs .entry))) (length (now (offsets .entry)))
+        let room = roomOf (length (now (marks .entry))) (length (now (pairs .entry))) (length (now (offsets .entry)))
         (length (now (parents .entry))) (length (now (roots .entry))) (length (now (ends .entry)))
         (length (now (targets .entry))) (length (now (map .entry))) (length (now («range_list» .entry)))
         (length (now («location_list» .entry))) (length (now («string_list» .entry))) (length (now (out .entry))) in
@@ -657,8 +651,8 @@ pub fn collect(
         × (now (marks .exit) ≡ zeros (length (now (marks .entry))))
         × (now (targets .exit) ≡ zeros (length (now (targets .entry))))
         × (now (pairs .exit) ≡ zeros (length (now (pairs .entry))))
-        × (now (work .exit) ≡ zeros (length (now (work .entry)))))
-        ⌝ }
+        × (now (work .exit) ≡ zeros (length (now (work .entry))))
+        ) ⌝ }
 {
     let answer = collect_unit(
         section,

@@ -16,10 +16,10 @@ ghost use Rattle.rewriting.specs.inner.IndexLists.{kindIndex, valueIndic
 ghost use Rattle.rewriting.specs.inner.IndexLists.{Settles};
 use crate::gathering::add;
 use crate::gathering::finish;
-use crate::kept::KeptStep;
-use crate::kept::PassPosition;
-use crate::kept::Reading;
-use crate::kept::next_kept;
+use crate::kept_items::KeptStep;
+use crate::kept_items::PassPosition;
+use crate::kept_items::Reading;
+use crate::kept_items::next_kept;
 use crate::lists::ListCount;
 use readers::abbreviations::DeclarationStep;
 use readers::abbreviations::SpecStep;

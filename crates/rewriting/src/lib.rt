@@ -1,12 +1,12 @@
 // Rewriting, by its passes: the kept items of a unit, index lists, new offsets (the map), emission; and collect.
 pub mod collect;
-pub mod emit;
+pub mod emit_entry;
+pub mod emit_unit;
 pub mod gathering;
 pub mod indices;
-pub mod kept;
+pub mod kept_items;
 pub mod lists;
 pub mod map;
 pub mod numbers;
-pub mod passes;
+pub mod offset_pass;
 pub mod siblings;
-pub mod writing;

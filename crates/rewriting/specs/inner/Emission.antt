@@ -11,8 +11,8 @@ use Rattle.readers.specs.Codes.{«DW_FORM_GNU_str_index», «DW_FORM_loclistx»
 use Rattle.readers.specs.Layout.{Encoded}
 use Rattle.rewriting.specs.inner.Written.{ListHeld}
 use Rattle.rewriting.specs.Rewriting.{Lists, noLists, fits, isSome, orSelf}
-use Rattle.rewriting.specs.declared.emit.Emitted.{Emitted}
-use Rattle.rewriting.specs.declared.emit.Emitted.the-variants.{To, Refused}
+use Rattle.rewriting.specs.declared.emit_entry.Emitted.{Emitted}
+use Rattle.rewriting.specs.declared.emit_entry.Emitted.the-variants.{To, Refused}
 use Rattle.rewriting.specs.declared.lists.ListCount.{ListCount}
 use Rattle.rewriting.specs.declared.lists.ListCount.the-variants.{Present, Absent}
 

@@ -24,7 +24,7 @@ use Rattle.rewriting.specs.inner.Ends.{EndsHeld}
 use Rattle.rewriting.specs.inner.NextKept.{itemsBy}
 use Rattle.rewriting.specs.inner.Written.{ListHeld}
 use Rattle.rewriting.specs.inner.Gathering.{Gathered, Filled}
-use Rattle.rewriting.specs.declared.kept.Reading.{Reading}
+use Rattle.rewriting.specs.declared.kept_items.Reading.{Reading}
 use Rattle.rewriting.specs.declared.lists.ListCount.{ListCount}
 use Rattle.rewriting.specs.declared.lists.ListCount.the-variants.{Present, Absent}
 use Rattle.readers.proofs.FormKinds.{useList}

@@ -7,7 +7,7 @@ use Rattle.readers.specs.Stream.{Item}
 use Rattle.rewriting.specs.Places.{NestedItem, keptFrom, sizeFrom}
 use Rattle.rewriting.specs.inner.Parents.{parentsFrom, HoldsFrom}
 use Rattle.rewriting.specs.inner.Ends.{EndsHeld}
-use Rattle.rewriting.specs.declared.passes.Size.{Size}
+use Rattle.rewriting.specs.declared.offset_pass.Size.{Size}
 
 module _ (items : ℕ → List Item) where
   -- the columns hold the parents and the ends of the entries, from the first on

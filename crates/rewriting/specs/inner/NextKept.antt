@@ -15,11 +15,11 @@ use Rattle.marking.specs.Marks.{isKept}
 use Rattle.rewriting.specs.Places.{NestedItem, keptFrom}
 use Rattle.rewriting.specs.inner.Parents.{parentsFrom, HoldsFrom}
 use Rattle.rewriting.specs.inner.Ends.{EndsHeld}
-use Rattle.rewriting.specs.declared.kept.Reading.{Reading}
-use Rattle.rewriting.specs.declared.kept.PassPosition.{PassPosition}
-use Rattle.rewriting.specs.declared.kept.KeptItem.{KeptItem}
-use Rattle.rewriting.specs.declared.kept.KeptStep.{KeptStep}
-use Rattle.rewriting.specs.declared.kept.KeptStep.the-variants.{Item as Item′, End}
+use Rattle.rewriting.specs.declared.kept_items.Reading.{Reading}
+use Rattle.rewriting.specs.declared.kept_items.PassPosition.{PassPosition}
+use Rattle.rewriting.specs.declared.kept_items.KeptItem.{KeptItem}
+use Rattle.rewriting.specs.declared.kept_items.KeptStep.{KeptStep}
+use Rattle.rewriting.specs.declared.kept_items.KeptStep.the-variants.{Item as Item′, End}
 
 -- whether each open entry is kept
 unfoldable pub openKept : List ℕ → List ℕ → List Bool
