@@ -10,7 +10,8 @@ use Rattle.marking.specs.Graph.{Graph, size}
 use Rattle.marking.specs.Survivors.{Survivor}
 use Rattle.marking.specs.Markings.{justified}
 
--- the marking of entry i: "where that is unmarked and is .. it becomes marked and the others stay as they were; else the marking is refused and nothing changes"
+-- the marking of entry i: "where that is unmarked and is .. it becomes marked and the others stay as they were; else
+-- the marking is refused and nothing changes"
 unfoldable pub accepts : Graph → (ℕ → Bool) → ℕ → Bool
 accepts g m i = ltb i (size g) and not (m i) and justified g m i
 
