@@ -10,7 +10,7 @@ use lib.Seq.{length-take-le}
 use Rattle.readers.specs.Choice.{bind}
 use Rattle.readers.proofs.Choice.{bind-at, bind-cong, check-cong, All, all-some, all-none, all-bind, all-both, all-map, all-triv, took-length}
 use Rattle.readers.specs.Numbers.{uleb}
-use Rattle.readers.specs.Layout.{fixed, width, Encoded, infixed, inleb, Token, nothing, number, bounded, forms, signed, link, string, run, block, expression, unknown, Layout, done, fail, field, Piece, Read, ReadOf, ExpressionReader, numberIn, asNumber, copy, asExpression, tokenIn, readIn, before, bytesOf, pieceBytes, writeAll, Patch, patchPieces, patchRead, patchAll}
+use Rattle.readers.specs.Layout.{fixed, width, Encoded, infixed, inleb, Token, nothing, number, bounded, forms, signed, link, string, run, block, expression, unknown, Layout, done, fail, field, Piece, Read, ReadOf, ExpressionReader, numberIn, asNumber, copy, asExpression, tokenIn, readIn, before, bytesOf, pieceBytes, writeAll, Patch, patchPieces, patchRead, patchAll, verbatim}
 use Rattle.readers.proofs.LayoutLaws.{kindOf, NumberLaw, number-law, LebLaw, uleb-law, TokenLaw, token-law, ReadLaw, read-law, FitPieces, FitAll, WholeLaw, ExpressionLaw, bytes-append, patch-append, fit-append, same-size}
 use Rattle.readers.specs.Operations.{operation}
 use Rattle.readers.specs.declared.cursor.Encoding.{Encoding}
@@ -142,7 +142,7 @@ module _ (b : Bool) (ex ex′ : ExpressionReader) (lawless : ExpressionLaw b ex�
   token-same n h expression s l =
       bind-cong (LebLaw uleb s) (uleb s) _ _ (uleb-law s)
       (λ t e q. check-cong _ _ _ (λ u. ap (λ o. bind o (λ ps. some (
-        record { seen = 0; start = suc (t .0); pieces = Rattle.readers.specs.Layout.copied (take (suc (t .0)) s) ∷ ps },
+        record { seen = 0; start = suc (t .0); pieces = verbatim (take (suc (t .0)) s) ∷ ps },
         drop (t .1) (t .2),
       )))
       (h (take (t .1) (t .2)) (omega (arith, length-take (t .1) (t .2), took-length s (suc (t .0)) (t .2) (q .0))))))
