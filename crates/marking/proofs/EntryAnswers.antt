@@ -17,7 +17,7 @@ use Rattle.marking.specs.declared.references.Scanned.{Scanned}
 use Rattle.marking.specs.declared.references.Scanned.the-variants.{To, Refused}
 use Rattle.marking.specs.declared.references.EntryScan.the-variants.{Through, Refused as Refused″}
 use Rattle.marking.specs.declared.analysis.EntryAnalysis.{EntryAnalysis}
-use Rattle.marking.specs.declared.analysis.EntryAnalysis.the-variants.{ReferencesFound as RowFound, Refused as NoRow}
+use Rattle.marking.specs.declared.analysis.EntryAnalysis.the-variants.{Found as RowFound, Refused as NoRow}
 use Rattle.marking.proofs.Places.{length-table}
 
 pub length-entry-table : (table : List ℕ) (at : ℕ) (v : Verdict) (f : ReferencesFound) → length (entryTable table at v f) ≡ length table

@@ -19,7 +19,7 @@ use Rattle.readers.specs.Header.{headerOf}
 use Rattle.readers.specs.declared.header.HeaderRead.{HeaderRead}
 use Rattle.readers.specs.declared.header.HeaderRead.the-variants.{Unit as Unit′, Empty, Refused}
 use Rattle.readers.specs.declared.cursor.Encoding.{Encoding}
-use Rattle.readers.specs.declared.abbreviations.ReferencesFound.{ReferencesFound as Declared}
+use Rattle.readers.specs.declared.abbreviations.DeclarationFound.{DeclarationFound as Declared}
 use Rattle.readers.specs.declared.entries.Step.{Step}
 use Rattle.readers.specs.declared.entries.Step.the-variants.{Entry as Entry′, Terminator, End, Unreadable}
 use Rattle.marking.specs.Below.{every}

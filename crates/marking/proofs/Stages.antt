@@ -34,7 +34,7 @@ use Rattle.marking.specs.Analysis.{Sections, Rooms, EntryRow, Analysed, 
 use Rattle.marking.specs.Columns.{offsetsIn, parentsIn, rootsIn, namesIn, endsIn, padTo, answerOf}
 use Rattle.marking.specs.inner.Columns.{Left, Outcome, AnalysisInput, headed, refusalOf, entryAnswer, entryTable}
 use Rattle.marking.specs.declared.analysis.EntryAnalysis.{EntryAnalysis}
-use Rattle.marking.specs.declared.analysis.EntryAnalysis.the-variants.{DeclarationFound as RowFound, Refused as NoRow}
+use Rattle.marking.specs.declared.analysis.EntryAnalysis.the-variants.{Found as RowFound, Refused as NoRow}
 use Rattle.marking.specs.declared.analysis.Analysis.{Analysis}
 use Rattle.marking.specs.declared.analysis.Analysis.the-variants.{Entries, Refused as Refused′}
 use Rattle.marking.proofs.Places.{placed-fits, fits-placed, not-placed, written-onto}

@@ -12,7 +12,7 @@ use Rattle.readers.specs.Stream.{Item, entry, terminator}
 use Rattle.readers.proofs.Streams.{step-look}
 use Rattle.readers.specs.declared.cursor.Encoding.{Encoding}
 use Rattle.readers.specs.declared.cursor.Cursor.{Cursor}
-use Rattle.readers.specs.declared.abbreviations.TablesFound.{TablesFound as Declared}
+use Rattle.readers.specs.declared.abbreviations.DeclarationFound.{DeclarationFound as Declared}
 use Rattle.readers.specs.declared.entries.Nesting.{Nesting}
 use Rattle.readers.specs.declared.entries.Step.{Step}
 use Rattle.readers.specs.declared.entries.Step.the-variants.{Entry as Entry′, Terminator}

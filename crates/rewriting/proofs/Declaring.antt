@@ -26,8 +26,8 @@ use Rattle.readers.specs.declared.abbreviations.SpecStep.the-variants.{Attribut
 use Rattle.readers.specs.declared.abbreviations.Declaration.{Declaration}
 use Rattle.readers.specs.declared.abbreviations.DeclarationStep.{DeclarationStep}
 use Rattle.readers.specs.declared.abbreviations.DeclarationStep.the-variants.{Declaration as Declared, Last, Unreadable as NoDeclaration}
-use Rattle.readers.specs.declared.abbreviations.TablesFound.{TablesFound as Found″}
-use Rattle.readers.specs.declared.abbreviations.TablesFound.the-variants.{Declaration as Found′, Nothing}
+use Rattle.readers.specs.declared.abbreviations.DeclarationFound.{DeclarationFound as Found″}
+use Rattle.readers.specs.declared.abbreviations.DeclarationFound.the-variants.{Declaration as Found′, Nothing}
 use Rattle.readers.specs.declared.attributes.AttributeRead.{AttributeRead}
 use Rattle.readers.specs.declared.attributes.AttributeRead.the-variants.{Read as Attribute′, Unreadable as NoAttribute}
 use Rattle.readers.specs.declared.entries.Step.{Step}

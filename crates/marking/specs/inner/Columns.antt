@@ -24,7 +24,7 @@ use Rattle.marking.specs.declared.root_test.Verdict.the-variants.{Live, 
 use Rattle.marking.specs.ReferenceTable.{placed, tableAfter}
 use Rattle.marking.specs.Analysis.{EntryRow, Analysed, analysed, refused}
 use Rattle.marking.specs.declared.analysis.EntryAnalysis.{EntryAnalysis}
-use Rattle.marking.specs.declared.analysis.EntryAnalysis.the-variants.{ReferencesFound as RowFound, Refused as NoRow}
+use Rattle.marking.specs.declared.analysis.EntryAnalysis.the-variants.{Found as RowFound, Refused as NoRow}
 use Rattle.marking.specs.declared.analysis.Analysis.{Analysis}
 use Rattle.marking.specs.declared.analysis.Analysis.the-variants.{Entries, Refused as Refused′}
 use Rattle.marking.specs.declared.analysis.UnitFound.{UnitFound}
