@@ -7,6 +7,7 @@ use lib.Dec.{leb, eqb}
 use Rattle.readers.specs.Choice.{pick, _and_}
 use Rattle.readers.specs.Cursors.{fixedAt}
 use Rattle.readers.specs.Fields.{fieldAt}
+use Rattle.readers.specs.Tokens.{block4}
 use Rattle.readers.specs.declared.cursor.Encoding.{Encoding}
 use Rattle.readers.specs.declared.cursor.Number.{Number}
 use Rattle.readers.specs.declared.cursor.Number.the-variants.{Value, Unreadable}
@@ -20,9 +21,9 @@ use Rattle.bundle.specs.declared.BundleRead.the-variants.{Read as Bundle
 unfoldable pub bigEndian : Encoding
 bigEndian = record { version = 5; «offset_size» = 4; «address_size» = 8; «big_endian» = true }
 
--- four big-endian bytes of length, and so many bytes: token 17
+-- four big-endian bytes of length, and so many bytes
 unfoldable pub part : List ℕ → ℕ → FieldRead
-part s at = fieldAt bigEndian s at 17
+part s at = fieldAt bigEndian s at block4
 
 unfoldable pub numberIs : Number → ℕ → Bool
 numberIs (Value v c) n = eqb v n

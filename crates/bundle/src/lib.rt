@@ -7,6 +7,7 @@ use readers::cursor::Encoding;
 use readers::cursor::Number;
 use readers::fields::Field;
 use readers::fields::FieldRead;
+use readers::layouts::BLOCK4;
 
 // The most bytes that a bundle may have, its first length included.
 pub const MOST: usize = 65536;
@@ -35,7 +36,7 @@ fn section(s: &[u8], at: usize) -> FieldRead
         address_size: 8,
         big_endian: true,
     };
-    (Cursor { at }).field(s, 17, e)
+    (Cursor { at }).field(s, BLOCK4, e)
 }
 
 // Whether the length of the rest and the version byte are right.

@@ -7,9 +7,9 @@ use native.Mathlib.Omega.{arith}
 use lib.ListN.{length, length-replicate}
 use lib.Dec.{ltb}
 use borrow.Author.Tests.{lt-ltb, le-ltb}
-use Rattle.readers.specs.Choice.{pick, zeros}
+use Rattle.readers.specs.Choice.{pick, zeros, put}
 use Rattle.marking.specs.Columns.{padTo}
-use Rattle.rewriting.specs.Written.{put, runBytes}
+use Rattle.rewriting.specs.Written.{runBytes}
 use Rattle.rewriting.proofs.Tables.{length-run, length-put}
 use Rattle.rewriting.proofs.UnitWritten.{out-is}
 use Rattle.rewriting.specs.declared.collect.Counts.{Counts}

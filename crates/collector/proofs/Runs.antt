@@ -10,7 +10,8 @@ use lib.ListN.{length, getD, take, drop, length-append, take-append-drop}
 use lib.Seq.{take-at, take-suc, take-length, drop-append-add, drop-drop, length-take-le}
 use Rattle.readers.specs.Numbers.{fixedBytes}
 use Rattle.readers.proofs.Numbers.{length-fixed}
-use Rattle.rewriting.specs.Written.{put, runBytes}
+use Rattle.rewriting.specs.Written.{runBytes}
+use Rattle.readers.specs.Choice.{put}
 use Rattle.rewriting.proofs.Tables.{length-run, length-put}
 
 -- bytes put behind bytes that were put

@@ -2,9 +2,9 @@
 ghost use mathlib.Core.Path.{_≡_};
 ghost use Prim.Native.Nat.{_+_, _*_, _≤_};
 ghost use lib.ListN.{length};
-ghost use Rattle.readers.specs.Choice.{pick, zeros};
+ghost use Rattle.readers.specs.Choice.{pick, zeros, put};
 ghost use Rattle.marking.specs.Columns.{padTo};
-ghost use Rattle.rewriting.specs.Written.{put, runBytes};
+ghost use Rattle.rewriting.specs.Written.{runBytes};
 ghost use Rattle.collector.specs.Call.{countOf, presenceOf, countBytes, isUncounted, acceptedCounts, numberFor, countsFor};
 use readers::tables::clear_bytes;
 use rewriting::collect::Collected;

@@ -8,8 +8,8 @@ pub mod ReadsAgain
 pub mod Depths
 pub mod Fitting
 pub mod UnitAgain
-pub mod AroundAgain
 pub mod Counting
 pub mod Maps
 pub mod IndexMembers
 pub mod CollectLaws
+pub mod AncestorsAgain

@@ -6,7 +6,6 @@ pub mod SameReferences
 pub mod SameRoles
 pub mod HeaderBytes
 pub mod AbsentLists
-pub mod Around
 pub mod Moved
 pub mod LeftOut
 pub mod AttributesAgain
@@ -20,3 +19,4 @@ pub mod TableRoom
 pub mod UnitSurvivors
 pub mod inner
 pub mod Yields
+pub mod Ancestors

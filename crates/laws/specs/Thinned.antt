@@ -26,7 +26,7 @@ use Rattle.laws.specs.UnitSurvivors.{SurvivorsOf}
 use Rattle.rewriting.specs.Places.{NestedItem, offsetOf, Place, sizeFrom, oldOffsets}
 use Rattle.rewriting.specs.Ascending.{Ascending}
 use Rattle.marking.specs.Members.{Member, Nth}
-use Rattle.laws.specs.Around.{ancestorsFrom}
+use Rattle.laws.specs.Ancestors.{ancestorsFrom}
 use Rattle.laws.specs.Moved.{movedItem, depthsFrom}
 use Rattle.rewriting.specs.Rewriting.{Unit as Unit′, unitOf, itemsIn, Lists, listsOf, noLists, listAt, Rewrite, withEnd, Room}
 use Rattle.laws.specs.AbsentLists.{DeclaresOffset}

@@ -1,5 +1,5 @@
 -- What only the proofs need.
 pub mod Maps
 pub mod Landing
-pub mod Around
 pub mod Moved
+pub mod Ancestors

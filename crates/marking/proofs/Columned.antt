@@ -5,10 +5,9 @@ use native.Mathlib.Omega.{arith}
 use mathlib.Core.List.{List, [], _∷_, _++_, append-assoc, append-nil}
 use lib.ListN.{length, getD, take, drop, length-append, take-append-drop}
 use lib.Seq.{getD-take, getD-at, take-at, drop-append-add, take-append-seam, drop-append-seam, append-snoc}
-use Rattle.readers.specs.Choice.{zeros}
+use Rattle.readers.specs.Choice.{zeros, put}
 use Rattle.marking.specs.Analysis.{EntryRow, Rooms}
 use Rattle.marking.specs.Columns.{offsetsIn, namesIn, endsIn, padTo}
-use Rattle.marking.specs.inner.Columns.{put}
 use Rattle.marking.specs.Resolution.{pairsOfEntry, pairsFrom, pairsIn, Ascending}
 use Rattle.marking.specs.inner.Resolution.{ResolveInput, ReferenceColumns}
 use Rattle.marking.proofs.Rows.{UnitRows, rowed-from, offsets-ascend, length-offsets}

@@ -7,7 +7,7 @@ use mathlib.Core.Option.{Option, none, some}
 use lib.ListN.{length, getD, take, drop, set, length-append, length-drop, length-set, take-append-drop}
 use lib.Seq.{length-take-le, take-suc, drop-cons, getD-drop, set-at, append-snoc}
 use Rattle.readers.specs.declared.offsets.EntryIndex.{EntryIndex}
-use Rattle.marking.specs.inner.Columns.{put}
+use Rattle.readers.specs.Choice.{put}
 use Rattle.marking.specs.Resolution.{entryFrom, pairFor, pairsOfEntry}
 use Rattle.marking.specs.inner.Resolution.{asEntry, ResolveInput}
 use Rattle.marking.specs.declared.units.EntryFound.{EntryFound}

@@ -27,7 +27,8 @@ use Rattle.readers.specs.declared.entries.Nesting.{Nesting}
 use Rattle.readers.specs.declared.entries.Step.{Step}
 use Rattle.readers.specs.declared.entries.Step.the-variants.{Entry as Entry′, Terminator, End, Unreadable}
 use Rattle.readers.proofs.Declarations.{find-plain}
-use Rattle.readers.proofs.Nesting.{Chain, opened-is, closed-is}
+use Rattle.readers.proofs.Nesting.{opened-is, closed-is}
+use Rattle.readers.specs.inner.Nesting.{Chain}
 use Rattle.marking.specs.ReferenceTable.{written}
 use Rattle.readers.specs.Stream.{Items, push, onStep, itemsFrom}
 use Rattle.marking.specs.Analysis.{Sections, Rooms, EntryRow, Analysed, analysed, refused, onto, onVerdict, onFound, Reached, reached, startOf, valuesOfEntry, rootOf, namesOf, baseOf, analyseItems, onDeclared, unitAnalysed}

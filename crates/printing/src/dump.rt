@@ -8,6 +8,17 @@ use readers::abbreviations::Checked;
 use readers::abbreviations::SpecStep;
 use readers::attributes::Attribute;
 use readers::attributes::AttributeRead;
+use readers::codes::DW_AT_loclists_base;
+use readers::codes::DW_AT_rnglists_base;
+use readers::codes::DW_FORM_exprloc;
+use readers::codes::DW_FORM_flag_present;
+use readers::codes::DW_FORM_implicit_const;
+use readers::codes::DW_FORM_loclistx;
+use readers::codes::DW_FORM_rnglistx;
+use readers::codes::DW_FORM_sdata;
+use readers::codes::DW_FORM_sec_offset;
+use readers::codes::DW_LLE_default_location;
+use readers::codes::DW_TAG_compile_unit;
 use readers::cursor::Cursor;
 use readers::cursor::Encoding;
 use readers::cursor::Moved;
@@ -70,17 +81,17 @@ fn value(form: u64, f: Field, implicit: u64) {
         text(b"\n");
         return;
     }
-    if form == 0x21 {
+    if form == DW_FORM_implicit_const {
         signed_number(b" value ", implicit);
         text(b"\n");
         return;
     }
-    if form == 0x0d {
+    if form == DW_FORM_sdata {
         signed_number(b" value ", f.value);
         text(b"\n");
         return;
     }
-    if form == 0x19 {
+    if form == DW_FORM_flag_present {
         number(b" value ", 1);
         text(b"\n");
         return;
@@ -130,7 +141,7 @@ fn has_expression(kind: u8) -> bool {
 
 // The expression of a location list entry: its first field in a default location, else its third.
 fn location_field(entry: ListEntry) -> Field {
-    if entry.kind == 5 {
+    if entry.kind == DW_LLE_default_location {
         return entry.first;
     }
     entry.third
@@ -215,7 +226,7 @@ fn names_ranges(name: u64) -> bool {
 }
 
 fn lists(locations: &[u8], ranges: &[u8], p: Place, name: u64, form: u64, v: u64, e: Encoding) {
-    if form == 0x23 {
+    if form == DW_FORM_rnglistx {
         list(
             ranges,
             readers::lists::list_offset(ranges, p.range_base, v, e),
@@ -223,7 +234,7 @@ fn lists(locations: &[u8], ranges: &[u8], p: Place, name: u64, form: u64, v: u64
             e,
         );
     }
-    if form == 0x22 {
+    if form == DW_FORM_loclistx {
         list(
             locations,
             readers::lists::list_offset(locations, p.location_base, v, e),
@@ -231,7 +242,7 @@ fn lists(locations: &[u8], ranges: &[u8], p: Place, name: u64, form: u64, v: u64
             e,
         );
     }
-    if form == 0x17 {
+    if form == DW_FORM_sec_offset {
         if names_ranges(name) {
             list(ranges, readers::lists::list_start(ranges, v), false, e);
         }
@@ -256,7 +267,7 @@ fn attribute_lines(
     number(b" attribute ", a.name);
     number(b" form ", v.form);
     value(v.form, field, a.implicit);
-    if v.form == 0x18 {
+    if v.form == DW_FORM_exprloc {
         expression(field.expression(unit), e.address_size);
     }
     lists(locations, ranges, p, a.name, v.form, field.value, e);
@@ -320,11 +331,11 @@ fn attributes(
 
 fn with_base(p: Place, name: u64, form: u64, value: u64) -> Place {
     let mut q = p;
-    if form == 0x17 {
-        if name == 0x74 {
+    if form == DW_FORM_sec_offset {
+        if name == DW_AT_rnglists_base {
             q.range_base = value;
         }
-        if name == 0x8c {
+        if name == DW_AT_loclists_base {
             q.location_base = value;
         }
     }
@@ -394,7 +405,7 @@ fn entry(
         spec: specs,
     };
     let mut q = p;
-    if d.tag == 0x11 {
+    if d.tag == DW_TAG_compile_unit {
         q = bases(unit, abbreviations, p, first, e);
     }
     attributes(unit, abbreviations, locations, ranges, q, first, e);

@@ -7,9 +7,10 @@ use lib.Dec.{T, eqb, leb}
 use mir.Facts.{leb-yes, eqb-yes}
 use borrow.Author.Tests.{ne-eqb, le-leb, lt-leb}
 use Rattle.readers.specs.Choice.{pick, _and_, _or_}
-use Rattle.readers.specs.Layout.{Role, reference, typeReference, sibling, index, absolute}
-use Rattle.readers.specs.Tokens.{Use, plain, as′}
+use Rattle.readers.specs.Layout.{reference, sibling, index, absolute}
+use Rattle.readers.specs.Tokens.{plain, as′}
 use Rattle.readers.specs.Forms.{useOf, listForm}
+use Rattle.readers.specs.inner.Forms.{roleList, useList}
 
 module _ (f : ℕ) where
   pub list-ranges : f ≡ 0x23 → 0 ≡ listForm f
@@ -56,17 +57,6 @@ module _ (f : ℕ) where
       )
 
 -- ---- the list of a use
-
-unfoldable pub roleList : Role → ℕ
-roleList reference = 3
-roleList typeReference = 3
-roleList sibling = 3
-roleList (index k) = k
-roleList absolute = 3
-
-unfoldable pub useList : Use → ℕ
-useList plain = 3
-useList (as′ r) = roleList r
 
 -- by the tests of `listForm`
 abbrev listBy : Bool → Bool → Bool → ℕ

@@ -10,6 +10,7 @@ use mir.Facts.{yes-ltb, no-ltb, yes-eqb, no-eqb}
 use Rattle.readers.proofs.Choice.{pick-yes, pick-no}
 use Rattle.readers.specs.Nesting.{open′, close, top, nestingOf, opened, closed}
 use Rattle.readers.specs.declared.entries.Nesting.{Nesting}
+use Rattle.readers.specs.inner.Nesting.{Chain}
 
 abbrev nesting : ℕ → ℕ → Nesting
 nesting depth parent = record { depth = depth; parent = record { 0 = parent } }
@@ -49,11 +50,6 @@ pub closes-unknown : (parents : List ℕ) (n : Nesting) → (n .depth ≡ 0 → 
 closes-unknown parents n h l = ap (nesting (n .depth - 1)) (sym (List·getD-eq-default parents 4294967295 l)) ∙ closes parents n h
 
 -- ---- by the definition
-
--- each open entry's parent is the next open one, or none
-unfoldable pub Chain : List ℕ → List ℕ → Type 0
-Chain parents [] = Unit {0}
-Chain parents (k ∷ stack) = (getD parents k 4294967295 ≡ top stack) × Chain parents stack
 
 pub opened-is : (children : Bool) (k : ℕ) (stack : List ℕ) → length stack < 2 ^ 64 - 1
     → opened children k (nestingOf stack) ≡ nestingOf (open′ children k stack)

@@ -2,9 +2,9 @@
 -- laws of readings that may fail, as `All P o`: P holds of what the Option o holds, if it holds something.
 use mathlib.Core.Bool.{Bool, true, false}
 use mathlib.Core.Option.{Option, none, some}
-use mathlib.Core.List.{List}
-use Prim.Native.Nat.{ℕ}
-use lib.ListN.{replicate}
+use mathlib.Core.List.{List, _++_}
+use Prim.Native.Nat.{ℕ, _+_}
+use lib.ListN.{replicate, length, take, drop}
 
 infixr 30 _and_
 infixr 25 _or_
@@ -33,3 +33,7 @@ bind (some a) f = f a
 -- what a lent table holds where no answer stands
 abbrev pub zeros : ℕ → List ℕ
 zeros n = replicate n 0
+
+-- numbers in place of those from n on
+unfoldable pub put : List ℕ → ℕ → List ℕ → List ℕ
+put xs n ys = take n xs ++ (ys ++ drop (n + length ys) xs)

@@ -6,3 +6,5 @@ pub mod Fields
 pub mod References
 pub mod Refusals
 pub mod Slots
+pub mod Nesting
+pub mod Forms

@@ -27,6 +27,8 @@ pub const DW_AT_loclists_base: u64 = 0x8c;
 // Forms (7.5.6, table 7.6), and one of GNU's split units.
 pub const DW_FORM_addr: u64 = 0x01;
 
+pub const DW_FORM_sdata: u64 = 0x0d;
+
 pub const DW_FORM_ref_addr: u64 = 0x10;
 
 pub const DW_FORM_ref1: u64 = 0x11;
@@ -38,6 +40,8 @@ pub const DW_FORM_indirect: u64 = 0x16;
 pub const DW_FORM_sec_offset: u64 = 0x17;
 
 pub const DW_FORM_exprloc: u64 = 0x18;
+
+pub const DW_FORM_flag_present: u64 = 0x19;
 
 pub const DW_FORM_strx: u64 = 0x1a;
 

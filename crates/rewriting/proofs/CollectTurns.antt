@@ -19,7 +19,7 @@ use Rattle.readers.specs.declared.entries.Step.the-variants.{Entry as Entry′,
 use Rattle.readers.specs.EntryAttributes.{entryValues}
 use Rattle.marking.specs.Analysis.{Sections}
 use Rattle.rewriting.specs.Places.{NestedItem, keptFrom, offsetOf}
-use Rattle.readers.proofs.Nesting.{Chain}
+use Rattle.readers.specs.inner.Nesting.{Chain}
 use Rattle.rewriting.specs.Indices.{readIndices}
 use Rattle.rewriting.specs.Rewriting.{Unit as Unit′, readsOr, readsAt, indicesFrom}
 use Rattle.rewriting.specs.inner.NextKept.{openKept, itemsBy, ShowsItem, Forward, Stood, keptAt, NextItem, Next, Answers}
@@ -30,7 +30,7 @@ use Rattle.rewriting.specs.declared.kept_items.PassPosition.{PassPositio
 use Rattle.rewriting.specs.declared.kept_items.KeptItem.{KeptItem}
 use Rattle.rewriting.specs.declared.kept_items.KeptStep.{KeptStep}
 use Rattle.rewriting.specs.declared.kept_items.KeptStep.the-variants.{Item as Item′, End}
-use Rattle.rewriting.proofs.ItemsStand.{Every, Stands, kept-stand}
+use Rattle.rewriting.proofs.ItemDepths.{Every, Stands, kept-stand}
 use Rattle.rewriting.proofs.EntryIndices.{StepIndices, deep-indices}
 use Rattle.rewriting.proofs.GatherLaws.{gathered-none}
 use Rattle.rewriting.proofs.Holdings.{Onward, onward-start, onward-on, onward-more, onward-end}

@@ -41,7 +41,7 @@ use Rattle.rewriting.specs.Rewriting.{Unit as Unit′, itemDeclares, any
 use Rattle.rewriting.specs.inner.NextKept.{itemsBy}
 use Rattle.rewriting.specs.inner.IndexLists.{ReadAs, TablesFound, isAbsent}
 use Rattle.rewriting.specs.declared.kept_items.Reading.{Reading}
-use Rattle.rewriting.proofs.ItemsStand.{EveryItem, Stands, items-stand}
+use Rattle.rewriting.proofs.ItemDepths.{EveryItem, Stands, items-stand}
 use Rattle.rewriting.proofs.IndexTurns.{item-declares, absent-named}
 
 -- ---- the specifications from a place on

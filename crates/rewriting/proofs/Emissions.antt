@@ -10,14 +10,14 @@ use lib.ListN.{length, take, drop, length-append, length-drop, drop-of-length-le
 use lib.Seq.{length-take-le, take-at, drop-append-add, drop-drop, take-all, take-nil}
 use lib.Dec.{T, ltb, leb, eqb}
 use mir.Facts.{yes-ltb, yes-leb, no-leb, leb-yes, eqb-yes, eqb-no, no-eqb, yes-eqb}
-use Rattle.readers.specs.Choice.{pick, _and_}
+use Rattle.readers.specs.Choice.{pick, _and_, put}
 use Rattle.readers.proofs.Choice.{pick-yes, pick-no, either}
 use Rattle.readers.specs.Layout.{Encoded, width, numberBytes}
 use Rattle.readers.proofs.LayoutLaws.{length-number}
 use Rattle.readers.specs.References.{encodedBy}
 use Rattle.rewriting.specs.Places.{Place}
 use Rattle.rewriting.specs.Indices.{rankIn, rankOr}
-use Rattle.rewriting.specs.Written.{groupsFit, over, put}
+use Rattle.rewriting.specs.Written.{groupsFit, over}
 use Rattle.rewriting.specs.inner.Written.{bytesFit, numberFits, unfit, Put, asMapped, ListHeld}
 use Rattle.rewriting.specs.Rewriting.{Lists, fits, orNext, isSome, orSelf}
 use Rattle.rewriting.specs.Emission.{between, copiedCount}

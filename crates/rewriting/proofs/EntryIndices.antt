@@ -39,7 +39,7 @@ use Rattle.readers.specs.EntryAttributes.{onAttribute, valuesOf, entryValues}
 use Rattle.readers.proofs.EntryAttributes.{specs-all}
 use Rattle.rewriting.specs.Indices.{indexIn, indicesIn, readIndices}
 use Rattle.rewriting.specs.inner.IndexLists.{formList, valueIndex, valueIndices}
-use Rattle.readers.proofs.FormKinds.{roleList, useList}
+use Rattle.readers.specs.inner.Forms.{roleList, useList}
 use Rattle.rewriting.proofs.DeepReads.{deep-step}
 
 -- ---- indices of some pieces after others

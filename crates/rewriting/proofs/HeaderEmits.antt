@@ -8,12 +8,12 @@ use lib.ListN.{length, take, drop, length-append, length-drop}
 use lib.Seq.{length-take-le, drop-append-le}
 use lib.Dec.{ltb, leb}
 use borrow.Author.Tests.{lt-ltb, le-ltb, le-leb, lt-leb, leb-true}
-use Rattle.readers.specs.Choice.{pick, _and_}
+use Rattle.readers.specs.Choice.{pick, _and_, put}
 use Rattle.readers.specs.Numbers.{fixedBytes}
 use Rattle.readers.proofs.Numbers.{length-fixed}
 use Rattle.readers.specs.Layout.{numberBytes}
 use Rattle.readers.specs.References.{encodedBy}
-use Rattle.rewriting.specs.Written.{over, put}
+use Rattle.rewriting.specs.Written.{over}
 use Rattle.rewriting.specs.inner.Written.{bytesFit, numberFits, unfit, Put}
 use Rattle.rewriting.specs.Emission.{headerBytes, headerFits, headerCount, headerOver}
 use Rattle.rewriting.specs.inner.Emission.{Within}

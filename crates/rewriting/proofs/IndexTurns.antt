@@ -29,7 +29,7 @@ use Rattle.rewriting.specs.Indices.{declares, isShort}
 use Rattle.rewriting.specs.Rewriting.{Unit as Unit′, itemDeclares, anyDeclares}
 use Rattle.rewriting.specs.inner.NextKept.{itemsBy}
 use Rattle.rewriting.specs.inner.IndexLists.{formList, kindIndex, valueIndex, valueIndices, ReadAs, isAbsent}
-use Rattle.readers.proofs.FormKinds.{useList}
+use Rattle.readers.specs.inner.Forms.{useList}
 use Rattle.rewriting.specs.declared.kept_items.Reading.{Reading}
 use Rattle.rewriting.specs.declared.lists.ListCount.{ListCount}
 use Rattle.rewriting.specs.declared.lists.ListCount.the-variants.{Present, Absent}

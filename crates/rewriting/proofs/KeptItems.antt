@@ -14,7 +14,7 @@ use Rattle.readers.specs.declared.entries.Step.the-variants.{Entry as Entry′,
 use Rattle.rewriting.specs.inner.NextKept.{openKept, ShowsItem, NextItem}
 use Rattle.rewriting.specs.declared.kept_items.PassPosition.{PassPosition}
 use Rattle.rewriting.specs.declared.kept_items.KeptItem.{KeptItem}
-use Rattle.rewriting.proofs.ItemsStand.{Every, Stands, kept-stand}
+use Rattle.rewriting.proofs.ItemDepths.{Every, Stands, kept-stand}
 use Rattle.rewriting.proofs.KeptSteps.{items}
 
 module _ (e : Encoding) (abbreviations : List ℕ) (look : ℕ → DeclarationFound) (unit : List ℕ) where

@@ -8,7 +8,7 @@ use Rattle.readers.specs.Nesting.{nestingOf}
 use Rattle.readers.specs.Stream.{Item, entry, terminator}
 use Rattle.readers.specs.declared.entries.Nesting.{Nesting}
 use Rattle.rewriting.specs.Places.{NestedItem, offsetOf, sizeOf, sizeFrom}
-use Rattle.readers.proofs.Nesting.{Chain}
+use Rattle.readers.specs.inner.Nesting.{Chain}
 use Rattle.rewriting.specs.inner.NextKept.{openKept, ShowsItem, Forward, Stood, keptAt, NextItem, Next, Answers}
 use Rattle.rewriting.specs.inner.Measures.{ColumnsHeld, keptOfUnit, Measures}
 use Rattle.rewriting.specs.declared.kept_items.PassPosition.{PassPosition}

@@ -19,7 +19,8 @@ use Rattle.readers.specs.Entries.{valuesAt, stepAt}
 use Rattle.readers.proofs.Lebs.{uleb-inside}
 use Rattle.readers.proofs.Values.{entryStep, foundStep, codeStep, step-by, step-none, step-terminator, step-unknown}
 use Rattle.readers.specs.Nesting.{open′, close, top, nestingOf, opened as openedBy, closed as closedBy}
-use Rattle.readers.proofs.Nesting.{Chain, opened-is, closed-is}
+use Rattle.readers.proofs.Nesting.{opened-is, closed-is}
+use Rattle.readers.specs.inner.Nesting.{Chain}
 use Rattle.readers.specs.Stream.{Item, entry, terminator, Items, push, onStep, itemsFrom}
 use Rattle.readers.proofs.Streams.{EntryInside, step-inside, terminator-inside, items-step}
 use Rattle.readers.specs.declared.cursor.Encoding.{Encoding}

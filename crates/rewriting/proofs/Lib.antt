@@ -3,7 +3,6 @@ pub mod Shuffling
 pub mod GatherLaws
 pub mod Items
 pub mod DeepReads
-pub mod ItemsStand
 pub mod KeptSteps
 pub mod EndsFilled
 pub mod KeptPasses
@@ -28,7 +27,6 @@ pub mod Inserting
 pub mod KeptItems
 pub mod UnitKept
 pub mod HeaderAgain
-pub mod Following
 pub mod Expressions
 pub mod ReadableItems
 pub mod Held
@@ -46,3 +44,5 @@ pub mod Listings
 pub mod UnitAnswers
 pub mod UnitWritten
 pub mod Ascending
+pub mod AcceptedUnits
+pub mod ItemDepths

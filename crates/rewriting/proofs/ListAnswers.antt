@@ -30,7 +30,7 @@ use Rattle.rewriting.specs.inner.IndexLists.{ReadAs, TablesFound, AllRea
 use Rattle.rewriting.specs.declared.kept_items.Reading.{Reading}
 use Rattle.rewriting.specs.declared.lists.ListCount.{ListCount}
 use Rattle.rewriting.specs.declared.lists.ListCount.the-variants.{Present, Absent}
-use Rattle.rewriting.proofs.ItemsStand.{Every, Readable}
+use Rattle.rewriting.proofs.ItemDepths.{Every, Readable}
 use Rattle.rewriting.proofs.IndexTurns.{absent-plain, absent-named}
 
 -- ---- a unit as the code reads it

@@ -12,14 +12,14 @@ use lib.Seq.{drop-cons}
 use lib.Dec.{ltb, leb, eqb}
 use mir.Facts.{ltb-yes, ltb-no, yes-ltb, no-ltb, yes-eqb, no-eqb, eqb-yes, eqb-no}
 use borrow.Author.Tests.{le-leb, lt-leb}
-use Rattle.readers.specs.Choice.{pick, _and_}
+use Rattle.readers.specs.Choice.{pick, _and_, put}
 use Rattle.readers.proofs.Choice.{pick-yes, pick-no, either}
 use Rattle.readers.specs.Numbers.{fixedBytes}
 use Rattle.readers.proofs.Numbers.{length-fixed}
 use Rattle.marking.specs.Resolution.{Ascending as From}
 use Rattle.rewriting.specs.Indices.{rankIn}
 use Rattle.rewriting.specs.Places.{Place, newOf, firstFrom, orElse, siblingOf, oldOffsets}
-use Rattle.rewriting.specs.Written.{put, numberAt, columns, oldAt, newAt, depthAt, halved, foundAt, lookedUp}
+use Rattle.rewriting.specs.Written.{numberAt, columns, oldAt, newAt, depthAt, halved, foundAt, lookedUp}
 use Rattle.rewriting.specs.inner.Written.{NumbersHeld, MapHeld, place, withPlace, asMapped}
 use Rattle.readers.specs.declared.offsets.UnitOffset.{UnitOffset}
 use Rattle.rewriting.specs.declared.map.Mapped.the-variants.{To, Nothing}

@@ -12,11 +12,11 @@ use lib.Seq.{drop-cons, take-suc, take-at, getD-take, set-at, append-snoc, lengt
 use lib.Dec.{ltb, leb, eqb}
 use mir.Facts.{ltb-yes, ltb-no}
 use borrow.Author.Tests.{lt-ltb, le-ltb, le-leb, lt-leb, ltb-true, leb-true, eq-eqb, ne-eqb}
-use Rattle.readers.specs.Choice.{pick, _and_, zeros}
+use Rattle.readers.specs.Choice.{pick, _and_, zeros, put}
 use Rattle.readers.proofs.Choice.{either}
 use Rattle.readers.specs.Numbers.{padded, littleBytes, ordered, fixedBytes}
 use Rattle.readers.proofs.Numbers.{length-padded, length-fixed}
-use Rattle.rewriting.specs.Written.{groupsFit, paddedAnswer, paddedOut, over, put, putIn, numberAt, valueOr, numberThere}
+use Rattle.rewriting.specs.Written.{groupsFit, paddedAnswer, paddedOut, over, putIn, numberAt, valueOr, numberThere}
 use Rattle.rewriting.specs.inner.Written.{bytesFit, numberFits, unfit, Put}
 use Rattle.rewriting.specs.declared.numbers.Padded.{Padded}
 use Rattle.rewriting.specs.declared.numbers.Padded.the-variants.{Written, Refused}

@@ -44,9 +44,9 @@ use Rattle.readers.proofs.EntryAttributes.{specs-all}
 use Rattle.marking.specs.Analysis.{Sections, EntryRow, valuesOfEntry, namesOf, baseOf}
 use Rattle.rewriting.specs.Places.{NestedItem, keptFrom, offsetOf}
 use Rattle.rewriting.specs.Rewriting.{Unit as Unit′, itemsIn, Room, unitOf}
-use Rattle.rewriting.proofs.ItemsStand.{EveryItem, Every, every-kept, Stands, items-stand, deepAt, Readable}
+use Rattle.rewriting.proofs.ItemDepths.{EveryItem, Every, every-kept, Stands, items-stand, deepAt, Readable}
 use Rattle.marking.specs.EntryRows.{RowOf, RowsOf}
-use Rattle.rewriting.proofs.Following.{accepted-follow, Accepted}
+use Rattle.rewriting.proofs.AcceptedUnits.{accepted-follow, Accepted}
 use Rattle.rewriting.proofs.Expressions.{isExpression, value-exprloc}
 
 -- something was read

@@ -10,12 +10,12 @@ use native.Mathlib.Omega.{arith}
 use lib.ListN.{length, getD, take, drop, length-append, length-drop, length-replicate, take-append-drop}
 use lib.Seq.{take-at, drop-at, drop-append-add, length-take-le}
 use mir.Facts.{yes-ltb, no-ltb}
-use Rattle.readers.specs.Choice.{zeros}
+use Rattle.readers.specs.Choice.{zeros, put}
 use Rattle.readers.proofs.Choice.{pick-yes, pick-no}
 use Rattle.readers.specs.Numbers.{fixedBytes, fixedValue}
 use Rattle.readers.proofs.Numbers.{length-fixed, fixed-value}
 use Rattle.marking.specs.Members.{Member, here, there}
-use Rattle.rewriting.specs.Written.{put, numberAt, inRoom, runBytes, oldAt}
+use Rattle.rewriting.specs.Written.{numberAt, inRoom, runBytes, oldAt}
 use Rattle.rewriting.specs.inner.Written.{NumbersHeld}
 use Rattle.marking.proofs.Members.{nothing-in}
 use Rattle.rewriting.proofs.Putting.{drop-zeros}

@@ -38,7 +38,7 @@ use Rattle.rewriting.specs.declared.collect.Listed.the-variants.{Made, S
 use Rattle.rewriting.specs.declared.collect.Collected.{Collected as Answer}
 use Rattle.rewriting.specs.declared.collect.Collected.the-variants.{Untouched, Rewritten, Refused}
 use Rattle.rewriting.proofs.HeaderAgain.{HeaderLaw, header-laws}
-use Rattle.rewriting.proofs.Following.{Accepted}
+use Rattle.rewriting.proofs.AcceptedUnits.{Accepted}
 use Rattle.rewriting.proofs.ReadableItems.{accepted-readable}
 use Rattle.rewriting.proofs.ParentsOf.{parents-held, parents-of}
 use Rattle.rewriting.proofs.UnitKept.{reading, items-read}

@@ -11,7 +11,7 @@ use lib.Seq.{length-take-le, take-at, drop-append-add}
 use lib.Dec.{T, eqb, leb}
 use mir.Facts.{eqb-yes, eqb-no}
 use borrow.Author.Tests.{le-leb, lt-leb, eq-eqb, ne-eqb}
-use Rattle.readers.specs.Choice.{pick, zeros}
+use Rattle.readers.specs.Choice.{pick, zeros, put}
 use Rattle.readers.proofs.Choice.{either}
 use Rattle.readers.specs.Numbers.{fixedBytes}
 use Rattle.readers.proofs.Numbers.{length-fixed}
@@ -26,7 +26,7 @@ use Rattle.marking.specs.Columns.{padTo}
 use Rattle.rewriting.specs.Places.{NestedItem, keptFrom, offsetOf, sizeOf, Place, placesFrom, sizeFrom}
 use Rattle.rewriting.specs.Rewriting.{Unit as Unit′, Lists, Room, Collected, untouched, rewritten, refused, itemsIn, readsOr, readsAt, newValue, refusalFrom, bytesFrom, unitBytes, orRefused, rewriteOf}
 use Rattle.rewriting.specs.inner.NextKept.{itemsBy}
-use Rattle.rewriting.specs.Written.{put, runBytes, columns, mapBytes}
+use Rattle.rewriting.specs.Written.{runBytes, columns, mapBytes}
 use Rattle.rewriting.specs.inner.Written.{ListHeld, MapHeld}
 use Rattle.rewriting.specs.inner.Bounds.{Bounds}
 use Rattle.rewriting.specs.inner.IndexLists.{ReadDeep, AllRead, PassInput}
@@ -46,7 +46,7 @@ use Rattle.rewriting.specs.declared.collect.Collected.{Collected as Answ
 use Rattle.rewriting.specs.declared.collect.Collected.the-variants.{Untouched, Rewritten, Refused}
 use Rattle.rewriting.proofs.Emissions.{EmitsAt}
 use Rattle.rewriting.proofs.DeepReads.{like-width, like-patched, deep-ends}
-use Rattle.rewriting.proofs.ItemsStand.{Every, every-kept, Stands, items-stand, StandsThere, deepAt, size-of}
+use Rattle.rewriting.proofs.ItemDepths.{Every, every-kept, Stands, items-stand, StandsThere, deepAt, size-of}
 use Rattle.rewriting.proofs.Putting.{drop-zeros}
 use Rattle.rewriting.proofs.Tables.{length-run}
 use Rattle.rewriting.proofs.Places.{length-columns}

@@ -4,7 +4,7 @@ use mathlib.Core.Bool.{Bool, true}
 use mathlib.Core.List.{List, [], _∷_, _++_}
 use lib.ListN.{length, take, drop}
 use lib.Dec.{ltb, leb, eqb}
-use Rattle.readers.specs.Choice.{pick, _and_, zeros}
+use Rattle.readers.specs.Choice.{pick, _and_, zeros, put}
 use Rattle.readers.specs.Numbers.{padded, fixedBytes, fixedValue}
 use Rattle.readers.specs.Cursors.{fixedAt}
 use Rattle.readers.specs.declared.cursor.Number.{Number}
@@ -33,10 +33,6 @@ unfoldable pub paddedOut : ℕ → ℕ → ℕ → List ℕ
 paddedOut value width n = pick (groupsFit value width n) (padded (width - 1) value ++ zeros (n - width)) (zeros n)
 
 -- ---- a table of big-endian numbers
-
--- xs with ys in it from n on
-unfoldable pub put : List ℕ → ℕ → List ℕ → List ℕ
-put xs n ys = take n xs ++ (ys ++ drop (n + length ys) xs)
 
 -- the same where it has room for them, else as it was
 unfoldable pub putIn : List ℕ → ℕ → List ℕ → List ℕ

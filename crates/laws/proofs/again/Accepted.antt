@@ -12,7 +12,7 @@ use Rattle.marking.proofs.Rows.{UnitRows}
 use Rattle.marking.proofs.EachRow.{items-whole, own-rows}
 use Rattle.rewriting.specs.Rewriting.{Room, unitOf, Unit as Unit′, itemsIn, Lists, noLists, listsOf, refusalFrom, unitBytes, Rewrite, Collected, untouched, rewritten, refused, listsFit, orRefused, rewriteOf, marksCollected, rowsCollected, analysedCollected, declaredCollected, headerCollected, collectOf}
 use Rattle.rewriting.proofs.HeaderAgain.{HeaderLaw, header-laws}
-use Rattle.rewriting.proofs.Following.{Accepted}
+use Rattle.rewriting.proofs.AcceptedUnits.{Accepted}
 use mathlib.Core.Option.{Option, none, some}
 use native.Mathlib.Omega.{arith}
 use lib.Dec.{leb, eqb}

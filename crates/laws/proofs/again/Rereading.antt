@@ -26,7 +26,7 @@ use Rattle.rewriting.specs.Rewriting.{Unit as Unit′, readsOr, readsAt, Lists,
 use Rattle.readers.proofs.Streams.{items-step}
 use Rattle.rewriting.proofs.DeepReads.{deep-ends}
 use Rattle.laws.proofs.again.Again.{same-width, step-again}
-use Rattle.rewriting.proofs.ItemsStand.{Every, Stands, Readable, StandsThere, deepAt, size-of}
+use Rattle.rewriting.proofs.ItemDepths.{Every, Stands, Readable, StandsThere, deepAt, size-of}
 
 -- ---- one item
 

@@ -37,7 +37,7 @@ use Rattle.laws.specs.inner.Moved.{movedFrom}
 use Rattle.rewriting.specs.Rewriting.{Unit as Unit′, itemsIn, readsAt, Lists, newValue, bytesFrom, Room, Rewrite, rewritten, collectOf}
 use Rattle.laws.specs.AttributesAgain.{SameAttributes, AttributesAgain, EntryAgain}
 use Rattle.rewriting.proofs.DeepReads.{deep-step}
-use Rattle.rewriting.proofs.ItemsStand.{Every, Stands, kept-stand}
+use Rattle.rewriting.proofs.ItemDepths.{Every, Stands, kept-stand}
 use Rattle.laws.proofs.again.Rereading.{Rewritable, rewritable, deep-read, length-written}
 use Rattle.laws.proofs.again.ReadsAgain.{patched}
 use Rattle.laws.proofs.again.Fitting.{none-refused}

@@ -42,9 +42,9 @@ use Rattle.laws.proofs.references.NamedPieces.{only}
 use Rattle.rewriting.proofs.EntryIndices.{StepIndices, deep-indices}
 use Rattle.readers.proofs.FormKinds.{form-list}
 use Rattle.laws.proofs.references.EntryRoles.{readsSought, useSought, ownSought, valuesSought, StepSought, deep-sought, reads-members}
-use Rattle.rewriting.proofs.ItemsStand.{EveryItem, Stands, items-stand}
+use Rattle.rewriting.proofs.ItemDepths.{EveryItem, Stands, items-stand}
 use Rattle.rewriting.proofs.ReadableItems.{Is, JudgedStep, step-deep}
-use Rattle.rewriting.proofs.Following.{accepted-follow, Accepted}
+use Rattle.rewriting.proofs.AcceptedUnits.{accepted-follow, Accepted}
 
 -- ---- indices
 

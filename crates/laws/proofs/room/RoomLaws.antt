@@ -35,7 +35,7 @@ use Rattle.laws.specs.RoomLaws.{ListsWithin, Within, ListShort, roomFor,
 use Rattle.laws.proofs.again.Maps.{places-length}
 use Rattle.laws.proofs.again.Sizes.{sizes-divided}
 use Rattle.laws.proofs.again.Accepted.{survivorsIn, kept-most, WasRewritten, WasUntouched, was-untouched, was-empty}
-use Rattle.rewriting.proofs.Following.{Accepted}
+use Rattle.rewriting.proofs.AcceptedUnits.{Accepted}
 use Rattle.marking.proofs.UnitMarkings.{marks-each}
 use Rattle.laws.proofs.again.CollectLaws.{it, again-law}
 use Rattle.laws.proofs.refusals.CollectRefusals.{values-late, late-value}

@@ -45,7 +45,7 @@ use Rattle.rewriting.proofs.Tables.{Small, length-run, run-at}
 use Rattle.rewriting.proofs.Places.{nowhere, length-columns, old-held, new-held, depth-held}
 use Rattle.rewriting.proofs.Exact.{are-take, are-drop, tokenOk, LayoutOk, Right, Rights, AllRights, Exactly, ExactReader, RunExact, read-exact, inExpression, expression-exactly}
 use Rattle.rewriting.proofs.HeaderAgain.{HeaderLaw}
-use Rattle.rewriting.proofs.Following.{Accepted}
+use Rattle.rewriting.proofs.AcceptedUnits.{Accepted}
 use Rattle.laws.proofs.again.Accepted.{accepted-header, survivorsIn, WasRewritten}
 use Rattle.marking.proofs.UnitMarkings.{marks-each}
 use Rattle.laws.proofs.again.IndexMembers.{IndexKept}

@@ -22,11 +22,11 @@ use Rattle.laws.specs.LeftOut.{leftFrom}
 use Rattle.marking.specs.Members.{Member, here, there, Nth, now, later}
 use Rattle.laws.specs.Moved.{movedEntry, movedItem}
 use Rattle.laws.specs.inner.Moved.{movedFrom}
-use Rattle.laws.specs.Around.{ancestorsFrom}
-use Rattle.laws.specs.inner.Around.{keptAncestors, MapTo, AllMapTo}
+use Rattle.laws.specs.Ancestors.{ancestorsFrom}
+use Rattle.laws.specs.inner.Ancestors.{keptAncestors, MapTo, AllMapTo}
 use Rattle.rewriting.specs.Rewriting.{Unit as Unit′, Lists}
 use Rattle.laws.specs.Thinned.{inside, Parted, ended, kept-entry, left-entry, kept-terminator, left-terminator, surplus}
-use Rattle.rewriting.proofs.ItemsStand.{deepAt}
+use Rattle.rewriting.proofs.ItemDepths.{deepAt}
 use Rattle.laws.proofs.again.ReadsAgain.{withBytes, patched, PatchedFrom}
 
 -- ---- lists by position

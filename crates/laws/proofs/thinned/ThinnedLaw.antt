@@ -18,8 +18,8 @@ use Rattle.rewriting.specs.Places.{NestedItem, offsetOf, sizeOf, Place, placesF
 use Rattle.rewriting.specs.Indices.{rankIn, rankOr}
 use Rattle.laws.specs.LeftOut.{leftFrom}
 use Rattle.marking.specs.Members.{Member, here, there, Nth, now, later}
-use Rattle.laws.specs.Around.{ancestorsFrom}
-use Rattle.laws.specs.inner.Around.{keptAncestors, MapTo, AllMapTo}
+use Rattle.laws.specs.Ancestors.{ancestorsFrom}
+use Rattle.laws.specs.inner.Ancestors.{keptAncestors, MapTo, AllMapTo}
 use Rattle.laws.specs.Moved.{movedItem, depthsFrom}
 use Rattle.laws.specs.inner.Moved.{movedFrom}
 use Rattle.rewriting.specs.Rewriting.{Unit as Unit′, unitOf, itemsIn, readsOr, readsAt, Lists, listAt, newValue, isSome, refusalFrom, Room, Rewrite, untouched, rewritten, collectOf}
@@ -39,7 +39,7 @@ use Rattle.marking.proofs.Members.{nothing-in}
 use Rattle.laws.proofs.thinned.Roles.{index-kind}
 use Rattle.laws.proofs.again.Maps.{has-new}
 use Rattle.laws.proofs.thinned.Landing.{item-reference, item-type, item-sibling, no-type}
-use Rattle.rewriting.proofs.ItemsStand.{Every, deepAt, Readable}
+use Rattle.rewriting.proofs.ItemDepths.{Every, deepAt, Readable}
 use Rattle.laws.proofs.again.ReadsAgain.{withBytes, patched}
 use Rattle.laws.proofs.again.Depths.{depthsOf, depths-placed}
 use Rattle.laws.proofs.thinned.ThinnedItems.{nth-member, nth-map, parted, moved-offset, placeOf, Stands, stands, deep-at, ItemFound, found-by, FirstFound, first-by, AncestorsOf, around-by, Led, led}

@@ -1,8 +1,8 @@
 -- What the parts of an analysis ask of the lent columns, answer, and leave in them.
 use mathlib.Core.Path.{_≡_}
-use Prim.Native.Nat.{ℕ, _+_, _≤_, _<_}
-use mathlib.Core.List.{List, _++_}
-use lib.ListN.{length, take, drop}
+use Prim.Native.Nat.{ℕ, _≤_, _<_}
+use mathlib.Core.List.{List}
+use lib.ListN.{length}
 use Rattle.readers.specs.Choice.{zeros}
 use Rattle.readers.specs.Abbreviations.{checkedOf, indexOf}
 use Rattle.readers.specs.inner.Entries.{entryOf}
@@ -30,10 +30,6 @@ use Rattle.marking.specs.declared.analysis.Analysis.the-variants.{Entrie
 use Rattle.marking.specs.declared.analysis.UnitFound.{UnitFound}
 use Rattle.marking.specs.declared.analysis.UnitFound.the-variants.{Unit as Found′, Answered}
 use Rattle.marking.specs.Columns.{endsIn, namesIn, offsetsIn, padTo, parentsIn, rootsIn}
-
--- numbers in place of those from n on
-unfoldable pub put : List ℕ → ℕ → List ℕ → List ℕ
-put xs n ys = take n xs ++ (ys ++ drop (n + length ys) xs)
 
 -- what a column holds after the entries were read into it; after a refusal only its length is said
 unfoldable pub Left : (List EntryRow → List ℕ) → ℕ → Analysed → List ℕ → Type 0

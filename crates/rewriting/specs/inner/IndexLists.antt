@@ -27,7 +27,7 @@ use Rattle.rewriting.specs.inner.Gathering.{Gathered, Filled}
 use Rattle.rewriting.specs.declared.kept_items.Reading.{Reading}
 use Rattle.rewriting.specs.declared.lists.ListCount.{ListCount}
 use Rattle.rewriting.specs.declared.lists.ListCount.the-variants.{Present, Absent}
-use Rattle.readers.proofs.FormKinds.{useList}
+use Rattle.readers.specs.inner.Forms.{useList}
 
 -- ---- the list of a number: 0 ranges, 1 locations, 2 strings; 3 for what is no index
 

@@ -7,7 +7,7 @@ use lib.ListN.{length}
 use lib.Dec.{eqb}
 use Rattle.readers.specs.Choice.{pick}
 use Rattle.readers.specs.Nesting.{nestingOf}
-use Rattle.readers.proofs.Nesting.{Chain}
+use Rattle.readers.specs.inner.Nesting.{Chain}
 use Rattle.readers.specs.Abbreviations.{findAt}
 use Rattle.readers.specs.Stream.{Item, entry, terminator, itemsFrom}
 use Rattle.readers.specs.declared.entries.Nesting.{Nesting}

@@ -17,8 +17,8 @@ use Rattle.rewriting.specs.Ascending.{Ascending}
 use Rattle.laws.specs.inner.Maps.{Leads}
 use Rattle.laws.specs.Moved.{movedEntry, movedItem}
 use Rattle.laws.specs.inner.Moved.{movedFrom, ParentsKept}
-use Rattle.laws.specs.Around.{ancestorsFrom}
-use Rattle.laws.specs.inner.Around.{keptAncestors, MapTo, AllMapTo}
+use Rattle.laws.specs.Ancestors.{ancestorsFrom}
+use Rattle.laws.specs.inner.Ancestors.{keptAncestors, MapTo, AllMapTo}
 use Rattle.laws.proofs.again.Maps.{leads-on, leads-in}
 use Rattle.laws.proofs.again.Depths.{AllKept, Nested, all-by, nested-open, nested-close}
 
