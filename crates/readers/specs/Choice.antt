@@ -1,5 +1,5 @@
--- What the definitions are written with: a choice by a Bool, a test that must hold, one reading after another; and
--- laws of readings that may fail, as `All P o`: P holds of what the Option o holds, if it holds something.
+-- What the definitions are written with: a choice by a Bool, a test that must hold, one reading after another, zeros,
+-- numbers put into a list.
 use mathlib.Core.Bool.{Bool, true, false}
 use mathlib.Core.Option.{Option, none, some}
 use mathlib.Core.List.{List, _++_}

@@ -1,6 +1,6 @@
--- Layouts: what stands in the bytes, as data. One reader reads every layout, and the laws of reading are proved here
--- once, for all of them: what was read takes so many bytes; it is read so again whatever follows; and patched at its
--- own width it is read again as patched.
+-- Layouts: what stands in the bytes, as data. One reader reads every layout, and the laws of reading are proved once
+-- for all of them (proofs/LayoutLaws.antt): what was read takes so many bytes; it is read so again whatever follows; and
+-- patched at its own width it is read again as patched.
 use Prim.Native.Nat.{ℕ, zero, suc, _+_, _^_, _≤_, _<_}
 use mathlib.Core.Bool.{Bool}
 use mathlib.Core.Option.{Option, none, some}
