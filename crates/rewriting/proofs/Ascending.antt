@@ -22,6 +22,10 @@ use Rattle.marking.specs.Marks.{isKept}
 
 -- ---- the items of a unit
 
+unfoldable pub offsetsOf : List Item → List ℕ
+offsetsOf [] = []
+offsetsOf (i ∷ rest) = offsetOf i ∷ offsetsOf rest
+
 module _ (e : Encoding) (abbreviations : List ℕ) (look : ℕ → DeclarationFound) (unit : List ℕ) where
   abbrev pub from : ℕ → Items
   from = itemsFrom e abbreviations look unit
@@ -76,7 +80,3 @@ olds-from marks low k n stack (terminator a b ∷ rest) f =
 pub olds-ascending : (marks : List ℕ) (k n : ℕ) (stack : List Bool) (items : List Item) → Ascending (offsetsOf items)
     → Ascending (oldOffsets (placesFrom n (keptFrom marks k stack items)))
 olds-ascending marks k n stack items f = olds-from marks 0 k n stack items f
-
-unfoldable pub offsetsOf : List Item → List ℕ
-offsetsOf [] = []
-offsetsOf (i ∷ rest) = offsetOf i ∷ offsetsOf rest

@@ -40,6 +40,7 @@ use Rattle.readers.proofs.EntryAttributes.{specs-all}
 use Rattle.rewriting.specs.Indices.{indexIn, indicesIn, readIndices}
 use Rattle.rewriting.specs.inner.IndexLists.{formList, valueIndex, valueIndices}
 use Rattle.readers.specs.inner.Forms.{roleList, useList}
+use Rattle.readers.proofs.FormKinds.{list-low, list-high, form-list}
 use Rattle.rewriting.proofs.DeepReads.{deep-step}
 
 -- ---- indices of some pieces after others
@@ -318,12 +319,12 @@ module _ (k : ℕ) where
           ⊎-elim
           (λ t. let h : f ≤ 0x24 = leb-yes {a = f} {b = 0x24} t in
           of-none name f
-          (sym (list-below name f (eqb-no {a = f} {b = 0x23} r) (eqb-no {a = f} {b = 0x22} l) (eqb-no {a = f} {b = 0x1a} s) (eqb-no {a = f} {b = 0x1f02} g) (omega arith)))
-          (sym (list-below 0 f (eqb-no {a = f} {b = 0x23} r) (eqb-no {a = f} {b = 0x22} l) (eqb-no {a = f} {b = 0x1a} s) (eqb-no {a = f} {b = 0x1f02} g) (omega arith))))
+          (sym (list-low f (omega arith) (eqb-no {a = f} {b = 0x23} r) (eqb-no {a = f} {b = 0x22} l) (eqb-no {a = f} {b = 0x1a} s) ∙ form-list name f))
+          (sym (list-low f (omega arith) (eqb-no {a = f} {b = 0x23} r) (eqb-no {a = f} {b = 0x22} l) (eqb-no {a = f} {b = 0x1a} s) ∙ form-list 0 f)))
           (λ t. let h : 0x28 < f = omega (arith, leb-no {a = f} {b = 0x24} t, eqb-no {a = f} {b = 0x25} a, eqb-no {a = f} {b = 0x26} b, eqb-no {a = f} {b = 0x27} c, eqb-no {a = f} {b = 0x28} d) in
           of-none name f
-          (sym (list-above name f (eqb-no {a = f} {b = 0x23} r) (eqb-no {a = f} {b = 0x22} l) (eqb-no {a = f} {b = 0x1a} s) (eqb-no {a = f} {b = 0x1f02} g) h))
-          (sym (list-above 0 f (eqb-no {a = f} {b = 0x23} r) (eqb-no {a = f} {b = 0x22} l) (eqb-no {a = f} {b = 0x1a} s) (eqb-no {a = f} {b = 0x1f02} g) h)))
+          (sym (list-high f h (eqb-no {a = f} {b = 0x1f02} g) ∙ form-list name f))
+          (sym (list-high f h (eqb-no {a = f} {b = 0x1f02} g) ∙ form-list 0 f)))
           (either (leb f 0x24)))
           (either (eqb f 0x28)))
           (either (eqb f 0x27)))

@@ -3,13 +3,12 @@ use mathlib.Core.Path.{_≡_, refl}
 use Prim.Native.Nat.{ℕ}
 use mathlib.Core.Bool.{true, false}
 use mathlib.Core.List.{List, [], _∷_, _++_}
-use mathlib.Core.Option.{none, some}
 use lib.ListN.{length}
 use Rattle.readers.specs.Choice.{pick, zeros}
 use Rattle.readers.specs.Numbers.{littleBytes, ordered, fixedBytes}
 use Rattle.marking.specs.Columns.{padTo}
 use Rattle.rewriting.specs.Written.{runBytes}
-use Rattle.rewriting.specs.Rewriting.{Collected, untouched, rewritten, refused, noLists}
+use Rattle.rewriting.specs.Rewriting.{Collected, untouched, refused, noLists}
 use Rattle.rewriting.specs.Outputs.{listCount, answerFor}
 use Rattle.laws.proofs.examples.FiveEntries.{none3, place, header5, rewrite5}
 use Rattle.rewriting.specs.declared.collect.Counts.{Counts}

@@ -2,7 +2,7 @@
 use mathlib.Core.Path.{_≡_, refl}
 use mathlib.Core.List.{List, [], _∷_, _++_}
 use mathlib.Core.Bool.{true, false}
-use mathlib.Core.Option.{none, some}
+use mathlib.Core.Option.{some}
 use Prim.Native.Nat.{ℕ}
 use Rattle.readers.specs.Choice.{pick, _and_, _or_, check, bind}
 use Rattle.readers.proofs.Choice.{All}
@@ -38,7 +38,7 @@ use Rattle.marking.specs.Markings.{climbs, isDescendant, namedBy, isTop, isLive
 use Rattle.laws.specs.Markings.{accepts, step, run, nothing}
 use Rattle.marking.specs.Marks.{has, round, rounds, keptOf, markOf, marksOf, isKept, keptCount, answerOf, endMarks}
 use Rattle.readers.specs.Stream.{push as push′Stream, onStep, itemsWithin, itemsFrom}
-use Rattle.marking.specs.Analysis.{onto, onVerdict, onFound as onFound′Analysis, valuesOfEntry, rootOf, namesOf as namesOf′Analysis, baseOf, analyseItems, onDeclared, unitAnalysed, headerAnalysed, analysisOf, Sections, sections, rooms}
+use Rattle.marking.specs.Analysis.{onto, onVerdict, onFound as onFound′Analysis, valuesOfEntry, rootOf, namesOf as namesOf′Analysis, baseOf, analyseItems, onDeclared, unitAnalysed, headerAnalysed, analysisOf, sections, rooms}
 use Rattle.marking.specs.Columns.{offsetsIn, parentsIn, rootsIn, namesIn as namesIn′Columns, endsIn, padTo, column}
 use Rattle.marking.specs.Resolution.{entryFrom, pairFor, pairsOfEntry, pairsFrom, pairsIn, graphOf, marksIn, unitMarks, Ascending}
 use Rattle.marking.specs.inner.Resolution.{asEntry}

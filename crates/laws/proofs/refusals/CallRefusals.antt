@@ -1,12 +1,11 @@
 -- "A refusal carries a number of document 01", for the calls for C. Assumes nothing.
 use mathlib.Core.Path.{_≡_, refl}
 use Prim.Native.Nat.{ℕ}
-use mathlib.Core.Bool.{Bool, true, false}
 use mathlib.Core.List.{List, [], _∷_}
 use Rattle.readers.specs.Choice.{_and_, _or_}
 use Rattle.readers.proofs.Choice.{pick-either}
 use Rattle.laws.proofs.refusals.ReaderRefusals.{isOneOf, areOf, one-of, wider}
-use Rattle.rewriting.specs.Rewriting.{Room, Collected, untouched, rewritten, refused, collectOf}
+use Rattle.rewriting.specs.Rewriting.{Room, Collected, untouched, rewritten, refused}
 use Rattle.rewriting.specs.Outputs.{answerFor}
 use Rattle.laws.specs.RefusalNumbers.{CollectRefusal, CallNumber}
 use Rattle.laws.proofs.refusals.CollectRefusals.{collect-refusal}

@@ -5,12 +5,12 @@ use Prim.Native.Nat.{ℕ, _+_, _≤_, _<_}
 use native.Mathlib.Omega.{arith}
 use mathlib.Core.Bool.{Bool, true, false, not, false≢true}
 use mathlib.Core.List.{List, [], _∷_}
-use mathlib.Core.Logic.{_⊎_, inl, inr, ⊎-elim}
+use mathlib.Core.Logic.{inl, inr}
 use mathlib.Core.Option.{Option, none, some}
 use lib.ListN.{length, take}
 use lib.Dec.{T, leb, eqb}
 use mir.Facts.{eqb-no, leb-yes, leb-no, yes-eqb, no-eqb, yes-leb, no-leb}
-use Rattle.readers.specs.Choice.{pick, _and_, _or_}
+use Rattle.readers.specs.Choice.{_and_, _or_}
 use Rattle.readers.proofs.Choice.{pick-either, pick-no, pick-yes}
 use Rattle.laws.specs.RefusalNumbers.{OneOf, CollectRefusal, PaddedRefusal}
 use Rattle.readers.specs.Abbreviations.{Placed, abbreviationsOf}

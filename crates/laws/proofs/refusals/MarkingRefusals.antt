@@ -1,13 +1,13 @@
 -- "A refusal carries a number of document 01": the root test's is 5 or 6, the references' 5 or 7, the analysis' one of 1 to 7, 10 and 11, `mark`'s 16. Assumes nothing.
 use mathlib.Core.Path.{_≡_, refl, ap, sym, _∙_, subst}
-use Prim.Native.Nat.{ℕ, zero, suc, _+_}
+use Prim.Native.Nat.{ℕ, zero, suc}
 use native.Mathlib.Omega.{arith}
 use mathlib.Core.Bool.{Bool, true, false}
 use mathlib.Core.List.{List, [], _∷_}
 use mathlib.Core.Option.{Option, none, some}
-use lib.ListN.{length, take}
-use lib.Dec.{T, ltb, leb}
-use Rattle.readers.specs.Choice.{pick, _and_, _or_}
+use lib.ListN.{take}
+use lib.Dec.{T}
+use Rattle.readers.specs.Choice.{_and_, _or_}
 use Rattle.readers.proofs.Choice.{pick-either}
 use Rattle.laws.specs.RefusalNumbers.{OneOf, RootRefusal, ScanRefusal, EntriesRefusal, AnalysisRefusal, MarkRefusal}
 use Rattle.readers.specs.Header.{headerOf}

@@ -1,5 +1,5 @@
 -- "A refusal carries a number of document 01": the header's is 1 or 2, that of the references of an expression 2, 5, 7 or 11. Assumes nothing.
-use mathlib.Core.Path.{_≡_, refl, sym, subst}
+use mathlib.Core.Path.{_≡_, sym, subst}
 use Prim.Native.Nat.{ℕ, _-_, _/_}
 use mathlib.Core.Bool.{Bool, true, false}
 use mathlib.Core.List.{List, [], _∷_}
@@ -7,8 +7,8 @@ use mathlib.Core.Logic.{_⊎_, inl, inr, ⊎-elim}
 use lib.ListN.{length}
 use lib.Dec.{T, eqb, leb}
 use mir.Facts.{eqb-yes}
-use Rattle.readers.specs.Choice.{pick, _and_, _or_}
-use Rattle.readers.proofs.Choice.{pick-either, either}
+use Rattle.readers.specs.Choice.{_and_, _or_}
+use Rattle.readers.proofs.Choice.{pick-either}
 use Rattle.readers.specs.Header.{present, right, encodingOf, headerMade, headerFields, headerOf}
 use Rattle.readers.specs.References.{walkOf, walkAnswer, referencesAnswer}
 use Rattle.laws.specs.RefusalNumbers.{OneOf, HeaderRefusal, ReferencesRefusal}

@@ -4,13 +4,13 @@ use mathlib.Core.Path.{_≡_, refl, ap, sym, _∙_, subst}
 use Prim.Native.Nat.{ℕ, zero, suc, _+_, _≤_, _<_}
 use native.Mathlib.Omega.{arith}
 use mathlib.Core.Bool.{Bool, true, false, not}
-use mathlib.Core.List.{List, [], _∷_, _++_}
+use mathlib.Core.List.{List, [], _∷_}
 use mathlib.Core.Logic.{_⊎_, inl, inr, ⊎-elim}
 use mathlib.Core.Option.{Option, none, some}
 use lib.ListN.{length, take, length-append}
 use lib.Seq.{take-all}
 use lib.Dec.{T, leb, ltb, eqb}
-use mir.Facts.{leb-yes, leb-no, yes-leb, no-leb, eqb-yes, eqb-no, yes-eqb, no-eqb}
+use mir.Facts.{leb-yes, leb-no, yes-leb, no-leb, yes-eqb, no-eqb}
 use Rattle.readers.specs.Choice.{pick, _and_, _or_}
 use Rattle.readers.proofs.Choice.{pick-either, pick-yes, pick-no, either}
 use Rattle.laws.specs.RefusalNumbers.{OneOf, RoomyRefusal}
@@ -29,13 +29,11 @@ use Rattle.laws.specs.TableRoom.{TablesWithin, tablesFor, TableLaw, enou
 use Rattle.laws.proofs.room.TableRoom.{table-law, first-most, tables-lent, enough-tables}
 use Rattle.rewriting.specs.Places.{NestedItem, keptFrom, opened, closed, innermost, withIf, offsetOf, Place, placesFrom, sizeFrom}
 use Rattle.rewriting.specs.Indices.{insert, insertAll, readIndices, countOf}
-use Rattle.laws.specs.LeftOut.{leftFrom, sizesOf}
 use Rattle.rewriting.specs.Rewriting.{Unit as Unit′, itemsIn, readsAt, Lists, noLists, indicesFrom, anyDeclares, listOf, listsOf, refusalFrom, unitBytes, Room, Rewrite, Collected, untouched, rewritten, refused, listsFit, orRefused, rewriteOf, marksCollected, rowsCollected, analysedCollected, declaredCollected, headerCollected, collectOf, unitOf}
-use Rattle.laws.specs.RoomLaws.{ListsWithin, Within, ListShort, roomFor, noRoom, needOf, IsAccepted, RoomLaw, Needs, TooShort, indexCount, unitRoom, declaredRoom, headerRoom, enoughRoom}
+use Rattle.laws.specs.RoomLaws.{ListsWithin, Within, ListShort, roomFor, needOf, IsAccepted, RoomLaw, Needs, TooShort, indexCount, unitRoom, declaredRoom, headerRoom, enoughRoom}
 use Rattle.laws.proofs.again.Maps.{places-length}
 use Rattle.laws.proofs.again.Sizes.{sizes-divided}
-use Rattle.laws.proofs.again.Accepted.{survivorsIn, kept-most, WasRewritten, WasUntouched, was-untouched, was-empty}
-use Rattle.rewriting.proofs.AcceptedUnits.{Accepted}
+use Rattle.laws.proofs.again.Accepted.{survivorsIn, WasRewritten, WasUntouched, was-untouched, was-empty}
 use Rattle.marking.proofs.UnitMarkings.{marks-each}
 use Rattle.laws.proofs.again.CollectLaws.{it, again-law}
 use Rattle.laws.proofs.refusals.CollectRefusals.{values-late, late-value}
