@@ -8,8 +8,7 @@ use Rattle.readers.specs.Abbreviations.{Placed, declaredIn, abbreviationsOf}
 use Rattle.readers.specs.Stream.{itemsFrom}
 use Rattle.readers.specs.declared.header.UnitHeader.{UnitHeader}
 use Rattle.marking.specs.Analysis.{Sections, EntryRow, Analysed, analysed, refused as notAnalysed, headerAnalysed, analysisOf}
-use Rattle.marking.proofs.Rows.{UnitRows}
-use Rattle.marking.proofs.EachRow.{items-whole, own-rows}
+use Rattle.marking.proofs.EachRow.{items-whole}
 use Rattle.rewriting.specs.Rewriting.{Room, unitOf, Unit as Unit′, itemsIn, Lists, noLists, listsOf, refusalFrom, unitBytes, Rewrite, Collected, untouched, rewritten, refused, listsFit, orRefused, rewriteOf, marksCollected, rowsCollected, analysedCollected, declaredCollected, headerCollected, collectOf}
 use Rattle.rewriting.proofs.HeaderAgain.{HeaderLaw, header-laws}
 use Rattle.rewriting.proofs.AcceptedUnits.{Accepted}
@@ -36,9 +35,6 @@ module _ (x : Sections) (room : Room) (section : List ℕ) (h : UnitHeader) (ds 
   -- its header, and how its rows stand
   pub accepted-header : HeaderLaw (take (h .end) section) h
   accepted-header = header-laws section h (a .header)
-
-  pub accepted-rows : UnitRows (take (h .end) section) (room .tables) (h .first .0) rows
-  accepted-rows = own-rows x section (room .tables) h ds rows (a .header) (a .declared) (a .analysis)
 
 -- ---- at most as many are kept as there are
 

@@ -16,7 +16,6 @@ use Rattle.readers.specs.Fields.{size}
 use Rattle.readers.specs.Cursors.{cursor}
 use Rattle.readers.specs.Entries.{entryLayout, entryFound, stepOfReads, stepAt}
 use Rattle.readers.specs.declared.cursor.Encoding.{Encoding}
-use Rattle.readers.specs.declared.cursor.Cursor.{Cursor}
 use Rattle.readers.specs.declared.abbreviations.DeclarationFound.{DeclarationFound}
 use Rattle.readers.specs.declared.abbreviations.DeclarationFound.the-variants.{Declaration as Found′, Nothing}
 use Rattle.readers.specs.declared.entries.Entry.{Entry}
@@ -26,7 +25,7 @@ use Rattle.laws.specs.inner.Moved.{movedStep}
 use Rattle.rewriting.proofs.DeepReads.{like-width, like-patched, like-step, deep-step}
 
 module _ (e : Encoding) (abbreviations : List ℕ) (look : ℕ → DeclarationFound) where
-  abbrev order : Bool
+  abbrev pub order : Bool
   order = e .«big_endian»
 
   -- ---- what was read, at another place
@@ -77,11 +76,6 @@ module _ (e : Encoding) (abbreviations : List ℕ) (look : ℕ → DeclarationFo
         ∙ like-step e abbreviations look n (patchAll f rs) rs (like-patched order f rs)
         ∙ moved-reads at n rs
         ∙ ap (movedStep at n) (sym (deep-step e abbreviations look ex law unit at rs rest deep))
-
-    pub terminator-again : (n : ℕ) → length front ≡ n → (c : Cursor) → stepAt e abbreviations look unit at ≡ Terminator c
-        → stepAt e abbreviations look (front ++ (written ++ back)) n ≡ Terminator (cursor (n + (c .at - at)))
-    unfolding movedStep
-    terminator-again n l c q = step-again n l ∙ ap (movedStep at n) q
 
     pub entry-again : (n : ℕ) → length front ≡ n → (x : Entry) → stepAt e abbreviations look unit at ≡ Entry′ x
         → stepAt e abbreviations look (front ++ (written ++ back)) n ≡ Entry′ (movedEntry n x)

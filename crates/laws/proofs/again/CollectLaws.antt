@@ -40,12 +40,8 @@ use Rattle.laws.proofs.again.ReadsAgain.{withBytes}
 use Rattle.laws.proofs.again.UnitAgain.{ReadAgain, unit-again}
 use Rattle.rewriting.proofs.HeaderAgain.{HeaderLaw}
 use Rattle.marking.proofs.UnitMarkings.{marks-each}
-use Rattle.laws.specs.UnitSurvivors.{LeastRows}
-use Rattle.marking.specs.EntryRows.{RowsOf}
-use Rattle.rewriting.proofs.AcceptedUnits.{accepted-follow, Accepted}
-use Rattle.laws.proofs.again.Accepted.{accepted-whole, accepted-header, accepted-rows, survivorsIn, WasRewritten, WasUntouched, was-rewritten, was-untouched, was-empty}
-use Rattle.marking.proofs.Rows.{offsets-ascend}
-use Rattle.laws.proofs.survivors.UnitSurvivors.{rows-least}
+use Rattle.rewriting.proofs.AcceptedUnits.{Accepted}
+use Rattle.laws.proofs.again.Accepted.{accepted-whole, accepted-header, survivorsIn, WasRewritten, WasUntouched, was-rewritten, was-untouched, was-empty}
 use Rattle.laws.proofs.survivors.ClosedMarks.{accepted-kept, accepted-count, accepted-marks, accepted-closed}
 use Rattle.rewriting.proofs.ReadableItems.{accepted-readable}
 use Rattle.laws.proofs.again.AncestorsAgain.{around-again}
@@ -117,7 +113,7 @@ module _ (x : Sections) (room : Room) (typeUnits : Bool) (section : List ℕ) (w
   abbrev pub again : Unit′
   again = withBytes unit (w .output)
 
-  accepted : Accepted x room section (it .header) (it .declared) (it .rows)
+  pub accepted : Accepted x room section (it .header) (it .declared) (it .rows)
   accepted = it .accepted
 
   header-law : HeaderLaw (unit .bytes) (it .header)
@@ -129,15 +125,6 @@ module _ (x : Sections) (room : Room) (typeUnits : Bool) (section : List ℕ) (w
       subst (λ (n : ℕ). Number (Survivor (graphOf (it .rows))) (w .entries) n) (sym (it .count-is))
       (subst (λ (n : ℕ). Number (Survivor (graphOf (it .rows))) n (keptCount marks)) (sym (it .entries-is ∙ accepted-marks x room section (it .header) (it .declared) (it .rows) accepted))
       (accepted-count x room section (it .header) (it .declared) (it .rows) accepted))
-
-  -- "survivors are the least set holding the first entry and all roots, the parent of each survivor, every entry a survivor's non-sibling reference names, and all
-  -- descendants of roots and of entries so named; every other set like that contains it": by the rows of the unit's entries, which say what the entries do
-  pub least-law : LeastRows (it .rows) (Survivor (graphOf (it .rows)))
-  least-law = rows-least (it .rows) start (offsets-ascend (length (unit .bytes)) start 0 (it .rows) (accepted-rows x room section (it .header) (it .declared) (it .rows) accepted .rowed))
-
-  -- each row is that of its entry: offset, innermost open entry, root test, references
-  pub rows-law : RowsOf (it .header .encoding) x (unit .bytes) 0 [] 12 12 (itemsIn x unit) (it .rows)
-  rows-law = accepted-follow x room section (it .header) (it .declared) (it .rows) accepted
 
   -- the survivors are what is kept
   pub kept-law : (i : ℕ) → T (isKept marks i) ↔ Survivor (graphOf (it .rows)) i
@@ -249,13 +236,6 @@ module _ (x : Sections) (room : Room) (typeUnits : Bool) (section : List ℕ) (n
   whole-list-law k h xs q =
       listed-law x (unitOf (whole .header) section (whole .declared)) typeUnits (survivorsIn x (unitOf (whole .header) section (whole .declared)) (whole .rows)) xs lists
       (whole .lists-is) k h q
-
-  -- its survivors are the least set too
-  pub whole-least-law : LeastRows (whole .rows) (Survivor (graphOf (whole .rows)))
-  whole-least-law =
-      rows-least (whole .rows) (whole .header .first .0)
-      (offsets-ascend (length (take (whole .header .end) section)) (whole .header .first .0) 0 (whole .rows)
-      (accepted-rows x room section (whole .header) (whole .declared) (whole .rows) (whole .accepted) .rowed))
 
 -- ---- rewritten or untouched
 

@@ -11,7 +11,7 @@ use Rattle.readers.proofs.Expression.{expression-law}
 use Rattle.readers.specs.Abbreviations.{declaredIn}
 use Rattle.marking.specs.Analysis.{Sections}
 use Rattle.rewriting.specs.Places.{NestedItem, offsetOf, sizeOf, Place}
-use Rattle.rewriting.specs.Rewriting.{Unit as Unit′, readsOr, readsAt, Lists, newValue, bytesFrom}
+use Rattle.rewriting.specs.Rewriting.{Unit as Unit′, readsAt, Lists, newValue, bytesFrom}
 use Rattle.laws.proofs.again.Again.{deep-again}
 use Rattle.rewriting.proofs.ItemDepths.{Every, deepAt}
 use Rattle.laws.proofs.again.Rereading.{Rewritable, deep-read, length-written}
@@ -29,11 +29,6 @@ module _ (x : Sections) (u : Unit′) (lists : Lists) (places : List Place) wher
     unfoldable pub PatchedFrom : ℕ → List NestedItem → Type 0
     PatchedFrom n [] = Unit {0}
     PatchedFrom n (s ∷ kept) = (deepAt x (withBytes u unit) n ≡ some (patched s, drop (n + sizeOf (s .item)) unit)) × PatchedFrom (n + sizeOf (s .item)) kept
-
-    -- the reads at a place, where something is read there
-    pub reads-at : (at : ℕ) (rs : List Read) (rest : List ℕ) → deepAt x (withBytes u unit) at ≡ some (rs, rest) → readsAt x (withBytes u unit) at ≡ rs
-    unfolding readsAt readsOr
-    reads-at at rs rest h = ap (readsOr x (withBytes u unit)) h
 
     pub reads-again : (kept : List NestedItem) → Every (Rewritable x u lists places) kept → (front : List ℕ) (n : ℕ) → length front ≡ n
         → unit ≡ front ++ bytesFrom x u lists places kept → PatchedFrom n kept

@@ -114,7 +114,7 @@ module _ (lists : Lists) (map : List Place) (depth : ℕ) where
 -- ---- the kept items
 
 module _ (x : Sections) (u : Unit′) (lists : Lists) (map : List Place) where
-  clean-at : (kept : List NestedItem) → refusalFrom x u lists map kept ≡ 0 → (s : NestedItem) → Member s kept
+  pub clean-at : (kept : List NestedItem) → refusalFrom x u lists map kept ≡ 0 → (s : NestedItem) → Member s kept
       → readsRefusal lists map (s .depth) (readsAt x u (offsetOf (s .item))) ≡ 0
   unfolding refusalFrom
   clean-at [] h s m = absurd (nothing-in s m)
@@ -125,10 +125,6 @@ module _ (x : Sections) (u : Unit′) (lists : Lists) (map : List Place) where
       clean-at kept (both-zero lists map (y .depth) (readsRefusal lists map (y .depth) (readsAt x u (offsetOf (y .item)))) (refusalFrom x u lists map kept) h .1) s m
 
   module _ (kept : List NestedItem) (h : refusalFrom x u lists map kept ≡ 0) (s : NestedItem) (m : Member s kept) where
-    -- an item's new values fit, all of them
-    pub item-fits : FitAll (newValue lists map (s .depth)) (readsAt x u (offsetOf (s .item)))
-    item-fits = reads-fit lists map (s .depth) (readsAt x u (offsetOf (s .item))) (clean-at kept h s m)
-
     module _ (r : Read) (i : Member r (readsAt x u (offsetOf (s .item)))) (e : Encoded) where
       -- each number has a place and fits
       pub number-lands : (role : Role) (v : ℕ) → Member (patchable e role v) (r .pieces) → Lands lists map (s .depth) e role v
