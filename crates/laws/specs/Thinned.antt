@@ -168,11 +168,11 @@ module _ (x : Sections) (u new : Unit′) (lists : Lists) (map : List Place) (ke
     -- the entries open around it, the innermost first, which is its parent
     pub at : ℕ
     pub was-at : Nth (s .item) at (itemsIn x u)
-    pub around : List ℕ
-    pub around-again : List ℕ
-    pub were-open : Nth around at (ancestorsFrom [] (itemsIn x u))
-    pub are-open : Nth around-again m (ancestorsFrom [] (itemsIn x new))
-    pub same-open : Pairwise LandsOn around around-again
+    pub ancestors : List ℕ
+    pub ancestors-again : List ℕ
+    pub were-open : Nth ancestors at (ancestorsFrom [] (itemsIn x u))
+    pub are-open : Nth ancestors-again m (ancestorsFrom [] (itemsIn x new))
+    pub same-open : Pairwise LandsOn ancestors ancestors-again
 
 -- ---- the thinned unit
 

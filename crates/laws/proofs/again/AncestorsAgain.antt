@@ -14,12 +14,12 @@ use Rattle.marking.specs.Marks.{isKept}
 use Rattle.rewriting.specs.Places.{NestedItem, opened, closed, innermost, withIf, keptFrom, offsetOf, sizeOf, Place, placesFrom, newOf, oldOffsets}
 use Rattle.marking.specs.Members.{here}
 use Rattle.rewriting.specs.Ascending.{Ascending}
-use Rattle.laws.specs.inner.Maps.{Leads}
+use Rattle.laws.specs.inner.Maps.{MappedTo}
 use Rattle.laws.specs.Moved.{movedEntry, movedItem}
 use Rattle.laws.specs.inner.Moved.{movedFrom, ParentsKept}
 use Rattle.laws.specs.Ancestors.{ancestorsFrom}
 use Rattle.laws.specs.inner.Ancestors.{keptAncestors, MapTo, AllMapTo}
-use Rattle.laws.proofs.again.Maps.{leads-on, leads-in}
+use Rattle.laws.proofs.again.Maps.{mapped-on, mapped-in}
 use Rattle.laws.proofs.again.Depths.{AllKept, Nested, all-by, nested-open, nested-close}
 
 module _ (map : List Place) where
@@ -56,7 +56,7 @@ module _ (map : List Place) where
 
   -- places that the map holds
   abbrev Placed : ℕ → List NestedItem → Type 0
-  Placed n kept = (v m : ℕ) → Leads (placesFrom n kept) v m → newOf map v ≡ some m
+  Placed n kept = (v m : ℕ) → MappedTo (placesFrom n kept) v m → newOf map v ≡ some m
 
   placed-first : (n : ℕ) (s : NestedItem) (kept : List NestedItem) → Placed n (s ∷ kept) → newOf map (offsetOf (s .item)) ≡ some n
   unfolding placesFrom
@@ -64,7 +64,7 @@ module _ (map : List Place) where
 
   placed-next : (n : ℕ) (s : NestedItem) (kept : List NestedItem) → Placed n (s ∷ kept) → Placed (n + sizeOf (s .item)) kept
   unfolding placesFrom
-  placed-next n s kept h v m l = h v m (leads-on _ (placesFrom (n + sizeOf (s .item)) kept) v m l)
+  placed-next n s kept h v m l = h v m (mapped-on _ (placesFrom (n + sizeOf (s .item)) kept) v m l)
 
   -- the kept items of a stretch, and around each what leads
   abbrev Nests : List Bool → List ℕ → List (List ℕ) → List NestedItem → Type 0
@@ -109,8 +109,8 @@ module _ (map : List Place) where
       terminator-nests a b bs vs _ _ h (nests-from marks k (closed bs) (close vs) rest (nested-close bs h) c)
 
 -- THE nesting again
-pub around-again : (marks : List ℕ) (items : List Item) → ParentsKept marks 0 [] items → (n : ℕ) → Ascending (oldOffsets (placesFrom n (keptFrom marks 0 [] items)))
+pub ancestors-again : (marks : List ℕ) (items : List Item) → ParentsKept marks 0 [] items → (n : ℕ) → Ascending (oldOffsets (placesFrom n (keptFrom marks 0 [] items)))
     → AllMapTo (placesFrom n (keptFrom marks 0 [] items)) (keptAncestors marks 0 [] [] items) (ancestorsFrom [] (movedFrom n (keptFrom marks 0 [] items)))
 unfolding Nested Thinned
-around-again marks items c n f =
-    nests-from (placesFrom n (keptFrom marks 0 [] items)) marks 0 [] [] items tt c n [] tt (λ v m l. leads-in (placesFrom n (keptFrom marks 0 [] items)) v m f l)
+ancestors-again marks items c n f =
+    nests-from (placesFrom n (keptFrom marks 0 [] items)) marks 0 [] [] items tt c n [] tt (λ v m l. mapped-in (placesFrom n (keptFrom marks 0 [] items)) v m f l)

@@ -44,7 +44,7 @@ use Rattle.rewriting.proofs.AcceptedUnits.{Accepted}
 use Rattle.laws.proofs.again.Accepted.{accepted-whole, accepted-header, survivorsIn, WasRewritten, WasUntouched, was-rewritten, was-untouched, was-empty}
 use Rattle.laws.proofs.survivors.ClosedMarks.{accepted-kept, accepted-count, accepted-marks, accepted-closed}
 use Rattle.rewriting.proofs.ReadableItems.{accepted-readable}
-use Rattle.laws.proofs.again.AncestorsAgain.{around-again}
+use Rattle.laws.proofs.again.AncestorsAgain.{ancestors-again}
 use Rattle.laws.proofs.again.IndexMembers.{IndexKept, index-members}
 use Rattle.laws.proofs.again.Counting.{some-without, all-with}
 use Rattle.laws.specs.Thinned.{Without, DeadEntry, newOffsets}
@@ -207,7 +207,7 @@ module _ (x : Sections) (room : Room) (typeUnits : Bool) (section : List ℕ) (w
   nesting-law =
       subst (λ (z : List Item). AllMapTo (w .map) (keptAncestors marks 0 [] [] (itemsIn x unit)) (ancestorsFrom [] z)) (sym items-are)
       (subst (λ (z : List Place). AllMapTo z (keptAncestors marks 0 [] [] (itemsIn x unit)) (ancestorsFrom [] (movedFrom start kept))) (sym (it .map-is))
-      (around-again marks (itemsIn x unit) (accepted-closed x room section (it .header) (it .declared) (it .rows) accepted) start olds-law))
+      (ancestors-again marks (itemsIn x unit) (accepted-closed x room section (it .header) (it .declared) (it .rows) accepted) start olds-law))
 
   -- ---- index lists
 

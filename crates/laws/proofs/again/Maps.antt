@@ -18,7 +18,7 @@ use Rattle.rewriting.specs.Rewriting.{isSome}
 use Rattle.marking.specs.Resolution.{Ascending as From}
 use Rattle.marking.specs.Members.{Member, here, there}
 use Rattle.rewriting.specs.Ascending.{Ascending}
-use Rattle.laws.specs.inner.Maps.{Leads, Sized, KeptSized}
+use Rattle.laws.specs.inner.Maps.{MappedTo, Sized, KeptSized}
 use Rattle.laws.specs.Thinned.{newOffsets}
 use Rattle.laws.specs.ValueRefusals.{Split}
 use Rattle.marking.proofs.Members.{nothing-in, in-cases, from-member}
@@ -78,8 +78,8 @@ news-ascending n xs h = from-less 0 n (newOffsets (placesFrom n xs)) (omega arit
 
 -- ---- where an old offset leads to
 
-pub leads-on : (p : Place) (map : List Place) (v n : ℕ) → Leads map v n → Leads (p ∷ map) v n
-leads-on p map v n l = record { place = l .place; within = there (l .within); old = l .old; new = l .new }
+pub mapped-on : (p : Place) (map : List Place) (v n : ℕ) → MappedTo map v n → MappedTo (p ∷ map) v n
+mapped-on p map v n l = record { place = l .place; within = there (l .within); old = l .old; new = l .new }
 
 old-member : (p : Place) (map : List Place) → Member p map → Member (p .old) (oldOffsets map)
 unfolding oldOffsets
@@ -97,8 +97,8 @@ new-of low p (q ∷ ps) f (there m) =
     pick-no _ _ _ (no-eqb {a = q .old} {b = p .old} (omega arith)) ∙ new-of (suc (q .old)) p ps (f .1) m
 
 -- in an ascending map an old offset has the new one that a place in it gives
-pub leads-in : (map : List Place) (v n : ℕ) → Ascending (oldOffsets map) → Leads map v n → newOf map v ≡ some n
-leads-in map v n f l = ap (newOf map) (sym (l .old)) ∙ new-of 0 (l .place) map f (l .within) ∙ ap (λ (x : ℕ). some x) (l .new)
+pub mapped-in : (map : List Place) (v n : ℕ) → Ascending (oldOffsets map) → MappedTo map v n → newOf map v ≡ some n
+mapped-in map v n f l = ap (newOf map) (sym (l .old)) ∙ new-of 0 (l .place) map f (l .within) ∙ ap (λ (x : ℕ). some x) (l .new)
 
 -- ---- every kept item has its place
 

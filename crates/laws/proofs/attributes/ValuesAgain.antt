@@ -91,9 +91,9 @@ module _ (f : Patch) where
     abbrev Same : Type 0
     Same = (v : ℕ) → tokenNumber f (formIs e name form) v ≡ newNumber f (useOf name form) v
 
-    linked-use : (role : Role) → LinkForm e name role form → useOf name form ≡ as′ role → Same
+    patchable-use : (role : Role) → LinkForm e name role form → useOf name form ≡ as′ role → Same
     unfolding tokenNumber newNumber
-    linked-use role l q v = ap (λ (t : Token). tokenNumber f t v) (l .token) ∙ sym (ap (λ (u : Use). newNumber f u v) q)
+    patchable-use role l q v = ap (λ (t : Token). tokenNumber f t v) (l .token) ∙ sym (ap (λ (u : Use). newNumber f u v) q)
 
     pub plain-use : useOf name form ≡ plain → T (tokenOk noRole (formIs e name form))
     unfolding useOk
@@ -112,12 +112,12 @@ module _ (f : Patch) where
     unfolding useOf listForm
     use-number =
         ⊎-elim (λ t1. let p = and-both (leb 0x11 form) (leb form 0x15) t1 in
-        linked-use (own e name) (reference-form e name form (leb-yes {a = 0x11} {b = form} (p .0)) (leb-yes {a = form} {b = 0x15} (p .1))) (pick-yes _ _ _ t1))
+        patchable-use (own e name) (reference-form e name form (leb-yes {a = 0x11} {b = form} (p .0)) (leb-yes {a = form} {b = 0x15} (p .1))) (pick-yes _ _ _ t1))
         (λ t1. ⊎-elim (λ t2. absolute-use (eqb-yes {a = form} {b = 0x10} t2))
-        (λ t2. ⊎-elim (λ t3. linked-use (index 0) (ranges-form e name form (pick-yes _ _ _ t3)) (pick-no _ _ _ t1 ∙ pick-no _ _ _ t2 ∙ pick-yes _ _ _ t3))
-        (λ t3. ⊎-elim (λ t4. linked-use (index 1) (locations-form e name form (pick-no _ _ _ t3 ∙ pick-yes _ _ _ t4)) (pick-no _ _ _ t1 ∙ pick-no _ _ _ t2 ∙ pick-no _ _ _ t3 ∙ pick-yes _ _ _ t4))
+        (λ t2. ⊎-elim (λ t3. patchable-use (index 0) (ranges-form e name form (pick-yes _ _ _ t3)) (pick-no _ _ _ t1 ∙ pick-no _ _ _ t2 ∙ pick-yes _ _ _ t3))
+        (λ t3. ⊎-elim (λ t4. patchable-use (index 1) (locations-form e name form (pick-no _ _ _ t3 ∙ pick-yes _ _ _ t4)) (pick-no _ _ _ t1 ∙ pick-no _ _ _ t2 ∙ pick-no _ _ _ t3 ∙ pick-yes _ _ _ t4))
         (λ t4. ⊎-elim
-        (λ t5. linked-use (index 2) (strings-form e name form (pick-no _ _ _ t3 ∙ pick-no _ _ _ t4 ∙ pick-yes _ _ _ t5))
+        (λ t5. patchable-use (index 2) (strings-form e name form (pick-no _ _ _ t3 ∙ pick-no _ _ _ t4 ∙ pick-yes _ _ _ t5))
         (pick-no _ _ _ t1 ∙ pick-no _ _ _ t2 ∙ pick-no _ _ _ t3 ∙ pick-no _ _ _ t4 ∙ pick-yes _ _ _ t5))
         (λ t5. unlinked-use (pick-no _ _ _ t1 ∙ pick-no _ _ _ t2 ∙ pick-no _ _ _ t3 ∙ pick-no _ _ _ t4 ∙ pick-no _ _ _ t5))
         (either (eqb form 0x1a or (leb 0x25 form and leb form 0x28) or eqb form 0x1f02)))
@@ -162,19 +162,19 @@ module _ (e : Encoding) (f : Patch) where
   copy-read v k n s =
       record { rest = drop n s; whole = sym (ap (λ (x : List ℕ). x ++ drop n s) (append-nil (take n s)) ∙ take-append-drop n s); same = refl; value = refl }
 
-  copied-read : (t : Token) → T (tokenOk noRole t) → T (not (isExpression t)) → (s : List ℕ) → All (CopiedRead s) (tokenIn big ex t s)
+  verbatim-read : (t : Token) → T (tokenOk noRole t) → T (not (isExpression t)) → (s : List ℕ) → All (CopiedRead s) (tokenIn big ex t s)
   unfolding tokenOk isExpression tokenIn asNumber asBounded asForms asSigned asString asBlock bytesOf patchPieces linkedValue
-  copied-read nothing o x s = all-some (CopiedRead s) (record { rest = s; whole = refl; same = refl; value = refl })
-  copied-read (number k) o x s = all-bind (λ _. Unit {0}) _ (numberIn big k s) _ (all-triv _) (λ r e q. all-some (CopiedRead s) (copy-read _ _ _ s))
-  copied-read (bounded n) o x s = all-bind (λ _. Unit {0}) _ (uleb s) _ (all-triv _) (λ r e q. all-check _ _ _ (λ u. all-some (CopiedRead s) (copy-read _ _ _ s)))
-  copied-read forms o x s = all-bind (λ _. Unit {0}) _ (formsIn s) _ (all-triv _) (λ r e q. all-some (CopiedRead s) (copy-read _ _ _ s))
-  copied-read signed o x s = all-bind (λ _. Unit {0}) _ (sleb s) _ (all-triv _) (λ r e q. all-some (CopiedRead s) (copy-read _ _ _ s))
-  copied-read (link k r) o x s = absurd o
-  copied-read string o x s = all-bind (λ _. Unit {0}) _ (stringIn s) _ (all-triv _) (λ r e q. all-some (CopiedRead s) (copy-read _ _ _ s))
-  copied-read (run n) o x s = all-check _ _ _ (λ u. all-some (CopiedRead s) (copy-read _ _ _ s))
-  copied-read (block k) o x s = all-bind (λ _. Unit {0}) _ (numberIn big k s) _ (all-triv _) (λ r e q. all-check _ _ _ (λ u. all-some (CopiedRead s) (copy-read _ _ _ s)))
-  copied-read expression o x s = absurd x
-  copied-read unknown o x s = all-none _
+  verbatim-read nothing o x s = all-some (CopiedRead s) (record { rest = s; whole = refl; same = refl; value = refl })
+  verbatim-read (number k) o x s = all-bind (λ _. Unit {0}) _ (numberIn big k s) _ (all-triv _) (λ r e q. all-some (CopiedRead s) (copy-read _ _ _ s))
+  verbatim-read (bounded n) o x s = all-bind (λ _. Unit {0}) _ (uleb s) _ (all-triv _) (λ r e q. all-check _ _ _ (λ u. all-some (CopiedRead s) (copy-read _ _ _ s)))
+  verbatim-read forms o x s = all-bind (λ _. Unit {0}) _ (formsIn s) _ (all-triv _) (λ r e q. all-some (CopiedRead s) (copy-read _ _ _ s))
+  verbatim-read signed o x s = all-bind (λ _. Unit {0}) _ (sleb s) _ (all-triv _) (λ r e q. all-some (CopiedRead s) (copy-read _ _ _ s))
+  verbatim-read (link k r) o x s = absurd o
+  verbatim-read string o x s = all-bind (λ _. Unit {0}) _ (stringIn s) _ (all-triv _) (λ r e q. all-some (CopiedRead s) (copy-read _ _ _ s))
+  verbatim-read (run n) o x s = all-check _ _ _ (λ u. all-some (CopiedRead s) (copy-read _ _ _ s))
+  verbatim-read (block k) o x s = all-bind (λ _. Unit {0}) _ (numberIn big k s) _ (all-triv _) (λ r e q. all-check _ _ _ (λ u. all-some (CopiedRead s) (copy-read _ _ _ s)))
+  verbatim-read expression o x s = absurd x
+  verbatim-read unknown o x s = all-none _
 
   -- a number that a patch may change
   pub record LinkRead (role : Role) (r : ReadOf) : Type 0 where
@@ -249,10 +249,10 @@ module _ (e : Encoding) (f : Patch) where
     unfolding size patchRead
     patched-size = same-size big f (v .pieces)
 
-    copied-twice : (t : Token) → T (tokenOk noRole t) → T (not (isExpression t)) → (t ≡ expression → ⊥) → tokenIn big ex t s ≡ some (v, rest) → TokenTwice t s s′ v rest back
+    verbatim-twice : (t : Token) → T (tokenOk noRole t) → T (not (isExpression t)) → (t ≡ expression → ⊥) → tokenIn big ex t s ≡ some (v, rest) → TokenTwice t s s′ v rest back
     unfolding patchRead size
-    copied-twice t o x n q =
-        let c : CopiedRead s (v, rest) = all-of (CopiedRead s) (copied-read t o x s) q in
+    verbatim-twice t o x n q =
+        let c : CopiedRead s (v, rest) = all-of (CopiedRead s) (verbatim-read t o x s) q in
         let a : List ℕ = bytesOf big (v .pieces) in
         let p : s′ ≡ a ++ back = after ∙ ap (λ (ps : List Piece). bytesOf big ps ++ back) (c .same) in
         record {
@@ -325,17 +325,17 @@ module _ (e : Encoding) (f : Patch) where
 
     pub token-twice : (t : Token) → tokenIn big ex t s ≡ some (v, rest) → TokenTwice t s s′ v rest back
     unfolding tokenOk isExpression
-    token-twice nothing q = copied-twice nothing tt tt (λ z. let y : _≡_ {A = ℕ} 0 1 = cc in absurd (omega arith)) q
-    token-twice (number k) q = copied-twice (number k) tt tt (λ z. let y : _≡_ {A = ℕ} 0 1 = cc in absurd (omega arith)) q
-    token-twice (bounded n) q = copied-twice (bounded n) tt tt (λ z. let y : _≡_ {A = ℕ} 0 1 = cc in absurd (omega arith)) q
-    token-twice forms q = copied-twice forms tt tt (λ z. let y : _≡_ {A = ℕ} 0 1 = cc in absurd (omega arith)) q
-    token-twice signed q = copied-twice signed tt tt (λ z. let y : _≡_ {A = ℕ} 0 1 = cc in absurd (omega arith)) q
+    token-twice nothing q = verbatim-twice nothing tt tt (λ z. let y : _≡_ {A = ℕ} 0 1 = cc in absurd (omega arith)) q
+    token-twice (number k) q = verbatim-twice (number k) tt tt (λ z. let y : _≡_ {A = ℕ} 0 1 = cc in absurd (omega arith)) q
+    token-twice (bounded n) q = verbatim-twice (bounded n) tt tt (λ z. let y : _≡_ {A = ℕ} 0 1 = cc in absurd (omega arith)) q
+    token-twice forms q = verbatim-twice forms tt tt (λ z. let y : _≡_ {A = ℕ} 0 1 = cc in absurd (omega arith)) q
+    token-twice signed q = verbatim-twice signed tt tt (λ z. let y : _≡_ {A = ℕ} 0 1 = cc in absurd (omega arith)) q
     token-twice (link k r) q = link-twice k r q
-    token-twice string q = copied-twice string tt tt (λ z. let y : _≡_ {A = ℕ} 0 1 = cc in absurd (omega arith)) q
-    token-twice (run n) q = copied-twice (run n) tt tt (λ z. let y : _≡_ {A = ℕ} 0 1 = cc in absurd (omega arith)) q
-    token-twice (block k) q = copied-twice (block k) tt tt (λ z. let y : _≡_ {A = ℕ} 0 1 = cc in absurd (omega arith)) q
+    token-twice string q = verbatim-twice string tt tt (λ z. let y : _≡_ {A = ℕ} 0 1 = cc in absurd (omega arith)) q
+    token-twice (run n) q = verbatim-twice (run n) tt tt (λ z. let y : _≡_ {A = ℕ} 0 1 = cc in absurd (omega arith)) q
+    token-twice (block k) q = verbatim-twice (block k) tt tt (λ z. let y : _≡_ {A = ℕ} 0 1 = cc in absurd (omega arith)) q
     token-twice expression q = expression-twice q
-    token-twice unknown q = copied-twice unknown tt tt (λ z. let y : _≡_ {A = ℕ} 0 1 = cc in absurd (omega arith)) q
+    token-twice unknown q = verbatim-twice unknown tt tt (λ z. let y : _≡_ {A = ℕ} 0 1 = cc in absurd (omega arith)) q
 
 -- ---- what can be read is by the token of its form
 

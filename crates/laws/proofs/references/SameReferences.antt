@@ -86,17 +86,17 @@ module _ (x : Sections) (u : Unit′) where
 
   -- ---- row by row
 
-  abbrev StandAll : List Item → Type 0
-  StandAll items = EveryItem (Stands (u .header .encoding) (x .abbreviations) (declaredIn (u .declared)) (u .bytes)) items
+  abbrev AllThere : List Item → Type 0
+  AllThere items = EveryItem (Stands (u .header .encoding) (x .abbreviations) (declaredIn (u .declared)) (u .bytes)) items
 
-  abbrev FollowAll : ℕ → List ℕ → ℕ → ℕ → List Item → List EntryRow → Type 0
-  FollowAll k stack rb lb items rows = RowsOf (u .header .encoding) x (u .bytes) k stack rb lb items rows
+  abbrev RowsDescribe : ℕ → List ℕ → ℕ → ℕ → List Item → List EntryRow → Type 0
+  RowsDescribe k stack rb lb items rows = RowsOf (u .header .encoding) x (u .bytes) k stack rb lb items rows
 
   abbrev rangeBase : ℕ → Entry → ℕ
   rangeBase rb y = baseOf (u .header .encoding) x (u .bytes) 0x74 rb y
 
   rows-references : (k : ℕ) (stack : List ℕ) (rb lb : ℕ) (items : List Item) (rows : List EntryRow)
-      → FollowAll k stack rb lb items rows → StandAll items → RowsReferences x u lb items rows
+      → RowsDescribe k stack rb lb items rows → AllThere items → RowsReferences x u lb items rows
   unfolding RowsOf EveryItem Stands RowsReferences
   rows-references k stack rb lb [] rows f s = f
   rows-references k stack rb lb (terminator a b ∷ rest) rows f s = rows-references k (close stack) rb lb rest rows f (s .1)
@@ -110,7 +110,7 @@ module _ (x : Sections) (u : Unit′) where
   further r rows y q = record { row = q .row; among = there (q .among); offset-is = q .offset-is; base = q .base; same = q .same }
 
   row-references : (k : ℕ) (stack : List ℕ) (rb lb : ℕ) (items : List Item) (rows : List EntryRow)
-      → FollowAll k stack rb lb items rows → StandAll items → (y : Entry) → Member (entry y) items → RowReferences x u rows y
+      → RowsDescribe k stack rb lb items rows → AllThere items → (y : Entry) → Member (entry y) items → RowReferences x u rows y
   unfolding RowsOf EveryItem Stands
   row-references k stack rb lb [] rows f s y m = absurd (nothing-in (entry y) m)
   row-references k stack rb lb (terminator a b ∷ rest) rows f s y (here q) = let z : _≡_ {A = ℕ} 0 1 = cc in absurd (omega arith)
@@ -137,7 +137,7 @@ module _ (x : Sections) (room : Room) (section : List ℕ) (h : UnitHeader) (ds 
   abbrev unit : Unit′
   unit = unitOf h section ds
 
-  all-stand : StandAll x unit (itemsIn x unit)
+  all-stand : AllThere x unit (itemsIn x unit)
   unfolding itemsIn
   all-stand = items-stand (h .encoding) (x .abbreviations) (declaredIn ds) (take (h .end) section) (h .first .0)
 

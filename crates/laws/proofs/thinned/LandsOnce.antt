@@ -10,10 +10,10 @@ use Rattle.marking.specs.Members.{Member, here, there}
 use Rattle.marking.specs.Resolution.{Ascending as From}
 use Rattle.marking.proofs.Members.{nothing-in, from-member}
 use Rattle.rewriting.specs.Places.{NestedItem, Place}
-use Rattle.laws.specs.inner.Maps.{Leads}
+use Rattle.laws.specs.inner.Maps.{MappedTo}
 use Rattle.rewriting.specs.Rewriting.{Unit as Unit′, unitOf, Lists, orSelf, Rewrite}
 use Rattle.laws.specs.Thinned.{LandsOn, thinnedOf, Thinned, newOffsets}
-use Rattle.laws.proofs.again.Maps.{leads-in}
+use Rattle.laws.proofs.again.Maps.{mapped-in}
 use Rattle.laws.proofs.thinned.ThinnedItems.{nth-member}
 
 -- ---- places with one new offset
@@ -39,7 +39,7 @@ one-place low (r ∷ map) p q f (there m) (there k) h = one-place (suc (r .new))
 -- ---- where a number lands is where the map leads
 
 module _ (x : Sections) (u new : Unit′) (lists : Lists) (map : List Place) (kept : List NestedItem) where
-  pub lands-leads : (v n : ℕ) → LandsOn x u new lists map kept v n → Leads map v n
+  pub lands-leads : (v n : ℕ) → LandsOn x u new lists map kept v n → MappedTo map v n
   lands-leads v n l =
       record {
         place = l .p;
@@ -52,20 +52,20 @@ module _ (x : Sections) (typeUnits : Bool) (section : List ℕ) (w : Rewrite) (t
   abbrev Lands : ℕ → ℕ → Type 0
   Lands = LandsOn x (unitOf (t .header) section (t .declared)) (thinnedOf (t .header) (w .output) (t .declared)) (w .lists) (w .map) (t .kept)
 
-  leads : (v n : ℕ) → Lands v n → Leads (w .map) v n
+  leads : (v n : ℕ) → Lands v n → MappedTo (w .map) v n
   leads = lands-leads x (unitOf (t .header) section (t .declared)) (thinnedOf (t .header) (w .output) (t .declared)) (w .lists) (w .map) (t .kept)
 
   -- a reference lands on one place
   pub lands-once : (v n m : ℕ) → Lands v n → Lands v m → n ≡ m
   unfolding orSelf
   lands-once v n m a b =
-      ap (orSelf 0) (sym (leads-in (w .map) v n (t .olds) (leads v n a)) ∙ leads-in (w .map) v m (t .olds) (leads v m b))
+      ap (orSelf 0) (sym (mapped-in (w .map) v n (t .olds) (leads v n a)) ∙ mapped-in (w .map) v m (t .olds) (leads v m b))
 
   -- references to two items land on two places
   pub lands-apart : (v v′ n : ℕ) → Lands v n → Lands v′ n → v ≡ v′
   lands-apart v v′ n a b =
-      let p : Leads (w .map) v n = leads v n a in
-      let q : Leads (w .map) v′ n = leads v′ n b in
+      let p : MappedTo (w .map) v n = leads v n a in
+      let q : MappedTo (w .map) v′ n = leads v′ n b in
       sym (p .old)
       ∙ ap (λ (z : Place). z .old) (one-place 0 (w .map) (p .place) (q .place) (t .news) (p .within) (q .within) (p .new ∙ sym (q .new)))
       ∙ q .old

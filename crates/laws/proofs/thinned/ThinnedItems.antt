@@ -222,31 +222,31 @@ first-by first (t ∷ kept) depth v n =
 -- ---- what is open around a kept item
 
 -- it is one of the items, and these are open around it there
-pub record AncestorsOf (items : List Item) (stack : List ℕ) (around : List (List ℕ)) (m : ℕ) (s : NestedItem) : Type 0 where
+pub record AncestorsOf (items : List Item) (stack : List ℕ) (ancestors : List (List ℕ)) (m : ℕ) (s : NestedItem) : Type 0 where
   pub at : ℕ
   pub opens : List ℕ
   pub was-at : Nth (s .item) at items
   pub were-open : Nth opens at (ancestorsFrom stack items)
-  pub listed : Nth opens m around
+  pub listed : Nth opens m ancestors
 
-around-entry : (y : Entry) (rest : List Item) (stack : List ℕ) (around : List (List ℕ)) (m : ℕ) (s : NestedItem)
-    → AncestorsOf rest (open′ (y .declaration .children) (y .offset .0) stack) around m s → AncestorsOf (entry y ∷ rest) stack around m s
+ancestors-entry : (y : Entry) (rest : List Item) (stack : List ℕ) (ancestors : List (List ℕ)) (m : ℕ) (s : NestedItem)
+    → AncestorsOf rest (open′ (y .declaration .children) (y .offset .0) stack) ancestors m s → AncestorsOf (entry y ∷ rest) stack ancestors m s
 unfolding ancestorsFrom
-around-entry y rest stack around m s r =
+ancestors-entry y rest stack ancestors m s r =
     record { at = suc (r .at); opens = r .opens; was-at = later (r .was-at); were-open = later (r .were-open); listed = r .listed }
 
-around-close : (a b : ℕ) (rest : List Item) (stack : List ℕ) (around : List (List ℕ)) (m : ℕ) (s : NestedItem)
-    → AncestorsOf rest (close stack) around m s → AncestorsOf (terminator a b ∷ rest) stack around m s
+ancestors-close : (a b : ℕ) (rest : List Item) (stack : List ℕ) (ancestors : List (List ℕ)) (m : ℕ) (s : NestedItem)
+    → AncestorsOf rest (close stack) ancestors m s → AncestorsOf (terminator a b ∷ rest) stack ancestors m s
 unfolding ancestorsFrom
-around-close a b rest stack around m s r =
+ancestors-close a b rest stack ancestors m s r =
     record { at = suc (r .at); opens = r .opens; was-at = later (r .was-at); were-open = later (r .were-open); listed = r .listed }
 
-around-more : (items : List Item) (stack opens : List ℕ) (around : List (List ℕ)) (m : ℕ) (s : NestedItem) → AncestorsOf items stack around m s → AncestorsOf items stack (opens ∷ around) (suc m) s
-around-more items stack opens around m s r = record { at = r .at; opens = r .opens; was-at = r .was-at; were-open = r .were-open; listed = later (r .listed) }
+ancestors-more : (items : List Item) (stack opens : List ℕ) (ancestors : List (List ℕ)) (m : ℕ) (s : NestedItem) → AncestorsOf items stack ancestors m s → AncestorsOf items stack (opens ∷ ancestors) (suc m) s
+ancestors-more items stack opens ancestors m s r = record { at = r .at; opens = r .opens; was-at = r .was-at; were-open = r .were-open; listed = later (r .listed) }
 
-around-first : (i : Item) (d : ℕ) (rest : List Item) (stack : List ℕ) (around : List (List ℕ)) (s : NestedItem) → s ≡ record { item = i; depth = d }
-    → Nth stack 0 (ancestorsFrom stack (i ∷ rest)) → AncestorsOf (i ∷ rest) stack (stack ∷ around) 0 s
-around-first i d rest stack around s q n = record { at = 0; opens = stack; was-at = now (ap (λ (z : NestedItem). z .item) q); were-open = n; listed = now refl }
+ancestors-first : (i : Item) (d : ℕ) (rest : List Item) (stack : List ℕ) (ancestors : List (List ℕ)) (s : NestedItem) → s ≡ record { item = i; depth = d }
+    → Nth stack 0 (ancestorsFrom stack (i ∷ rest)) → AncestorsOf (i ∷ rest) stack (stack ∷ ancestors) 0 s
+ancestors-first i d rest stack ancestors s q n = record { at = 0; opens = stack; was-at = now (ap (λ (z : NestedItem). z .item) q); were-open = n; listed = now refl }
 
 open-here : (i : Item) (rest : List Item) (stack : List ℕ) → Nth stack 0 (ancestorsFrom stack (i ∷ rest))
 unfolding ancestorsFrom
@@ -254,26 +254,26 @@ open-here (entry y) rest stack = now refl
 open-here (terminator a b) rest stack = now refl
 
 -- one item, kept or not
-around-one : (i : Item) (d : ℕ) (rest : List Item) (stack : List ℕ) (kept : List NestedItem) (around : List (List ℕ)) (b : Bool)
-    → ((m : ℕ) (s : NestedItem) → Nth s m kept → AncestorsOf (i ∷ rest) stack around m s)
-    → (m : ℕ) (s : NestedItem) → Nth s m (withIf b (record { item = i; depth = d }) kept) → AncestorsOf (i ∷ rest) stack (pick b (stack ∷ around) around) m s
+ancestors-one : (i : Item) (d : ℕ) (rest : List Item) (stack : List ℕ) (kept : List NestedItem) (ancestors : List (List ℕ)) (b : Bool)
+    → ((m : ℕ) (s : NestedItem) → Nth s m kept → AncestorsOf (i ∷ rest) stack ancestors m s)
+    → (m : ℕ) (s : NestedItem) → Nth s m (withIf b (record { item = i; depth = d }) kept) → AncestorsOf (i ∷ rest) stack (pick b (stack ∷ ancestors) ancestors) m s
 unfolding withIf pick
-around-one i d rest stack kept around true h m s (now q) = around-first i d rest stack around s q (open-here i rest stack)
-around-one i d rest stack kept around true h m s (later n) = around-more (i ∷ rest) stack stack around _ s (h _ s n)
-around-one i d rest stack kept around false h m s n = h m s n
+ancestors-one i d rest stack kept ancestors true h m s (now q) = ancestors-first i d rest stack ancestors s q (open-here i rest stack)
+ancestors-one i d rest stack kept ancestors true h m s (later n) = ancestors-more (i ∷ rest) stack stack ancestors _ s (h _ s n)
+ancestors-one i d rest stack kept ancestors false h m s n = h m s n
 
-pub around-by : (marks : List ℕ) (k : ℕ) (bs : List Bool) (stack : List ℕ) (items : List Item) (m : ℕ) (s : NestedItem) → Nth s m (keptFrom marks k bs items)
+pub ancestors-by : (marks : List ℕ) (k : ℕ) (bs : List Bool) (stack : List ℕ) (items : List Item) (m : ℕ) (s : NestedItem) → Nth s m (keptFrom marks k bs items)
     → AncestorsOf items stack (keptAncestors marks k bs stack items) m s
 unfolding keptFrom keptAncestors
-around-by marks k bs stack [] m s n = elim n [ ]
-around-by marks k bs stack (entry y ∷ rest) m s n =
-    around-one (entry y) (length bs) rest stack _ _ (isKept marks k)
-    (λ j z q. around-entry y rest stack _ j z
-    (around-by marks (suc k) (opened (y .declaration .children) (isKept marks k) bs) (open′ (y .declaration .children) (y .offset .0) stack) rest j z q))
+ancestors-by marks k bs stack [] m s n = elim n [ ]
+ancestors-by marks k bs stack (entry y ∷ rest) m s n =
+    ancestors-one (entry y) (length bs) rest stack _ _ (isKept marks k)
+    (λ j z q. ancestors-entry y rest stack _ j z
+    (ancestors-by marks (suc k) (opened (y .declaration .children) (isKept marks k) bs) (open′ (y .declaration .children) (y .offset .0) stack) rest j z q))
     m s n
-around-by marks k bs stack (terminator a b ∷ rest) m s n =
-    around-one (terminator a b) (length bs) rest stack _ _ (innermost bs)
-    (λ j z q. around-close a b rest stack _ j z (around-by marks k (closed bs) (close stack) rest j z q))
+ancestors-by marks k bs stack (terminator a b ∷ rest) m s n =
+    ancestors-one (terminator a b) (length bs) rest stack _ _ (innermost bs)
+    (λ j z q. ancestors-close a b rest stack _ j z (ancestors-by marks k (closed bs) (close stack) rest j z q))
     m s n
 
 -- the m-th of both sides

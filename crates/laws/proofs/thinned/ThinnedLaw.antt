@@ -41,7 +41,7 @@ use Rattle.laws.proofs.thinned.Landing.{item-reference, item-type, item
 use Rattle.rewriting.proofs.ItemDepths.{Every, deepAt, Readable}
 use Rattle.laws.proofs.again.ReadsAgain.{withBytes, patched}
 use Rattle.laws.proofs.again.Depths.{depthsOf, depths-placed}
-use Rattle.laws.proofs.thinned.ThinnedItems.{nth-member, nth-map, parted, moved-offset, placeOf, Stands, stands, deep-at, ItemFound, found-by, FirstFound, first-by, AncestorsOf, around-by, Led, led}
+use Rattle.laws.proofs.thinned.ThinnedItems.{nth-member, nth-map, parted, moved-offset, placeOf, Stands, stands, deep-at, ItemFound, found-by, FirstFound, first-by, AncestorsOf, ancestors-by, Led, led}
 use Rattle.laws.proofs.again.IndexMembers.{IndexKept as IndexHeld}
 use Rattle.laws.proofs.again.CollectLaws.{it, unit, marks, kept, start, again, count-law, dead-law, kept-law, again-law, readable-law, bytes-law, again-header, map-law, nesting-law, ListLaw, list-law, whole, alive-law, whole-list-law}
 
@@ -285,7 +285,7 @@ module _ (x : Sections) (room : Room) (typeUnits : Bool) (section : List ℕ) (w
       let rs : readsAt x was (offsetOf (s .item)) ≡ old .run .0 = reads-of x was (offsetOf (s .item)) (old .run) (old .is) in
       let olds : List (List ℕ) = keptAncestors (marks x room typeUnits section w answer) 0 [] [] (itemsIn x was) in
       let a : AncestorsOf (itemsIn x was) [] olds m s =
-      around-by (marks x room typeUnits section w answer) 0 [] [] (itemsIn x was) m s n in
+      ancestors-by (marks x room typeUnits section w answer) 0 [] [] (itemsIn x was) m s n in
       let l : Led (w .map) (a .opens) m (ancestorsFrom [] (itemsIn x new)) =
       led (w .map) olds (ancestorsFrom [] (itemsIn x new)) (subst (λ (z : List Item). AllMapTo (w .map) olds (ancestorsFrom [] z)) same-items (nesting-law x room typeUnits section w answer)) (a .opens) m (a .listed) in
       record {
@@ -303,8 +303,8 @@ module _ (x : Sections) (room : Room) (typeUnits : Bool) (section : List ℕ) (w
             (reads-again (s .depth) (readsAt x was (offsetOf (s .item))) (λ r i e role v p. becomes s (nth-member s m items n) r i e role v p));
         at = a .at;
         was-at = a .was-at;
-        around = a .opens;
-        around-again = l .opens-again;
+        ancestors = a .opens;
+        ancestors-again = l .opens-again;
         were-open = a .were-open;
         are-open = l .there;
         same-open = all-land (a .opens) (l .opens-again) (l .leading);

@@ -9,7 +9,7 @@ use Rattle.marking.specs.Members.{Member}
 use Rattle.laws.specs.ValueRefusals.{Split}
 
 -- a map leads from v to n: a place in it has the old offset v and the new offset n
-pub record Leads (map : List Place) (v n : ℕ) : Type 0 where
+pub record MappedTo (map : List Place) (v n : ℕ) : Type 0 where
   pub place : Place
   pub within : Member place map
   pub old : place .old ≡ v
