@@ -10,8 +10,8 @@ use borrow.Author.Tests.{lt-ltb, le-ltb}
 use Rattle.readers.specs.Choice.{pick, zeros, put}
 use Rattle.marking.specs.Columns.{padTo}
 use Rattle.rewriting.specs.Written.{runBytes}
-use Rattle.rewriting.proofs.Tables.{length-run, length-put}
-use Rattle.rewriting.proofs.UnitWritten.{out-is}
+use Rattle.rewriting.proofs.list_pass.Tables.{length-run, length-put}
+use Rattle.rewriting.proofs.write_pass.UnitWritten.{out-is}
 use Rattle.rewriting.specs.declared.collect.Counts.{Counts}
 use Rattle.rewriting.specs.declared.collect.Collected.{Collected as Answer}
 use Rattle.rewriting.specs.declared.collect.Collected.the-variants.{Untouched, Rewritten, Refused}

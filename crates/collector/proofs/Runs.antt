@@ -12,7 +12,7 @@ use Rattle.readers.specs.Numbers.{fixedBytes}
 use Rattle.readers.proofs.Numbers.{length-fixed}
 use Rattle.rewriting.specs.Written.{runBytes}
 use Rattle.readers.specs.Choice.{put}
-use Rattle.rewriting.proofs.Tables.{length-run, length-put}
+use Rattle.rewriting.proofs.list_pass.Tables.{length-run, length-put}
 
 -- bytes put behind bytes that were put
 pub put-put : (s xs ys : List ℕ) (at k : ℕ) → at + length xs ≡ k → k ≤ length s → put (put s at xs) k ys ≡ put s at (xs ++ ys)

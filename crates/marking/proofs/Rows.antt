@@ -140,11 +140,6 @@ unfolding Rowed Ascending offsetsIn
 offsets-ascend high low k [] r = tt
 offsets-ascend high low k (x ∷ xs) r = (r .0, offsets-ascend high (suc (x .offset)) (suc k) xs (r .4))
 
-pub offsets-under : (high low k : ℕ) (rows : List EntryRow) → Rowed high low k rows → Under high (offsetsIn rows)
-unfolding Rowed Under offsetsIn
-offsets-under high low k [] r = tt
-offsets-under high low k (x ∷ xs) r = (r .1, offsets-under high (suc (x .offset)) (suc k) xs (r .4))
-
 pub roots-under : (high low k : ℕ) (rows : List EntryRow) → Rowed high low k rows → Under 2 (rootsIn rows)
 unfolding Rowed Under rootsIn
 roots-under high low k [] r = tt

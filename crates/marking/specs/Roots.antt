@@ -1,6 +1,6 @@
 -- Which entries are roots (document 01, "Roots"; gc.rs: `is_root`, `rnglist_has_live_entry`, `ranges_has_live_entry`,
 -- `location_expr_live`).
-use Prim.Native.Nat.{ℕ, zero, suc, _+_, _-_}
+use Prim.Native.Nat.{ℕ, _+_}
 use mathlib.Core.Bool.{Bool, true, false}
 use mathlib.Core.List.{List, [], _∷_}
 use lib.ListN.{length}
@@ -12,21 +12,12 @@ use Rattle.readers.specs.Codes.{«DW_FORM_sec_offset», «DW_RLE_base_address»
 use Rattle.readers.specs.Codes.{«DW_RLE_offset_pair», «DW_RLE_startx_length», «DW_TAG_compile_unit»}
 use Rattle.readers.specs.Codes.{«DW_TAG_subprogram», «DW_TAG_variable»}
 use Rattle.readers.specs.Operations.{row-address-index}
-use Rattle.readers.specs.Cursors.{cursor}
 use Rattle.readers.specs.Fields.{partOf}
 use Rattle.readers.specs.Steps.{operationAt, listEntryAt}
 use Rattle.readers.specs.Refusals.{refusalOfList, refusalOfOperation}
 use Rattle.readers.specs.Lists.{listOffset, listStart}
-use Rattle.readers.specs.Entries.{attributeAt}
-use Rattle.readers.specs.Abbreviations.{specAt}
 use Rattle.readers.specs.declared.cursor.Encoding.{Encoding}
-use Rattle.readers.specs.declared.abbreviations.AttributeSpec.{AttributeSpec}
-use Rattle.readers.specs.declared.abbreviations.SpecStep.{SpecStep}
-use Rattle.readers.specs.declared.abbreviations.SpecStep.the-variants.{Attribute as Spec, Last as LastSpec}
-use Rattle.readers.specs.declared.abbreviations.SpecStep.the-variants.{Unreadable as NoSpec}
 use Rattle.readers.specs.declared.attributes.Attribute.{Attribute}
-use Rattle.readers.specs.declared.attributes.AttributeRead.{AttributeRead}
-use Rattle.readers.specs.declared.attributes.AttributeRead.the-variants.{Read as Attribute′, Unreadable as NoAttribute}
 use Rattle.readers.specs.declared.lists.ListOffset.{ListOffset}
 use Rattle.readers.specs.declared.lists.ListOffset.the-variants.{At, Unresolved}
 use Rattle.readers.specs.declared.operations.OperationRead.{OperationRead}
@@ -41,8 +32,6 @@ use Rattle.marking.specs.declared.addresses.AddressLookup.{AddressLookup
 use Rattle.marking.specs.declared.addresses.AddressLookup.the-variants.{Live, Dead, Fails}
 use Rattle.marking.specs.declared.root_test.RangeTurn.{RangeTurn}
 use Rattle.marking.specs.declared.root_test.RangeTurn.the-variants.{On, Decided}
-use Rattle.readers.specs.declared.entry_attributes.NextAttribute.{NextAttribute}
-use Rattle.readers.specs.declared.entry_attributes.NextAttribute.the-variants.{More, NoMore}
 use Rattle.marking.specs.declared.root_test.Verdict.{Verdict}
 use Rattle.marking.specs.declared.root_test.Verdict.the-variants.{Live as isLive, Dead as isDead, Refused as refused}
 use Rattle.readers.specs.EntryAttributes.{Valued}

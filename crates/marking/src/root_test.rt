@@ -3,15 +3,13 @@
 ghost use mathlib.Core.Path.{_≡_};
 ghost use Rattle.marking.specs.Roots.{turnOf, rangeEntry, olderLive, locationLive, lowPc};
 ghost use Rattle.marking.specs.Roots.{lowPcs, locations, otherRanges, rangesBy, firstRanges};
-ghost use Rattle.readers.specs.EntryAttributes.{nextAttribute, entryValues};
+ghost use Rattle.readers.specs.EntryAttributes.{entryValues};
 ghost use Rattle.marking.specs.Roots.{rootTest, baseAfter};
 ghost use Rattle.readers.specs.declared.lists.ListOffset.the-variants.{At};
 use crate::addresses::AddressLookup;
 use crate::addresses::is_tombstone;
 use crate::addresses::lookup;
-use readers::abbreviations::SpecStep;
 use readers::attributes::Attribute;
-use readers::attributes::AttributeRead;
 use readers::codes::DW_AT_location;
 use readers::codes::DW_AT_low_pc;
 use readers::codes::DW_AT_ranges;

@@ -1,14 +1,14 @@
 -- What collect leaves in the lent slices, and its answer in numbers (document 01, "collect"; demand 1: "Output, map and
 -- index lists hold the answer, and zeros everywhere else, for every input").
 use Prim.Native.Nat.{ℕ, _/_}
-use mathlib.Core.List.{List, [], _∷_}
+use mathlib.Core.List.{List}
 use mathlib.Core.Option.{Option, none, some}
 use lib.ListN.{length}
 use Rattle.readers.specs.Choice.{zeros}
 use Rattle.marking.specs.Analysis.{Rooms}
 use Rattle.marking.specs.Columns.{padTo, unitRooms}
 use Rattle.rewriting.specs.Written.{listBytes, mapBytes}
-use Rattle.rewriting.specs.Rewriting.{Lists, Room, Rewrite, Collected, untouched, rewritten, refused}
+use Rattle.rewriting.specs.Rewriting.{Lists, Room, Collected, untouched, rewritten, refused}
 use Rattle.rewriting.specs.declared.lists.ListCount.{ListCount}
 use Rattle.rewriting.specs.declared.lists.ListCount.the-variants.{Present, Absent}
 use Rattle.rewriting.specs.declared.collect.Counts.{Counts}

@@ -1,7 +1,7 @@
 -- What is kept of a unit, and where it comes to stand (document 01, "Rewriting"): "each kept entry and each terminator of
 -- a kept parent is written at its own width".
 use Prim.Native.Nat.{ℕ, suc, _+_, _-_}
-use mathlib.Core.Bool.{Bool, true, false, not}
+use mathlib.Core.Bool.{Bool, true, false}
 use mathlib.Core.List.{List, [], _∷_}
 use mathlib.Core.Option.{Option, none, some}
 use lib.ListN.{length}

@@ -10,8 +10,8 @@ use Rattle.readers.specs.declared.header.UnitHeader.{UnitHeader}
 use Rattle.marking.specs.Analysis.{Sections, EntryRow, Analysed, analysed, refused as notAnalysed, headerAnalysed, analysisOf}
 use Rattle.marking.proofs.EachRow.{items-whole}
 use Rattle.rewriting.specs.Rewriting.{Room, unitOf, Unit as Unit′, itemsIn, Lists, noLists, listsOf, refusalFrom, unitBytes, Rewrite, Collected, untouched, rewritten, refused, listsFit, orRefused, rewriteOf, marksCollected, rowsCollected, analysedCollected, declaredCollected, headerCollected, collectOf}
-use Rattle.rewriting.proofs.HeaderAgain.{HeaderLaw, header-laws}
-use Rattle.rewriting.proofs.AcceptedUnits.{Accepted}
+use Rattle.rewriting.proofs.write_pass.HeaderAgain.{HeaderLaw, header-laws}
+use Rattle.rewriting.proofs.whole.AcceptedUnits.{Accepted}
 use mathlib.Core.Option.{Option, none, some}
 use native.Mathlib.Omega.{arith}
 use lib.Dec.{leb, eqb}

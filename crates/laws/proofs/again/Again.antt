@@ -22,7 +22,7 @@ use Rattle.readers.specs.declared.entries.Entry.{Entry}
 use Rattle.readers.specs.declared.entries.Step.the-variants.{Entry as Entry′, Terminator}
 use Rattle.laws.specs.Moved.{movedEntry}
 use Rattle.laws.specs.inner.Moved.{movedStep}
-use Rattle.rewriting.proofs.DeepReads.{like-width, like-patched, like-step, deep-step}
+use Rattle.rewriting.proofs.kept_pass.DeepReads.{like-width, like-patched, like-step, deep-step}
 
 module _ (e : Encoding) (abbreviations : List ℕ) (look : ℕ → DeclarationFound) where
   abbrev pub order : Bool

@@ -30,20 +30,20 @@ use Rattle.laws.specs.inner.Moved.{movedFrom}
 use Rattle.laws.specs.Ancestors.{ancestorsFrom}
 use Rattle.laws.specs.inner.Ancestors.{keptAncestors, AllMapTo}
 use Rattle.rewriting.specs.Rewriting.{Unit as Unit′, itemsIn, Lists, indicesFrom, listOf, listsOf, listAt, bytesFrom, unitBytes, Room, Rewrite, untouched, rewritten, collectOf, withEnd, unitOf}
-use Rattle.rewriting.proofs.Sorted.{sorted-ascending, sorted-member}
+use Rattle.rewriting.proofs.list_pass.Sorted.{sorted-ascending, sorted-member}
 use Rattle.laws.proofs.again.Ranks.{rank-inside, rank-place, Ranked}
 use Rattle.laws.proofs.again.Maps.{places-length, kept-sized, news-ascending}
-use Rattle.rewriting.proofs.Ascending.{items-ascending, olds-ascending}
+use Rattle.rewriting.proofs.map_pass.Ascending.{items-ascending, olds-ascending}
 use Rattle.laws.proofs.again.Sizes.{kept-and-left, items-sized}
-use Rattle.rewriting.proofs.ItemDepths.{Every, Readable}
+use Rattle.rewriting.proofs.kept_pass.ItemDepths.{Every, Readable}
 use Rattle.laws.proofs.again.ReadsAgain.{withBytes}
 use Rattle.laws.proofs.again.UnitAgain.{ReadAgain, unit-again}
-use Rattle.rewriting.proofs.HeaderAgain.{HeaderLaw}
+use Rattle.rewriting.proofs.write_pass.HeaderAgain.{HeaderLaw}
 use Rattle.marking.proofs.UnitMarkings.{marks-each}
-use Rattle.rewriting.proofs.AcceptedUnits.{Accepted}
+use Rattle.rewriting.proofs.whole.AcceptedUnits.{Accepted}
 use Rattle.laws.proofs.again.Accepted.{accepted-whole, accepted-header, survivorsIn, WasRewritten, WasUntouched, was-rewritten, was-untouched, was-empty}
 use Rattle.laws.proofs.survivors.ClosedMarks.{accepted-kept, accepted-count, accepted-marks, accepted-closed}
-use Rattle.rewriting.proofs.ReadableItems.{accepted-readable}
+use Rattle.rewriting.proofs.kept_pass.ReadableItems.{accepted-readable}
 use Rattle.laws.proofs.again.AncestorsAgain.{ancestors-again}
 use Rattle.laws.proofs.again.IndexMembers.{IndexKept, index-members}
 use Rattle.laws.proofs.again.Counting.{some-without, all-with}

@@ -14,7 +14,7 @@ use Rattle.readers.proofs.LayoutLaws.{FitPiece, FitPieces, FitAll}
 use Rattle.marking.specs.Analysis.{Sections}
 use Rattle.rewriting.specs.Places.{NestedItem, offsetOf, Place}
 use Rattle.rewriting.specs.Rewriting.{Unit as Unit′, readsAt, Lists, newValue, hasPlace, fits, pieceRefusal, orNext, piecesRefusal, readsRefusal, refusalFrom}
-use Rattle.rewriting.proofs.ItemDepths.{Every}
+use Rattle.rewriting.proofs.kept_pass.ItemDepths.{Every}
 use Rattle.laws.proofs.again.Rereading.{Fits}
 
 both : (a b : Bool) → T (a and b) → T a × T b

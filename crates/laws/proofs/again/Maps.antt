@@ -22,7 +22,7 @@ use Rattle.laws.specs.inner.Maps.{MappedTo, Sized, KeptSized}
 use Rattle.laws.specs.Thinned.{newOffsets}
 use Rattle.laws.specs.ValueRefusals.{Split}
 use Rattle.marking.proofs.Members.{nothing-in, in-cases, from-member}
-use Rattle.rewriting.proofs.Sorted.{from-less}
+use Rattle.rewriting.proofs.list_pass.Sorted.{from-less}
 
 -- ---- one place for each item
 

@@ -13,7 +13,7 @@ use Rattle.marking.specs.Analysis.{Sections}
 use Rattle.rewriting.specs.Places.{NestedItem, offsetOf, sizeOf, Place}
 use Rattle.rewriting.specs.Rewriting.{Unit as Unit′, readsAt, Lists, newValue, bytesFrom}
 use Rattle.laws.proofs.again.Again.{deep-again}
-use Rattle.rewriting.proofs.ItemDepths.{Every, deepAt}
+use Rattle.rewriting.proofs.kept_pass.ItemDepths.{Every, deepAt}
 use Rattle.laws.proofs.again.Rereading.{Rewritable, deep-read, length-written}
 
 -- a unit with other bytes

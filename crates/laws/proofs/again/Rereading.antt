@@ -24,9 +24,9 @@ use Rattle.laws.specs.Moved.{movedEntry, movedItem}
 use Rattle.laws.specs.inner.Moved.{movedStep, movedFrom}
 use Rattle.rewriting.specs.Rewriting.{Unit as Unit′, readsOr, readsAt, Lists, newValue, bytesFrom}
 use Rattle.readers.proofs.Streams.{items-step}
-use Rattle.rewriting.proofs.DeepReads.{deep-ends}
+use Rattle.rewriting.proofs.kept_pass.DeepReads.{deep-ends}
 use Rattle.laws.proofs.again.Again.{same-width, step-again}
-use Rattle.rewriting.proofs.ItemDepths.{Every, Stands, Readable, StandsThere, deepAt, size-of}
+use Rattle.rewriting.proofs.kept_pass.ItemDepths.{Every, Stands, Readable, StandsThere, deepAt, size-of}
 
 -- ---- one item
 

@@ -19,7 +19,7 @@ use Rattle.laws.specs.inner.Maps.{Sized}
 use Rattle.laws.specs.LeftOut.{leftFrom, sizesOf}
 use Rattle.marking.proofs.Members.{nothing-in}
 use Rattle.readers.proofs.Streams.{EntryInside}
-use Rattle.rewriting.proofs.Items.{items-by}
+use Rattle.rewriting.proofs.kept_pass.Items.{items-by}
 
 -- ---- kept and left out
 

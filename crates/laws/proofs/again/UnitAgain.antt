@@ -15,7 +15,7 @@ use Rattle.rewriting.specs.Places.{NestedItem, keptFrom, offsetOf, Place, place
 use Rattle.laws.specs.Moved.{depthsFrom}
 use Rattle.laws.specs.inner.Moved.{movedFrom, ParentsKept}
 use Rattle.rewriting.specs.Rewriting.{Unit as Unit′, itemsIn, Lists, bytesFrom, unitBytes, refusalFrom}
-use Rattle.rewriting.proofs.ItemDepths.{Every, kept-stand, Readable}
+use Rattle.rewriting.proofs.kept_pass.ItemDepths.{Every, kept-stand, Readable}
 use Rattle.laws.proofs.again.Rereading.{Rewritable, rewritable, length-bytes, reread, moved-places}
 use Rattle.laws.proofs.again.ReadsAgain.{PatchedFrom, reads-again}
 use Rattle.laws.proofs.again.Fitting.{none-refused}

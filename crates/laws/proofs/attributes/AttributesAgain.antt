@@ -27,10 +27,10 @@ use Rattle.readers.proofs.Values.{joined, read-then}
 use Rattle.readers.specs.EntryAttributes.{Valued, onAttribute, valuesOf}
 use Rattle.rewriting.specs.Emission.{between}
 use Rattle.laws.specs.AttributesAgain.{payload, SameOperations, SameAttribute, SameAttributes}
-use Rattle.rewriting.proofs.Exact.{tokenOk}
-use Rattle.rewriting.proofs.Expressions.{isExpression, value-exprloc}
-use Rattle.rewriting.proofs.ValueForms.{formIs, expression-form}
-use Rattle.rewriting.proofs.DeepReads.{like-width, like-patched}
+use Rattle.rewriting.proofs.map_pass.Exact.{tokenOk}
+use Rattle.rewriting.proofs.write_pass.Expressions.{isExpression, value-exprloc}
+use Rattle.rewriting.proofs.write_pass.ValueForms.{formIs, expression-form}
+use Rattle.rewriting.proofs.kept_pass.DeepReads.{like-width, like-patched}
 use Rattle.laws.proofs.attributes.ValuesAgain.{partOf, between-part, noRole, tokenNumber, use-number, plain-use, same-reader, TokenTwice, again, token-twice, token-known}
 
 -- ---- reads in a row, written and patched

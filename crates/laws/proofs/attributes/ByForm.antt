@@ -40,11 +40,11 @@ use Rattle.readers.specs.inner.Forms.{roleList, useList}
 use Rattle.laws.specs.AttributesAgain.{newNumber, useIn, SameAttribute, SameAttributes, EntryAgain}
 use Rattle.laws.specs.Thinned.{Pairwise, Becomes, thinnedOf, Thinned}
 use Rattle.laws.specs.ByForm.{formOf, numberOf, RefersInUnit, AttributeByForm, EntryByForm}
-use Rattle.rewriting.proofs.Expressions.{isExpression}
-use Rattle.rewriting.proofs.ValueForms.{own, LinkForm, and-both, reference-form, ranges-form, locations-form, strings-form}
+use Rattle.rewriting.proofs.write_pass.Expressions.{isExpression}
+use Rattle.rewriting.proofs.write_pass.ValueForms.{own, LinkForm, and-both, reference-form, ranges-form, locations-form, strings-form}
 use Rattle.laws.proofs.attributes.ValuesAgain.{same-reader, LinkRead, link-read, ExpressionRead, expression-read, token-known}
 use Rattle.laws.proofs.attributes.AttributesAgain.{Direct, direct-all, Indirect, indirect-all, shallow-one, shallow-two, Divided, divided, more}
-use Rattle.rewriting.proofs.ItemDepths.{Stands}
+use Rattle.rewriting.proofs.kept_pass.ItemDepths.{Stands}
 use Rattle.laws.proofs.thinned.ThinnedItems.{nth-member}
 use Rattle.laws.proofs.again.Rereading.{deep-read}
 use Rattle.laws.proofs.attributes.AttributeLaws.{Headed, headed, PlacedItem, placed, attributes-law}

@@ -24,9 +24,9 @@ use Rattle.readers.specs.Fields.{size, linkedValue}
 use Rattle.readers.specs.declared.cursor.Encoding.{Encoding}
 use Rattle.rewriting.specs.Emission.{between}
 use Rattle.laws.specs.AttributesAgain.{newNumber, SameOperations}
-use Rattle.rewriting.proofs.Exact.{useOk, tokenOk, token-ok, Exactly, inExpression, expression-exactly}
-use Rattle.rewriting.proofs.Expressions.{isExpression}
-use Rattle.rewriting.proofs.ValueForms.{formIs, own, LinkForm, and-both, reference-form, ranges-form, locations-form, strings-form}
+use Rattle.rewriting.proofs.map_pass.Exact.{useOk, tokenOk, token-ok, Exactly, inExpression, expression-exactly}
+use Rattle.rewriting.proofs.write_pass.Expressions.{isExpression}
+use Rattle.rewriting.proofs.write_pass.ValueForms.{formIs, own, LinkForm, and-both, reference-form, ranges-form, locations-form, strings-form}
 
 -- ---- parts of bytes
 

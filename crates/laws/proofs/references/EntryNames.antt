@@ -38,8 +38,8 @@ use Rattle.readers.specs.declared.entries.Step.the-variants.{Entry as Entry′,
 use Rattle.readers.specs.EntryAttributes.{Valued, onAttribute, valuesOf, entryValues}
 use Rattle.marking.specs.EntryReferences.{partOf}
 use Rattle.readers.proofs.EntryAttributes.{specs-all}
-use Rattle.rewriting.proofs.DeepReads.{deep-step}
-use Rattle.rewriting.proofs.Expressions.{isExpression, value-exprloc}
+use Rattle.rewriting.proofs.kept_pass.DeepReads.{deep-step}
+use Rattle.rewriting.proofs.write_pass.Expressions.{isExpression, value-exprloc}
 use Rattle.laws.proofs.references.NamedPieces.{roleNames, pieceNames, piecesNames, readsNames, namesOf, reads-append}
 
 -- a use that names nothing

@@ -42,7 +42,7 @@ use Rattle.marking.proofs.Members.{nothing-in, in-left, in-right, in-either}
 use Rattle.laws.specs.SameRoles.{RoleRead}
 use Rattle.laws.proofs.references.NamedPieces.{only}
 use Rattle.readers.proofs.EntryAttributes.{specs-all}
-use Rattle.rewriting.proofs.DeepReads.{deep-step}
+use Rattle.rewriting.proofs.kept_pass.DeepReads.{deep-step}
 
 -- ---- uses
 

@@ -28,10 +28,10 @@ use Rattle.marking.proofs.Members.{nothing-in}
 use Rattle.laws.proofs.references.NamedPieces.{readsNames, reads-members}
 use Rattle.laws.proofs.references.EntryNames.{valuesNames, StepNames, deep-names}
 use Rattle.laws.proofs.references.ListedNames.{in-attributes, in-values}
-use Rattle.rewriting.proofs.ItemDepths.{EveryItem, Stands, items-stand}
-use Rattle.rewriting.proofs.ReadableItems.{Is, JudgedStep, step-deep}
+use Rattle.rewriting.proofs.kept_pass.ItemDepths.{EveryItem, Stands, items-stand}
+use Rattle.rewriting.proofs.kept_pass.ReadableItems.{Is, JudgedStep, step-deep}
 use Rattle.marking.specs.EntryRows.{RowsOf}
-use Rattle.rewriting.proofs.AcceptedUnits.{accepted-follow, Accepted}
+use Rattle.rewriting.proofs.whole.AcceptedUnits.{accepted-follow, Accepted}
 
 module _ (x : Sections) (u : Unit′) where
   abbrev deepAt : ℕ → Option RunOf

@@ -39,12 +39,12 @@ use Rattle.laws.specs.SameRoles.{RoleRead, FormIndex, FormSibling, SameR
 use Rattle.marking.proofs.Members.{nothing-in, in-left, in-right, in-either}
 use Rattle.laws.proofs.again.IndexMembers.{IndexRead, read-members}
 use Rattle.laws.proofs.references.NamedPieces.{only}
-use Rattle.rewriting.proofs.EntryIndices.{StepIndices, deep-indices}
+use Rattle.rewriting.proofs.list_pass.EntryIndices.{StepIndices, deep-indices}
 use Rattle.readers.proofs.FormKinds.{form-list}
 use Rattle.laws.proofs.references.EntryRoles.{readsSought, useSought, ownSought, valuesSought, StepSought, deep-sought, reads-members}
-use Rattle.rewriting.proofs.ItemDepths.{EveryItem, Stands, items-stand}
-use Rattle.rewriting.proofs.ReadableItems.{Is, JudgedStep, step-deep}
-use Rattle.rewriting.proofs.AcceptedUnits.{accepted-follow, Accepted}
+use Rattle.rewriting.proofs.kept_pass.ItemDepths.{EveryItem, Stands, items-stand}
+use Rattle.rewriting.proofs.kept_pass.ReadableItems.{Is, JudgedStep, step-deep}
+use Rattle.rewriting.proofs.whole.AcceptedUnits.{accepted-follow, Accepted}
 
 -- ---- indices
 

@@ -29,7 +29,7 @@ use Rattle.marking.proofs.UnitMarkings.{graph-size, marks-each}
 use Rattle.rewriting.specs.Places.{opened, closed, innermost}
 use Rattle.laws.specs.inner.Moved.{ParentsKept}
 use Rattle.rewriting.specs.Rewriting.{Room, itemsIn, unitOf}
-use Rattle.rewriting.proofs.AcceptedUnits.{accepted-follow, Accepted}
+use Rattle.rewriting.proofs.whole.AcceptedUnits.{accepted-follow, Accepted}
 
 -- ---- whether the open entries are kept
 

@@ -23,7 +23,7 @@ use Rattle.marking.specs.Analysis.{Sections}
 use Rattle.rewriting.specs.Places.{sizeFrom}
 use Rattle.rewriting.specs.Rewriting.{Unit as Unit′, Room, Rewrite, rewritten, collectOf, bytesFrom, unitBytes}
 use Rattle.laws.specs.HeaderBytes.{HeaderBytes}
-use Rattle.rewriting.proofs.HeaderAgain.{Reads, HeaderLaw}
+use Rattle.rewriting.proofs.write_pass.HeaderAgain.{Reads, HeaderLaw}
 use Rattle.laws.proofs.again.Accepted.{accepted-header}
 use Rattle.laws.proofs.again.CollectLaws.{it, unit, kept, start, again-law}
 

@@ -39,13 +39,13 @@ use Rattle.rewriting.specs.Outputs.{roomBy, mapFor, outputFor, listOr, listFor}
 use Rattle.laws.specs.HostReads.{placeAt, listNumberAt, MapReads, ListReads, PresentReads, OutputReads, RewrittenReads, UntouchedReads, RefusedReads, AnswerReads}
 use Rattle.marking.proofs.Members.{nothing-in, in-cases}
 use Rattle.laws.proofs.again.Maps.{places-length, kept-member}
-use Rattle.rewriting.proofs.Ascending.{items-ascending, offsetsOf}
+use Rattle.rewriting.proofs.map_pass.Ascending.{items-ascending, offsetsOf}
 use Rattle.laws.proofs.again.Sizes.{items-inside}
-use Rattle.rewriting.proofs.Tables.{Small, length-run, run-at}
-use Rattle.rewriting.proofs.Places.{nowhere, length-columns, old-held, new-held, depth-held}
-use Rattle.rewriting.proofs.Exact.{are-take, are-drop, tokenOk, LayoutOk, Right, Rights, AllRights, Exactly, ExactReader, RunExact, read-exact, inExpression, expression-exactly}
-use Rattle.rewriting.proofs.HeaderAgain.{HeaderLaw}
-use Rattle.rewriting.proofs.AcceptedUnits.{Accepted}
+use Rattle.rewriting.proofs.list_pass.Tables.{Small, length-run, run-at}
+use Rattle.rewriting.proofs.map_pass.Places.{nowhere, length-columns, old-held, new-held, depth-held}
+use Rattle.rewriting.proofs.map_pass.Exact.{are-take, are-drop, tokenOk, LayoutOk, Right, Rights, AllRights, Exactly, ExactReader, RunExact, read-exact, inExpression, expression-exactly}
+use Rattle.rewriting.proofs.write_pass.HeaderAgain.{HeaderLaw}
+use Rattle.rewriting.proofs.whole.AcceptedUnits.{Accepted}
 use Rattle.laws.proofs.again.Accepted.{accepted-header, survivorsIn, WasRewritten}
 use Rattle.marking.proofs.UnitMarkings.{marks-each}
 use Rattle.laws.proofs.again.IndexMembers.{IndexKept}

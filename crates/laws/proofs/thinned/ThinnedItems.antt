@@ -26,7 +26,7 @@ use Rattle.laws.specs.Ancestors.{ancestorsFrom}
 use Rattle.laws.specs.inner.Ancestors.{keptAncestors, MapTo, AllMapTo}
 use Rattle.rewriting.specs.Rewriting.{Unit as Unit′, Lists}
 use Rattle.laws.specs.Thinned.{inside, Parted, ended, kept-entry, left-entry, kept-terminator, left-terminator, surplus}
-use Rattle.rewriting.proofs.ItemDepths.{deepAt}
+use Rattle.rewriting.proofs.kept_pass.ItemDepths.{deepAt}
 use Rattle.laws.proofs.again.ReadsAgain.{withBytes, patched, PatchedFrom}
 
 -- ---- lists by position

@@ -24,11 +24,11 @@ use Rattle.laws.specs.inner.Moved.{movedFrom}
 use Rattle.rewriting.specs.Rewriting.{Unit as Unit′, unitOf, itemsIn, readsOr, readsAt, Lists, listAt, newValue, isSome, refusalFrom, Room, Rewrite, untouched, rewritten, collectOf}
 use Rattle.laws.specs.Thinned.{Pairwise, Beside, LandsOn, FirstFrom, Becomes, PieceAgain, ReadAgain, readAt, SideBySide, IndexKept, IndexList, thinnedOf, Thinned, UntouchedLists, Untouched}
 use Rattle.laws.specs.SameReferences.{UnitReferences}
-use Rattle.rewriting.proofs.HeaderAgain.{HeaderLaw}
+use Rattle.rewriting.proofs.write_pass.HeaderAgain.{HeaderLaw}
 use Rattle.laws.proofs.survivors.UnitLaws.{unit-survivors}
 use Rattle.marking.proofs.UnitMarkings.{marks-each}
 use Rattle.laws.proofs.survivors.ClosedMarks.{accepted-kept}
-use Rattle.rewriting.proofs.ReadableItems.{accepted-readable}
+use Rattle.rewriting.proofs.kept_pass.ReadableItems.{accepted-readable}
 use Rattle.laws.proofs.references.SameReferences.{accepted-references, each-references}
 use Rattle.laws.proofs.references.SameRoles.{accepted-roles}
 use Rattle.laws.proofs.thinned.HeaderBytes.{header-bytes-law}
@@ -38,7 +38,7 @@ use Rattle.marking.proofs.Members.{nothing-in}
 use Rattle.laws.proofs.thinned.Roles.{index-kind}
 use Rattle.laws.proofs.again.Maps.{has-new}
 use Rattle.laws.proofs.thinned.Landing.{item-reference, item-type, item-sibling, no-type}
-use Rattle.rewriting.proofs.ItemDepths.{Every, deepAt, Readable}
+use Rattle.rewriting.proofs.kept_pass.ItemDepths.{Every, deepAt, Readable}
 use Rattle.laws.proofs.again.ReadsAgain.{withBytes, patched}
 use Rattle.laws.proofs.again.Depths.{depthsOf, depths-placed}
 use Rattle.laws.proofs.thinned.ThinnedItems.{nth-member, nth-map, parted, moved-offset, placeOf, Stands, stands, deep-at, ItemFound, found-by, FirstFound, first-by, AncestorsOf, ancestors-by, Led, led}

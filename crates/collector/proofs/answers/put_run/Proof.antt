@@ -3,7 +3,7 @@ use borrow.Author.Needs.{needs}
 use native.Mathlib.Omega.{arith}
 use Prim.Native.Nat.{_-_}
 use lib.ListN.{length}
-use Rattle.rewriting.proofs.Putting.{put-room}
+use Rattle.rewriting.proofs.write_pass.Putting.{put-room}
 use Rattle.collector.proofs.Runs.{Run, run-start, run-more, run-inside, run-done}
 use Rattle.collector.proofs.answers.put_run.Statement.{statement}
 use Rattle.collector.proofs.answers.put_run.Tie as tie

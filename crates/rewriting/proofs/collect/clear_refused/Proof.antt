@@ -1,6 +1,6 @@
 -- `clear_refused` clears after a refusal alone. Assumes nothing.
 use borrow.Author.Needs.{needs}
-use Rattle.rewriting.proofs.Answering.{left-untouched, left-rewritten, left-refused}
+use Rattle.rewriting.proofs.whole.Answering.{left-untouched, left-rewritten, left-refused}
 use Rattle.rewriting.proofs.collect.clear_refused.Statement.{statement}
 use Rattle.rewriting.proofs.collect.clear_refused.Tie as tie
 

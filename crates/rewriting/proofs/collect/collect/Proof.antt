@@ -1,7 +1,7 @@
 -- `collect` leaves zeros in the tables, and after a refusal in map, lists and output. Assumes nothing.
 use mathlib.Core.Path.{_∙_}
 use borrow.Author.Needs.{needs}
-use Rattle.rewriting.proofs.Answering.{cleared, outputs-left}
+use Rattle.rewriting.proofs.whole.Answering.{cleared, outputs-left}
 use Rattle.rewriting.proofs.collect.collect.Statement.{statement}
 use Rattle.rewriting.proofs.collect.collect.Tie as tie
 

@@ -1,6 +1,6 @@
 -- `collect_marked` answers at once, or by `rewrite_unit`. Assumes nothing.
 use borrow.Author.Needs.{needs}
-use Rattle.rewriting.proofs.Answering.{marked-done, marked-rewrite}
+use Rattle.rewriting.proofs.whole.Answering.{marked-done, marked-rewrite}
 use Rattle.rewriting.proofs.collect.collect_marked.Statement.{statement}
 use Rattle.rewriting.proofs.collect.collect_marked.Tie as tie
 

@@ -1,7 +1,7 @@
 -- `collect_unit` clears, marks, and answers for what was marked. Assumes nothing.
 use mathlib.Core.Path.{_∙_}
 use borrow.Author.Needs.{needs}
-use Rattle.rewriting.proofs.Answering.{ends-enough, unit-answers}
+use Rattle.rewriting.proofs.whole.Answering.{ends-enough, unit-answers}
 use Rattle.rewriting.proofs.collect.collect_unit.Statement.{statement}
 use Rattle.rewriting.proofs.collect.collect_unit.Tie as tie
 

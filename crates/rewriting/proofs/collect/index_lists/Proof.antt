@@ -1,7 +1,7 @@
 -- `index_lists` makes the three lists, or finds one too short. Assumes nothing.
 use mathlib.Core.Path.{sym, _∙_}
 use borrow.Author.Needs.{needs}
-use Rattle.rewriting.proofs.Listings.{type-lists, settled-ranges, settled-locations, settled-strings, ranges-short, locations-short, strings-short, lists-made}
+use Rattle.rewriting.proofs.list_pass.Listings.{type-lists, settled-ranges, settled-locations, settled-strings, ranges-short, locations-short, strings-short, lists-made}
 use Rattle.rewriting.proofs.collect.index_lists.Statement.{statement}
 use Rattle.rewriting.proofs.collect.index_lists.Tie as tie
 

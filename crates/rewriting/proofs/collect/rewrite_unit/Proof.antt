@@ -1,6 +1,6 @@
 -- `rewrite_unit` makes the lists, and writes where something is dead. Assumes nothing.
 use borrow.Author.Needs.{needs}
-use Rattle.rewriting.proofs.UnitAnswers.{short-unit, untouched-unit, written-unit}
+use Rattle.rewriting.proofs.whole.UnitAnswers.{short-unit, untouched-unit, written-unit}
 use Rattle.rewriting.proofs.collect.rewrite_unit.Statement.{statement}
 use Rattle.rewriting.proofs.collect.rewrite_unit.Tie as tie
 

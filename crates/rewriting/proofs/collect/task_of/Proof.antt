@@ -1,7 +1,7 @@
 -- `task_of` goes by the marks, then by the header. Assumes nothing.
 use mathlib.Core.Path.{sym, _∙_}
 use borrow.Author.Needs.{needs}
-use Rattle.rewriting.proofs.Answering.{task-refused, task-none, task-some, task-empty, task-no-header, task-header}
+use Rattle.rewriting.proofs.whole.Answering.{task-refused, task-none, task-some, task-empty, task-no-header, task-header}
 use Rattle.rewriting.proofs.collect.task_of.Statement.{statement}
 use Rattle.rewriting.proofs.collect.task_of.Tie as tie
 

@@ -1,9 +1,9 @@
 -- `write_unit` measures and fills the map, then its bounds, and writes header and items. Assumes nothing.
 use native.Mathlib.Omega.{arith}
 use borrow.Author.Needs.{needs}
-use Rattle.rewriting.proofs.Emissions.{inside, emits-on, onward-to, onward-no}
-use Rattle.rewriting.proofs.HeaderEmits.{header-inside, header-there}
-use Rattle.rewriting.proofs.UnitWritten.{map-short, out-short, unit-written, unit-refused}
+use Rattle.rewriting.proofs.write_pass.Emissions.{inside, emits-on, onward-to, onward-no}
+use Rattle.rewriting.proofs.write_pass.HeaderEmits.{header-inside, header-there}
+use Rattle.rewriting.proofs.write_pass.UnitWritten.{map-short, out-short, unit-written, unit-refused}
 use Rattle.rewriting.proofs.collect.write_unit.Statement.{statement}
 use Rattle.rewriting.proofs.collect.write_unit.Tie as tie
 

@@ -2,7 +2,7 @@
 use mathlib.Core.Path.{sym}
 use native.Mathlib.Omega.{arith}
 use borrow.Author.Needs.{needs}
-use Rattle.rewriting.proofs.Emissions.{onward-to, onward-no}
+use Rattle.rewriting.proofs.write_pass.Emissions.{onward-to, onward-no}
 use Rattle.rewriting.proofs.emit_entry.after.Statement.{statement}
 use Rattle.rewriting.proofs.emit_entry.after.Tie as tie
 

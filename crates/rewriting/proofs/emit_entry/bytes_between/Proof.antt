@@ -1,6 +1,6 @@
 -- `bytes_between`: nothing, what the slice has, or all. Assumes nothing.
 use borrow.Author.Needs.{needs}
-use Rattle.rewriting.proofs.Emissions.{between-nothing, between-past, between-rest, between-whole}
+use Rattle.rewriting.proofs.write_pass.Emissions.{between-nothing, between-past, between-rest, between-whole}
 use Rattle.rewriting.proofs.emit_entry.bytes_between.Statement.{statement}
 use Rattle.rewriting.proofs.emit_entry.bytes_between.Tie as tie
 

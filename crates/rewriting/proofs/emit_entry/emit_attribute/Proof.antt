@@ -4,10 +4,10 @@ use mathlib.Core.Logic.{⊎-elim}
 use native.Mathlib.Omega.{arith}
 use borrow.Author.Needs.{needs}
 use Rattle.marking.proofs.AttributeScans.{form-below, form-above}
-use Rattle.rewriting.proofs.Exact.{are-bytes}
-use Rattle.rewriting.proofs.Emissions.{from-start, within-on, within-after, inside, copied-front, copied-within, copied-on, emits-on, after-small, emits-after}
-use Rattle.rewriting.proofs.Places.{looked-held}
-use Rattle.rewriting.proofs.AttributeEmits.{attribute-expression, attribute-sibling, attribute-reference, attribute-ranges, attribute-locations, attribute-strings, attribute-copied}
+use Rattle.rewriting.proofs.map_pass.Exact.{are-bytes}
+use Rattle.rewriting.proofs.write_pass.Emissions.{from-start, within-on, within-after, inside, copied-front, copied-within, copied-on, emits-on, after-small, emits-after}
+use Rattle.rewriting.proofs.map_pass.Places.{looked-held}
+use Rattle.rewriting.proofs.write_pass.AttributeEmits.{attribute-expression, attribute-sibling, attribute-reference, attribute-ranges, attribute-locations, attribute-strings, attribute-copied}
 use Rattle.rewriting.proofs.emit_entry.emit_attribute.Statement.{statement}
 use Rattle.rewriting.proofs.emit_entry.emit_attribute.Tie as tie
 

@@ -1,7 +1,7 @@
 -- `emit_bytes`: all bytes, or none. Assumes nothing.
 use borrow.Author.Needs.{needs}
-use Rattle.rewriting.proofs.Putting.{over-none}
-use Rattle.rewriting.proofs.Emissions.{count-none, count-all}
+use Rattle.rewriting.proofs.write_pass.Putting.{over-none}
+use Rattle.rewriting.proofs.write_pass.Emissions.{count-none, count-all}
 use Rattle.rewriting.proofs.emit_entry.emit_bytes.Statement.{statement}
 use Rattle.rewriting.proofs.emit_entry.emit_bytes.Tie as tie
 

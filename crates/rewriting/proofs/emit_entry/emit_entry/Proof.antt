@@ -1,5 +1,5 @@
 -- `emit_entry`: the invariant is that the answer from here on is that of all attributes. Assumes nothing.
-use mathlib.Core.Path.{_≡_, refl, ap}
+use mathlib.Core.Path.{_≡_, ap}
 use Prim.Native.Nat.{ℕ, _-_, _≤_}
 use mathlib.Core.Bool.{false}
 use mathlib.Core.List.{List}
@@ -18,8 +18,8 @@ use Rattle.rewriting.specs.inner.Written.{MapHeld}
 use Rattle.rewriting.specs.inner.Bounds.{Bounds}
 use Rattle.rewriting.specs.inner.Emission.{Within, ListsLent}
 use Rattle.rewriting.specs.declared.emit_entry.Emitted.the-variants.{To}
-use Rattle.rewriting.proofs.Emissions.{from-start, within-self, within-trans, within-on, within-stop, inside, copied-front, copied-within, emits-on, size-small, after-small, onward-to, onward-no}
-use Rattle.rewriting.proofs.EntryEmits.{Entering, entering-begin, entry-done, entering-less, entering-end, entering-refused, entering-on}
+use Rattle.rewriting.proofs.write_pass.Emissions.{from-start, within-self, within-trans, within-on, within-stop, inside, copied-front, copied-within, emits-on, size-small, after-small, onward-to, onward-no}
+use Rattle.rewriting.proofs.write_pass.EntryEmits.{Entering, entering-begin, entry-done, entering-less, entering-end, entering-refused, entering-on}
 use Rattle.rewriting.proofs.emit_entry.emit_entry.Statement.{statement}
 use Rattle.rewriting.proofs.emit_entry.emit_entry.Tie as tie
 

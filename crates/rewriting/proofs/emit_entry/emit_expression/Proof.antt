@@ -14,12 +14,12 @@ use Rattle.rewriting.specs.Rewriting.{Lists}
 use Rattle.rewriting.specs.inner.Written.{MapHeld}
 use Rattle.rewriting.specs.inner.Emission.{Within}
 use Rattle.rewriting.specs.declared.emit_entry.Emitted.the-variants.{To}
-use Rattle.rewriting.proofs.Exact.{are-bytes}
-use Rattle.rewriting.proofs.Places.{looked-held}
+use Rattle.rewriting.proofs.map_pass.Exact.{are-bytes}
+use Rattle.rewriting.proofs.map_pass.Places.{looked-held}
 use Rattle.marking.proofs.NextOffsets.{next-less}
-use Rattle.rewriting.proofs.Yielded.{next-placed, next-small}
-use Rattle.rewriting.proofs.Emissions.{from-start, within-start, within-on, within-stop, inside, between-whole, copied-within, copied-on, emits-on, after-small, onward-to, onward-no}
-use Rattle.rewriting.proofs.Splices.{Going, going-start, going-end, going-refused, going-on}
+use Rattle.rewriting.proofs.write_pass.Yielded.{next-placed, next-small}
+use Rattle.rewriting.proofs.write_pass.Emissions.{from-start, within-start, within-on, within-stop, inside, between-whole, copied-within, copied-on, emits-on, after-small, onward-to, onward-no}
+use Rattle.rewriting.proofs.write_pass.Splices.{Going, going-start, going-end, going-refused, going-on}
 use Rattle.rewriting.proofs.emit_entry.emit_expression.Statement.{statement}
 use Rattle.rewriting.proofs.emit_entry.emit_expression.Tie as tie
 

@@ -1,7 +1,7 @@
 -- `emit_number`: a number that fits, or one that does not. Assumes nothing.
 use native.Mathlib.Omega.{arith}
 use borrow.Author.Needs.{needs}
-use Rattle.rewriting.proofs.Emissions.{within-to, within-no, number-room, number-yes, number-no}
+use Rattle.rewriting.proofs.write_pass.Emissions.{within-to, within-no, number-room, number-yes, number-no}
 use Rattle.rewriting.proofs.emit_entry.emit_number.Statement.{statement}
 use Rattle.rewriting.proofs.emit_entry.emit_number.Tie as tie
 

@@ -1,7 +1,7 @@
 -- `emit_offset`: a new offset, or none. Assumes nothing.
 use mathlib.Core.Path.{refl}
 use borrow.Author.Needs.{needs}
-use Rattle.rewriting.proofs.Emissions.{within-no, offset-some, offset-none}
+use Rattle.rewriting.proofs.write_pass.Emissions.{within-no, offset-some, offset-none}
 use Rattle.rewriting.proofs.emit_entry.emit_offset.Statement.{statement}
 use Rattle.rewriting.proofs.emit_entry.emit_offset.Tie as tie
 

@@ -1,5 +1,5 @@
 -- `is_leb`: by each form that is so. Assumes nothing.
-use Rattle.rewriting.proofs.FormKinds.{leb-reference, leb-string, leb-location, leb-range, leb-last}
+use Rattle.rewriting.proofs.write_pass.FormKinds.{leb-reference, leb-string, leb-location, leb-range, leb-last}
 use Rattle.rewriting.proofs.emit_entry.is_leb.Statement.{statement}
 use Rattle.rewriting.proofs.emit_entry.is_leb.Tie as tie
 

@@ -1,6 +1,6 @@
 -- `new_index`: by its rank, or as it is. Assumes nothing.
 use borrow.Author.Needs.{needs}
-use Rattle.rewriting.proofs.Emissions.{index-rank, index-self}
+use Rattle.rewriting.proofs.write_pass.Emissions.{index-rank, index-self}
 use Rattle.rewriting.proofs.emit_entry.new_index.Statement.{statement}
 use Rattle.rewriting.proofs.emit_entry.new_index.Tie as tie
 

@@ -14,9 +14,9 @@ use Rattle.rewriting.specs.inner.Bounds.{Bounds}
 use Rattle.rewriting.specs.inner.IndexLists.{PassInput}
 use Rattle.rewriting.specs.inner.Emission.{Within, ListsLent}
 use Rattle.rewriting.specs.declared.emit_entry.Emitted.the-variants.{To}
-use Rattle.rewriting.proofs.KeptPasses.{next-less}
-use Rattle.rewriting.proofs.Emissions.{from-start, within-start, within-on, within-stop, inside, copied-within, copied-on, emits-on, after-small, onward-to, onward-no}
-use Rattle.rewriting.proofs.ItemEmits.{Writing, writing-start, writing-end, writing-refused, writing-entry, writing-terminator}
+use Rattle.rewriting.proofs.kept_pass.KeptPasses.{next-less}
+use Rattle.rewriting.proofs.write_pass.Emissions.{from-start, within-start, within-on, within-stop, inside, copied-within, copied-on, emits-on, after-small, onward-to, onward-no}
+use Rattle.rewriting.proofs.write_pass.ItemEmits.{Writing, writing-start, writing-end, writing-refused, writing-entry, writing-terminator}
 use Rattle.rewriting.proofs.emit_unit.emit_dies.Statement.{statement}
 use Rattle.rewriting.proofs.emit_unit.emit_dies.Tie as tie
 

@@ -1,6 +1,6 @@
 -- `emit_header`: the header copied, its length written over it. Assumes nothing.
 use borrow.Author.Needs.{needs}
-use Rattle.rewriting.proofs.HeaderEmits.{header-taken, header-low, header-past, header-short, header-few, header-large, header-put}
+use Rattle.rewriting.proofs.write_pass.HeaderEmits.{header-taken, header-low, header-past, header-short, header-few, header-large, header-put}
 use Rattle.rewriting.proofs.emit_unit.emit_header.Statement.{statement}
 use Rattle.rewriting.proofs.emit_unit.emit_header.Tie as tie
 

@@ -3,7 +3,7 @@ use mathlib.Core.Path.{refl}
 use Prim.Native.Nat.{_-_}
 use lib.ListN.{length}
 use borrow.Author.Needs.{needs}
-use Rattle.rewriting.proofs.IndexTurns.{SameFrom, any-end, any-bad, any-terminator-less, any-terminator, any-entry-less, any-yes, any-no}
+use Rattle.rewriting.proofs.list_pass.IndexTurns.{SameFrom, any-end, any-bad, any-terminator-less, any-terminator, any-entry-less, any-yes, any-no}
 use Rattle.rewriting.proofs.indices.any_declares.Statement.{statement}
 use Rattle.rewriting.proofs.indices.any_declares.Tie as tie
 

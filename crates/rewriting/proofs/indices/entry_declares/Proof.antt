@@ -5,7 +5,7 @@ use lib.ListN.{length}
 use borrow.Author.Needs.{needs}
 use Rattle.readers.specs.EntryAttributes.{entryValues}
 use Rattle.rewriting.specs.Indices.{declares}
-use Rattle.rewriting.proofs.IndexTurns.{attributes-less, declares-end, declares-yes, declares-form, declares-name}
+use Rattle.rewriting.proofs.list_pass.IndexTurns.{attributes-less, declares-end, declares-yes, declares-form, declares-name}
 use Rattle.rewriting.proofs.indices.entry_declares.Statement.{statement}
 use Rattle.rewriting.proofs.indices.entry_declares.Tie as tie
 

@@ -3,9 +3,9 @@ use mathlib.Core.Path.{refl, _∙_}
 use Prim.Native.Nat.{_-_}
 use lib.ListN.{length}
 use borrow.Author.Needs.{needs}
-use Rattle.rewriting.proofs.IndexTurns.{attributes-less, Indices, indices-end, indices-more}
+use Rattle.rewriting.proofs.list_pass.IndexTurns.{attributes-less, Indices, indices-end, indices-more}
 use Rattle.readers.proofs.FormKinds.{form-list}
-use Rattle.rewriting.proofs.Holdings.{Filling, onward-start, onward-more, onward-end}
+use Rattle.rewriting.proofs.list_pass.Holdings.{Filling, onward-start, onward-more, onward-end}
 use Rattle.rewriting.proofs.indices.entry_gather.Statement.{statement}
 use Rattle.rewriting.proofs.indices.entry_gather.Tie as tie
 

@@ -3,7 +3,7 @@ use Prim.Native.Nat.{_-_}
 use native.Mathlib.Omega.{arith}
 use lib.ListN.{length}
 use borrow.Author.Needs.{needs}
-use Rattle.rewriting.proofs.CollectTurns.{Collecting, collecting-start, collect-end, collect-less, collect-terminator, collect-entry}
+use Rattle.rewriting.proofs.whole.CollectTurns.{Collecting, collecting-start, collect-end, collect-less, collect-terminator, collect-entry}
 use Rattle.rewriting.proofs.indices.gather.Statement.{statement}
 use Rattle.rewriting.proofs.indices.gather.Tie as tie
 

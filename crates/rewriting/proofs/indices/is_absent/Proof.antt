@@ -1,8 +1,8 @@
 -- `is_absent` meets its contract. Assumes nothing.
 use mathlib.Core.Path.{sym, _∙_}
 use borrow.Author.Needs.{needs}
-use Rattle.rewriting.proofs.IndexTurns.{absent-plain, absent-named}
-use Rattle.rewriting.proofs.Declaring.{absent-none}
+use Rattle.rewriting.proofs.list_pass.IndexTurns.{absent-plain, absent-named}
+use Rattle.rewriting.proofs.list_pass.Declaring.{absent-none}
 use Rattle.rewriting.proofs.indices.is_absent.Statement.{statement}
 use Rattle.rewriting.proofs.indices.is_absent.Tie as tie
 

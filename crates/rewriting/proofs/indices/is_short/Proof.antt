@@ -1,6 +1,6 @@
 -- `is_short` meets its contract. Assumes nothing.
 use borrow.Author.Needs.{needs}
-use Rattle.rewriting.proofs.IndexTurns.{short-present, short-absent}
+use Rattle.rewriting.proofs.list_pass.IndexTurns.{short-present, short-absent}
 use Rattle.rewriting.proofs.indices.is_short.Statement.{statement}
 use Rattle.rewriting.proofs.indices.is_short.Tie as tie
 

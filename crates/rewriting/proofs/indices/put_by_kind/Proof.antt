@@ -1,7 +1,7 @@
 -- `put_by_kind`: the list of the kind gets the value, the others stay. Assumes nothing.
 use native.Mathlib.Omega.{arith}
 use borrow.Author.Needs.{needs}
-use Rattle.rewriting.proofs.Holdings.{puts-kind, puts-other, puts-apart}
+use Rattle.rewriting.proofs.list_pass.Holdings.{puts-kind, puts-other, puts-apart}
 use Rattle.rewriting.proofs.indices.put_by_kind.Statement.{statement}
 use Rattle.rewriting.proofs.indices.put_by_kind.Tie as tie
 

@@ -1,6 +1,6 @@
 -- `settle` meets its contract. Assumes nothing.
 use borrow.Author.Needs.{needs}
-use Rattle.rewriting.proofs.ListAnswers.{settle-absent, settle-empty, settle-present}
+use Rattle.rewriting.proofs.list_pass.ListAnswers.{settle-absent, settle-empty, settle-present}
 use Rattle.rewriting.proofs.indices.settle.Statement.{statement}
 use Rattle.rewriting.proofs.indices.settle.Tie as tie
 

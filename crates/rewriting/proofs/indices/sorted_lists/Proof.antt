@@ -1,6 +1,6 @@
 -- `sorted_lists`: gathered, and finished. Assumes nothing.
 use borrow.Author.Needs.{needs}
-use Rattle.rewriting.proofs.SortedLists.{listed}
+use Rattle.rewriting.proofs.list_pass.SortedLists.{listed}
 use Rattle.rewriting.proofs.indices.sorted_lists.Statement.{statement}
 use Rattle.rewriting.proofs.indices.sorted_lists.Tie as tie
 

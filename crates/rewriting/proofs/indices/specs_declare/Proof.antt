@@ -5,7 +5,7 @@ use lib.ListN.{length}
 use borrow.Author.Needs.{needs}
 use Rattle.readers.specs.EntryAttributes.{specsFrom}
 use Rattle.rewriting.specs.inner.Indices.{specsDeclare}
-use Rattle.rewriting.proofs.Declaring.{specs-last, specs-bad, specs-less, specs-yes, specs-form, specs-name}
+use Rattle.rewriting.proofs.list_pass.Declaring.{specs-last, specs-bad, specs-less, specs-yes, specs-form, specs-name}
 use Rattle.rewriting.proofs.indices.specs_declare.Statement.{statement}
 use Rattle.rewriting.proofs.indices.specs_declare.Tie as tie
 

@@ -2,7 +2,7 @@
 use Prim.Native.Nat.{_-_}
 use lib.ListN.{length}
 use borrow.Author.Needs.{needs}
-use Rattle.rewriting.proofs.Declaring.{Declaring, declaring-start, table-last, table-bad, table-less, table-yes, table-no}
+use Rattle.rewriting.proofs.list_pass.Declaring.{Declaring, declaring-start, table-last, table-bad, table-less, table-yes, table-no}
 use Rattle.rewriting.proofs.indices.table_declares.Statement.{statement}
 use Rattle.rewriting.proofs.indices.table_declares.Tie as tie
 

@@ -1,6 +1,6 @@
 -- `closes_kept` meets its contract. Assumes nothing.
 use borrow.Author.Needs.{needs}
-use Rattle.rewriting.proofs.KeptSteps.{closes-outside, closes-inside}
+use Rattle.rewriting.proofs.kept_pass.KeptSteps.{closes-outside, closes-inside}
 use Rattle.rewriting.proofs.kept_items.closes_kept.Statement.{statement}
 use Rattle.rewriting.proofs.kept_items.closes_kept.Tie as tie
 

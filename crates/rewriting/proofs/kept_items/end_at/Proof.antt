@@ -1,6 +1,6 @@
 -- `end_at` by its cases. Assumes nothing.
 use borrow.Author.Needs.{needs}
-use Rattle.rewriting.proofs.EndsFilled.{end-there, end-outside}
+use Rattle.rewriting.proofs.kept_pass.EndsFilled.{end-there, end-outside}
 use Rattle.rewriting.proofs.kept_items.end_at.Statement.{statement}
 use Rattle.rewriting.proofs.kept_items.end_at.Tie as tie
 

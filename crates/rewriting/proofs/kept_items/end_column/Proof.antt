@@ -1,7 +1,7 @@
 -- `end_column` by its cases. Assumes nothing.
 use mathlib.Core.Path.{refl}
 use borrow.Author.Needs.{needs}
-use Rattle.rewriting.proofs.EndsFilled.{ended-in, ended-out}
+use Rattle.rewriting.proofs.kept_pass.EndsFilled.{ended-in, ended-out}
 use Rattle.rewriting.proofs.kept_items.end_column.Statement.{statement}
 use Rattle.rewriting.proofs.kept_items.end_column.Tie as tie
 

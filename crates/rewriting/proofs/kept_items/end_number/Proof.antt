@@ -1,6 +1,6 @@
 -- `end_number` by its cases. Assumes nothing.
 use borrow.Author.Needs.{needs}
-use Rattle.rewriting.proofs.EndsFilled.{number-yes, number-no}
+use Rattle.rewriting.proofs.kept_pass.EndsFilled.{number-yes, number-no}
 use Rattle.rewriting.proofs.kept_items.end_number.Statement.{statement}
 use Rattle.rewriting.proofs.kept_items.end_number.Tie as tie
 

@@ -1,9 +1,8 @@
 -- `fill_ends`: what the column will hold from here on makes it hold all. Assumes nothing.
 use Prim.Native.Nat.{_-_}
-use native.Mathlib.Omega.{arith}
 use lib.ListN.{length}
 use borrow.Author.Needs.{needs}
-use Rattle.rewriting.proofs.EndsFilled.{Ending, ending-start, ending-end, ending-bad, ending-terminator-less, ending-terminator, ending-full, ending-over, ending-entry-less, ending-entry}
+use Rattle.rewriting.proofs.kept_pass.EndsFilled.{Ending, ending-start, ending-end, ending-bad, ending-terminator-less, ending-terminator, ending-full, ending-over, ending-entry-less, ending-entry}
 use Rattle.rewriting.proofs.kept_items.fill_ends.Statement.{statement}
 use Rattle.rewriting.proofs.kept_items.fill_ends.Tie as tie
 

@@ -1,6 +1,6 @@
 -- `is_kept` meets its contract. Assumes nothing.
 use borrow.Author.Needs.{needs}
-use Rattle.rewriting.proofs.KeptSteps.{kept-there, kept-outside}
+use Rattle.rewriting.proofs.kept_pass.KeptSteps.{kept-there, kept-outside}
 use Rattle.rewriting.proofs.kept_items.is_kept.Statement.{statement}
 use Rattle.rewriting.proofs.kept_items.is_kept.Tie as tie
 

@@ -6,7 +6,7 @@ use Rattle.readers.proofs.Declarations.{found-at}
 use lib.ListN.{length}
 use Rattle.readers.specs.Abbreviations.{findAt}
 use Rattle.readers.proofs.Values.{step-end}
-use Rattle.rewriting.proofs.KeptSteps.{stand, Walking, walking-start, end-end, stop-none, at-terminator, stop-unknown, stop-over, stop-low, stop-high, ends-less, ends-on, ends-item, terminator-less, terminator-item, terminator-on}
+use Rattle.rewriting.proofs.kept_pass.KeptSteps.{stand, Walking, walking-start, end-end, stop-none, at-terminator, stop-unknown, stop-over, stop-low, stop-high, ends-less, ends-on, ends-item, terminator-less, terminator-item, terminator-on}
 use Rattle.rewriting.proofs.kept_items.next_kept.Statement.{statement}
 use Rattle.rewriting.proofs.kept_items.next_kept.Tie as tie
 

@@ -1,6 +1,6 @@
 -- `has_old` meets its contract.
 use borrow.Author.Needs.{needs}
-use Rattle.rewriting.proofs.Places.{has-there}
+use Rattle.rewriting.proofs.map_pass.Places.{has-there}
 use Rattle.rewriting.proofs.map.has_old.Statement.{statement}
 use Rattle.rewriting.proofs.map.has_old.Tie as tie
 

@@ -1,6 +1,6 @@
 -- `new_offset` meets its contract.
 use mathlib.Core.Path.{sym, _∙_}
-use Rattle.rewriting.proofs.Places.{looked-there, looked-other, looked-beyond}
+use Rattle.rewriting.proofs.map_pass.Places.{looked-there, looked-other, looked-beyond}
 use borrow.Author.Needs.{needs}
 use borrow.Author.Tests.{eqb-true, eqb-false}
 use Rattle.rewriting.proofs.map.new_offset.Statement.{statement}

@@ -1,8 +1,8 @@
 -- `number_of` meets its contract.
 use native.Mathlib.Omega.{arith}
 use borrow.Author.Needs.{needs}
-use Rattle.rewriting.proofs.Tables.{room-in, no-room}
-use Rattle.rewriting.proofs.Putting.{big-endian-there}
+use Rattle.rewriting.proofs.list_pass.Tables.{room-in, no-room}
+use Rattle.rewriting.proofs.write_pass.Putting.{big-endian-there}
 use Rattle.rewriting.proofs.map.number_of.Statement.{statement}
 use Rattle.rewriting.proofs.map.number_of.Tie as tie
 

@@ -1,6 +1,6 @@
 -- `old_at` meets its contract.
 use native.Mathlib.Omega.{arith}
-use Rattle.rewriting.proofs.Tables.{first-byte}
+use Rattle.rewriting.proofs.list_pass.Tables.{first-byte}
 use Rattle.rewriting.proofs.map.old_at.Statement.{statement}
 use Rattle.rewriting.proofs.map.old_at.Tie as tie
 

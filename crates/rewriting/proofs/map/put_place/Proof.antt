@@ -1,7 +1,7 @@
 -- `put_place` meets its contract.
 use native.Mathlib.Omega.{arith}
-use Rattle.rewriting.proofs.Putting.{put-room}
-use Rattle.rewriting.proofs.Places.{place-put}
+use Rattle.rewriting.proofs.write_pass.Putting.{put-room}
+use Rattle.rewriting.proofs.map_pass.Places.{place-put}
 use borrow.Author.Needs.{needs}
 use Rattle.rewriting.proofs.map.put_place.Statement.{statement}
 use Rattle.rewriting.proofs.map.put_place.Tie as tie

@@ -1,5 +1,5 @@
 -- `big_endian_at` meets its contract.
-use Rattle.rewriting.proofs.Putting.{read-value, read-nothing}
+use Rattle.rewriting.proofs.write_pass.Putting.{read-value, read-nothing}
 use borrow.Author.Needs.{needs}
 use Rattle.rewriting.proofs.numbers.big_endian_at.Statement.{statement}
 use Rattle.rewriting.proofs.numbers.big_endian_at.Tie as tie

@@ -1,7 +1,7 @@
 -- `copy_number` meets its contract.
 use Prim.Native.Nat.{_-_}
 use native.Mathlib.Omega.{arith}
-use Rattle.rewriting.proofs.Putting.{Copying, copying-start, copying-more, copying-done}
+use Rattle.rewriting.proofs.write_pass.Putting.{Copying, copying-start, copying-more, copying-done}
 use Rattle.rewriting.proofs.numbers.copy_number.Statement.{statement}
 use Rattle.rewriting.proofs.numbers.copy_number.Tie as tie
 

@@ -1,7 +1,7 @@
 -- `fits` meets its contract: each turn takes a digit away.
 use Prim.Native.Nat.{_-_}
 use native.Mathlib.Omega.{arith}
-use Rattle.rewriting.proofs.Putting.{Shortened, shortened-start, shortened-more, shortened-done}
+use Rattle.rewriting.proofs.write_pass.Putting.{Shortened, shortened-start, shortened-more, shortened-done}
 use Rattle.rewriting.proofs.numbers.fits.Statement.{statement}
 use Rattle.rewriting.proofs.numbers.fits.Tie as tie
 

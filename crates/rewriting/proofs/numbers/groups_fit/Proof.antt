@@ -2,7 +2,7 @@
 use mathlib.Core.Path.{sym, _∙_}
 use native.Mathlib.Omega.{arith}
 use borrow.Author.Needs.{needs}
-use Rattle.rewriting.proofs.Putting.{groups-none, groups-over, groups-beyond, groups-rest}
+use Rattle.rewriting.proofs.write_pass.Putting.{groups-none, groups-over, groups-beyond, groups-rest}
 use Rattle.rewriting.proofs.numbers.groups_fit.Statement.{statement}
 use Rattle.rewriting.proofs.numbers.groups_fit.Tie as tie
 

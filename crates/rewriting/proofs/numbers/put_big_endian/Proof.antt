@@ -1,7 +1,6 @@
 -- `put_big_endian` meets its contract: the last byte is written first.
-use Prim.Native.Nat.{_-_}
 use native.Mathlib.Omega.{arith}
-use Rattle.rewriting.proofs.Putting.{Backing, backing-start, backing-more, backing-done, put-none, put-all}
+use Rattle.rewriting.proofs.write_pass.Putting.{Backing, backing-start, backing-more, backing-done, put-none, put-all}
 use Rattle.rewriting.proofs.numbers.put_big_endian.Statement.{statement}
 use Rattle.rewriting.proofs.numbers.put_big_endian.Tie as tie
 

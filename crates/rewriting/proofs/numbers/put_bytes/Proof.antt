@@ -2,7 +2,7 @@
 use Prim.Native.Nat.{_-_}
 use native.Mathlib.Omega.{arith}
 use lib.ListN.{length, drop}
-use Rattle.rewriting.proofs.Putting.{Putting, putting-start, copy-more, copy-done, over-none, over-all}
+use Rattle.rewriting.proofs.write_pass.Putting.{Putting, putting-start, copy-more, copy-done, over-none, over-all}
 use Rattle.rewriting.proofs.numbers.put_bytes.Statement.{statement}
 use Rattle.rewriting.proofs.numbers.put_bytes.Tie as tie
 

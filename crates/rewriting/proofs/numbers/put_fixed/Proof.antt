@@ -4,7 +4,7 @@ use borrow.Author.Tests.{not-true, not-false}
 use Prim.Native.Nat.{_-_}
 use native.Mathlib.Omega.{arith}
 use borrow.Author.Needs.{needs}
-use Rattle.rewriting.proofs.Putting.{refused, accepted, bytes-over, bytes-beyond, bytes-large, bytes-fit, Fixing, fixing-start, fixing-more, fixing-done}
+use Rattle.rewriting.proofs.write_pass.Putting.{refused, accepted, bytes-over, bytes-beyond, bytes-large, bytes-fit, Fixing, fixing-start, fixing-more, fixing-done}
 use Rattle.rewriting.proofs.numbers.put_fixed.Statement.{statement}
 use Rattle.rewriting.proofs.numbers.put_fixed.Tie as tie
 

@@ -1,7 +1,7 @@
 -- `put_number`: a padded number in a part of its width, or a number in so many bytes. Assumes nothing.
 use mathlib.Core.Path.{refl, sym}
 use borrow.Author.Needs.{needs}
-use Rattle.rewriting.proofs.Putting.{taken-length, number-beyond, number-written, number-zeros, number-fixed}
+use Rattle.rewriting.proofs.write_pass.Putting.{taken-length, number-beyond, number-written, number-zeros, number-fixed}
 use Rattle.rewriting.proofs.numbers.put_number.Statement.{statement}
 use Rattle.rewriting.proofs.numbers.put_number.Tie as tie
 

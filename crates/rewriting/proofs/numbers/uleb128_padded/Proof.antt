@@ -2,7 +2,7 @@
 use Prim.Native.Nat.{_-_}
 use native.Mathlib.Omega.{arith}
 use Rattle.readers.specs.Choice.{zeros}
-use Rattle.rewriting.proofs.Putting.{Grouping, grouping-start, grouping-more, number-made}
+use Rattle.rewriting.proofs.write_pass.Putting.{Grouping, grouping-start, grouping-more, number-made}
 use Rattle.rewriting.proofs.numbers.uleb128_padded.Statement.{statement}
 use Rattle.rewriting.proofs.numbers.uleb128_padded.Tie as tie
 

@@ -1,7 +1,7 @@
 -- `write_uleb128_padded` meets its contract.
 use mathlib.Core.Path.{refl, sym, _∙_}
 use borrow.Author.Tests.{not-true, not-false}
-use Rattle.rewriting.proofs.Putting.{refused, number-put, padded-written, padded-refused}
+use Rattle.rewriting.proofs.write_pass.Putting.{refused, number-put, padded-written, padded-refused}
 use borrow.Author.Needs.{needs}
 use Rattle.rewriting.proofs.numbers.write_uleb128_padded.Statement.{statement}
 use Rattle.rewriting.proofs.numbers.write_uleb128_padded.Tie as tie

@@ -4,8 +4,8 @@ use native.Mathlib.Omega.{arith}
 use borrow.Author.Needs.{needs}
 use lib.ListN.{length}
 use Rattle.rewriting.specs.inner.NextKept.{itemsBy}
-use Rattle.rewriting.proofs.KeptPasses.{measuring-end, measuring-fits, next-less}
-use Rattle.rewriting.proofs.MapFills.{Placing, placing-start, placing-size, placing-end, placing-more}
+use Rattle.rewriting.proofs.kept_pass.KeptPasses.{measuring-end, measuring-fits, next-less}
+use Rattle.rewriting.proofs.map_pass.MapFills.{Placing, placing-start, placing-size, placing-end, placing-more}
 use Rattle.rewriting.proofs.offset_pass.place_items.Statement.{statement}
 use Rattle.rewriting.proofs.offset_pass.place_items.Tie as tie
 

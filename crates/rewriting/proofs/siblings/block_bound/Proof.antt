@@ -1,6 +1,6 @@
 -- `block_bound` meets its contract.
 use mathlib.Core.Path.{refl}
-use Rattle.rewriting.proofs.Bounded.{block-joined}
+use Rattle.rewriting.proofs.map_pass.Bounded.{block-joined}
 use borrow.Author.Needs.{needs}
 use Rattle.rewriting.proofs.siblings.block_bound.Statement.{statement}
 use Rattle.rewriting.proofs.siblings.block_bound.Tie as tie

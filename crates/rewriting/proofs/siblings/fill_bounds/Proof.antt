@@ -3,7 +3,7 @@ use Prim.Native.Nat.{_-_, _*_}
 use native.Mathlib.Omega.{arith}
 use lib.ListN.{length-set}
 use borrow.Author.Needs.{needs}
-use Rattle.rewriting.proofs.Bounded.{Filling, filling-start, filling-more, filling-done}
+use Rattle.rewriting.proofs.map_pass.Bounded.{Filling, filling-start, filling-more, filling-done}
 use Rattle.rewriting.proofs.siblings.fill_bounds.Statement.{statement}
 use Rattle.rewriting.proofs.siblings.fill_bounds.Tie as tie
 

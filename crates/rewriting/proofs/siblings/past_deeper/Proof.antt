@@ -1,6 +1,6 @@
 -- `past_deeper` meets its contract.
 use native.Mathlib.Omega.{arith}
-use Rattle.rewriting.proofs.Bounded.{block-deeper}
+use Rattle.rewriting.proofs.map_pass.Bounded.{block-deeper}
 use borrow.Author.Needs.{needs}
 use Rattle.rewriting.proofs.siblings.past_deeper.Statement.{statement}
 use Rattle.rewriting.proofs.siblings.past_deeper.Tie as tie

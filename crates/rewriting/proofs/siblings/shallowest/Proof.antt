@@ -1,9 +1,9 @@
 -- `shallowest` meets its contract.
 use Prim.Native.Nat.{_-_}
 use native.Mathlib.Omega.{arith}
-use Rattle.rewriting.proofs.Bounded.{Least, least-start, least-more, least-all, least-done}
+use Rattle.rewriting.proofs.map_pass.Bounded.{Least, least-start, least-more, least-all, least-done}
 use borrow.Author.Needs.{needs}
-use Rattle.rewriting.proofs.Places.{depth-there}
+use Rattle.rewriting.proofs.map_pass.Places.{depth-there}
 use Rattle.rewriting.proofs.siblings.shallowest.Statement.{statement}
 use Rattle.rewriting.proofs.siblings.shallowest.Tie as tie
 

@@ -3,8 +3,8 @@ use mathlib.Core.Path.{refl, sym, _∙_}
 use mathlib.Core.Logic.{⊎-elim}
 use Prim.Native.Nat.{ℕ, _-_}
 use native.Mathlib.Omega.{arith}
-use Rattle.rewriting.proofs.Places.{old-there, new-there, depth-there, found-new, other-none, beyond-none, rank-held, sibling-to}
-use Rattle.rewriting.proofs.Bounded.{Unfound, Seeking, seeking-start, seeking-skip, seeking-here, seeking-more, seeking-done}
+use Rattle.rewriting.proofs.map_pass.Places.{old-there, new-there, depth-there, found-new, other-none, beyond-none, rank-held, sibling-to}
+use Rattle.rewriting.proofs.map_pass.Bounded.{Unfound, Seeking, seeking-start, seeking-skip, seeking-here, seeking-more, seeking-done}
 use borrow.Author.Needs.{needs}
 use borrow.Author.Tests.{eqb-true, eqb-false}
 use Rattle.rewriting.proofs.siblings.sibling_offset.Statement.{statement}

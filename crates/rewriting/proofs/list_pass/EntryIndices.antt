@@ -1,0 +1,520 @@
+-- The indices of an entry that can be read deep are those of its attributes: expressions have none. Assumes nothing.
+use mathlib.Core.Path.{_≡_, refl, ap, ap₂, sym, _∙_, subst}
+use Prim.Native.Nat.{ℕ, zero, suc, _+_, _≤_, _<_}
+use native.Mathlib.Omega.{arith}
+use mathlib.Core.Bool.{Bool, true, false, not}
+use mathlib.Core.List.{List, [], _∷_, _++_, append-assoc, append-nil}
+use mathlib.Core.Option.{Option, none, some}
+use mathlib.Core.Logic.{⊎-elim}
+use lib.ListN.{length, getD, take, drop}
+use lib.Seq.{drop-drop}
+use lib.Dec.{T, eqb, leb}
+use mir.Facts.{leb-yes, leb-no, eqb-yes, eqb-no}
+use Rattle.readers.specs.Choice.{pick, _and_, _or_, bind}
+use Rattle.readers.proofs.Choice.{pick-yes, pick-no, pick-either, either, bind-at, bind-bind, check-yes, All, all-some, all-none, all-of, all-bind, all-check, all-triv}
+use Rattle.readers.specs.Numbers.{uleb, sleb}
+use Rattle.readers.specs.Layout.{Kind, leb128, Role, reference, typeReference, sibling, index, absolute, Token, nothing, number, bounded, forms, signed, link, string, run, block, expression, unknown, Layout, done, fail, field, Piece, verbatim, patchable, Read, ReadOf, RunOf, ExpressionReader, asBytes, copy, asNumber, asBounded, asForms, asSigned, asLink, asString, asBlock, asExpression, numberIn, formsIn, stringIn, tokenIn, readIn, before}
+use Rattle.readers.proofs.LayoutLaws.{TokenLaw, token-law, as-bytes-law}
+use Rattle.readers.specs.Expression.{allPieces, andRest, expressionWithin, expressionIn}
+use Rattle.readers.proofs.Expression.{expression-law}
+use Rattle.readers.specs.Operations.{OperandRow, unreadableRow, rows, rowOf, rowLayout, operationRow, operation}
+use Rattle.readers.specs.Tokens.{Use, plain, as′, numberAs, tokenOf}
+use Rattle.readers.specs.Forms.{formTokens, tokenAmong, formToken, useOf, valueToken, attributeLayout}
+use Rattle.readers.specs.Fields.{size, linkedValue, fieldOf, asField, tokenAt}
+use Rattle.readers.specs.Cursors.{formsAt, asFormNumber}
+use Rattle.readers.specs.Scan.{Scanned}
+use Rattle.readers.specs.Abbreviations.{attributesFrom}
+use Rattle.readers.specs.Entries.{attributeAt, attributesLayout, specsLayout, foundLayout, entryLayout, entryFound, stepOfReads, stepAt}
+use Rattle.readers.proofs.Values.{valued, behindForms, attribute-direct, attribute-indirect, joined, read-then}
+use Rattle.readers.specs.declared.cursor.Encoding.{Encoding}
+use Rattle.readers.specs.declared.abbreviations.AttributeSpec.{AttributeSpec}
+use Rattle.readers.specs.declared.abbreviations.DeclarationFound.{DeclarationFound}
+use Rattle.readers.specs.declared.abbreviations.DeclarationFound.the-variants.{Declaration as Found′, Nothing}
+use Rattle.readers.specs.declared.attributes.Attribute.{Attribute}
+use Rattle.readers.specs.declared.attributes.AttributeRead.{AttributeRead}
+use Rattle.readers.specs.declared.attributes.AttributeRead.the-variants.{Read as Attribute′}
+use Rattle.readers.specs.declared.entries.Step.{Step}
+use Rattle.readers.specs.declared.entries.Step.the-variants.{Entry as Entry′, Terminator, End, Unreadable}
+use Rattle.readers.specs.EntryAttributes.{onAttribute, valuesOf, entryValues}
+use Rattle.readers.proofs.EntryAttributes.{specs-all}
+use Rattle.rewriting.specs.Indices.{indexIn, indicesIn, readIndices}
+use Rattle.rewriting.specs.inner.IndexLists.{formList, valueIndex, valueIndices}
+use Rattle.readers.specs.inner.Forms.{roleList, useList}
+use Rattle.readers.proofs.FormKinds.{list-low, list-high, form-list}
+use Rattle.rewriting.proofs.kept_pass.DeepReads.{deep-step}
+
+-- ---- indices of some pieces after others
+
+module _ (k : ℕ) where
+  in-append : (ps qs : List Piece) → indicesIn k (ps ++ qs) ≡ indicesIn k ps ++ indicesIn k qs
+  unfolding indicesIn
+  in-append [] qs = refl
+  in-append (p ∷ ps) qs = ap (λ (l : List ℕ). indexIn k p ++ l) (in-append ps qs) ∙ sym (append-assoc (indexIn k p) (indicesIn k ps) (indicesIn k qs))
+
+  read-append : (rs qs : List Read) → readIndices k (rs ++ qs) ≡ readIndices k rs ++ readIndices k qs
+  unfolding readIndices
+  read-append [] qs = refl
+  read-append (r ∷ rs) qs =
+      ap (λ (l : List ℕ). indicesIn k (r .pieces) ++ l) (read-append rs qs) ∙ sym (append-assoc (indicesIn k (r .pieces)) (readIndices k rs) (readIndices k qs))
+
+  in-pieces : (rs : List Read) → indicesIn k (allPieces rs) ≡ readIndices k rs
+  unfolding allPieces indicesIn readIndices
+  in-pieces [] = refl
+  in-pieces (r ∷ rs) = in-append (r .pieces) (allPieces rs) ∙ ap (λ (l : List ℕ). indicesIn k (r .pieces) ++ l) (in-pieces rs)
+
+  -- ---- the index that a token with a value is
+
+  unfoldable roleIndex : Role → ℕ → List ℕ
+  roleIndex reference v = []
+  roleIndex typeReference v = []
+  roleIndex sibling v = []
+  roleIndex (index j) v = pick (eqb j k) (v ∷ []) []
+  roleIndex absolute v = []
+
+  unfoldable tokenIndex : Token → ℕ → List ℕ
+  tokenIndex nothing v = []
+  tokenIndex (number w) v = []
+  tokenIndex (bounded n) v = []
+  tokenIndex forms v = []
+  tokenIndex signed v = []
+  tokenIndex (link w r) v = roleIndex r v
+  tokenIndex string v = []
+  tokenIndex (run n) v = []
+  tokenIndex (block w) v = []
+  tokenIndex expression v = []
+  tokenIndex unknown v = []
+
+  abbrev NoIndices : ExpressionReader → Type 0
+  NoIndices ex = (s : List ℕ) → All (λ (ps : List Piece). indicesIn k ps ≡ []) (ex s)
+
+  module _ (big : Bool) (ex : ExpressionReader) where
+    -- a token that was read: read as bytes too, and its indices by its value
+    record Indexed (t : Token) (s : List ℕ) (r : ReadOf) : Type 0 where
+      pub it : Read
+      pub is : tokenIn big asBytes t s ≡ some (it, r .1)
+      pub alike : r .0 .seen ≡ it .seen
+      pub indices : indicesIn k (r .0 .pieces) ≡ tokenIndex t (linkedValue (it .pieces) (it .seen))
+
+    link-index : (e : _) (r : Role) (v : ℕ) → indicesIn k (patchable e r v ∷ []) ≡ roleIndex r v
+    unfolding indicesIn indexIn roleIndex
+    link-index e reference v = refl
+    link-index e typeReference v = refl
+    link-index e sibling v = refl
+    link-index e (index j) v = append-nil _
+    link-index e absolute v = refl
+
+    module _ (no-indices : NoIndices ex) where
+      token-indexed : (t : Token) (s : List ℕ) → All (Indexed t s) (tokenIn big ex t s)
+      unfolding tokenIn tokenIndex indicesIn indexIn asNumber asBounded asForms asSigned asLink asString asBlock asExpression asBytes copy linkedValue bind
+      token-indexed nothing s = all-some (Indexed nothing s) (record { it = _; is = refl; alike = refl; indices = refl })
+      token-indexed (number w) s =
+          all-bind _ _ (numberIn big w s) _ (all-triv (numberIn big w s))
+          (λ r q _. all-some (Indexed (number w) s) (record { it = _; is = bind-at _ q; alike = refl; indices = refl }))
+      token-indexed (bounded n) s =
+          all-bind _ _ (uleb s) _ (all-triv (uleb s))
+          (λ r q _. all-check _ _ _ (λ u. all-some (Indexed (bounded n) s) (record { it = _; is = bind-at _ q ∙ check-yes _ _ u; alike = refl; indices = refl })))
+      token-indexed forms s =
+          all-bind _ _ (formsIn s) _ (all-triv (formsIn s))
+          (λ r q _. all-some (Indexed forms s) (record { it = _; is = bind-at _ q; alike = refl; indices = refl }))
+      token-indexed signed s =
+          all-bind _ _ (sleb s) _ (all-triv (sleb s))
+          (λ r q _. all-some (Indexed signed s) (record { it = _; is = bind-at _ q; alike = refl; indices = refl }))
+      token-indexed (link w role) s =
+          all-bind _ _ (numberIn big w s) _ (all-triv (numberIn big w s))
+          (λ r q _. all-some (Indexed (link w role) s) (record { it = _; is = bind-at _ q; alike = refl; indices = link-index (r .0) role (r .1) }))
+      token-indexed string s =
+          all-bind _ _ (stringIn s) _ (all-triv (stringIn s))
+          (λ r q _. all-some (Indexed string s) (record { it = _; is = bind-at _ q; alike = refl; indices = refl }))
+      token-indexed (run n) s = all-check _ _ _ (λ u. all-some (Indexed (run n) s) (record { it = _; is = check-yes _ _ u; alike = refl; indices = refl }))
+      token-indexed (block w) s =
+          all-bind _ _ (numberIn big w s) _ (all-triv (numberIn big w s))
+          (λ r q _. all-check _ _ _ (λ u. all-some (Indexed (block w) s) (record { it = _; is = bind-at _ q ∙ check-yes _ _ u; alike = refl; indices = refl })))
+      token-indexed expression s =
+          all-bind _ _ (uleb s) _ (all-triv (uleb s))
+          (λ t q _. all-check _ _ _ (λ u.
+          all-bind (λ (ps : List Piece). indicesIn k ps ≡ []) _ (ex (take (t .1) (t .2))) _ (no-indices (take (t .1) (t .2)))
+          (λ ps q′ n. all-some (Indexed expression s) (record {
+            it = record { seen = 0; start = suc (t .0); pieces = verbatim (take (suc (t .0)) s) ∷ verbatim (take (t .1) (t .2)) ∷ [] };
+            is = bind-at _ q ∙ check-yes _ _ u;
+            alike = refl;
+            indices = n;
+          }))))
+      token-indexed unknown s = all-none _
+
+      -- ---- a layout without indices
+
+      unfoldable Without : Layout → Type 0
+      Without done = Unit {0}
+      Without fail = Unit {0}
+      Without (field t g) = ((v : ℕ) → tokenIndex t v ≡ []) × ((n : ℕ) → Without (g n))
+
+      none-read : (g : Layout) → Without g → (s : List ℕ) → All (λ (r : RunOf). readIndices k (r .0) ≡ []) (readIn big ex g s)
+      unfolding readIn before readIndices Without
+      none-read done h s = all-some (λ (r : RunOf). readIndices k (r .0) ≡ []) refl
+      none-read fail h s = all-none _
+      none-read (field t g) h s =
+          all-bind (Indexed t s) _ (tokenIn big ex t s) _ (token-indexed t s)
+          (λ r q i. all-bind (λ (r : RunOf). readIndices k (r .0) ≡ []) _ (readIn big ex (g (r .0 .seen)) (r .1)) _ (none-read (g (r .0 .seen)) (h .1 (r .0 .seen)) (r .1))
+          (λ r′ q′ n. all-some (λ (r : RunOf). readIndices k (r .0) ≡ []) (ap₂ _++_ (i .indices ∙ h .0 _) n)))
+
+  module _ (small : k < 3) where
+    not-three : eqb 3 k ≡ false
+    not-three = ⊎-elim (λ t. absurd (let z : 3 ≡ k = eqb-yes {a = 3} {b = k} t in omega arith)) (λ t. no-true (eqb 3 k) t) (either (eqb 3 k))
+      where
+        no-true : (b : Bool) → T (not b) → b ≡ false
+        no-true true h = absurd h
+        no-true false h = refl
+
+    no-role : (r : Role) → roleList r ≡ 3 → (v : ℕ) → roleIndex r v ≡ []
+    unfolding roleList roleIndex pick
+    no-role reference h v = refl
+    no-role typeReference h v = refl
+    no-role sibling h v = refl
+    no-role (index j) h v = let z : j ≡ 3 = h in ap (λ (j : ℕ). pick (eqb j k) (v ∷ []) []) z ∙ ap (λ (b : Bool). pick b (v ∷ []) []) not-three
+    no-role absolute h v = refl
+
+    no-number : (u : Use) → useList u ≡ 3 → (w : Kind) (v : ℕ) → tokenIndex (numberAs u w) v ≡ []
+    unfolding useList numberAs tokenIndex
+    no-number plain h w v = refl
+    no-number (as′ r) h w v = no-role r h v
+
+    abbrev Empty : ℕ → Token → Type 0
+    Empty v t = tokenIndex t v ≡ []
+
+    no-token : (e : Encoding) (u : Use) → useList u ≡ 3 → (n v : ℕ) → tokenIndex (tokenOf e u n) v ≡ []
+    unfolding tokenOf tokenIndex
+    no-token e u h n v =
+        pick-either (Empty v) (eqb n 0) nothing _ (λ _. refl)
+        (λ _. pick-either (Empty v) (leb n 8) _ _ (λ _. no-number u h _ v)
+        (λ _. pick-either (Empty v) (eqb n 9) _ _ (λ _. no-number u h _ v)
+        (λ _. pick-either (Empty v) (eqb n 10) _ _ (λ _. no-number u h _ v)
+        (λ _. pick-either (Empty v) (eqb n 11) _ _ (λ _. no-number u h _ v)
+        (λ _. pick-either (Empty v) (eqb n 12) signed _ (λ _. refl)
+        (λ _. pick-either (Empty v) (eqb n 13) string _ (λ _. refl)
+        (λ _. pick-either (Empty v) (eqb n 14) (run 16) _ (λ _. refl)
+        (λ _. pick-either (Empty v) (eqb n 15) (block _) _ (λ _. refl)
+        (λ _. pick-either (Empty v) (eqb n 16) (block _) _ (λ _. refl)
+        (λ _. pick-either (Empty v) (eqb n 17) (block _) _ (λ _. refl)
+        (λ _. pick-either (Empty v) (eqb n 18) (block _) _ (λ _. refl)
+        (λ _. pick-either (Empty v) (eqb n 19) expression _ (λ _. refl)
+        (λ _. pick-either (Empty v) (eqb n 20) (bounded 65535) unknown (λ _. refl) (λ _. refl))))))))))))))
+
+    -- ---- operations have none
+
+    abbrev PlainRow : OperandRow → Type 0
+    PlainRow r = (useList (r .firstUse) ≡ 3) × (useList (r .secondUse) ≡ 3)
+
+    unfoldable plainRows : List OperandRow → Bool
+    plainRows [] = true
+    plainRows (r ∷ rs) = eqb (useList (r .firstUse)) 3 and (eqb (useList (r .secondUse)) 3 and plainRows rs)
+
+    both : (a b : Bool) → T (a and b) → T a × T b
+    unfolding _and_
+    both true b t = (tt, t)
+    both false b t = absurd t
+
+    plain-row : (rs : List OperandRow) → T (plainRows rs) → (l : ℕ) → PlainRow (getD rs l unreadableRow)
+    unfolding plainRows unreadableRow useList
+    plain-row [] h l = (refl, refl)
+    plain-row (r ∷ rs) h zero =
+        let a = both _ _ h in
+        let b = both _ _ (a .1) in
+        (eqb-yes {a = useList (r .firstUse)} {b = 3} (a .0), eqb-yes {a = useList (r .secondUse)} {b = 3} (b .0))
+    plain-row (r ∷ rs) h (suc l) = plain-row rs (both _ _ (both _ _ h .1) .1) l
+
+    rows-plain : T (plainRows rows)
+    unfolding plainRows rows unreadableRow useList roleList _and_
+    rows-plain = tt
+
+    row-of : (l : ℕ) → PlainRow (rowOf l)
+    unfolding rowOf
+    row-of l = plain-row rows rows-plain l
+
+    module _ (e : Encoding) where
+      module _ (ex : ExpressionReader) (no-indices : NoIndices ex) where
+        operation-without : Without (e .«big_endian») ex no-indices (operation e)
+        unfolding Without operation rowLayout tokenIndex useList
+        operation-without = (
+          (λ v. refl),
+          λ c.
+              let p : PlainRow (rowOf (operationRow c)) = row-of (operationRow c) in (
+                no-token e _ (p .0) _,
+                λ _. (no-token e _ (p .1) _, λ _. (no-token e plain refl _, λ _. tt)),
+              ),
+        )
+
+      within-none : (f : ℕ) → NoIndices (expressionWithin e f)
+      unfolding expressionWithin indicesIn andRest
+      within-none zero [] = all-some (λ (ps : List Piece). indicesIn k ps ≡ []) refl
+      within-none zero (b ∷ s) = all-none _
+      within-none (suc f) [] = all-some (λ (ps : List Piece). indicesIn k ps ≡ []) refl
+      within-none (suc f) (b ∷ s) =
+          all-bind (λ (r : RunOf). readIndices k (r .0) ≡ []) _ (readIn (e .«big_endian») (expressionWithin e f) (operation e) (b ∷ s)) _
+          (none-read (e .«big_endian») (expressionWithin e f) (within-none f) (operation e) (operation-without (expressionWithin e f) (within-none f)) (b ∷ s))
+          (λ r q n. all-bind (λ (ps : List Piece). indicesIn k ps ≡ []) _ (expressionWithin e f (r .1)) _ (within-none f (r .1))
+          (λ qs q′ n′. all-some (λ (ps : List Piece). indicesIn k ps ≡ []) (in-append (allPieces (r .0)) qs ∙ ap₂ _++_ (in-pieces (r .0) ∙ n) n′)))
+
+      -- expressions have no indices
+      pub expression-none : NoIndices (expressionIn e)
+      unfolding expressionIn
+      expression-none s = within-none (length s) s
+
+      -- ---- the index of a value
+
+      abbrev Chosen : ℕ → ℕ → Type 0
+      Chosen name f = (v : ℕ) → tokenIndex (tokenOf e (useOf name f) (formToken f)) v ≡ pick (eqb (formList f) k) (v ∷ []) []
+
+      abbrev here : (name f g : ℕ) → f ≡ g → Chosen name g → Chosen name f
+      here name f g h c = subst (Chosen name) (sym h) c
+
+      of-23 : (name : ℕ) → Chosen name 0x23
+      unfolding tokenIndex roleIndex tokenOf numberAs useOf formToken formTokens tokenAmong formList useList roleList pick _and_ _or_
+      of-23 name v = refl
+
+      of-22 : (name : ℕ) → Chosen name 0x22
+      unfolding tokenIndex roleIndex tokenOf numberAs useOf formToken formTokens tokenAmong formList useList roleList pick _and_ _or_
+      of-22 name v = refl
+
+      of-1a : (name : ℕ) → Chosen name 0x1a
+      unfolding tokenIndex roleIndex tokenOf numberAs useOf formToken formTokens tokenAmong formList useList roleList pick _and_ _or_
+      of-1a name v = refl
+
+      of-25 : (name : ℕ) → Chosen name 0x25
+      unfolding tokenIndex roleIndex tokenOf numberAs useOf formToken formTokens tokenAmong formList useList roleList pick _and_ _or_
+      of-25 name v = refl
+
+      of-26 : (name : ℕ) → Chosen name 0x26
+      unfolding tokenIndex roleIndex tokenOf numberAs useOf formToken formTokens tokenAmong formList useList roleList pick _and_ _or_
+      of-26 name v = refl
+
+      of-27 : (name : ℕ) → Chosen name 0x27
+      unfolding tokenIndex roleIndex tokenOf numberAs useOf formToken formTokens tokenAmong formList useList roleList pick _and_ _or_
+      of-27 name v = refl
+
+      of-28 : (name : ℕ) → Chosen name 0x28
+      unfolding tokenIndex roleIndex tokenOf numberAs useOf formToken formTokens tokenAmong formList useList roleList pick _and_ _or_
+      of-28 name v = refl
+
+      of-1f02 : (name : ℕ) → Chosen name 0x1f02
+      unfolding tokenIndex roleIndex tokenOf numberAs useOf formToken formTokens tokenAmong formList useList roleList pick _and_ _or_
+      of-1f02 name v = refl
+
+      of-none : (name f : ℕ) → useList (useOf name f) ≡ 3 → formList f ≡ 3 → Chosen name f
+      of-none name f h g v =
+          no-token e (useOf name f) h (formToken f) v
+          ∙ sym (ap (λ (n : ℕ). pick (eqb n k) (v ∷ []) []) g ∙ ap (λ (b : Bool). pick b (v ∷ []) []) not-three ∙ pick-no false (v ∷ []) [] tt)
+
+      -- whether a form is an index, and else that it is none
+      chosen : (name f : ℕ) → Chosen name f
+      unfolding formList
+      chosen name f =
+          ⊎-elim (λ t. here name f 0x23 (eqb-yes {a = f} {b = 0x23} t) (of-23 name)) (λ r.
+          ⊎-elim (λ t. here name f 0x22 (eqb-yes {a = f} {b = 0x22} t) (of-22 name)) (λ l.
+          ⊎-elim (λ t. here name f 0x1a (eqb-yes {a = f} {b = 0x1a} t) (of-1a name)) (λ s.
+          ⊎-elim (λ t. here name f 0x1f02 (eqb-yes {a = f} {b = 0x1f02} t) (of-1f02 name)) (λ g.
+          ⊎-elim (λ t. here name f 0x25 (eqb-yes {a = f} {b = 0x25} t) (of-25 name)) (λ a.
+          ⊎-elim (λ t. here name f 0x26 (eqb-yes {a = f} {b = 0x26} t) (of-26 name)) (λ b.
+          ⊎-elim (λ t. here name f 0x27 (eqb-yes {a = f} {b = 0x27} t) (of-27 name)) (λ c.
+          ⊎-elim (λ t. here name f 0x28 (eqb-yes {a = f} {b = 0x28} t) (of-28 name)) (λ d.
+          ⊎-elim
+          (λ t. let h : f ≤ 0x24 = leb-yes {a = f} {b = 0x24} t in
+          of-none name f
+          (sym (list-low f (omega arith) (eqb-no {a = f} {b = 0x23} r) (eqb-no {a = f} {b = 0x22} l) (eqb-no {a = f} {b = 0x1a} s) ∙ form-list name f))
+          (sym (list-low f (omega arith) (eqb-no {a = f} {b = 0x23} r) (eqb-no {a = f} {b = 0x22} l) (eqb-no {a = f} {b = 0x1a} s) ∙ form-list 0 f)))
+          (λ t. let h : 0x28 < f = omega (arith, leb-no {a = f} {b = 0x24} t, eqb-no {a = f} {b = 0x25} a, eqb-no {a = f} {b = 0x26} b, eqb-no {a = f} {b = 0x27} c, eqb-no {a = f} {b = 0x28} d) in
+          of-none name f
+          (sym (list-high f h (eqb-no {a = f} {b = 0x1f02} g) ∙ form-list name f))
+          (sym (list-high f h (eqb-no {a = f} {b = 0x1f02} g) ∙ form-list 0 f)))
+          (either (leb f 0x24)))
+          (either (eqb f 0x28)))
+          (either (eqb f 0x27)))
+          (either (eqb f 0x26)))
+          (either (eqb f 0x25)))
+          (either (eqb f 0x1f02)))
+          (either (eqb f 0x1a)))
+          (either (eqb f 0x22)))
+          (either (eqb f 0x23))
+
+      exprloc-none : (v : ℕ) → [] ≡ pick (eqb (formList 0x18) k) (v ∷ []) []
+      unfolding formList useList useOf pick _and_ _or_
+      exprloc-none v = sym (ap (λ (b : Bool). pick b (v ∷ []) []) not-three)
+
+      implicit-none : (v : ℕ) → [] ≡ pick (eqb (formList 0x21) k) (v ∷ []) []
+      unfolding formList useList useOf pick _and_ _or_
+      implicit-none v = sym (ap (λ (b : Bool). pick b (v ∷ []) []) not-three)
+
+      unknown-none : (a b c d : Bool) (f v : ℕ) → (T b → f ≡ 0x18) → (T d → f ≡ 0x21) → T ((a and b) or (c and d)) → [] ≡ pick (eqb (formList f) k) (v ∷ []) []
+      unfolding _and_ _or_
+      unknown-none true true c d f v h g t = subst (λ (f : ℕ). [] ≡ pick (eqb (formList f) k) (v ∷ []) []) (sym (h tt)) (exprloc-none v)
+      unknown-none true false true d f v h g t = subst (λ (f : ℕ). [] ≡ pick (eqb (formList f) k) (v ∷ []) []) (sym (g t)) (implicit-none v)
+      unknown-none true false false d f v h g t = absurd t
+      unknown-none false b true d f v h g t = subst (λ (f : ℕ). [] ≡ pick (eqb (formList f) k) (v ∷ []) []) (sym (g t)) (implicit-none v)
+      unknown-none false b false d f v h g t = absurd t
+
+      value-index : (indirect : Bool) (name f v : ℕ) → tokenIndex (valueToken e indirect name f) v ≡ pick (eqb (formList f) k) (v ∷ []) []
+      unfolding valueToken tokenIndex
+      value-index indirect name f v =
+          pick-either (λ (t : Token). tokenIndex t v ≡ pick (eqb (formList f) k) (v ∷ []) [])
+          ((eqb name 0x01 and eqb f 0x18) or (indirect and eqb f 0x21)) unknown (tokenOf e (useOf name f) (formToken f))
+          (λ t. unknown-none (eqb name 0x01) (eqb f 0x18) indirect (eqb f 0x21) f v (λ u. eqb-yes {a = f} {b = 0x18} u) (λ u. eqb-yes {a = f} {b = 0x21} u) t)
+          (λ _. chosen name f v)
+
+      -- ---- a value that was read deep
+
+      module _ (unit : List ℕ) where
+        abbrev big : Bool
+        big = e .«big_endian»
+
+        abbrev deep : ExpressionReader
+        deep = expressionIn e
+
+        -- where a token ends
+        token-rest : (t : Token) (n : ℕ) (r : ReadOf) → tokenIn big asBytes t (drop n unit) ≡ some r → r .1 ≡ drop (fieldOf big n (r .0) .end) unit
+        unfolding fieldOf size
+        token-rest t n r q =
+            let l : TokenLaw big asBytes t (drop n unit) r = all-of (TokenLaw big asBytes t (drop n unit)) (token-law big asBytes (as-bytes-law big) t (drop n unit)) q in
+            l .0 .1 ∙ drop-drop _ n unit
+
+        -- an attribute: its value, where it ends, and its index
+        record ValueRead (name form at : ℕ) (r : RunOf) : Type 0 where
+          pub value : Attribute
+          pub is : attributeAt e unit at name form ≡ Attribute′ value
+          pub rest : r .1 ≡ drop (value .field .end) unit
+          pub indices : readIndices k (r .0) ≡ valueIndex k value
+
+        module _ (name form at : ℕ) where
+          direct-value : T (not (eqb form 0x16)) → All (ValueRead name form at) (readIn big deep (field (valueToken e false name form) (λ _. done)) (drop at unit))
+          unfolding readIn before bind tokenAt asField valued readIndices valueIndex fieldOf
+          direct-value n =
+              let t : Token = valueToken e false name form in
+              all-bind (Indexed big deep t (drop at unit)) _ (tokenIn big deep t (drop at unit)) _ (token-indexed big deep expression-none t (drop at unit))
+              (λ r q i.
+              let v : Attribute = record { form = form; field = fieldOf big at (i .it) } in
+              all-some (ValueRead name form at)
+              (record {
+                value = v;
+                is = attribute-direct e unit at name form (eqb-no {a = form} {b = 0x16} n) ∙ ap (λ o. valued form (asField big at o)) (i .is);
+                rest = token-rest t at (i .it, r .1) (i .is);
+                indices = append-nil (indicesIn k (r .0 .pieces)) ∙ i .indices ∙ value-index false name form (linkedValue (i .it .pieces) (i .it .seen));
+              }))
+
+          abbrev behind : ℕ → Layout
+          behind f = field (valueToken e true name f) (λ _. done)
+
+          value-behind : T (eqb form 0x16) → (f : ℕ × ℕ) → formsIn (drop at unit) ≡ some f
+              → All (ValueRead name form at) (bind (readIn big deep (behind (f .1)) (drop (at + f .0) unit)) (before (copy (f .1) 0 (f .0) (drop at unit) .0)))
+          unfolding readIn before bind copy tokenAt asField valued formsAt asFormNumber behindForms readIndices indicesIn indexIn valueIndex fieldOf
+          value-behind h f q =
+              let t : Token = valueToken e true name (f .1) in
+              let n : ℕ = at + f .0 in
+              let P : RunOf → Type 0 = ValueRead name form at in
+              subst (All P) (sym (bind-bind (tokenIn big deep t (drop n unit)) (λ (r : ReadOf). some (r .0 ∷ [], r .1)) (before (copy (f .1) 0 (f .0) (drop at unit) .0))))
+              (all-bind (Indexed big deep t (drop n unit)) P (tokenIn big deep t (drop n unit)) _ (token-indexed big deep expression-none t (drop n unit))
+              (λ r p i.
+              let v : Attribute = record { form = f .1; field = fieldOf big n (i .it) } in
+              all-some P
+              (record {
+                value = v;
+                is =
+                    attribute-indirect e unit at name form (eqb-yes {a = form} {b = 0x16} h)
+                    ∙ ap (λ o. behindForms e unit at name form (asFormNumber at o)) q
+                    ∙ ap (λ o. valued (f .1) (asField big n o)) (i .is);
+                rest = token-rest t n (i .it, r .1) (i .is);
+                indices = append-nil (indicesIn k (r .0 .pieces)) ∙ i .indices ∙ value-index true name (f .1) (linkedValue (i .it .pieces) (i .it .seen));
+              })))
+
+          indirect-value : T (eqb form 0x16) → All (ValueRead name form at) (readIn big deep (field forms behind) (drop at unit))
+          unfolding readIn tokenIn asForms bind copy
+          indirect-value h =
+              let P : RunOf → Type 0 = ValueRead name form at in
+              let s : List ℕ = drop at unit in
+              subst (All P) (sym (bind-bind (formsIn s) (asForms s) (λ (r : ReadOf). bind (readIn big deep (behind (r .0 .seen)) (r .1)) (before (r .0)))))
+              (all-bind _ P (formsIn s) _ (all-triv (formsIn s))
+              (λ f q _. subst (λ (z : List ℕ). All P (bind (readIn big deep (behind (f .1)) z) (before (copy (f .1) 0 (f .0) s .0)))) (sym (drop-drop (f .0) at unit)) (value-behind h f q)))
+
+          value-read : All (ValueRead name form at) (readIn big deep (attributeLayout e name form) (drop at unit))
+          unfolding attributeLayout
+          value-read =
+              pick-either (λ g. All (ValueRead name form at) (readIn big deep g (drop at unit))) (eqb form 0x16) (field forms behind) (field (valueToken e false name form) (λ _. done))
+              indirect-value direct-value
+
+        -- ---- the values of an entry
+
+        abbrev Values : List AttributeSpec → ℕ → RunOf → Type 0
+        Values specs at r = readIndices k (r .0) ≡ valueIndices k (valuesOf e unit specs at)
+
+        values-read : (specs : List AttributeSpec) (at : ℕ) → All (Values specs at) (readIn big deep (attributesLayout e specs) (drop at unit))
+        unfolding attributesLayout readIn readIndices valuesOf valueIndices onAttribute joined
+        values-read [] at = all-some (Values [] at) refl
+        values-read (a ∷ rest) at =
+            subst (All (Values (a ∷ rest) at)) (sym (read-then big deep (attributeLayout e (a .name) (a .form)) (attributesLayout e rest) (drop at unit)))
+            (all-bind (ValueRead (a .name) (a .form) at) _ (readIn big deep (attributeLayout e (a .name) (a .form)) (drop at unit)) _ (value-read (a .name) (a .form) at)
+            (λ r q v. all-bind (Values rest (v .value .field .end)) _ (readIn big deep (attributesLayout e rest) (r .1)) _
+            (subst (λ (z : List ℕ). All (Values rest (v .value .field .end)) (readIn big deep (attributesLayout e rest) z)) (sym (v .rest)) (values-read rest (v .value .field .end)))
+            (λ r′ q′ i. all-some (Values (a ∷ rest) at)
+            (read-append (r .0) (r′ .0)
+            ∙ ap₂ _++_ (v .indices) i
+            ∙ sym (ap (λ (o : AttributeRead). valueIndices k (onAttribute a o (λ next. valuesOf e unit rest next))) (v .is))))))
+
+        -- ---- an entry or a terminator
+
+        module _ (abbreviations : List ℕ) (look : ℕ → DeclarationFound) where
+          -- the indices at a step: those of an entry's values
+          unfoldable pub StepIndices : Step → List ℕ → Type 0
+          StepIndices (Entry′ y) is = is ≡ valueIndices k (entryValues e abbreviations (y .declaration .attributes .at) unit (y .values .at))
+          StepIndices (Terminator c) is = is ≡ []
+          StepIndices End is = Unit {0}
+          StepIndices Unreadable is = Unit {0}
+
+          abbrev At : ℕ → RunOf → Type 0
+          At at r = StepIndices (stepOfReads e abbreviations look at (r .0)) (readIndices k (r .0))
+
+          entry-values : (p at : ℕ) (o : Option (Scanned AttributeSpec ℕ)) → attributesFrom abbreviations p ≡ o
+              → All (λ (r : RunOf). readIndices k (r .0) ≡ valueIndices k (entryValues e abbreviations p unit at)) (readIn big deep (specsLayout e o) (drop at unit))
+          unfolding specsLayout readIn entryValues
+          entry-values p at none q = all-none _
+          entry-values p at (some o) q =
+              subst (λ (l : List AttributeSpec). All (λ (r : RunOf). readIndices k (r .0) ≡ valueIndices k (valuesOf e unit l at)) (readIn big deep (attributesLayout e (o .0)) (drop at unit)))
+              (sym (specs-all abbreviations p o q)) (values-read (o .0) at)
+
+          module _ (at : ℕ) (c : Read) (none-in : indicesIn k (c .pieces) ≡ []) where
+            found-at : T (not (eqb (c .seen) 0)) → (f : DeclarationFound) → look (c .seen) ≡ f
+                → All (At at) (bind (readIn big deep (foundLayout e abbreviations look f) (drop (at + size big c) unit)) (before c))
+            unfolding foundLayout readIn before bind readIndices stepOfReads entryFound StepIndices
+            found-at t Nothing h = all-none _
+            found-at t (Found′ d) h =
+                all-bind (λ (r : RunOf). readIndices k (r .0) ≡ valueIndices k (entryValues e abbreviations (d .attributes .at) unit (at + size big c))) _
+                (readIn big deep (specsLayout e (attributesFrom abbreviations (d .attributes .at))) (drop (at + size big c) unit)) _
+                (entry-values (d .attributes .at) (at + size big c) (attributesFrom abbreviations (d .attributes .at)) refl)
+                (λ r q i. all-some (At at)
+                (subst (λ (s : Step). StepIndices s (readIndices k (c ∷ r .0)))
+                (sym (pick-no _ _ _ t ∙ ap (entryFound e abbreviations look at (at + size big c) _) h))
+                (ap₂ _++_ none-in i)))
+
+            code-at : All (At at) (bind (readIn big deep (pick (eqb (c .seen) 0) done (foundLayout e abbreviations look (look (c .seen)))) (drop (at + size big c) unit)) (before c))
+            unfolding readIn before bind readIndices stepOfReads StepIndices
+            code-at =
+                ⊎-elim
+                (λ t. subst (λ g. All (At at) (bind (readIn big deep g (drop (at + size big c) unit)) (before c))) (sym (pick-yes _ _ _ t))
+                (all-some (At at) (subst (λ (s : Step). StepIndices s (readIndices k (c ∷ []))) (sym (pick-yes _ _ _ t)) (ap₂ _++_ none-in refl))))
+                (λ t. subst (λ g. All (At at) (bind (readIn big deep g (drop (at + size big c) unit)) (before c))) (sym (pick-no _ _ _ t))
+                (found-at t (look (c .seen)) refl))
+                (either (eqb (c .seen) 0))
+
+          -- what is read deep at a place
+          all-at : (at : ℕ) → All (At at) (readIn big deep (entryLayout e abbreviations look) (drop at unit))
+          unfolding entryLayout readIn tokenIndex size
+          all-at at =
+              all-bind (Indexed big deep (number leb128) (drop at unit)) _ (tokenIn big deep (number leb128) (drop at unit)) _
+              (token-indexed big deep expression-none (number leb128) (drop at unit))
+              (λ r q i.
+              let l : TokenLaw big deep (number leb128) (drop at unit) r =
+              all-of (TokenLaw big deep (number leb128) (drop at unit)) (token-law big deep (expression-law e) (number leb128) (drop at unit)) q in
+              subst (λ (z : List ℕ). All (At at) (bind (readIn big deep (pick (eqb (r .0 .seen) 0) done (foundLayout e abbreviations look (look (r .0 .seen)))) z) (before (r .0))))
+              (sym (l .0 .1 ∙ drop-drop _ at unit)) (code-at at (r .0) (i .indices)))
+
+          -- THE indices of what is read deep at a place, by the step there
+          pub deep-indices : (at : ℕ) (all : RunOf) → readIn big deep (entryLayout e abbreviations look) (drop at unit) ≡ some all
+              → StepIndices (stepAt e abbreviations look unit at) (readIndices k (all .0))
+          deep-indices at all q =
+              subst (λ (s : Step). StepIndices s (readIndices k (all .0))) (sym (deep-step e abbreviations look deep (expression-law e) unit at (all .0) (all .1) q)) (all-of (At at) (all-at at) q)
