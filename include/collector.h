@@ -1,7 +1,8 @@
 /* The unit collector, for hosts in C. Link libcollector.a, which `rt staticlib collector` writes (x86-64 Linux).
  *
- * A call thins the first unit of a section: it drops the debugging entries that nothing live needs and writes the unit anew. Every slice is a pointer and the number of its elements.
- * A pointer is never null, also where the number is 0. What is written may overlap nothing else that is lent.
+ * A call thins the first unit of a section: it drops the debugging entries that nothing live needs and writes the unit
+ * anew. Every slice is a pointer and the number of its elements. A pointer is never null, also where the number is 0.
+ * What is written may overlap nothing else that is lent.
  *
  * Read, and the same after the call
  *   section        the unit's section; its first unit is taken
@@ -15,20 +16,25 @@
  *   range_list, location_list, string_list    8 big-endian bytes a number, ascending without repeats
  *   out            the new unit
  *   counts         COLLECTOR_COUNTS bytes: see below
- * Bytes short of a whole place or number count for nothing and end as zeros. Enough for every unit: as many bytes of out as the section has; 12 bytes of map for each byte of the section
- * (at most two places an entry); 8 bytes of a list for each index of its kind.
+ * Bytes short of a whole place or number count for nothing and end as zeros. Enough for every unit: as many bytes of
+ * out as the section has; 12 bytes of map for each byte of the section (at most two places an entry); 8 bytes of a
+ * list for each index of its kind.
  *
- * The answer is a refusal's number, 1 to 14, or one of the numbers below. Of an accepted answer `counts` holds seven numbers of eight big-endian bytes: entries, kept entries, map places,
- * bytes of the new unit (these two 0 where untouched), numbers of the ranges, locations and strings list; then for each list a byte, 1 present, 0 absent (an absent list counts 0); then zeros.
- * Where `counts` is shorter than COLLECTOR_COUNTS the answer tells so, and `counts` is zeros; all else is as it would be.
+ * The answer is a refusal's number, 1 to 14, or one of the numbers below. Of an accepted answer `counts` holds seven
+ * numbers of eight big-endian bytes: entries, kept entries, map places, bytes of the new unit (these two 0 where
+ * untouched), numbers of the ranges, locations and strings list; then for each list a byte, 1 present, 0 absent (an
+ * absent list counts 0); then zeros. Where `counts` is shorter than COLLECTOR_COUNTS the answer tells so, and `counts`
+ * is zeros; all else is as it would be.
  *
- * Stack: collector_collect takes 211 KiB, most of it its tables; collector_collect_lent some KiB; and both 208 bytes more for each level of DW_OP_entry_value operations that stand one in the other.
- * A level takes at least two bytes of the unit or of a location list, so 104 bytes of stack for each byte of the longer of these two sections, and 256 KiB, are enough for every input. Nothing else is
- * recursive, and no memory is taken from anywhere else.
+ * Stack: collector_collect takes 211 KiB, most of it its tables; collector_collect_lent some KiB; and both 208 bytes
+ * more for each level of DW_OP_entry_value operations that stand one in the other. A level takes at least two bytes of
+ * the unit or of a location list, so 104 bytes of stack for each byte of the longer of these two sections, and 256
+ * KiB, are enough for every input. Nothing else is recursive, and no memory is taken from anywhere else.
  *
- * Refusals: 1 header cut short, 2 a header value outside the domain, 3 abbreviations, 4 unreadable entry, 5 unreadable list or expression, 6 the address table fails, 7 a section-absolute
- * reference, 8 a reference whose target is not kept, 9 a value that does not fit its width, 10 more entries than the tables hold, 11 more references, 12 an index list too short,
- * 13 the map too short, 14 the output too short.
+ * Refusals: 1 header cut short, 2 a header value outside the domain, 3 abbreviations, 4 unreadable entry, 5 unreadable
+ * list or expression, 6 the address table fails, 7 a section-absolute reference, 8 a reference whose target is not
+ * kept, 9 a value that does not fit its width, 10 more entries than the tables hold, 11 more references, 12 an index
+ * list too short, 13 the map too short, 14 the output too short.
  */
 #ifndef COLLECTOR_H
 #define COLLECTOR_H
@@ -62,9 +68,10 @@ uint64_t collector_collect(
     uint8_t *out, size_t out_length,
     uint8_t *counts, size_t counts_length);
 
-/* With tables of the host's. They are scratch, and zeros after the call. The shortest of offsets, parents, roots, ends and marks is the number of entries that there is room for; the
- * shorter of targets and half of pairs that of references. index (one number a declaration: an abbreviations section of n bytes has fewer than n / 5 + 1 of them) and work (twice the
- * entries) bound nothing: their lengths change no answer, only time. Lengths count elements. */
+/* With tables of the host's. They are scratch, and zeros after the call. The shortest of offsets, parents, roots, ends
+ * and marks is the number of entries that there is room for; the shorter of targets and half of pairs that of
+ * references. index (one number a declaration: an abbreviations section of n bytes has fewer than n / 5 + 1 of them)
+ * and work (twice the entries) bound nothing: their lengths change no answer, only time. Lengths count elements. */
 uint64_t collector_collect_lent(
     const uint8_t *section, size_t section_length,
     const uint8_t *abbreviations, size_t abbreviations_length,
