@@ -1,4 +1,5 @@
-"""Applies a must-fail edit (file:, old:, new: lines) to a crate's folder: apply_edit.py EDIT FOLDER. Fails unless each old text stands in its file exactly once."""
+"""Applies a must-fail edit (file:, old:, new: lines) to a crate's folder: apply_edit.py EDIT FOLDER. Fails unless each
+old text stands in its file exactly once."""
 import sys
 
 edit, folder = sys.argv[1:]

@@ -49,7 +49,8 @@ def case(why, of_unit, table, answer, locations='', ranges='', addresses='', tai
     lists = {k: b'' if refused or answer[k] == 'absent' else numbers(answer[k], 8) for k in LISTS}
     places = b'' if refused else numbers(answer['places'], 4)
     out = b'' if refused or answer['unit'] is None else header(octets(answer['unit']), kind if kind in HEADERS else 'H')
-    given = {'index': 16, 'targets': 8, 'pairs': 16, 'base': 0, 'type_units': 0, 'map': 101 if refused else len(places) + 5, 'output': len(unit(of_unit) if refused else out) + 3}
+    given = {'index': 16, 'targets': 8, 'pairs': 16, 'base': 0, 'type_units': 0,
+             'map': 101 if refused else len(places) + 5, 'output': len(unit(of_unit) if refused else out) + 3}
     given.update({c: 8 if refused else answer['entries'] + 1 for c in ENTRY_COLUMNS})
     given.update({k: len(lists[k]) + 11 for k in LISTS})
     if 'entries' in lend:

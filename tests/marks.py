@@ -129,7 +129,8 @@ case('36: before the next entry', SIX + b'\4\1\1\1\1\1' + b'\x63', MANY, 'refuse
 
 def main():
     first = points[0]
-    made = with_parts('test_marks', [Part('units made by hand', 'marks', ['points.bundles'], placed('points.bundles', [(data, lines) for _, data, lines in points]))])
+    lines_of = placed('points.bundles', [(data, lines) for _, data, lines in points])
+    made = with_parts('test_marks', [Part('units made by hand', 'marks', ['points.bundles'], lines_of)])
     made['test_marks/data/points.bundles'] = b''.join(data for _, data, _ in points)
     made.update({'marks/stdin': first[1], 'marks/stdout': first[2].encode()})
     wrong = write(made, sys.argv[1:] == ['check'])
