@@ -19,7 +19,8 @@ use Rattle.readers.proofs.Expression.{expression-law}
 use Rattle.readers.specs.Tokens.{Use, plain, as′}
 use Rattle.readers.specs.Forms.{useOf, valueToken, attributeLayout, listForm}
 use Rattle.readers.specs.Fields.{size, linkedValue, fieldOf}
-use Rattle.readers.specs.Abbreviations.{declaredIn}
+use Rattle.readers.specs.Abbreviations.{Placed, declaredIn}
+use Rattle.readers.specs.declared.header.UnitHeader.{UnitHeader}
 use Rattle.readers.specs.Entries.{attributeOfReads, asAttribute, attributeAt, attributesLayout, entryLayout, stepAt}
 use Rattle.readers.specs.Stream.{Item, entry}
 use Rattle.readers.specs.declared.cursor.Encoding.{Encoding}
@@ -34,7 +35,7 @@ use Rattle.marking.specs.Analysis.{Sections, valuesOfEntry}
 use Rattle.marking.specs.Members.{Member, here, there, Nth}
 use Rattle.marking.proofs.Members.{nothing-in}
 use Rattle.rewriting.specs.Places.{NestedItem, offsetOf}
-use Rattle.rewriting.specs.Rewriting.{Unit as Unit′, itemsIn, readsAt, newValue, Room, Rewrite, rewritten, collectOf}
+use Rattle.rewriting.specs.Rewriting.{Unit as Unit′, unitOf, itemsIn, readsAt, newValue, Room, Rewrite, rewritten, collectOf}
 use Rattle.readers.proofs.FormKinds.{form-list}
 use Rattle.readers.specs.inner.Forms.{roleList, useList}
 use Rattle.laws.specs.AttributesAgain.{newNumber, useIn, SameAttribute, SameAttributes, EntryAgain}
@@ -48,7 +49,7 @@ use Rattle.rewriting.proofs.kept_pass.ItemDepths.{Stands}
 use Rattle.laws.proofs.thinned.ThinnedItems.{nth-member}
 use Rattle.laws.proofs.again.Rereading.{deep-read}
 use Rattle.laws.proofs.attributes.AttributeLaws.{Headed, headed, PlacedItem, placed, attributes-law}
-use Rattle.laws.proofs.thinned.ThinnedLaw.{becomes, thinned-law}
+use Rattle.laws.proofs.thinned.ThinnedLaw.{becomes, thinned-law, of-thinned}
 use Rattle.laws.proofs.again.CollectLaws as Laws
 
 -- ---- members of lists one after the other
@@ -387,5 +388,12 @@ module _ (x : Sections) (room : Room) (typeUnits : Bool) (section : List ℕ) (w
       }
 
   -- the same in the terms of the unit that is thinned (specs/Thinned.antt)
-  abbrev pub t : Thinned x typeUnits section w
+  abbrev t : Thinned x typeUnits section w
   t = thinned-law x room typeUnits section w answer
+
+  pub thinned-form-law : (m : ℕ) (s : NestedItem) (y : Entry) → Nth s m (t .kept) → s .item ≡ entry y
+      → EntryByForm x (unitOf (t .header) section (t .declared)) (thinnedOf (t .header) (w .output) (t .declared)) (w .lists) (w .map) (t .kept) m s y
+  thinned-form-law =
+      of-thinned x room typeUnits section w answer
+      (λ (h : UnitHeader) (ds : List Placed) (ks : List NestedItem). (m : ℕ) (s : NestedItem) (y : Entry) → Nth s m ks → s .item ≡ entry y
+      → EntryByForm x (unitOf h section ds) (thinnedOf h (w .output) ds) (w .lists) (w .map) ks m s y) form-law

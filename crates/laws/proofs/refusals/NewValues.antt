@@ -1,5 +1,5 @@
 -- What the new value of a number with a place is, also in a unit that is refused. Assumes nothing.
-use Prim.Native.Nat.{ℕ, _+_, _≤_, _<_}
+use Prim.Native.Nat.{ℕ, zero, suc, _+_, _≤_, _<_}
 use mathlib.Core.Path.{_≡_, refl, sym, ap, _∙_, subst}
 use mathlib.Core.Bool.{Bool, true, false, not, false≢true}
 use mathlib.Core.List.{List, [], _∷_}
@@ -7,17 +7,25 @@ use mathlib.Core.Logic.{_⊎_, inl, inr}
 use mathlib.Core.Option.{Option, none, some}
 use native.Mathlib.Omega.{arith}
 use native.Mathlib.Nat.{add-zero, add-assoc}
+use lib.ListN.{length, getD, drop}
 use lib.Dec.{T, leb, eqb}
 use mir.Facts.{eqb-yes, leb-yes, leb-no, yes-leb}
 use Rattle.readers.specs.Choice.{_and_}
 use Rattle.readers.proofs.Choice.{pick-either}
-use Rattle.readers.specs.Layout.{Read, RunOf}
-use Rattle.marking.specs.Members.{Member, here, there}
+use Rattle.readers.specs.Layout.{Encoded, Role, reference, typeReference, sibling, index, absolute, patchable, Read, RunOf}
+use Rattle.readers.specs.Abbreviations.{declaredIn}
+use Rattle.marking.specs.Analysis.{Sections}
+use Rattle.marking.specs.Members.{Member, here, there, Nth, now, later}
 use Rattle.marking.proofs.Members.{nothing-in}
-use Rattle.rewriting.specs.Places.{NestedItem, offsetOf, sizeOf, Place, placesFrom, sizeFrom, newOf, firstFrom, orElse}
-use Rattle.rewriting.specs.Rewriting.{Lists, isSome}
-use Rattle.laws.specs.ValueRefusals.{KeptAt, NewAt, NewAfter}
-use Rattle.laws.proofs.refusals.ValueRefusals.{new-out}
+use Rattle.rewriting.specs.Places.{NestedItem, offsetOf, sizeOf, Place, placesFrom, sizeFrom, newOf, firstFrom, orElse, siblingOf}
+use Rattle.rewriting.specs.Indices.{rankOr}
+use Rattle.rewriting.specs.Rewriting.{Unit as Unit′, readsOr, readsAt, listsOf, Lists, listAt, isSome, newValue}
+use Rattle.laws.specs.ValueRefusals.{KeptAt, HasPlace, NewAt, NewAfter, IsNew}
+use Rattle.laws.proofs.thinned.Roles.{index-kind}
+use Rattle.laws.proofs.again.CollectLaws.{ListLaw, listed-law}
+use Rattle.laws.proofs.thinned.Landing.{reference-lands, type-lands, no-type, sibling-lands}
+use Rattle.laws.proofs.again.Ranks.{rank-inside, rank-place}
+use Rattle.laws.proofs.refusals.ValueRefusals.{place-out, new-out}
 
 -- ---- where a kept item comes to stand
 
@@ -100,20 +108,59 @@ after-by first (y ∷ kept) depth v n =
 
 -- ---- what a number becomes
 
+nth-at : (xs : List ℕ) (v n : ℕ) → n < length xs → getD xs n 0 ≡ v → Nth v n xs
+nth-at [] v n h q = absurd (omega arith)
+nth-at (x ∷ xs) v zero h q = now (sym q)
+nth-at (x ∷ xs) v (suc n) h q = later (nth-at xs v n (omega arith) q)
+
 module _ (lists : Lists) (first : ℕ) (kept : List NestedItem) (depth : ℕ) where
-  abbrev pub map : List Place
+  abbrev map : List Place
   map = placesFrom first kept
 
-  pub sibling-by : (v n : ℕ) (o : Option ℕ) → newOf map v ≡ o → orElse o (firstFrom map depth v) ≡ some n
+  sibling-by : (v n : ℕ) (o : Option ℕ) → newOf map v ≡ o → orElse o (firstFrom map depth v) ≡ some n
       → NewAt first kept v n ⊎ ((KeptAt kept v → ⊥) × NewAfter first kept depth v n)
   unfolding orElse isSome
   sibling-by v n (some k) h q = inl (at-by first kept v n (h ∙ q))
   sibling-by v n none h q =
       inr (λ k. absurd (false≢true (sym (ap isSome h) ∙ new-out first kept v k)), after-by first kept depth v n q)
 
+  -- THE new value of a number that has a place
+  pub new-value-law : (role : Role) (v : ℕ) → HasPlace kept depth role v → IsNew first kept lists depth role v (newValue lists map depth role v)
+  unfolding IsNew siblingOf newValue rankOr
+  new-value-law reference v h = at-by first kept v _ (reference-lands lists map depth v (place-out lists first kept depth reference v h))
+  new-value-law typeReference v h = (
+    λ z. ap (newValue lists map depth typeReference) z ∙ no-type lists map depth,
+    λ n. at-by first kept v _ (type-lands lists map depth v n (place-out lists first kept depth typeReference v h)),
+  )
+  new-value-law sibling v h = sibling-by v _ (newOf map v) refl (sibling-lands lists map depth v (place-out lists first kept depth sibling v h))
+  new-value-law (index k) v h = (
+    λ q. ap (λ (o : Option (List ℕ)). rankOr o v) q,
+    λ xs q f m.
+        subst (λ (j : ℕ). Nth v j xs) (sym (ap (λ (o : Option (List ℕ)). rankOr o v) q)) (nth-at xs v _ (rank-inside xs v f m) (rank-place xs v f m)),
+  )
+  new-value-law absolute v h = refl
+
 -- ---- an index of a kept item is in its list
 
-pub record ReadBy (o : Option RunOf) (r : Read) : Type 0 where
-  pub run : RunOf
-  pub is : o ≡ some run
-  pub among : Member r (run .0)
+record ReadBy (o : Option RunOf) (r : Read) : Type 0 where
+  run : RunOf
+  is : o ≡ some run
+  among : Member r (run .0)
+
+read-by : (x : Sections) (u : Unit′) (o : Option RunOf) (r : Read) → Member r (readsOr x u o) → ReadBy o r
+unfolding readsOr
+read-by x u none r m = absurd (nothing-in r m)
+read-by x u (some run) r m = record { run = run; is = refl; among = m }
+
+module _ (x : Sections) (u : Unit′) (typeUnits : Bool) (first : ℕ) (kept : List NestedItem) where
+  -- so its new value is its place in the list
+  pub new-index-law : (s : NestedItem) → Member s kept → (r : Read) → Member r (readsAt x u (offsetOf (s .item))) → (e : Encoded) (k v : ℕ)
+      → Member (patchable e (index k) v) (r .pieces) → (xs : List ℕ) → listAt (listsOf x u typeUnits kept) k ≡ some xs
+      → Nth v (newValue (listsOf x u typeUnits kept) (placesFrom first kept) (s .depth) (index k) v) xs
+  unfolding readsAt newValue rankOr
+  new-index-law s m r i e k v p xs q =
+      let o : ReadBy _ r = read-by x u _ r i in
+      let h : k < 3 = index-kind (u .header .encoding) (x .abbreviations) (declaredIn (u .declared)) (drop (offsetOf (s .item)) (u .bytes)) (o .run) (o .is) r (o .among) e k v p in
+      let l : ListLaw x u kept k xs = listed-law x u typeUnits kept xs (listsOf x u typeUnits kept) refl k h q in
+      let n : Member v xs = l .members v .1 (record { standing = s; among = m; operand = record { read = r; among = i; operand = record { encoded = e; within = p } } }) in
+      subst (λ (j : ℕ). Nth v j xs) (sym (ap (λ (o : Option (List ℕ)). rankOr o v) q)) (nth-at xs v _ (l .ranks v n .inside) (l .ranks v n .placed))

@@ -13,7 +13,7 @@ use lib.Dec.{T, leb, ltb, eqb}
 use mir.Facts.{leb-yes, leb-no, yes-leb, no-leb, yes-eqb, no-eqb}
 use Rattle.readers.specs.Choice.{pick, _and_, _or_}
 use Rattle.readers.proofs.Choice.{pick-either, pick-yes, pick-no, either}
-use Rattle.laws.specs.RefusalNumbers.{RoomyRefusal}
+use Rattle.laws.specs.RefusalNumbers.{OneOf, RoomyRefusal}
 use Rattle.readers.specs.Abbreviations.{Placed, abbreviationsOf}
 use Rattle.readers.specs.Header.{headerOf}
 use Rattle.readers.specs.Stream.{Item, entry, terminator}
@@ -473,7 +473,7 @@ list-count x u absent k kept =
 
 -- ---- with it, neither 10 to 14
 
-abbrev pub roomyNumbers : List ℕ
+abbrev roomyNumbers : List ℕ
 roomyNumbers = 1 ∷ 2 ∷ 3 ∷ 4 ∷ 5 ∷ 6 ∷ 7 ∷ 8 ∷ 9 ∷ []
 
 unfoldable Roomy : Collected → Type 0
@@ -543,6 +543,28 @@ module _ (x : Sections) (lent : Room) (typeUnits : Bool) (section : List ℕ) wh
 
 -- ---- every room: an accepted answer stays, or something is too short
 
+-- what holds of each of some numbers holds of one of them
+unfoldable EachOf : (ℕ → Type 0) → List ℕ → Type 0
+EachOf P [] = Unit {0}
+EachOf P (m ∷ ms) = P m × EachOf P ms
+
+one-by : (P : ℕ → Type 0) (ms : List ℕ) (n : ℕ) → EachOf P ms → OneOf ms n → P n
+unfolding EachOf OneOf
+one-by P [] n e o = absurd o
+one-by P (m ∷ ms) n e (inl q) = subst P (sym q) (e .0)
+one-by P (m ∷ ms) n e (inr o) = one-by P ms n (e .1) o
+
+roomy-most : (n : ℕ) → RoomyRefusal n → n ≤ 9
+unfolding EachOf
+roomy-most n o =
+    one-by (λ (m : ℕ). m ≤ 9) roomyNumbers n
+    (omega arith, (omega arith, (omega arith, (omega arith, (omega arith, (omega arith, (omega arith, (omega arith, (omega arith, tt))))))))) o
+
+short-least : (n : ℕ) → OneOf (10 ∷ 11 ∷ 12 ∷ 13 ∷ 14 ∷ []) n → 10 ≤ n
+unfolding EachOf
+short-least n o =
+    one-by (λ (m : ℕ). 10 ≤ m) (10 ∷ 11 ∷ 12 ∷ 13 ∷ 14 ∷ []) n (omega arith, (omega arith, (omega arith, (omega arith, (omega arith, tt))))) o
+
 module _ (x : Sections) (typeUnits : Bool) (section : List ℕ) (c : Collected) (rows : List EntryRow) (need lent : Room) (law : RoomLaw x typeUnits section c rows need)
     (entries-are : need .tables .entries ≡ length rows) (references-are : need .tables .references ≡ length (namesIn rows)) where
   abbrev Either : Type 0
@@ -604,3 +626,10 @@ module _ (x : Sections) (room : Room) (typeUnits : Bool) (section : List ℕ) (c
       let n : Needs x room typeUnits section c = needs-law x room typeUnits section c answer accepted in
       by-tables x typeUnits section c (n .rows) (needOf (length (namesIn (n .rows))) c) lent (n .law) (n .counted)
       (references-needed (length (namesIn (n .rows))) c accepted)
+
+  -- it is accepted, and the same, with room that is enough for the input
+  pub enough-same : (lent : Room) → Within (enoughRoom x section) lent → collectOf x lent typeUnits section ≡ c
+  enough-same lent w =
+      ⊎-elim (λ q. q)
+      (λ s. absurd (omega (arith, roomy-most (s .number) (enough-law x lent typeUnits section w (s .number) (s .answer)), short-least (s .number) (s .one))))
+      (every-room-law lent)

@@ -3,12 +3,13 @@ use mathlib.Core.Path.{_≡_, refl, ap, sym, _∙_, subst}
 use Prim.Native.Nat.{ℕ, zero, suc, _+_, _<_}
 use native.Mathlib.Omega.{arith}
 use mathlib.Core.Bool.{Bool, true}
-use mathlib.Core.List.{List, [], _∷_}
+use mathlib.Core.List.{List, [], _∷_, map}
 use mathlib.Core.Logic.{_⊎_, inl, inr, _↔_}
 use mathlib.Core.Option.{Option, none, some}
 use lib.ListN.{length, drop, getD}
 use Rattle.readers.specs.Layout.{Encoded, Role, reference, typeReference, sibling, index, absolute, Piece, verbatim, patchable, Read, RunOf, Patch, patchPiece, patchPieces, patchRead, patchAll}
-use Rattle.readers.specs.Abbreviations.{declaredIn}
+use Rattle.readers.specs.Abbreviations.{Placed, declaredIn}
+use Rattle.readers.specs.declared.header.UnitHeader.{UnitHeader}
 use Rattle.readers.specs.Stream.{Item, Items}
 use Rattle.marking.specs.Analysis.{Sections}
 use Rattle.marking.specs.Resolution.{graphOf, marksIn}
@@ -109,7 +110,7 @@ module _ (x : Sections) (room : Room) (typeUnits : Bool) (section : List ℕ) (w
   abbrev was : Unit′
   was = unit x room typeUnits section w answer
 
-  abbrev pub items : List NestedItem
+  abbrev items : List NestedItem
   items = kept x room typeUnits section w answer
 
   abbrev first : ℕ
@@ -359,6 +360,12 @@ module _ (x : Sections) (room : Room) (typeUnits : Bool) (section : List ℕ) (w
         absent = absent-law x was typeUnits items (w .lists) (it x room typeUnits section w answer .lists-is);
         lists = lists-law;
       }
+
+  -- what holds of the unit and the kept items that collect found holds of those that it names
+  pub of-thinned : (P : UnitHeader → List Placed → List NestedItem → Type 0) → P (it x room typeUnits section w answer .header) (it x room typeUnits section w answer .declared) items
+      → P (thinned-law .header) (thinned-law .declared) (thinned-law .kept)
+  unfolding thinned-law
+  of-thinned P h = h
 
 -- ---- an untouched unit
 
