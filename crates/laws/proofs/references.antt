@@ -6,3 +6,4 @@ pub mod SameReferences
 pub mod EntryRoles
 pub mod SameRoles
 pub mod Yields
+pub mod EntryReads

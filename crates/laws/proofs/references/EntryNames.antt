@@ -1,10 +1,10 @@
 -- The references of an entry that can be read deep are those that its attributes name: by their forms, and by the expressions in exprloc. Assumes nothing.
-use mathlib.Core.Path.{_≡_, refl, ap, ap₂, sym, _∙_, subst}
+use mathlib.Core.Path.{_≡_, refl, ap, sym, _∙_, subst}
 use Prim.Native.Nat.{ℕ, suc, _+_, _-_, _≤_}
 use native.Mathlib.Omega.{arith}
 use mathlib.Core.Bool.{Bool, true, false, not}
 use mathlib.Core.List.{List, [], _∷_, _++_, append-nil}
-use mathlib.Core.Option.{Option, none, some}
+use mathlib.Core.Option.{some}
 use mathlib.Core.Logic.{⊎-elim}
 use lib.ListN.{length, take, drop, length-append}
 use lib.Seq.{length-take-le, drop-drop}
@@ -16,31 +16,22 @@ use Rattle.readers.specs.Numbers.{uleb, sleb}
 use Rattle.readers.specs.Layout.{Kind, leb128, reference, sibling, Token, nothing, number, bounded, forms, signed, link, string, run, block, expression, unknown, Layout, done, field, verbatim, Read, ReadOf, RunOf, ExpressionReader, asBytes, copy, asNumber, asBounded, asForms, asSigned, asLink, asString, asBlock, asExpression, numberIn, formsIn, stringIn, tokenIn, readIn, before, bytesOf, pieceBytes}
 use Rattle.readers.proofs.LayoutLaws.{LebLaw, uleb-law, TokenLaw, token-law, as-bytes-law}
 use Rattle.readers.specs.Expression.{expressionIn}
-use Rattle.readers.proofs.Expression.{expression-law}
 use Rattle.readers.specs.Tokens.{Use, plain, as′, numberAs, tokenOf}
 use Rattle.readers.specs.Forms.{formTokens, tokenAmong, formToken, useOf, valueToken, attributeLayout}
 use Rattle.readers.specs.Fields.{size, linkedValue, fieldOf, asField, tokenAt}
 use Rattle.readers.specs.Cursors.{formsAt, asFormNumber}
-use Rattle.readers.specs.Scan.{Scanned}
-use Rattle.readers.specs.Abbreviations.{attributesFrom}
-use Rattle.readers.specs.Entries.{attributeAt, attributesLayout, specsLayout, foundLayout, entryLayout, entryFound, stepOfReads, stepAt}
-use Rattle.readers.proofs.Values.{valued, behindForms, attribute-direct, attribute-indirect, joined, read-then}
+use Rattle.readers.specs.Entries.{entryLayout, stepAt}
+use Rattle.readers.proofs.Values.{valued, behindForms, attribute-direct, attribute-indirect}
 use Rattle.readers.specs.declared.cursor.Encoding.{Encoding}
 use Rattle.readers.specs.declared.fields.Field.{Field}
-use Rattle.readers.specs.declared.abbreviations.AttributeSpec.{AttributeSpec}
 use Rattle.readers.specs.declared.abbreviations.DeclarationFound.{DeclarationFound}
-use Rattle.readers.specs.declared.abbreviations.DeclarationFound.the-variants.{Declaration as Found′, Nothing}
 use Rattle.readers.specs.declared.attributes.Attribute.{Attribute}
-use Rattle.readers.specs.declared.attributes.AttributeRead.{AttributeRead}
-use Rattle.readers.specs.declared.attributes.AttributeRead.the-variants.{Read as Attribute′}
 use Rattle.readers.specs.declared.entries.Step.{Step}
-use Rattle.readers.specs.declared.entries.Step.the-variants.{Entry as Entry′, Terminator, End, Unreadable}
-use Rattle.readers.specs.EntryAttributes.{Valued, onAttribute, valuesOf, entryValues}
+use Rattle.readers.specs.EntryAttributes.{Valued}
 use Rattle.marking.specs.EntryReferences.{partOf}
-use Rattle.readers.proofs.EntryAttributes.{specs-all}
-use Rattle.rewriting.proofs.kept_pass.DeepReads.{deep-step}
 use Rattle.rewriting.proofs.write_pass.Expressions.{isExpression, value-exprloc}
-use Rattle.laws.proofs.references.NamedPieces.{roleNames, pieceNames, piecesNames, readsNames, namesOf, reads-append}
+use Rattle.laws.proofs.references.EntryReads.{ValueRead, StepBy, deep-by}
+use Rattle.laws.proofs.references.NamedPieces.{roleNames, pieceNames, piecesNames, readsNames, namesOf}
 
 -- a use that names nothing
 unfoldable NoNames : Use → Type 0
@@ -298,11 +289,11 @@ module _ (e : Encoding) (unit : List ℕ) where
       l .0 .1 ∙ drop-drop _ n unit
 
   -- an attribute: its value, where it ends, and its references
-  record NamedValue (name form at : ℕ) (r : RunOf) : Type 0 where
-    pub value : Attribute
-    pub is : attributeAt e unit at name form ≡ Attribute′ value
-    pub rest : r .1 ≡ drop (value .field .end) unit
-    pub names : readsNames (r .0) ≡ ownNames name (value .form) (value .field)
+  abbrev valueNames : ℕ → Attribute → List ℕ
+  valueNames name v = ownNames name (v .form) (v .field)
+
+  abbrev NamedValue : ℕ → ℕ → ℕ → RunOf → Type 0
+  NamedValue name form at r = ValueRead readsNames valueNames e unit name form at r
 
   module _ (name form at : ℕ) where
     direct-value : T (not (eqb form 0x16)) → All (NamedValue name form at) (readIn big deep (field (valueToken e false name form) (λ _. done)) (drop at unit))
@@ -317,7 +308,7 @@ module _ (e : Encoding) (unit : List ℕ) where
           value = record { form = form; field = f };
           is = attribute-direct e unit at name form (eqb-no {a = form} {b = 0x16} n) ∙ ap (λ o. valued form (asField big at o)) (i .is);
           rest = token-rest t at (i .it, r .1) (i .is);
-          names = append-nil (piecesNames (r .0 .pieces)) ∙ i .names ∙ value-names name f false form;
+          numbers = append-nil (piecesNames (r .0 .pieces)) ∙ i .names ∙ value-names name f false form;
         }))
 
     abbrev behind : ℕ → Layout
@@ -343,7 +334,7 @@ module _ (e : Encoding) (unit : List ℕ) where
               ∙ ap (λ o. behindForms e unit at name form (asFormNumber at o)) q
               ∙ ap (λ o. valued (g .1) (asField big n o)) (i .is);
           rest = token-rest t n (i .it, r .1) (i .is);
-          names = append-nil (piecesNames (r .0 .pieces)) ∙ i .names ∙ value-names name f true (g .1);
+          numbers = append-nil (piecesNames (r .0 .pieces)) ∙ i .names ∙ value-names name f true (g .1);
         })))
 
     indirect-value : T (eqb form 0x16) → All (NamedValue name form at) (readIn big deep (field forms behind) (drop at unit))
@@ -367,80 +358,34 @@ module _ (e : Encoding) (unit : List ℕ) where
   valuesNames [] = []
   valuesNames (a ∷ rest) = ownNames (a .name) (a .value .form) (a .value .field) ++ valuesNames rest
 
-  abbrev Values : List AttributeSpec → ℕ → RunOf → Type 0
-  Values specs at r = readsNames (r .0) ≡ valuesNames (valuesOf e unit specs at)
-
-  values-read : (specs : List AttributeSpec) (at : ℕ) → All (Values specs at) (readIn big deep (attributesLayout e specs) (drop at unit))
-  unfolding attributesLayout readIn readsNames valuesOf valuesNames onAttribute joined
-  values-read [] at = all-some (Values [] at) refl
-  values-read (a ∷ rest) at =
-      subst (All (Values (a ∷ rest) at)) (sym (read-then big deep (attributeLayout e (a .name) (a .form)) (attributesLayout e rest) (drop at unit)))
-      (all-bind (NamedValue (a .name) (a .form) at) _ (readIn big deep (attributeLayout e (a .name) (a .form)) (drop at unit)) _ (value-read (a .name) (a .form) at)
-      (λ r q v. all-bind (Values rest (v .value .field .end)) _ (readIn big deep (attributesLayout e rest) (r .1)) _
-      (subst (λ (z : List ℕ). All (Values rest (v .value .field .end)) (readIn big deep (attributesLayout e rest) z)) (sym (v .rest)) (values-read rest (v .value .field .end)))
-      (λ r′ q′ i. all-some (Values (a ∷ rest) at)
-      (reads-append (r .0) (r′ .0)
-      ∙ ap₂ _++_ (v .names) i
-      ∙ sym (ap (λ (o : AttributeRead). valuesNames (onAttribute a o (λ next. valuesOf e unit rest next))) (v .is))))))
-
   -- ---- an entry or a terminator
 
+  no-code : (at : ℕ) (r : ReadOf) → tokenIn big deep (number leb128) (drop at unit) ≡ some r → piecesNames (r .0 .pieces) ≡ []
+  unfolding tokenNames
+  no-code at r q = all-of (NamedToken (number leb128) at) (token-named (number leb128) at) q .names
+
+  more-reads : (r : Read) (rs : List Read) → readsNames (r ∷ rs) ≡ piecesNames (r .pieces) ++ readsNames rs
+  unfolding readsNames
+  more-reads r rs = refl
+
+  no-reads : readsNames [] ≡ []
+  unfolding readsNames
+  no-reads = refl
+
+  more-values : (a : Valued) (rest : List Valued) → valuesNames (a ∷ rest) ≡ valueNames (a .name) (a .value) ++ valuesNames rest
+  unfolding valuesNames
+  more-values a rest = refl
+
+  no-values : valuesNames [] ≡ []
+  unfolding valuesNames
+  no-values = refl
+
   module _ (abbreviations : List ℕ) (look : ℕ → DeclarationFound) where
-    -- the references at a step: those of an entry's values
-    unfoldable pub StepNames : Step → List ℕ → Type 0
-    StepNames (Entry′ y) ns = ns ≡ valuesNames (entryValues e abbreviations (y .declaration .attributes .at) unit (y .values .at))
-    StepNames (Terminator c) ns = ns ≡ []
-    StepNames End ns = Unit {0}
-    StepNames Unreadable ns = Unit {0}
-
-    abbrev At : ℕ → RunOf → Type 0
-    At at r = StepNames (stepOfReads e abbreviations look at (r .0)) (readsNames (r .0))
-
-    entry-values : (p at : ℕ) (o : Option (Scanned AttributeSpec ℕ)) → attributesFrom abbreviations p ≡ o
-        → All (λ (r : RunOf). readsNames (r .0) ≡ valuesNames (entryValues e abbreviations p unit at)) (readIn big deep (specsLayout e o) (drop at unit))
-    unfolding specsLayout readIn entryValues
-    entry-values p at none q = all-none _
-    entry-values p at (some o) q =
-        subst (λ (l : List AttributeSpec). All (λ (r : RunOf). readsNames (r .0) ≡ valuesNames (valuesOf e unit l at)) (readIn big deep (attributesLayout e (o .0)) (drop at unit)))
-        (sym (specs-all abbreviations p o q)) (values-read (o .0) at)
-
-    module _ (at : ℕ) (c : Read) (none-in : piecesNames (c .pieces) ≡ []) where
-      found-at : T (not (eqb (c .seen) 0)) → (f : DeclarationFound) → look (c .seen) ≡ f
-          → All (At at) (bind (readIn big deep (foundLayout e abbreviations look f) (drop (at + size big c) unit)) (before c))
-      unfolding foundLayout readIn before bind readsNames stepOfReads entryFound StepNames
-      found-at t Nothing h = all-none _
-      found-at t (Found′ d) h =
-          all-bind (λ (r : RunOf). readsNames (r .0) ≡ valuesNames (entryValues e abbreviations (d .attributes .at) unit (at + size big c))) _
-          (readIn big deep (specsLayout e (attributesFrom abbreviations (d .attributes .at))) (drop (at + size big c) unit)) _
-          (entry-values (d .attributes .at) (at + size big c) (attributesFrom abbreviations (d .attributes .at)) refl)
-          (λ r q i. all-some (At at)
-          (subst (λ (s : Step). StepNames s (readsNames (c ∷ r .0)))
-          (sym (pick-no _ _ _ t ∙ ap (entryFound e abbreviations look at (at + size big c) _) h))
-          (ap₂ _++_ none-in i)))
-
-      code-at : All (At at) (bind (readIn big deep (pick (eqb (c .seen) 0) done (foundLayout e abbreviations look (look (c .seen)))) (drop (at + size big c) unit)) (before c))
-      unfolding readIn before bind readsNames stepOfReads StepNames
-      code-at =
-          ⊎-elim
-          (λ t. subst (λ g. All (At at) (bind (readIn big deep g (drop (at + size big c) unit)) (before c))) (sym (pick-yes _ _ _ t))
-          (all-some (At at) (subst (λ (s : Step). StepNames s (readsNames (c ∷ []))) (sym (pick-yes _ _ _ t)) (ap₂ _++_ none-in refl))))
-          (λ t. subst (λ g. All (At at) (bind (readIn big deep g (drop (at + size big c) unit)) (before c))) (sym (pick-no _ _ _ t))
-          (found-at t (look (c .seen)) refl))
-          (either (eqb (c .seen) 0))
-
-    -- what is read deep at a place
-    all-at : (at : ℕ) → All (At at) (readIn big deep (entryLayout e abbreviations look) (drop at unit))
-    unfolding entryLayout readIn tokenNames size
-    all-at at =
-        all-bind (NamedToken (number leb128) at) _ (tokenIn big deep (number leb128) (drop at unit)) _ (token-named (number leb128) at)
-        (λ r q i.
-        let l : TokenLaw big deep (number leb128) (drop at unit) r =
-        all-of (TokenLaw big deep (number leb128) (drop at unit)) (token-law big deep (expression-law e) (number leb128) (drop at unit)) q in
-        subst (λ (z : List ℕ). All (At at) (bind (readIn big deep (pick (eqb (r .0 .seen) 0) done (foundLayout e abbreviations look (look (r .0 .seen)))) z) (before (r .0))))
-        (sym (l .0 .1 ∙ drop-drop _ at unit)) (code-at at (r .0) (i .names)))
+    abbrev pub StepNames : Step → List ℕ → Type 0
+    StepNames s ns = StepBy valuesNames e unit abbreviations s ns
 
     -- THE references of what is read deep at a place, by the step there
     pub deep-names : (at : ℕ) (all : RunOf) → readIn big deep (entryLayout e abbreviations look) (drop at unit) ≡ some all
         → StepNames (stepAt e abbreviations look unit at) (readsNames (all .0))
     deep-names at all q =
-        subst (λ (s : Step). StepNames s (readsNames (all .0))) (sym (deep-step e abbreviations look deep (expression-law e) unit at (all .0) (all .1) q)) (all-of (At at) (all-at at) q)
+        deep-by piecesNames readsNames valuesNames valueNames no-reads more-reads no-values more-values e unit value-read no-code abbreviations look at all q

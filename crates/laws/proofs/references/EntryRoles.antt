@@ -5,7 +5,7 @@ use Prim.Native.Nat.{ℕ, zero, suc, _+_, _≤_}
 use native.Mathlib.Omega.{arith}
 use mathlib.Core.Bool.{Bool, true, false, not}
 use mathlib.Core.List.{List, [], _∷_, _++_, append-assoc, append-nil}
-use mathlib.Core.Option.{Option, none, some}
+use mathlib.Core.Option.{some}
 use mathlib.Core.Logic.{⊎-elim, _↔_}
 use lib.ListN.{length, getD, take, drop}
 use lib.Seq.{drop-drop}
@@ -17,32 +17,23 @@ use Rattle.readers.specs.Numbers.{uleb, sleb}
 use Rattle.readers.specs.Layout.{Encoded, Kind, leb128, Role, reference, typeReference, sibling, index, absolute, Token, nothing, number, bounded, forms, signed, link, string, run, block, expression, unknown, Layout, done, fail, field, Piece, verbatim, patchable, Read, ReadOf, RunOf, ExpressionReader, asBytes, copy, asNumber, asBounded, asForms, asSigned, asLink, asString, asBlock, asExpression, numberIn, formsIn, stringIn, tokenIn, readIn, before}
 use Rattle.readers.proofs.LayoutLaws.{TokenLaw, token-law, as-bytes-law}
 use Rattle.readers.specs.Expression.{allPieces, andRest, expressionWithin, expressionIn}
-use Rattle.readers.proofs.Expression.{expression-law}
 use Rattle.readers.specs.Operations.{OperandRow, unreadableRow, rows, rowOf, rowLayout, operationRow, operation}
 use Rattle.readers.specs.Tokens.{Use, plain, as′, numberAs, tokenOf}
 use Rattle.readers.specs.Forms.{formTokens, tokenAmong, formToken, useOf, valueToken, attributeLayout}
 use Rattle.readers.specs.Fields.{size, linkedValue, fieldOf, asField, tokenAt}
 use Rattle.readers.specs.Cursors.{formsAt, asFormNumber}
-use Rattle.readers.specs.Scan.{Scanned}
-use Rattle.readers.specs.Abbreviations.{attributesFrom}
-use Rattle.readers.specs.Entries.{attributeAt, attributesLayout, specsLayout, foundLayout, entryLayout, entryFound, stepOfReads, stepAt}
-use Rattle.readers.proofs.Values.{valued, behindForms, attribute-direct, attribute-indirect, joined, read-then}
+use Rattle.readers.specs.Entries.{entryLayout, stepAt}
+use Rattle.readers.proofs.Values.{valued, behindForms, attribute-direct, attribute-indirect}
 use Rattle.readers.specs.declared.cursor.Encoding.{Encoding}
-use Rattle.readers.specs.declared.abbreviations.AttributeSpec.{AttributeSpec}
 use Rattle.readers.specs.declared.abbreviations.DeclarationFound.{DeclarationFound}
-use Rattle.readers.specs.declared.abbreviations.DeclarationFound.the-variants.{Declaration as Found′, Nothing}
 use Rattle.readers.specs.declared.attributes.Attribute.{Attribute}
-use Rattle.readers.specs.declared.attributes.AttributeRead.{AttributeRead}
-use Rattle.readers.specs.declared.attributes.AttributeRead.the-variants.{Read as Attribute′}
 use Rattle.readers.specs.declared.entries.Step.{Step}
-use Rattle.readers.specs.declared.entries.Step.the-variants.{Entry as Entry′, Terminator, End, Unreadable}
-use Rattle.readers.specs.EntryAttributes.{Valued, onAttribute, valuesOf, entryValues}
+use Rattle.readers.specs.EntryAttributes.{Valued}
 use Rattle.marking.specs.Members.{Member, here, there}
 use Rattle.marking.proofs.Members.{nothing-in, in-left, in-right, in-either}
 use Rattle.laws.specs.SameRoles.{RoleRead}
 use Rattle.laws.proofs.references.NamedPieces.{only}
-use Rattle.readers.proofs.EntryAttributes.{specs-all}
-use Rattle.rewriting.proofs.kept_pass.DeepReads.{deep-step}
+use Rattle.laws.proofs.references.EntryReads.{ValueRead as AttributeRead′, StepBy, deep-by}
 
 -- ---- uses
 
@@ -458,11 +449,8 @@ module _ (sought : Role → Bool) (no-reference : sought reference ≡ false) (n
           l .0 .1 ∙ drop-drop _ n unit
 
       -- an attribute: its value, where it ends, and what is sought of it
-      record ValueRead (name form at : ℕ) (r : RunOf) : Type 0 where
-        pub value : Attribute
-        pub is : attributeAt e unit at name form ≡ Attribute′ value
-        pub rest : r .1 ≡ drop (value .field .end) unit
-        pub numbers : readsSought (r .0) ≡ ownSought name value
+      abbrev ValueRead : ℕ → ℕ → ℕ → RunOf → Type 0
+      ValueRead name form at r = AttributeRead′ readsSought ownSought e unit name form at r
 
       module _ (name form at : ℕ) where
         direct-value : T (not (eqb form 0x16)) → All (ValueRead name form at) (readIn big deep (field (valueToken e false name form) (λ _. done)) (drop at unit))
@@ -520,86 +508,38 @@ module _ (sought : Role → Bool) (no-reference : sought reference ≡ false) (n
             pick-either (λ g. All (ValueRead name form at) (readIn big deep g (drop at unit))) (eqb form 0x16) (field forms behind) (field (valueToken e false name form) (λ _. done))
             indirect-value direct-value
 
-      -- ---- the values of an entry
-
-      abbrev Values : List AttributeSpec → ℕ → RunOf → Type 0
-      Values specs at r = readsSought (r .0) ≡ valuesSought (valuesOf e unit specs at)
-
-      values-read : (specs : List AttributeSpec) (at : ℕ) → All (Values specs at) (readIn big deep (attributesLayout e specs) (drop at unit))
-      unfolding attributesLayout readIn readsSought valuesOf valuesSought onAttribute joined
-      values-read [] at = all-some (Values [] at) refl
-      values-read (a ∷ rest) at =
-          subst (All (Values (a ∷ rest) at)) (sym (read-then big deep (attributeLayout e (a .name) (a .form)) (attributesLayout e rest) (drop at unit)))
-          (all-bind (ValueRead (a .name) (a .form) at) _ (readIn big deep (attributeLayout e (a .name) (a .form)) (drop at unit)) _ (value-read (a .name) (a .form) at)
-          (λ r q v. all-bind (Values rest (v .value .field .end)) _ (readIn big deep (attributesLayout e rest) (r .1)) _
-          (subst (λ (z : List ℕ). All (Values rest (v .value .field .end)) (readIn big deep (attributesLayout e rest) z)) (sym (v .rest)) (values-read rest (v .value .field .end)))
-          (λ r′ q′ i. all-some (Values (a ∷ rest) at)
-          (read-append (r .0) (r′ .0)
-          ∙ ap₂ _++_ (v .numbers) i
-          ∙ sym (ap (λ (o : AttributeRead). valuesSought (onAttribute a o (λ next. valuesOf e unit rest next))) (v .is))))))
-
       -- ---- an entry or a terminator
 
+      no-code : (at : ℕ) (r : ReadOf) → tokenIn big deep (number leb128) (drop at unit) ≡ some r → piecesSought (r .0 .pieces) ≡ []
+      unfolding tokenSought
+      no-code at r q =
+          all-of (SoughtToken big deep (number leb128) (drop at unit)) (token-sought big deep expression-none (number leb128) (drop at unit)) q .numbers
+
+      more-reads : (r : Read) (rs : List Read) → readsSought (r ∷ rs) ≡ piecesSought (r .pieces) ++ readsSought rs
+      unfolding readsSought
+      more-reads r rs = refl
+
+      no-reads : readsSought [] ≡ []
+      unfolding readsSought
+      no-reads = refl
+
+      more-values : (a : Valued) (rest : List Valued) → valuesSought (a ∷ rest) ≡ ownSought (a .name) (a .value) ++ valuesSought rest
+      unfolding valuesSought
+      more-values a rest = refl
+
+      no-values : valuesSought [] ≡ []
+      unfolding valuesSought
+      no-values = refl
+
       module _ (abbreviations : List ℕ) (look : ℕ → DeclarationFound) where
-        -- those at a step: those of an entry's values
-        unfoldable pub StepSought : Step → List ℕ → Type 0
-        StepSought (Entry′ y) is = is ≡ valuesSought (entryValues e abbreviations (y .declaration .attributes .at) unit (y .values .at))
-        StepSought (Terminator c) is = is ≡ []
-        StepSought End is = Unit {0}
-        StepSought Unreadable is = Unit {0}
-
-        abbrev At : ℕ → RunOf → Type 0
-        At at r = StepSought (stepOfReads e abbreviations look at (r .0)) (readsSought (r .0))
-
-        entry-values : (p at : ℕ) (o : Option (Scanned AttributeSpec ℕ)) → attributesFrom abbreviations p ≡ o
-            → All (λ (r : RunOf). readsSought (r .0) ≡ valuesSought (entryValues e abbreviations p unit at)) (readIn big deep (specsLayout e o) (drop at unit))
-        unfolding specsLayout readIn entryValues
-        entry-values p at none q = all-none _
-        entry-values p at (some o) q =
-            subst (λ (l : List AttributeSpec). All (λ (r : RunOf). readsSought (r .0) ≡ valuesSought (valuesOf e unit l at)) (readIn big deep (attributesLayout e (o .0)) (drop at unit)))
-            (sym (specs-all abbreviations p o q)) (values-read (o .0) at)
-
-        module _ (at : ℕ) (c : Read) (none-in : piecesSought (c .pieces) ≡ []) where
-          found-at : T (not (eqb (c .seen) 0)) → (f : DeclarationFound) → look (c .seen) ≡ f
-              → All (At at) (bind (readIn big deep (foundLayout e abbreviations look f) (drop (at + size big c) unit)) (before c))
-          unfolding foundLayout readIn before bind readsSought stepOfReads entryFound StepSought
-          found-at t Nothing h = all-none _
-          found-at t (Found′ d) h =
-              all-bind (λ (r : RunOf). readsSought (r .0) ≡ valuesSought (entryValues e abbreviations (d .attributes .at) unit (at + size big c))) _
-              (readIn big deep (specsLayout e (attributesFrom abbreviations (d .attributes .at))) (drop (at + size big c) unit)) _
-              (entry-values (d .attributes .at) (at + size big c) (attributesFrom abbreviations (d .attributes .at)) refl)
-              (λ r q i. all-some (At at)
-              (subst (λ (s : Step). StepSought s (readsSought (c ∷ r .0)))
-              (sym (pick-no _ _ _ t ∙ ap (entryFound e abbreviations look at (at + size big c) _) h))
-              (ap₂ _++_ none-in i)))
-
-          code-at : All (At at) (bind (readIn big deep (pick (eqb (c .seen) 0) done (foundLayout e abbreviations look (look (c .seen)))) (drop (at + size big c) unit)) (before c))
-          unfolding readIn before bind readsSought stepOfReads StepSought
-          code-at =
-              ⊎-elim
-              (λ t. subst (λ g. All (At at) (bind (readIn big deep g (drop (at + size big c) unit)) (before c))) (sym (pick-yes _ _ _ t))
-              (all-some (At at) (subst (λ (s : Step). StepSought s (readsSought (c ∷ []))) (sym (pick-yes _ _ _ t)) (ap₂ _++_ none-in refl))))
-              (λ t. subst (λ g. All (At at) (bind (readIn big deep g (drop (at + size big c) unit)) (before c))) (sym (pick-no _ _ _ t))
-              (found-at t (look (c .seen)) refl))
-              (either (eqb (c .seen) 0))
-
-        -- what is read deep at a place
-        all-at : (at : ℕ) → All (At at) (readIn big deep (entryLayout e abbreviations look) (drop at unit))
-        unfolding entryLayout readIn tokenSought size
-        all-at at =
-            all-bind (SoughtToken big deep (number leb128) (drop at unit)) _ (tokenIn big deep (number leb128) (drop at unit)) _
-            (token-sought big deep expression-none (number leb128) (drop at unit))
-            (λ r q i.
-            let l : TokenLaw big deep (number leb128) (drop at unit) r =
-            all-of (TokenLaw big deep (number leb128) (drop at unit)) (token-law big deep (expression-law e) (number leb128) (drop at unit)) q in
-            subst (λ (z : List ℕ). All (At at) (bind (readIn big deep (pick (eqb (r .0 .seen) 0) done (foundLayout e abbreviations look (look (r .0 .seen)))) z) (before (r .0))))
-            (sym (l .0 .1 ∙ drop-drop _ at unit)) (code-at at (r .0) (i .numbers)))
+        abbrev pub StepSought : Step → List ℕ → Type 0
+        StepSought s ns = StepBy valuesSought e unit abbreviations s ns
 
         -- THE numbers sought in what is read deep at a place, by the step there
         pub deep-sought : (at : ℕ) (all : RunOf) → readIn big deep (entryLayout e abbreviations look) (drop at unit) ≡ some all
             → StepSought (stepAt e abbreviations look unit at) (readsSought (all .0))
         deep-sought at all q =
-            subst (λ (s : Step). StepSought s (readsSought (all .0))) (sym (deep-step e abbreviations look deep (expression-law e) unit at (all .0) (all .1) q)) (all-of (At at) (all-at at) q)
+            deep-by piecesSought readsSought valuesSought ownSought no-reads more-reads no-values more-values e unit value-read no-code abbreviations look at all q
 
   -- ---- a number that is sought has the role
 

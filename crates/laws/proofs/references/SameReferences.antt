@@ -25,6 +25,7 @@ use Rattle.marking.specs.Members.{Member, here, there}
 use Rattle.rewriting.specs.Rewriting.{Unit as Unit′, itemsIn, readsOr, readsAt, Room, unitOf}
 use Rattle.laws.specs.SameReferences.{RoleReference, valuesIn, baseAt, SameReferences, RowsReferences, RowReferences, UnitReferences}
 use Rattle.marking.proofs.Members.{nothing-in}
+use Rattle.laws.proofs.references.EntryReads.{StepBy}
 use Rattle.laws.proofs.references.NamedPieces.{readsNames, reads-members}
 use Rattle.laws.proofs.references.EntryNames.{valuesNames, StepNames, deep-names}
 use Rattle.laws.proofs.references.ListedNames.{in-attributes, in-values}
@@ -48,7 +49,7 @@ module _ (x : Sections) (u : Unit′) where
 
   entry-names : (y : Entry) → There y → (all : RunOf) → deepAt (y .offset .0) ≡ some all
       → readsNames (readsAt x u (y .offset .0)) ≡ valuesNames (u .header .encoding) (u .bytes) (valuesOfEntry (u .header .encoding) x (u .bytes) y)
-  unfolding StepNames valuesOfEntry
+  unfolding StepBy valuesOfEntry
   entry-names y s all q =
       ap readsNames (reads-are (y .offset .0) all q)
       ∙ subst (λ (w : Step). StepNames (u .header .encoding) (u .bytes) (x .abbreviations) (declaredIn (u .declared)) w (readsNames (all .0))) s

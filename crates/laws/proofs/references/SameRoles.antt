@@ -38,6 +38,7 @@ use Rattle.laws.specs.SameReferences.{valuesIn, readsIn}
 use Rattle.laws.specs.SameRoles.{RoleRead, FormIndex, FormSibling, SameRoles, UnitRoles}
 use Rattle.marking.proofs.Members.{nothing-in, in-left, in-right, in-either}
 use Rattle.laws.proofs.again.IndexMembers.{IndexRead, read-members}
+use Rattle.laws.proofs.references.EntryReads.{StepBy}
 use Rattle.laws.proofs.references.NamedPieces.{only}
 use Rattle.rewriting.proofs.list_pass.EntryIndices.{StepIndices, deep-indices}
 use Rattle.readers.proofs.FormKinds.{form-list}
@@ -316,7 +317,7 @@ module _ (x : Sections) (u : Unit′) where
         )
 
     same-indices : (k : ℕ) → readsIndices k (readsIn x u y) ≡ valuesIndices k (valuesIn x u y)
-    unfolding StepSought valuesOfEntry
+    unfolding StepBy valuesOfEntry
     same-indices k =
         ap (readsIndices k) (reads-are (y .offset .0) all q)
         ∙ subst (λ (w : Step). StepSought (isIndex k) (index-no-reference k) (index-no-type k) (index-no-absolute k) (u .header .encoding) (u .bytes) (x .abbreviations) (declaredIn (u .declared)) w (readsIndices k (all .0))) s
@@ -331,7 +332,7 @@ module _ (x : Sections) (u : Unit′) where
         (either (leb 3 k))
 
     same-siblings : readsSiblings (readsIn x u y) ≡ valuesSiblings (valuesIn x u y)
-    unfolding StepSought valuesOfEntry
+    unfolding StepBy valuesOfEntry
     same-siblings =
         ap readsSiblings (reads-are (y .offset .0) all q)
         ∙ subst (λ (w : Step). StepSought isSibling no-reference no-type no-absolute (u .header .encoding) (u .bytes) (x .abbreviations) (declaredIn (u .declared)) w (readsSiblings (all .0))) s
