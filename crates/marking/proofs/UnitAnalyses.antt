@@ -26,6 +26,7 @@ use Rattle.marking.specs.Columns.{offsetsIn, parentsIn, rootsIn, namesIn
 use Rattle.marking.specs.inner.Columns.{Left, Outcome, AnalysisInput, leftBy, unitChecked, unitFound}
 use Rattle.marking.specs.declared.analysis.Analysis.{Analysis}
 use Rattle.marking.specs.declared.analysis.Analysis.the-variants.{Entries, Refused as Refused′}
+use Rattle.marking.specs.declared.analysis.UnitFound.{UnitFound}
 use Rattle.marking.specs.declared.analysis.UnitFound.the-variants.{Unit as Found′, Answered as Answered′}
 
 -- ---- columns that are left, and columns that are cleared
@@ -209,6 +210,13 @@ module _ (abbreviations : List ℕ) (r : HeaderRead) where
     ap (unitChecked h) (sym q) ∙ sym (ap (unitFound abbreviations) e),
     i ∙ ap (indexOf abbreviations (h .abbreviations)) same ∙ sym (ap (λ (w : HeaderRead). indexAfter abbreviations w k) e),
   )
+
+-- found by a header that is the section's
+pub found-by : (abbreviations : List ℕ) (o r : HeaderRead) (f : UnitFound) (index : List ℕ) (k : ℕ) → o ≡ r
+    → (f ≡ unitFound abbreviations r) × (index ≡ indexAfter abbreviations r k)
+    → (f ≡ unitFound abbreviations o) × (index ≡ indexAfter abbreviations o k)
+found-by abbreviations o r f index k e q =
+    (q .0 ∙ sym (ap (unitFound abbreviations) e), q .1 ∙ sym (ap (λ (h : HeaderRead). indexAfter abbreviations h k) e))
 
 unit-checked : (h h′ : UnitHeader) (c : Checked) → Found′ h ≡ unitChecked h′ c → (h′ ≡ h) × (c ≡ Accepted)
 unfolding unitChecked

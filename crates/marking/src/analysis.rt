@@ -399,17 +399,16 @@ fn analyse_unit(
     clear_refused(answer, offsets, parents, roots, reference_ends, targets)
 }
 
-// The unit of a section, its declarations checked and the index of them filled: 1 and 2 of the header, 3 of the
+// The unit of a header, its declarations checked and the index of them filled: 1 and 2 of the header, 3 of the
 // abbreviations. An empty section has no entries.
-fn find_unit(section: &[u8], abbreviations: &[u8], index: &mut [u64]) -> UnitFound
-    ensures { λ r. ⌜ (
-        let header = headerOf (now (section .entry)) in
+fn find_unit(header: HeaderRead, abbreviations: &[u8], index: &mut [u64]) -> UnitFound
+    ensures { λ r. ⌜
         (r ≡ unitFound (now (abbreviations .entry)) header)
         × (now (index .exit) ≡ indexAfter (now (abbreviations .entry)) header (length (now (index .entry))))
-        ) ⌝ }
+        ⌝ }
 {
     clear(index);
-    match unit_header(section) {
+    match header {
         HeaderRead::Empty => UnitFound::Answered(Analysis::Entries {
             entries: 0,
             references: 0,
@@ -421,6 +420,73 @@ fn find_unit(section: &[u8], abbreviations: &[u8], index: &mut [u64]) -> UnitFou
                 return UnitFound::Answered(Analysis::Refused(3));
             };
             UnitFound::Unit(h)
+        }
+    }
+}
+
+// The analysis of the unit of a header.
+pub(crate) fn analyse_header(
+    section: &[u8],
+    header: HeaderRead,
+    abbreviations: &[u8],
+    locations: &[u8],
+    ranges: &[u8],
+    addresses: &[u8],
+    ranges_base: u64,
+    entries: usize,
+    references: usize,
+    index: &mut [u64],
+    offsets: &mut [u64],
+    parents: &mut [u32],
+    roots: &mut [u8],
+    reference_ends: &mut [u64],
+    targets: &mut [u64],
+) -> Analysis
+    requires { ⌜ headerOf (now section) ≡ header ⌝ }
+    ensures { λ r. ⌜ (
+        let lent = sections (now (abbreviations .entry)) (now (locations .entry)) (now (ranges .entry))
+        (now (addresses .entry)) «ranges_base» in
+        let room = roomsOf entries references (length (now (offsets .entry))) (length (now (parents .entry)))
+        (length (now (roots .entry))) (length (now («reference_ends» .entry))) (length (now (targets .entry))) in
+        let found = analysisOf lent (now (section .entry)) room in
+        (r ≡ answerOf found)
+        × ((now (index .exit)
+        ≡ indexAfter (now (abbreviations .entry)) (headerOf (now (section .entry))) (length (now (index .entry))))
+        × ((now (offsets .exit) ≡ column offsetsIn (length (now (offsets .entry))) found)
+        × ((now (parents .exit) ≡ column parentsIn (length (now (parents .entry))) found)
+        × ((now (roots .exit) ≡ column rootsIn (length (now (roots .entry))) found)
+        × ((now («reference_ends» .exit) ≡ column (endsIn 0) (length (now («reference_ends» .entry))) found)
+        × (now (targets .exit) ≡ column namesIn (length (now (targets .entry))) found))))))
+        ) ⌝ }
+{
+    clear_columns(offsets, parents, roots, reference_ends, targets);
+    match find_unit(header, abbreviations, index) {
+        UnitFound::Answered(answer) => answer,
+        UnitFound::Unit(h) => {
+            let room = entry_room(
+                entries,
+                offsets.len(),
+                parents.len(),
+                roots.len(),
+                reference_ends.len(),
+            );
+            analyse_unit(
+                section,
+                h,
+                abbreviations,
+                index,
+                locations,
+                ranges,
+                addresses,
+                ranges_base,
+                room,
+                least_of(references, targets.len()),
+                offsets,
+                parents,
+                roots,
+                reference_ends,
+                targets,
+            )
         }
     }
 }
@@ -462,34 +528,21 @@ pub fn analyse(
         × (now (targets .exit) ≡ column namesIn (length (now (targets .entry))) found))))))
         ) ⌝ }
 {
-    clear_columns(offsets, parents, roots, reference_ends, targets);
-    match find_unit(section, abbreviations, index) {
-        UnitFound::Answered(answer) => answer,
-        UnitFound::Unit(h) => {
-            let room = entry_room(
-                entries,
-                offsets.len(),
-                parents.len(),
-                roots.len(),
-                reference_ends.len(),
-            );
-            analyse_unit(
-                section,
-                h,
-                abbreviations,
-                index,
-                locations,
-                ranges,
-                addresses,
-                ranges_base,
-                room,
-                least_of(references, targets.len()),
-                offsets,
-                parents,
-                roots,
-                reference_ends,
-                targets,
-            )
-        }
-    }
+    analyse_header(
+        section,
+        unit_header(section),
+        abbreviations,
+        locations,
+        ranges,
+        addresses,
+        ranges_base,
+        entries,
+        references,
+        index,
+        offsets,
+        parents,
+        roots,
+        reference_ends,
+        targets,
+    )
 }

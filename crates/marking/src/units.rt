@@ -11,9 +11,11 @@ ghost use Rattle.marking.specs.Columns.{indexAfter};
 ghost use Rattle.marking.specs.Resolution.{entryFrom, pairsOfEntry, pairsIn, marksIn, unitMarks};
 ghost use Rattle.marking.specs.inner.Resolution.{asEntry, Searched, ResolveInput, ReferenceColumns, Resolvable, UnitColumns, Markable};
 use crate::analysis::Analysis;
-use crate::analysis::analyse;
+use crate::analysis::analyse_header;
 use crate::marks::Marked;
 use crate::marks::mark_with;
+use readers::header::HeaderRead;
+use readers::header::unit_header;
 use readers::offsets::EntryIndex;
 use readers::offsets::UnitOffset;
 use readers::tables::clear_bytes;
@@ -23,6 +25,12 @@ use readers::tables::clear_indexes;
 pub enum UnitMarks {
     Marked { entries: usize, kept: usize },
     Refused(u8),
+}
+
+// The header of a section's first unit, as it was read, and the marks of its entries.
+pub struct UnitMarking {
+    pub header: HeaderRead,
+    pub marks: UnitMarks,
 }
 
 // An entry, by its index.
@@ -165,12 +173,10 @@ fn mark_rows(
     }
 }
 
-// Marks the entries of the first unit of a section: 1 dead, 2 retained, 3 live. The columns are those of `analyse`,
-// with the marks among those of the entry table and the pairs among those of the reference table, two numbers each. A
-// refusal is the analysis's, and leaves zeros. The work column is scratch, zeros on every answer; its length, best two
-// numbers an entry, changes the time alone.
-pub fn mark_unit(
+// The marks of the unit of a header.
+fn mark_header(
     section: &[u8],
+    header: HeaderRead,
     abbreviations: &[u8],
     locations: &[u8],
     ranges: &[u8],
@@ -186,6 +192,7 @@ pub fn mark_unit(
     pairs: &mut [u32],
     work: &mut [u32],
 ) -> UnitMarks
+    requires { ⌜ headerOf (now section) ≡ header ⌝ }
     ensures { λ r. ⌜ (
         let lent = sections (now (abbreviations .entry)) (now (locations .entry)) (now (ranges .entry))
         (now (addresses .entry)) «ranges_base» in
@@ -193,9 +200,9 @@ pub fn mark_unit(
         (length (now (offsets .entry))) (length (now (parents .entry))) (length (now (roots .entry)))
         (length (now («reference_ends» .entry))) (length (now (targets .entry))) in
         let found = analysisOf lent (now (section .entry)) room in
-        let header = headerOf (now (section .entry)) in
         (r ≡ unitMarks found)
-        × ((now (index .exit) ≡ indexAfter (now (abbreviations .entry)) header (length (now (index .entry))))
+        × ((now (index .exit)
+        ≡ indexAfter (now (abbreviations .entry)) (headerOf (now (section .entry))) (length (now (index .entry))))
         × ((now (offsets .exit) ≡ column offsetsIn (length (now (offsets .entry))) found)
         × ((now (parents .exit) ≡ column parentsIn (length (now (parents .entry))) found)
         × ((now (roots .exit) ≡ column rootsIn (length (now (roots .entry))) found)
@@ -209,8 +216,9 @@ pub fn mark_unit(
     clear_indexes(pairs);
     clear_bytes(marks);
     clear_indexes(work);
-    match analyse(
+    match analyse_header(
         section,
+        header,
         abbreviations,
         locations,
         ranges,
@@ -243,4 +251,67 @@ pub fn mark_unit(
             )
         }
     }
+}
+
+// Marks the entries of the first unit of a section: 1 dead, 2 retained, 3 live. The columns are those of `analyse`,
+// with the marks among those of the entry table and the pairs among those of the reference table, two numbers each. A
+// refusal is the analysis's, and leaves zeros. The work column is scratch, zeros on every answer; its length, best two
+// numbers an entry, changes the time alone.
+pub fn mark_unit(
+    section: &[u8],
+    abbreviations: &[u8],
+    locations: &[u8],
+    ranges: &[u8],
+    addresses: &[u8],
+    ranges_base: u64,
+    index: &mut [u64],
+    offsets: &mut [u64],
+    parents: &mut [u32],
+    roots: &mut [u8],
+    reference_ends: &mut [u64],
+    marks: &mut [u8],
+    targets: &mut [u64],
+    pairs: &mut [u32],
+    work: &mut [u32],
+) -> UnitMarking
+    ensures { λ r. ⌜ (
+        let lent = sections (now (abbreviations .entry)) (now (locations .entry)) (now (ranges .entry))
+        (now (addresses .entry)) «ranges_base» in
+        let room = unitRooms (length (now (marks .entry))) (length (now (pairs .entry)))
+        (length (now (offsets .entry))) (length (now (parents .entry))) (length (now (roots .entry)))
+        (length (now («reference_ends» .entry))) (length (now (targets .entry))) in
+        let found = analysisOf lent (now (section .entry)) room in
+        let header = headerOf (now (section .entry)) in
+        ((r .header ≡ header) × (r .marks ≡ unitMarks found))
+        × ((now (index .exit) ≡ indexAfter (now (abbreviations .entry)) header (length (now (index .entry))))
+        × ((now (offsets .exit) ≡ column offsetsIn (length (now (offsets .entry))) found)
+        × ((now (parents .exit) ≡ column parentsIn (length (now (parents .entry))) found)
+        × ((now (roots .exit) ≡ column rootsIn (length (now (roots .entry))) found)
+        × ((now («reference_ends» .exit) ≡ column (endsIn 0) (length (now («reference_ends» .entry))) found)
+        × ((now (marks .exit) ≡ column marksIn (length (now (marks .entry))) found)
+        × ((now (targets .exit) ≡ column namesIn (length (now (targets .entry))) found)
+        × ((now (pairs .exit) ≡ column pairsIn (length (now (pairs .entry))) found)
+        × (now (work .exit) ≡ zeros (length (now (work .entry))))))))))))
+        ) ⌝ }
+{
+    let header = unit_header(section);
+    let marks = mark_header(
+        section,
+        header,
+        abbreviations,
+        locations,
+        ranges,
+        addresses,
+        ranges_base,
+        index,
+        offsets,
+        parents,
+        roots,
+        reference_ends,
+        marks,
+        targets,
+        pairs,
+        work,
+    );
+    UnitMarking { header, marks }
 }

@@ -50,7 +50,7 @@ pub fn mark(
     let mut targets = [0u64; 8192];
     let mut pairs = [0u32; 16384];
     let mut work = [0u32; 4096];
-    marking::units::mark_unit(
+    let unit = marking::units::mark_unit(
         section,
         abbreviations,
         locations,
@@ -66,7 +66,8 @@ pub fn mark(
         &mut targets,
         &mut pairs,
         &mut work,
-    )
+    );
+    unit.marks
 }
 
 // The marks of the unit of given sections.

@@ -4,7 +4,6 @@ ghost use mathlib.Core.List.{List, []};
 ghost use lib.ListN.{length};
 ghost use Rattle.readers.specs.Choice.{zeros};
 ghost use Rattle.readers.specs.Abbreviations.{Placed};
-ghost use Rattle.readers.specs.Header.{headerOf};
 ghost use Rattle.marking.specs.Analysis.{Sections, Rooms, EntryRow, sections};
 ghost use Rattle.rewriting.specs.Places.{keptFrom};
 ghost use Rattle.rewriting.specs.Rewriting.{Unit as Unit′, Lists, Room, itemsIn, listsOf, noLists, untouched, rewriteOf, collectOf};
@@ -31,7 +30,6 @@ use readers::codes::DW_AT_location;
 use readers::codes::DW_AT_ranges;
 use readers::header::HeaderRead;
 use readers::header::UnitHeader;
-use readers::header::unit_header;
 use readers::header::unit_part;
 use readers::offsets::UnitOffset;
 use readers::tables::clear;
@@ -446,8 +444,8 @@ pub enum Task {
     },
 }
 
-fn task_of(section: &[u8], marks: UnitMarks) -> Task
-    ensures { λ r. ⌜ r ≡ taskOf (headerOf (now (section .entry))) marks ⌝ }
+fn task_of(header: HeaderRead, marks: UnitMarks) -> Task
+    ensures { λ r. ⌜ r ≡ taskOf header marks ⌝ }
 {
     match marks {
         UnitMarks::Refused(n) => Task::Done(Collected::Refused(n)),
@@ -455,7 +453,7 @@ fn task_of(section: &[u8], marks: UnitMarks) -> Task
             if entries == 0 {
                 return Task::Done(nothing());
             }
-            match unit_header(section) {
+            match header {
                 HeaderRead::Unit(header) => Task::Rewrite {
                     header,
                     entries,
@@ -581,7 +579,7 @@ fn collect_unit(
         pairs,
         work,
     );
-    let task = task_of(section, marked);
+    let task = task_of(marked.header, marked.marks);
     collect_marked(
         section,
         task,

@@ -1,5 +1,5 @@
 -- The answers of collect and of its parts: what follows of a refusal, of nothing to do, of an accepted answer. Assumes nothing.
-use mathlib.Core.Path.{_≡_, refl, ap, sym, _∙_, subst}
+use mathlib.Core.Path.{_≡_, refl, ap, ap₂, sym, _∙_, subst}
 use Prim.Native.Nat.{ℕ, _≤_, _<_}
 use native.Mathlib.Omega.{arith}
 use mathlib.Core.Bool.{Bool}
@@ -381,9 +381,9 @@ by-lengths f a map′ ranges′ locations′ strings′ out′ m m₀ r r₀ l l
     (subst (λ (z : ℕ). Answers (f z r l s o) a z r l s o map′ ranges′ locations′ strings′ out′) em h))))
 
 -- the answer for marked tables and cleared outputs
-pub unit-answers : (x : Sections) (tables : Rooms) (t : Bool) (section : List ℕ) (task : Task) (u : UnitMarks) (n p e k m r l s o : ℕ)
+pub unit-answers : (x : Sections) (tables : Rooms) (t : Bool) (section : List ℕ) (task : Task) (h : HeaderRead) (u : UnitMarks) (n p e k m r l s o : ℕ)
     (index parents ends marks map ranges locations strings out map′ ranges′ locations′ strings′ out′ : List ℕ) (a : Answer)
-    → task ≡ taskOf (headerOf section) u → u ≡ unitMarks (analysisOf x section tables)
+    → task ≡ taskOf h u → h ≡ headerOf section → u ≡ unitMarks (analysisOf x section tables)
     → index ≡ indexAfter (x .abbreviations) (headerOf section) n → length index ≡ n
     → parents ≡ column parentsIn p (analysisOf x section tables) → length parents ≡ p
     → length ends ≡ e → tables .entries ≤ e
@@ -393,13 +393,13 @@ pub unit-answers : (x : Sections) (tables : Rooms) (t : Bool) (section : List �
     → ((x′ : Sections) (tables′ : Rooms) → MarkedTables x′ tables′ section task (x .abbreviations) index parents ends marks → Blank map ranges locations strings out
     → Answers (collectOf x′ (roomBy tables′ (length map) (length ranges) (length locations) (length strings) (length out)) t section) a (length map) (length ranges) (length locations) (length strings) (length out) map′ ranges′ locations′ strings′ out′)
     → Answers (collectOf x (roomBy tables m r l s o) t section) a m r l s o map′ ranges′ locations′ strings′ out′
-unit-answers x tables t section task u n p e k m r l s o index parents ends marks map ranges locations strings out map′ ranges′ locations′ strings′ out′ a q uq i il ps pl le en ms ml z₁ l₁ z₂ l₂ z₃ l₃ z₄ l₄ z₅ l₅ f =
+unit-answers x tables t section task h u n p e k m r l s o index parents ends marks map ranges locations strings out map′ ranges′ locations′ strings′ out′ a q hq uq i il ps pl le en ms ml z₁ l₁ z₂ l₂ z₃ l₃ z₄ l₄ z₅ l₅ f =
     by-lengths (λ m r l s o. collectOf x (roomBy tables m r l s o) t section) a map′ ranges′ locations′ strings′ out′
     (length map) m (length ranges) r (length locations) l (length strings) s (length out) o l₁ l₂ l₃ l₄ l₅
     (f x tables
     (record {
       abbreviations-are = refl;
-      task-is = q ∙ ap (taskOf (headerOf section)) uq;
+      task-is = q ∙ ap₂ taskOf hq uq;
       index-is = by-own (indexAfter (x .abbreviations) (headerOf section)) n index i il;
       parents-are = by-own (λ (z : ℕ). column parentsIn z (analysisOf x section tables)) p parents ps pl;
       marks-are = by-own (λ (z : ℕ). column marksIn z (analysisOf x section tables)) k marks ms ml;

@@ -1,112 +1,46 @@
--- `analyse` answers by the unit that is found, or without one. Assumes nothing.
-use mathlib.Core.Path.{sym, _∙_}
-use lib.ListN.{length}
+-- `analyse` reads the header and analyses its unit. Assumes nothing.
+use mathlib.Core.Path.{sym}
 use borrow.Author.Needs.{needs}
-use Rattle.marking.proofs.UnitAnalyses.{rooms-by, unit-ready, section-answered, section-unit}
 use Rattle.marking.proofs.analysis.analyse.Statement.{statement}
 use Rattle.marking.proofs.analysis.analyse.Tie as tie
 
-clear-columns-requires : tie.Need-clear-columns-requires
-clear-columns-requires c κs = tt
+unit-header-requires : tie.Need-unit-header-requires
+unit-header-requires c κs = search needs
 
-find-unit-requires : tie.Need-find-unit-requires
-find-unit-requires c κs = tt
-
-enum-known-answer : tie.Need-enum-known-answer
-enum-known-answer c = search needs
-
-enum-known-h : tie.Need-enum-known-h
-enum-known-h c = search needs
-
-entry-room-requires : tie.Need-entry-room-requires
-entry-room-requires c κs = tt
-
-least-of-requires : tie.Need-least-of-requires
-least-of-requires c κs = tt
-
-analyse-unit-requires : tie.Need-analyse-unit-requires
-analyse-unit-requires c κs =
-    let s : tie.Start = c .before .before .before .before .before .before .before .before .before .before .before .before .before .before .before .before .before .before .before .before .before .before .before .before .before .before .before .before .before .before .before .before .before .before .before .before .before .before .before .before .before .before in
-    let f = c .before .before .before .before .before .before .before .before .before .before .before .before .before .find-unit .ensures in
-    unit-ready _ _ _ _ _
-    (length (s .args .offsets .now)) (length (s .args .parents .now)) (length (s .args .roots .now))
-    (length (s .args .reference-ends .now)) (length (s .args .targets .now)) _ _ _ _ _
-    (sym (c .before .before .before .before .before .before .before .before .before .h .given .1) ∙ f .0) (f .1) (record { rows = c .before .before .before .before .before .before .before .entry-room .ensures; names = c .before .before .before .before .before .least-of .ensures })
-    (c .before .before .before .before .before .before .before .before .before .before .before .before .before .before .before .before .before .before .before .before .before .before .before .before .before .clear-columns .ensures)
+analyse-header-requires : tie.Need-analyse-header-requires
+analyse-header-requires c κs = sym (c .before .before .before .before .before .before .unit-header .ensures)
 
 same-length : tie.Need-same-length
-same-length c = c .before .before .before .before .before .find-unit .kept .1 .1 .0
+same-length c = search needs
 
 same-length-2 : tie.Need-same-length-2
-same-length-2 c = c .before .before .before .before .before .before .before .before .before .before .before .before .before .before .before .before .before .clear-columns .kept .0
+same-length-2 c = search needs
 
 same-length-3 : tie.Need-same-length-3
-same-length-3 c = c .before .before .before .before .before .before .before .before .before .before .before .before .before .before .before .before .before .clear-columns .kept .1 .0
+same-length-3 c = search needs
 
 same-length-4 : tie.Need-same-length-4
-same-length-4 c = c .before .before .before .before .before .before .before .before .before .before .before .before .before .before .before .before .before .clear-columns .kept .1 .1 .0
+same-length-4 c = search needs
 
 same-length-5 : tie.Need-same-length-5
-same-length-5 c = c .before .before .before .before .before .before .before .before .before .before .before .before .before .before .before .before .before .clear-columns .kept .1 .1 .1 .0
+same-length-5 c = search needs
 
 same-length-6 : tie.Need-same-length-6
-same-length-6 c = c .before .before .before .before .before .before .before .before .before .before .before .before .before .before .before .before .before .clear-columns .kept .1 .1 .1 .1 .0
+same-length-6 c = search needs
 
 returns : tie.Need-returns
-returns c =
-    let f = c .before .before .before .before .before .find-unit .ensures in
-    section-answered _ _ _ _ _ _ _ _ _ _ _ _ _ _ _ (f .1) (c .before .before .before .before .before .before .before .before .before .before .before .before .before .before .before .before .before .clear-columns .ensures) _
-    (sym (c .before .answer .given .1) ∙ f .0)
-
-same-length-7 : tie.Need-same-length-7
-same-length-7 c = c .before .before .before .before .before .before .before .before .before .before .before .before .before .before .before .before .before .before .before .before .before .before .before .before .find-unit .kept .1 .1 .0
-
-same-length-8 : tie.Need-same-length-8
-same-length-8 c = c .before .before .before .before .before .before .before .before .before .before .analyse-unit .kept .1 .1 .1 .1 .1 .1 .1 .1 .1 .1 .0 ∙ c .before .before .before .before .before .before .before .before .before .before .before .before .before .before .before .before .before .before .before .before .before .before .before .before .before .before .before .before .before .before .before .before .before .before .before .before .clear-columns .kept .0
-
-same-length-9 : tie.Need-same-length-9
-same-length-9 c = c .before .before .before .before .before .before .before .before .before .before .analyse-unit .kept .1 .1 .1 .1 .1 .1 .1 .1 .1 .1 .1 .0 ∙ c .before .before .before .before .before .before .before .before .before .before .before .before .before .before .before .before .before .before .before .before .before .before .before .before .before .before .before .before .before .before .before .before .before .before .before .before .clear-columns .kept .1 .0
-
-same-length-10 : tie.Need-same-length-10
-same-length-10 c = c .before .before .before .before .before .before .before .before .before .before .analyse-unit .kept .1 .1 .1 .1 .1 .1 .1 .1 .1 .1 .1 .1 .0 ∙ c .before .before .before .before .before .before .before .before .before .before .before .before .before .before .before .before .before .before .before .before .before .before .before .before .before .before .before .before .before .before .before .before .before .before .before .before .clear-columns .kept .1 .1 .0
-
-same-length-11 : tie.Need-same-length-11
-same-length-11 c = c .before .before .before .before .before .before .before .before .before .before .analyse-unit .kept .1 .1 .1 .1 .1 .1 .1 .1 .1 .1 .1 .1 .1 .0 ∙ c .before .before .before .before .before .before .before .before .before .before .before .before .before .before .before .before .before .before .before .before .before .before .before .before .before .before .before .before .before .before .before .before .before .before .before .before .clear-columns .kept .1 .1 .1 .0
-
-same-length-12 : tie.Need-same-length-12
-same-length-12 c = c .before .before .before .before .before .before .before .before .before .before .analyse-unit .kept .1 .1 .1 .1 .1 .1 .1 .1 .1 .1 .1 .1 .1 .1 .0 ∙ c .before .before .before .before .before .before .before .before .before .before .before .before .before .before .before .before .before .before .before .before .before .before .before .before .before .before .before .before .before .before .before .before .before .before .before .before .clear-columns .kept .1 .1 .1 .1 .0
-
-returns-2 : tie.Need-returns-2
-returns-2 c =
-    let f = c .before .before .before .before .before .before .before .before .before .before .before .before .before .before .before .before .before .before .before .before .before .before .before .before .find-unit .ensures in
-    let k = c .before .before .before .before .before .before .before .before .before .before .before .before .before .before .before .before .before .before .before .before .before .before .before .before .before .before .before .before .before .before .before .before .before .before .before .before .clear-columns .kept in
-    section-unit _ _ _ _ _ _ _ _ _ _ _ _ _ _ _ (f .1) _ (sym (c .before .before .before .before .before .before .before .before .before .before .before .before .before .before .before .before .before .before .before .before .h .given .1) ∙ f .0) _ _ _ _ _ _ _
-    (rooms-by (record { rows = c .before .before .before .before .before .before .before .before .before .before .before .before .before .before .before .before .before .before .entry-room .ensures; names = c .before .before .before .before .before .before .before .before .before .before .before .before .before .before .before .before .least-of .ensures })
-    (k .0) (k .1 .0) (k .1 .1 .0) (k .1 .1 .1 .0) (k .1 .1 .1 .1 .0))
-    (k .0) (k .1 .0) (k .1 .1 .0) (k .1 .1 .1 .0) (k .1 .1 .1 .1 .0) (c .before .before .before .before .before .before .before .before .before .before .analyse-unit .ensures)
+returns c = c .before .before .before .before .before .before .before .before .before .before .before .before .analyse-header .ensures
 
 pub analyse-spec : {M : Type 1} → statement M
 analyse-spec =
     tie.close
     (tie.spec
-    clear-columns-requires
-    find-unit-requires
-    enum-known-answer
-    enum-known-h
-    entry-room-requires
-    least-of-requires
-    analyse-unit-requires
+    unit-header-requires
+    analyse-header-requires
     same-length
     same-length-2
     same-length-3
     same-length-4
     same-length-5
     same-length-6
-    returns
-    same-length-7
-    same-length-8
-    same-length-9
-    same-length-10
-    same-length-11
-    same-length-12
-    returns-2)
+    returns)

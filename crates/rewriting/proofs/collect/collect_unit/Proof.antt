@@ -82,8 +82,8 @@ returns : tie.Need-returns
 returns c =
     let m = marks-call c .mark-unit in
     let o = outputs-call c .clear-outputs in
-    unit-answers _ _ _ _ _ _ _ _ _ _ _ _ _ _ _ _ _ _ _ _ _ _ _ _ _ _ _ _ _ _
-    (task-call c .task-of .ensures) (m .ensures .0) (m .ensures .1 .0) (m .kept .1 .1 .1 .1 .1 .1 .0) (m .ensures .1 .1 .1 .0) (m .kept .1 .1 .1 .1 .1 .1 .1 .1 .0)
+    unit-answers _ _ _ _ _ _ _ _ _ _ _ _ _ _ _ _ _ _ _ _ _ _ _ _ _ _ _ _ _ _ _
+    (task-call c .task-of .ensures) (m .ensures .0 .0) (m .ensures .0 .1) (m .ensures .1 .0) (m .kept .1 .1 .1 .1 .1 .1 .0) (m .ensures .1 .1 .1 .0) (m .kept .1 .1 .1 .1 .1 .1 .1 .1 .0)
     (m .kept .1 .1 .1 .1 .1 .1 .1 .1 .1 .1 .0) (ends-enough _ _ _ _ _ _ _) (m .ensures .1 .1 .1 .1 .1 .1 .0) (m .kept .1 .1 .1 .1 .1 .1 .1 .1 .1 .1 .1 .0)
     (o .ensures .0) (o .kept .0)
     (o .ensures .1 .0) (o .kept .1 .0)
