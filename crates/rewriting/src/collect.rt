@@ -24,6 +24,7 @@ use crate::lists::ListCount;
 use crate::offset_pass::place_items;
 use crate::siblings::fill_bounds;
 use marking::analysis::clear_columns;
+use marking::units::UnitMarking;
 use marking::units::UnitMarks;
 use marking::units::mark_unit;
 use readers::codes::DW_AT_location;
@@ -444,9 +445,11 @@ pub enum Task {
     },
 }
 
-fn task_of(header: HeaderRead, marks: UnitMarks) -> Task
-    ensures { λ r. ⌜ r ≡ taskOf header marks ⌝ }
+fn task_of(unit: UnitMarking) -> Task
+    ensures { λ r. ⌜ r ≡ taskOf (unit .header) (unit .marks) ⌝ }
 {
+    let header = unit.header;
+    let marks = unit.marks;
     match marks {
         UnitMarks::Refused(n) => Task::Done(Collected::Refused(n)),
         UnitMarks::Marked { entries, kept } => {
@@ -579,7 +582,7 @@ fn collect_unit(
         pairs,
         work,
     );
-    let task = task_of(marked.header, marked.marks);
+    let task = task_of(marked);
     collect_marked(
         section,
         task,
