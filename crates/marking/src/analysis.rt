@@ -45,6 +45,12 @@ pub enum Analysis {
     Refused(u8),
 }
 
+// The header of a section's first unit, as it was read, and the analysis of its entries.
+pub struct UnitAnalysis {
+    pub header: HeaderRead,
+    pub analysis: Analysis,
+}
+
 // What is to be analysed: a unit whose declarations were checked, or the answer where there is none.
 pub enum UnitFound {
     Unit(UnitHeader),
@@ -424,73 +430,6 @@ fn find_unit(header: HeaderRead, abbreviations: &[u8], index: &mut [u64]) -> Uni
     }
 }
 
-// The analysis of the unit of a header.
-pub(crate) fn analyse_header(
-    section: &[u8],
-    header: HeaderRead,
-    abbreviations: &[u8],
-    locations: &[u8],
-    ranges: &[u8],
-    addresses: &[u8],
-    ranges_base: u64,
-    entries: usize,
-    references: usize,
-    index: &mut [u64],
-    offsets: &mut [u64],
-    parents: &mut [u32],
-    roots: &mut [u8],
-    reference_ends: &mut [u64],
-    targets: &mut [u64],
-) -> Analysis
-    requires { ⌜ headerOf (now section) ≡ header ⌝ }
-    ensures { λ r. ⌜ (
-        let lent = sections (now (abbreviations .entry)) (now (locations .entry)) (now (ranges .entry))
-        (now (addresses .entry)) «ranges_base» in
-        let room = roomsOf entries references (length (now (offsets .entry))) (length (now (parents .entry)))
-        (length (now (roots .entry))) (length (now («reference_ends» .entry))) (length (now (targets .entry))) in
-        let found = analysisOf lent (now (section .entry)) room in
-        (r ≡ answerOf found)
-        × ((now (index .exit)
-        ≡ indexAfter (now (abbreviations .entry)) (headerOf (now (section .entry))) (length (now (index .entry))))
-        × ((now (offsets .exit) ≡ column offsetsIn (length (now (offsets .entry))) found)
-        × ((now (parents .exit) ≡ column parentsIn (length (now (parents .entry))) found)
-        × ((now (roots .exit) ≡ column rootsIn (length (now (roots .entry))) found)
-        × ((now («reference_ends» .exit) ≡ column (endsIn 0) (length (now («reference_ends» .entry))) found)
-        × (now (targets .exit) ≡ column namesIn (length (now (targets .entry))) found))))))
-        ) ⌝ }
-{
-    clear_columns(offsets, parents, roots, reference_ends, targets);
-    match find_unit(header, abbreviations, index) {
-        UnitFound::Answered(answer) => answer,
-        UnitFound::Unit(h) => {
-            let room = entry_room(
-                entries,
-                offsets.len(),
-                parents.len(),
-                roots.len(),
-                reference_ends.len(),
-            );
-            analyse_unit(
-                section,
-                h,
-                abbreviations,
-                index,
-                locations,
-                ranges,
-                addresses,
-                ranges_base,
-                room,
-                least_of(references, targets.len()),
-                offsets,
-                parents,
-                roots,
-                reference_ends,
-                targets,
-            )
-        }
-    }
-}
-
 // The analysis of the first unit of a section, into the columns of an entry table (where each entry starts, its parent,
 // 1 for a root or 0, the number of references up to and with its own) and of a reference table (the offsets that are
 // named). At most so many entries and references, and as many as the shortest column has. The index of the declarations
@@ -511,7 +450,7 @@ pub fn analyse(
     roots: &mut [u8],
     reference_ends: &mut [u64],
     targets: &mut [u64],
-) -> Analysis
+) -> UnitAnalysis
     ensures { λ r. ⌜ (
         let lent = sections (now (abbreviations .entry)) (now (locations .entry)) (now (ranges .entry))
         (now (addresses .entry)) «ranges_base» in
@@ -519,7 +458,7 @@ pub fn analyse(
         (length (now (roots .entry))) (length (now («reference_ends» .entry))) (length (now (targets .entry))) in
         let found = analysisOf lent (now (section .entry)) room in
         let header = headerOf (now (section .entry)) in
-        (r ≡ answerOf found)
+        ((r .header ≡ header) × (r .analysis ≡ answerOf found))
         × ((now (index .exit) ≡ indexAfter (now (abbreviations .entry)) header (length (now (index .entry))))
         × ((now (offsets .exit) ≡ column offsetsIn (length (now (offsets .entry))) found)
         × ((now (parents .exit) ≡ column parentsIn (length (now (parents .entry))) found)
@@ -528,21 +467,36 @@ pub fn analyse(
         × (now (targets .exit) ≡ column namesIn (length (now (targets .entry))) found))))))
         ) ⌝ }
 {
-    analyse_header(
-        section,
-        unit_header(section),
-        abbreviations,
-        locations,
-        ranges,
-        addresses,
-        ranges_base,
-        entries,
-        references,
-        index,
-        offsets,
-        parents,
-        roots,
-        reference_ends,
-        targets,
-    )
+    let header = unit_header(section);
+    clear_columns(offsets, parents, roots, reference_ends, targets);
+    match find_unit(header, abbreviations, index) {
+        UnitFound::Answered(analysis) => UnitAnalysis { header, analysis },
+        UnitFound::Unit(h) => {
+            let room = entry_room(
+                entries,
+                offsets.len(),
+                parents.len(),
+                roots.len(),
+                reference_ends.len(),
+            );
+            let analysis = analyse_unit(
+                section,
+                h,
+                abbreviations,
+                index,
+                locations,
+                ranges,
+                addresses,
+                ranges_base,
+                room,
+                least_of(references, targets.len()),
+                offsets,
+                parents,
+                roots,
+                reference_ends,
+                targets,
+            );
+            UnitAnalysis { header, analysis }
+        }
+    }
 }

@@ -11,11 +11,10 @@ ghost use Rattle.marking.specs.Columns.{indexAfter};
 ghost use Rattle.marking.specs.Resolution.{entryFrom, pairsOfEntry, pairsIn, marksIn, unitMarks};
 ghost use Rattle.marking.specs.inner.Resolution.{asEntry, Searched, ResolveInput, ReferenceColumns, Resolvable, UnitColumns, Markable};
 use crate::analysis::Analysis;
-use crate::analysis::analyse_header;
+use crate::analysis::analyse;
 use crate::marks::Marked;
 use crate::marks::mark_with;
 use readers::header::HeaderRead;
-use readers::header::unit_header;
 use readers::offsets::EntryIndex;
 use readers::offsets::UnitOffset;
 use readers::tables::clear_bytes;
@@ -173,86 +172,6 @@ fn mark_rows(
     }
 }
 
-// The marks of the unit of a header.
-fn mark_header(
-    section: &[u8],
-    header: HeaderRead,
-    abbreviations: &[u8],
-    locations: &[u8],
-    ranges: &[u8],
-    addresses: &[u8],
-    ranges_base: u64,
-    index: &mut [u64],
-    offsets: &mut [u64],
-    parents: &mut [u32],
-    roots: &mut [u8],
-    reference_ends: &mut [u64],
-    marks: &mut [u8],
-    targets: &mut [u64],
-    pairs: &mut [u32],
-    work: &mut [u32],
-) -> UnitMarks
-    requires { ⌜ headerOf (now section) ≡ header ⌝ }
-    ensures { λ r. ⌜ (
-        let lent = sections (now (abbreviations .entry)) (now (locations .entry)) (now (ranges .entry))
-        (now (addresses .entry)) «ranges_base» in
-        let room = unitRooms (length (now (marks .entry))) (length (now (pairs .entry)))
-        (length (now (offsets .entry))) (length (now (parents .entry))) (length (now (roots .entry)))
-        (length (now («reference_ends» .entry))) (length (now (targets .entry))) in
-        let found = analysisOf lent (now (section .entry)) room in
-        (r ≡ unitMarks found)
-        × ((now (index .exit)
-        ≡ indexAfter (now (abbreviations .entry)) (headerOf (now (section .entry))) (length (now (index .entry))))
-        × ((now (offsets .exit) ≡ column offsetsIn (length (now (offsets .entry))) found)
-        × ((now (parents .exit) ≡ column parentsIn (length (now (parents .entry))) found)
-        × ((now (roots .exit) ≡ column rootsIn (length (now (roots .entry))) found)
-        × ((now («reference_ends» .exit) ≡ column (endsIn 0) (length (now («reference_ends» .entry))) found)
-        × ((now (marks .exit) ≡ column marksIn (length (now (marks .entry))) found)
-        × ((now (targets .exit) ≡ column namesIn (length (now (targets .entry))) found)
-        × ((now (pairs .exit) ≡ column pairsIn (length (now (pairs .entry))) found)
-        × (now (work .exit) ≡ zeros (length (now (work .entry))))))))))))
-        ) ⌝ }
-{
-    clear_indexes(pairs);
-    clear_bytes(marks);
-    clear_indexes(work);
-    match analyse_header(
-        section,
-        header,
-        abbreviations,
-        locations,
-        ranges,
-        addresses,
-        ranges_base,
-        marks.len(),
-        pairs.len() / 2,
-        index,
-        offsets,
-        parents,
-        roots,
-        reference_ends,
-        targets,
-    ) {
-        Analysis::Refused(n) => UnitMarks::Refused(n),
-        Analysis::Entries {
-            entries,
-            references: _,
-        } => {
-            mark_rows(
-                offsets,
-                parents,
-                roots,
-                reference_ends,
-                entries,
-                marks,
-                targets,
-                pairs,
-                work,
-            )
-        }
-    }
-}
-
 // Marks the entries of the first unit of a section: 1 dead, 2 retained, 3 live. The columns are those of `analyse`,
 // with the marks among those of the entry table and the pairs among those of the reference table, two numbers each. A
 // refusal is the analysis's, and leaves zeros. The work column is scratch, zeros on every answer; its length, best two
@@ -294,24 +213,51 @@ pub fn mark_unit(
         × (now (work .exit) ≡ zeros (length (now (work .entry))))))))))))
         ) ⌝ }
 {
-    let header = unit_header(section);
-    let marks = mark_header(
+    clear_indexes(pairs);
+    clear_bytes(marks);
+    clear_indexes(work);
+    let unit = analyse(
         section,
-        header,
         abbreviations,
         locations,
         ranges,
         addresses,
         ranges_base,
+        marks.len(),
+        pairs.len() / 2,
         index,
         offsets,
         parents,
         roots,
         reference_ends,
-        marks,
         targets,
-        pairs,
-        work,
     );
-    UnitMarking { header, marks }
+    let header = unit.header;
+    let analysis = unit.analysis;
+    match analysis {
+        Analysis::Refused(n) => UnitMarking {
+            header,
+            marks: UnitMarks::Refused(n),
+        },
+        Analysis::Entries {
+            entries,
+            references: _,
+        } => {
+            let answer = mark_rows(
+                offsets,
+                parents,
+                roots,
+                reference_ends,
+                entries,
+                marks,
+                targets,
+                pairs,
+                work,
+            );
+            UnitMarking {
+                header,
+                marks: answer,
+            }
+        }
+    }
 }
