@@ -13,7 +13,8 @@ use mir.Facts.{eqb-yes, yes-eqb, no-eqb}
 use Rattle.readers.proofs.Choice.{pick-either, pick-yes, pick-no}
 use Rattle.marking.specs.Marks.{isKept}
 use Rattle.readers.specs.Stream.{Item, entry, terminator}
-use Rattle.rewriting.specs.Places.{NestedItem, Place, opened, closed, innermost, withIf, keptFrom, offsetOf, sizeOf, placesFrom, sizeFrom, newOf, oldOffsets}
+use Rattle.readers.specs.Nesting.{opened, closed}
+use Rattle.rewriting.specs.Places.{NestedItem, Place, innermost, withIf, keptFrom, offsetOf, sizeOf, placesFrom, sizeFrom, newOf, oldOffsets}
 use Rattle.rewriting.specs.Rewriting.{isSome}
 use Rattle.marking.specs.Resolution.{Ascending as From}
 use Rattle.marking.specs.Members.{Member, here, there}

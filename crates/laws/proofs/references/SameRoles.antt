@@ -18,7 +18,7 @@ use Rattle.readers.specs.Expression.{expressionIn}
 use Rattle.readers.specs.Entries.{entryLayout, stepAt}
 use Rattle.readers.specs.Abbreviations.{Placed, declaredIn, abbreviationsOf}
 use Rattle.readers.specs.Header.{headerOf}
-use Rattle.readers.specs.Nesting.{open′, close}
+use Rattle.readers.specs.Nesting.{opened, closed}
 use Rattle.readers.specs.Stream.{Item, entry, terminator, itemsFrom}
 use Rattle.readers.specs.declared.attributes.Attribute.{Attribute}
 use Rattle.readers.specs.declared.entries.Entry.{Entry}
@@ -378,13 +378,13 @@ module _ (x : Sections) (u : Unit′) where
   unfolding RowsOf EveryItem Stands JudgedStep
   items-roles k stack rb lb [] rows f s y m = absurd (nothing-in (entry y) m)
   items-roles k stack rb lb (terminator a b ∷ rest) rows f s y (here q) = let z : _≡_ {A = ℕ} 0 1 = cc in absurd (omega arith)
-  items-roles k stack rb lb (terminator a b ∷ rest) rows f s y (there m) = items-roles k (close stack) rb lb rest rows f (s .1) y m
+  items-roles k stack rb lb (terminator a b ∷ rest) rows f s y (there m) = items-roles k (closed stack) rb lb rest rows f (s .1) y m
   items-roles k stack rb lb (entry w ∷ rest) [] f s y m = absurd f
   items-roles k stack rb lb (entry w ∷ rest) (r ∷ rows) f s y (here q) =
       let z : w ≡ y = (let p : entry y ≡ entry w = q in cc) in
       subst (SameRoles x u) z (judged-roles w (s .0) (record { base = locationBase lb w; names = r .names; names-are = f .0 .names-are }))
   items-roles k stack rb lb (entry w ∷ rest) (r ∷ rows) f s y (there m) =
-      items-roles (suc k) (open′ (w .declaration .children) k stack) (rangeBase rb w) (locationBase lb w) rest rows (f .1) (s .1) y m
+      items-roles (suc k) (opened (w .declaration .children) k stack) (rangeBase rb w) (locationBase lb w) rest rows (f .1) (s .1) y m
 
 -- ---- of an accepted unit
 

@@ -25,11 +25,12 @@ use Rattle.readers.specs.declared.header.UnitHeader.{UnitHeader}
 use Rattle.readers.specs.declared.header.HeaderRead.{HeaderRead}
 use Rattle.readers.specs.declared.header.HeaderRead.the-variants.{Unit as Header′, Empty, Refused}
 use Rattle.readers.specs.Header.{headerOf}
+use Rattle.readers.specs.Nesting.{opened, closed}
 use Rattle.marking.specs.Marks.{isKept, keptCount}
 use Rattle.marking.specs.Analysis.{Sections, Rooms, EntryRow, Analysed, analysed, refused as notAnalysed, analysisOf}
 use Rattle.marking.specs.Resolution.{marksIn, Ascending as From}
 use Rattle.marking.specs.Columns.{padTo}
-use Rattle.rewriting.specs.Places.{NestedItem, opened, closed, innermost, withIf, keptFrom, offsetOf, sizeOf, Place, placesFrom, sizeFrom, oldOffsets}
+use Rattle.rewriting.specs.Places.{NestedItem, innermost, withIf, keptFrom, offsetOf, sizeOf, Place, placesFrom, sizeFrom, oldOffsets}
 use Rattle.rewriting.specs.Indices.{countOf}
 use Rattle.rewriting.specs.Ascending.{Ascending}
 use Rattle.marking.specs.Members.{Member, here, there, Nth, now, later}
@@ -160,7 +161,8 @@ present-reads size (some xs) r h = list-reads size xs r (h xs refl)
 
 length-opened : (b k : Bool) (stack : List Bool) → length (opened b k stack) ≤ suc (length stack)
 unfolding opened
-length-opened b k stack = pick-either (λ (l : List Bool). length l ≤ suc (length stack)) b (k ∷ stack) stack (λ _. let z : suc (length stack) ≤ suc (length stack) = omega arith in z) (λ _. omega arith)
+length-opened true k stack = omega arith
+length-opened false k stack = omega arith
 
 length-closed : (stack : List Bool) → length (closed stack) ≤ length stack
 unfolding closed

@@ -19,8 +19,9 @@ use Rattle.marking.specs.Columns.{padTo, parentsIn}
 use Rattle.marking.proofs.Rows.{unit-rows}
 use Rattle.marking.specs.Marks.{isKept, keptCount}
 use Rattle.marking.specs.Resolution.{marksIn}
-use Rattle.rewriting.specs.Places.{NestedItem, withIf, opened, closed, innermost, keptFrom}
+use Rattle.rewriting.specs.Places.{NestedItem, withIf, innermost, keptFrom}
 use Rattle.readers.specs.Stream.{entryCount}
+use Rattle.readers.specs.Nesting.{opened, closed}
 use Rattle.rewriting.specs.inner.Parents.{parentsFrom, HoldsFrom}
 use Rattle.rewriting.specs.inner.Ends.{EndsHeld}
 use Rattle.rewriting.specs.inner.NextKept.{itemsBy}
