@@ -25,7 +25,7 @@ use Rattle.marking.specs.Members.{Member, here, there}
 use Rattle.rewriting.specs.Rewriting.{Unit as Unit′, itemsIn, readsOr, readsAt, Room, unitOf}
 use Rattle.laws.specs.SameReferences.{RoleReference, valuesIn, baseAt, SameReferences, RowsReferences, RowReferences, UnitReferences}
 use Rattle.marking.proofs.Members.{nothing-in}
-use Rattle.laws.proofs.references.EntryReads.{StepBy}
+use Rattle.rewriting.proofs.kept_pass.EntryReads.{StepBy}
 use Rattle.laws.proofs.references.NamedPieces.{readsNames, reads-members}
 use Rattle.laws.proofs.references.EntryNames.{valuesNames, StepNames, deep-names}
 use Rattle.laws.proofs.references.ListedNames.{in-attributes, in-values}

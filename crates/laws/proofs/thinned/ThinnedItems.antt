@@ -11,7 +11,7 @@ use lib.ListN.{length, drop}
 use lib.Dec.{T, eqb, leb}
 use mir.Facts.{eqb-yes, leb-yes, leb-no, yes-leb}
 use Rattle.readers.specs.Choice.{pick, _and_}
-use Rattle.readers.proofs.Choice.{pick-either}
+use Rattle.readers.proofs.Choice.{pick-either, and-both}
 use Rattle.readers.specs.Nesting.{opened, closed}
 use Rattle.readers.specs.Stream.{Item, entry, terminator}
 use Rattle.readers.specs.declared.entries.Entry.{Entry}
@@ -170,11 +170,6 @@ unfolding _and_
 not-and true b h t = h
 not-and false b h t = absurd t
 
-both-tests : (a b : Bool) → T (a and b) → T a × T b
-unfolding _and_
-both-tests true b h = (tt, h)
-both-tests false b h = absurd h
-
 -- before v, or deeper
 not-both : (v o d depth : ℕ) → T (not (leb v o and leb d depth)) → v ≤ o → depth < d
 not-both v o d depth h l = leb-no {a = d} {b = depth} (not-and (leb v o) (leb d depth) h (yes-leb {a = v} {b = o} l))
@@ -207,7 +202,7 @@ first-by first (t ∷ kept) depth v n =
     pick-either (λ (o : Option ℕ). o ≡ some n → FirstFound first (t ∷ kept) depth v n) (leb v (offsetOf (t .item)) and leb (t .depth) depth) (some first)
     (firstFrom (placesFrom (first + sizeOf (t .item)) kept) depth v)
     (λ y e.
-    let b = both-tests (leb v (offsetOf (t .item))) (leb (t .depth) depth) y in
+    let b = and-both (leb v (offsetOf (t .item))) (leb (t .depth) depth) y in
     record {
       m = 0;
       s = t;

@@ -10,7 +10,7 @@ use lib.Dec.{T, ltb}
 use lib.Pow.{areBytes}
 use mir.Facts.{yes-ltb, ltb-yes, leb-yes, and-yes, yes-and}
 use Rattle.readers.specs.Choice.{_and_}
-use Rattle.readers.proofs.Choice.{pick-either, All, all-some, all-none, all-check, all-bind, all-both, all-triv}
+use Rattle.readers.proofs.Choice.{pick-either, All, all-some, all-none, all-check, all-bind, all-both, all-triv, and-both}
 use Rattle.readers.specs.Numbers.{Groups, groups, uleb, unsigned64, sleb, fixedValue, fixedBytes}
 use Rattle.readers.proofs.Numbers.{GroupsLaw, groups-law, ExactGroups, groups-exact, fixed-bytes}
 use Rattle.readers.specs.Layout.{Kind, fixed, leb128, Role, reference, typeReference, sibling, index, absolute, Token, nothing, number, bounded, forms, signed, link, string, run, block, expression, unknown, Layout, done, fail, field, Piece, verbatim, patchable, Read, ReadOf, RunOf, ExpressionReader, ReadFound, asLeb, copy, asNumber, asLink, asBounded, asForms, asSigned, asString, asBlock, asExpression, numberIn, formsIn, stringIn, tokenIn, readIn, before, numberBytes, pieceBytes, bytesOf, writeAll, Fit}
@@ -212,11 +212,6 @@ module _ (ok : Role → Bool) (e : Encoding) where
   unfoldable rowsOk : List OperandRow → Bool
   rowsOk [] = true
   rowsOk (r ∷ rs) = useOk ok (r .firstUse) and (useOk ok (r .secondUse) and rowsOk rs)
-
-  and-both : (a b : Bool) → T (a and b) → T a × T b
-  unfolding _and_
-  and-both true b h = (tt, h)
-  and-both false b h = absurd h
 
   row-among : (rs : List OperandRow) (l : ℕ) → T (rowsOk rs) → T (useOk ok (getD rs l unreadableRow .firstUse)) × T (useOk ok (getD rs l unreadableRow .secondUse))
   unfolding rowsOk unreadableRow useOk
