@@ -5,7 +5,7 @@ use mathlib.Core.List.{List}
 use mathlib.Core.Option.{Option, none, some}
 use lib.ListN.{length}
 use Rattle.readers.specs.Choice.{zeros}
-use Rattle.marking.specs.Analysis.{Rooms, rooms}
+use Rattle.marking.specs.Analysis.{Rooms}
 use Rattle.marking.specs.Columns.{padTo, unitRooms}
 use Rattle.rewriting.specs.Written.{listBytes, mapBytes}
 use Rattle.rewriting.specs.Rewriting.{Lists, Room, Collected, untouched, rewritten, refused}
@@ -26,10 +26,6 @@ roomBy tables map ranges locations strings out =
       places = map / 12;
       bytes = out;
     }
-
--- the same for index lists alone
-abbrev pub listRoom : ℕ → ℕ → ℕ → Room
-listRoom ranges locations strings = roomBy (rooms 0 0) 0 ranges locations strings 0
 
 -- what a call has room for: entries and references by their tables' shortest column
 abbrev pub roomOf : ℕ → ℕ → ℕ → ℕ → ℕ → ℕ → ℕ → ℕ → ℕ → ℕ → ℕ → ℕ → Room

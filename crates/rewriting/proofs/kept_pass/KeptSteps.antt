@@ -76,7 +76,7 @@ open-length marks (k ∷ stack) = ap suc (open-length marks stack)
 
 open-opened : (marks : List ℕ) (children : Bool) (k : ℕ) (stack : List ℕ)
     → opened children (isKept marks k) (openKept marks stack) ≡ openKept marks (opened children k stack)
-unfolding openKept opened pick
+unfolding openKept opened
 open-opened marks true k stack = refl
 open-opened marks false k stack = refl
 

@@ -20,8 +20,8 @@ use Rattle.rewriting.specs.Written.{runBytes}
 use Rattle.rewriting.specs.inner.Written.{ListHeld}
 use Rattle.rewriting.specs.inner.IndexLists.{PassInput, Listing, isAbsent, ListAnswer, Settles}
 use Rattle.rewriting.specs.inner.Emission.{Lent}
-use Rattle.rewriting.specs.Outputs.{listRoom, listCount, listOr, rangesIn, locationsIn, stringsIn}
-use Rattle.rewriting.specs.inner.Leaving.{ListsAnswer}
+use Rattle.rewriting.specs.Outputs.{listCount, listOr, rangesIn, locationsIn, stringsIn}
+use Rattle.rewriting.specs.inner.Leaving.{listRoom, ListsAnswer}
 use Rattle.rewriting.specs.declared.kept_items.Reading.{Reading}
 use Rattle.rewriting.specs.declared.lists.ListCount.{ListCount}
 use Rattle.rewriting.specs.declared.lists.ListCount.the-variants.{Absent}

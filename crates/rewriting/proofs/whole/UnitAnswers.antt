@@ -28,8 +28,8 @@ use Rattle.rewriting.specs.inner.NextKept.{itemsBy}
 use Rattle.rewriting.specs.Rewriting.{Unit as Unit′, unitOf, Lists, Room, Collected, untouched, refused, itemsIn, listsOf, listsFit, orRefused, rewriteOf, marksCollected}
 use Rattle.rewriting.specs.inner.IndexLists.{ReadAs, TablesFound, PassInput}
 use Rattle.rewriting.specs.inner.Emission.{ListsLent}
-use Rattle.rewriting.specs.Outputs.{roomBy, listRoom, listCount, answerFor, mapFor, outputFor, listOr, listFor, rangesIn, locationsIn, stringsIn}
-use Rattle.rewriting.specs.inner.Leaving.{Accepts, Answers, Tabled, Blank, markedOf, ListsAnswer, Writable, WriteAnswer}
+use Rattle.rewriting.specs.Outputs.{roomBy, listCount, answerFor, mapFor, outputFor, listOr, listFor, rangesIn, locationsIn, stringsIn}
+use Rattle.rewriting.specs.inner.Leaving.{Accepts, Answers, Tabled, Blank, markedOf, listRoom, ListsAnswer, Writable, WriteAnswer}
 use Rattle.rewriting.specs.declared.kept_items.Reading.{Reading}
 use Rattle.rewriting.specs.declared.lists.ListCount.{ListCount}
 use Rattle.rewriting.specs.declared.collect.Listed.{Listed}

@@ -30,7 +30,7 @@ use Rattle.marking.specs.EntryReferences.{partOf}
 use Rattle.rewriting.specs.Places.{Place, newOf, siblingOf}
 use Rattle.rewriting.specs.Indices.{rankOr}
 use Rattle.rewriting.specs.inner.Written.{asMapped}
-use Rattle.rewriting.specs.Rewriting.{Lists, newValue, hasPlace, pieceRefusal, piecesRefusal, readsRefusal, orNext, orSelf, isSome, listAt}
+use Rattle.rewriting.specs.Rewriting.{Lists, newValue, hasPlace, pieceRefusal, piecesRefusal, readsRefusal, orNext, orSelf, listAt}
 use Rattle.rewriting.specs.Emission.{between}
 use Rattle.rewriting.specs.inner.Emission.{Wide, numberRefusal, offsetRefusal, lebForm}
 use Rattle.rewriting.specs.declared.emit_entry.Emitted.{Emitted}

@@ -12,7 +12,7 @@ use Rattle.readers.specs.Header.{headerOf}
 use Rattle.readers.specs.declared.header.UnitHeader.{UnitHeader}
 use Rattle.readers.specs.declared.header.HeaderRead.{HeaderRead}
 use Rattle.readers.specs.declared.header.HeaderRead.the-variants.{Unit as Header′, Empty, Refused as NoHeader}
-use Rattle.marking.specs.Analysis.{Sections, Rooms, EntryRow, analysed, analysisOf}
+use Rattle.marking.specs.Analysis.{Sections, Rooms, rooms, EntryRow, analysed, analysisOf}
 use Rattle.marking.specs.Columns.{padTo, column, parentsIn, indexAfter}
 use Rattle.marking.specs.Marks.{keptCount}
 use Rattle.marking.specs.Resolution.{marksIn, unitMarks}
@@ -22,7 +22,7 @@ use Rattle.rewriting.specs.Places.{keptFrom}
 use Rattle.rewriting.specs.Rewriting.{Unit as Unit′, itemsIn, Lists, Room, noLists, listsFit, marksCollected}
 use Rattle.rewriting.specs.Rewriting.{Collected, untouched, rewritten, refused}
 use Rattle.rewriting.specs.inner.Emission.{ListsLent}
-use Rattle.rewriting.specs.Outputs.{listRoom, listCount, answerFor, mapFor, outputFor, listOr, listFor, rangesIn, locationsIn, stringsIn}
+use Rattle.rewriting.specs.Outputs.{roomBy, listCount, answerFor, mapFor, outputFor, listOr, listFor, rangesIn, locationsIn, stringsIn}
 use Rattle.rewriting.specs.declared.collect.Listed.{Listed}
 use Rattle.rewriting.specs.declared.collect.Listed.the-variants.{Made, Short}
 use Rattle.rewriting.specs.declared.collect.Collected.{Collected as Answer}
@@ -104,6 +104,10 @@ abbrev pub markedOf : Sections → Room → Bool → Unit′ → List EntryRow �
 markedOf x room typeUnits u rows = marksCollected x room typeUnits u (marksIn rows) (keptFrom (marksIn rows) 0 [] (itemsIn x u))
 
 -- ---- its lists
+
+-- what there is room for, by the lengths of the lists' slices
+abbrev pub listRoom : ℕ → ℕ → ℕ → Room
+listRoom ranges locations strings = roomBy (rooms 0 0) 0 ranges locations strings 0
 
 pub record ListsAnswer (l : Lists) (ranges locations strings : ℕ) (r : Listed) (ranges′ locations′ strings′ : List ℕ) : Type 0 where
   pub short : listsFit (listRoom ranges locations strings) l ≡ false → r ≡ Short
