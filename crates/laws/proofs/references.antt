@@ -6,4 +6,3 @@ pub mod SameReferences
 pub mod EntryRoles
 pub mod SameRoles
 pub mod Yields
-pub mod EntryReads

@@ -5,7 +5,8 @@ use mathlib.Core.List.{List, [], _∷_}
 use lib.ListN.{length}
 use Rattle.marking.specs.Marks.{isKept}
 use Rattle.readers.specs.Stream.{Item, entry, terminator}
-use Rattle.rewriting.specs.Places.{NestedItem, opened, closed, innermost, withIf, sizeOf}
+use Rattle.readers.specs.Nesting.{opened, closed}
+use Rattle.rewriting.specs.Places.{NestedItem, innermost, withIf, sizeOf}
 
 unfoldable pub leftFrom : List ℕ → ℕ → List Bool → List Item → List NestedItem
 leftFrom marks k stack [] = []

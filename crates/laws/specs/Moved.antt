@@ -3,7 +3,7 @@ use Prim.Native.Nat.{ℕ, suc, _+_, _-_}
 use mathlib.Core.List.{List, [], _∷_}
 use lib.ListN.{length}
 use Rattle.readers.specs.Cursors.{cursor}
-use Rattle.readers.specs.Nesting.{open′, close}
+use Rattle.readers.specs.Nesting.{opened, closed}
 use Rattle.readers.specs.declared.entries.Entry.{Entry}
 use Rattle.readers.specs.Stream.{Item, entry, terminator}
 
@@ -25,5 +25,5 @@ movedItem n (terminator a b) = terminator n (n + (b - a))
 -- how many entries are open around each item (DWARF 5, 2.3), from entry number k on, given the open ones
 unfoldable pub depthsFrom : ℕ → List ℕ → List Item → List ℕ
 depthsFrom k stack [] = []
-depthsFrom k stack (entry x ∷ rest) = length stack ∷ depthsFrom (suc k) (open′ (x .declaration .children) k stack) rest
-depthsFrom k stack (terminator a b ∷ rest) = length stack ∷ depthsFrom k (close stack) rest
+depthsFrom k stack (entry x ∷ rest) = length stack ∷ depthsFrom (suc k) (opened (x .declaration .children) k stack) rest
+depthsFrom k stack (terminator a b ∷ rest) = length stack ∷ depthsFrom k (closed stack) rest

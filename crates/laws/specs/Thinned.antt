@@ -13,7 +13,7 @@ use Rattle.readers.specs.Expression.{expressionIn}
 use Rattle.readers.specs.Abbreviations.{Placed, declaredIn, abbreviationsOf}
 use Rattle.readers.specs.Entries.{entryLayout}
 use Rattle.readers.specs.Header.{headerOf}
-use Rattle.readers.specs.Nesting.{open′}
+use Rattle.readers.specs.Nesting.{opened}
 use Rattle.readers.specs.Stream.{Item, entry, terminator, itemsFrom}
 use Rattle.readers.specs.declared.entries.Entry.{Entry}
 use Rattle.readers.specs.declared.header.UnitHeader.{UnitHeader}
@@ -57,10 +57,10 @@ module _ (S : ℕ → Type 0) where
   pub data Parted : ℕ → List ℕ → List Item → List NestedItem → List NestedItem → Type 0 where
     ended : {k : ℕ} {stack : List ℕ} → Parted k stack [] [] []
     kept-entry : {k : ℕ} {stack : List ℕ} {y : Entry} {rest : List Item} {kept left : List NestedItem} → S k
-        → Parted (suc k) (open′ (y .declaration .children) k stack) rest kept left
+        → Parted (suc k) (opened (y .declaration .children) k stack) rest kept left
         → Parted k stack (entry y ∷ rest) (inside stack (entry y) ∷ kept) left
     left-entry : {k : ℕ} {stack : List ℕ} {y : Entry} {rest : List Item} {kept left : List NestedItem} → (S k → ⊥)
-        → Parted (suc k) (open′ (y .declaration .children) k stack) rest kept left
+        → Parted (suc k) (opened (y .declaration .children) k stack) rest kept left
         → Parted k stack (entry y ∷ rest) kept (inside stack (entry y) ∷ left)
     kept-terminator : {k p a b : ℕ} {stack : List ℕ} {rest : List Item} {kept left : List NestedItem} → S p
         → Parted k stack rest kept left

@@ -9,7 +9,7 @@ use borrow.Author.Tests.{lt-ltb, le-ltb, eq-eqb, ne-eqb, eqb-true, lt-leb, le-le
 use Rattle.readers.specs.Choice.{pick, _and_, _or_}
 use Rattle.marking.specs.Below.{every}
 use Rattle.marking.specs.Graph.{Graph, graph, size, noParent, references, parentFits, pairFits, rootFits, wellFormed, takes}
-use Rattle.marking.specs.Marks.{isKept, keptCount, marksOf, endMarks, answerOf}
+use Rattle.marking.specs.Marks.{isKept, keptCount, marksOf, endMarks, markAnswer}
 use Rattle.marking.specs.inner.Passes.{sum, Sound, Settled, ParentsFit, PairsFit, endFirst}
 use Rattle.marking.specs.declared.marks.Marked.the-variants.{Kept, Refused}
 use Rattle.marking.proofs.Tests.{and-out, and-in, or-inl, or-inr}
@@ -109,8 +109,8 @@ sound-sum g m s = omega (arith, sum-three m (s .most), s .long)
 
 -- ---- what `mark` ensures
 
-pub refused-answer : (g : Graph) (n : ℕ) → takes g n ≡ false → Refused 16 ≡ answerOf g n
-unfolding answerOf pick
+pub refused-answer : (g : Graph) (n : ℕ) → takes g n ≡ false → Refused 16 ≡ markAnswer g n
+unfolding markAnswer pick
 refused-answer g n e = rw e
 
 pub refused-marks : (g : Graph) (n : ℕ) (m : List ℕ) → takes g n ≡ false → m ≡ replicate n 0 → m ≡ endMarks g n
@@ -125,6 +125,6 @@ module _ (g : Graph) (n : ℕ) (m m′ : List ℕ) (t : takes g n ≡ true) (s :
   unfolding endMarks pick
   marked-marks = rw t made
 
-  pub marked-answer : (k : ℕ) → k ≡ keptCount m′ → Kept k ≡ answerOf g n
-  unfolding answerOf pick
+  pub marked-answer : (k : ℕ) → k ≡ keptCount m′ → Kept k ≡ markAnswer g n
+  unfolding markAnswer pick
   marked-answer k h = rw t (ap Kept (h ∙ ap keptCount made))

@@ -8,7 +8,7 @@ use mathlib.Core.Logic.{inl, inr}
 use lib.ListN.{length, take}
 use lib.Dec.{ltb, leb}
 use Rattle.readers.proofs.Choice.{pick-either}
-use Rattle.readers.specs.Nesting.{open′, close, top}
+use Rattle.readers.specs.Nesting.{opened, closed, top}
 use Rattle.readers.specs.Abbreviations.{Placed, abbreviationsOf}
 use Rattle.readers.specs.Header.{headerOf}
 use Rattle.readers.specs.Stream.{Item, entry, terminator}
@@ -44,13 +44,13 @@ module _ (e : Encoding) (x : Sections) (unit : List ℕ) where
   right-end k stack rb lb = (refl, refl)
 
   right-onto : (whole : Bool) (k : ℕ) (stack : List ℕ) (rb lb : ℕ) (y : Entry) (rest : List Item) (r : EntryRow) (rows : List EntryRow) → RowOf e x unit stack rb lb y r
-      → Right whole (suc k) (open′ (y .declaration .children) k stack) (baseOf e x unit 0x74 rb y) (baseOf e x unit 0x8c lb y) rest rows
+      → Right whole (suc k) (opened (y .declaration .children) k stack) (baseOf e x unit 0x74 rb y) (baseOf e x unit 0x8c lb y) rest rows
       → Right whole k stack rb lb (entry y ∷ rest) (r ∷ rows)
   unfolding RowsOf
   right-onto whole k stack rb lb y rest r rows q f = (f .0, (q, f .1))
 
   right-close : (whole : Bool) (k : ℕ) (stack : List ℕ) (rb lb a b : ℕ) (rest : List Item) (rows : List EntryRow)
-      → Right whole k (close stack) rb lb rest rows → Right whole k stack rb lb (terminator a b ∷ rest) rows
+      → Right whole k (closed stack) rb lb rest rows → Right whole k stack rb lb (terminator a b ∷ rest) rows
   unfolding RowsOf
   right-close whole k stack rb lb a b rest rows f = f
 
@@ -63,7 +63,7 @@ module _ (e : Encoding) (x : Sections) (unit : List ℕ) where
     follows p [] true = right-end (p .count) (p .stack) (p .rnglistsBase) (p .loclistsBase)
     follows p [] false = gives-refused _ 4
     follows p (terminator a b ∷ rest) whole =
-        let n : Reached = reached (p .count) (p .references) (close (p .stack)) (p .rnglistsBase) (p .loclistsBase) in
+        let n : Reached = reached (p .count) (p .references) (closed (p .stack)) (p .rnglistsBase) (p .loclistsBase) in
         gives-map (RightFrom n whole rest) (RightFrom p whole (terminator a b ∷ rest)) _
         (λ rows f. right-close whole (p .count) (p .stack) (p .rnglistsBase) (p .loclistsBase) a b rest rows f)
         (follows n rest whole)
@@ -75,11 +75,11 @@ module _ (e : Encoding) (x : Sections) (unit : List ℕ) where
         (λ few. gives-root P (rootOf e x unit rb y) _
         (λ root is-root. gives-names P (namesOf e x unit lb y) _
         (λ names q. pick-either (Gives P) (leb (p .references + length names) (room .references)) _ _
-        (λ less. gives-onto P (Right whole (suc (p .count)) (open′ (y .declaration .children) (p .count) (p .stack)) rb lb rest) _ _
+        (λ less. gives-onto P (Right whole (suc (p .count)) (opened (y .declaration .children) (p .count) (p .stack)) rb lb rest) _ _
         (λ rows f. right-onto whole (p .count) (p .stack) (p .rnglistsBase) (p .loclistsBase) y rest
         (record { offset = y .offset .0; parent = top (p .stack); root = root; names = names }) rows
         (record { offset-is = refl; parent-is = refl; root-is = is-root; names-are = q }) f)
-        (follows (reached (suc (p .count)) (p .references + length names) (open′ (y .declaration .children) (p .count) (p .stack)) rb lb) rest whole))
+        (follows (reached (suc (p .count)) (p .references + length names) (opened (y .declaration .children) (p .count) (p .stack)) rb lb) rest whole))
         (λ _. gives-refused _ 11))))
         (λ _. gives-refused _ 10)
 

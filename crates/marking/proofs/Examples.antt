@@ -7,7 +7,7 @@ use Rattle.marking.specs.Below.{any, every, tab, count}
 use Rattle.marking.specs.Graph.{Graph, graph, noParent, isParent, isRoot, references, names, parentFits, pairFits}
 use Rattle.marking.specs.Graph.{rootFits, wellFormed, takes}
 use Rattle.marking.specs.Markings.{climbs, isDescendant, namedBy, isTop, isLive, justified}
-use Rattle.marking.specs.Marks.{has, round, rounds, keptOf, markOf, marksOf, isKept, keptCount, answerOf}
+use Rattle.marking.specs.Marks.{has, round, rounds, keptOf, markOf, marksOf, isKept, keptCount, markAnswer}
 use Rattle.marking.specs.Marks.{endMarks}
 use Rattle.marking.specs.declared.marks.Marked.the-variants.{Kept, Refused}
 
@@ -21,8 +21,8 @@ five-entries :
     × (endMarks (five (0 ∷ 0 ∷ 0 ∷ 0 ∷ 0 ∷ [])) 5 ≡ 2 ∷ 1 ∷ 1 ∷ 1 ∷ 1 ∷ [])
     × (endMarks (five (0 ∷ 0 ∷ 0 ∷ 0 ∷ 1 ∷ [])) 5 ≡ 2 ∷ 1 ∷ 3 ∷ 1 ∷ 3 ∷ [])
     × (endMarks (five (0 ∷ 1 ∷ 0 ∷ 0 ∷ 1 ∷ [])) 5 ≡ 2 ∷ 3 ∷ 3 ∷ 3 ∷ 3 ∷ [])
-    × (answerOf (five (0 ∷ 1 ∷ 0 ∷ 0 ∷ 0 ∷ [])) 5 ≡ Kept 3)
-unfolding answerOf keptCount isKept count endMarks takes wellFormed parentFits pairFits rootFits every marksOf markOf
+    × (markAnswer (five (0 ∷ 1 ∷ 0 ∷ 0 ∷ 0 ∷ [])) 5 ≡ Kept 3)
+unfolding markAnswer keptCount isKept count endMarks takes wellFormed parentFits pairFits rootFits every marksOf markOf
     keptOf rounds round has justified isLive isTop namedBy isDescendant climbs names references isRoot isParent any tab
     pick _and_ _or_
 five-entries = (refl, refl, refl, refl, refl)
@@ -43,12 +43,12 @@ first-entries = (refl, refl, refl, refl)
 -- last number is not judged
 
 refusals :
-    (answerOf (graph [] (0 ∷ 0 ∷ []) []) 0 ≡ Refused 16)
-    × (answerOf (graph (0 ∷ []) [] (0 ∷ [])) 1 ≡ Refused 16)
-    × (answerOf (graph (noParent ∷ []) [] (2 ∷ [])) 1 ≡ Refused 16)
-    × (answerOf (graph (noParent ∷ []) [] (0 ∷ [])) 0 ≡ Refused 16)
-    × (answerOf (graph [] (7 ∷ []) []) 0 ≡ Kept 0)
-unfolding answerOf keptCount isKept count takes wellFormed parentFits pairFits rootFits every marksOf markOf keptOf
+    (markAnswer (graph [] (0 ∷ 0 ∷ []) []) 0 ≡ Refused 16)
+    × (markAnswer (graph (0 ∷ []) [] (0 ∷ [])) 1 ≡ Refused 16)
+    × (markAnswer (graph (noParent ∷ []) [] (2 ∷ [])) 1 ≡ Refused 16)
+    × (markAnswer (graph (noParent ∷ []) [] (0 ∷ [])) 0 ≡ Refused 16)
+    × (markAnswer (graph [] (7 ∷ []) []) 0 ≡ Kept 0)
+unfolding markAnswer keptCount isKept count takes wellFormed parentFits pairFits rootFits every marksOf markOf keptOf
     rounds round has justified isLive isTop namedBy isDescendant climbs names references isRoot isParent any tab pick
     _and_ _or_
 refusals = (refl, refl, refl, refl, refl)

@@ -23,7 +23,7 @@ use Rattle.readers.specs.declared.operations.ListStep.the-variants.{Entry, End,
 use Rattle.marking.specs.Addresses.{isTombstone, lookupAt}
 use Rattle.marking.specs.Walking.{go, stop, onNext, walk}
 use Rattle.marking.proofs.Walking.{Forward, walk-step}
-use Rattle.marking.specs.Roots.{Flagged, place, Turn, toward, turnOf, onLookup, rangeEntry, rangeStep, rangesLive, olderStep, olderLive, operationStep, locationLive}
+use Rattle.marking.specs.Roots.{Flagged, place, RootTurn, toward, turnOf, onLookup, rangeEntry, rangeStep, rangesLive, olderStep, olderLive, operationStep, locationLive}
 use Rattle.marking.specs.declared.addresses.AddressLookup.{AddressLookup}
 use Rattle.marking.specs.declared.addresses.AddressLookup.the-variants.{Live, Dead, Fails}
 use Rattle.marking.specs.declared.root_test.RangeTurn.{RangeTurn}
@@ -34,7 +34,7 @@ use Rattle.marking.specs.declared.root_test.Verdict.the-variants.{Live a
 -- ---- the older test
 
 module _ (e : Encoding) (s : List ℕ) where
-  abbrev olderTurn : Flagged → Turn
+  abbrev olderTurn : Flagged → RootTurn
   olderTurn p = olderStep (listEntryAt e false s (p .at))
 
   -- the answer from a place on
@@ -80,12 +80,12 @@ module _ (e : Encoding) (s : List ℕ) where
 -- ---- a range list
 
 -- wherever an entry goes on, it is at its end
-unfoldable Heads : ListEntry → Turn → Type 0
+unfoldable Heads : ListEntry → RootTurn → Type 0
 Heads x (go p) = p .at ≡ x .next .at
 Heads x (stop v) = Unit {0}
 
 module _ (x : ListEntry) where
-  looked-heads : (l : AddressLookup) (t u : Turn) → Heads x t → Heads x u → Heads x (onLookup l stop t u)
+  looked-heads : (l : AddressLookup) (t u : RootTurn) → Heads x t → Heads x u → Heads x (onLookup l stop t u)
   unfolding onLookup Heads
   looked-heads Live t u f g = f
   looked-heads Dead t u f g = g
@@ -101,18 +101,18 @@ module _ (x : ListEntry) where
       (λ t. pick-either (Heads x) (eqb (x .kind) 5) (toward x (isTombstone (x .first .value) (e .«address_size»))) _ (λ t. refl)
       (λ t. pick-either (Heads x) (isTombstone (x .first .value) (e .«address_size»)) (toward x dead) (stop isLive) (λ t. refl) (λ t. tt)))))
 
-  on-turn : (t : Turn) → Heads x t → (b : Bool) → On b ≡ turnOf t → t ≡ toward x b
+  on-turn : (t : RootTurn) → Heads x t → (b : Bool) → On b ≡ turnOf t → t ≡ toward x b
   unfolding Heads turnOf
   on-turn (go p) h b q = let f : p .flag ≡ b = cc in ap₂ (λ (n : ℕ) (c : Bool). go (record { at = n; flag = c })) h f
   on-turn (stop v) h b q = let z : _≡_ {A = ℕ} 0 1 = cc in absurd (omega arith)
 
-decided-turn : (t : Turn) (v : Verdict) → Decided v ≡ turnOf t → t ≡ stop v
+decided-turn : (t : RootTurn) (v : Verdict) → Decided v ≡ turnOf t → t ≡ stop v
 unfolding turnOf
 decided-turn (go p) v q = let z : _≡_ {A = ℕ} 0 1 = cc in absurd (omega arith)
 decided-turn (stop w) v q = cc
 
 module _ (e : Encoding) (table s : List ℕ) where
-  abbrev rangeTurn : Flagged → Turn
+  abbrev rangeTurn : Flagged → RootTurn
   rangeTurn p = rangeStep e table (p .flag) (listEntryAt e false s (p .at))
 
   -- the answer from a place on, where the latest base was dead or not
@@ -123,7 +123,7 @@ module _ (e : Encoding) (table s : List ℕ) where
   unfolding rangesLive rangesFrom
   ranges-start c = refl
 
-  heads-forward : (p : Flagged) (x : ListEntry) (t : Turn) → Heads x t → p .at < x .next .at → x .next .at ≤ length s → Forward place (length s) p t
+  heads-forward : (p : Flagged) (x : ListEntry) (t : RootTurn) → Heads x t → p .at < x .next .at → x .next .at ≤ length s → Forward place (length s) p t
   unfolding Heads Forward
   heads-forward p x (go u) h lo hi = (omega arith, omega arith)
   heads-forward p x (stop v) h lo hi = tt
@@ -155,7 +155,7 @@ module _ (e : Encoding) (table s : List ℕ) where
       range-less = omega (arith, entry-inside e false s at x (sym q ∙ r) .0, entry-inside e false s at x (sym q ∙ r) .1)
 
       module _ (w : RangeTurn) (l : w ≡ turnOf (rangeEntry e table dead x)) where
-        entry-turn : (t : Turn) → rangeEntry e table dead x ≡ t → rangesFrom at dead ≡ onNext t (walk place (length s) rangeTurn isDead)
+        entry-turn : (t : RootTurn) → rangeEntry e table dead x ≡ t → rangesFrom at dead ≡ onNext t (walk place (length s) rangeTurn isDead)
         unfolding rangeStep
         entry-turn t k = range-turn ∙ rw (r, k)
 
@@ -170,7 +170,7 @@ module _ (e : Encoding) (table s : List ℕ) where
 -- ---- a location
 
 module _ (e : Encoding) (table s : List ℕ) where
-  abbrev locationTurn : Flagged → Turn
+  abbrev locationTurn : Flagged → RootTurn
   locationTurn p = pick (ltb (p .at) (length s)) (operationStep e table (p .flag) (operationAt e s (p .at))) (stop (pick (p .flag) isLive isDead))
 
   -- the answer from a place on, where a live index was met or not

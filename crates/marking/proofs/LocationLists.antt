@@ -16,7 +16,7 @@ use Rattle.readers.specs.declared.operations.ListStep.{ListStep}
 use Rattle.readers.specs.declared.operations.ListStep.the-variants.{Entry, End, Unreadable as NoEntry}
 use Rattle.marking.specs.Walking.{Next, onNext, walk}
 use Rattle.marking.proofs.Walking.{Forward, walk-step}
-use Rattle.marking.specs.EntryReferences.{ReferencesFound, found, refused, Reached, reachedAt, locationFound, onFound, locationStep, listFound}
+use Rattle.marking.specs.EntryReferences.{ReferencesFound, found, refused, ListReached, reachedAt, locationFound, onLocation, locationStep, listFound}
 use Rattle.marking.specs.ReferenceTable.{written}
 use Rattle.marking.specs.declared.references.Scanned.{Scanned}
 use Rattle.marking.specs.declared.references.Scanned.the-variants.{To, Refused}
@@ -24,7 +24,7 @@ use Rattle.marking.proofs.Placing.{Put, put-none, put-size}
 use Rattle.marking.proofs.Founds.{Scans, scans-same, scans-put, scans-refused, scans-no, Onto, onto, Broken, broken}
 
 module _ (e : Encoding) (s : List ℕ) where
-  abbrev turn : Reached → Next Reached ReferencesFound
+  abbrev turn : ListReached → Next ListReached ReferencesFound
   turn p = locationStep e s (p .sofar) (listEntryAt e true s (p .at))
 
   -- what is found from a place on, after what is found already
@@ -35,12 +35,12 @@ module _ (e : Encoding) (s : List ℕ) where
   unfolding listFound listFrom
   list-start c = refl
 
-  found-forward : (p : Reached) (x : ListEntry) (f : ReferencesFound) → p .at < x .next .at → x .next .at ≤ length s → Forward reachedAt (length s) p (onFound (p .sofar) x f)
-  unfolding onFound Forward
+  found-forward : (p : ListReached) (x : ListEntry) (f : ReferencesFound) → p .at < x .next .at → x .next .at ≤ length s → Forward reachedAt (length s) p (onLocation (p .sofar) x f)
+  unfolding onLocation Forward
   found-forward p x (found ys) lo hi = (lo, hi)
   found-forward p x (refused ys n) lo hi = tt
 
-  list-forward : (p : Reached) (o : ListStep) → listEntryAt e true s (p .at) ≡ o → Forward reachedAt (length s) p (locationStep e s (p .sofar) o)
+  list-forward : (p : ListReached) (o : ListStep) → listEntryAt e true s (p .at) ≡ o → Forward reachedAt (length s) p (locationStep e s (p .sofar) o)
   unfolding locationStep Forward
   list-forward p (Entry x) q = found-forward p x (locationFound e s x) (entry-inside e true s (p .at) x q .0) (entry-inside e true s (p .at) x q .1)
   list-forward p End q = tt
@@ -66,11 +66,11 @@ module _ (e : Encoding) (s : List ℕ) where
       list-less = omega (arith, entry-inside e true s at x (sym q ∙ r) .0, entry-inside e true s at x (sym q ∙ r) .1)
 
       list-on : (ys : List ℕ) → locationFound e s x ≡ found ys → listFrom at sofar ≡ listFrom (x .next .at) (sofar ++ ys)
-      unfolding listFrom onNext locationStep onFound
+      unfolding listFrom onNext locationStep onLocation
       list-on ys k = list-turn ∙ rw (r, k)
 
       list-refused : (ys : List ℕ) (n : ℕ) → locationFound e s x ≡ refused ys n → listFrom at sofar ≡ refused (sofar ++ ys) n
-      unfolding onNext locationStep onFound
+      unfolding onNext locationStep onLocation
       list-refused ys n k = list-turn ∙ rw (r, k)
 
 -- ---- the loop: what is in the table, and what is found from here on

@@ -17,7 +17,7 @@ use Rattle.readers.specs.Header.{encodingOf}
 use Rattle.readers.specs.declared.lists.ListOffset.the-variants.{At, Unresolved}
 use Rattle.marking.specs.Walking.{onNext, walkWithin, walk}
 use Rattle.marking.specs.EntryReferences.{found, refused, targets, walkFound, expressionFound, partOf}
-use Rattle.marking.specs.EntryReferences.{locationFound, onFound, locationStep, listFound}
+use Rattle.marking.specs.EntryReferences.{locationFound, onLocation, locationStep, listFound}
 
 expressions :
     (expressionFound (encodingOf 8) (0x98 ∷ 0 ∷ 0 ∷ []) ≡ found (0 ∷ []))  -- call2 names 0 too
@@ -37,7 +37,7 @@ lists :
     × (listFound (encodingOf 8) (5 ∷ 5 ∷ 0x9a ∷ 0 ∷ 0 ∷ 0 ∷ 0 ∷ 0xff ∷ []) (At (cursor 0)) ≡ refused [] 7)  -- judged before the next entry is read
     × (listFound (encodingOf 8) (1 ∷ 0 ∷ 9 ∷ []) (At (cursor 0)) ≡ refused [] 5)  -- an unknown kind
     × (listFound (encodingOf 8) [] Unresolved ≡ refused [] 5)
-unfolding listFound locationStep onFound locationFound partOf walk walkWithin onNext listEntryAt asListStep entryOfReads
+unfolding listFound locationStep onLocation locationFound partOf walk walkWithin onNext listEntryAt asListStep entryOfReads
     rowEntry listEntry listRow locationEntries asBytes size fieldOf linkedValue rowOfReads expressionFound walkFound
     targets walkOf asWalk referencesIn namesOr namesIn nameIn anyAbsolute isAbsolute expressionIn expressionWithin
     andRest allPieces encodingOf operation operationRow operations rowAmong rowOf rows unreadableRow rowLayout tokenOf

@@ -12,7 +12,7 @@ use lib.Dec.{ltb, leb, eqb}
 use borrow.Author.Tests.{lt-ltb, le-leb, eq-eqb}
 use mir.Facts.{ltb-yes, leb-yes}
 use Rattle.readers.proofs.Choice.{pick-either, All, all-some, all-none, all-pick, all-map}
-use Rattle.readers.specs.Nesting.{open′, close, top}
+use Rattle.readers.specs.Nesting.{opened, closed, top}
 use Rattle.readers.specs.Abbreviations.{Placed, declaredIn, abbreviationsOf}
 use Rattle.readers.specs.Entries.{stepAt}
 use Rattle.readers.specs.Header.{headerOf}
@@ -86,13 +86,13 @@ under-at n [] u i h = absurd (omega arith)
 under-at n (x ∷ xs) u zero h = u .0
 under-at n (x ∷ xs) u (suc i) h = under-at n xs (u .1) i (omega arith)
 
-under-close : (n : ℕ) (stack : List ℕ) → Under n stack → Under n (close stack)
-unfolding Under close
+under-close : (n : ℕ) (stack : List ℕ) → Under n stack → Under n (closed stack)
+unfolding Under closed
 under-close n [] u = tt
 under-close n (k ∷ stack) u = u .1
 
-under-open : (n : ℕ) (b : Bool) (stack : List ℕ) → Under n stack → Under (suc n) (open′ b n stack)
-unfolding Under open′
+under-open : (n : ℕ) (b : Bool) (stack : List ℕ) → Under n stack → Under (suc n) (opened b n stack)
+unfolding Under opened
 under-open n true stack u = (omega arith, under-more n (suc n) (omega arith) stack u)
 under-open n false stack u = under-more n (suc n) (omega arith) stack u
 
@@ -238,7 +238,7 @@ module _ (e : Encoding) (x : Sections) (unit : List ℕ) (room : Rooms) (high : 
       let l : low < b = i .0 in
       gives-map (Laws high b room (p .count) (p .references)) (Laws high low room (p .count) (p .references)) _
       (λ rows q. laws-from high low b room (p .count) (p .references) rows (omega arith) q)
-      (items-laws b (reached (p .count) (p .references) (close (p .stack)) (p .rnglistsBase) (p .loclistsBase)) rest whole (i .2) (under-close (p .count) (p .stack) u))
+      (items-laws b (reached (p .count) (p .references) (closed (p .stack)) (p .rnglistsBase) (p .loclistsBase)) rest whole (i .2) (under-close (p .count) (p .stack) u))
   items-laws low p (entry y ∷ rest) whole i u =
       pick-either (Gives (Laws high low room (p .count) (p .references))) (ltb (p .count) (room .entries)) _ _
       (λ few. gives-verdict _ (rootOf e x unit (baseOf e x unit 0x74 (p .rnglistsBase) y) y) _
@@ -249,7 +249,7 @@ module _ (e : Encoding) (x : Sections) (unit : List ℕ) (room : Rooms) (high : 
       (record { offset = y .offset .0; parent = top (p .stack); root = root; names = names }) rows
       (i .0) (i .1) (i .2) (under-top (p .count) (p .stack) u) small (ltb-yes few) (leb-yes less) q)
       (items-laws (y .next .at)
-      (reached (suc (p .count)) (p .references + length names) (open′ (y .declaration .children) (p .count) (p .stack)) (baseOf e x unit 0x74 (p .rnglistsBase) y) (baseOf e x unit 0x8c (p .loclistsBase) y))
+      (reached (suc (p .count)) (p .references + length names) (opened (y .declaration .children) (p .count) (p .stack)) (baseOf e x unit 0x74 (p .rnglistsBase) y) (baseOf e x unit 0x8c (p .loclistsBase) y))
       rest whole (i .3) (under-open (p .count) (y .declaration .children) (p .stack) u)))
       (λ _. gives-refused _ 11))))
       (λ _. gives-refused _ 10)

@@ -14,7 +14,7 @@ use Rattle.readers.proofs.Choice.{pick-yes, pick-no}
 use Rattle.readers.specs.Abbreviations.{Placed, declaredIn, abbreviationsOf, asChecked, checkedOf, indexOf, findAt}
 use Rattle.readers.specs.Entries.{stepAt}
 use Rattle.readers.specs.inner.Entries.{entryOf, entryTo}
-use Rattle.readers.specs.Nesting.{open′, close, top, nestingOf, opened, closed}
+use Rattle.readers.specs.Nesting.{opened, closed, top, nestingOf, nestingOpened, nestingClosed}
 use Rattle.readers.specs.declared.abbreviations.DeclarationFound.{DeclarationFound}
 use Rattle.readers.specs.declared.abbreviations.Checked.the-variants.{Accepted}
 use Rattle.readers.specs.declared.cursor.Cursor.{Cursor}
@@ -165,13 +165,13 @@ unfolding Below
 below-more n [] h = tt
 below-more n (k ∷ stack) h = (let q : k < n = h .0 in omega arith, below-more n stack (h .1))
 
-below-open : (children : Bool) (n : ℕ) (stack : List ℕ) → Below n stack → Below (n + 1) (open′ children n stack)
-unfolding Below open′
+below-open : (children : Bool) (n : ℕ) (stack : List ℕ) → Below n stack → Below (n + 1) (opened children n stack)
+unfolding Below opened
 below-open true n stack h = (omega arith, below-more n stack h)
 below-open false n stack h = below-more n stack h
 
-below-close : (n : ℕ) (stack : List ℕ) → Below n stack → Below n (close stack)
-unfolding Below close
+below-close : (n : ℕ) (stack : List ℕ) → Below n stack → Below n (closed stack)
+unfolding Below closed
 below-close n [] h = tt
 below-close n (k ∷ stack) h = h .1
 
@@ -183,23 +183,23 @@ chain-stays parents n v (k ∷ stack) b h =
     (getD-set-other parents n k v 4294967295 (λ q. absurd (omega (arith, q))) ∙ h .0, chain-stays parents n v stack (b .1) (h .1))
 
 chain-open : (children : Bool) (parents : List ℕ) (n : ℕ) (stack : List ℕ) → n < length parents → Below n stack → Chain parents stack
-    → Chain (set parents n (top stack)) (open′ children n stack)
-unfolding open′ Chain
+    → Chain (set parents n (top stack)) (opened children n stack)
+unfolding opened Chain
 chain-open true parents n stack l b h = (getD-set-same parents n (top stack) 4294967295 l, chain-stays parents n (top stack) stack b h)
 chain-open false parents n stack l b h = chain-stays parents n (top stack) stack b h
 
-chain-close : (parents stack : List ℕ) → Chain parents stack → Chain parents (close stack)
-unfolding close Chain
+chain-close : (parents stack : List ℕ) → Chain parents stack → Chain parents (closed stack)
+unfolding closed Chain
 chain-close parents [] h = tt
 chain-close parents (k ∷ stack) h = h .1
 
-length-open : (children : Bool) (n : ℕ) (stack : List ℕ) → length (open′ children n stack) ≤ suc (length stack)
-unfolding open′
+length-open : (children : Bool) (n : ℕ) (stack : List ℕ) → length (opened children n stack) ≤ suc (length stack)
+unfolding opened
 length-open true n stack = omega arith
 length-open false n stack = omega arith
 
-length-close : (stack : List ℕ) → length (close stack) ≤ length stack
-unfolding close
+length-close : (stack : List ℕ) → length (closed stack) ≤ length stack
+unfolding closed
 length-close [] = omega arith
 length-close (k ∷ stack) = omega arith
 
@@ -263,7 +263,7 @@ module _ (e : Encoding) (x : Sections) (unit : List ℕ) (room : Rooms) (look : 
   from-unreadable s = by-items _ (turned Unreadable s)
 
   from-terminator : (c : Cursor) → Terminator c ≡ stepAt e (x .abbreviations) look unit at
-      → fromHere at p ≡ fromHere (c .at) (reached (p .count) (p .references) (close (p .stack)) (p .rnglistsBase) (p .loclistsBase))
+      → fromHere at p ≡ fromHere (c .at) (reached (p .count) (p .references) (closed (p .stack)) (p .rnglistsBase) (p .loclistsBase))
   unfolding onStep push analyseItems
   from-terminator c s = by-items _ (turned (Terminator c) s)
 
@@ -273,7 +273,7 @@ module _ (e : Encoding) (x : Sections) (unit : List ℕ) (room : Rooms) (look : 
     rowBy rb lb root names =
         pick (leb (p .references + length names) (room .references))
         (onto (record { offset = y .offset .0; parent = top (p .stack); root = root; names = names })
-        (fromHere (y .next .at) (reached (suc (p .count)) (p .references + length names) (open′ (y .declaration .children) (p .count) (p .stack)) rb lb)))
+        (fromHere (y .next .at) (reached (suc (p .count)) (p .references + length names) (opened (y .declaration .children) (p .count) (p .stack)) rb lb)))
         (refused 11)
 
     abbrev entryBy : ℕ → ℕ → Analysed
@@ -330,7 +330,7 @@ module _ {e : Encoding} {x : Sections} {unit : List ℕ} {room : Rooms} {look : 
         },
       )
 
-  pub stage-terminator : (c : Cursor) → Terminator c ≡ stepAt e (x .abbreviations) look unit at → (nesting′ : Nesting) → nesting′ ≡ closed parents nesting
+  pub stage-terminator : (c : Cursor) → Terminator c ≡ stepAt e (x .abbreviations) look unit at → (nesting′ : Nesting) → nesting′ ≡ nestingClosed parents nesting
       → Stage e x unit room look whole offsets₀ parents₀ roots₀ ends₀ targets₀ offsets parents roots ends targets (c .at) count to nesting′ rb lb
   stage-terminator c s nesting′ n =
       let i = terminator-inside e (x .abbreviations) look unit at c (sym s) in
@@ -338,7 +338,7 @@ module _ {e : Encoding} {x : Sections} {unit : List ℕ} {room : Rooms} {look : 
       let d : length (h .stack) ≤ count = h .deep in
       record {
         done = h .done;
-        stack = close (h .stack);
+        stack = closed (h .stack);
         whole-is = h .whole-is ∙ ap (ontoAll (h .done)) (from-terminator e x unit room look here at c s);
         offsets-are = h .offsets-are;
         parents-are = h .parents-are;
@@ -348,7 +348,7 @@ module _ {e : Encoding} {x : Sections} {unit : List ℕ} {room : Rooms} {look : 
         count-is = h .count-is;
         to-is = h .to-is;
         to-most = h .to-most;
-        nesting-is = n ∙ ap (closed parents) (h .nesting-is) ∙ closed-is parents (h .stack) (h .chain);
+        nesting-is = n ∙ ap (nestingClosed parents) (h .nesting-is) ∙ closed-is parents (h .stack) (h .chain);
         chain = chain-close parents (h .stack) (h .chain);
         below = below-close count (h .stack) (h .below);
         deep = omega (arith, length-close (h .stack));
@@ -402,7 +402,7 @@ module _ {e : Encoding} {x : Sections} {unit : List ℕ} {room : Rooms} {look : 
             (from-row ∙ row .goes (rowBy e x unit room look here at y rb′ lb′) ∙ pick-no _ _ _ (no-leb {a = to + length (row .names)} {b = room .references} over))
             targets′ targets-size
 
-        pub stage-entry : place ≤ room .references → (nesting′ : Nesting) → nesting′ ≡ opened (y .declaration .children) count nesting
+        pub stage-entry : place ≤ room .references → (nesting′ : Nesting) → nesting′ ≡ nestingOpened (y .declaration .children) count nesting
             → Stage e x unit room look whole offsets₀ parents₀ roots₀ ends₀ targets₀ (set offsets count (y .offset .0)) (set parents count (nesting .parent .0)) (set roots count root) (set ends count place) targets′ (y .next .at) (count + 1) place nesting′ rb′ lb′
         stage-entry f nesting′ n =
             let z : length targets ≡ length targets₀ = h .targets-are .size in
@@ -426,14 +426,14 @@ module _ {e : Encoding} {x : Sections} {unit : List ℕ} {room : Rooms} {look : 
             let ahead : count ≤ at = h .ahead in
             let sc : suc count ≡ count + 1 = omega arith in
             let goes : fromHere e x unit room look here at at here
-            ≡ onto one (fromHere e x unit room look here at (y .next .at) (reached (suc count) (to + length names) (open′ (y .declaration .children) count (h .stack)) rb′ lb′)) =
+            ≡ onto one (fromHere e x unit room look here at (y .next .at) (reached (suc count) (to + length names) (opened (y .declaration .children) count (h .stack)) rb′ lb′)) =
             from-row ∙ row .goes (rowBy e x unit room look here at y rb′ lb′) ∙ pick-yes _ _ _ (yes-leb {a = to + length names} {b = room .references} (omega arith)) in
             record {
               done = h .done ++ (one ∷ []);
-              stack = open′ (y .declaration .children) count (h .stack);
+              stack = opened (y .declaration .children) count (h .stack);
               whole-is =
                   h .whole-is ∙ ap (ontoAll (h .done)) goes ∙ onto-more (h .done) one _
-                  ∙ ap₂ (λ (i j : ℕ). ontoAll (h .done ++ (one ∷ [])) (fromHere e x unit room look here at (y .next .at) (reached i j (open′ (y .declaration .children) count (h .stack)) rb′ lb′)))
+                  ∙ ap₂ (λ (i j : ℕ). ontoAll (h .done ++ (one ∷ [])) (fromHere e x unit room look here at (y .next .at) (reached i j (opened (y .declaration .children) count (h .stack)) rb′ lb′)))
                   sc (sym place-is);
               offsets-are = filled-each _ offsetsIn _ offsets-each (h .done) one offsets count _ (h .offsets-are) cd (omega arith) refl;
               parents-are = filled-each _ parentsIn _ parents-each (h .done) one parents count _ (h .parents-are) cd (omega arith) up;
@@ -447,7 +447,7 @@ module _ {e : Encoding} {x : Sections} {unit : List ℕ} {room : Rooms} {look : 
               count-is = sym (length-append (h .done) (one ∷ []) ∙ ap (λ (k : ℕ). k + 1) (sym cd));
               to-is = place-is ∙ ap (λ (k : ℕ). k + length names) td ∙ sym (ap length (names-more (h .done) one) ∙ length-append (namesIn (h .done)) names);
               to-most = f;
-              nesting-is = n ∙ ap (opened (y .declaration .children) count) (h .nesting-is) ∙ opened-is (y .declaration .children) count (h .stack) (omega arith);
+              nesting-is = n ∙ ap (nestingOpened (y .declaration .children) count) (h .nesting-is) ∙ opened-is (y .declaration .children) count (h .stack) (omega arith);
               chain = rw up (chain-open (y .declaration .children) parents count (h .stack) (omega arith) (h .below) (h .chain));
               below = below-open (y .declaration .children) count (h .stack) (h .below);
               deep = omega (arith, length-open (y .declaration .children) count (h .stack));
@@ -504,7 +504,7 @@ module _ {e : Encoding} {x : Sections} {unit : List ℕ} {room : Rooms} {look : 
         unfolding valuesOfEntry rootOf namesOf baseOf
         head-over o = stage-over (entryOf g next) entered l rb′ lb′ r b targets′ t root place (q ∙ ap answerTo there) o
 
-        pub head-entry : place ≤ room .references → (nesting′ : Nesting) → nesting′ ≡ opened (g .declaration .children) count nesting
+        pub head-entry : place ≤ room .references → (nesting′ : Nesting) → nesting′ ≡ nestingOpened (g .declaration .children) count nesting
             → Stage e x unit room look whole offsets₀ parents₀ roots₀ ends₀ targets₀ (set offsets count (g .offset .0)) (set parents count (nesting .parent .0)) (set roots count root) (set ends count place) targets′ (next .at) (count + 1) place nesting′ rb′ lb′
         unfolding valuesOfEntry rootOf namesOf baseOf
         head-entry f nesting′ n = stage-entry (entryOf g next) entered l rb′ lb′ r b targets′ t root place (q ∙ ap answerTo there) f nesting′ n

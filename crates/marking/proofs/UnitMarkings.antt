@@ -11,7 +11,7 @@ use Rattle.readers.specs.Header.{headerOf}
 use Rattle.readers.specs.declared.header.HeaderRead.{HeaderRead}
 use Rattle.readers.specs.declared.header.HeaderRead.the-variants.{Unit as Unit′, Empty, Refused as Unheaded}
 use Rattle.marking.specs.Graph.{Graph, graph, size}
-use Rattle.marking.specs.Marks.{marksOf, keptCount, answerOf as markedOf, endMarks}
+use Rattle.marking.specs.Marks.{marksOf, keptCount, markAnswer, endMarks}
 use Rattle.marking.specs.Analysis.{Sections, Rooms, EntryRow, Analysed, analysed, refused, headerAnalysed, analysisOf}
 use Rattle.marking.specs.Columns.{offsetsIn, parentsIn, rootsIn, namesIn, endsIn, padTo, column, least, roomsOf, unitRooms, indexAfter, answerOf}
 use Rattle.marking.specs.Resolution.{pairsIn, graphOf, marksIn, unitMarks}
@@ -61,13 +61,13 @@ module _ {offsets parents roots ends : List ℕ} {n : ℕ} {marks targets pairs 
   lent-is : length (take n marks) ≡ n
   lent-is = sym (take-within n marks (h .marks-inside))
 
-  marked-is : markedOf Given (length (take n marks)) ≡ Kept (keptCount (marksIn rows))
-  unfolding markedOf marksIn pick
+  marked-is : markAnswer Given (length (take n marks)) ≡ Kept (keptCount (marksIn rows))
+  unfolding markAnswer marksIn pick
   marked-is =
-      ap₂ markedOf given-is lent-is
+      ap₂ markAnswer given-is lent-is
       ∙ ap (λ (b : Bool). pick b (Kept (keptCount (marksOf (graphOf rows)))) (Untaken 16)) (h .fits)
 
-  pub rows-kept : (k : ℕ) → Kept k ≡ markedOf Given (length (take n marks)) → Marked n k ≡ unitMarks (analysed rows)
+  pub rows-kept : (k : ℕ) → Kept k ≡ markAnswer Given (length (take n marks)) → Marked n k ≡ unitMarks (analysed rows)
   unfolding unitMarks
   rows-kept k q =
       let e : Kept k ≡ Kept (keptCount (marksIn rows)) = q ∙ marked-is in
@@ -75,7 +75,7 @@ module _ {offsets parents roots ends : List ℕ} {n : ℕ} {marks targets pairs 
       ap₂ (λ (i j : ℕ). Marked i j) (sym (h .held .count)) z
 
   -- marking takes the graph of a unit
-  pub rows-taken : (k : ℕ) → Untaken k ≡ markedOf Given (length (take n marks)) → Refused″ k ≡ unitMarks (analysed rows)
+  pub rows-taken : (k : ℕ) → Untaken k ≡ markAnswer Given (length (take n marks)) → Refused″ k ≡ unitMarks (analysed rows)
   rows-taken k q =
       let e : Untaken k ≡ Kept (keptCount (marksIn rows)) = q ∙ marked-is in
       let z : _≡_ {A = ℕ} 0 1 = cc in

@@ -14,7 +14,7 @@ use Rattle.readers.specs.Abbreviations.{Placed, declaredIn, abbreviationsOf}
 use Rattle.readers.specs.Refusals.{refusalOfChecked, refusalOfStep}
 use Rattle.readers.specs.declared.abbreviations.Checked.the-variants.{Refused as Unchecked}
 use Rattle.readers.specs.declared.entries.Step.the-variants.{Unreadable}
-use Rattle.readers.specs.Nesting.{open′, close, top}
+use Rattle.readers.specs.Nesting.{opened, closed, top}
 use Rattle.readers.specs.declared.cursor.Encoding.{Encoding}
 use Rattle.readers.specs.declared.entries.Entry.{Entry}
 use Rattle.readers.specs.declared.header.HeaderRead.{HeaderRead}
@@ -110,7 +110,7 @@ module _ (e : Encoding) (x : Sections) (unit : List ℕ) where
     analyseItems p [] false = refused (refusalOfStep Unreadable)
     analyseItems p (terminator a b ∷ rest) whole =
         analyseItems
-        (reached (p .count) (p .references) (close (p .stack)) (p .rnglistsBase) (p .loclistsBase))
+        (reached (p .count) (p .references) (closed (p .stack)) (p .rnglistsBase) (p .loclistsBase))
         rest whole
     analyseItems p (entry y ∷ rest) whole =
         pick (ltb (p .count) (room .entries))
@@ -120,7 +120,7 @@ module _ (e : Encoding) (x : Sections) (unit : List ℕ) where
         (onto (record { offset = y .offset .0; parent = top (p .stack); root = root; names = names })
         (analyseItems
         (reached (suc (p .count)) (p .references + length names)
-        (open′ (y .declaration .children) (p .count) (p .stack))
+        (opened (y .declaration .children) (p .count) (p .stack))
         (baseOf «DW_AT_rnglists_base» (p .rnglistsBase) y) (baseOf «DW_AT_loclists_base» (p .loclistsBase) y))
         rest whole))
         (refused 11))))

@@ -55,11 +55,11 @@ expressionFound e s = walkFound (targets (referencesIn e s)) (walkOf e s)
 
 -- ---- location lists, entry by entry: each expression is judged before the next entry is read
 
-pub record Reached : Type 0 where
+pub record ListReached : Type 0 where
   pub at : ℕ
   pub sofar : List ℕ
 
-abbrev pub reachedAt : Reached → ℕ
+abbrev pub reachedAt : ListReached → ℕ
 reachedAt p = p .at
 
 -- 7.7.3: base_addressx 1 and base_address 6 have no expression, default_location 5 has it first, the others third
@@ -68,19 +68,19 @@ locationFound e s x =
     pick (eqb (x .kind) «DW_LLE_base_addressx» or eqb (x .kind) «DW_LLE_base_address») (found [])
     (expressionFound e (partOf s (pick (eqb (x .kind) «DW_LLE_default_location») (x .first) (x .third))))
 
-unfoldable pub onFound : List ℕ → ListEntry → ReferencesFound → Next Reached ReferencesFound
-onFound sofar x (found ys) = go (record { at = x .next .at; sofar = sofar ++ ys })
-onFound sofar x (refused ys n) = stop (refused (sofar ++ ys) n)
+unfoldable pub onLocation : List ℕ → ListEntry → ReferencesFound → Next ListReached ReferencesFound
+onLocation sofar x (found ys) = go (record { at = x .next .at; sofar = sofar ++ ys })
+onLocation sofar x (refused ys n) = stop (refused (sofar ++ ys) n)
 
-unfoldable pub locationStep : Encoding → List ℕ → List ℕ → ListStep → Next Reached ReferencesFound
-locationStep e s sofar (Entry x) = onFound sofar x (locationFound e s x)
+unfoldable pub locationStep : Encoding → List ℕ → List ℕ → ListStep → Next ListReached ReferencesFound
+locationStep e s sofar (Entry x) = onLocation sofar x (locationFound e s x)
 locationStep e s sofar End = stop (found sofar)
 locationStep e s sofar NoEntry = stop (refused sofar (refusalOfList NoEntry))
 
 -- an offset that can't be resolved is 5
 unfoldable pub listFound : Encoding → List ℕ → ListOffset → ReferencesFound
 listFound e s (At c) =
-    walk reachedAt (length s) (λ (p : Reached). locationStep e s (p .sofar) (listEntryAt e true s (p .at))) (found []) (record { at = c .at; sofar = [] })
+    walk reachedAt (length s) (λ (p : ListReached). locationStep e s (p .sofar) (listEntryAt e true s (p .at))) (found []) (record { at = c .at; sofar = [] })
 listFound e s Unresolved = refused [] (refusalOfLocations Unresolved)
 
 -- ---- attributes

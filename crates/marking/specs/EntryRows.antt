@@ -6,7 +6,7 @@ use mathlib.Core.Logic.{_⊎_}
 use lib.ListN.{take}
 use Rattle.readers.specs.Codes.{«DW_AT_loclists_base», «DW_AT_rnglists_base»}
 use Rattle.readers.specs.Abbreviations.{Placed, declaredIn}
-use Rattle.readers.specs.Nesting.{open′, close, top}
+use Rattle.readers.specs.Nesting.{opened, closed, top}
 use Rattle.readers.specs.Stream.{Item, entry, terminator, Items, itemsFrom}
 use Rattle.readers.specs.declared.cursor.Encoding.{Encoding}
 use Rattle.readers.specs.declared.entries.Entry.{Entry}
@@ -34,11 +34,11 @@ module _ (e : Encoding) (x : Sections) (unit : List ℕ) where
   -- entries, the innermost first, and the list bases
   unfoldable pub RowsOf : ℕ → List ℕ → ℕ → ℕ → List Item → List EntryRow → Type 0
   RowsOf k stack rb lb [] rows = rows ≡ []
-  RowsOf k stack rb lb (terminator a b ∷ rest) rows = RowsOf k (close stack) rb lb rest rows
+  RowsOf k stack rb lb (terminator a b ∷ rest) rows = RowsOf k (closed stack) rb lb rest rows
   RowsOf k stack rb lb (entry y ∷ rest) [] = ⊥
   RowsOf k stack rb lb (entry y ∷ rest) (r ∷ rows) =
       RowOf stack rb lb y r
-      × RowsOf (suc k) (open′ (y .declaration .children) k stack) (baseOf e x unit «DW_AT_rnglists_base» rb y) (baseOf e x unit «DW_AT_loclists_base» lb y)
+      × RowsOf (suc k) (opened (y .declaration .children) k stack) (baseOf e x unit «DW_AT_rnglists_base» rb y) (baseOf e x unit «DW_AT_loclists_base» lb y)
       rest rows
 
 -- the items of a unit: from its first entry on, inside its own bytes, by its declarations; and whether the unit's end

@@ -42,8 +42,8 @@ unfoldable pub keptCount : List ℕ → ℕ
 keptCount m = count (length m) (isKept m)
 
 -- what `mark` answers, and the marks that it leaves, where n are lent
-unfoldable pub answerOf : Graph → ℕ → Marked
-answerOf g n = pick (takes g n) (KeptCount (keptCount (marksOf g))) (Refused 16)
+unfoldable pub markAnswer : Graph → ℕ → Marked
+markAnswer g n = pick (takes g n) (KeptCount (keptCount (marksOf g))) (Refused 16)
 
 unfoldable pub endMarks : Graph → ℕ → List ℕ
 endMarks g n = pick (takes g n) (marksOf g) (replicate n 0)

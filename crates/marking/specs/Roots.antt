@@ -57,20 +57,20 @@ pub record Flagged : Type 0 where
 abbrev pub place : Flagged → ℕ
 place p = p .at
 
-abbrev pub Turn : Type 0
-Turn = Next Flagged Verdict
+abbrev pub RootTurn : Type 0
+RootTurn = Next Flagged Verdict
 
-abbrev pub toward : ListEntry → Bool → Turn
+abbrev pub toward : ListEntry → Bool → RootTurn
 toward x b = go (record { at = x .next .at; flag = b })
 
 -- as the code answers it
-unfoldable pub turnOf : Turn → RangeTurn
+unfoldable pub turnOf : RootTurn → RangeTurn
 turnOf (go p) = On (p .flag)
 turnOf (stop v) = Decided v
 
 module _ (e : Encoding) (table : List ℕ) where
   -- 7.25: base_addressx 1, startx_endx 2, startx_length 3, offset_pair 4, base_address 5, start_end 6, start_length 7
-  unfoldable pub rangeEntry : Bool → ListEntry → Turn
+  unfoldable pub rangeEntry : Bool → ListEntry → RootTurn
   rangeEntry dead x =
       pick (eqb (x .kind) «DW_RLE_base_addressx») (onLookup (lookupAt table (x .first .value)) stop (toward x false) (toward x true))
       (pick (leb (x .kind) «DW_RLE_startx_length») (onLookup (lookupAt table (x .first .value)) stop (stop isLive) (toward x dead))
@@ -78,7 +78,7 @@ module _ (e : Encoding) (table : List ℕ) where
       (pick (eqb (x .kind) «DW_RLE_base_address») (toward x (isTombstone (x .first .value) (e .«address_size»)))
       (pick (isTombstone (x .first .value) (e .«address_size»)) (toward x dead) (stop isLive)))))
 
-  unfoldable pub rangeStep : Bool → ListStep → Turn
+  unfoldable pub rangeStep : Bool → ListStep → RootTurn
   rangeStep dead (Entry x) = rangeEntry dead x
   rangeStep dead End = stop isDead
   rangeStep dead NoEntry = stop (refused (refusalOfList NoEntry))
@@ -90,7 +90,7 @@ module _ (e : Encoding) (table : List ℕ) where
   rangesLive s Unresolved = isLive
 
   -- addrx and GNU_addr_index are row 22
-  unfoldable pub operationStep : Bool → OperationRead → Turn
+  unfoldable pub operationStep : Bool → OperationRead → RootTurn
   operationStep live (Operation′ op) =
       pick (eqb (op .row) row-address-index)
       (onLookup (lookupAt table (op .first .value)) stop (go (record { at = op .next .at; flag = true })) (go (record { at = op .next .at; flag = live })))
@@ -105,7 +105,7 @@ module _ (e : Encoding) (table : List ℕ) where
       isDead (record { at = 0; flag = false })
 
 -- the older test, version 5: base_address only is skipped; every other entry is live
-unfoldable pub olderStep : ListStep → Turn
+unfoldable pub olderStep : ListStep → RootTurn
 olderStep (Entry x) = pick (eqb (x .kind) «DW_RLE_base_address») (toward x false) (stop isLive)
 olderStep End = stop isDead
 olderStep NoEntry = stop (refused (refusalOfList NoEntry))

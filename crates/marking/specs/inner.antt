@@ -2,6 +2,5 @@
 pub mod Columns
 pub mod Passes
 pub mod ReferenceTable
-pub mod Refusals
 pub mod Resolution
 pub mod Survivors

@@ -5,7 +5,7 @@ ghost use Prim.Native.Nat.{_/_, _<_};
 ghost use lib.ListN.{length};
 ghost use Rattle.marking.specs.Below.{every, tab};
 ghost use Rattle.marking.specs.Graph.{graph, parentFits, pairFits, rootFits, takes as takesOf};
-ghost use Rattle.marking.specs.Marks.{answerOf, endMarks, keptCount};
+ghost use Rattle.marking.specs.Marks.{markAnswer, endMarks, keptCount};
 ghost use Rattle.marking.specs.inner.Passes.{Pass, WithParents, WithPairs, WithBoth, Along, Up, Settled, ParentsFit};
 ghost use Rattle.marking.specs.inner.Passes.{PairsFit, startMark, namesFirst, endFirst};
 use crate::rules::NO_PARENT;
@@ -237,7 +237,7 @@ pub(crate) fn mark_with(
 ) -> Marked
     ensures { λ r. ⌜ (
         let lent = graph (now (parents .entry)) (now (pairs .entry)) (now (roots .entry)) in
-        (r ≡ answerOf lent (length (now (marks .entry))))
+        (r ≡ markAnswer lent (length (now (marks .entry))))
         × (now (marks .exit) ≡ endMarks lent (length (now (marks .entry))))
         ) ⌝ }
 {
@@ -262,7 +262,7 @@ pub(crate) fn mark_with(
 pub fn mark(parents: &[u32], pairs: &[u32], roots: &[u8], marks: &mut [u8]) -> Marked
     ensures { λ r. ⌜ (
         let lent = graph (now (parents .entry)) (now (pairs .entry)) (now (roots .entry)) in
-        (r ≡ answerOf lent (length (now (marks .entry))))
+        (r ≡ markAnswer lent (length (now (marks .entry))))
         × (now (marks .exit) ≡ endMarks lent (length (now (marks .entry))))
         ) ⌝ }
 {

@@ -9,7 +9,7 @@ use native.Mathlib.Omega.{arith}
 use lib.ListN.{length, drop, length-drop}
 use lib.Seq.{drop-drop}
 use lib.Dec.{T}
-use Rattle.readers.specs.Choice.{bind, check, pick}
+use Rattle.readers.specs.Choice.{bind, check, pick, _and_}
 
 unfoldable pub All {ℓ} : {A : Type ℓ} → (A → Type 0) → Option A → Type 0
 All P none = Unit {0}
@@ -45,6 +45,17 @@ pub pick-either {ℓ κ} : {X : Type ℓ} (P : X → Type κ) (b : Bool) (x y : 
 unfolding pick
 pick-either P true x y f g = f tt
 pick-either P false x y f g = g tt
+
+-- two tests
+pub and-both : (a b : Bool) → T (a and b) → T a × T b
+unfolding _and_
+and-both true b t = (tt, t)
+and-both false b t = absurd t
+
+pub both-and : (a b : Bool) → T a → T b → T (a and b)
+unfolding _and_
+both-and true b s t = t
+both-and false b s t = absurd s
 
 pub check-cong {ℓ} : {X : Type ℓ} (b : Bool) (x y : Option X) → (T b → x ≡ y) → check b x ≡ check b y
 unfolding check

@@ -8,13 +8,13 @@ use mathlib.Core.List.{List, [], _∷_, _++_, append-assoc, append-nil}
 use native.Mathlib.Omega.{arith}
 use lib.ListN.{length, take, drop, length-append, length-drop}
 use lib.Seq.{length-take-le, take-at, drop-at, take-append-le, take-take, take-add}
-use lib.Dec.{T, eqb}
+use lib.Dec.{T, leb, ltb, eqb}
 use mir.Facts.{yes-ltb, ltb-yes, yes-leb, leb-yes}
-use Rattle.readers.specs.Choice.{pick, bind}
-use Rattle.readers.proofs.Choice.{pick-yes, pick-no, check-yes, bind-at, bind-none, bind-cong, All, all-some, all-none, all-of, all-pick, all-check, all-bind, all-map, all-triv, Took, took-none, took-add, took-length}
+use Rattle.readers.specs.Choice.{pick, bind, _and_}
+use Rattle.readers.proofs.Choice.{pick-yes, pick-no, and-both, both-and, check-yes, bind-at, bind-none, bind-cong, All, all-some, all-none, all-of, all-pick, all-check, all-bind, all-map, all-triv, Took, took-none, took-add, took-length}
 use Rattle.readers.specs.Numbers.{Groups, groups, uleb, unsigned64, sleb, signed64, fixedBytes, fixedValue}
 use Rattle.readers.proofs.Numbers.{GroupsLaw, groups-law, groups-padded, length-padded, length-fixed, fixed-value}
-use Rattle.readers.specs.Layout.{Encoded, ExpressionReader, Fit, ReadFound, Kind, Layout, Patch, Piece, Read, ReadOf, Role, RunOf, Token, afterForm, asBlock, asBounded, asBytes, asExpression, asForms, asLeb, asLink, asNumber, asSigned, asString, before, block, bounded, bytesOf, verbatim, copy, done, expression, fail, field, fixed, forms, formsIn, formsWithin, infixed, inleb, leb128, link, patchable, nothing, number, numberBytes, numberIn, patchAll, patchPiece, patchPieces, patchRead, pieceBytes, readIn, run, short, signed, string, stringIn, tokenIn, unknown, width, within16, writeAll}
+use Rattle.readers.specs.Layout.{Encoded, ExpressionReader, Fit, fits, ReadFound, Kind, Layout, Patch, Piece, Read, ReadOf, Role, RunOf, Token, afterForm, asBlock, asBounded, asBytes, asExpression, asForms, asLeb, asLink, asNumber, asSigned, asString, before, block, bounded, bytesOf, verbatim, copy, done, expression, fail, field, fixed, forms, formsIn, formsWithin, infixed, inleb, leb128, link, patchable, nothing, number, numberBytes, numberIn, patchAll, patchPiece, patchPieces, patchRead, pieceBytes, readIn, run, short, signed, string, stringIn, tokenIn, unknown, width, within16, writeAll}
 
 unfoldable pub kindOf : Encoded → Kind
 kindOf (infixed w) = fixed w
@@ -49,6 +49,28 @@ module _ (s rest : List ℕ) (n : ℕ) (h : n ≤ length s) where
   kept-fits : n ≤ length (take n s ++ rest)
   kept-fits = let l : length (take n s) ≡ n = length-kept in omega (arith, length-append (take n s) rest)
 
+-- a number that can be written so, by its parts
+pub fixed-fit : (w v : ℕ) → Fit (infixed w) v → (w ≤ 8) × (v < 256 ^ w)
+unfolding fits
+fixed-fit w v h = let p = and-both (leb w 8) (ltb v (256 ^ w)) h in (leb-yes {a = w} {b = 8} (p .0), ltb-yes {a = v} {b = 256 ^ w} (p .1))
+
+pub fit-fixed : (w v : ℕ) → w ≤ 8 → v < 256 ^ w → Fit (infixed w) v
+unfolding fits
+fit-fixed w v h k = both-and (leb w 8) (ltb v (256 ^ w)) (yes-leb {a = w} {b = 8} h) (yes-ltb {a = v} {b = 256 ^ w} k)
+
+pub leb-fit : (n v : ℕ) → Fit (inleb n) v → (n < 10) × (v < 128 ^ suc n) × (v < 2 ^ 64)
+unfolding fits
+leb-fit n v h =
+    let p = and-both (ltb n 10) (ltb v (128 ^ suc n) and ltb v (2 ^ 64)) h in
+    let q = and-both (ltb v (128 ^ suc n)) (ltb v (2 ^ 64)) (p .1) in
+    (ltb-yes {a = n} {b = 10} (p .0), ltb-yes {a = v} {b = 128 ^ suc n} (q .0), ltb-yes {a = v} {b = 2 ^ 64} (q .1))
+
+pub fit-leb : (n v : ℕ) → n < 10 → v < 128 ^ suc n → v < 2 ^ 64 → Fit (inleb n) v
+unfolding fits
+fit-leb n v h k l =
+    both-and (ltb n 10) (ltb v (128 ^ suc n) and ltb v (2 ^ 64)) (yes-ltb {a = n} {b = 10} h)
+    (both-and (ltb v (128 ^ suc n)) (ltb v (2 ^ 64)) (yes-ltb {a = v} {b = 128 ^ suc n} k) (yes-ltb {a = v} {b = 2 ^ 64} l))
+
 module _ (big : Bool) where
   -- ---- numbers: written and read
 
@@ -58,15 +80,16 @@ module _ (big : Bool) where
   length-number (inleb n) v = length-padded n v
 
   pub number-written : (e : Encoded) (v : ℕ) (rest : List ℕ) → Fit e v → numberIn big (kindOf e) (numberBytes big e v ++ rest) ≡ some (e, v, rest)
-  unfolding numberBytes Fit kindOf numberIn uleb unsigned64 asLeb
+  unfolding numberBytes kindOf numberIn uleb unsigned64 asLeb
   number-written (infixed w) v rest h =
       let l : length (fixedBytes big w v) ≡ w = length-fixed big w v in
       let t : take w (fixedBytes big w v ++ rest) ≡ fixedBytes big w v = take-at (fixedBytes big w v) rest w l in
-      check-yes _ _ (yes-leb {a = w} {b = 8} (h .0))
+      check-yes _ _ (yes-leb {a = w} {b = 8} (fixed-fit w v h .0))
       ∙ check-yes _ _ (yes-leb {a = w} {b = length (fixedBytes big w v ++ rest)} (omega (arith, length-append (fixedBytes big w v) rest)))
-      ∙ ap₂ (λ (x : ℕ) (y : List ℕ). some (infixed w, x, y)) (ap (fixedValue big) t ∙ fixed-value big w v (h .1)) (drop-at (fixedBytes big w v) rest w l)
+      ∙ ap₂ (λ (x : ℕ) (y : List ℕ). some (infixed w, x, y)) (ap (fixedValue big) t ∙ fixed-value big w v (fixed-fit w v h .1)) (drop-at (fixedBytes big w v) rest w l)
   number-written (inleb n) v rest h =
-      bind-at _ (bind-at _ (groups-padded 10 n v rest (h .0) (h .1)) ∙ check-yes _ _ (yes-ltb {a = v} {b = 2 ^ 64} (h .2)))
+      let p = leb-fit n v h in
+      bind-at _ (bind-at _ (groups-padded 10 n v rest (p .0) (p .1)) ∙ check-yes _ _ (yes-ltb {a = v} {b = 2 ^ 64} (p .2)))
 
   abbrev pub NumberLaw : Kind → List ℕ → ReadFound → Type 0
   NumberLaw k s t =

@@ -1,13 +1,13 @@
 -- Layouts: what stands in the bytes, as data. One reader reads every layout, and the laws of reading are proved once
 -- for all of them (proofs/LayoutLaws.antt): what was read takes so many bytes; it is read so again whatever follows; and
 -- patched at its own width it is read again as patched.
-use Prim.Native.Nat.{ℕ, zero, suc, _+_, _^_, _≤_, _<_}
+use Prim.Native.Nat.{ℕ, zero, suc, _+_, _^_}
 use mathlib.Core.Bool.{Bool}
 use mathlib.Core.Option.{Option, none, some}
 use mathlib.Core.List.{List, [], _∷_, _++_}
 use lib.ListN.{length, take, drop}
-use lib.Dec.{leb, ltb, eqb}
-use Rattle.readers.specs.Choice.{pick, check, bind}
+use lib.Dec.{T, leb, ltb, eqb}
+use Rattle.readers.specs.Choice.{pick, check, bind, _and_}
 use Rattle.readers.specs.Codes.{«DW_FORM_indirect»}
 use Rattle.readers.specs.Numbers.{Groups, groups, uleb, sleb}
 use Rattle.readers.specs.Numbers.{padded, fixedBytes, fixedValue}
@@ -211,7 +211,10 @@ unfoldable pub patchAll : Patch → List Read → List Read
 patchAll f [] = []
 patchAll f (r ∷ rs) = patchRead f r ∷ patchAll f rs
 
--- v can be written so
-unfoldable pub Fit : Encoded → ℕ → Type 0
-Fit (infixed w) v = (w ≤ 8) × (v < 256 ^ w)
-Fit (inleb n) v = (n < 10) × (v < 128 ^ suc n) × (v < 2 ^ 64)
+-- whether a number can be written so
+unfoldable pub fits : Encoded → ℕ → Bool
+fits (infixed w) v = leb w 8 and ltb v (256 ^ w)
+fits (inleb n) v = ltb n 10 and ltb v (128 ^ suc n) and ltb v (2 ^ 64)
+
+abbrev pub Fit : Encoded → ℕ → Type 0
+Fit e v = T (fits e v)

@@ -8,14 +8,15 @@ use lib.Dec.{ltb, eqb}
 use Rattle.readers.specs.Choice.{pick}
 use Rattle.readers.specs.declared.entries.Nesting.{Nesting}
 
--- The definition: the open entries, the innermost first.
-unfoldable pub open′ : Bool → ℕ → List ℕ → List ℕ
-open′ true k stack = k ∷ stack
-open′ false k stack = stack
+-- The definition: the open entries, the innermost first; of each its number, or whatever else is known of it.
+module _ {A : Type 0} where
+  unfoldable pub opened : Bool → A → List A → List A
+  opened true k stack = k ∷ stack
+  opened false k stack = stack
 
-unfoldable pub close : List ℕ → List ℕ
-close [] = []
-close (k ∷ stack) = stack
+  unfoldable pub closed : List A → List A
+  closed [] = []
+  closed (k ∷ stack) = stack
 
 -- 0xffffffff stands for no parent
 unfoldable pub top : List ℕ → ℕ
@@ -27,11 +28,11 @@ top (k ∷ stack) = k
 unfoldable pub nestingOf : List ℕ → Nesting
 nestingOf stack = record { depth = length stack; parent = record { 0 = top stack } }
 
-unfoldable pub opened : Bool → ℕ → Nesting → Nesting
-opened children k n =
+unfoldable pub nestingOpened : Bool → ℕ → Nesting → Nesting
+nestingOpened children k n =
     pick children (pick (ltb (n .depth) (2 ^ 64 - 1)) (record { depth = n .depth + 1; parent = record { 0 = k } }) n) n
 
-unfoldable pub closed : List ℕ → Nesting → Nesting
-closed parents n =
+unfoldable pub nestingClosed : List ℕ → Nesting → Nesting
+nestingClosed parents n =
     pick (eqb (n .depth) 0) n
     (record { depth = n .depth - 1; parent = record { 0 = getD parents (n .parent .0) 4294967295 } })

@@ -4,7 +4,6 @@ pub mod Entries
 pub mod EntryAttributes
 pub mod Fields
 pub mod References
-pub mod Refusals
 pub mod Slots
 pub mod Nesting
 pub mod Forms

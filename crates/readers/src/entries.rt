@@ -3,7 +3,7 @@ ghost use mathlib.Core.Path.{_≡_};
 ghost use mathlib.Core.List.{[]};
 ghost use Rattle.readers.specs.Entries.{valuesAt, stepAt, entryHeadAt};
 ghost use Rattle.readers.specs.Abbreviations.{findAt, findHead};
-ghost use Rattle.readers.specs.Nesting.{nestingOf, opened, closed};
+ghost use Rattle.readers.specs.Nesting.{nestingOf, nestingOpened, nestingClosed};
 use crate::abbreviations::Declaration;
 use crate::abbreviations::DeclarationFound;
 use crate::abbreviations::SpecStep;
@@ -163,7 +163,7 @@ impl Nesting {
 
     // After an entry: its children are open, if it has any.
     pub fn after_entry(self, entry: EntryIndex, children: bool) -> Nesting
-        ensures { λ r. ⌜ r ≡ opened children (entry .0) self ⌝ }
+        ensures { λ r. ⌜ r ≡ nestingOpened children (entry .0) self ⌝ }
     {
         if children {
             if self.depth < 0xffff_ffff_ffff_ffff {
@@ -178,7 +178,7 @@ impl Nesting {
 
     // After a terminator: the open entry's own parent is open again. One that closes nothing changes nothing.
     pub fn after_terminator(self, parents: &[u32]) -> Nesting
-        ensures { λ r. ⌜ r ≡ closed (now (parents .entry)) self ⌝ }
+        ensures { λ r. ⌜ r ≡ nestingClosed (now (parents .entry)) self ⌝ }
     {
         if self.depth == 0 {
             return self;

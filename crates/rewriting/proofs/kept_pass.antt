@@ -8,4 +8,5 @@ pub mod EndsFilled
 pub mod ParentsOf
 pub mod ReadableItems
 pub mod DeepReads
+pub mod EntryReads
 pub mod UnitKept

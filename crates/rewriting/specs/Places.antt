@@ -8,6 +8,7 @@ use lib.ListN.{length}
 use lib.Dec.{leb, eqb}
 use Rattle.readers.specs.Choice.{pick, _and_}
 use Rattle.marking.specs.Marks.{isKept}
+use Rattle.readers.specs.Nesting.{opened, closed}
 use Rattle.readers.specs.Stream.{Item, entry, terminator}
 
 -- an item, and how deep it stands: how many entries are open around it
@@ -15,15 +16,7 @@ pub record NestedItem : Type 0 where
   pub item : Item
   pub depth : ℕ
 
--- the open entries, the innermost first: whether each is kept
-unfoldable pub opened : Bool → Bool → List Bool → List Bool
-opened children kept stack = pick children (kept ∷ stack) stack
-
-unfoldable pub closed : List Bool → List Bool
-closed [] = []
-closed (b ∷ stack) = stack
-
--- a terminator that closes nothing is left out
+-- whether the innermost open entry is kept: a terminator that closes nothing is left out
 unfoldable pub innermost : List Bool → Bool
 innermost [] = false
 innermost (b ∷ stack) = b
@@ -32,7 +25,7 @@ unfoldable pub withIf : Bool → NestedItem → List NestedItem → List NestedI
 withIf true x xs = x ∷ xs
 withIf false x xs = xs
 
--- the kept items, by the marks of the entries from number k on
+-- the kept items, by the marks of the entries from number k on; the stack: whether each open entry is kept
 unfoldable pub keptFrom : List ℕ → ℕ → List Bool → List Item → List NestedItem
 keptFrom marks k stack [] = []
 keptFrom marks k stack (entry x ∷ rest) =

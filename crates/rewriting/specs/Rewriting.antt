@@ -1,14 +1,14 @@
 -- What collect answers (document 01, "collect" and "Rewriting").
-use Prim.Native.Nat.{ℕ, suc, _+_, _-_, _^_}
+use Prim.Native.Nat.{ℕ, _+_, _-_}
 use mathlib.Core.Bool.{Bool, true, false}
 use mathlib.Core.List.{List, [], _∷_, _++_}
 use mathlib.Core.Option.{Option, none, some}
 use lib.ListN.{length, take, drop}
-use lib.Dec.{ltb, leb, eqb}
+use lib.Dec.{leb, eqb}
 use Rattle.readers.specs.Choice.{pick, _and_, _or_}
 use Rattle.readers.specs.Codes.{«DW_AT_location», «DW_AT_ranges»}
 use Rattle.readers.specs.Numbers.{fixedBytes}
-use Rattle.readers.specs.Layout.{Encoded, infixed, inleb, Role, reference, typeReference, sibling, index, absolute}
+use Rattle.readers.specs.Layout.{Role, reference, typeReference, sibling, index, absolute, fits}
 use Rattle.readers.specs.Layout.{Piece, verbatim, patchable, Read, RunOf, Patch, patchAll, readIn, writeAll}
 use Rattle.readers.specs.Expression.{expressionIn}
 use Rattle.readers.specs.Entries.{entryLayout}
@@ -106,6 +106,10 @@ isSome (some n) = true
 unfoldable pub listAt : Lists → ℕ → Option (List ℕ)
 listAt lists k = pick (eqb k 0) (lists .ranges) (pick (eqb k 1) (lists .locations) (lists .strings))
 
+-- the first of two refusals, 0 where there is none
+unfoldable pub orNext : ℕ → ℕ → ℕ
+orNext n m = pick (eqb n 0) m n
+
 module _ (lists : Lists) (map : List Place) (depth : ℕ) where
   -- what a number of an item at a depth becomes
   unfoldable pub newValue : Patch
@@ -123,18 +127,10 @@ module _ (lists : Lists) (map : List Place) (depth : ℕ) where
   hasPlace (index k) v = true
   hasPlace absolute v = true
 
-  -- whether a number can be written so (Layout.antt, Fit)
-  unfoldable pub fits : Encoded → ℕ → Bool
-  fits (infixed w) v = leb w 8 and ltb v (256 ^ w)
-  fits (inleb n) v = ltb n 10 and ltb v (128 ^ suc n) and ltb v (2 ^ 64)
-
   -- 8 where a target has no place, 9 where a value does not fit, 0 where nothing is refused
   unfoldable pub pieceRefusal : Piece → ℕ
   pieceRefusal (verbatim l) = 0
   pieceRefusal (patchable e r v) = pick (hasPlace r v) (pick (fits e (newValue r v)) 0 9) (refusalOfMapped Nothing)
-
-  unfoldable pub orNext : ℕ → ℕ → ℕ
-  orNext n m = pick (eqb n 0) m n
 
   unfoldable pub piecesRefusal : List Piece → ℕ
   piecesRefusal [] = 0
@@ -148,7 +144,7 @@ module _ (x : Sections) (u : Unit) (lists : Lists) (map : List Place) where
   -- the first refusal in stream order
   unfoldable pub refusalFrom : List NestedItem → ℕ
   refusalFrom [] = 0
-  refusalFrom (s ∷ rest) = orNext lists map (s .depth) (readsRefusal lists map (s .depth) (readsAt x u (offsetOf (s .item)))) (refusalFrom rest)
+  refusalFrom (s ∷ rest) = orNext (readsRefusal lists map (s .depth) (readsAt x u (offsetOf (s .item)))) (refusalFrom rest)
 
   -- the kept items written anew
   unfoldable pub bytesFrom : List NestedItem → List ℕ

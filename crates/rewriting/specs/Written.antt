@@ -41,9 +41,10 @@ putIn xs n ys = pick (leb (n + length ys) (length xs)) (put xs n ys) xs
 unfoldable pub numberAt : ℕ → List ℕ → ℕ → ℕ
 numberAt width s at = fixedValue true (take width (drop at s))
 
--- what a table has at place i of its n places; 0 where there is no such place
-unfoldable pub inRoom : ℕ → ℕ → ℕ → ℕ
-inRoom i n x = pick (ltb i n) x 0
+-- what a table of rows of so many bytes has in row i: the number of `width` bytes at a byte of it; 0 where there is no
+-- such row
+unfoldable pub rowNumber : ℕ → ℕ → ℕ → List ℕ → ℕ → ℕ
+rowNumber row byte width table i = pick (ltb i (length table / row)) (numberAt width table (row * i + byte)) 0
 
 -- the number that is read, 0 where there is none
 unfoldable pub valueOr : Number → ℕ
@@ -64,8 +65,8 @@ abbrev pub listBytes : List ℕ → List ℕ
 listBytes xs = runBytes 8 xs
 
 -- what any list has at a place
-abbrev pub listAt : List ℕ → ℕ → ℕ
-listAt list i = inRoom i (length list / 8) (numberAt 8 list (8 * i))
+abbrev pub listNumber : List ℕ → ℕ → ℕ
+listNumber list i = rowNumber 8 0 8 list i
 
 -- ---- the map: old offset, new offset and depth of each place, four bytes each
 
@@ -77,14 +78,14 @@ unfoldable pub mapBytes : List Place → List ℕ
 mapBytes ps = runBytes 4 (columns ps)
 
 -- what any map has at a place: old offset, new offset, depth
-unfoldable pub oldAt : List ℕ → ℕ → ℕ
-oldAt map i = inRoom i (length map / 12) (numberAt 4 map (12 * i))
+abbrev pub oldAt : List ℕ → ℕ → ℕ
+oldAt map i = rowNumber 12 0 4 map i
 
-unfoldable pub newAt : List ℕ → ℕ → ℕ
-newAt map i = inRoom i (length map / 12) (numberAt 4 map (12 * i + 4))
+abbrev pub newAt : List ℕ → ℕ → ℕ
+newAt map i = rowNumber 12 4 4 map i
 
-unfoldable pub depthAt : List ℕ → ℕ → ℕ
-depthAt map i = inRoom i (length map / 12) (numberAt 4 map (12 * i + 8))
+abbrev pub depthAt : List ℕ → ℕ → ℕ
+depthAt map i = rowNumber 12 8 4 map i
 
 -- where the halving of the places from low to high ends, by what is read at each: at the first that is not below v,
 -- where the numbers ascend; n halvings are enough for n places

@@ -10,5 +10,4 @@ pub mod MapFilled
 pub mod Measures
 pub mod NextKept
 pub mod Parents
-pub mod Refusals
 pub mod Written

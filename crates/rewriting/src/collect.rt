@@ -6,11 +6,11 @@ ghost use Rattle.readers.specs.Choice.{zeros};
 ghost use Rattle.readers.specs.Abbreviations.{Placed};
 ghost use Rattle.marking.specs.Analysis.{Sections, Rooms, EntryRow, sections};
 ghost use Rattle.rewriting.specs.Places.{keptFrom};
-ghost use Rattle.rewriting.specs.Rewriting.{Unit as Unit′, Lists, Room, itemsIn, listsOf, noLists, untouched, rewriteOf, collectOf};
+ghost use Rattle.rewriting.specs.Rewriting.{Unit as Unit′, unitOf, Lists, Room, itemsIn, listsOf, noLists, untouched, rewriteOf, collectOf};
 ghost use Rattle.rewriting.specs.inner.IndexLists.{PassInput};
 ghost use Rattle.rewriting.specs.inner.Emission.{ListsLent};
 ghost use Rattle.rewriting.specs.Outputs.{roomBy, roomOf, answerFor, mapFor, listFor, outputFor, rangesIn, locationsIn, stringsIn};
-ghost use Rattle.rewriting.specs.inner.Leaving.{Answers, ownUnit, Tabled, Blank, markedOf, ListsAnswer, Writable, WriteAnswer};
+ghost use Rattle.rewriting.specs.inner.Leaving.{Answers, Tabled, Blank, markedOf, ListsAnswer, Writable, WriteAnswer};
 ghost use Rattle.rewriting.specs.inner.Leaving.{leftBy, taskOf, MarkedTables};
 use crate::emit_entry::Emitted;
 use crate::emit_unit::emit_dies;
@@ -350,7 +350,7 @@ fn rewrite_unit(
         (now («string_list» .entry)) (now (out .entry))
         → let room = roomBy tables (length (now (map .entry))) (length (now («range_list» .entry)))
         (length (now («location_list» .entry))) (length (now («string_list» .entry))) (length (now (out .entry))) in
-        Answers (markedOf x room «type_units» (ownUnit h (now (section .entry)) ds) rows) c (length (now (map .entry)))
+        Answers (markedOf x room «type_units» (unitOf h (now (section .entry)) ds) rows) c (length (now (map .entry)))
         (length (now («range_list» .entry))) (length (now («location_list» .entry)))
         (length (now («string_list» .entry))) (length (now (out .entry)))
         (now (map .exit)) (now («range_list» .exit)) (now («location_list» .exit)) (now («string_list» .exit)) (now (out .exit)))

@@ -9,4 +9,5 @@ pub mod lists;
 pub mod map;
 pub mod numbers;
 pub mod offset_pass;
+pub mod rows;
 pub mod siblings;

@@ -1,12 +1,13 @@
 // The map: old offset, new offset and depth of each place, four big-endian bytes each, in ascending order.
 ghost use mathlib.Core.Path.{_≡_};
-ghost use Prim.Native.Nat.{_+_, _*_, _/_, _≤_};
+ghost use Prim.Native.Nat.{_/_};
 ghost use lib.ListN.{length};
 ghost use lib.Dec.{eqb};
-ghost use Rattle.rewriting.specs.Written.{numberAt, inRoom, oldAt, newAt, depthAt, halved, lookedUp};
+ghost use Rattle.rewriting.specs.Written.{oldAt, newAt, depthAt, halved, lookedUp};
 ghost use Rattle.rewriting.specs.inner.Written.{WithPlace};
-use crate::numbers::big_endian_at;
 use crate::numbers::put_big_endian;
+use crate::rows::first_row;
+use crate::rows::row_number;
 use readers::offsets::UnitOffset;
 
 pub enum Mapped {
@@ -21,35 +22,23 @@ pub fn most_places(map: &[u8]) -> usize
     map.len() / 12
 }
 
-// The number of a place that stands at a byte of it; 0 where there is no such place.
-fn number_of(map: &[u8], i: usize, byte: usize) -> u64
-    requires { ⌜ byte ≤ 8 ⌝ }
-    ensures { λ r. ⌜
-        r ≡ inRoom i (length (now (map .entry)) / 12) (numberAt 4 (now (map .entry)) (12 * i + byte)) ⌝ }
-{
-    if i >= most_places(map) {
-        return 0;
-    }
-    big_endian_at(map, 12 * i + byte, 4)
-}
-
 // What a place has: its old offset, its new one and its depth; 0 where there is none.
 pub fn old_at(map: &[u8], i: usize) -> UnitOffset
     ensures { λ r. ⌜ r .0 ≡ oldAt (now (map .entry)) i ⌝ }
 {
-    UnitOffset(number_of(map, i, 0))
+    UnitOffset(row_number(map, 12, 0, 4, i))
 }
 
 pub fn new_at(map: &[u8], i: usize) -> UnitOffset
     ensures { λ r. ⌜ r .0 ≡ newAt (now (map .entry)) i ⌝ }
 {
-    UnitOffset(number_of(map, i, 4))
+    UnitOffset(row_number(map, 12, 4, 4, i))
 }
 
 pub fn depth_at(map: &[u8], i: usize) -> u64
     ensures { λ r. ⌜ r ≡ depthAt (now (map .entry)) i ⌝ }
 {
-    number_of(map, i, 8)
+    row_number(map, 12, 8, 4, i)
 }
 
 // Whether a place has an old offset.
@@ -76,18 +65,7 @@ pub(crate) fn put_place(map: &mut [u8], i: usize, old: UnitOffset, new: UnitOffs
 pub fn before(map: &[u8], places: usize, old: UnitOffset) -> usize
     ensures { λ r. ⌜ r ≡ halved places (oldAt (now (map .entry))) (old .0) 0 places ⌝ }
 {
-    let mut low: usize = 0;
-    let mut high = places;
-    while low < high {
-        let middle = low + (high - low) / 2;
-        let offset = old_at(map, middle);
-        if offset.0 < old.0 {
-            low = middle + 1;
-        } else {
-            high = middle;
-        }
-    }
-    low
+    first_row(map, 12, 4, 0, places, old.0)
 }
 
 // The new offset of an old one.

@@ -7,11 +7,11 @@ use mathlib.Core.Option.{some}
 use lib.ListN.{length}
 use lib.Dec.{T}
 use Rattle.readers.specs.Choice.{pick}
-use Rattle.readers.specs.Nesting.{open′, close}
+use Rattle.readers.specs.Nesting.{opened, closed}
 use Rattle.readers.specs.Stream.{Item, entry, terminator}
 use Rattle.readers.specs.declared.entries.Entry.{Entry}
 use Rattle.marking.specs.Marks.{isKept}
-use Rattle.rewriting.specs.Places.{NestedItem, opened, closed, innermost, withIf, keptFrom, offsetOf, sizeOf, Place, placesFrom, newOf, oldOffsets}
+use Rattle.rewriting.specs.Places.{NestedItem, innermost, withIf, keptFrom, offsetOf, sizeOf, Place, placesFrom, newOf, oldOffsets}
 use Rattle.marking.specs.Members.{here}
 use Rattle.rewriting.specs.Ascending.{Ascending}
 use Rattle.laws.specs.inner.Maps.{MappedTo}
@@ -44,13 +44,13 @@ module _ (map : List Place) where
   all-thinned (false ∷ bs) (v ∷ vs) ns a t = absurd (a .0)
 
   thinned-kept : (children : Bool) (v n : ℕ) (bs : List Bool) (vs ns : List ℕ) → newOf map v ≡ some n → Thinned bs vs ns
-      → Thinned (opened children true bs) (open′ children v vs) (open′ children n ns)
-  unfolding opened open′ pick Thinned
+      → Thinned (opened children true bs) (opened children v vs) (opened children n ns)
+  unfolding opened Thinned
   thinned-kept true v n bs vs ns q t = (q, t)
   thinned-kept false v n bs vs ns q t = t
 
-  thinned-left : (children : Bool) (v : ℕ) (bs : List Bool) (vs ns : List ℕ) → Thinned bs vs ns → Thinned (opened children false bs) (open′ children v vs) ns
-  unfolding opened open′ pick Thinned
+  thinned-left : (children : Bool) (v : ℕ) (bs : List Bool) (vs ns : List ℕ) → Thinned bs vs ns → Thinned (opened children false bs) (opened children v vs) ns
+  unfolding opened Thinned
   thinned-left true v bs vs ns t = t
   thinned-left false v bs vs ns t = t
 
@@ -71,21 +71,21 @@ module _ (map : List Place) where
   Nests bs vs olds kept = (n : ℕ) (ns : List ℕ) → Thinned bs vs ns → Placed n kept → AllMapTo map olds (ancestorsFrom ns (movedFrom n kept))
 
   entry-nests : (x : Entry) (b : Bool) (bs : List Bool) (vs : List ℕ) (olds : List (List ℕ)) (kept : List NestedItem) → (T b → AllKept bs)
-      → Nests (opened (x .declaration .children) b bs) (open′ (x .declaration .children) (x .offset .0) vs) olds kept
+      → Nests (opened (x .declaration .children) b bs) (opened (x .declaration .children) (x .offset .0) vs) olds kept
       → Nests bs vs (pick b (vs ∷ olds) olds) (withIf b (record { item = entry x; depth = length bs }) kept)
   unfolding withIf pick movedFrom movedItem movedEntry ancestorsFrom AllMapTo offsetOf
   entry-nests x true bs vs olds kept all ih n ns t h = (
     all-thinned bs vs ns (all tt) t,
-    ih (n + sizeOf (entry x)) (open′ (x .declaration .children) n ns)
+    ih (n + sizeOf (entry x)) (opened (x .declaration .children) n ns)
         (thinned-kept (x .declaration .children) (x .offset .0) n bs vs ns (placed-first n (record { item = entry x; depth = length bs }) kept h) t)
         (placed-next n (record { item = entry x; depth = length bs }) kept h),
   )
   entry-nests x false bs vs olds kept all ih n ns t h = ih n ns (thinned-left (x .declaration .children) (x .offset .0) bs vs ns t) h
 
   terminator-nests : (a b : ℕ) (bs : List Bool) (vs : List ℕ) (olds : List (List ℕ)) (kept : List NestedItem) → Nested bs
-      → Nests (closed bs) (close vs) olds kept
+      → Nests (closed bs) (closed vs) olds kept
       → Nests bs vs (pick (innermost bs) (vs ∷ olds) olds) (withIf (innermost bs) (record { item = terminator a b; depth = length bs }) kept)
-  unfolding withIf pick innermost closed close Nested AllKept Thinned movedFrom movedItem ancestorsFrom AllMapTo
+  unfolding withIf pick innermost closed Nested AllKept Thinned movedFrom movedItem ancestorsFrom AllMapTo
   terminator-nests a b [] [] olds kept h ih n ns t p = ih n ns t p
   terminator-nests a b [] (v ∷ vs) olds kept h ih n ns t p = absurd t
   terminator-nests a b (c ∷ bs) [] olds kept h ih n ns t p = absurd t
@@ -103,10 +103,10 @@ module _ (map : List Place) where
   nests-from marks k bs vs (entry x ∷ rest) h c =
       let all : T (isKept marks k) → AllKept bs = (λ t. all-by bs h (c .0 t)) in
       entry-nests x (isKept marks k) bs vs _ _ all
-      (nests-from marks (suc k) (opened (x .declaration .children) (isKept marks k) bs) (open′ (x .declaration .children) (x .offset .0) vs) rest
+      (nests-from marks (suc k) (opened (x .declaration .children) (isKept marks k) bs) (opened (x .declaration .children) (x .offset .0) vs) rest
       (nested-open (x .declaration .children) (isKept marks k) bs h all) (c .1))
   nests-from marks k bs vs (terminator a b ∷ rest) h c =
-      terminator-nests a b bs vs _ _ h (nests-from marks k (closed bs) (close vs) rest (nested-close bs h) c)
+      terminator-nests a b bs vs _ _ h (nests-from marks k (closed bs) (closed vs) rest (nested-close bs h) c)
 
 -- THE nesting again
 pub ancestors-again : (marks : List ℕ) (items : List Item) → ParentsKept marks 0 [] items → (n : ℕ) → Ascending (oldOffsets (placesFrom n (keptFrom marks 0 [] items)))

@@ -6,12 +6,11 @@ use mathlib.Core.List.{List, [], _∷_, map}
 use native.Mathlib.Omega.{arith}
 use lib.ListN.{length}
 use lib.Dec.{T}
-use Rattle.readers.specs.Choice.{pick}
-use Rattle.readers.specs.Nesting.{open′, close}
+use Rattle.readers.specs.Nesting.{opened, closed}
 use Rattle.readers.specs.declared.entries.Entry.{Entry}
 use Rattle.marking.specs.Marks.{isKept}
 use Rattle.readers.specs.Stream.{Item, entry, terminator}
-use Rattle.rewriting.specs.Places.{NestedItem, opened, closed, innermost, withIf, keptFrom, sizeOf, Place, placesFrom}
+use Rattle.rewriting.specs.Places.{NestedItem, innermost, withIf, keptFrom, sizeOf, Place, placesFrom}
 use Rattle.laws.specs.Moved.{movedEntry, movedItem, depthsFrom}
 use Rattle.laws.specs.inner.Moved.{movedFrom, ParentsKept}
 
@@ -43,7 +42,7 @@ all-by [] n h = tt
 all-by (b ∷ stack) n h = let t : T b = h (let z : 0 < suc (length stack) = omega arith in z) in (t, n .0 t)
 
 pub nested-open : (children b : Bool) (stack : List Bool) → Nested stack → (T b → AllKept stack) → Nested (opened children b stack)
-unfolding opened pick Nested
+unfolding opened Nested
 nested-open true b stack n h = (h, n)
 nested-open false b stack n h = n
 
@@ -52,18 +51,18 @@ unfolding closed Nested
 nested-close [] n = tt
 nested-close (b ∷ stack) n = n .1
 
-open-kept : (children : Bool) (k : ℕ) (st : List ℕ) (stack : List Bool) → length st ≡ keptOpen stack → length (open′ children k st) ≡ keptOpen (opened children true stack)
-unfolding open′ opened pick keptOpen
+open-kept : (children : Bool) (k : ℕ) (st : List ℕ) (stack : List Bool) → length st ≡ keptOpen stack → length (opened children k st) ≡ keptOpen (opened children true stack)
+unfolding opened keptOpen
 open-kept true k st stack l = ap suc l
 open-kept false k st stack l = l
 
 open-left : (children : Bool) (stack : List Bool) → keptOpen (opened children false stack) ≡ keptOpen stack
-unfolding opened pick keptOpen
+unfolding opened keptOpen
 open-left true stack = refl
 open-left false stack = refl
 
-close-kept : (st : List ℕ) (n : ℕ) → length st ≡ suc n → length (close st) ≡ n
-unfolding close
+close-kept : (st : List ℕ) (n : ℕ) → length st ≡ suc n → length (closed st) ≡ n
+unfolding closed
 close-kept [] n l = let h : 0 ≡ suc n = l in absurd (omega arith)
 close-kept (k ∷ st) n l = let h : suc (length st) ≡ suc n = l in omega arith
 
@@ -81,7 +80,7 @@ entry-deep : (x : Entry) (b : Bool) (stack : List Bool) (kept : List NestedItem)
 unfolding withIf movedFrom movedItem movedEntry depthsFrom
 entry-deep x true stack kept all ih n j st l =
     ap₂ (λ (d : ℕ) (ds : List ℕ). d ∷ ds) (l ∙ all-open stack (all tt))
-    (ih (n + sizeOf (entry x)) (suc j) (open′ (x .declaration .children) j st) (open-kept (x .declaration .children) j st stack l))
+    (ih (n + sizeOf (entry x)) (suc j) (opened (x .declaration .children) j st) (open-kept (x .declaration .children) j st stack l))
 entry-deep x false stack kept all ih n j st l = ih n j st (l ∙ sym (open-left (x .declaration .children) stack))
 
 terminator-deep : (a b : ℕ) (stack : List Bool) (kept : List NestedItem) → Nested stack → Deep (closed stack) kept
@@ -90,7 +89,7 @@ unfolding withIf innermost closed keptOpen Nested movedFrom movedItem depthsFrom
 terminator-deep a b [] kept h ih n j st l = ih n j st l
 terminator-deep a b (true ∷ stack) kept h ih n j st l =
     ap₂ (λ (d : ℕ) (ds : List ℕ). d ∷ ds) (l ∙ ap suc (all-open stack (h .0 tt)))
-    (ih (n + sizeOf (terminator a b)) j (close st) (close-kept st (keptOpen stack) l))
+    (ih (n + sizeOf (terminator a b)) j (closed st) (close-kept st (keptOpen stack) l))
 terminator-deep a b (false ∷ stack) kept h ih n j st l = ih n j st l
 
 -- of the items of a stretch, given the open entries

@@ -13,12 +13,13 @@ use Rattle.readers.specs.declared.abbreviations.DeclarationFound.{DeclarationFo
 use Rattle.readers.specs.declared.entries.Entry.{Entry}
 use Rattle.readers.specs.declared.entries.Step.the-variants.{Entry as Entry′, Terminator}
 use Rattle.readers.specs.Stream.{Item, entry, terminator, Items, push, itemsFrom}
-use Rattle.rewriting.specs.Places.{NestedItem, opened, closed, innermost, withIf, keptFrom, offsetOf, sizeOf, sizeFrom}
+use Rattle.rewriting.specs.Places.{NestedItem, innermost, withIf, keptFrom, offsetOf, sizeOf, sizeFrom}
 use Rattle.marking.specs.Members.{Member, here, there}
 use Rattle.laws.specs.inner.Maps.{Sized}
 use Rattle.laws.specs.LeftOut.{leftFrom, sizesOf}
 use Rattle.marking.proofs.Members.{nothing-in}
 use Rattle.readers.proofs.Streams.{EntryInside}
+use Rattle.readers.specs.Nesting.{opened, closed}
 use Rattle.rewriting.proofs.kept_pass.Items.{items-by}
 
 -- ---- kept and left out

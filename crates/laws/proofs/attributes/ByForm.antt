@@ -11,7 +11,7 @@ use lib.Seq.{drop-drop}
 use lib.Dec.{T, eqb, leb}
 use mir.Facts.{leb-yes, yes-leb, eqb-yes, eqb-no, yes-eqb, no-eqb}
 use Rattle.readers.specs.Choice.{pick, _and_, _or_}
-use Rattle.readers.proofs.Choice.{pick-yes, pick-no, either, all-of}
+use Rattle.readers.proofs.Choice.{pick-yes, pick-no, either, all-of, and-both, both-and}
 use Rattle.readers.specs.Layout.{Kind, Encoded, Role, reference, typeReference, sibling, index, absolute, Token, nothing, number, bounded, forms, signed, link, string, run, block, expression, unknown, Layout, patchable, Read, ExpressionReader, asBytes, tokenIn, readIn, bytesOf, writeAll, Patch}
 use Rattle.readers.proofs.LayoutLaws.{ReadLaw, read-law}
 use Rattle.readers.specs.Expression.{expressionIn}
@@ -42,7 +42,7 @@ use Rattle.laws.specs.AttributesAgain.{newNumber, useIn, SameAttribute, 
 use Rattle.laws.specs.Thinned.{Pairwise, Becomes, thinnedOf, Thinned}
 use Rattle.laws.specs.ByForm.{formOf, numberOf, RefersInUnit, AttributeByForm, EntryByForm}
 use Rattle.rewriting.proofs.write_pass.Expressions.{isExpression}
-use Rattle.rewriting.proofs.write_pass.ValueForms.{own, LinkForm, and-both, reference-form, ranges-form, locations-form, strings-form}
+use Rattle.rewriting.proofs.write_pass.ValueForms.{own, LinkForm, reference-form, ranges-form, locations-form, strings-form}
 use Rattle.laws.proofs.attributes.ValuesAgain.{same-reader, LinkRead, link-read, ExpressionRead, expression-read, token-known}
 use Rattle.laws.proofs.attributes.AttributesAgain.{Direct, direct-all, Indirect, indirect-all, shallow-one, shallow-two, Divided, divided, more}
 use Rattle.rewriting.proofs.kept_pass.ItemDepths.{Stands}
@@ -243,14 +243,9 @@ module _ (e : Encoding) (unit : List ℕ) where
 
 -- ---- what a form is used as
 
-both : (a b : Bool) → T a → T b → T (a and b)
-unfolding _and_
-both true b h k = k
-both false b h k = absurd h
-
 reference-use : (e : Encoding) (name f : ℕ) → RefersInUnit f → useOf name f ≡ as′ (own e name)
 unfolding useOf
-reference-use e name f h = pick-yes _ _ _ (both (leb 0x11 f) (leb f 0x15) (yes-leb {a = 0x11} {b = f} (h .0)) (yes-leb {a = f} {b = 0x15} (h .1)))
+reference-use e name f h = pick-yes _ _ _ (both-and (leb 0x11 f) (leb f 0x15) (yes-leb {a = 0x11} {b = f} (h .0)) (yes-leb {a = f} {b = 0x15} (h .1)))
 
 use-index : (u : Use) (k : ℕ) → k < 3 → useList u ≡ k → u ≡ as′ (index k)
 unfolding useList roleList

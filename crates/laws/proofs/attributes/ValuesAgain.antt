@@ -12,7 +12,7 @@ use lib.Seq.{length-take-le, take-at, drop-at, drop-append-le, drop-drop}
 use lib.Dec.{T, eqb, leb}
 use mir.Facts.{leb-yes, leb-no, eqb-yes}
 use Rattle.readers.specs.Choice.{pick, _and_, _or_, bind}
-use Rattle.readers.proofs.Choice.{pick-yes, pick-no, either, bind-at, check-yes, All, all-some, all-none, all-of, all-bind, all-check, all-triv}
+use Rattle.readers.proofs.Choice.{pick-yes, pick-no, either, bind-at, check-yes, All, all-some, all-none, all-of, all-bind, all-check, all-triv, and-both}
 use Rattle.readers.specs.Numbers.{uleb, sleb}
 use Rattle.readers.specs.Layout.{Kind, Encoded, Role, index, Token, nothing, number, bounded, forms, signed, link, string, run, block, expression, unknown, Piece, verbatim, patchable, Read, ReadOf, ExpressionReader, asBytes, copy, asNumber, asBounded, asForms, asSigned, asLink, asString, asBlock, asExpression, numberIn, formsIn, stringIn, tokenIn, bytesOf, pieceBytes, Patch, patchPiece, patchPieces, patchRead}
 use Rattle.readers.proofs.LayoutLaws.{LebLaw, uleb-law, TokenLaw, token-law, WholeLaw, FitPieces, same-size}
@@ -26,7 +26,7 @@ use Rattle.rewriting.specs.Emission.{between}
 use Rattle.laws.specs.AttributesAgain.{newNumber, SameOperations}
 use Rattle.rewriting.proofs.map_pass.Exact.{useOk, tokenOk, token-ok, Exactly, inExpression, expression-exactly}
 use Rattle.rewriting.proofs.write_pass.Expressions.{isExpression}
-use Rattle.rewriting.proofs.write_pass.ValueForms.{formIs, own, LinkForm, and-both, reference-form, ranges-form, locations-form, strings-form}
+use Rattle.rewriting.proofs.write_pass.ValueForms.{formIs, own, LinkForm, reference-form, ranges-form, locations-form, strings-form}
 
 -- ---- parts of bytes
 

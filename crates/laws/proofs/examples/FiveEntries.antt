@@ -7,7 +7,7 @@ use Prim.Native.Nat.{ℕ}
 use Rattle.readers.specs.Choice.{pick, _and_, _or_, check, bind}
 use Rattle.readers.proofs.Choice.{All}
 use Rattle.readers.specs.Numbers.{below, groups, unsigned64, uleb, negative, signed64, sleb, padded, littleBytes, littleValue, ordered, fixedBytes, fixedValue}
-use Rattle.readers.specs.Layout.{asBytes, width, asLeb, stringIn, within16, short, afterForm, formsWithin, formsIn, copy, asNumber, asLink, asBounded, asForms, asSigned, asString, asBlock, asExpression, before, numberIn, tokenIn, readIn, numberBytes, pieceBytes, bytesOf, writeAll, patchPiece, patchPieces, patchRead, patchAll, Fit}
+use Rattle.readers.specs.Layout.{asBytes, width, asLeb, stringIn, within16, short, afterForm, formsWithin, formsIn, copy, asNumber, asLink, asBounded, asForms, asSigned, asString, asBlock, asExpression, before, numberIn, tokenIn, readIn, numberBytes, pieceBytes, bytesOf, writeAll, patchPiece, patchPieces, patchRead, patchAll, fits}
 use Rattle.readers.proofs.LayoutLaws.{kindOf, FitPiece, FitPieces, FitAll}
 use Rattle.readers.specs.Tokens.{numberAs, tokenOf}
 use Rattle.readers.specs.Operations.{unreadableRow, rows, rowOf, rowLayout, operations, rowAmong, operationRow, operation, rangeEntries, locationEntries, listRow}
@@ -25,26 +25,26 @@ use Rattle.readers.specs.Header.{present, right, encodingOf, headerMade, header
 use Rattle.readers.specs.Lists.{listStart, fromBase, listOffset}
 use Rattle.readers.specs.Abbreviations.{numberSpec, implicitSpec, specAt, specTurn, attributesFrom, scannedTo, pastAttributes, numberDeclaration, movedDeclaration, headAt, wholeDeclaration, declarationAt, declarationTurn, declarationsFrom, declaredIn, isFound, distinct, checkDistinct, abbreviationsOf, asChecked, checkedOf, indexed, indexFor, indexOf, searchTurn, foundBy, searchAt, declarationFound, findAt}
 use Rattle.readers.specs.Entries.{attributeOfReads, asAttribute, attributeAt, then, attributesLayout, specsLayout, asPast, valuesAt, foundLayout, entryLayout, entryFound, stepOfReads, asStep, stepAt}
-use Rattle.readers.specs.Nesting.{open′, close, top, nestingOf, opened, closed}
+use Rattle.readers.specs.Nesting.{opened, closed, top, nestingOf, nestingOpened, nestingClosed}
 use Rattle.marking.specs.Addresses.{isTombstone, byteLiveness, lookupAt}
 use Rattle.marking.specs.Walking.{onNext, walkWithin, walk}
 use Rattle.marking.proofs.Walking.{Forward}
 use Rattle.marking.specs.Roots.{orElse, onLookup, turnOf, rangeEntry, rangeStep, rangesLive, operationStep, locationLive, olderStep, olderLive, lowPc, lowPcs, locations, otherRanges, rangesOf, firstRanges, rootTest, baseFrom, baseAfter}
 use Rattle.readers.specs.EntryAttributes.{onAttribute, valuesOf, onSpec, specsWithin, specsFrom, entryValues, taken, takenBy, nextAttribute}
-use Rattle.marking.specs.EntryReferences.{after, andThen, targets, walkFound, expressionFound, locationFound, onFound, locationStep, listFound, attributeFound, attributesFound}
+use Rattle.marking.specs.EntryReferences.{after, andThen, targets, walkFound, expressionFound, locationFound, onLocation, locationStep, listFound, attributeFound, attributesFound}
 use Rattle.marking.specs.Below.{any, every, count, tab}
 use Rattle.marking.specs.Graph.{isParent, isRoot, references, names, parentFits, pairFits, rootFits, wellFormed, takes}
 use Rattle.marking.specs.Markings.{climbs, isDescendant, namedBy, isTop, isLive, justified}
 use Rattle.laws.specs.Markings.{accepts, step, run, nothing}
-use Rattle.marking.specs.Marks.{has, round, rounds, keptOf, markOf, marksOf, isKept, keptCount, answerOf, endMarks}
+use Rattle.marking.specs.Marks.{has, round, rounds, keptOf, markOf, marksOf, isKept, keptCount, markAnswer, endMarks}
 use Rattle.readers.specs.Stream.{push as push′Stream, onStep, itemsWithin, itemsFrom}
-use Rattle.marking.specs.Analysis.{onto, onVerdict, onFound as onFound′Analysis, valuesOfEntry, rootOf, namesOf as namesOf′Analysis, baseOf, analyseItems, onDeclared, unitAnalysed, headerAnalysed, analysisOf, sections, rooms}
+use Rattle.marking.specs.Analysis.{onto, onVerdict, onFound, valuesOfEntry, rootOf, namesOf as namesOf′Analysis, baseOf, analyseItems, onDeclared, unitAnalysed, headerAnalysed, analysisOf, sections, rooms}
 use Rattle.marking.specs.Columns.{offsetsIn, parentsIn, rootsIn, namesIn as namesIn′Columns, endsIn, padTo, column}
 use Rattle.marking.specs.Resolution.{entryFrom, pairFor, pairsOfEntry, pairsFrom, pairsIn, graphOf, marksIn, unitMarks, Ascending}
 use Rattle.marking.specs.inner.Resolution.{asEntry}
-use Rattle.rewriting.specs.Places.{opened as opened′Places, closed as closed′Places, innermost, withIf, keptFrom, offsetOf, sizeOf, placesFrom, sizeFrom, newOf, firstFrom, orElse as orElse′Places, siblingOf, Place}
+use Rattle.rewriting.specs.Places.{innermost, withIf, keptFrom, offsetOf, sizeOf, placesFrom, sizeFrom, newOf, firstFrom, orElse as orElse′Places, siblingOf, Place}
 use Rattle.rewriting.specs.Indices.{insert, insertAll, rankIn, indexIn, indicesIn, readIndices, declares, rankOr, countOf}
-use Rattle.rewriting.specs.Rewriting.{itemsIn, readsOr, readsAt, indicesFrom, itemDeclares, anyDeclares, listOf, listsOf, orSelf, isSome, listAt, newValue, hasPlace, fits, pieceRefusal, orNext, piecesRefusal, readsRefusal, refusalFrom, bytesFrom, unitBytes, listsFit, orRefused, rewriteOf, marksCollected, rowsCollected, analysedCollected, declaredCollected, headerCollected, collectOf, Collected, Room, Lists, noLists, untouched, rewritten, refused as refused″}
+use Rattle.rewriting.specs.Rewriting.{itemsIn, readsOr, readsAt, indicesFrom, itemDeclares, anyDeclares, listOf, listsOf, orSelf, isSome, listAt, newValue, hasPlace, pieceRefusal, orNext, piecesRefusal, readsRefusal, refusalFrom, bytesFrom, unitBytes, listsFit, orRefused, rewriteOf, marksCollected, rowsCollected, analysedCollected, declaredCollected, headerCollected, collectOf, Collected, Room, Lists, noLists, untouched, rewritten, refused as refused″}
 use Rattle.rewriting.specs.Written.{groupsFit, paddedAnswer, paddedOut}
 use Rattle.rewriting.specs.declared.numbers.Padded.the-variants.{Written, Refused as Padded′}
 
@@ -85,5 +85,5 @@ pub p1-to-p10 :
     × ((paddedAnswer 0 1 1 ≡ Written) × (paddedOut 0 1 1 ≡ 0x00 ∷ []) × (paddedAnswer 16 2 2 ≡ Written) × (paddedOut 16 2 2 ≡ 0x90 ∷ 0x00 ∷ []))
     × (paddedAnswer 128 1 1 ≡ Padded′ 15)
     × ((isTombstone 0xffffffff 4 ≡ true) × (isTombstone 0xffffffff 8 ≡ false) × (isTombstone 0xffffffff 2 ≡ false))
-unfolding groupsFit paddedAnswer paddedOut pick _and_ _or_ check bind All below groups unsigned64 uleb negative signed64 sleb padded littleBytes littleValue ordered fixedBytes fixedValue asBytes width kindOf asLeb stringIn within16 short afterForm formsWithin formsIn copy asNumber asLink asBounded asForms asSigned asString asBlock asExpression before numberIn tokenIn readIn numberBytes pieceBytes bytesOf writeAll patchPiece patchPieces patchRead patchAll Fit FitPiece FitPieces FitAll numberAs tokenOf unreadableRow rows rowOf rowLayout operations rowAmong operationRow operation rangeEntries locationEntries listRow push onTurn scanWithin scan Goes allPieces andRest expressionWithin expressionIn formTokens tokenAmong formToken useOf valueToken attributeLayout asGroups groupsAt asLebNumber lebAt asFixed fixedAt skipAt asMoved stringAt asFormNumber formsAt linkedValue size fieldOf asField rowOfReads asRow tokenAt fieldAt rowAt numberField boundedField blockField numberAt partOf exprlocAt rowOperation operationOfReads asOperation operationAt listEntry rowEntry entryOfReads asListStep listEntryAt nameIn namesIn isAbsolute anyAbsolute asWalk walkOf named namedType referenceOf counted ownWalk yieldTurn operationTurn walkTurn yielded nextReference namesOf flatOperation flatTurn flat flattened flatFrom walkAnswer referencesAnswer numbersOf namesOr referencesIn answerTable referencesTable present right encodingOf headerMade headerFields headerOf listStart fromBase listOffset numberSpec implicitSpec specAt specTurn attributesFrom scannedTo pastAttributes numberDeclaration movedDeclaration headAt wholeDeclaration declarationAt declarationTurn declarationsFrom declaredIn isFound distinct checkDistinct abbreviationsOf asChecked checkedOf indexed indexFor indexOf searchTurn foundBy searchAt declarationFound findAt attributeOfReads asAttribute attributeAt then attributesLayout specsLayout asPast valuesAt foundLayout entryLayout entryFound stepOfReads asStep stepAt open′ close top nestingOf opened closed isTombstone byteLiveness lookupAt onNext walkWithin walk Forward orElse onLookup turnOf rangeEntry rangeStep rangesLive operationStep locationLive olderStep olderLive lowPc onAttribute valuesOf onSpec specsWithin specsFrom entryValues taken takenBy nextAttribute lowPcs locations otherRanges rangesOf firstRanges rootTest baseFrom baseAfter after andThen targets walkFound expressionFound locationFound onFound locationStep listFound attributeFound attributesFound any every count tab isParent isRoot references names parentFits pairFits rootFits wellFormed takes climbs isDescendant namedBy isTop isLive justified accepts step run nothing has round rounds keptOf markOf marksOf isKept keptCount answerOf endMarks push′Stream onStep itemsWithin itemsFrom onto onVerdict onFound′Analysis valuesOfEntry rootOf namesOf′Analysis baseOf analyseItems onDeclared unitAnalysed headerAnalysed analysisOf offsetsIn parentsIn rootsIn namesIn′Columns endsIn padTo column entryFrom pairFor pairsOfEntry pairsFrom pairsIn graphOf marksIn unitMarks asEntry Ascending opened′Places closed′Places innermost withIf keptFrom offsetOf sizeOf placesFrom sizeFrom newOf firstFrom orElse′Places siblingOf insert insertAll rankIn indexIn indicesIn readIndices declares rankOr countOf itemsIn readsOr readsAt indicesFrom itemDeclares anyDeclares listOf listsOf orSelf isSome listAt newValue hasPlace fits pieceRefusal orNext piecesRefusal readsRefusal refusalFrom bytesFrom unitBytes listsFit orRefused rewriteOf marksCollected rowsCollected analysedCollected declaredCollected headerCollected collectOf
+unfolding groupsFit paddedAnswer paddedOut pick _and_ _or_ check bind All below groups unsigned64 uleb negative signed64 sleb padded littleBytes littleValue ordered fixedBytes fixedValue asBytes width kindOf asLeb stringIn within16 short afterForm formsWithin formsIn copy asNumber asLink asBounded asForms asSigned asString asBlock asExpression before numberIn tokenIn readIn numberBytes pieceBytes bytesOf writeAll patchPiece patchPieces patchRead patchAll FitPiece FitPieces FitAll numberAs tokenOf unreadableRow rows rowOf rowLayout operations rowAmong operationRow operation rangeEntries locationEntries listRow push onTurn scanWithin scan Goes allPieces andRest expressionWithin expressionIn formTokens tokenAmong formToken useOf valueToken attributeLayout asGroups groupsAt asLebNumber lebAt asFixed fixedAt skipAt asMoved stringAt asFormNumber formsAt linkedValue size fieldOf asField rowOfReads asRow tokenAt fieldAt rowAt numberField boundedField blockField numberAt partOf exprlocAt rowOperation operationOfReads asOperation operationAt listEntry rowEntry entryOfReads asListStep listEntryAt nameIn namesIn isAbsolute anyAbsolute asWalk walkOf named namedType referenceOf counted ownWalk yieldTurn operationTurn walkTurn yielded nextReference namesOf flatOperation flatTurn flat flattened flatFrom walkAnswer referencesAnswer numbersOf namesOr referencesIn answerTable referencesTable present right encodingOf headerMade headerFields headerOf listStart fromBase listOffset numberSpec implicitSpec specAt specTurn attributesFrom scannedTo pastAttributes numberDeclaration movedDeclaration headAt wholeDeclaration declarationAt declarationTurn declarationsFrom declaredIn isFound distinct checkDistinct abbreviationsOf asChecked checkedOf indexed indexFor indexOf searchTurn foundBy searchAt declarationFound findAt attributeOfReads asAttribute attributeAt then attributesLayout specsLayout asPast valuesAt foundLayout entryLayout entryFound stepOfReads asStep stepAt opened closed top nestingOf nestingOpened nestingClosed isTombstone byteLiveness lookupAt onNext walkWithin walk Forward orElse onLookup turnOf rangeEntry rangeStep rangesLive operationStep locationLive olderStep olderLive lowPc onAttribute valuesOf onSpec specsWithin specsFrom entryValues taken takenBy nextAttribute lowPcs locations otherRanges rangesOf firstRanges rootTest baseFrom baseAfter after andThen targets walkFound expressionFound locationFound onLocation locationStep listFound attributeFound attributesFound any every count tab isParent isRoot references names parentFits pairFits rootFits wellFormed takes climbs isDescendant namedBy isTop isLive justified accepts step run nothing has round rounds keptOf markOf marksOf isKept keptCount markAnswer endMarks push′Stream onStep itemsWithin itemsFrom onto onVerdict onFound valuesOfEntry rootOf namesOf′Analysis baseOf analyseItems onDeclared unitAnalysed headerAnalysed analysisOf offsetsIn parentsIn rootsIn namesIn′Columns endsIn padTo column entryFrom pairFor pairsOfEntry pairsFrom pairsIn graphOf marksIn unitMarks asEntry Ascending innermost withIf keptFrom offsetOf sizeOf placesFrom sizeFrom newOf firstFrom orElse′Places siblingOf insert insertAll rankIn indexIn indicesIn readIndices declares rankOr countOf itemsIn readsOr readsAt indicesFrom itemDeclares anyDeclares listOf listsOf orSelf isSome listAt newValue hasPlace fits pieceRefusal orNext piecesRefusal readsRefusal refusalFrom bytesFrom unitBytes listsFit orRefused rewriteOf marksCollected rowsCollected analysedCollected declaredCollected headerCollected collectOf
 p1-to-p10 = (refl, refl, refl, refl, refl, refl, refl, (refl, refl, refl, refl), refl, (refl, refl, refl))

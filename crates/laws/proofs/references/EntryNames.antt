@@ -11,7 +11,7 @@ use lib.Seq.{length-take-le, drop-drop}
 use lib.Dec.{T, eqb, leb}
 use mir.Facts.{leb-yes, yes-eqb, eqb-yes, eqb-no, no-eqb}
 use Rattle.readers.specs.Choice.{pick, _and_, _or_, bind}
-use Rattle.readers.proofs.Choice.{pick-yes, pick-no, pick-either, either, bind-at, bind-bind, check-yes, All, all-some, all-none, all-of, all-bind, all-check, all-triv}
+use Rattle.readers.proofs.Choice.{pick-yes, pick-no, pick-either, either, bind-at, bind-bind, check-yes, All, all-some, all-none, all-of, all-bind, all-check, all-triv, and-both}
 use Rattle.readers.specs.Numbers.{uleb, sleb}
 use Rattle.readers.specs.Layout.{Kind, leb128, reference, sibling, Token, nothing, number, bounded, forms, signed, link, string, run, block, expression, unknown, Layout, done, field, verbatim, Read, ReadOf, RunOf, ExpressionReader, asBytes, copy, asNumber, asBounded, asForms, asSigned, asLink, asString, asBlock, asExpression, numberIn, formsIn, stringIn, tokenIn, readIn, before, bytesOf, pieceBytes}
 use Rattle.readers.proofs.LayoutLaws.{LebLaw, uleb-law, TokenLaw, token-law, as-bytes-law}
@@ -30,7 +30,7 @@ use Rattle.readers.specs.declared.entries.Step.{Step}
 use Rattle.readers.specs.EntryAttributes.{Valued}
 use Rattle.marking.specs.EntryReferences.{partOf}
 use Rattle.rewriting.proofs.write_pass.Expressions.{isExpression, value-exprloc}
-use Rattle.laws.proofs.references.EntryReads.{ValueRead, StepBy, deep-by}
+use Rattle.rewriting.proofs.kept_pass.EntryReads.{ValueRead, StepBy, deep-by}
 use Rattle.laws.proofs.references.NamedPieces.{roleNames, pieceNames, piecesNames, readsNames, namesOf}
 
 -- a use that names nothing
@@ -216,11 +216,6 @@ module _ (e : Encoding) (unit : List ℕ) where
     own-none form n x =
         pick-either (λ (l : List ℕ). [] ≡ l) (eqb name 0x01) [] _ (λ _. refl) (λ _. sym (pick-no _ _ _ n ∙ pick-no _ _ _ (no-eqb {a = form} {b = 0x18} x)))
 
-    both : (a b : Bool) → T (a and b) → T a × T b
-    unfolding _and_
-    both true b t = (tt, t)
-    both false b t = absurd t
-
     of-reference : (form : ℕ) → 0x11 ≤ form → form ≤ 0x15 → Chosen form
     of-reference form h k =
         ⊎-elim (λ t. subst Chosen (sym (eqb-yes {a = form} {b = 0x11} t)) of-ref1)
@@ -238,7 +233,7 @@ module _ (e : Encoding) (unit : List ℕ) where
     chosen : (form : ℕ) → (form ≡ 0x18 → name ≡ 0x01 → ⊥) → (T (isExpression (tokenOf e (useOf name form) (formToken form))) → form ≡ 0x18) → Chosen form
     chosen form s x =
         ⊎-elim
-        (λ t. let b = both (leb 0x11 form) (leb form 0x15) t in of-reference form (leb-yes {a = 0x11} {b = form} (b .0)) (leb-yes {a = form} {b = 0x15} (b .1)))
+        (λ t. let b = and-both (leb 0x11 form) (leb form 0x15) t in of-reference form (leb-yes {a = 0x11} {b = form} (b .0)) (leb-yes {a = form} {b = 0x15} (b .1)))
         (λ n. ⊎-elim
         (λ t. let z : form ≡ 0x18 = eqb-yes {a = form} {b = 0x18} t in subst Chosen (sym z) (of-exprloc (s z)))
         (λ t. let z : form ≡ 0x18 → ⊥ = eqb-no {a = form} {b = 0x18} t in

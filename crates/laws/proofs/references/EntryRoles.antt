@@ -12,7 +12,7 @@ use lib.Seq.{drop-drop}
 use lib.Dec.{T, eqb, leb}
 use mir.Facts.{leb-yes, eqb-yes, eqb-no, no-eqb}
 use Rattle.readers.specs.Choice.{pick, _and_, _or_, bind}
-use Rattle.readers.proofs.Choice.{pick-yes, pick-no, pick-either, either, bind-at, bind-bind, check-yes, All, all-some, all-none, all-of, all-bind, all-check, all-triv}
+use Rattle.readers.proofs.Choice.{pick-yes, pick-no, pick-either, either, bind-at, bind-bind, check-yes, All, all-some, all-none, all-of, all-bind, all-check, all-triv, and-both}
 use Rattle.readers.specs.Numbers.{uleb, sleb}
 use Rattle.readers.specs.Layout.{Encoded, Kind, leb128, Role, reference, typeReference, sibling, index, absolute, Token, nothing, number, bounded, forms, signed, link, string, run, block, expression, unknown, Layout, done, fail, field, Piece, verbatim, patchable, Read, ReadOf, RunOf, ExpressionReader, asBytes, copy, asNumber, asBounded, asForms, asSigned, asLink, asString, asBlock, asExpression, numberIn, formsIn, stringIn, tokenIn, readIn, before}
 use Rattle.readers.proofs.LayoutLaws.{TokenLaw, token-law, as-bytes-law}
@@ -33,7 +33,7 @@ use Rattle.marking.specs.Members.{Member, here, there}
 use Rattle.marking.proofs.Members.{nothing-in, in-left, in-right, in-either}
 use Rattle.laws.specs.SameRoles.{RoleRead}
 use Rattle.laws.proofs.references.NamedPieces.{only}
-use Rattle.laws.proofs.references.EntryReads.{ValueRead as AttributeRead′, StepBy, deep-by}
+use Rattle.rewriting.proofs.kept_pass.EntryReads.{ValueRead as AttributeRead′, StepBy, deep-by}
 
 -- ---- uses
 
@@ -256,19 +256,14 @@ module _ (sought : Role → Bool) (no-reference : sought reference ≡ false) (n
   plainRows [] = true
   plainRows (r ∷ rs) = operandUse (r .firstUse) and (operandUse (r .secondUse) and plainRows rs)
 
-  both : (a b : Bool) → T (a and b) → T a × T b
-  unfolding _and_
-  both true b t = (tt, t)
-  both false b t = absurd t
-
   plain-row : (rs : List OperandRow) → T (plainRows rs) → (l : ℕ) → PlainRow (getD rs l unreadableRow)
   unfolding plainRows unreadableRow useSought
   plain-row [] h l = (refl, refl)
   plain-row (r ∷ rs) h zero =
-      let a = both _ _ h in
-      let b = both _ _ (a .1) in
+      let a = and-both _ _ h in
+      let b = and-both _ _ (a .1) in
       (operand-none (r .firstUse) (a .0), operand-none (r .secondUse) (b .0))
-  plain-row (r ∷ rs) h (suc l) = plain-row rs (both _ _ (both _ _ h .1) .1) l
+  plain-row (r ∷ rs) h (suc l) = plain-row rs (and-both _ _ (and-both _ _ h .1) .1) l
 
   rows-plain : T (plainRows rows)
   unfolding plainRows rows unreadableRow operandUse _and_

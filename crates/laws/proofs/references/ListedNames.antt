@@ -10,7 +10,7 @@ use lib.ListN.{length}
 use lib.Dec.{T, eqb, leb}
 use mir.Facts.{leb-yes, yes-leb, eqb-yes, eqb-no, no-eqb}
 use Rattle.readers.specs.Choice.{pick, _and_, _or_}
-use Rattle.readers.proofs.Choice.{pick-yes, pick-no, pick-either}
+use Rattle.readers.proofs.Choice.{pick-yes, pick-no, pick-either, and-both}
 use Rattle.readers.specs.Layout.{Piece}
 use Rattle.readers.specs.Expression.{expressionIn}
 use Rattle.readers.specs.References.{flatFrom}
@@ -28,7 +28,7 @@ use Rattle.readers.specs.declared.operations.ListStep.the-variants.{Entry, End,
 use Rattle.marking.specs.Walking.{Next, onNext, walk}
 use Rattle.marking.proofs.Walking.{Forward, walk-step}
 use Rattle.readers.specs.EntryAttributes.{Valued}
-use Rattle.marking.specs.EntryReferences.{ReferencesFound, found, refused, after, andThen, targets, expressionFound, partOf, Reached, reachedAt, locationFound, onFound, locationStep, listFound, Locations, locationsBy, attributeFound, attributesFound}
+use Rattle.marking.specs.EntryReferences.{ReferencesFound, found, refused, after, andThen, targets, expressionFound, partOf, ListReached, reachedAt, locationFound, onLocation, locationStep, listFound, Locations, locationsBy, attributeFound, attributesFound}
 use Rattle.marking.proofs.LocationLists.{listFrom, list-start}
 use Rattle.marking.specs.Members.{Member, here, there}
 use Rattle.laws.specs.SameReferences.{NamedIn, FormNames, ExprlocNames, FormReference, InExpression, InEntry, InList, this, later, locationList, ListedBy, ListReference}
@@ -84,18 +84,18 @@ module _ (e : Encoding) (s : List ℕ) (v : ℕ) where
 
   -- ---- a list, from a place on
 
-  found-forward : (p : Reached) (x : ListEntry) (f : ReferencesFound) → p .at < x .next .at → x .next .at ≤ length s → Forward reachedAt (length s) p (onFound (p .sofar) x f)
-  unfolding onFound Forward
+  found-forward : (p : ListReached) (x : ListEntry) (f : ReferencesFound) → p .at < x .next .at → x .next .at ≤ length s → Forward reachedAt (length s) p (onLocation (p .sofar) x f)
+  unfolding onLocation Forward
   found-forward p x (found ys) lo hi = (lo, hi)
   found-forward p x (refused ys n) lo hi = tt
 
-  list-forward : (p : Reached) (o : ListStep) → listEntryAt e true s (p .at) ≡ o → Forward reachedAt (length s) p (locationStep e s (p .sofar) o)
+  list-forward : (p : ListReached) (o : ListStep) → listEntryAt e true s (p .at) ≡ o → Forward reachedAt (length s) p (locationStep e s (p .sofar) o)
   unfolding locationStep Forward
   list-forward p (Entry x) q = found-forward p x (locationFound e s x) (entry-inside e true s (p .at) x q .0) (entry-inside e true s (p .at) x q .1)
   list-forward p End q = tt
   list-forward p NoEntry q = tt
 
-  abbrev turn : Reached → Next Reached ReferencesFound
+  abbrev turn : ListReached → Next ListReached ReferencesFound
   turn p = locationStep e s (p .sofar) (listEntryAt e true s (p .at))
 
   list-turn : (at : ℕ) (sofar : List ℕ) (o : ListStep) → listEntryAt e true s at ≡ o → listFrom e s at sofar ≡ onNext (locationStep e s sofar o) (walk reachedAt (length s) turn (found []))
@@ -106,9 +106,9 @@ module _ (e : Encoding) (s : List ℕ) (v : ℕ) where
 
   -- what follows an entry, by what is found in it
   list-on : (at : ℕ) (sofar : List ℕ) (x : ListEntry) → listEntryAt e true s at ≡ Entry x → (f : ReferencesFound) → locationFound e s x ≡ f
-      → listFrom e s at sofar ≡ onNext (onFound sofar x f) (walk reachedAt (length s) turn (found []))
+      → listFrom e s at sofar ≡ onNext (onLocation sofar x f) (walk reachedAt (length s) turn (found []))
   unfolding locationStep
-  list-on at sofar x q f p = list-turn at sofar (Entry x) q ∙ ap (λ (g : ReferencesFound). onNext (onFound sofar x g) (walk reachedAt (length s) turn (found []))) p
+  list-on at sofar x q f p = list-turn at sofar (Entry x) q ∙ ap (λ (g : ReferencesFound). onNext (onLocation sofar x g) (walk reachedAt (length s) turn (found []))) p
 
   in-ended : {at : ℕ} → InList e s v at → listEntryAt e true s at ≡ End → ⊥
   in-ended (this x p i) q = let r : Entry x ≡ End = sym p ∙ q in let z : _≡_ {A = ℕ} 0 1 = cc in omega arith
@@ -122,7 +122,7 @@ module _ (e : Encoding) (s : List ℕ) (v : ℕ) where
   From at = (sofar ys : List ℕ) → listFrom e s at sofar ≡ found ys → Member v ys ↔ (Member v sofar ⊎ InList e s v at)
 
   by-found : (at : ℕ) (x : ListEntry) → listEntryAt e true s at ≡ Entry x → From (x .next .at) → (f : ReferencesFound) → locationFound e s x ≡ f → From at
-  unfolding onNext onFound listFrom
+  unfolding onNext onLocation listFrom
   by-found at x q ih (refused zs n) p sofar ys r = absurd (not-found (sofar ++ zs) ys n (sym (list-on at sofar x q (refused zs n) p) ∙ r))
   by-found at x q ih (found zs) p sofar ys r =
       let iff : Member v ys ↔ (Member v (sofar ++ zs) ⊎ InList e s v (x .next .at)) = ih (sofar ++ zs) ys (sym (list-on at sofar x q (found zs) p) ∙ r) in
@@ -207,11 +207,6 @@ module _ (e : Encoding) (unit locations : List ℕ) (base v : ℕ) where
         let r : Unresolved ≡ At (i .start) = sym (pick-no _ _ _ (no-eqb {a = form} {b = 0x22} n) ∙ pick-no _ _ _ (no-eqb {a = form} {b = 0x17} m)) ∙ i .starts in
         let z : _≡_ {A = ℕ} 0 1 = cc in omega arith
 
-    both : (a b : Bool) → T (a and b) → T a × T b
-    unfolding _and_
-    both true b t = (tt, t)
-    both false b t = absurd t
-
     is-not : (b : Bool) → T (not (not b)) → T b
     is-not true t = tt
     is-not false t = t
@@ -226,7 +221,7 @@ module _ (e : Encoding) (unit locations : List ℕ) (base v : ℕ) where
         (λ t q. absurd (not-found [] ys 7 q))
         (λ t2. pick-either (Same ys) (leb 0x11 form and leb form 0x15) (found (a .value .field .value ∷ [])) _
         (λ t q. own-only ys (a .value .field .value ∷ []) (found-same _ ys q) (pick-no _ _ _ t1 ∙ pick-yes _ _ _ t)
-        (let h : form ≤ 0x15 = leb-yes {a = form} {b = 0x15} (both (leb 0x11 form) (leb form 0x15) t .1) in not-list (λ z. omega arith) (λ z. omega arith)))
+        (let h : form ≤ 0x15 = leb-yes {a = form} {b = 0x15} (and-both (leb 0x11 form) (leb form 0x15) t .1) in not-list (λ z. omega arith) (λ z. omega arith)))
         (λ t3. pick-either (Same ys) (eqb form 0x18) (expressionFound e part) _
         (λ t q. own-only ys (namesOf (expressionIn e part)) (expression-names e part ys q) (pick-no _ _ _ t1 ∙ pick-no _ _ _ t3 ∙ pick-yes _ _ _ t)
         (let h : form ≡ 0x18 = eqb-yes {a = form} {b = 0x18} t in not-list (λ z. omega arith) (λ z. omega arith)))
@@ -271,7 +266,7 @@ module _ (e : Encoding) (unit locations : List ℕ) (base v : ℕ) where
         (λ t2. pick-either ByForm (leb 0x11 form and leb form 0x15) (found (a .value .field .value ∷ [])) _
         (λ t ys q.
         let p : own ≡ a .value .field .value ∷ [] = pick-no _ _ _ t1 ∙ pick-yes _ _ _ t in
-        let b = both (leb 0x11 form) (leb form 0x15) t in
+        let b = and-both (leb 0x11 form) (leb form 0x15) t in
         let lo : 0x11 ≤ form = leb-yes {a = 0x11} {b = form} (b .0) in
         let hi : form ≤ 0x15 = leb-yes {a = form} {b = 0x15} (b .1) in (
           λ m. (n, inl (record { from = lo; upto = hi; is = only v _ (subst (Member v) p m) })),

@@ -11,7 +11,7 @@ use Rattle.readers.specs.Expression.{expressionIn}
 use Rattle.readers.specs.Entries.{entryLayout, stepAt}
 use Rattle.readers.specs.Abbreviations.{Placed, declaredIn, abbreviationsOf}
 use Rattle.readers.specs.Header.{headerOf}
-use Rattle.readers.specs.Nesting.{open′, close}
+use Rattle.readers.specs.Nesting.{opened, closed}
 use Rattle.readers.specs.Stream.{Item, entry, terminator, itemsFrom}
 use Rattle.readers.specs.declared.entries.Entry.{Entry}
 use Rattle.readers.specs.declared.entries.Step.{Step}
@@ -25,7 +25,7 @@ use Rattle.marking.specs.Members.{Member, here, there}
 use Rattle.rewriting.specs.Rewriting.{Unit as Unit′, itemsIn, readsOr, readsAt, Room, unitOf}
 use Rattle.laws.specs.SameReferences.{RoleReference, valuesIn, baseAt, SameReferences, RowsReferences, RowReferences, UnitReferences}
 use Rattle.marking.proofs.Members.{nothing-in}
-use Rattle.laws.proofs.references.EntryReads.{StepBy}
+use Rattle.rewriting.proofs.kept_pass.EntryReads.{StepBy}
 use Rattle.laws.proofs.references.NamedPieces.{readsNames, reads-members}
 use Rattle.laws.proofs.references.EntryNames.{valuesNames, StepNames, deep-names}
 use Rattle.laws.proofs.references.ListedNames.{in-attributes, in-values}
@@ -100,11 +100,11 @@ module _ (x : Sections) (u : Unit′) where
       → RowsDescribe k stack rb lb items rows → AllThere items → RowsReferences x u lb items rows
   unfolding RowsOf EveryItem Stands RowsReferences
   rows-references k stack rb lb [] rows f s = f
-  rows-references k stack rb lb (terminator a b ∷ rest) rows f s = rows-references k (close stack) rb lb rest rows f (s .1)
+  rows-references k stack rb lb (terminator a b ∷ rest) rows f s = rows-references k (closed stack) rb lb rest rows f (s .1)
   rows-references k stack rb lb (entry y ∷ rest) [] f s = f
   rows-references k stack rb lb (entry y ∷ rest) (r ∷ rows) f s = (
     judged-references y (s .0) (baseAt x u lb y) (r .names) (f .0 .names-are),
-    rows-references (suc k) (open′ (y .declaration .children) k stack) (rangeBase rb y) (baseAt x u lb y) rest rows (f .1) (s .1),
+    rows-references (suc k) (opened (y .declaration .children) k stack) (rangeBase rb y) (baseAt x u lb y) rest rows (f .1) (s .1),
   )
 
   further : (r : EntryRow) (rows : List EntryRow) (y : Entry) → RowReferences x u rows y → RowReferences x u (r ∷ rows) y
@@ -115,7 +115,7 @@ module _ (x : Sections) (u : Unit′) where
   unfolding RowsOf EveryItem Stands
   row-references k stack rb lb [] rows f s y m = absurd (nothing-in (entry y) m)
   row-references k stack rb lb (terminator a b ∷ rest) rows f s y (here q) = let z : _≡_ {A = ℕ} 0 1 = cc in absurd (omega arith)
-  row-references k stack rb lb (terminator a b ∷ rest) rows f s y (there m) = row-references k (close stack) rb lb rest rows f (s .1) y m
+  row-references k stack rb lb (terminator a b ∷ rest) rows f s y (there m) = row-references k (closed stack) rb lb rest rows f (s .1) y m
   row-references k stack rb lb (entry w ∷ rest) [] f s y m = absurd f
   row-references k stack rb lb (entry w ∷ rest) (r ∷ rows) f s y (here q) =
       let z : w ≡ y = (let p : entry y ≡ entry w = q in cc) in
@@ -129,7 +129,7 @@ module _ (x : Sections) (u : Unit′) where
       })
   row-references k stack rb lb (entry w ∷ rest) (r ∷ rows) f s y (there m) =
       further r rows y
-      (row-references (suc k) (open′ (w .declaration .children) k stack) (rangeBase rb w) (baseAt x u lb w) rest rows (f .1) (s .1) y m)
+      (row-references (suc k) (opened (w .declaration .children) k stack) (rangeBase rb w) (baseAt x u lb w) rest rows (f .1) (s .1) y m)
 
 -- ---- of an accepted unit
 

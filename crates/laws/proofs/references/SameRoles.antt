@@ -10,7 +10,7 @@ use lib.ListN.{take, drop}
 use lib.Dec.{T, eqb, leb}
 use mir.Facts.{eqb-yes, yes-eqb, leb-yes, leb-no, yes-leb}
 use Rattle.readers.specs.Choice.{pick, _and_, _or_}
-use Rattle.readers.proofs.Choice.{pick-yes, pick-either, either}
+use Rattle.readers.proofs.Choice.{pick-yes, pick-either, either, and-both, both-and}
 use Rattle.readers.specs.Tokens.{Use, plain, as′}
 use Rattle.readers.specs.Forms.{useOf, listForm}
 use Rattle.readers.specs.Layout.{Role, reference, typeReference, sibling, index, absolute, Read, RunOf, readIn}
@@ -18,7 +18,7 @@ use Rattle.readers.specs.Expression.{expressionIn}
 use Rattle.readers.specs.Entries.{entryLayout, stepAt}
 use Rattle.readers.specs.Abbreviations.{Placed, declaredIn, abbreviationsOf}
 use Rattle.readers.specs.Header.{headerOf}
-use Rattle.readers.specs.Nesting.{open′, close}
+use Rattle.readers.specs.Nesting.{opened, closed}
 use Rattle.readers.specs.Stream.{Item, entry, terminator, itemsFrom}
 use Rattle.readers.specs.declared.attributes.Attribute.{Attribute}
 use Rattle.readers.specs.declared.entries.Entry.{Entry}
@@ -38,9 +38,9 @@ use Rattle.laws.specs.SameReferences.{valuesIn, readsIn}
 use Rattle.laws.specs.SameRoles.{RoleRead, FormIndex, FormSibling, SameRoles, UnitRoles}
 use Rattle.marking.proofs.Members.{nothing-in, in-left, in-right, in-either}
 use Rattle.laws.proofs.again.IndexMembers.{IndexRead, read-members}
-use Rattle.laws.proofs.references.EntryReads.{StepBy}
+use Rattle.rewriting.proofs.kept_pass.EntryReads.{StepBy}
 use Rattle.laws.proofs.references.NamedPieces.{only}
-use Rattle.rewriting.proofs.list_pass.EntryIndices.{StepIndices, deep-indices}
+use Rattle.rewriting.proofs.list_pass.EntryIndices.{deep-indices}
 use Rattle.readers.proofs.FormKinds.{form-list}
 use Rattle.laws.proofs.references.EntryRoles.{readsSought, useSought, ownSought, valuesSought, StepSought, deep-sought, reads-members}
 use Rattle.rewriting.proofs.kept_pass.ItemDepths.{EveryItem, Stands, items-stand}
@@ -214,16 +214,6 @@ readsSiblings = readsSought isSibling no-reference no-type no-absolute
 abbrev SiblingForm : ℕ → ℕ → Type 0
 SiblingForm name f = (name ≡ 0x01) × ((0x11 ≤ f) × (f ≤ 0x15))
 
-both : (a b : Bool) → T (a and b) → T a × T b
-unfolding _and_
-both true b t = (tt, t)
-both false b t = absurd t
-
-and-both : (a b : Bool) → T a → T b → T (a and b)
-unfolding _and_
-and-both true b s t = t
-and-both false b s t = absurd s
-
 abbrev OnlySibling : ℕ → ℕ → Use → Type 0
 OnlySibling name f u = T (siblingUse u) → SiblingForm name f
 
@@ -232,7 +222,7 @@ sibling-out : (name f : ℕ) → T (siblingUse (useOf name f)) → SiblingForm n
 unfolding useOf useSought isSibling
 sibling-out name f =
     pick-either (OnlySibling name f) (leb 0x11 f and leb f 0x15) (as′ (pick (eqb name 0x01) sibling reference)) _
-    (λ t. let b = both (leb 0x11 f) (leb f 0x15) t in
+    (λ t. let b = and-both (leb 0x11 f) (leb f 0x15) t in
     pick-either (λ (r : Role). OnlySibling name f (as′ r)) (eqb name 0x01) sibling reference
     (λ s _. (eqb-yes {a = name} {b = 0x01} s, (leb-yes {a = 0x11} {b = f} (b .0), leb-yes {a = f} {b = 0x15} (b .1))))
     (λ _ n. absurd n))
@@ -245,7 +235,7 @@ sibling-in : (name f : ℕ) → SiblingForm name f → T (siblingUse (useOf name
 unfolding useOf useSought isSibling
 sibling-in name f q =
     subst (λ (u : Use). T (siblingUse u))
-    (sym (pick-yes _ _ _ (and-both (leb 0x11 f) (leb f 0x15) (yes-leb {a = 0x11} {b = f} (q .1 .0)) (yes-leb {a = f} {b = 0x15} (q .1 .1)))
+    (sym (pick-yes _ _ _ (both-and (leb 0x11 f) (leb f 0x15) (yes-leb {a = 0x11} {b = f} (q .1 .0)) (yes-leb {a = f} {b = 0x15} (q .1 .1)))
     ∙ ap as′ (pick-yes (eqb name 0x01) sibling reference (yes-eqb {a = name} {b = 0x01} (q .0))))) tt
 
 module _ (v : ℕ) where
@@ -300,10 +290,10 @@ module _ (x : Sections) (u : Unit′) where
 
   module _ (y : Entry) (s : There y) (all : RunOf) (q : deepAt (y .offset .0) ≡ some all) where
     entry-indices : (k : ℕ) → k < 3 → readIndices k (readsIn x u y) ≡ valueIndices k (valuesIn x u y)
-    unfolding StepIndices valuesOfEntry
+    unfolding StepBy valuesOfEntry
     entry-indices k small =
         ap (readIndices k) (reads-are (y .offset .0) all q)
-        ∙ subst (λ (w : Step). StepIndices k small (u .header .encoding) (u .bytes) (x .abbreviations) (declaredIn (u .declared)) w (readIndices k (all .0))) s
+        ∙ subst (λ (w : Step). StepBy (valueIndices k) (u .header .encoding) (u .bytes) (x .abbreviations) w (readIndices k (all .0))) s
         (deep-indices k small (u .header .encoding) (u .bytes) (x .abbreviations) (declaredIn (u .declared)) (y .offset .0) all q)
 
     entry-indexed : (k v : ℕ) → k < 3 → RoleRead (readsIn x u y) (index k) v ↔ FormIndex (valuesIn x u y) k v
@@ -378,13 +368,13 @@ module _ (x : Sections) (u : Unit′) where
   unfolding RowsOf EveryItem Stands JudgedStep
   items-roles k stack rb lb [] rows f s y m = absurd (nothing-in (entry y) m)
   items-roles k stack rb lb (terminator a b ∷ rest) rows f s y (here q) = let z : _≡_ {A = ℕ} 0 1 = cc in absurd (omega arith)
-  items-roles k stack rb lb (terminator a b ∷ rest) rows f s y (there m) = items-roles k (close stack) rb lb rest rows f (s .1) y m
+  items-roles k stack rb lb (terminator a b ∷ rest) rows f s y (there m) = items-roles k (closed stack) rb lb rest rows f (s .1) y m
   items-roles k stack rb lb (entry w ∷ rest) [] f s y m = absurd f
   items-roles k stack rb lb (entry w ∷ rest) (r ∷ rows) f s y (here q) =
       let z : w ≡ y = (let p : entry y ≡ entry w = q in cc) in
       subst (SameRoles x u) z (judged-roles w (s .0) (record { base = locationBase lb w; names = r .names; names-are = f .0 .names-are }))
   items-roles k stack rb lb (entry w ∷ rest) (r ∷ rows) f s y (there m) =
-      items-roles (suc k) (open′ (w .declaration .children) k stack) (rangeBase rb w) (locationBase lb w) rest rows (f .1) (s .1) y m
+      items-roles (suc k) (opened (w .declaration .children) k stack) (rangeBase rb w) (locationBase lb w) rest rows (f .1) (s .1) y m
 
 -- ---- of an accepted unit
 

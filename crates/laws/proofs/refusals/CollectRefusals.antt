@@ -52,11 +52,11 @@ nine-late : Late 9
 unfolding isOneOf _or_
 nine-late = one-of _ 9 tt
 
-module _ (lists : Lists) (map : List Place) (depth : ℕ) where
-  next-late : (n m : ℕ) → Late n → Late m → Late (orNext lists map depth n m)
-  unfolding orNext
-  next-late n m p q = pick-either Late (eqb n 0) m n (λ _. q) (λ _. p)
+next-late : (n m : ℕ) → Late n → Late m → Late (orNext n m)
+unfolding orNext
+next-late n m p q = pick-either Late (eqb n 0) m n (λ _. q) (λ _. p)
 
+module _ (lists : Lists) (map : List Place) (depth : ℕ) where
   piece-late : (p : Piece) → Late (pieceRefusal lists map depth p)
   unfolding pieceRefusal
   piece-late (verbatim l) = none-late
@@ -75,7 +75,7 @@ module _ (lists : Lists) (map : List Place) (depth : ℕ) where
 pub values-late : (x : Sections) (u : Unit′) (lists : Lists) (map : List Place) (kept : List NestedItem) → Late (refusalFrom x u lists map kept)
 unfolding refusalFrom
 values-late x u lists map [] = none-late
-values-late x u lists map (s ∷ kept) = next-late lists map (s .depth) _ _ (reads-late lists map (s .depth) _) (values-late x u lists map kept)
+values-late x u lists map (s ∷ kept) = next-late _ _ (reads-late lists map (s .depth) _) (values-late x u lists map kept)
 
 -- a refusal of a value is 8 or 9
 pub late-value : (n : ℕ) → Late n → T (not (eqb n 0)) → OneOf (8 ∷ 9 ∷ []) n

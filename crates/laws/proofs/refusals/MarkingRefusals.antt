@@ -38,12 +38,12 @@ use Rattle.marking.specs.declared.units.UnitMarks.the-variants.{Marked, Refused
 use Rattle.marking.specs.declared.marks.Marked.{Marked as Marked′}
 use Rattle.marking.specs.declared.marks.Marked.the-variants.{Kept as KeptCount, Refused as Refused′}
 use Rattle.marking.specs.Walking.{Next, go, stop, onNext, walkWithin, walk}
-use Rattle.marking.specs.Roots.{Flagged, place, Turn, Ranges, orElse, onLookup, rangeEntry, rangeStep, rangesLive, operationStep, locationLive, olderStep, olderLive, lowPc, lowPcs, locations, otherRanges, rangesOf, firstRanges, rootTest}
+use Rattle.marking.specs.Roots.{Flagged, place, RootTurn, Ranges, orElse, onLookup, rangeEntry, rangeStep, rangesLive, operationStep, locationLive, olderStep, olderLive, lowPc, lowPcs, locations, otherRanges, rangesOf, firstRanges, rootTest}
 use Rattle.readers.specs.EntryAttributes.{Valued}
-use Rattle.marking.specs.EntryReferences.{ReferencesFound, found, refused as refusedAfter, after, andThen, walkFound, expressionFound, Reached as Along, locationFound, onFound as onLocation, locationStep, listFound, Locations, attributeFound, attributesFound}
+use Rattle.marking.specs.EntryReferences.{ReferencesFound, found, refused as refusedAfter, after, andThen, walkFound, expressionFound, ListReached, locationFound, onLocation, locationStep, listFound, Locations, attributeFound, attributesFound}
 use Rattle.marking.specs.Analysis.{Sections, Rooms, EntryRow, Analysed, analysed, refused as notAnalysed, onto, onVerdict, onFound, Reached, startOf, rootOf, namesOf, analyseItems, onDeclared, unitAnalysed, headerAnalysed, analysisOf}
 use Rattle.marking.specs.Graph.{Graph, takes}
-use Rattle.marking.specs.Marks.{keptCount, marksOf, answerOf}
+use Rattle.marking.specs.Marks.{keptCount, marksOf, markAnswer}
 use Rattle.marking.specs.Resolution.{unitMarks}
 
 -- ---- walks
@@ -74,7 +74,7 @@ VerdictNumbered Live = Unit {0}
 VerdictNumbered Dead = Unit {0}
 VerdictNumbered (Failed n) = RootRefusal n
 
-abbrev TurnNumbered : Turn → Type 0
+abbrev TurnNumbered : RootTurn → Type 0
 TurnNumbered t = NextNumbered {S = Flagged} VerdictNumbered t
 
 else-numbered : (v w : Verdict) → VerdictNumbered v → VerdictNumbered w → VerdictNumbered (orElse v w)
@@ -242,12 +242,12 @@ located-numbered : (e : Encoding) (s : List ℕ) (x : ListEntry) → FoundNumber
 unfolding locationFound
 located-numbered e s x = pick-either FoundNumbered _ _ _ (λ _. found-numbered _) (λ _. expression-numbered e _)
 
-on-numbered : (sofar : List ℕ) (x : ListEntry) (f : ReferencesFound) → FoundNumbered f → NextNumbered {S = Along} FoundNumbered (onLocation sofar x f)
+on-numbered : (sofar : List ℕ) (x : ListEntry) (f : ReferencesFound) → FoundNumbered f → NextNumbered {S = ListReached} FoundNumbered (onLocation sofar x f)
 unfolding onLocation NextNumbered FoundNumbered
 on-numbered sofar x (found ys) q = tt
 on-numbered sofar x (refusedAfter ys n) q = q
 
-location-step-numbered : (e : Encoding) (s sofar : List ℕ) (t : ListStep) → NextNumbered {S = Along} FoundNumbered (locationStep e s sofar t)
+location-step-numbered : (e : Encoding) (s sofar : List ℕ) (t : ListStep) → NextNumbered {S = ListReached} FoundNumbered (locationStep e s sofar t)
 unfolding locationStep NextNumbered FoundNumbered
 location-step-numbered e s sofar (Entry x) = on-numbered sofar x _ (located-numbered e s x)
 location-step-numbered e s sofar End = tt
@@ -255,7 +255,7 @@ location-step-numbered e s sofar NoEntry = no-five
 
 list-numbered : (e : Encoding) (s : List ℕ) (o : ListOffset) → FoundNumbered (listFound e s o)
 unfolding listFound
-list-numbered e s (At c) = walk-numbered {S = Along} FoundNumbered _ _ (λ p. location-step-numbered e s _ _) (found-numbered []) _ _ _
+list-numbered e s (At c) = walk-numbered {S = ListReached} FoundNumbered _ _ (λ p. location-step-numbered e s _ _) (found-numbered []) _ _ _
 list-numbered e s Unresolved = no-numbered [] 5 no-five
 
 attribute-numbered : (e : Encoding) (x : Locations) (a : Valued) → FoundNumbered (attributeFound e x a)
@@ -403,8 +403,8 @@ unfoldable MarkNumbered : Marked′ → Type 0
 MarkNumbered (KeptCount n) = Unit {0}
 MarkNumbered (Refused′ n) = MarkRefusal n
 
-pub mark-refusal : (g : Graph) (n k : ℕ) → answerOf g n ≡ Refused′ k → MarkRefusal k
-unfolding answerOf MarkNumbered isOneOf _or_
+pub mark-refusal : (g : Graph) (n k : ℕ) → markAnswer g n ≡ Refused′ k → MarkRefusal k
+unfolding markAnswer MarkNumbered isOneOf _or_
 mark-refusal g n k q =
     subst MarkNumbered q
     (pick-either MarkNumbered (takes g n) (KeptCount (keptCount (marksOf g))) (Refused′ 16) (λ _. tt) (λ _. one-of _ 16 tt))

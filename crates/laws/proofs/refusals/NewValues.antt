@@ -11,7 +11,7 @@ use lib.ListN.{length, getD, drop}
 use lib.Dec.{T, leb, eqb}
 use mir.Facts.{eqb-yes, leb-yes, leb-no, yes-leb}
 use Rattle.readers.specs.Choice.{_and_}
-use Rattle.readers.proofs.Choice.{pick-either}
+use Rattle.readers.proofs.Choice.{pick-either, and-both}
 use Rattle.readers.specs.Layout.{Encoded, Role, reference, typeReference, sibling, index, absolute, patchable, Read, RunOf}
 use Rattle.readers.specs.Abbreviations.{declaredIn}
 use Rattle.marking.specs.Analysis.{Sections}
@@ -60,11 +60,6 @@ unfolding _and_
 not-and true b h t = h
 not-and false b h t = absurd t
 
-both-tests : (a b : Bool) → T (a and b) → T a × T b
-unfolding _and_
-both-tests true b h = (tt, h)
-both-tests false b h = absurd h
-
 passed : (depth v : ℕ) (y : NestedItem) (before : List NestedItem) → T (not (leb v (offsetOf (y .item)) and leb (y .depth) depth))
     → ((t : NestedItem) → Member t before → v ≤ offsetOf (t .item) → depth < t .depth)
     → (t : NestedItem) → Member t (y ∷ before) → v ≤ offsetOf (t .item) → depth < t .depth
@@ -94,7 +89,7 @@ after-by first (y ∷ kept) depth v n =
     pick-either (λ (o : Option ℕ). o ≡ some n → NewAfter first (y ∷ kept) depth v n) (leb v (offsetOf (y .item)) and leb (y .depth) depth) (some first)
     (firstFrom (placesFrom (first + sizeOf (y .item)) kept) depth v)
     (λ t e.
-    let p = both-tests (leb v (offsetOf (y .item))) (leb (y .depth) depth) t in
+    let p = and-both (leb v (offsetOf (y .item))) (leb (y .depth) depth) t in
     let q : first ≡ n = cc in
     record {
       s = y;

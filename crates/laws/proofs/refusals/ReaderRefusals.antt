@@ -8,7 +8,7 @@ use lib.ListN.{length}
 use lib.Dec.{T, eqb, leb}
 use mir.Facts.{eqb-yes}
 use Rattle.readers.specs.Choice.{_and_, _or_}
-use Rattle.readers.proofs.Choice.{pick-either}
+use Rattle.readers.proofs.Choice.{pick-either, and-both}
 use Rattle.readers.specs.Header.{present, right, encodingOf, headerMade, headerFields, headerOf}
 use Rattle.readers.specs.References.{walkOf, walkAnswer, referencesAnswer}
 use Rattle.laws.specs.RefusalNumbers.{OneOf, HeaderRefusal, ReferencesRefusal}
@@ -36,11 +36,6 @@ or-cases : (a b : Bool) → T (a or b) → T a ⊎ T b
 unfolding _or_
 or-cases true b t = inl tt
 or-cases false b t = inr t
-
-and-both : (a b : Bool) → T (a and b) → T a × T b
-unfolding _and_
-and-both true b t = (tt, t)
-and-both false b t = absurd t
 
 pub one-of : (ms : List ℕ) (n : ℕ) → T (isOneOf ms n) → OneOf ms n
 unfolding OneOf isOneOf

@@ -1,24 +1,23 @@
 -- What the refusals 8 and 9 of collect mean, and that a unit without their causes is accepted. Assumes nothing.
-use Prim.Native.Nat.{ℕ, suc, _+_, _^_, _≤_, _<_}
+use Prim.Native.Nat.{ℕ, _+_, _≤_, _<_}
 use mathlib.Core.Path.{_≡_, refl, sym, ap, _∙_, subst}
 use mathlib.Core.Bool.{Bool, true, false, not, false≢true}
 use mathlib.Core.List.{List, [], _∷_}
 use mathlib.Core.Logic.{_⊎_, inl, inr, ⊎-elim, _↔_}
 use mathlib.Core.Option.{Option, none, some}
 use native.Mathlib.Omega.{arith}
-use lib.Dec.{T, ltb, leb, eqb}
-use mir.Facts.{eqb-yes, eqb-no, yes-eqb, no-eqb, leb-yes, yes-leb, yes-ltb}
+use lib.Dec.{T, leb, eqb}
+use mir.Facts.{eqb-yes, eqb-no, yes-eqb, no-eqb, leb-yes, yes-leb}
 use Rattle.readers.specs.Choice.{pick, _and_, _or_}
-use Rattle.readers.proofs.Choice.{pick-either, pick-yes, pick-no}
-use Rattle.readers.specs.Layout.{Encoded, infixed, inleb, Role, reference, typeReference, sibling, index, absolute, Piece, verbatim, patchable, Read, Fit}
+use Rattle.readers.proofs.Choice.{pick-either, pick-yes, pick-no, and-both, both-and}
+use Rattle.readers.specs.Layout.{Encoded, Role, reference, typeReference, sibling, index, absolute, Piece, verbatim, patchable, Read, fits, Fit}
 use Rattle.marking.specs.Analysis.{Sections}
 use Rattle.marking.specs.Members.{Member, here, there}
 use Rattle.marking.proofs.Members.{nothing-in}
 use Rattle.rewriting.specs.Places.{NestedItem, offsetOf, sizeOf, Place, placesFrom, newOf, firstFrom, orElse, siblingOf}
-use Rattle.rewriting.specs.Rewriting.{Unit as Unit′, readsAt, Lists, isSome, newValue, hasPlace, fits, pieceRefusal, orNext, piecesRefusal, readsRefusal, refusalFrom}
+use Rattle.rewriting.specs.Rewriting.{Unit as Unit′, readsAt, Lists, isSome, newValue, hasPlace, pieceRefusal, orNext, piecesRefusal, readsRefusal, refusalFrom}
 use Rattle.laws.specs.ValueRefusals.{Each, First, this, next, KeptAt, KeptAfter, HasPlace, NoPlace, Fine, Unplaced, TooWide, FineRead, FineItem, BadRead, BadItem, AllFine, FirstUnplaced, FirstTooWide, NumberOf}
 use Rattle.laws.proofs.again.Maps.{has-new}
-use Rattle.laws.proofs.again.Fitting.{fit-by}
 
 -- ---- the first refusal of a list, by that of each
 
@@ -82,23 +81,13 @@ new-in n (y ∷ kept) v =
 pub new-out : (n : ℕ) (kept : List NestedItem) (v : ℕ) → KeptAt kept v → isSome (newOf (placesFrom n kept) v) ≡ true
 new-out n kept v k = subst (λ (z : ℕ). isSome (newOf (placesFrom n kept) z) ≡ true) (k .named) (has-new n kept (k .s) (k .is-kept))
 
-both-in : (a b : Bool) → T (a and b) → T a × T b
-unfolding _and_
-both-in true b t = (tt, t)
-both-in false b t = absurd t
-
-both-out : (a b : Bool) → T a → T b → T (a and b)
-unfolding _and_
-both-out true b p q = q
-both-out false b p q = p
-
 after-in : (n : ℕ) (kept : List NestedItem) (depth v : ℕ) → isSome (firstFrom (placesFrom n kept) depth v) ≡ true → KeptAfter kept depth v
 unfolding placesFrom firstFrom isSome
 after-in n [] depth v = λ q. absurd (false≢true q)
 after-in n (y ∷ kept) depth v =
     pick-either (λ (o : Option ℕ). isSome o ≡ true → KeptAfter (y ∷ kept) depth v) (leb v (offsetOf (y .item)) and leb (y .depth) depth) (some n)
     (firstFrom (placesFrom (n + sizeOf (y .item)) kept) depth v)
-    (λ t _. let p = both-in (leb v (offsetOf (y .item))) (leb (y .depth) depth) t in
+    (λ t _. let p = and-both (leb v (offsetOf (y .item))) (leb (y .depth) depth) t in
     record { s = y; is-kept = here refl; after = leb-yes {a = v} {b = offsetOf (y .item)} (p .0); no-deeper = leb-yes {a = y .depth} {b = depth} (p .1) })
     (λ _ q. after-next y kept depth v (after-in (n + sizeOf (y .item)) kept depth v q))
 
@@ -107,7 +96,7 @@ after-by : (n : ℕ) (kept : List NestedItem) (depth v : ℕ) (s : NestedItem) �
 unfolding placesFrom firstFrom isSome
 after-by n [] depth v s m a d = absurd (nothing-in s m)
 after-by n (y ∷ kept) depth v s (here e) a d =
-    ap isSome (pick-yes _ _ _ (both-out (leb v (offsetOf (y .item))) (leb (y .depth) depth)
+    ap isSome (pick-yes _ _ _ (both-and (leb v (offsetOf (y .item))) (leb (y .depth) depth)
     (yes-leb {a = v} {b = offsetOf (y .item)} (subst (λ (z : NestedItem). v ≤ offsetOf (z .item)) e a))
     (yes-leb {a = y .depth} {b = depth} (subst (λ (z : NestedItem). z .depth ≤ depth) e d))))
 after-by n (y ∷ kept) depth v s (there m) a d =
@@ -190,13 +179,6 @@ module _ (lists : Lists) (first : ℕ) (kept : List NestedItem) (depth : ℕ) wh
   never-both (index k) v n h = n
   never-both absolute v n h = n
 
-  fit-out : (e : Encoded) (v : ℕ) → Fit e v → T (fits lists map depth e v)
-  unfolding fits Fit
-  fit-out (infixed w) v h = both-out (leb w 8) (ltb v (256 ^ w)) (yes-leb {a = w} {b = 8} (h .0)) (yes-ltb {a = v} {b = 256 ^ w} (h .1))
-  fit-out (inleb n) v h =
-      both-out (ltb n 10) (ltb v (128 ^ suc n) and ltb v (2 ^ 64)) (yes-ltb {a = n} {b = 10} (h .0))
-      (both-out (ltb v (128 ^ suc n)) (ltb v (2 ^ 64)) (yes-ltb {a = v} {b = 128 ^ suc n} (h .1)) (yes-ltb {a = v} {b = 2 ^ 64} (h .2)))
-
   -- ---- one number
 
   is-so : (b : Bool) → b ≡ true → T b
@@ -220,7 +202,7 @@ module _ (lists : Lists) (first : ℕ) (kept : List NestedItem) (depth : ℕ) wh
     placed = hasPlace lists map depth role v
 
     abbrev wide : Bool
-    wide = fits lists map depth e (newValue lists map depth role v)
+    wide = fits e (newValue lists map depth role v)
 
     abbrev Told : ℕ → Type 0
     Told z =
@@ -232,17 +214,17 @@ module _ (lists : Lists) (first : ℕ) (kept : List NestedItem) (depth : ℕ) wh
     link-told =
         pick-either Told placed (pick wide 0 9) 8
         (λ p. pick-either Told wide 0 9
-        (λ w. (λ _. (place-in role v (so-is placed p), fit-by lists map depth e (newValue lists map depth role v) w), λ q. absurd (omega arith), λ q. absurd (omega arith)))
+        (λ w. (λ _. (place-in role v (so-is placed p), w), λ q. absurd (omega arith), λ q. absurd (omega arith)))
         (λ w. (
           λ q. absurd (omega arith),
           λ q. absurd (omega arith),
-          λ _. (place-in role v (so-is placed p), λ f. never wide w (fit-out e (newValue lists map depth role v) f)),
+          λ _. (place-in role v (so-is placed p), λ f. never wide w f),
         )))
         (λ p. (λ q. absurd (omega arith), λ _. without role v (λ h. never placed p (is-so placed (place-out role v h))), λ q. absurd (omega arith)))
 
     link-fine : HasPlace kept depth role v → Fit e (newValue lists map depth role v) → pieceRefusal lists map depth (patchable e role v) ≡ 0
     unfolding pieceRefusal
-    link-fine h f = pick-yes placed _ _ (is-so placed (place-out role v h)) ∙ pick-yes wide _ _ (fit-out e (newValue lists map depth role v) f)
+    link-fine h f = pick-yes placed _ _ (is-so placed (place-out role v h)) ∙ pick-yes wide _ _ f
 
     link-unplaced : NoPlace kept depth role v → pieceRefusal lists map depth (patchable e role v) ≡ 8
     unfolding pieceRefusal
@@ -250,9 +232,7 @@ module _ (lists : Lists) (first : ℕ) (kept : List NestedItem) (depth : ℕ) wh
 
     link-wide : HasPlace kept depth role v → (Fit e (newValue lists map depth role v) → ⊥) → pieceRefusal lists map depth (patchable e role v) ≡ 9
     unfolding pieceRefusal
-    link-wide h n =
-        pick-yes placed _ _ (is-so placed (place-out role v h))
-        ∙ pick-no wide _ _ (isnt wide (λ t. n (fit-by lists map depth e (newValue lists map depth role v) t)))
+    link-wide h n = pick-yes placed _ _ (is-so placed (place-out role v h)) ∙ pick-no wide _ _ (isnt wide n)
 
   piece-fine : (p : Piece) → (pieceRefusal lists map depth p ≡ 0) ↔ Fine lists first kept depth p
   unfolding pieceRefusal Fine

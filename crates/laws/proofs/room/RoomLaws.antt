@@ -20,6 +20,7 @@ use Rattle.readers.specs.Stream.{Item, entry, terminator}
 use Rattle.readers.specs.declared.header.UnitHeader.{UnitHeader}
 use Rattle.readers.specs.declared.header.HeaderRead.{HeaderRead}
 use Rattle.readers.specs.declared.header.HeaderRead.the-variants.{Unit as Header′, Empty, Refused}
+use Rattle.readers.specs.Nesting.{opened, closed}
 use Rattle.laws.proofs.refusals.ReaderRefusals.{isOneOf, areOf, one-of, wider, header-refusal}
 use Rattle.marking.specs.Analysis.{Sections, Rooms, EntryRow, Analysed, analysed, refused as notAnalysed, onDeclared, unitAnalysed, headerAnalysed, analysisOf}
 use Rattle.marking.specs.Columns.{namesIn}
@@ -27,7 +28,7 @@ use Rattle.marking.specs.Marks.{isKept, keptCount}
 use Rattle.marking.specs.Resolution.{marksIn}
 use Rattle.laws.specs.TableRoom.{TablesWithin, tablesFor, TableLaw, enoughTables}
 use Rattle.laws.proofs.room.TableRoom.{table-law, first-most, tables-lent, enough-tables}
-use Rattle.rewriting.specs.Places.{NestedItem, keptFrom, opened, closed, innermost, withIf, offsetOf, Place, placesFrom, sizeFrom}
+use Rattle.rewriting.specs.Places.{NestedItem, keptFrom, innermost, withIf, offsetOf, Place, placesFrom, sizeFrom}
 use Rattle.rewriting.specs.Indices.{insert, insertAll, readIndices, countOf}
 use Rattle.rewriting.specs.Rewriting.{Unit as Unit′, itemsIn, readsAt, Lists, noLists, indicesFrom, anyDeclares, listOf, listsOf, refusalFrom, unitBytes, Room, Rewrite, Collected, untouched, rewritten, refused, listsFit, orRefused, rewriteOf, marksCollected, rowsCollected, analysedCollected, declaredCollected, headerCollected, collectOf, unitOf}
 use Rattle.laws.specs.RoomLaws.{ListsWithin, Within, ListShort, roomFor, needOf, IsAccepted, RoomLaw, Needs, TooShort, indexCount, unitRoom, declaredRoom, headerRoom, enoughRoom}

@@ -15,7 +15,7 @@ use Rattle.readers.specs.Choice.{pick, _and_, _or_}
 use Rattle.readers.proofs.Choice.{pick-either, pick-yes, pick-no, either}
 use Rattle.readers.specs.Header.{headerOf}
 use Rattle.readers.specs.Abbreviations.{Placed, declaredIn, abbreviationsOf}
-use Rattle.readers.specs.Nesting.{open′, close, top}
+use Rattle.readers.specs.Nesting.{opened, closed, top}
 use Rattle.readers.specs.Stream.{Item, entry, terminator, itemsFrom, entryCount}
 use Rattle.readers.specs.declared.cursor.Encoding.{Encoding}
 use Rattle.readers.specs.declared.entries.Entry.{Entry}
@@ -150,7 +150,7 @@ module _ (x : Sections) (w r : Rooms) where
 
     abbrev onward : Reached → Entry → List ℕ → Reached
     onward p y names =
-        reached (suc (p .count)) (p .references + length names) (open′ (y .declaration .children) (p .count) (p .stack)) (baseOf e x unit 0x74 (p .rnglistsBase) y) (baseOf e x unit 0x8c (p .loclistsBase) y)
+        reached (suc (p .count)) (p .references + length names) (opened (y .declaration .children) (p .count) (p .stack)) (baseOf e x unit 0x74 (p .rnglistsBase) y) (baseOf e x unit 0x8c (p .loclistsBase) y)
 
     abbrev afterNames : Rooms → Reached → Entry → List Item → Bool → ℕ → List ℕ → Analysed
     afterNames room p y rest whole root names =
@@ -167,7 +167,7 @@ module _ (x : Sections) (w r : Rooms) where
     unfolding analyseItems
     items-told p [] true = end-given _ (told-end r (p .count) (p .references))
     items-told p [] false = gives-refused _ 4
-    items-told p (terminator s t ∷ rest) whole = items-told (reached (p .count) (p .references) (close (p .stack)) (p .rnglistsBase) (p .loclistsBase)) rest whole
+    items-told p (terminator s t ∷ rest) whole = items-told (reached (p .count) (p .references) (closed (p .stack)) (p .rnglistsBase) (p .loclistsBase)) rest whole
     items-told p (entry y ∷ rest) whole =
         let P : List EntryRow → Type 0 = (λ rows. Told (p .count) (p .references) rows r (pick (ltb (p .count) (r .entries)) (ofEntry r p y rest whole) (refused 10))) in
         let I : Analysed → List EntryRow → Type 0 = (λ b rows. Inner (p .count) (p .references) rows r b) in
@@ -246,7 +246,7 @@ module _ (e : Encoding) (x : Sections) (unit : List ℕ) (room : Rooms) where
   items-input p [] true h k = rows-of inputNumbers []
   items-input p [] false h k = none-of inputNumbers 4 (one-of inputNumbers 4 tt)
   items-input p (terminator a b ∷ rest) whole h k =
-      items-input (reached (p .count) (p .references) (close (p .stack)) (p .rnglistsBase) (p .loclistsBase)) rest whole h k
+      items-input (reached (p .count) (p .references) (closed (p .stack)) (p .rnglistsBase) (p .loclistsBase)) rest whole h k
   items-input p (entry y ∷ rest) whole h k =
       let h′ : p .count + suc (entryCount rest) ≤ room .entries = h in
       let k′ : p .references + (foundCount (namesOf e x unit (baseOf e x unit 0x8c (p .loclistsBase) y) y) + referenceCount e x unit (baseOf e x unit 0x8c (p .loclistsBase) y) rest) ≤ room .references = k in

@@ -7,8 +7,7 @@ use mathlib.Core.List.{List, [], _∷_, map}
 use mathlib.Core.Logic.{_↔_}
 use lib.ListN.{length, getD, take}
 use lib.Dec.{T}
-use Rattle.readers.specs.Choice.{pick}
-use Rattle.readers.specs.Nesting.{open′, close, top}
+use Rattle.readers.specs.Nesting.{opened, closed, top}
 use Rattle.readers.specs.Abbreviations.{Placed}
 use Rattle.readers.specs.Stream.{Item, entry, terminator}
 use Rattle.readers.specs.declared.cursor.Encoding.{Encoding}
@@ -26,7 +25,7 @@ use Rattle.marking.proofs.Graphs.{WellFormed, well-formed, parent-in}
 use Rattle.laws.proofs.survivors.KeptMarks.{marked-kept, kept-marked}
 use Rattle.laws.proofs.survivors.UnitLaws.{formed, unit-survivors}
 use Rattle.marking.proofs.UnitMarkings.{graph-size, marks-each}
-use Rattle.rewriting.specs.Places.{opened, closed, innermost}
+use Rattle.rewriting.specs.Places.{innermost}
 use Rattle.laws.specs.inner.Moved.{ParentsKept}
 use Rattle.rewriting.specs.Rewriting.{Room, itemsIn, unitOf}
 use Rattle.rewriting.proofs.whole.AcceptedUnits.{accepted-follow, Accepted}
@@ -34,13 +33,13 @@ use Rattle.rewriting.proofs.whole.AcceptedUnits.{accepted-follow, Accepted}
 -- ---- whether the open entries are kept
 
 module _ (f : ℕ → Bool) where
-  open-same : (children : Bool) (k : ℕ) (stack : List ℕ) → map f (open′ children k stack) ≡ opened children (f k) (map f stack)
-  unfolding open′ opened pick
+  open-same : (children : Bool) (k : ℕ) (stack : List ℕ) → map f (opened children k stack) ≡ opened children (f k) (map f stack)
+  unfolding opened
   open-same true k stack = refl
   open-same false k stack = refl
 
-  close-same : (stack : List ℕ) → map f (close stack) ≡ closed (map f stack)
-  unfolding close closed
+  close-same : (stack : List ℕ) → map f (closed stack) ≡ closed (map f stack)
+  unfolding closed
   close-same [] = refl
   close-same (k ∷ stack) = refl
 
@@ -54,13 +53,13 @@ unfolding Before
 before-more k [] b = tt
 before-more k (i ∷ stack) b = (let l : i < k = b .0 in omega arith, before-more k stack (b .1))
 
-before-open : (children : Bool) (k : ℕ) (stack : List ℕ) → Before k stack → Before (suc k) (open′ children k stack)
-unfolding Before open′
+before-open : (children : Bool) (k : ℕ) (stack : List ℕ) → Before k stack → Before (suc k) (opened children k stack)
+unfolding Before opened
 before-open true k stack b = (omega arith, before-more k stack b)
 before-open false k stack b = before-more k stack b
 
-before-close : (k : ℕ) (stack : List ℕ) → Before k stack → Before k (close stack)
-unfolding Before close
+before-close : (k : ℕ) (stack : List ℕ) → Before k stack → Before k (closed stack)
+unfolding Before closed
 before-close k [] b = tt
 before-close k (i ∷ stack) b = b .1
 
@@ -95,12 +94,12 @@ module _ (g : Graph) (w : WellFormed g) (few : size g ≤ noParent) where
     unfolding RowsOf ParentsKept
     closed-from k stack rb lb [] rows f b l t = tt
     closed-from k stack rb lb (terminator a c ∷ rest) rows f b l t =
-        subst (λ (bs : List Bool). ParentsKept marks k bs rest) (close-same (isKept marks) stack) (closed-from k (close stack) rb lb rest rows f (before-close k stack b) l t)
+        subst (λ (bs : List Bool). ParentsKept marks k bs rest) (close-same (isKept marks) stack) (closed-from k (closed stack) rb lb rest rows f (before-close k stack b) l t)
     closed-from k stack rb lb (entry y ∷ rest) [] f b l t = absurd f
     closed-from k stack rb lb (entry y ∷ rest) (r ∷ rows) f b l t = (
       parent-kept k stack b (omega arith) (tail-first k r rows t ∙ f .0 .parent-is),
       subst (λ (bs : List Bool). ParentsKept marks (suc k) bs rest) (open-same (isKept marks) (y .declaration .children) k stack)
-          (closed-from (suc k) (open′ (y .declaration .children) k stack) (baseOf e x unit 0x74 rb y) (baseOf e x unit 0x8c lb y) rest rows (f .1) (before-open (y .declaration .children) k stack b) (omega arith) (tail-next k r rows t)),
+          (closed-from (suc k) (opened (y .declaration .children) k stack) (baseOf e x unit 0x74 rb y) (baseOf e x unit 0x8c lb y) rest rows (f .1) (before-open (y .declaration .children) k stack b) (omega arith) (tail-next k r rows t)),
     )
 
 -- ---- of an accepted unit

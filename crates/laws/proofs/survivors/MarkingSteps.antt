@@ -9,7 +9,7 @@ use lib.ListN.{length, getD, take}
 use lib.Dec.{eqb, ltb}
 use borrow.Author.Tests.{ltb-true, eqb-true, not-true, lt-ltb, eq-eqb}
 use Rattle.readers.specs.Choice.{pick, _and_, _or_}
-use Rattle.readers.specs.Nesting.{open′, close, top}
+use Rattle.readers.specs.Nesting.{opened, closed, top}
 use Rattle.readers.specs.Stream.{Item, entry, terminator}
 use Rattle.readers.specs.declared.cursor.Encoding.{Encoding}
 use Rattle.marking.specs.Below.{every}
@@ -102,13 +102,13 @@ unfolding Before
 before-more k [] h = tt
 before-more k (p ∷ stack) h = ((let l : p < k = h .0 in omega arith), before-more k stack (h .1))
 
-before-open : (b : Bool) (k : ℕ) (stack : List ℕ) → Before k stack → Before (suc k) (open′ b k stack)
-unfolding Before open′
+before-open : (b : Bool) (k : ℕ) (stack : List ℕ) → Before k stack → Before (suc k) (opened b k stack)
+unfolding Before opened
 before-open true k stack h = (omega arith, before-more k stack h)
 before-open false k stack h = before-more k stack h
 
-before-close : (k : ℕ) (stack : List ℕ) → Before k stack → Before k (close stack)
-unfolding Before close
+before-close : (k : ℕ) (stack : List ℕ) → Before k stack → Before k (closed stack)
+unfolding Before closed
 before-close k [] h = tt
 before-close k (p ∷ stack) h = h .1
 
@@ -126,14 +126,14 @@ module _ (e : Encoding) (x : Sections) (unit : List ℕ) where
       → (i : ℕ) (r : EntryRow) → Nth r i rows → (r .parent ≡ noParent → ⊥) → r .parent < k + i
   unfolding RowsOf
   row-before k stack rb lb [] rows b h i r n o = let l : length rows ≡ 0 = ap length h in absurd (omega (arith, nth-inside r i rows n))
-  row-before k stack rb lb (terminator p q ∷ items) rows b h i r n o = row-before k (close stack) rb lb items rows (before-close k stack b) h i r n o
+  row-before k stack rb lb (terminator p q ∷ items) rows b h i r n o = row-before k (closed stack) rb lb items rows (before-close k stack b) h i r n o
   row-before k stack rb lb (entry y ∷ items) [] b h i r n o = absurd h
   row-before k stack rb lb (entry y ∷ items) (s ∷ rows) b h i r (now q) o =
       let z : r .parent ≡ top stack = ap (λ (t : EntryRow). t .parent) q ∙ h .0 .parent-is in
       omega (arith, top-before k stack b (λ t. o (z ∙ t)))
   row-before k stack rb lb (entry y ∷ items) (s ∷ rows) b h i r (later {n = j} n) o =
       let l : r .parent < suc k + j =
-      row-before (suc k) (open′ (y .declaration .children) k stack) (baseOf e x unit 0x74 rb y) (baseOf e x unit 0x8c lb y) items rows
+      row-before (suc k) (opened (y .declaration .children) k stack) (baseOf e x unit 0x74 rb y) (baseOf e x unit 0x8c lb y) items rows
       (before-open (y .declaration .children) k stack b) (h .1) j r n o in
       omega arith
 

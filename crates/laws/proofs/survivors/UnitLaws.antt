@@ -14,7 +14,7 @@ use Rattle.readers.specs.Choice.{_or_}
 use Rattle.readers.proofs.Choice.{pick-either}
 use Rattle.readers.specs.Cursors.{fixedAt}
 use Rattle.readers.specs.Abbreviations.{Placed, abbreviationsOf}
-use Rattle.readers.specs.Nesting.{open′, close}
+use Rattle.readers.specs.Nesting.{opened, closed}
 use Rattle.readers.specs.Stream.{Item, entry, terminator}
 use Rattle.readers.specs.Header.{present, right, headerMade, headerFields, headerOf}
 use Rattle.readers.specs.declared.cursor.Encoding.{Encoding}
@@ -212,12 +212,12 @@ module _ (e : Encoding) (x : Sections) (unit : List ℕ) where
       → RowsOf e x unit k stack rb lb items a → RowsOf e x unit k stack rb lb items b → a ≡ b
   unfolding RowsOf
   same-rows k stack rb lb [] a b p q = p ∙ sym q
-  same-rows k stack rb lb (terminator i j ∷ rest) a b p q = same-rows k (close stack) rb lb rest a b p q
+  same-rows k stack rb lb (terminator i j ∷ rest) a b p q = same-rows k (closed stack) rb lb rest a b p q
   same-rows k stack rb lb (entry y ∷ rest) [] b p q = absurd p
   same-rows k stack rb lb (entry y ∷ rest) (r ∷ a) [] p q = absurd q
   same-rows k stack rb lb (entry y ∷ rest) (r ∷ a) (s ∷ b) p q =
       ap₂ (λ (z : EntryRow) (zs : List EntryRow). z ∷ zs) (same-row stack rb lb y r s (p .0) (q .0))
-      (same-rows (suc k) (open′ (y .declaration .children) k stack) (baseOf e x unit 0x74 rb y) (baseOf e x unit 0x8c lb y) rest a b (p .1) (q .1))
+      (same-rows (suc k) (opened (y .declaration .children) k stack) (baseOf e x unit 0x74 rb y) (baseOf e x unit 0x8c lb y) rest a b (p .1) (q .1))
 
 module _ (x : Sections) (section : List ℕ) (a b : List EntryRow) where
   abbrev Each : UnitHeader → List Placed → Type 0

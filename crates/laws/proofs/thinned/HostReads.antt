@@ -15,6 +15,7 @@ use mir.Facts.{leb-yes, yes-leb}
 use Rattle.readers.specs.Choice.{pick, _and_, zeros}
 use Rattle.readers.proofs.Choice.{pick-either, All, all-map}
 use Rattle.readers.specs.Layout.{Encoded, infixed, inleb, Role, index, Token, nothing, number, bounded, forms, signed, link, string, run, block, expression, unknown, Layout, done, fail, field, Piece, verbatim, patchable, Read, RunOf, Fit}
+use Rattle.readers.proofs.LayoutLaws.{fixed-fit, leb-fit}
 use Rattle.readers.specs.Expression.{expressionIn}
 use Rattle.readers.specs.Entries.{entryLayout}
 use Rattle.readers.specs.Abbreviations.{Placed, declaredIn, abbreviationsOf}
@@ -24,11 +25,12 @@ use Rattle.readers.specs.declared.header.UnitHeader.{UnitHeader}
 use Rattle.readers.specs.declared.header.HeaderRead.{HeaderRead}
 use Rattle.readers.specs.declared.header.HeaderRead.the-variants.{Unit as Header′, Empty, Refused}
 use Rattle.readers.specs.Header.{headerOf}
+use Rattle.readers.specs.Nesting.{opened, closed}
 use Rattle.marking.specs.Marks.{isKept, keptCount}
 use Rattle.marking.specs.Analysis.{Sections, Rooms, EntryRow, Analysed, analysed, refused as notAnalysed, analysisOf}
 use Rattle.marking.specs.Resolution.{marksIn, Ascending as From}
 use Rattle.marking.specs.Columns.{padTo}
-use Rattle.rewriting.specs.Places.{NestedItem, opened, closed, innermost, withIf, keptFrom, offsetOf, sizeOf, Place, placesFrom, sizeFrom, oldOffsets}
+use Rattle.rewriting.specs.Places.{NestedItem, innermost, withIf, keptFrom, offsetOf, sizeOf, Place, placesFrom, sizeFrom, oldOffsets}
 use Rattle.rewriting.specs.Indices.{countOf}
 use Rattle.rewriting.specs.Ascending.{Ascending}
 use Rattle.marking.specs.Members.{Member, here, there, Nth, now, later}
@@ -159,7 +161,8 @@ present-reads size (some xs) r h = list-reads size xs r (h xs refl)
 
 length-opened : (b k : Bool) (stack : List Bool) → length (opened b k stack) ≤ suc (length stack)
 unfolding opened
-length-opened b k stack = pick-either (λ (l : List Bool). length l ≤ suc (length stack)) b (k ∷ stack) stack (λ _. let z : suc (length stack) ≤ suc (length stack) = omega arith in z) (λ _. omega arith)
+length-opened true k stack = omega arith
+length-opened false k stack = omega arith
 
 length-closed : (stack : List Bool) → length (closed stack) ≤ length stack
 unfolding closed
@@ -214,11 +217,11 @@ width-below (suc d) w v h =
     (let z : v < 256 ^ (w + d) = width-below d w v h in let y : v < 256 ^ suc (w + d) = omega arith in y)
 
 fit-small : (e : Encoded) (v : ℕ) → Fit e v → v < 2 ^ 64
-unfolding Fit
 fit-small (infixed w) v h =
-    let l : w ≤ 8 = h .0 in
-    let z : v < 256 ^ 8 = subst (λ (n : ℕ). v < 256 ^ n) (let e : w + (8 - w) ≡ 8 = omega arith in e) (width-below (8 - w) w v (h .1)) in omega arith
-fit-small (inleb n) v h = h .2
+    let p = fixed-fit w v h in
+    let l : w ≤ 8 = p .0 in
+    let z : v < 256 ^ 8 = subst (λ (n : ℕ). v < 256 ^ n) (let e : w + (8 - w) ≡ 8 = omega arith in e) (width-below (8 - w) w v (p .1)) in omega arith
+fit-small (inleb n) v h = leb-fit n v h .2
 
 abbrev anyRole : Role → Bool
 anyRole r = true

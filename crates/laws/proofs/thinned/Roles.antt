@@ -9,7 +9,7 @@ use lib.ListN.{length, getD, take}
 use lib.Dec.{T, ltb, eqb, leb}
 use mir.Facts.{ltb-yes}
 use Rattle.readers.specs.Choice.{_and_}
-use Rattle.readers.proofs.Choice.{pick-either, All, all-some, all-none, all-of, all-check, all-bind, all-triv}
+use Rattle.readers.proofs.Choice.{pick-either, All, all-some, all-none, all-of, all-check, all-bind, all-triv, and-both}
 use Rattle.readers.specs.Numbers.{uleb, sleb}
 use Rattle.readers.specs.Layout.{Encoded, Role, reference, typeReference, sibling, index, absolute, Token, nothing, number, bounded, forms, signed, link, string, run, block, expression, unknown, Layout, done, fail, field, Piece, verbatim, patchable, Read, ReadOf, RunOf, ExpressionReader, stringIn, formsIn, asNumber, asBounded, asForms, asSigned, asLink, asString, asBlock, asExpression, copy, before, numberIn, tokenIn, readIn}
 use Rattle.readers.specs.Tokens.{Use, plain, as′, numberAs, tokenOf}
@@ -150,19 +150,14 @@ unfoldable listedRows : List OperandRow → Bool
 listedRows [] = true
 listedRows (r ∷ rs) = listedUse (r .firstUse) and (listedUse (r .secondUse) and listedRows rs)
 
-both : (a b : Bool) → T (a and b) → T a × T b
-unfolding _and_
-both true b t = (tt, t)
-both false b t = absurd t
-
 abbrev ListedRow : OperandRow → Type 0
 ListedRow r = T (listedUse (r .firstUse)) × T (listedUse (r .secondUse))
 
 row-listed : (rs : List OperandRow) → T (listedRows rs) → (l : ℕ) → ListedRow (getD rs l unreadableRow)
 unfolding listedRows unreadableRow listedUse
 row-listed [] h l = (tt, tt)
-row-listed (r ∷ rs) h zero = let a = both _ _ h in (a .0, both _ _ (a .1) .0)
-row-listed (r ∷ rs) h (suc l) = row-listed rs (both _ _ (both _ _ h .1) .1) l
+row-listed (r ∷ rs) h zero = let a = and-both _ _ h in (a .0, and-both _ _ (a .1) .0)
+row-listed (r ∷ rs) h (suc l) = row-listed rs (and-both _ _ (and-both _ _ h .1) .1) l
 
 rows-listed : T (listedRows rows)
 unfolding listedRows rows unreadableRow listedUse listed _and_

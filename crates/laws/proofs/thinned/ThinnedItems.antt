@@ -11,13 +11,13 @@ use lib.ListN.{length, drop}
 use lib.Dec.{T, eqb, leb}
 use mir.Facts.{eqb-yes, leb-yes, leb-no, yes-leb}
 use Rattle.readers.specs.Choice.{pick, _and_}
-use Rattle.readers.proofs.Choice.{pick-either}
-use Rattle.readers.specs.Nesting.{open′, close}
+use Rattle.readers.proofs.Choice.{pick-either, and-both}
+use Rattle.readers.specs.Nesting.{opened, closed}
 use Rattle.readers.specs.Stream.{Item, entry, terminator}
 use Rattle.readers.specs.declared.entries.Entry.{Entry}
 use Rattle.marking.specs.Analysis.{Sections}
 use Rattle.marking.specs.Marks.{isKept}
-use Rattle.rewriting.specs.Places.{NestedItem, opened, closed, innermost, withIf, keptFrom, offsetOf, sizeOf, Place, placesFrom, newOf, firstFrom}
+use Rattle.rewriting.specs.Places.{NestedItem, innermost, withIf, keptFrom, offsetOf, sizeOf, Place, placesFrom, newOf, firstFrom}
 use Rattle.laws.specs.LeftOut.{leftFrom}
 use Rattle.marking.specs.Members.{Member, here, there, Nth, now, later}
 use Rattle.laws.specs.Moved.{movedEntry, movedItem}
@@ -50,7 +50,7 @@ length-map f (x ∷ xs) = ap suc (length-map f xs)
 
 module _ (S : ℕ → Type 0) where
   entry-parted : (k : ℕ) (stack : List ℕ) (y : Entry) (rest : List Item) (kept left : List NestedItem) (b : Bool) → (T b ↔ S k)
-      → Parted S (suc k) (open′ (y .declaration .children) k stack) rest kept left
+      → Parted S (suc k) (opened (y .declaration .children) k stack) rest kept left
       → Parted S k stack (entry y ∷ rest) (withIf b (inside stack (entry y)) kept) (withIf (not b) (inside stack (entry y)) left)
   unfolding withIf
   entry-parted k stack y rest kept left true h p = kept-entry (h .0 tt) p
@@ -66,8 +66,8 @@ module _ (S : ℕ → Type 0) where
     abbrev f : ℕ → Bool
     f = isKept marks
 
-    open-same : (children : Bool) (k : ℕ) (stack : List ℕ) → map f (open′ children k stack) ≡ opened children (f k) (map f stack)
-    unfolding open′ opened pick
+    open-same : (children : Bool) (k : ℕ) (stack : List ℕ) → map f (opened children k stack) ≡ opened children (f k) (map f stack)
+    unfolding opened
     open-same true k stack = refl
     open-same false k stack = refl
 
@@ -79,10 +79,10 @@ module _ (S : ℕ → Type 0) where
     unfolding keptFrom leftFrom innermost closed withIf
     parted k stack [] = ended
     parted k stack (entry y ∷ rest) =
-        let p = parted (suc k) (open′ (y .declaration .children) k stack) rest in
-        let q : Parted S (suc k) (open′ (y .declaration .children) k stack) rest
+        let p = parted (suc k) (opened (y .declaration .children) k stack) rest in
+        let q : Parted S (suc k) (opened (y .declaration .children) k stack) rest
         (keptFrom marks (suc k) (opened (y .declaration .children) (f k) (map f stack)) rest) (leftFrom marks (suc k) (opened (y .declaration .children) (f k) (map f stack)) rest) =
-        subst (λ (bs : List Bool). Parted S (suc k) (open′ (y .declaration .children) k stack) rest (keptFrom marks (suc k) bs rest) (leftFrom marks (suc k) bs rest))
+        subst (λ (bs : List Bool). Parted S (suc k) (opened (y .declaration .children) k stack) rest (keptFrom marks (suc k) bs rest) (leftFrom marks (suc k) bs rest))
         (open-same (y .declaration .children) k stack) p in
         subst (λ (n : ℕ). At k stack (entry y) rest n (f k) (keptFrom marks (suc k) (opened (y .declaration .children) (f k) (map f stack)) rest)
         (leftFrom marks (suc k) (opened (y .declaration .children) (f k) (map f stack)) rest)) (sym (length-map f stack)) (entry-parted k stack y rest _ _ (f k) (same k) q)
@@ -170,11 +170,6 @@ unfolding _and_
 not-and true b h t = h
 not-and false b h t = absurd t
 
-both-tests : (a b : Bool) → T (a and b) → T a × T b
-unfolding _and_
-both-tests true b h = (tt, h)
-both-tests false b h = absurd h
-
 -- before v, or deeper
 not-both : (v o d depth : ℕ) → T (not (leb v o and leb d depth)) → v ≤ o → depth < d
 not-both v o d depth h l = leb-no {a = d} {b = depth} (not-and (leb v o) (leb d depth) h (yes-leb {a = v} {b = o} l))
@@ -207,7 +202,7 @@ first-by first (t ∷ kept) depth v n =
     pick-either (λ (o : Option ℕ). o ≡ some n → FirstFound first (t ∷ kept) depth v n) (leb v (offsetOf (t .item)) and leb (t .depth) depth) (some first)
     (firstFrom (placesFrom (first + sizeOf (t .item)) kept) depth v)
     (λ y e.
-    let b = both-tests (leb v (offsetOf (t .item))) (leb (t .depth) depth) y in
+    let b = and-both (leb v (offsetOf (t .item))) (leb (t .depth) depth) y in
     record {
       m = 0;
       s = t;
@@ -230,13 +225,13 @@ pub record AncestorsOf (items : List Item) (stack : List ℕ) (ancestors : List 
   pub listed : Nth opens m ancestors
 
 ancestors-entry : (y : Entry) (rest : List Item) (stack : List ℕ) (ancestors : List (List ℕ)) (m : ℕ) (s : NestedItem)
-    → AncestorsOf rest (open′ (y .declaration .children) (y .offset .0) stack) ancestors m s → AncestorsOf (entry y ∷ rest) stack ancestors m s
+    → AncestorsOf rest (opened (y .declaration .children) (y .offset .0) stack) ancestors m s → AncestorsOf (entry y ∷ rest) stack ancestors m s
 unfolding ancestorsFrom
 ancestors-entry y rest stack ancestors m s r =
     record { at = suc (r .at); opens = r .opens; was-at = later (r .was-at); were-open = later (r .were-open); listed = r .listed }
 
 ancestors-close : (a b : ℕ) (rest : List Item) (stack : List ℕ) (ancestors : List (List ℕ)) (m : ℕ) (s : NestedItem)
-    → AncestorsOf rest (close stack) ancestors m s → AncestorsOf (terminator a b ∷ rest) stack ancestors m s
+    → AncestorsOf rest (closed stack) ancestors m s → AncestorsOf (terminator a b ∷ rest) stack ancestors m s
 unfolding ancestorsFrom
 ancestors-close a b rest stack ancestors m s r =
     record { at = suc (r .at); opens = r .opens; was-at = later (r .was-at); were-open = later (r .were-open); listed = r .listed }
@@ -269,11 +264,11 @@ ancestors-by marks k bs stack [] m s n = elim n [ ]
 ancestors-by marks k bs stack (entry y ∷ rest) m s n =
     ancestors-one (entry y) (length bs) rest stack _ _ (isKept marks k)
     (λ j z q. ancestors-entry y rest stack _ j z
-    (ancestors-by marks (suc k) (opened (y .declaration .children) (isKept marks k) bs) (open′ (y .declaration .children) (y .offset .0) stack) rest j z q))
+    (ancestors-by marks (suc k) (opened (y .declaration .children) (isKept marks k) bs) (opened (y .declaration .children) (y .offset .0) stack) rest j z q))
     m s n
 ancestors-by marks k bs stack (terminator a b ∷ rest) m s n =
     ancestors-one (terminator a b) (length bs) rest stack _ _ (innermost bs)
-    (λ j z q. ancestors-close a b rest stack _ j z (ancestors-by marks k (closed bs) (close stack) rest j z q))
+    (λ j z q. ancestors-close a b rest stack _ j z (ancestors-by marks k (closed bs) (closed stack) rest j z q))
     m s n
 
 -- the m-th of both sides

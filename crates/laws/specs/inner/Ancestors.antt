@@ -5,20 +5,21 @@ use mathlib.Core.Bool.{Bool}
 use mathlib.Core.List.{List, [], _∷_}
 use mathlib.Core.Option.{some}
 use Rattle.readers.specs.Choice.{pick}
-use Rattle.readers.specs.Nesting.{open′, close}
+use Rattle.readers.specs.Nesting.{opened, closed}
 use Rattle.readers.specs.Stream.{Item, entry, terminator}
 use Rattle.marking.specs.Marks.{isKept}
-use Rattle.rewriting.specs.Places.{Place, opened, closed, innermost, newOf}
+use Rattle.rewriting.specs.Places.{Place, innermost, newOf}
 
 -- of the kept items alone, each as it stands among all of them
 unfoldable pub keptAncestors : List ℕ → ℕ → List Bool → List ℕ → List Item → List (List ℕ)
 keptAncestors marks k kept stack [] = []
 keptAncestors marks k kept stack (entry x ∷ rest) =
     pick (isKept marks k)
-    (stack ∷ keptAncestors marks (suc k) (opened (x .declaration .children) (isKept marks k) kept) (open′ (x .declaration .children) (x .offset .0) stack) rest)
-    (keptAncestors marks (suc k) (opened (x .declaration .children) (isKept marks k) kept) (open′ (x .declaration .children) (x .offset .0) stack) rest)
+    (stack ∷ keptAncestors marks (suc k) (opened (x .declaration .children) (isKept marks k) kept)
+    (opened (x .declaration .children) (x .offset .0) stack) rest)
+    (keptAncestors marks (suc k) (opened (x .declaration .children) (isKept marks k) kept) (opened (x .declaration .children) (x .offset .0) stack) rest)
 keptAncestors marks k kept stack (terminator a b ∷ rest) =
-    pick (innermost kept) (stack ∷ keptAncestors marks k (closed kept) (close stack) rest) (keptAncestors marks k (closed kept) (close stack) rest)
+    pick (innermost kept) (stack ∷ keptAncestors marks k (closed kept) (closed stack) rest) (keptAncestors marks k (closed kept) (closed stack) rest)
 
 -- old offsets, and the new ones that a map leads them to, one by one
 unfoldable pub MapTo : List Place → List ℕ → List ℕ → Type 0

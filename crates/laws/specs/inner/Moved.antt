@@ -9,7 +9,8 @@ use Rattle.readers.specs.declared.entries.Step.{Step}
 use Rattle.readers.specs.declared.entries.Step.the-variants.{Entry as Entry′, Terminator, End, Unreadable}
 use Rattle.marking.specs.Marks.{isKept}
 use Rattle.readers.specs.Stream.{Item, entry, terminator}
-use Rattle.rewriting.specs.Places.{NestedItem, opened, closed, innermost, sizeOf}
+use Rattle.readers.specs.Nesting.{opened, closed}
+use Rattle.rewriting.specs.Places.{NestedItem, innermost, sizeOf}
 use Rattle.laws.specs.Moved.{movedEntry, movedItem}
 
 -- a step from one place, as a step from another

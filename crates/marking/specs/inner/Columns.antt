@@ -6,8 +6,7 @@ use lib.ListN.{length}
 use Rattle.readers.specs.Choice.{zeros}
 use Rattle.readers.specs.Abbreviations.{checkedOf, indexOf}
 use Rattle.readers.specs.inner.Entries.{entryOf}
-use Rattle.readers.specs.Refusals.{refusalOfChecked}
-use Rattle.readers.specs.inner.Refusals.{refusalOfValues}
+use Rattle.readers.specs.Refusals.{refusalOfChecked, refusalOfStep}
 use Rattle.readers.specs.declared.abbreviations.Checked.{Checked}
 use Rattle.readers.specs.declared.abbreviations.Checked.the-variants.{Accepted, Refused as Undeclared}
 use Rattle.readers.specs.declared.cursor.Cursor.{Cursor}
@@ -15,6 +14,7 @@ use Rattle.readers.specs.declared.cursor.Moved.{Moved}
 use Rattle.readers.specs.declared.cursor.Moved.the-variants.{To, Unreadable as Nowhere}
 use Rattle.readers.specs.declared.entries.Entry.{Entry}
 use Rattle.readers.specs.declared.entries.EntryHead.{EntryHead}
+use Rattle.readers.specs.declared.entries.Step.the-variants.{Unreadable as NoEntry}
 use Rattle.readers.specs.declared.header.UnitHeader.{UnitHeader}
 use Rattle.readers.specs.declared.header.HeaderRead.{HeaderRead}
 use Rattle.readers.specs.declared.header.HeaderRead.the-variants.{Unit as Unit′, Empty, Refused}
@@ -87,14 +87,14 @@ rootFound room at next root (found xs) = RowFound root (placed room at xs) next
 rootFound room at next root (refusedAfter xs n) = NoRow n
 
 unfoldable pub entryAnswer : ℕ → ℕ → Moved → Verdict → ReferencesFound → EntryAnalysis
-entryAnswer room at Nowhere v f = NoRow (refusalOfValues Nowhere)
+entryAnswer room at Nowhere v f = NoRow (refusalOfStep NoEntry)
 entryAnswer room at (To next) Live f = rootFound room at next 1 f
 entryAnswer room at (To next) Dead f = rootFound room at next 0 f
 entryAnswer room at (To next) (Failed n) f = NoRow n
 
 -- any other refusal of it
 unfoldable pub refusalOf : Moved → ℕ → ℕ
-refusalOf Nowhere n = refusalOfValues Nowhere
+refusalOf Nowhere n = refusalOfStep NoEntry
 refusalOf (To next) n = n
 
 unfoldable pub entryTable : List ℕ → ℕ → Verdict → ReferencesFound → List ℕ

@@ -12,13 +12,14 @@ use Rattle.readers.specs.declared.entries.Step.{Step}
 use Rattle.readers.specs.declared.entries.Step.the-variants.{Entry as Entry′, Terminator, End, Unreadable}
 use Rattle.marking.specs.Marks.{isKept}
 use Rattle.readers.specs.Stream.{Item, entry, terminator, Items, push, onStep, itemsWithin, itemsFrom}
-use Rattle.rewriting.specs.Places.{NestedItem, opened, closed, innermost, withIf, keptFrom, offsetOf, sizeOf}
+use Rattle.rewriting.specs.Places.{NestedItem, innermost, withIf, keptFrom, offsetOf, sizeOf}
 use Rattle.readers.proofs.Streams.{EntryInside, step-inside}
 use mathlib.Core.Option.{Option, some}
 use native.Mathlib.Omega.{arith}
 use Rattle.readers.specs.Layout.{RunOf, readIn}
 use Rattle.readers.specs.Expression.{expressionIn}
 use Rattle.readers.specs.Abbreviations.{declaredIn}
+use Rattle.readers.specs.Nesting.{opened, closed}
 use Rattle.marking.specs.Analysis.{Sections}
 use Rattle.rewriting.specs.Rewriting.{Unit as Unit′}
 use Rattle.rewriting.proofs.kept_pass.DeepReads.{EndsAt}

@@ -18,7 +18,7 @@ use Rattle.readers.specs.Abbreviations.{pastAttributes, movedDeclaration, whole
 use Rattle.readers.specs.Entries.{valuesAt, stepAt}
 use Rattle.readers.proofs.Lebs.{uleb-inside}
 use Rattle.readers.proofs.Values.{entryStep, foundStep, codeStep, step-by, step-none, step-terminator, step-unknown}
-use Rattle.readers.specs.Nesting.{open′, close, top, nestingOf, opened as openedBy, closed as closedBy}
+use Rattle.readers.specs.Nesting.{opened, closed, top, nestingOf, nestingOpened, nestingClosed}
 use Rattle.readers.proofs.Nesting.{opened-is, closed-is}
 use Rattle.readers.specs.inner.Nesting.{Chain}
 use Rattle.readers.specs.Stream.{Item, entry, terminator, Items, push, onStep, itemsFrom}
@@ -38,7 +38,7 @@ use Rattle.readers.specs.declared.entries.Nesting.{Nesting}
 use Rattle.readers.specs.declared.entries.Step.{Step}
 use Rattle.readers.specs.declared.entries.Step.the-variants.{Entry as Entry′, Terminator, End as StepEnd, Unreadable}
 use Rattle.marking.specs.Marks.{isKept}
-use Rattle.rewriting.specs.Places.{NestedItem, opened, closed, innermost, withIf, keptFrom}
+use Rattle.rewriting.specs.Places.{NestedItem, innermost, withIf, keptFrom}
 use Rattle.rewriting.specs.inner.Parents.{parentsFrom, HoldsFrom}
 use Rattle.rewriting.specs.inner.Ends.{endNumber, EndsHeld}
 use Rattle.rewriting.specs.inner.NextKept.{openKept, closesKept, ShowsItem, Forward, Stood, keptAt, Next, Answers}
@@ -75,13 +75,13 @@ open-length marks [] = refl
 open-length marks (k ∷ stack) = ap suc (open-length marks stack)
 
 open-opened : (marks : List ℕ) (children : Bool) (k : ℕ) (stack : List ℕ)
-    → opened children (isKept marks k) (openKept marks stack) ≡ openKept marks (open′ children k stack)
-unfolding openKept opened open′ pick
+    → opened children (isKept marks k) (openKept marks stack) ≡ openKept marks (opened children k stack)
+unfolding openKept opened
 open-opened marks true k stack = refl
 open-opened marks false k stack = refl
 
-open-closed : (marks stack : List ℕ) → closed (openKept marks stack) ≡ openKept marks (close stack)
-unfolding openKept closed close
+open-closed : (marks stack : List ℕ) → closed (openKept marks stack) ≡ openKept marks (closed stack)
+unfolding openKept closed
 open-closed marks [] = refl
 open-closed marks (k ∷ stack) = refl
 
@@ -92,23 +92,23 @@ open-innermost marks (k ∷ stack) =
     sym (closes-inside marks (nestingOf (k ∷ stack)) _ (λ q. absurd (let z : suc (length stack) ≡ 0 = q in omega arith)) refl)
 
 chained-open : (parents : List ℕ) (children : Bool) (k : ℕ) (stack : List ℕ) → getD parents k 4294967295 ≡ top stack → Chain parents stack
-    → Chain parents (open′ children k stack)
-unfolding Chain open′
+    → Chain parents (opened children k stack)
+unfolding Chain opened
 chained-open parents true k stack e h = (e, h)
 chained-open parents false k stack e h = h
 
-chained-close : (parents stack : List ℕ) → Chain parents stack → Chain parents (close stack)
-unfolding Chain close
+chained-close : (parents stack : List ℕ) → Chain parents stack → Chain parents (closed stack)
+unfolding Chain closed
 chained-close parents [] h = tt
 chained-close parents (k ∷ stack) h = h .1
 
-length-open : (children : Bool) (k : ℕ) (stack : List ℕ) → length (open′ children k stack) ≤ length stack + 1
-unfolding open′
+length-open : (children : Bool) (k : ℕ) (stack : List ℕ) → length (opened children k stack) ≤ length stack + 1
+unfolding opened
 length-open true k stack = let h : suc (length stack) ≤ length stack + 1 = omega arith in h
 length-open false k stack = omega arith
 
-length-close : (stack : List ℕ) → length (close stack) ≤ length stack
-unfolding close
+length-close : (stack : List ℕ) → length (closed stack) ≤ length stack
+unfolding closed
 length-close [] = omega arith
 length-close (k ∷ stack) = let h : length stack ≤ suc (length stack) = omega arith in h
 
@@ -203,13 +203,13 @@ module _ (e : Encoding) (abbreviations : List ℕ) (look : ℕ → DeclarationFo
 
     entry-holds : (t : PassPosition) (stack : List ℕ) (x : Entry) → stepAt e abbreviations look unit (t .at .at) ≡ Entry′ x → Stood items parents ends t stack
         → (getD parents (t .count .0) 4294967295 ≡ top stack)
-        × HoldsFrom parents (t .count .0 + 1) (parentsFrom (t .count .0 + 1) (open′ (x .declaration .children) (t .count .0) stack) (items (x .next .at)))
+        × HoldsFrom parents (t .count .0 + 1) (parentsFrom (t .count .0 + 1) (opened (x .declaration .children) (t .count .0) stack) (items (x .next .at)))
     unfolding parentsFrom HoldsFrom
     entry-holds t stack x q s =
         let h : HoldsFrom parents (t .count .0) (parentsFrom (t .count .0) stack (entry x ∷ items (x .next .at))) =
         subst (λ (is : List Item). HoldsFrom parents (t .count .0) (parentsFrom (t .count .0) stack is)) (items-entry (t .at .at) x q) (s .holds) in (
           h .0,
-          subst (λ (k : ℕ). HoldsFrom parents k (parentsFrom k (open′ (x .declaration .children) (t .count .0) stack) (items (x .next .at))))
+          subst (λ (k : ℕ). HoldsFrom parents k (parentsFrom k (opened (x .declaration .children) (t .count .0) stack) (items (x .next .at))))
               (sym (add-one (t .count .0))) (h .1),
         )
 
@@ -219,14 +219,14 @@ module _ (e : Encoding) (abbreviations : List ℕ) (look : ℕ → DeclarationFo
     entry-ends t x q h = subst (EndsHeld ends (t .count .0)) (items-entry (t .at .at) x q) h
 
     entry-stood : (t : PassPosition) (stack : List ℕ) (x : Entry) (n : Nesting) → stepAt e abbreviations look unit (t .at .at) ≡ Entry′ x
-        → n ≡ openedBy (x .declaration .children) (t .count .0) (t .nesting) → length unit < 2 ^ 32 → Stood items parents ends t stack
-        → Stood items parents ends (stand (x .next .at) (t .count .0 + 1) n) (open′ (x .declaration .children) (t .count .0) stack)
+        → n ≡ nestingOpened (x .declaration .children) (t .count .0) (t .nesting) → length unit < 2 ^ 32 → Stood items parents ends t stack
+        → Stood items parents ends (stand (x .next .at) (t .count .0 + 1) n) (opened (x .declaration .children) (t .count .0) stack)
     entry-stood t stack x n q m u s =
         let i : EntryInside unit (t .at .at) x = step-inside e abbreviations look unit (t .at .at) x q in
         let h = entry-holds t stack x q s in
         let l : length stack < 2 ^ 64 - 1 = omega (arith, s .counted, s .passed, i .coded, i .ahead, i .within) in
         record {
-          nested = m ∙ ap (openedBy (x .declaration .children) (t .count .0)) (s .nested) ∙ opened-is (x .declaration .children) (t .count .0) stack l;
+          nested = m ∙ ap (nestingOpened (x .declaration .children) (t .count .0)) (s .nested) ∙ opened-is (x .declaration .children) (t .count .0) stack l;
           chained = chained-open parents (x .declaration .children) (t .count .0) stack (h .0) (s .chained);
           counted = omega (arith, length-open (x .declaration .children) (t .count .0) stack, s .counted);
           passed = omega (arith, s .passed, i .coded, i .ahead);
@@ -237,14 +237,14 @@ module _ (e : Encoding) (abbreviations : List ℕ) (look : ℕ → DeclarationFo
     entry-kept : (t : PassPosition) (stack : List ℕ) (x : Entry) → stepAt e abbreviations look unit (t .at .at) ≡ Entry′ x
         → keptAt items parents ends marks t stack
         ≡ withIf (isKept marks (t .count .0)) (record { item = entry x; depth = length stack })
-        (keptFrom marks (t .count .0 + 1) (openKept marks (open′ (x .declaration .children) (t .count .0) stack)) (items (x .next .at)))
+        (keptFrom marks (t .count .0 + 1) (openKept marks (opened (x .declaration .children) (t .count .0) stack)) (items (x .next .at)))
     unfolding keptFrom
     entry-kept t stack x q =
         ap (keptFrom marks (t .count .0) (openKept marks stack)) (items-entry (t .at .at) x q)
         ∙ ap₂ (λ (d : ℕ) (bs : List Bool). withIf (isKept marks (t .count .0)) (record { item = entry x; depth = d }) (keptFrom marks (suc (t .count .0)) bs (items (x .next .at))))
         (open-length marks stack) (open-opened marks (x .declaration .children) (t .count .0) stack)
         ∙ ap (λ (k : ℕ). withIf (isKept marks (t .count .0)) (record { item = entry x; depth = length stack })
-        (keptFrom marks k (openKept marks (open′ (x .declaration .children) (t .count .0) stack)) (items (x .next .at)))) (sym (add-one (t .count .0)))
+        (keptFrom marks k (openKept marks (opened (x .declaration .children) (t .count .0) stack)) (items (x .next .at)))) (sym (add-one (t .count .0)))
 
     -- ---- after a terminator
 
@@ -253,12 +253,12 @@ module _ (e : Encoding) (abbreviations : List ℕ) (look : ℕ → DeclarationFo
     terminator-ends t c q h = subst (EndsHeld ends (t .count .0)) (items-terminator (t .at .at) c q) h
 
     terminator-stood : (t : PassPosition) (stack : List ℕ) (c : Cursor) (n : Nesting) → stepAt e abbreviations look unit (t .at .at) ≡ Terminator c
-        → n ≡ closedBy parents (t .nesting) → Stood items parents ends t stack → Stood items parents ends (stand (c .at) (t .count .0) n) (close stack)
+        → n ≡ nestingClosed parents (t .nesting) → Stood items parents ends t stack → Stood items parents ends (stand (c .at) (t .count .0) n) (closed stack)
     unfolding parentsFrom
     terminator-stood t stack c n q m s =
         let i = terminator-inside e abbreviations look unit (t .at .at) c q in
         record {
-          nested = m ∙ ap (closedBy parents) (s .nested) ∙ closed-is parents stack (s .chained);
+          nested = m ∙ ap (nestingClosed parents) (s .nested) ∙ closed-is parents stack (s .chained);
           chained = chained-close parents stack (s .chained);
           counted = omega (arith, length-close stack, s .counted);
           passed = omega (arith, s .passed, i .0);
@@ -269,13 +269,13 @@ module _ (e : Encoding) (abbreviations : List ℕ) (look : ℕ → DeclarationFo
     terminator-kept : (t : PassPosition) (stack : List ℕ) (c : Cursor) → stepAt e abbreviations look unit (t .at .at) ≡ Terminator c → t .nesting ≡ nestingOf stack
         → keptAt items parents ends marks t stack
         ≡ withIf (closesKept marks (t .nesting)) (record { item = terminator (t .at .at) (c .at); depth = length stack })
-        (keptFrom marks (t .count .0) (openKept marks (close stack)) (items (c .at)))
+        (keptFrom marks (t .count .0) (openKept marks (closed stack)) (items (c .at)))
     unfolding keptFrom
     terminator-kept t stack c q m =
         ap (keptFrom marks (t .count .0) (openKept marks stack)) (items-terminator (t .at .at) c q)
         ∙ ap₂ (λ (d : ℕ) (bs : List Bool). withIf (innermost (openKept marks stack)) (record { item = terminator (t .at .at) (c .at); depth = d }) (keptFrom marks (t .count .0) bs (items (c .at))))
         (open-length marks stack) (open-closed marks stack)
-        ∙ ap (λ (b : Bool). withIf b (record { item = terminator (t .at .at) (c .at); depth = length stack }) (keptFrom marks (t .count .0) (openKept marks (close stack)) (items (c .at))))
+        ∙ ap (λ (b : Bool). withIf b (record { item = terminator (t .at .at) (c .at); depth = length stack }) (keptFrom marks (t .count .0) (openKept marks (closed stack)) (items (c .at))))
         (sym (open-innermost marks stack) ∙ ap (closesKept marks) (sym m))
 
     -- ---- the loop: what is kept from the start on is what is kept from here on
@@ -317,7 +317,7 @@ module _ (e : Encoding) (abbreviations : List ℕ) (look : ℕ → DeclarationFo
           }
 
       module _ (x : Entry) (q : stepAt e abbreviations look unit (t .at .at) ≡ Entry′ x) where
-        module _ (n : Nesting) (m : n ≡ openedBy (x .declaration .children) (t .count .0) (t .nesting)) where
+        module _ (n : Nesting) (m : n ≡ nestingOpened (x .declaration .children) (t .count .0) (t .nesting)) where
           pub entry-item : isKept marks (t .count .0) ≡ true
               → Answers items parents ends marks unit s (Item′ (record {
                 start = record { 0 = t .at .at };
@@ -337,7 +337,7 @@ module _ (e : Encoding) (abbreviations : List ℕ) (look : ℕ → DeclarationFo
                     let v = w .1 stack u g in
                     record {
                       standing = record { item = entry x; depth = length (v .now) };
-                      after = open′ (x .declaration .children) (t .count .0) (v .now);
+                      after = opened (x .declaration .children) (t .count .0) (v .now);
                       whole = v .same ∙ entry-kept t (v .now) x q ∙ with-yes _ _ _ k;
                       shows = (refl, sym (i .here), refl, refl, refl);
                       deep = depth-of t (v .now) (v .stood .nested);
@@ -353,7 +353,7 @@ module _ (e : Encoding) (abbreviations : List ℕ) (look : ℕ → DeclarationFo
                 λ stack u g.
                     let v = w .1 stack u g in
                     record {
-                      now = open′ (x .declaration .children) (t .count .0) (v .now);
+                      now = opened (x .declaration .children) (t .count .0) (v .now);
                       stood = entry-stood t (v .now) x n q m u (v .stood);
                       same = v .same ∙ entry-kept t (v .now) x q ∙ with-no _ _ _ k;
                     },
@@ -363,7 +363,7 @@ module _ (e : Encoding) (abbreviations : List ℕ) (look : ℕ → DeclarationFo
         pub terminator-less : length unit - c .at < length unit - t .at .at
         terminator-less = let i = terminator-inside e abbreviations look unit (t .at .at) c q in omega (arith, i .0, i .1)
 
-        module _ (n : Nesting) (m : n ≡ closedBy parents (t .nesting)) where
+        module _ (n : Nesting) (m : n ≡ nestingClosed parents (t .nesting)) where
           pub terminator-item : closesKept marks (t .nesting) ≡ true
               → Answers items parents ends marks unit s (Item′ (record {
                 start = record { 0 = t .at .at };
@@ -383,7 +383,7 @@ module _ (e : Encoding) (abbreviations : List ℕ) (look : ℕ → DeclarationFo
                     let v = w .1 stack u g in
                     record {
                       standing = record { item = terminator (t .at .at) (c .at); depth = length (v .now) };
-                      after = close (v .now);
+                      after = closed (v .now);
                       whole = v .same ∙ terminator-kept t (v .now) c q (v .stood .nested) ∙ with-yes _ _ _ k;
                       shows = (refl, refl, refl);
                       deep = depth-of t (v .now) (v .stood .nested);
@@ -399,7 +399,7 @@ module _ (e : Encoding) (abbreviations : List ℕ) (look : ℕ → DeclarationFo
                 λ stack u g.
                     let v = w .1 stack u g in
                     record {
-                      now = close (v .now);
+                      now = closed (v .now);
                       stood = terminator-stood t (v .now) c n q m (v .stood);
                       same = v .same ∙ terminator-kept t (v .now) c q (v .stood .nested) ∙ with-no _ _ _ k;
                     },
@@ -469,7 +469,7 @@ module _ (e : Encoding) (abbreviations : List ℕ) (look : ℕ → DeclarationFo
                 pub ends-less : length unit - n / 2 < length unit - t .at .at
                 ends-less = let a : t .at .at < values .at = past-code .0 in omega arith
 
-                module _ (m : Nesting) (o : m ≡ openedBy (eqb (n % 2) 1) (t .count .0) (t .nesting)) where
+                module _ (m : Nesting) (o : m ≡ nestingOpened (eqb (n % 2) 1) (t .count .0) (t .nesting)) where
                   pub ends-on : isKept marks (t .count .0) ≡ false → Walking s (stand (n / 2) (t .count .0 + 1) m)
                   ends-on k = (
                     let a : t .at .at < values .at = past-code .0 in omega (arith, w .0),
@@ -477,7 +477,7 @@ module _ (e : Encoding) (abbreviations : List ℕ) (look : ℕ → DeclarationFo
                         let v = w .1 stack u g in
                         let x : CodedEntry (t .at .at) code values = there (v .now) (v .stood) in
                         subst (λ (end : ℕ). Walked s stack (stand end (t .count .0 + 1) m)) (sym (ends-at x (v .now) (v .stood)))
-                        (entry-on (x .of) (x .is) m (o ∙ ap (λ (c : Bool). openedBy c (t .count .0) (t .nesting)) (opens x (v .now) (v .stood))) k .1 stack u g),
+                        (entry-on (x .of) (x .is) m (o ∙ ap (λ (c : Bool). nestingOpened c (t .count .0) (t .nesting)) (opens x (v .now) (v .stood))) k .1 stack u g),
                   )
 
                   pub ends-item : (f : DeclarationFound) → wholeFound abbreviations f ≡ look code → (d : Declaration) → f ≡ Found′ d → isKept marks (t .count .0) ≡ true
@@ -504,5 +504,5 @@ module _ (e : Encoding) (abbreviations : List ℕ) (look : ℕ → DeclarationFo
                             (x .from)
                             (subst (λ (c : Declaration). Next items parents ends marks s stack (Item′ (record { start = record { 0 = t .at .at }; end = x .of .next; depth = t .nesting .depth; «is_entry» = true; specs = c .attributes; values = x .of .values; next = stand (x .of .next .at) (t .count .0 + 1) m })))
                             (sym same)
-                            (entry-item (x .of) (x .is) m (o ∙ ap (λ (c : Bool). openedBy c (t .count .0) (t .nesting)) (opens x (v .now) (v .stood))) y .next stack u g)));
+                            (entry-item (x .of) (x .is) m (o ∙ ap (λ (c : Bool). nestingOpened c (t .count .0) (t .nesting)) (opens x (v .now) (v .stood))) y .next stack u g)));
                       }

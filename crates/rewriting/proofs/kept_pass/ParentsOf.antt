@@ -9,7 +9,7 @@ use lib.ListN.{length, getD, length-append}
 use lib.Dec.{ltb, leb}
 use Rattle.readers.proofs.Choice.{pick-either}
 use Rattle.readers.specs.Abbreviations.{Placed, declaredIn, abbreviationsOf, indexOf, findAt}
-use Rattle.readers.specs.Nesting.{open′, close, top}
+use Rattle.readers.specs.Nesting.{opened, closed, top}
 use Rattle.readers.specs.Stream.{Item, entry, terminator, Items, itemsFrom}
 use Rattle.readers.specs.declared.cursor.Encoding.{Encoding}
 use Rattle.readers.proofs.Declarations.{find-plain}
@@ -62,8 +62,8 @@ module _ (e : Encoding) (x : Sections) (unit : List ℕ) (room : Rooms) where
   rows-of p [] true = record { parents = refl; many = refl }
   rows-of p [] false = tt
   rows-of p (terminator a b ∷ rest) whole =
-      let next = reached (p .count) (p .references) (close (p .stack)) (p .rnglistsBase) (p .loclistsBase) in
-      rows-map (RowsOf (p .count) (close (p .stack)) rest) _ (analyseItems e x unit room next rest whole)
+      let next = reached (p .count) (p .references) (closed (p .stack)) (p .rnglistsBase) (p .loclistsBase) in
+      rows-map (RowsOf (p .count) (closed (p .stack)) rest) _ (analyseItems e x unit room next rest whole)
       (λ rows q. record { parents = q .parents; many = q .many }) (rows-of next rest whole)
   rows-of p (entry y ∷ rest) whole =
       let P = RowsOf (p .count) (p .stack) (entry y ∷ rest) in
@@ -71,10 +71,10 @@ module _ (e : Encoding) (x : Sections) (unit : List ℕ) (room : Rooms) where
       (λ t. rows-verdict P (rootOf e x unit (baseOf e x unit 0x74 (p .rnglistsBase) y) y) _ (λ root.
       rows-found P (namesOf e x unit (baseOf e x unit 0x8c (p .loclistsBase) y) y) _ (λ names.
       pick-either (Rows P) (leb (p .references + length names) (room .references)) _ _
-      (λ t. rows-onto P (RowsOf (suc (p .count)) (open′ (y .declaration .children) (p .count) (p .stack)) rest) _ _
+      (λ t. rows-onto P (RowsOf (suc (p .count)) (opened (y .declaration .children) (p .count) (p .stack)) rest) _ _
       (λ rows q. record { parents = ap (λ (l : List ℕ). top (p .stack) ∷ l) (q .parents); many = ap suc (q .many) })
       (rows-of
-      (reached (suc (p .count)) (p .references + length names) (open′ (y .declaration .children) (p .count) (p .stack)) (baseOf e x unit 0x74 (p .rnglistsBase) y) (baseOf e x unit 0x8c (p .loclistsBase) y))
+      (reached (suc (p .count)) (p .references + length names) (opened (y .declaration .children) (p .count) (p .stack)) (baseOf e x unit 0x74 (p .rnglistsBase) y) (baseOf e x unit 0x8c (p .loclistsBase) y))
       rest whole))
       (λ t. tt))))
       (λ t. tt)

@@ -23,7 +23,7 @@ use Rattle.readers.specs.References.{walkOf, asWalk, referencesIn}
 use Rattle.readers.specs.Entries.{attributeAt, attributesLayout, specsLayout, foundLayout, entryLayout, entryFound, stepOfReads, asStep, stepAt}
 use Rattle.readers.specs.Scan.{Scanned}
 use Rattle.readers.specs.Abbreviations.{Placed, declaredIn, attributesFrom}
-use Rattle.readers.specs.Nesting.{open′, close}
+use Rattle.readers.specs.Nesting.{opened, closed}
 use Rattle.readers.specs.Stream.{Item, entry, terminator}
 use Rattle.readers.specs.declared.header.UnitHeader.{UnitHeader}
 use Rattle.readers.proofs.Values.{valued, behindForms, attribute-direct, attribute-indirect, joined, read-then}
@@ -400,10 +400,10 @@ module _ (e : Encoding) (x : Sections) (look : ℕ → Declared) (unit : List �
   items-deep : (k : ℕ) (stack : List ℕ) (rb lb : ℕ) (items : List Item) (rows : List EntryRow) → RowsOf e x unit k stack rb lb items rows → EveryItem (Stands e (x .abbreviations) look unit) items → EveryItem ReadDeep items
   unfolding RowsOf EveryItem
   items-deep k stack rb lb [] rows f s = tt
-  items-deep k stack rb lb (terminator a b ∷ rest) rows f s = (terminator-deep a b (s .0), items-deep k (close stack) rb lb rest rows f (s .1))
+  items-deep k stack rb lb (terminator a b ∷ rest) rows f s = (terminator-deep a b (s .0), items-deep k (closed stack) rb lb rest rows f (s .1))
   items-deep k stack rb lb (entry y ∷ rest) [] f s = absurd f
   items-deep k stack rb lb (entry y ∷ rest) (r ∷ rows) f s =
-      (entry-deep stack rb lb y r (f .0) (s .0), items-deep (suc k) (open′ (y .declaration .children) k stack) (baseOf e x unit 0x74 rb y) (baseOf e x unit 0x8c lb y) rest rows (f .1) (s .1))
+      (entry-deep stack rb lb y r (f .0) (s .0), items-deep (suc k) (opened (y .declaration .children) k stack) (baseOf e x unit 0x74 rb y) (baseOf e x unit 0x8c lb y) rest rows (f .1) (s .1))
 
 -- ---- of an accepted unit
 

@@ -4,44 +4,34 @@ use Prim.Native.Nat.{ℕ, zero, suc, _+_, _≤_, _<_}
 use native.Mathlib.Omega.{arith}
 use mathlib.Core.Bool.{Bool, true, false, not}
 use mathlib.Core.List.{List, [], _∷_, _++_, append-assoc, append-nil}
-use mathlib.Core.Option.{Option, none, some}
+use mathlib.Core.Option.{none, some}
 use mathlib.Core.Logic.{⊎-elim}
 use lib.ListN.{length, getD, take, drop}
 use lib.Seq.{drop-drop}
 use lib.Dec.{T, eqb, leb}
 use mir.Facts.{leb-yes, leb-no, eqb-yes, eqb-no}
 use Rattle.readers.specs.Choice.{pick, _and_, _or_, bind}
-use Rattle.readers.proofs.Choice.{pick-yes, pick-no, pick-either, either, bind-at, bind-bind, check-yes, All, all-some, all-none, all-of, all-bind, all-check, all-triv}
+use Rattle.readers.proofs.Choice.{pick-no, pick-either, either, bind-at, bind-bind, check-yes, All, all-some, all-none, all-of, all-bind, all-check, all-triv, and-both}
 use Rattle.readers.specs.Numbers.{uleb, sleb}
 use Rattle.readers.specs.Layout.{Kind, leb128, Role, reference, typeReference, sibling, index, absolute, Token, nothing, number, bounded, forms, signed, link, string, run, block, expression, unknown, Layout, done, fail, field, Piece, verbatim, patchable, Read, ReadOf, RunOf, ExpressionReader, asBytes, copy, asNumber, asBounded, asForms, asSigned, asLink, asString, asBlock, asExpression, numberIn, formsIn, stringIn, tokenIn, readIn, before}
 use Rattle.readers.proofs.LayoutLaws.{TokenLaw, token-law, as-bytes-law}
 use Rattle.readers.specs.Expression.{allPieces, andRest, expressionWithin, expressionIn}
-use Rattle.readers.proofs.Expression.{expression-law}
 use Rattle.readers.specs.Operations.{OperandRow, unreadableRow, rows, rowOf, rowLayout, operationRow, operation}
 use Rattle.readers.specs.Tokens.{Use, plain, as′, numberAs, tokenOf}
 use Rattle.readers.specs.Forms.{formTokens, tokenAmong, formToken, useOf, valueToken, attributeLayout}
 use Rattle.readers.specs.Fields.{size, linkedValue, fieldOf, asField, tokenAt}
 use Rattle.readers.specs.Cursors.{formsAt, asFormNumber}
-use Rattle.readers.specs.Scan.{Scanned}
-use Rattle.readers.specs.Abbreviations.{attributesFrom}
-use Rattle.readers.specs.Entries.{attributeAt, attributesLayout, specsLayout, foundLayout, entryLayout, entryFound, stepOfReads, stepAt}
-use Rattle.readers.proofs.Values.{valued, behindForms, attribute-direct, attribute-indirect, joined, read-then}
+use Rattle.readers.specs.Entries.{entryLayout, stepAt}
+use Rattle.readers.proofs.Values.{valued, behindForms, attribute-direct, attribute-indirect}
 use Rattle.readers.specs.declared.cursor.Encoding.{Encoding}
-use Rattle.readers.specs.declared.abbreviations.AttributeSpec.{AttributeSpec}
 use Rattle.readers.specs.declared.abbreviations.DeclarationFound.{DeclarationFound}
-use Rattle.readers.specs.declared.abbreviations.DeclarationFound.the-variants.{Declaration as Found′, Nothing}
 use Rattle.readers.specs.declared.attributes.Attribute.{Attribute}
-use Rattle.readers.specs.declared.attributes.AttributeRead.{AttributeRead}
-use Rattle.readers.specs.declared.attributes.AttributeRead.the-variants.{Read as Attribute′}
-use Rattle.readers.specs.declared.entries.Step.{Step}
-use Rattle.readers.specs.declared.entries.Step.the-variants.{Entry as Entry′, Terminator, End, Unreadable}
-use Rattle.readers.specs.EntryAttributes.{onAttribute, valuesOf, entryValues}
-use Rattle.readers.proofs.EntryAttributes.{specs-all}
+use Rattle.readers.specs.EntryAttributes.{Valued}
 use Rattle.rewriting.specs.Indices.{indexIn, indicesIn, readIndices}
 use Rattle.rewriting.specs.inner.IndexLists.{formList, valueIndex, valueIndices}
 use Rattle.readers.specs.inner.Forms.{roleList, useList}
 use Rattle.readers.proofs.FormKinds.{list-low, list-high, form-list}
-use Rattle.rewriting.proofs.kept_pass.DeepReads.{deep-step}
+use Rattle.rewriting.proofs.kept_pass.EntryReads.{ValueRead, StepBy, deep-by}
 
 -- ---- indices of some pieces after others
 
@@ -50,12 +40,6 @@ module _ (k : ℕ) where
   unfolding indicesIn
   in-append [] qs = refl
   in-append (p ∷ ps) qs = ap (λ (l : List ℕ). indexIn k p ++ l) (in-append ps qs) ∙ sym (append-assoc (indexIn k p) (indicesIn k ps) (indicesIn k qs))
-
-  read-append : (rs qs : List Read) → readIndices k (rs ++ qs) ≡ readIndices k rs ++ readIndices k qs
-  unfolding readIndices
-  read-append [] qs = refl
-  read-append (r ∷ rs) qs =
-      ap (λ (l : List ℕ). indicesIn k (r .pieces) ++ l) (read-append rs qs) ∙ sym (append-assoc (indicesIn k (r .pieces)) (readIndices k rs) (readIndices k qs))
 
   in-pieces : (rs : List Read) → indicesIn k (allPieces rs) ≡ readIndices k rs
   unfolding allPieces indicesIn readIndices
@@ -208,19 +192,14 @@ module _ (k : ℕ) where
     plainRows [] = true
     plainRows (r ∷ rs) = eqb (useList (r .firstUse)) 3 and (eqb (useList (r .secondUse)) 3 and plainRows rs)
 
-    both : (a b : Bool) → T (a and b) → T a × T b
-    unfolding _and_
-    both true b t = (tt, t)
-    both false b t = absurd t
-
     plain-row : (rs : List OperandRow) → T (plainRows rs) → (l : ℕ) → PlainRow (getD rs l unreadableRow)
     unfolding plainRows unreadableRow useList
     plain-row [] h l = (refl, refl)
     plain-row (r ∷ rs) h zero =
-        let a = both _ _ h in
-        let b = both _ _ (a .1) in
+        let a = and-both _ _ h in
+        let b = and-both _ _ (a .1) in
         (eqb-yes {a = useList (r .firstUse)} {b = 3} (a .0), eqb-yes {a = useList (r .secondUse)} {b = 3} (b .0))
-    plain-row (r ∷ rs) h (suc l) = plain-row rs (both _ _ (both _ _ h .1) .1) l
+    plain-row (r ∷ rs) h (suc l) = plain-row rs (and-both _ _ (and-both _ _ h .1) .1) l
 
     rows-plain : T (plainRows rows)
     unfolding plainRows rows unreadableRow useList roleList _and_
@@ -375,39 +354,39 @@ module _ (k : ℕ) where
             let l : TokenLaw big asBytes t (drop n unit) r = all-of (TokenLaw big asBytes t (drop n unit)) (token-law big asBytes (as-bytes-law big) t (drop n unit)) q in
             l .0 .1 ∙ drop-drop _ n unit
 
+        abbrev own : ℕ → Attribute → List ℕ
+        own name v = valueIndex k v
+
         -- an attribute: its value, where it ends, and its index
-        record ValueRead (name form at : ℕ) (r : RunOf) : Type 0 where
-          pub value : Attribute
-          pub is : attributeAt e unit at name form ≡ Attribute′ value
-          pub rest : r .1 ≡ drop (value .field .end) unit
-          pub indices : readIndices k (r .0) ≡ valueIndex k value
+        abbrev ValueIndex : ℕ → ℕ → ℕ → RunOf → Type 0
+        ValueIndex name form at r = ValueRead (readIndices k) own e unit name form at r
 
         module _ (name form at : ℕ) where
-          direct-value : T (not (eqb form 0x16)) → All (ValueRead name form at) (readIn big deep (field (valueToken e false name form) (λ _. done)) (drop at unit))
+          direct-value : T (not (eqb form 0x16)) → All (ValueIndex name form at) (readIn big deep (field (valueToken e false name form) (λ _. done)) (drop at unit))
           unfolding readIn before bind tokenAt asField valued readIndices valueIndex fieldOf
           direct-value n =
               let t : Token = valueToken e false name form in
               all-bind (Indexed big deep t (drop at unit)) _ (tokenIn big deep t (drop at unit)) _ (token-indexed big deep expression-none t (drop at unit))
               (λ r q i.
               let v : Attribute = record { form = form; field = fieldOf big at (i .it) } in
-              all-some (ValueRead name form at)
+              all-some (ValueIndex name form at)
               (record {
                 value = v;
                 is = attribute-direct e unit at name form (eqb-no {a = form} {b = 0x16} n) ∙ ap (λ o. valued form (asField big at o)) (i .is);
                 rest = token-rest t at (i .it, r .1) (i .is);
-                indices = append-nil (indicesIn k (r .0 .pieces)) ∙ i .indices ∙ value-index false name form (linkedValue (i .it .pieces) (i .it .seen));
+                numbers = append-nil (indicesIn k (r .0 .pieces)) ∙ i .indices ∙ value-index false name form (linkedValue (i .it .pieces) (i .it .seen));
               }))
 
           abbrev behind : ℕ → Layout
           behind f = field (valueToken e true name f) (λ _. done)
 
           value-behind : T (eqb form 0x16) → (f : ℕ × ℕ) → formsIn (drop at unit) ≡ some f
-              → All (ValueRead name form at) (bind (readIn big deep (behind (f .1)) (drop (at + f .0) unit)) (before (copy (f .1) 0 (f .0) (drop at unit) .0)))
+              → All (ValueIndex name form at) (bind (readIn big deep (behind (f .1)) (drop (at + f .0) unit)) (before (copy (f .1) 0 (f .0) (drop at unit) .0)))
           unfolding readIn before bind copy tokenAt asField valued formsAt asFormNumber behindForms readIndices indicesIn indexIn valueIndex fieldOf
           value-behind h f q =
               let t : Token = valueToken e true name (f .1) in
               let n : ℕ = at + f .0 in
-              let P : RunOf → Type 0 = ValueRead name form at in
+              let P : RunOf → Type 0 = ValueIndex name form at in
               subst (All P) (sym (bind-bind (tokenIn big deep t (drop n unit)) (λ (r : ReadOf). some (r .0 ∷ [], r .1)) (before (copy (f .1) 0 (f .0) (drop at unit) .0))))
               (all-bind (Indexed big deep t (drop n unit)) P (tokenIn big deep t (drop n unit)) _ (token-indexed big deep expression-none t (drop n unit))
               (λ r p i.
@@ -420,101 +399,49 @@ module _ (k : ℕ) where
                     ∙ ap (λ o. behindForms e unit at name form (asFormNumber at o)) q
                     ∙ ap (λ o. valued (f .1) (asField big n o)) (i .is);
                 rest = token-rest t n (i .it, r .1) (i .is);
-                indices = append-nil (indicesIn k (r .0 .pieces)) ∙ i .indices ∙ value-index true name (f .1) (linkedValue (i .it .pieces) (i .it .seen));
+                numbers = append-nil (indicesIn k (r .0 .pieces)) ∙ i .indices ∙ value-index true name (f .1) (linkedValue (i .it .pieces) (i .it .seen));
               })))
 
-          indirect-value : T (eqb form 0x16) → All (ValueRead name form at) (readIn big deep (field forms behind) (drop at unit))
+          indirect-value : T (eqb form 0x16) → All (ValueIndex name form at) (readIn big deep (field forms behind) (drop at unit))
           unfolding readIn tokenIn asForms bind copy
           indirect-value h =
-              let P : RunOf → Type 0 = ValueRead name form at in
+              let P : RunOf → Type 0 = ValueIndex name form at in
               let s : List ℕ = drop at unit in
               subst (All P) (sym (bind-bind (formsIn s) (asForms s) (λ (r : ReadOf). bind (readIn big deep (behind (r .0 .seen)) (r .1)) (before (r .0)))))
               (all-bind _ P (formsIn s) _ (all-triv (formsIn s))
               (λ f q _. subst (λ (z : List ℕ). All P (bind (readIn big deep (behind (f .1)) z) (before (copy (f .1) 0 (f .0) s .0)))) (sym (drop-drop (f .0) at unit)) (value-behind h f q)))
 
-          value-read : All (ValueRead name form at) (readIn big deep (attributeLayout e name form) (drop at unit))
+          value-read : All (ValueIndex name form at) (readIn big deep (attributeLayout e name form) (drop at unit))
           unfolding attributeLayout
           value-read =
-              pick-either (λ g. All (ValueRead name form at) (readIn big deep g (drop at unit))) (eqb form 0x16) (field forms behind) (field (valueToken e false name form) (λ _. done))
+              pick-either (λ g. All (ValueIndex name form at) (readIn big deep g (drop at unit))) (eqb form 0x16) (field forms behind) (field (valueToken e false name form) (λ _. done))
               indirect-value direct-value
-
-        -- ---- the values of an entry
-
-        abbrev Values : List AttributeSpec → ℕ → RunOf → Type 0
-        Values specs at r = readIndices k (r .0) ≡ valueIndices k (valuesOf e unit specs at)
-
-        values-read : (specs : List AttributeSpec) (at : ℕ) → All (Values specs at) (readIn big deep (attributesLayout e specs) (drop at unit))
-        unfolding attributesLayout readIn readIndices valuesOf valueIndices onAttribute joined
-        values-read [] at = all-some (Values [] at) refl
-        values-read (a ∷ rest) at =
-            subst (All (Values (a ∷ rest) at)) (sym (read-then big deep (attributeLayout e (a .name) (a .form)) (attributesLayout e rest) (drop at unit)))
-            (all-bind (ValueRead (a .name) (a .form) at) _ (readIn big deep (attributeLayout e (a .name) (a .form)) (drop at unit)) _ (value-read (a .name) (a .form) at)
-            (λ r q v. all-bind (Values rest (v .value .field .end)) _ (readIn big deep (attributesLayout e rest) (r .1)) _
-            (subst (λ (z : List ℕ). All (Values rest (v .value .field .end)) (readIn big deep (attributesLayout e rest) z)) (sym (v .rest)) (values-read rest (v .value .field .end)))
-            (λ r′ q′ i. all-some (Values (a ∷ rest) at)
-            (read-append (r .0) (r′ .0)
-            ∙ ap₂ _++_ (v .indices) i
-            ∙ sym (ap (λ (o : AttributeRead). valueIndices k (onAttribute a o (λ next. valuesOf e unit rest next))) (v .is))))))
 
         -- ---- an entry or a terminator
 
-        module _ (abbreviations : List ℕ) (look : ℕ → DeclarationFound) where
-          -- the indices at a step: those of an entry's values
-          unfoldable pub StepIndices : Step → List ℕ → Type 0
-          StepIndices (Entry′ y) is = is ≡ valueIndices k (entryValues e abbreviations (y .declaration .attributes .at) unit (y .values .at))
-          StepIndices (Terminator c) is = is ≡ []
-          StepIndices End is = Unit {0}
-          StepIndices Unreadable is = Unit {0}
+        no-code : (at : ℕ) (r : ReadOf) → tokenIn big deep (number leb128) (drop at unit) ≡ some r → indicesIn k (r .0 .pieces) ≡ []
+        unfolding tokenIndex
+        no-code at r q = all-of (Indexed big deep (number leb128) (drop at unit)) (token-indexed big deep expression-none (number leb128) (drop at unit)) q .indices
 
-          abbrev At : ℕ → RunOf → Type 0
-          At at r = StepIndices (stepOfReads e abbreviations look at (r .0)) (readIndices k (r .0))
+        no-reads : readIndices k [] ≡ []
+        unfolding readIndices
+        no-reads = refl
 
-          entry-values : (p at : ℕ) (o : Option (Scanned AttributeSpec ℕ)) → attributesFrom abbreviations p ≡ o
-              → All (λ (r : RunOf). readIndices k (r .0) ≡ valueIndices k (entryValues e abbreviations p unit at)) (readIn big deep (specsLayout e o) (drop at unit))
-          unfolding specsLayout readIn entryValues
-          entry-values p at none q = all-none _
-          entry-values p at (some o) q =
-              subst (λ (l : List AttributeSpec). All (λ (r : RunOf). readIndices k (r .0) ≡ valueIndices k (valuesOf e unit l at)) (readIn big deep (attributesLayout e (o .0)) (drop at unit)))
-              (sym (specs-all abbreviations p o q)) (values-read (o .0) at)
+        more-reads : (r : Read) (rs : List Read) → readIndices k (r ∷ rs) ≡ indicesIn k (r .pieces) ++ readIndices k rs
+        unfolding readIndices
+        more-reads r rs = refl
 
-          module _ (at : ℕ) (c : Read) (none-in : indicesIn k (c .pieces) ≡ []) where
-            found-at : T (not (eqb (c .seen) 0)) → (f : DeclarationFound) → look (c .seen) ≡ f
-                → All (At at) (bind (readIn big deep (foundLayout e abbreviations look f) (drop (at + size big c) unit)) (before c))
-            unfolding foundLayout readIn before bind readIndices stepOfReads entryFound StepIndices
-            found-at t Nothing h = all-none _
-            found-at t (Found′ d) h =
-                all-bind (λ (r : RunOf). readIndices k (r .0) ≡ valueIndices k (entryValues e abbreviations (d .attributes .at) unit (at + size big c))) _
-                (readIn big deep (specsLayout e (attributesFrom abbreviations (d .attributes .at))) (drop (at + size big c) unit)) _
-                (entry-values (d .attributes .at) (at + size big c) (attributesFrom abbreviations (d .attributes .at)) refl)
-                (λ r q i. all-some (At at)
-                (subst (λ (s : Step). StepIndices s (readIndices k (c ∷ r .0)))
-                (sym (pick-no _ _ _ t ∙ ap (entryFound e abbreviations look at (at + size big c) _) h))
-                (ap₂ _++_ none-in i)))
+        no-values : valueIndices k [] ≡ []
+        unfolding valueIndices
+        no-values = refl
 
-            code-at : All (At at) (bind (readIn big deep (pick (eqb (c .seen) 0) done (foundLayout e abbreviations look (look (c .seen)))) (drop (at + size big c) unit)) (before c))
-            unfolding readIn before bind readIndices stepOfReads StepIndices
-            code-at =
-                ⊎-elim
-                (λ t. subst (λ g. All (At at) (bind (readIn big deep g (drop (at + size big c) unit)) (before c))) (sym (pick-yes _ _ _ t))
-                (all-some (At at) (subst (λ (s : Step). StepIndices s (readIndices k (c ∷ []))) (sym (pick-yes _ _ _ t)) (ap₂ _++_ none-in refl))))
-                (λ t. subst (λ g. All (At at) (bind (readIn big deep g (drop (at + size big c) unit)) (before c))) (sym (pick-no _ _ _ t))
-                (found-at t (look (c .seen)) refl))
-                (either (eqb (c .seen) 0))
+        more-values : (a : Valued) (rest : List Valued) → valueIndices k (a ∷ rest) ≡ own (a .name) (a .value) ++ valueIndices k rest
+        unfolding valueIndices
+        more-values a rest = refl
 
-          -- what is read deep at a place
-          all-at : (at : ℕ) → All (At at) (readIn big deep (entryLayout e abbreviations look) (drop at unit))
-          unfolding entryLayout readIn tokenIndex size
-          all-at at =
-              all-bind (Indexed big deep (number leb128) (drop at unit)) _ (tokenIn big deep (number leb128) (drop at unit)) _
-              (token-indexed big deep expression-none (number leb128) (drop at unit))
-              (λ r q i.
-              let l : TokenLaw big deep (number leb128) (drop at unit) r =
-              all-of (TokenLaw big deep (number leb128) (drop at unit)) (token-law big deep (expression-law e) (number leb128) (drop at unit)) q in
-              subst (λ (z : List ℕ). All (At at) (bind (readIn big deep (pick (eqb (r .0 .seen) 0) done (foundLayout e abbreviations look (look (r .0 .seen)))) z) (before (r .0))))
-              (sym (l .0 .1 ∙ drop-drop _ at unit)) (code-at at (r .0) (i .indices)))
-
-          -- THE indices of what is read deep at a place, by the step there
-          pub deep-indices : (at : ℕ) (all : RunOf) → readIn big deep (entryLayout e abbreviations look) (drop at unit) ≡ some all
-              → StepIndices (stepAt e abbreviations look unit at) (readIndices k (all .0))
-          deep-indices at all q =
-              subst (λ (s : Step). StepIndices s (readIndices k (all .0))) (sym (deep-step e abbreviations look deep (expression-law e) unit at (all .0) (all .1) q)) (all-of (At at) (all-at at) q)
+        -- THE indices of what is read deep at a place, by the step there: those of an entry's values
+        pub deep-indices : (abbreviations : List ℕ) (look : ℕ → DeclarationFound) (at : ℕ) (all : RunOf)
+            → readIn big deep (entryLayout e abbreviations look) (drop at unit) ≡ some all
+            → StepBy (valueIndices k) e unit abbreviations (stepAt e abbreviations look unit at) (readIndices k (all .0))
+        deep-indices abbreviations look at all q =
+            deep-by (indicesIn k) (readIndices k) (valueIndices k) own no-reads more-reads no-values more-values e unit value-read no-code abbreviations look at all q

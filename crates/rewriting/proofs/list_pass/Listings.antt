@@ -14,14 +14,14 @@ use Rattle.marking.specs.Analysis.{Sections}
 use Rattle.marking.specs.Columns.{padTo}
 use Rattle.rewriting.specs.Places.{keptFrom}
 use Rattle.rewriting.specs.Indices.{countOf, isShort}
-use Rattle.rewriting.specs.Rewriting.{Unit as Unit′, Lists, itemsIn, listOf, listsOf}
+use Rattle.rewriting.specs.Rewriting.{Unit as Unit′, Lists, itemsIn, listOf, listsOf, listsFit}
 use Rattle.rewriting.specs.inner.NextKept.{itemsBy}
 use Rattle.rewriting.specs.Written.{runBytes}
 use Rattle.rewriting.specs.inner.Written.{ListHeld}
 use Rattle.rewriting.specs.inner.IndexLists.{PassInput, Listing, isAbsent, ListAnswer, Settles}
 use Rattle.rewriting.specs.inner.Emission.{Lent}
 use Rattle.rewriting.specs.Outputs.{listCount, listOr, rangesIn, locationsIn, stringsIn}
-use Rattle.rewriting.specs.inner.Leaving.{haveRoom, ListsAnswer}
+use Rattle.rewriting.specs.inner.Leaving.{listRoom, ListsAnswer}
 use Rattle.rewriting.specs.declared.kept_items.Reading.{Reading}
 use Rattle.rewriting.specs.declared.lists.ListCount.{ListCount}
 use Rattle.rewriting.specs.declared.lists.ListCount.the-variants.{Absent}
@@ -133,9 +133,9 @@ module _ (t : Bool) (r : Reading) (s table unit parents ends marks : List ℕ) (
       → ranges ≡ zeros (length ranges) → locations ≡ zeros (length locations) → strings ≡ zeros (length strings)
       → ListsAnswer (listsOf x u t (keptFrom marks 0 [] (itemsIn x u))) (length ranges) (length locations) (length strings) c ranges′ locations′ strings′
 
-  short-lists : (l : Lists) (ranges locations strings : ℕ) (ranges′ locations′ strings′ : List ℕ) → haveRoom l ranges locations strings ≡ false → ListsAnswer l ranges locations strings Short ranges′ locations′ strings′
+  short-lists : (l : Lists) (ranges locations strings : ℕ) (ranges′ locations′ strings′ : List ℕ) → listsFit (listRoom ranges locations strings) l ≡ false → ListsAnswer l ranges locations strings Short ranges′ locations′ strings′
   short-lists l ranges locations strings ranges′ locations′ strings′ q =
-      let no : haveRoom l ranges locations strings ≡ true → ⊥ = (λ e. false≢true (sym q ∙ e)) in
+      let no : listsFit (listRoom ranges locations strings) l ≡ true → ⊥ = (λ e. false≢true (sym q ∙ e)) in
       record { short = λ _. refl; made = λ e. absurd (no e); lent = λ e. absurd (no e); ranges-left = λ e. absurd (no e); locations-left = λ e. absurd (no e); strings-left = λ e. absurd (no e) }
 
   abbrev lists : (x : Sections) (u : Unit′) → Lists
@@ -144,21 +144,21 @@ module _ (t : Bool) (r : Reading) (s table unit parents ends marks : List ℕ) (
   module _ (ranges locations strings ranges′ locations′ strings′ : List ℕ) where
     pub ranges-short : (c : ListCount) → Answered rangesIn ranges c ranges′ → length ranges′ ≡ length ranges → (b : Bool) → b ≡ isShort c (length ranges′ / 8) → b ≡ true
         → Wanted ranges locations strings Short ranges′ locations′ strings′
-    unfolding haveRoom
+    unfolding listsFit
     ranges-short c k l b q e x u p f z y w =
         short-lists (lists x u) (length ranges) (length locations) (length strings) ranges′ locations′ strings′
         (no-first _ _ _ (too-short (lists x u .ranges) ranges c ranges′ (k x u p f z) l b q e))
 
     pub locations-short : (c : ListCount) → Answered locationsIn locations c locations′ → length locations′ ≡ length locations → (b : Bool) → b ≡ isShort c (length locations′ / 8) → b ≡ true
         → Wanted ranges locations strings Short ranges′ locations′ strings′
-    unfolding haveRoom
+    unfolding listsFit
     locations-short c k l b q e x u p f z y w =
         short-lists (lists x u) (length ranges) (length locations) (length strings) ranges′ locations′ strings′
         (no-second _ _ _ (too-short (lists x u .locations) locations c locations′ (k x u p f y) l b q e))
 
     pub strings-short : (c : ListCount) → Answered stringsIn strings c strings′ → length strings′ ≡ length strings → (b : Bool) → b ≡ isShort c (length strings′ / 8) → b ≡ true
         → Wanted ranges locations strings Short ranges′ locations′ strings′
-    unfolding haveRoom
+    unfolding listsFit
     strings-short c k l b q e x u p f z y w =
         short-lists (lists x u) (length ranges) (length locations) (length strings) ranges′ locations′ strings′
         (no-third _ _ _ (too-short (lists x u .strings) strings c strings′ (k x u p f w) l b q e))
@@ -168,7 +168,7 @@ module _ (t : Bool) (r : Reading) (s table unit parents ends marks : List ℕ) (
         → length ranges′ ≡ length ranges → length locations′ ≡ length locations → length strings′ ≡ length strings
         → false ≡ isShort c₁ (length ranges′ / 8) → false ≡ isShort c₂ (length locations′ / 8) → false ≡ isShort c₃ (length strings′ / 8)
         → Wanted ranges locations strings (Made c₁ c₂ c₃) ranges′ locations′ strings′
-    unfolding haveRoom _and_
+    unfolding listsFit _and_
     lists-made c₁ c₂ c₃ k₁ k₂ k₃ l₁ l₂ l₃ q₁ q₂ q₃ x u p f z y w =
         let l : Lists = lists x u in
         let a₁ = k₁ x u p f z in
@@ -180,7 +180,7 @@ module _ (t : Bool) (r : Reading) (s table unit parents ends marks : List ℕ) (
         let m₁ = made-list (l .ranges) ranges c₁ ranges′ a₁ l₁ z h₁ in
         let m₂ = made-list (l .locations) locations c₂ locations′ a₂ l₂ y h₂ in
         let m₃ = made-list (l .strings) strings c₃ strings′ a₃ l₃ w h₃ in
-        let yes : haveRoom l (length ranges) (length locations) (length strings) ≡ true = all-three _ _ _ h₁ h₂ h₃ in
+        let yes : listsFit (listRoom (length ranges) (length locations) (length strings)) l ≡ true = all-three _ _ _ h₁ h₂ h₃ in
         record {
           short = λ e. absurd (false≢true (sym e ∙ yes));
           made = λ _. ap (λ (c : ListCount). Made c c₂ c₃) (m₁ .counted) ∙ ap (λ (c : ListCount). Made (listCount (l .ranges)) c c₃) (m₂ .counted) ∙ ap (λ (c : ListCount). Made (listCount (l .ranges)) (listCount (l .locations)) c) (m₃ .counted);

@@ -1,10 +1,10 @@
 -- Tables of big-endian numbers: what is read at a place, and what a write at a place makes of them.
 use Prim.Native.Nat.{ℕ, zero, suc, _+_, _-_, _*_, _/_, _^_, _≤_, _<_}
-use mathlib.Core.Path.{_≡_, refl, ap, ap₂, sym, _∙_}
+use mathlib.Core.Path.{_≡_, refl, ap, ap₂, sym, _∙_, subst}
 use mathlib.Core.Bool.{true}
 use mathlib.Core.List.{List, [], _∷_, _++_, append-assoc, append-nil}
 use mathlib.Core.Logic.{⊎-elim}
-use native.Mathlib.Nat.{mul-suc, mul-zero}
+use native.Mathlib.Nat.{add-zero, mul-comm, mul-suc, mul-zero, le-div-iff-mul-le}
 use native.Mathlib.Numerals.{add-one}
 use native.Mathlib.Omega.{arith}
 use lib.ListN.{length, getD, take, drop, length-append, length-drop, length-replicate, take-append-drop}
@@ -15,7 +15,7 @@ use Rattle.readers.proofs.Choice.{pick-yes, pick-no}
 use Rattle.readers.specs.Numbers.{fixedBytes, fixedValue}
 use Rattle.readers.proofs.Numbers.{length-fixed, fixed-value}
 use Rattle.marking.specs.Members.{Member, here, there}
-use Rattle.rewriting.specs.Written.{numberAt, inRoom, runBytes, oldAt}
+use Rattle.rewriting.specs.Written.{numberAt, rowNumber, runBytes}
 use Rattle.rewriting.specs.inner.Written.{NumbersHeld}
 use Rattle.marking.proofs.Members.{nothing-in}
 use Rattle.rewriting.proofs.write_pass.Putting.{drop-zeros}
@@ -28,27 +28,32 @@ Small n xs = (v : ℕ) → Member v xs → v < n
 pub small-tail : (n x : ℕ) (xs : List ℕ) → Small n (x ∷ xs) → Small n xs
 small-tail n x xs h v m = h v (there m)
 
--- what is read at a place, and where there is none
-pub in-room : (i n x r : ℕ) → r ≡ inRoom i n x → i < n → r ≡ x
-unfolding inRoom
-in-room i n x r e h = e ∙ pick-yes _ _ _ (yes-ltb {a = i} {b = n} h)
+-- what is read in a row, and where there is none
+module _ (row byte width : ℕ) (table : List ℕ) (i : ℕ) where
+  pub row-there : (r : ℕ) → r ≡ rowNumber row byte width table i → i < length table / row → r ≡ numberAt width table (row * i + byte)
+  unfolding rowNumber
+  row-there r e h = e ∙ pick-yes _ _ _ (yes-ltb {a = i} {b = length table / row} h)
 
-pub room-in : (i n x r : ℕ) → i < n → r ≡ x → r ≡ inRoom i n x
-unfolding inRoom
-room-in i n x r h e = e ∙ sym (pick-yes _ _ _ (yes-ltb {a = i} {b = n} h))
+  pub there-row : (r : ℕ) → i < length table / row → r ≡ numberAt width table (row * i + byte) → r ≡ rowNumber row byte width table i
+  unfolding rowNumber
+  there-row r h e = e ∙ sym (pick-yes _ _ _ (yes-ltb {a = i} {b = length table / row} h))
 
-pub no-room : (i n x : ℕ) → n ≤ i → 0 ≡ inRoom i n x
-unfolding inRoom
-no-room i n x h = sym (pick-no _ _ _ (no-ltb {a = i} {b = n} h))
+  pub no-row : length table / row ≤ i → 0 ≡ rowNumber row byte width table i
+  unfolding rowNumber
+  no-row h = sym (pick-no _ _ _ (no-ltb {a = i} {b = length table / row} h))
+
+-- a row is in its table
+pub row-inside : (row n i : ℕ) → i < n / row → 0 < row → row * i + row ≤ n
+row-inside row n i l h =
+    subst (λ (k : ℕ). k ≤ n) (mul-comm (suc i) row ∙ mul-suc row i) (le-div-iff-mul-le {k = row} {x = suc i} {y = n} h .0 l)
+
+-- the number that a row begins with
+pub first-there : (row width : ℕ) (table : List ℕ) (i r : ℕ) → r ≡ rowNumber row 0 width table i → i < length table / row → r ≡ numberAt width table (row * i)
+first-there row width table i r e h = row-there row 0 width table i r e h ∙ ap (numberAt width table) (add-zero (row * i))
 
 -- of an index list
-pub number-there : (list : List ℕ) (i r : ℕ) → r ≡ inRoom i (length list / 8) (numberAt 8 list (8 * i)) → i < length list / 8 → r ≡ numberAt 8 list (8 * i)
-number-there list i r e h = in-room i (length list / 8) _ r e h
-
--- of a map, at the first byte of a place
-pub first-byte : (map : List ℕ) (i r : ℕ) → r ≡ inRoom i (length map / 12) (numberAt 4 map (12 * i + 0)) → r ≡ oldAt map i
-unfolding oldAt
-first-byte map i r q = q ∙ ap (λ n. inRoom i (length map / 12) (numberAt 4 map n)) (let e : 12 * i + 0 ≡ 12 * i = omega arith in e)
+pub number-there : (list : List ℕ) (i r : ℕ) → r ≡ rowNumber 8 0 8 list i → i < length list / 8 → r ≡ numberAt 8 list (8 * i)
+number-there list i r e h = first-there 8 8 list i r e h
 
 module _ (w : ℕ) where
   pub length-run : (xs : List ℕ) → length (runBytes w xs) ≡ w * length xs

@@ -12,11 +12,12 @@ use Rattle.readers.specs.declared.abbreviations.DeclarationFound.{DeclarationFo
 use Rattle.readers.specs.declared.entries.Entry.{Entry}
 use Rattle.readers.specs.declared.entries.Step.the-variants.{Entry as Entry′, Terminator}
 use Rattle.readers.specs.Stream.{entry, terminator, Items, push, itemsFrom, Item}
-use Rattle.rewriting.specs.Places.{offsetOf, NestedItem, opened, closed, innermost, withIf, keptFrom, sizeOf, placesFrom, oldOffsets}
+use Rattle.rewriting.specs.Places.{offsetOf, NestedItem, innermost, withIf, keptFrom, sizeOf, placesFrom, oldOffsets}
 use Rattle.marking.specs.Resolution.{Ascending as From}
 use Rattle.rewriting.specs.Ascending.{Ascending}
 use Rattle.rewriting.proofs.list_pass.Sorted.{from-less}
 use Rattle.readers.proofs.Streams.{EntryInside}
+use Rattle.readers.specs.Nesting.{opened, closed}
 use Rattle.rewriting.proofs.kept_pass.Items.{items-by}
 use Rattle.marking.specs.Marks.{isKept}
 

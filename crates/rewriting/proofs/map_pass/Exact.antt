@@ -10,11 +10,11 @@ use lib.Dec.{T, ltb}
 use lib.Pow.{areBytes}
 use mir.Facts.{yes-ltb, ltb-yes, leb-yes, and-yes, yes-and}
 use Rattle.readers.specs.Choice.{_and_}
-use Rattle.readers.proofs.Choice.{pick-either, All, all-some, all-none, all-check, all-bind, all-both, all-triv}
+use Rattle.readers.proofs.Choice.{pick-either, All, all-some, all-none, all-check, all-bind, all-both, all-triv, and-both}
 use Rattle.readers.specs.Numbers.{Groups, groups, uleb, unsigned64, sleb, fixedValue, fixedBytes}
 use Rattle.readers.proofs.Numbers.{GroupsLaw, groups-law, ExactGroups, groups-exact, fixed-bytes}
 use Rattle.readers.specs.Layout.{Kind, fixed, leb128, Role, reference, typeReference, sibling, index, absolute, Token, nothing, number, bounded, forms, signed, link, string, run, block, expression, unknown, Layout, done, fail, field, Piece, verbatim, patchable, Read, ReadOf, RunOf, ExpressionReader, ReadFound, asLeb, copy, asNumber, asLink, asBounded, asForms, asSigned, asString, asBlock, asExpression, numberIn, formsIn, stringIn, tokenIn, readIn, before, numberBytes, pieceBytes, bytesOf, writeAll, Fit}
-use Rattle.readers.proofs.LayoutLaws.{LebLaw, uleb-law, bytes-append}
+use Rattle.readers.proofs.LayoutLaws.{LebLaw, uleb-law, bytes-append, fit-fixed, fit-leb}
 use Rattle.readers.specs.Tokens.{Use, plain, as′, numberAs, tokenOf}
 use Rattle.readers.specs.Operations.{OperandRow, rows, rowOf, unreadableRow, rowLayout, operation, operationRow}
 use Rattle.readers.specs.Expression.{allPieces, andRest, expressionWithin, expressionIn}
@@ -108,20 +108,20 @@ module _ (big : Bool) (ok : Role → Bool) where
   NumberExact s t = (numberBytes big (t .0) (t .1) ++ t .2 ≡ s) × Fit (t .0) (t .1)
 
   pub number-exact : (k : Kind) (s : List ℕ) → T (areBytes s) → All (NumberExact s) (numberIn big k s)
-  unfolding numberIn numberBytes Fit uleb unsigned64 asLeb
+  unfolding numberIn numberBytes uleb unsigned64 asLeb
   number-exact (fixed w) s h =
       all-check _ _ _ (λ u8. all-check _ _ _ (λ u.
       let l : length (take w s) ≡ w = length-take-le w s (leb-yes u) in
       let f : (fixedBytes big (length (take w s)) (fixedValue big (take w s)) ≡ take w s) × (fixedValue big (take w s) < 256 ^ length (take w s)) = fixed-bytes big (take w s) (are-take w s h) in
       all-some (NumberExact s) (
         ap (λ x. x ++ drop w s) (ap (λ n. fixedBytes big n (fixedValue big (take w s))) (sym l) ∙ f .0) ∙ take-append-drop w s,
-        (leb-yes u8, subst (λ n. fixedValue big (take w s) < 256 ^ n) l (f .1)),
+        fit-fixed w _ (leb-yes u8) (subst (λ n. fixedValue big (take w s) < 256 ^ n) l (f .1)),
       )))
   number-exact leb128 s h =
       all-bind (λ t. (GroupsLaw 10 s t × ExactGroups s t) × (t .1 < 2 ^ 64)) _ (uleb s) _
       (all-bind (λ t. GroupsLaw 10 s t × ExactGroups s t) _ (groups 10 s) _ (all-both _ _ _ (groups-law 10 s) (groups-exact 10 s h))
       (λ a e q. all-check _ _ _ (λ u. all-some _ (q, ltb-yes u))))
-      (λ a e q. all-some (NumberExact s) (sym (q .0 .1 .0), (q .0 .0 .0, q .0 .1 .1, q .1)))
+      (λ a e q. all-some (NumberExact s) (sym (q .0 .1 .0), fit-leb _ _ (q .0 .0 .0) (q .0 .1 .1) (q .1)))
 
   -- ---- tokens
 
@@ -212,11 +212,6 @@ module _ (ok : Role → Bool) (e : Encoding) where
   unfoldable rowsOk : List OperandRow → Bool
   rowsOk [] = true
   rowsOk (r ∷ rs) = useOk ok (r .firstUse) and (useOk ok (r .secondUse) and rowsOk rs)
-
-  and-both : (a b : Bool) → T (a and b) → T a × T b
-  unfolding _and_
-  and-both true b h = (tt, h)
-  and-both false b h = absurd h
 
   row-among : (rs : List OperandRow) (l : ℕ) → T (rowsOk rs) → T (useOk ok (getD rs l unreadableRow .firstUse)) × T (useOk ok (getD rs l unreadableRow .secondUse))
   unfolding rowsOk unreadableRow useOk

@@ -23,7 +23,7 @@ use Rattle.rewriting.specs.Written.{numberAt, columns, oldAt, newAt, dep
 use Rattle.rewriting.specs.inner.Written.{NumbersHeld, MapHeld, place, withPlace, asMapped}
 use Rattle.readers.specs.declared.offsets.UnitOffset.{UnitOffset}
 use Rattle.rewriting.specs.declared.map.Mapped.the-variants.{To, Nothing}
-use Rattle.rewriting.proofs.list_pass.Tables.{in-room, held-at, held-more, length-put}
+use Rattle.rewriting.proofs.list_pass.Tables.{row-there, first-there, held-at, held-more, length-put}
 use Rattle.rewriting.proofs.list_pass.Ranks.{rank-is, rank-most, halved-rank}
 
 -- ---- columns
@@ -77,16 +77,13 @@ column-depth (p ∷ ps) (suc i) = ap (λ n. getD (p .old ∷ p .new ∷ p .depth
 
 module _ (map : List ℕ) (i r : ℕ) where
   pub old-there : r ≡ oldAt map i → i < length map / 12 → r ≡ numberAt 4 map (12 * i)
-  unfolding oldAt
-  old-there e h = in-room i (length map / 12) _ r e h
+  old-there e h = first-there 12 4 map i r e h
 
   pub new-there : r ≡ newAt map i → i < length map / 12 → r ≡ numberAt 4 map (12 * i + 4)
-  unfolding newAt
-  new-there e h = in-room i (length map / 12) _ r e h
+  new-there e h = row-there 12 4 4 map i r e h
 
   pub depth-there : r ≡ depthAt map i → i < length map / 12 → r ≡ numberAt 4 map (12 * i + 8)
-  unfolding depthAt
-  depth-there e h = in-room i (length map / 12) _ r e h
+  depth-there e h = row-there 12 8 4 map i r e h
 
 module _ (ps : List Place) (map : List ℕ) (h : MapHeld ps map) (i : ℕ) (l : i < length ps) where
   at-column : (k at : ℕ) → k < 3 * length ps → at ≡ 4 * k → numberAt 4 map at ≡ getD (columns ps) k 0

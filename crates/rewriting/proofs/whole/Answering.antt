@@ -21,9 +21,9 @@ use Rattle.marking.specs.Marks.{keptCount}
 use Rattle.marking.specs.Resolution.{marksIn, unitMarks}
 use Rattle.marking.specs.declared.units.UnitMarks.{UnitMarks}
 use Rattle.marking.specs.declared.units.UnitMarks.the-variants.{Marked, Refused as NotMarked}
-use Rattle.rewriting.specs.Rewriting.{Room, Collected, untouched, rewritten, refused, noLists, rowsCollected, analysedCollected, declaredCollected, headerCollected, collectOf}
+use Rattle.rewriting.specs.Rewriting.{Room, unitOf, Collected, untouched, rewritten, refused, noLists, rowsCollected, analysedCollected, declaredCollected, headerCollected, collectOf}
 use Rattle.rewriting.specs.Outputs.{roomBy, answerFor, mapFor, outputFor, listOr, listFor, rangesIn, locationsIn, stringsIn}
-use Rattle.rewriting.specs.inner.Leaving.{Accepts, Answers, leftBy, headerTask, taskOf, MarkedTables, ownUnit, Tabled, Blank, markedOf}
+use Rattle.rewriting.specs.inner.Leaving.{Accepts, Answers, leftBy, headerTask, taskOf, MarkedTables, Tabled, Blank, markedOf}
 use Rattle.rewriting.specs.declared.collect.Counts.{Counts}
 use Rattle.rewriting.specs.declared.collect.Collected.{Collected as Answer}
 use Rattle.rewriting.specs.declared.collect.Collected.the-variants.{Untouched, Rewritten, Refused}
@@ -158,7 +158,7 @@ module _ (x : Sections) (room : Room) (t : Bool) (section : List ℕ) where
       let a : analysisOf x section tables ≡ notAnalysed 3 = analysis-undeclared h q d in
       (λ k e. let z : notAnalysed 3 ≡ notAnalysed k = sym a ∙ e in let w : 3 ≡ k = cc in ap (λ (m : ℕ). refused m) w, λ e. absurd (none-analysed [] 3 (sym a ∙ e)))
   by-declared h q (some ds) d =
-      (λ k e. ap (analysedCollected x room t (ownUnit h section ds)) e, λ e. ap (analysedCollected x room t (ownUnit h section ds)) e)
+      (λ k e. ap (analysedCollected x room t (unitOf h section ds)) e, λ e. ap (analysedCollected x room t (unitOf h section ds)) e)
 
   by-header : (o : HeaderRead) → headerOf section ≡ o
       → ((k : ℕ) → analysisOf x section tables ≡ notAnalysed k → headerCollected x room t section o ≡ refused k)
@@ -190,9 +190,9 @@ module _ (x : Sections) (room : Room) (t : Bool) (section : List ℕ) where
     pub analysis-is : analysisOf x section tables ≡ analysed rows
     pub entries-are : entries ≡ length (marksIn rows)
     pub kept-are : kept ≡ keptCount (marksIn rows)
-    pub collected : collectOf x room t section ≡ markedOf x room t (ownUnit h section declared) rows
+    pub collected : collectOf x room t section ≡ markedOf x room t (unitOf h section declared) rows
 
-  of-rows : (h : UnitHeader) (ds : List Placed) (rows : List EntryRow) → (0 ≡ length rows → ⊥) → rowsCollected x room t (ownUnit h section ds) rows ≡ markedOf x room t (ownUnit h section ds) rows
+  of-rows : (h : UnitHeader) (ds : List Placed) (rows : List EntryRow) → (0 ≡ length rows → ⊥) → rowsCollected x room t (unitOf h section ds) rows ≡ markedOf x room t (unitOf h section ds) rows
   unfolding rowsCollected
   of-rows h ds [] e = absurd (e refl)
   of-rows h ds (r ∷ rows) e = refl
@@ -213,7 +213,7 @@ module _ (x : Sections) (room : Room) (t : Bool) (section : List ℕ) where
         collected =
             ap (headerCollected x room t section) q
             ∙ ap (λ (o : Option (List Placed)). declaredCollected x room t section h o) d
-            ∙ ap (analysedCollected x room t (ownUnit h section ds)) (w .is)
+            ∙ ap (analysedCollected x room t (unitOf h section ds)) (w .is)
             ∙ of-rows h ds (w .rows) (λ e. n (w .entries-are ∙ sym e));
       }
 
@@ -340,7 +340,7 @@ module _ (x : Sections) (tables : Rooms) (t : Bool) (section : List ℕ) (task :
 
     rewrite-answers : (a : Answer) (map′ ranges′ locations′ strings′ out′ : List ℕ)
         → ((x′ : Sections) (tables′ : Rooms) (ds : List Placed) (rows : List EntryRow) → Tabled x′ tables′ section h ds rows s index parents ends marks entries kept → Blank map ranges locations strings out
-        → Answers (markedOf x′ (roomBy tables′ (length map) (length ranges) (length locations) (length strings) (length out)) t (ownUnit h section ds) rows) a (length map) (length ranges) (length locations) (length strings) (length out) map′ ranges′ locations′ strings′ out′)
+        → Answers (markedOf x′ (roomBy tables′ (length map) (length ranges) (length locations) (length strings) (length out)) t (unitOf h section ds) rows) a (length map) (length ranges) (length locations) (length strings) (length out) map′ ranges′ locations′ strings′ out′)
         → Answered a map′ ranges′ locations′ strings′ out′
     rewrite-answers a map′ ranges′ locations′ strings′ out′ f =
         subst (λ (z : Collected). Answers z a (length map) (length ranges) (length locations) (length strings) (length out) map′ ranges′ locations′ strings′ out′) (sym (marked .collected))
@@ -358,7 +358,7 @@ module _ (t : Bool) (section : List ℕ) (task : Task) (s index parents ends mar
 
   pub marked-rewrite : (h : UnitHeader) (entries kept : ℕ) → task ≡ Rewrite h entries kept → (a : Answer) (map′ ranges′ locations′ strings′ out′ : List ℕ)
       → ((x : Sections) (tables : Rooms) (ds : List Placed) (rows : List EntryRow) → Tabled x tables section h ds rows s index parents ends marks entries kept → Blank map ranges locations strings out
-      → Answers (markedOf x (roomBy tables (length map) (length ranges) (length locations) (length strings) (length out)) t (ownUnit h section ds) rows) a (length map) (length ranges) (length locations) (length strings) (length out) map′ ranges′ locations′ strings′ out′)
+      → Answers (markedOf x (roomBy tables (length map) (length ranges) (length locations) (length strings) (length out)) t (unitOf h section ds) rows) a (length map) (length ranges) (length locations) (length strings) (length out) map′ ranges′ locations′ strings′ out′)
       → Wanted a map′ ranges′ locations′ strings′ out′
   marked-rewrite h entries kept e a map′ ranges′ locations′ strings′ out′ f x tables w b =
       rewrite-answers x tables t section task s index parents ends marks w map ranges locations strings out b h entries kept e a map′ ranges′ locations′ strings′ out′ f

@@ -31,7 +31,8 @@ use Rattle.rewriting.specs.declared.kept_items.KeptItem.{KeptItem}
 use Rattle.rewriting.specs.declared.kept_items.KeptStep.{KeptStep}
 use Rattle.rewriting.specs.declared.kept_items.KeptStep.the-variants.{Item as Item′, End}
 use Rattle.rewriting.proofs.kept_pass.ItemDepths.{Every, Stands, kept-stand}
-use Rattle.rewriting.proofs.list_pass.EntryIndices.{StepIndices, deep-indices}
+use Rattle.rewriting.proofs.list_pass.EntryIndices.{deep-indices}
+use Rattle.rewriting.proofs.kept_pass.EntryReads.{StepBy}
 use Rattle.rewriting.proofs.list_pass.GatherLaws.{gathered-none}
 use Rattle.rewriting.proofs.list_pass.Holdings.{Onward, onward-start, onward-on, onward-more, onward-end}
 
@@ -64,16 +65,16 @@ module _ (r : Reading) (s table unit : List ℕ) (k : ℕ) where
     reads-are at d = ap (readsOr x u) (d .is)
 
     item-indices : (i : Item) → Stands (r .encoding) s look unit i → ReadDeep x u (offsetOf i) → ItemIndices i (readIndices k (readsAt x u (offsetOf i)))
-    unfolding ItemIndices Stands offsetOf StepIndices
+    unfolding ItemIndices Stands offsetOf StepBy
     item-indices (entry y) q d =
-        let g : StepIndices k small (u .header .encoding) (u .bytes) (x .abbreviations) (declaredIn (u .declared)) (Entry′ y) (readIndices k (d .run .0)) =
-        subst (λ (o : Step). StepIndices k small (u .header .encoding) (u .bytes) (x .abbreviations) (declaredIn (u .declared)) o (readIndices k (d .run .0)))
+        let g : StepBy (valueIndices k) (u .header .encoding) (u .bytes) (x .abbreviations) (Entry′ y) (readIndices k (d .run .0)) =
+        subst (λ (o : Step). StepBy (valueIndices k) (u .header .encoding) (u .bytes) (x .abbreviations) o (readIndices k (d .run .0)))
         (same-step (y .offset .0) ∙ q)
         (deep-indices k small (u .header .encoding) (u .bytes) (x .abbreviations) (declaredIn (u .declared)) (y .offset .0) (d .run) (d .is)) in
         ap (readIndices k) (reads-are (y .offset .0) d) ∙ g ∙ same-values (y .declaration .attributes .at) (y .values .at)
     item-indices (terminator a b) q d =
-        let g : StepIndices k small (u .header .encoding) (u .bytes) (x .abbreviations) (declaredIn (u .declared)) (Terminator (record { at = b })) (readIndices k (d .run .0)) =
-        subst (λ (o : Step). StepIndices k small (u .header .encoding) (u .bytes) (x .abbreviations) (declaredIn (u .declared)) o (readIndices k (d .run .0)))
+        let g : StepBy (valueIndices k) (u .header .encoding) (u .bytes) (x .abbreviations) (Terminator (record { at = b })) (readIndices k (d .run .0)) =
+        subst (λ (o : Step). StepBy (valueIndices k) (u .header .encoding) (u .bytes) (x .abbreviations) o (readIndices k (d .run .0)))
         (same-step a ∙ q)
         (deep-indices k small (u .header .encoding) (u .bytes) (x .abbreviations) (declaredIn (u .declared)) a (d .run) (d .is)) in
         ap (readIndices k) (reads-are a d) ∙ g

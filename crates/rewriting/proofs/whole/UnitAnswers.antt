@@ -19,16 +19,17 @@ use Rattle.marking.specs.Columns.{padTo, parentsIn}
 use Rattle.marking.proofs.Rows.{unit-rows}
 use Rattle.marking.specs.Marks.{isKept, keptCount}
 use Rattle.marking.specs.Resolution.{marksIn}
-use Rattle.rewriting.specs.Places.{NestedItem, withIf, opened, closed, innermost, keptFrom}
+use Rattle.rewriting.specs.Places.{NestedItem, withIf, innermost, keptFrom}
 use Rattle.readers.specs.Stream.{entryCount}
+use Rattle.readers.specs.Nesting.{opened, closed}
 use Rattle.rewriting.specs.inner.Parents.{parentsFrom, HoldsFrom}
 use Rattle.rewriting.specs.inner.Ends.{EndsHeld}
 use Rattle.rewriting.specs.inner.NextKept.{itemsBy}
-use Rattle.rewriting.specs.Rewriting.{Unit as Unit′, Lists, Room, Collected, untouched, refused, itemsIn, listsOf, listsFit, orRefused, rewriteOf, marksCollected}
+use Rattle.rewriting.specs.Rewriting.{Unit as Unit′, unitOf, Lists, Room, Collected, untouched, refused, itemsIn, listsOf, listsFit, orRefused, rewriteOf, marksCollected}
 use Rattle.rewriting.specs.inner.IndexLists.{ReadAs, TablesFound, PassInput}
 use Rattle.rewriting.specs.inner.Emission.{ListsLent}
 use Rattle.rewriting.specs.Outputs.{roomBy, listCount, answerFor, mapFor, outputFor, listOr, listFor, rangesIn, locationsIn, stringsIn}
-use Rattle.rewriting.specs.inner.Leaving.{Accepts, Answers, ownUnit, Tabled, Blank, markedOf, haveRoom, ListsAnswer, Writable, WriteAnswer}
+use Rattle.rewriting.specs.inner.Leaving.{Accepts, Answers, Tabled, Blank, markedOf, listRoom, ListsAnswer, Writable, WriteAnswer}
 use Rattle.rewriting.specs.declared.kept_items.Reading.{Reading}
 use Rattle.rewriting.specs.declared.lists.ListCount.{ListCount}
 use Rattle.rewriting.specs.declared.collect.Listed.{Listed}
@@ -90,7 +91,7 @@ true-or-false false P f g = g refl
 module _ (x : Sections) (tables : Rooms) (section : List ℕ) (h : UnitHeader) (ds : List Placed) (rows : List EntryRow) (s index parents ends marks : List ℕ) (entries kept : ℕ)
     (w : Tabled x tables section h ds rows s index parents ends marks entries kept) (unit : List ℕ) (is : unit ≡ take (h .end) section) where
   abbrev own : Unit′
-  own = ownUnit h section ds
+  own = unitOf h section ds
 
   abbrev how : Reading
   how = reading (h .abbreviations) (h .encoding)
@@ -192,7 +193,7 @@ module _ (t : Bool) (section : List ℕ) (h : UnitHeader) (s index parents ends 
     → ListsAnswer (listsOf x u t (keptFrom marks 0 [] (itemsIn x u))) (length ranges) (length locations) (length strings) listed ranges′ locations′ strings′) where
   abbrev Goal : Answer → List ℕ → List ℕ → Type 0
   Goal a map′ out′ = (x : Sections) (tables : Rooms) (ds : List Placed) (rows : List EntryRow) → Tabled x tables section h ds rows s index parents ends marks entries kept → Blank map ranges locations strings out
-      → Answers (markedOf x (roomBy tables (length map) (length ranges) (length locations) (length strings) (length out)) t (ownUnit h section ds) rows) a
+      → Answers (markedOf x (roomBy tables (length map) (length ranges) (length locations) (length strings) (length out)) t (unitOf h section ds) rows) a
       (length map) (length ranges) (length locations) (length strings) (length out) map′ ranges′ locations′ strings′ out′
 
   module _ (x : Sections) (tables : Rooms) (ds : List Placed) (rows : List EntryRow) (w : Tabled x tables section h ds rows s index parents ends marks entries kept) (b : Blank map ranges locations strings out) where
@@ -200,7 +201,7 @@ module _ (t : Bool) (section : List ℕ) (h : UnitHeader) (s index parents ends 
     room = roomBy tables (length map) (length ranges) (length locations) (length strings) (length out)
 
     abbrev u : Unit′
-    u = ownUnit h section ds
+    u = unitOf h section ds
 
     abbrev items : List NestedItem
     items = keptFrom (marksIn rows) 0 [] (itemsIn x u)
@@ -215,7 +216,7 @@ module _ (t : Bool) (section : List ℕ) (h : UnitHeader) (s index parents ends 
         (il x u (unit-passes x tables section h ds rows s index parents ends marks entries kept w unit is ends′ fe) refl (b .ranges-blank) (b .locations-blank) (b .strings-blank))
 
     abbrev fit : Bool
-    fit = haveRoom l (length ranges) (length locations) (length strings)
+    fit = listsFit (listRoom (length ranges) (length locations) (length strings)) l
 
     fits-made : (p q r : ListCount) → listed ≡ Made p q r → fit ≡ true
     fits-made p q r e =
@@ -226,15 +227,15 @@ module _ (t : Bool) (section : List ℕ) (h : UnitHeader) (s index parents ends 
         true-or-false fit (fit ≡ false) (λ y. let z : Made (listCount (l .ranges)) (listCount (l .locations)) (listCount (l .strings)) ≡ Short = sym (those .made y) ∙ e in let k : _≡_ {A = ℕ} 0 1 = cc in absurd (omega arith)) (λ n. n)
 
     is-short-of : fit ≡ false → markedOf x room t u rows ≡ refused 12
-    unfolding marksCollected listsFit haveRoom
+    unfolding marksCollected listsFit
     is-short-of q = pick-else _ _ _ q
 
     is-untouched : fit ≡ true → keptCount (marksIn rows) ≡ length (marksIn rows) → markedOf x room t u rows ≡ untouched (length (marksIn rows)) l
-    unfolding marksCollected listsFit haveRoom
+    unfolding marksCollected listsFit
     is-untouched q e = pick-is _ _ _ q ∙ pick-is _ _ _ (eq-eqb _ _ e)
 
     is-written : fit ≡ true → (keptCount (marksIn rows) ≡ length (marksIn rows) → ⊥) → markedOf x room t u rows ≡ rewriteOf x room u (length (marksIn rows)) (keptCount (marksIn rows)) l items
-    unfolding marksCollected listsFit haveRoom
+    unfolding marksCollected listsFit
     is-written q e = pick-is _ _ _ q ∙ pick-else _ _ _ (ne-eqb _ _ e)
 
     counts : (p q r : ListCount) → listed ≡ Made p q r → (p ≡ listCount (l .ranges)) × (q ≡ listCount (l .locations)) × (r ≡ listCount (l .strings))

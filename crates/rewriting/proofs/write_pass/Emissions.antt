@@ -12,16 +12,15 @@ use lib.Dec.{T, ltb, leb, eqb}
 use mir.Facts.{yes-ltb, yes-leb, no-leb, leb-yes, eqb-yes, eqb-no, no-eqb, yes-eqb}
 use Rattle.readers.specs.Choice.{pick, _and_, put}
 use Rattle.readers.proofs.Choice.{pick-yes, pick-no, either}
-use Rattle.readers.specs.Layout.{Encoded, width, numberBytes}
+use Rattle.readers.specs.Layout.{Encoded, width, numberBytes, fits}
 use Rattle.readers.proofs.LayoutLaws.{length-number}
 use Rattle.readers.specs.References.{encodedBy}
-use Rattle.rewriting.specs.Places.{Place}
 use Rattle.rewriting.specs.Indices.{rankIn, rankOr}
 use Rattle.rewriting.specs.Written.{groupsFit, over}
 use Rattle.rewriting.specs.inner.Written.{bytesFit, numberFits, unfit, Put, asMapped, ListHeld}
-use Rattle.rewriting.specs.Rewriting.{Lists, fits, orNext, isSome, orSelf}
+use Rattle.rewriting.specs.Rewriting.{orNext, isSome, orSelf}
 use Rattle.rewriting.specs.Emission.{between, copiedCount}
-use Rattle.rewriting.specs.inner.Emission.{Emits, Within, onward, Wide, holds, numberRefusal, offsetRefusal, Lent}
+use Rattle.rewriting.specs.inner.Emission.{Emits, Within, onward, Wide, numberRefusal, offsetRefusal, Lent}
 use Rattle.rewriting.proofs.write_pass.Putting.{fit-room, bytes-room}
 use Rattle.readers.specs.declared.offsets.UnitOffset.{UnitOffset}
 use Rattle.rewriting.specs.declared.emit_entry.Emitted.{Emitted}
@@ -102,54 +101,53 @@ pub emits-as : {n m : ℕ} {a b : List ℕ} {out : List ℕ} {at : ℕ} {r : Emi
 emits-as {m = m} {a = a} {out = out} {at = at} {r = r} {out′ = out′} p q h =
     subst (λ x. EmitsAt m x out at r out′) q (subst (λ x. EmitsAt x a out at r out′) p h)
 
-module _ (lists : Lists) (map : List Place) (depth : ℕ) where
-  next-yes : (n m : ℕ) → n ≡ 0 → orNext lists map depth n m ≡ m
-  unfolding orNext
-  next-yes n m h = pick-yes _ _ _ (yes-eqb {a = n} {b = 0} h)
+next-yes : (n m : ℕ) → n ≡ 0 → orNext n m ≡ m
+unfolding orNext
+next-yes n m h = pick-yes _ _ _ (yes-eqb {a = n} {b = 0} h)
 
-  next-no : (n m : ℕ) → (n ≡ 0 → ⊥) → orNext lists map depth n m ≡ n
-  unfolding orNext
-  next-no n m h = pick-no _ _ _ (no-eqb {a = n} {b = 0} h)
+next-no : (n m : ℕ) → (n ≡ 0 → ⊥) → orNext n m ≡ n
+unfolding orNext
+next-no n m h = pick-no _ _ _ (no-eqb {a = n} {b = 0} h)
 
-  module _ (n m : ℕ) (a b out : List ℕ) (at : ℕ) where
-    pub emits-then : (to : ℕ) (out₁ : List ℕ) (r : Emitted) (out₂ : List ℕ) → EmitsAt n a out at (To to) out₁ → EmitsAt m b out₁ to r out₂
-        → EmitsAt (orNext lists map depth n m) (a ++ b) out at r out₂
-    emits-then to out₁ r out₂ f g =
-        let l : length (a ++ b) ≡ length a + length b = length-append a b in
-        let s : length out₁ ≡ length out = f .size in
-        record {
-          size = g .size ∙ s;
-          fine = λ room z. ⊎-elim
-              (λ t. let n0 : n ≡ 0 = eqb-yes {a = n} {b = 0} t in
-              let p : (To to ≡ To (at + length a)) × (out₁ ≡ put out at a) = f .fine (omega arith) n0 in
-              let w : to ≡ at + length a = emitted-to to (at + length a) (p .0) in
-              let q : (r ≡ To (to + length b)) × (out₂ ≡ put out₁ to b) = g .fine (omega arith) (sym (next-yes n m n0) ∙ z) in (
-                q .0 ∙ ap To (let k : to + length b ≡ at + length (a ++ b) = omega arith in k),
-                q .1 ∙ ap₂ (λ (x : List ℕ) (y : ℕ). put x y b) (p .1) w ∙ put-put out a b at (omega arith),
-              ))
-              (λ t. let n1 : n ≡ 0 → ⊥ = eqb-no {a = n} {b = 0} t in absurd (n1 (sym (next-no n m n1) ∙ z)))
-              (either (eqb n 0));
-          no = λ room z. ⊎-elim
-              (λ t. let n0 : n ≡ 0 = eqb-yes {a = n} {b = 0} t in
-              let p : (To to ≡ To (at + length a)) × (out₁ ≡ put out at a) = f .fine (omega arith) n0 in
-              let w : to ≡ at + length a = emitted-to to (at + length a) (p .0) in
-              g .no (omega arith) (λ k. z (next-yes n m n0 ∙ k)) ∙ ap Refused (sym (next-yes n m n0)))
-              (λ t. absurd (emitted-not _ _ (f .no (omega arith) (eqb-no {a = n} {b = 0} t))))
-              (either (eqb n 0));
-        }
+module _ (n m : ℕ) (a b out : List ℕ) (at : ℕ) where
+  pub emits-then : (to : ℕ) (out₁ : List ℕ) (r : Emitted) (out₂ : List ℕ) → EmitsAt n a out at (To to) out₁ → EmitsAt m b out₁ to r out₂
+      → EmitsAt (orNext n m) (a ++ b) out at r out₂
+  emits-then to out₁ r out₂ f g =
+      let l : length (a ++ b) ≡ length a + length b = length-append a b in
+      let s : length out₁ ≡ length out = f .size in
+      record {
+        size = g .size ∙ s;
+        fine = λ room z. ⊎-elim
+            (λ t. let n0 : n ≡ 0 = eqb-yes {a = n} {b = 0} t in
+            let p : (To to ≡ To (at + length a)) × (out₁ ≡ put out at a) = f .fine (omega arith) n0 in
+            let w : to ≡ at + length a = emitted-to to (at + length a) (p .0) in
+            let q : (r ≡ To (to + length b)) × (out₂ ≡ put out₁ to b) = g .fine (omega arith) (sym (next-yes n m n0) ∙ z) in (
+              q .0 ∙ ap To (let k : to + length b ≡ at + length (a ++ b) = omega arith in k),
+              q .1 ∙ ap₂ (λ (x : List ℕ) (y : ℕ). put x y b) (p .1) w ∙ put-put out a b at (omega arith),
+            ))
+            (λ t. let n1 : n ≡ 0 → ⊥ = eqb-no {a = n} {b = 0} t in absurd (n1 (sym (next-no n m n1) ∙ z)))
+            (either (eqb n 0));
+        no = λ room z. ⊎-elim
+            (λ t. let n0 : n ≡ 0 = eqb-yes {a = n} {b = 0} t in
+            let p : (To to ≡ To (at + length a)) × (out₁ ≡ put out at a) = f .fine (omega arith) n0 in
+            let w : to ≡ at + length a = emitted-to to (at + length a) (p .0) in
+            g .no (omega arith) (λ k. z (next-yes n m n0 ∙ k)) ∙ ap Refused (sym (next-yes n m n0)))
+            (λ t. absurd (emitted-not _ _ (f .no (omega arith) (eqb-no {a = n} {b = 0} t))))
+            (either (eqb n 0));
+      }
 
-    pub emits-stop : (k : ℕ) (out₁ : List ℕ) → EmitsAt n a out at (Refused k) out₁ → EmitsAt (orNext lists map depth n m) (a ++ b) out at (Refused k) out₁
-    emits-stop k out₁ f =
-        let l : length (a ++ b) ≡ length a + length b = length-append a b in
-        let zero-not : at + length (a ++ b) ≤ length out → n ≡ 0 → ⊥ = (λ room z. emitted-not _ _ (sym (f .fine (omega arith) z .0))) in
-        record {
-          size = f .size;
-          fine = λ room z. ⊎-elim
-              (λ t. absurd (zero-not room (eqb-yes {a = n} {b = 0} t)))
-              (λ t. let n1 : n ≡ 0 → ⊥ = eqb-no {a = n} {b = 0} t in absurd (n1 (sym (next-no n m n1) ∙ z)))
-              (either (eqb n 0));
-          no = λ room z. f .no (omega arith) (zero-not room) ∙ ap Refused (sym (next-no n m (zero-not room)));
-        }
+  pub emits-stop : (k : ℕ) (out₁ : List ℕ) → EmitsAt n a out at (Refused k) out₁ → EmitsAt (orNext n m) (a ++ b) out at (Refused k) out₁
+  emits-stop k out₁ f =
+      let l : length (a ++ b) ≡ length a + length b = length-append a b in
+      let zero-not : at + length (a ++ b) ≤ length out → n ≡ 0 → ⊥ = (λ room z. emitted-not _ _ (sym (f .fine (omega arith) z .0))) in
+      record {
+        size = f .size;
+        fine = λ room z. ⊎-elim
+            (λ t. absurd (zero-not room (eqb-yes {a = n} {b = 0} t)))
+            (λ t. let n1 : n ≡ 0 → ⊥ = eqb-no {a = n} {b = 0} t in absurd (n1 (sym (next-no n m n1) ∙ z)))
+            (either (eqb n 0));
+        no = λ room z. f .no (omega arith) (zero-not room) ∙ ap Refused (sym (next-no n m (zero-not room)));
+      }
 
 -- ---- from the start of a part
 
@@ -362,13 +360,13 @@ and-last true true t = refl
 and-last true false t = absurd t
 and-last false b t = refl
 
-holds-by : (leb′ : Bool) (w v : ℕ) → Wide leb′ w → v < 2 ^ 64 → holds (encodedBy leb′ w) v ≡ pick leb′ (ltb v (128 ^ w)) (ltb v (256 ^ w))
-unfolding Wide holds fits encodedBy pick
-holds-by true w v h l =
+fits-coded : (leb′ : Bool) (w v : ℕ) → Wide leb′ w → v < 2 ^ 64 → fits (encodedBy leb′ w) v ≡ pick leb′ (ltb v (128 ^ w)) (ltb v (256 ^ w))
+unfolding Wide fits encodedBy pick
+fits-coded true w v h l =
     and-true (ltb (w - 1) 10) _ (yes-ltb {a = w - 1} {b = 10} (let p : 0 < w = h .0 in let q : w ≤ 10 = h .1 in omega arith))
     ∙ and-last (ltb v (128 ^ suc (w - 1))) (ltb v (2 ^ 64)) (yes-ltb {a = v} {b = 2 ^ 64} l)
     ∙ ap (λ n. ltb v (128 ^ n)) (suc-pred w (h .0))
-holds-by false w v h l = and-true (leb w 8) _ (yes-leb {a = w} {b = 8} h)
+fits-coded false w v h l = and-true (leb w 8) _ (yes-leb {a = w} {b = 8} h)
 
 fits-by : (leb′ : Bool) (w v n : ℕ) → Wide leb′ w → w ≤ n → numberFits leb′ v w n ≡ pick leb′ (ltb v (128 ^ w)) (ltb v (256 ^ w))
 unfolding Wide numberFits groupsFit bytesFit pick
@@ -392,8 +390,8 @@ module _ (value w : ℕ) (leb′ : Bool) (out : List ℕ) where
   the-length h = length-number false code value ∙ wide-width leb′ w h
 
   module _ (l : value < 2 ^ 64) (x : List ℕ) (s : length x ≡ length out) (r : Bool) (did : Put (numberFits leb′ value w (length out)) (numberBytes false code value) w out (unfit leb′ w out) r x) where
-    answered : Wide leb′ w → w ≤ length out → r ≡ holds code value
-    answered h g = did .told ∙ fits-by leb′ w value (length out) h g ∙ sym (holds-by leb′ w value h l)
+    answered : Wide leb′ w → w ≤ length out → r ≡ fits code value
+    answered h g = did .told ∙ fits-by leb′ w value (length out) h g ∙ sym (fits-coded leb′ w value h l)
 
     pub number-room : r ≡ true → w ≤ length out
     number-room t = fits-room leb′ w value (length out) (sym (did .told) ∙ t)

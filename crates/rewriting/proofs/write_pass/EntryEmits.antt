@@ -62,20 +62,20 @@ written-append f (r ∷ a) b =
     ap (λ x. bytesOf false (patchPieces f (r .pieces)) ++ x) (written-append f a b)
     ∙ sym (append-assoc (bytesOf false (patchPieces f (r .pieces))) (writeAll false (patchAll f a)) (writeAll false (patchAll f b)))
 
-module _ (lists : Lists) (map : List Place) (depth : ℕ) where
-  next-assoc : (n m k : ℕ) → orNext lists map depth n (orNext lists map depth m k) ≡ orNext lists map depth (orNext lists map depth n m) k
-  unfolding orNext
-  next-assoc n m k =
-      ⊎-elim
-      (λ t. pick-yes _ _ _ t ∙ ap (λ x. pick (eqb x 0) k x) (sym (pick-yes (eqb n 0) m n t)))
-      (λ t. pick-no _ _ _ t ∙ sym (pick-no (eqb n 0) k n t) ∙ ap (λ x. pick (eqb x 0) k x) (sym (pick-no (eqb n 0) m n t)))
-      (either (eqb n 0))
+next-assoc : (n m k : ℕ) → orNext n (orNext m k) ≡ orNext (orNext n m) k
+unfolding orNext
+next-assoc n m k =
+    ⊎-elim
+    (λ t. pick-yes _ _ _ t ∙ ap (λ x. pick (eqb x 0) k x) (sym (pick-yes (eqb n 0) m n t)))
+    (λ t. pick-no _ _ _ t ∙ sym (pick-no (eqb n 0) k n t) ∙ ap (λ x. pick (eqb x 0) k x) (sym (pick-no (eqb n 0) m n t)))
+    (either (eqb n 0))
 
-  pub refusal-append : (a b : List Read) → readsRefusal lists map depth (a ++ b) ≡ orNext lists map depth (readsRefusal lists map depth a) (readsRefusal lists map depth b)
+module _ (lists : Lists) (map : List Place) (depth : ℕ) where
+  pub refusal-append : (a b : List Read) → readsRefusal lists map depth (a ++ b) ≡ orNext (readsRefusal lists map depth a) (readsRefusal lists map depth b)
   unfolding readsRefusal
-  refusal-append [] b = sym (next-zero lists map depth (readsRefusal lists map depth b))
+  refusal-append [] b = sym (next-zero (readsRefusal lists map depth b))
   refusal-append (r ∷ a) b =
-      ap (orNext lists map depth (piecesRefusal lists map depth (r .pieces))) (refusal-append a b)
+      ap (orNext (piecesRefusal lists map depth (r .pieces))) (refusal-append a b)
       ∙ next-assoc (piecesRefusal lists map depth (r .pieces)) (readsRefusal lists map depth a) (readsRefusal lists map depth b)
 
 -- ---- how far an attribute comes
@@ -319,7 +319,7 @@ module _ (lists : Lists) (map : List Place) (depth : ℕ) (e : Encoding) (l : e 
         here = f (parts .one) (parts .mid) (g .inside) its-value its-reads
 
         together : (z : Emitted) (out₂ : List ℕ)
-            → EmitsAt (orNext lists map depth (readsRefusal lists map depth (parts .one)) (readsRefusal lists map depth (parts .others)))
+            → EmitsAt (orNext (readsRefusal lists map depth (parts .one)) (readsRefusal lists map depth (parts .others)))
             (writeAll false (patchAll (newValue lists map depth) (parts .one)) ++ writeAll false (patchAll (newValue lists map depth) (parts .others))) out to z out₂
             → EmitsAt (readsRefusal lists map depth whole) (writeAll false (patchAll (newValue lists map depth) whole)) out₀ at z out₂
         together z out₂ k =
@@ -332,7 +332,7 @@ module _ (lists : Lists) (map : List Place) (depth : ℕ) (e : Encoding) (l : e 
         pub entering-refused : (k : ℕ) → a ≡ Refused k → EmitsAt (readsRefusal lists map depth whole) (writeAll false (patchAll (newValue lists map depth) whole)) out₀ at (Refused k) out₁
         entering-refused k w =
             together (Refused k) out₁
-            (emits-stop lists map depth (readsRefusal lists map depth (parts .one)) (readsRefusal lists map depth (parts .others))
+            (emits-stop (readsRefusal lists map depth (parts .one)) (readsRefusal lists map depth (parts .others))
             (writeAll false (patchAll (newValue lists map depth) (parts .one))) (writeAll false (patchAll (newValue lists map depth) (parts .others))) out to k out₁
             (subst (λ z. EmitsAt (readsRefusal lists map depth (parts .one)) (writeAll false (patchAll (newValue lists map depth) (parts .one))) out to z out₁) w here))
 
@@ -346,7 +346,7 @@ module _ (lists : Lists) (map : List Place) (depth : ℕ) (e : Encoding) (l : e 
                   ap₂ (λ (c : Cursor) (s : List ℕ). readIn false (expressionIn e) (specsLayout e (attributesFrom abbreviations (c .at))) s) (sym (it .next)) (sym mid-is) ∙ parts .then′;
               onward = λ z out₂ k.
                   together z out₂
-                  (emits-then lists map depth (readsRefusal lists map depth (parts .one)) (readsRefusal lists map depth (parts .others))
+                  (emits-then (readsRefusal lists map depth (parts .one)) (readsRefusal lists map depth (parts .others))
                   (writeAll false (patchAll (newValue lists map depth) (parts .one))) (writeAll false (patchAll (newValue lists map depth) (parts .others))) out to to₁ out₁ z out₂
                   (subst (λ z. EmitsAt (readsRefusal lists map depth (parts .one)) (writeAll false (patchAll (newValue lists map depth) (parts .one))) out to z out₁) w here) k);
             }
@@ -478,10 +478,10 @@ module _ (e : Encoding) (l : e .«big_endian» ≡ false) (abbreviations : List 
               (ap (λ n. drop n unit) v ∙ sym (drop-drop (coded .wide) start unit)) ∙ coded .deep;
           onward = λ r out′ h.
               emits-as
-              (next-zero lists map depth (readsRefusal lists map depth (coded .others))
+              (next-zero (readsRefusal lists map depth (coded .others))
               ∙ sym (ap (readsRefusal lists map depth) (coded .is) ∙ copied-refusal lists map depth (coded .code) code (coded .pieces) (coded .others)))
               (sym (ap (λ z. writeAll false (patchAll (newValue lists map depth) z)) (coded .is) ∙ copied-written (newValue lists map depth) (coded .code) code (coded .pieces) (coded .others)))
-              (emits-then lists map depth 0 (readsRefusal lists map depth (coded .others)) code (writeAll false (patchAll (newValue lists map depth) (coded .others))) out at to out₁ r out′ first h);
+              (emits-then 0 (readsRefusal lists map depth (coded .others)) code (writeAll false (patchAll (newValue lists map depth) (coded .others))) out at to out₁ r out′ first h);
         }
 
     -- what is said of the attributes after the code is said of the entry

@@ -7,7 +7,7 @@ use mathlib.Core.List.{List, [], _∷_}
 use lib.Dec.{T, eqb, leb}
 use mir.Facts.{eqb-yes, yes-eqb}
 use Rattle.readers.specs.Choice.{pick, _and_, _or_}
-use Rattle.readers.proofs.Choice.{pick-either}
+use Rattle.readers.proofs.Choice.{pick-either, and-both}
 use Rattle.readers.specs.Layout.{Kind, Token, nothing, number, bounded, forms, signed, link, string, run, block, expression, unknown}
 use Rattle.readers.specs.Tokens.{Use, plain, as′, numberAs, tokenOf}
 use Rattle.readers.specs.Operations.{Codes}
@@ -60,11 +60,6 @@ unfoldable only : List Codes → Bool
 only [] = true
 only (x ∷ xs) = pick (eqb (x .row) 19) (eqb (x .from) 0x18) true and only xs
 
-both : (a b : Bool) → T (a and b) → T a × T b
-unfolding _and_
-both true b t = (tt, t)
-both false b t = absurd t
-
 row-only : (a b : Bool) → T (pick a b true) → T a → T b
 unfolding pick
 row-only true b t u = t
@@ -74,7 +69,7 @@ among : (f : ℕ) (xs : List Codes) → T (only xs) → tokenAmong xs f ≡ 19 �
 unfolding only tokenAmong
 among f [] o = λ q. absurd (omega arith)
 among f (x ∷ xs) o =
-    let b = both (pick (eqb (x .row) 19) (eqb (x .from) 0x18) true) (only xs) o in
+    let b = and-both (pick (eqb (x .row) 19) (eqb (x .from) 0x18) true) (only xs) o in
     pick-either (λ (n : ℕ). n ≡ 19 → f ≡ 0x18) (eqb (x .from) f) (x .row) (tokenAmong xs f)
     (λ t q. sym (eqb-yes {a = x .from} {b = f} t) ∙ eqb-yes {a = x .from} {b = 0x18} (row-only (eqb (x .row) 19) (eqb (x .from) 0x18) (b .0) (yes-eqb {a = x .row} {b = 19} q)))
     (λ t. among f xs (b .1))

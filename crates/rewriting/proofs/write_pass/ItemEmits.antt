@@ -203,7 +203,7 @@ module _ (r : Reading) (s table unit parents ends marks : List ℕ) (first : ℕ
           Here b out₁ = EmitsAt (readsRefusal lists ps (y .depth) reads) (writeAll false (patchAll (newValue lists ps (y .depth)) reads)) out to b out₁
 
           together : (z : Emitted) (out′ : List ℕ)
-              → EmitsAt (orNext lists ps (y .depth) (readsRefusal lists ps (y .depth) reads) (refusalFrom x u lists ps others))
+              → EmitsAt (orNext (readsRefusal lists ps (y .depth) reads) (refusalFrom x u lists ps others))
               (writeAll false (patchAll (newValue lists ps (y .depth)) reads) ++ bytesFrom x u lists ps others) out to z out′
               → Whole out₀ z out′
           unfolding refusalFrom bytesFrom
@@ -214,7 +214,7 @@ module _ (r : Reading) (s table unit parents ends marks : List ℕ) (first : ℕ
               g .onward z out′
               (subst (λ (kept : List NestedItem). From kept out to z out′) (sym (next .whole))
               (emits-as
-              (ap₂ (λ (d : ℕ) (zs : List Read). orNext lists ps d (readsRefusal lists ps d zs) rest) (next .deep) (sym reads-are))
+              (ap₂ (λ (d : ℕ) (zs : List Read). orNext (readsRefusal lists ps d zs) rest) (next .deep) (sym reads-are))
               (ap₂ (λ (d : ℕ) (zs : List Read). writeAll false (patchAll (newValue lists ps d) zs) ++ tail) (next .deep) (sym reads-are)
               ∙ ap (λ (b : Bool). writeAll b (patchAll (newValue lists ps (next .standing .depth)) (readsAt x u (offsetOf (next .standing .item)))) ++ tail) (sym little))
               k))
@@ -223,7 +223,7 @@ module _ (r : Reading) (s table unit parents ends marks : List ℕ) (first : ℕ
             refused-here : (k : ℕ) → b ≡ Refused k → Whole out₀ (Refused k) out₁
             refused-here k w =
                 together (Refused k) out₁
-                (emits-stop lists ps (y .depth) _ (refusalFrom x u lists ps others) _ (bytesFrom x u lists ps others) out to k out₁ (subst (λ (z : Emitted). Here z out₁) w f))
+                (emits-stop _ (refusalFrom x u lists ps others) _ (bytesFrom x u lists ps others) out to k out₁ (subst (λ (z : Emitted). Here z out₁) w f))
 
             on-here : (to₁ : ℕ) → b ≡ To to₁ → Writing out₀ (y .next) out₁ to₁
             on-here to₁ w =
@@ -233,7 +233,7 @@ module _ (r : Reading) (s table unit parents ends marks : List ℕ) (first : ℕ
                   deep = read-here .1;
                   onward = λ z out′ k.
                       together z out′
-                      (emits-then lists ps (y .depth) _ (refusalFrom x u lists ps others) _ (bytesFrom x u lists ps others) out to to₁ out₁ z out′ (subst (λ (z : Emitted). Here z out₁) w f) k);
+                      (emits-then _ (refusalFrom x u lists ps others) _ (bytesFrom x u lists ps others) out to to₁ out₁ z out′ (subst (λ (z : Emitted). Here z out₁) w f) k);
                 }
 
           -- an entry

@@ -1,7 +1,7 @@
 -- An expression verbatim up to each reference, with the new offset in its place: the bytes of its pieces with new values. The first reference that is refused is the first piece that is.
 -- Assumes nothing.
 use mathlib.Core.Path.{_≡_, refl, ap, ap₂, sym, _∙_, subst}
-use Prim.Native.Nat.{ℕ, suc, _+_, _-_, _^_, _≤_, _<_}
+use Prim.Native.Nat.{ℕ, suc, _+_, _-_, _≤_, _<_}
 use native.Mathlib.Omega.{arith}
 use mathlib.Core.Bool.{Bool, true, false, not}
 use mathlib.Core.Option.{Option, some}
@@ -9,13 +9,13 @@ use mathlib.Core.List.{List, [], _∷_, _++_, append-assoc}
 use mathlib.Core.Logic.{⊎-elim}
 use lib.ListN.{length, take, drop, length-append, length-drop, take-append-drop}
 use lib.Seq.{take-at, drop-at, take-add, drop-drop, take-all}
-use lib.Dec.{T, ltb, leb, eqb}
+use lib.Dec.{T, eqb}
 use lib.Pow.{areBytes}
-use mir.Facts.{eqb-yes, yes-ltb, yes-leb}
-use Rattle.readers.specs.Choice.{pick, _and_, _or_}
+use mir.Facts.{eqb-yes}
+use Rattle.readers.specs.Choice.{pick, _or_}
 use Rattle.readers.proofs.Choice.{pick-yes, pick-no, either, all-of}
-use Rattle.readers.specs.Layout.{Encoded, infixed, inleb, width, Role, reference, typeReference, sibling, index, absolute, Piece, verbatim, patchable, Patch, patchPiece, patchPieces, numberBytes, pieceBytes, bytesOf, Fit}
-use Rattle.readers.proofs.LayoutLaws.{length-number}
+use Rattle.readers.specs.Layout.{Encoded, infixed, inleb, width, Role, reference, typeReference, sibling, index, absolute, Piece, verbatim, patchable, Patch, patchPiece, patchPieces, numberBytes, pieceBytes, bytesOf, fits, Fit}
+use Rattle.readers.proofs.LayoutLaws.{length-number, fixed-fit, leb-fit}
 use Rattle.readers.specs.Expression.{expressionIn}
 use Rattle.readers.specs.References.{Named, nameIn, namesIn, encodedBy, flatFrom, nextReference}
 use Rattle.readers.specs.declared.cursor.Encoding.{Encoding}
@@ -25,9 +25,9 @@ use Rattle.readers.specs.declared.expressions.Yield.the-variants.{Reference as 
 use Rattle.readers.proofs.Yields.{flatBy, flat-next, next-wide, yields-all}
 use Rattle.rewriting.specs.Places.{Place, newOf}
 use Rattle.rewriting.specs.inner.Written.{asMapped}
-use Rattle.rewriting.specs.Rewriting.{Lists, newValue, hasPlace, fits, pieceRefusal, piecesRefusal, orNext, orSelf, isSome}
+use Rattle.rewriting.specs.Rewriting.{Lists, newValue, hasPlace, pieceRefusal, piecesRefusal, orNext, orSelf, isSome}
 use Rattle.rewriting.specs.Emission.{between}
-use Rattle.rewriting.specs.inner.Emission.{Wide, holds, numberRefusal, offsetRefusal}
+use Rattle.rewriting.specs.inner.Emission.{Wide, numberRefusal, offsetRefusal}
 use Rattle.rewriting.specs.declared.emit_entry.Emitted.{Emitted}
 use Rattle.rewriting.specs.declared.emit_entry.Emitted.the-variants.{To, Refused}
 use Rattle.rewriting.specs.declared.map.Mapped.{Mapped}
@@ -36,40 +36,23 @@ use Rattle.rewriting.proofs.map_pass.Exact.{Right, Rights, inExpression
 
 -- ---- numbers that fit
 
-both-yes : (a b : Bool) → T a → T b → T (a and b)
-unfolding _and_
-both-yes true b s t = t
-both-yes false b s t = absurd s
+pub next-zero : (m : ℕ) → orNext 0 m ≡ m
+unfolding orNext pick
+next-zero m = refl
 
 module _ (lists : Lists) (map : List Place) (depth : ℕ) where
-  pub fit-fits : (e : Encoded) (v : ℕ) → Fit e v → T (fits lists map depth e v)
-  unfolding Fit fits
-  fit-fits (infixed w) v h = both-yes (leb w 8) (ltb v (256 ^ w)) (yes-leb {a = w} {b = 8} (h .0)) (yes-ltb {a = v} {b = 256 ^ w} (h .1))
-  fit-fits (inleb n) v h =
-      both-yes (ltb n 10) (ltb v (128 ^ suc n) and ltb v (2 ^ 64)) (yes-ltb {a = n} {b = 10} (h .0))
-      (both-yes (ltb v (128 ^ suc n)) (ltb v (2 ^ 64)) (yes-ltb {a = v} {b = 128 ^ suc n} (h .1)) (yes-ltb {a = v} {b = 2 ^ 64} (h .2)))
-
-  pub fits-holds : (e : Encoded) (v : ℕ) → fits lists map depth e v ≡ holds e v
-  unfolding fits holds
-  fits-holds (infixed w) v = refl
-  fits-holds (inleb n) v = refl
-
-  pub next-zero : (m : ℕ) → orNext lists map depth 0 m ≡ m
-  unfolding orNext pick
-  next-zero m = refl
-
   -- what stays as it is is not refused
   pub stays : (e : Encoded) (r : Role) (v : ℕ) → T (hasPlace lists map depth r v) → newValue lists map depth r v ≡ v → Fit e v → pieceRefusal lists map depth (patchable e r v) ≡ 0
   unfolding pieceRefusal
   stays e r v p q h =
-      pick-yes _ _ _ p ∙ pick-yes _ _ _ (subst (λ x. T (fits lists map depth e x)) (sym q) (fit-fits e v h))
+      pick-yes _ _ _ p ∙ pick-yes _ _ _ (subst (Fit e) (sym q) h)
 
   abbrev new : ℕ → ℕ
   new v = orSelf v (newOf map v)
 
   pub reference-refusal : (e : Encoded) (v : ℕ) → pieceRefusal lists map depth (patchable e reference v) ≡ offsetRefusal e v (newOf map v)
   unfolding pieceRefusal offsetRefusal numberRefusal hasPlace newValue
-  reference-refusal e v = ap (λ b. pick (isSome (newOf map v)) (pick b 0 9) 8) (fits-holds e (new v))
+  reference-refusal e v = refl
 
   or-no : (a b : Bool) → T (not a) → (a or b) ≡ b
   unfolding _or_
@@ -84,14 +67,13 @@ module _ (lists : Lists) (map : List Place) (depth : ℕ) where
   type-refusal : (e : Encoded) (v : ℕ) → T (not (eqb v 0)) → pieceRefusal lists map depth (patchable e typeReference v) ≡ offsetRefusal e v (newOf map v)
   unfolding pieceRefusal offsetRefusal numberRefusal hasPlace newValue
   type-refusal e v t =
-      ap₂ (λ (a : Bool) (n : ℕ). pick a (pick (fits lists map depth e n) 0 9) 8) (or-no (eqb v 0) (isSome (newOf map v)) t) (pick-no _ _ _ t)
-      ∙ ap (λ b. pick (isSome (newOf map v)) (pick b 0 9) 8) (fits-holds e (new v))
+      ap₂ (λ (a : Bool) (n : ℕ). pick a (pick (fits e n) 0 9) 8) (or-no (eqb v 0) (isSome (newOf map v)) t) (pick-no _ _ _ t)
 
   type-zero : (e : Encoded) (v : ℕ) → T (eqb v 0) → Fit e v → pieceRefusal lists map depth (patchable e typeReference v) ≡ 0
   unfolding hasPlace newValue
   type-zero e v t h = stays e typeReference v (or-yes (eqb v 0) _ t) (pick-yes _ _ _ t ∙ sym (eqb-yes {a = v} {b = 0} t)) h
 
-  absolute-none : (e : Encoded) (v : ℕ) → Fit e v → pieceRefusal lists map depth (patchable e absolute v) ≡ 0
+  pub absolute-none : (e : Encoded) (v : ℕ) → Fit e v → pieceRefusal lists map depth (patchable e absolute v) ≡ 0
   unfolding hasPlace newValue
   absolute-none e v h = stays e absolute v tt refl h
 
@@ -103,27 +85,27 @@ module _ (lists : Lists) (map : List Place) (depth : ℕ) where
 
   unfoldable pub namesRefusal : List Named → ℕ
   namesRefusal [] = 0
-  namesRefusal (r ∷ rs) = orNext lists map depth (offsetRefusal (r .2) (r .1) (newOf map (r .1))) (namesRefusal rs)
+  namesRefusal (r ∷ rs) = orNext (offsetRefusal (r .2) (r .1) (newOf map (r .1))) (namesRefusal rs)
 
   pub refusal-names : (ps : List Piece) (o : ℕ) → Rights inExpression ps → piecesRefusal lists map depth ps ≡ namesRefusal (namesIn false o ps)
   unfolding piecesRefusal namesRefusal namesIn nameIn Rights Right inExpression pieceRefusal pieceBytes
   refusal-names [] o h = refl
   refusal-names (verbatim l ∷ ps) o h = next-zero (piecesRefusal lists map depth ps) ∙ refusal-names ps (o + length l) (h .1)
   refusal-names (patchable e reference v ∷ ps) o h =
-      ap₂ (orNext lists map depth) (reference-refusal e v) (refusal-names ps (o + length (numberBytes false e v)) (h .1))
+      ap₂ orNext (reference-refusal e v) (refusal-names ps (o + length (numberBytes false e v)) (h .1))
   refusal-names (patchable e typeReference v ∷ ps) o h =
       let rest : List Named = namesIn false (o + length (pieceBytes false (patchable e typeReference v))) ps in
       ⊎-elim
-      (λ t. ap₂ (orNext lists map depth) (type-zero e v t (h .0 .0)) (refusal-names ps (o + length (pieceBytes false (patchable e typeReference v))) (h .1))
+      (λ t. ap₂ orNext (type-zero e v t (h .0 .0)) (refusal-names ps (o + length (pieceBytes false (patchable e typeReference v))) (h .1))
       ∙ next-zero (namesRefusal rest)
       ∙ ap (λ x. namesRefusal (x ++ rest)) (sym (pick-yes (eqb v 0) [] ((o, v, e) ∷ []) t)))
-      (λ t. ap₂ (orNext lists map depth) (type-refusal e v t) (refusal-names ps (o + length (pieceBytes false (patchable e typeReference v))) (h .1))
+      (λ t. ap₂ orNext (type-refusal e v t) (refusal-names ps (o + length (pieceBytes false (patchable e typeReference v))) (h .1))
       ∙ ap (λ x. namesRefusal (x ++ rest)) (sym (pick-no (eqb v 0) [] ((o, v, e) ∷ []) t)))
       (either (eqb v 0))
   refusal-names (patchable e sibling v ∷ ps) o h = absurd (h .0 .1)
   refusal-names (patchable e (index k) v ∷ ps) o h = absurd (h .0 .1)
   refusal-names (patchable e absolute v ∷ ps) o h =
-      ap (λ n. orNext lists map depth n (piecesRefusal lists map depth ps)) (absolute-none e v (h .0 .0))
+      ap (λ n. orNext n (piecesRefusal lists map depth ps)) (absolute-none e v (h .0 .0))
       ∙ next-zero (piecesRefusal lists map depth ps)
       ∙ refusal-names ps (o + length (pieceBytes false (patchable e absolute v))) (h .1)
 
@@ -207,10 +189,10 @@ unfoldable pub InOrder : ℕ → ℕ → List Named → Type 0
 InOrder c n [] = c ≤ n
 InOrder c n (r ∷ rs) = (c ≤ r .0) × (r .0 + width (r .2) ≤ n) × Sound (r .2) × InOrder (r .0 + width (r .2)) n rs
 
-fit-sound : (e : Encoded) (v : ℕ) → Fit e v → Sound e
-unfolding Fit Sound
-fit-sound (infixed w) v h = h .0
-fit-sound (inleb n) v h = h .0
+pub fit-sound : (e : Encoded) (v : ℕ) → Fit e v → Sound e
+unfolding Sound
+fit-sound (infixed w) v h = fixed-fit w v h .0
+fit-sound (inleb n) v h = leb-fit n v h .0
 
 order-more : (rs : List Named) (c o n : ℕ) → c ≤ o → InOrder o n rs → InOrder c n rs
 unfolding InOrder
@@ -340,22 +322,22 @@ module _ (lists : Lists) (map : List Place) (depth : ℕ) (pieces : List Piece) 
 
         -- what is said of it and the rest is said of the whole
         together : (z : Emitted) (out₃ : List ℕ)
-            → EmitsAt (orNext lists map depth (offsetRefusal code (r .target .0) (newOf map (r .target .0))) (namesRefusal lists map depth rest))
+            → EmitsAt (orNext (offsetRefusal code (r .target .0) (newOf map (r .target .0))) (namesRefusal lists map depth rest))
             (numberBytes false code (new lists map depth (r .target .0)) ++ splice lists map depth s (r .place + width code) rest) out₁ to₁ z out₃
             → EmitsAt (piecesRefusal lists map depth pieces) (bytesOf false (patchPieces (newValue lists map depth) pieces)) out₀ at z out₃
         unfolding namesRefusal splice
         together z out₃ k =
             g .onward z out₃
             (emits-as
-            (next-zero lists map depth _ ∙ ap (namesRefusal lists map depth) (sym one-more))
+            (next-zero _ ∙ ap (namesRefusal lists map depth) (sym one-more))
             (ap (splice lists map depth s verbatim) (sym one-more))
-            (emits-then lists map depth 0 _ (between s verbatim (r .place)) _ out to to₁ out₁ z out₃ before-it k))
+            (emits-then 0 _ (between s verbatim (r .place)) _ out to to₁ out₁ z out₃ before-it k))
 
         pub going-refused : (k : ℕ) → a ≡ Refused k
             → EmitsAt (piecesRefusal lists map depth pieces) (bytesOf false (patchPieces (newValue lists map depth) pieces)) out₀ at (Refused k) out₂
         going-refused k w =
             together (Refused k) out₂
-            (emits-stop lists map depth no (namesRefusal lists map depth rest) its (splice lists map depth s (r .place + width code) rest) out₁ to₁ k out₂
+            (emits-stop no (namesRefusal lists map depth rest) its (splice lists map depth s (r .place + width code) rest) out₁ to₁ k out₂
             (subst (λ b. EmitsAt no its out₁ to₁ b out₂) w it))
 
         pub going-on : (to₂ : ℕ) → a ≡ To to₂ → (copied′ : ℕ) → (r .place + r .width ≤ length s → copied′ ≡ r .place + r .width)
@@ -366,7 +348,7 @@ module _ (lists : Lists) (map : List Place) (depth : ℕ) (pieces : List Piece) 
               places = subst (λ n. InOrder n (length s) rest) k (where-it-is .3);
               onward = λ z out₃ x.
                   together z out₃
-                  (emits-then lists map depth no (namesRefusal lists map depth rest) its (splice lists map depth s (r .place + width code) rest) out₁ to₁ to₂ out₂ z out₃
+                  (emits-then no (namesRefusal lists map depth rest) its (splice lists map depth s (r .place + width code) rest) out₁ to₁ to₂ out₂ z out₃
                   (subst (λ b. EmitsAt no its out₁ to₁ b out₂) w it)
                   (subst (λ n. EmitsAt (namesRefusal lists map depth rest) (splice lists map depth s n rest) out₂ to₂ z out₃) (sym k) x));
             }

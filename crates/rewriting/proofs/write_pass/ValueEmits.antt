@@ -30,7 +30,7 @@ use Rattle.marking.specs.EntryReferences.{partOf}
 use Rattle.rewriting.specs.Places.{Place, newOf, siblingOf}
 use Rattle.rewriting.specs.Indices.{rankOr}
 use Rattle.rewriting.specs.inner.Written.{asMapped}
-use Rattle.rewriting.specs.Rewriting.{Lists, newValue, hasPlace, pieceRefusal, piecesRefusal, readsRefusal, orNext, orSelf, isSome, listAt}
+use Rattle.rewriting.specs.Rewriting.{Lists, newValue, hasPlace, pieceRefusal, piecesRefusal, readsRefusal, orNext, orSelf, listAt}
 use Rattle.rewriting.specs.Emission.{between}
 use Rattle.rewriting.specs.inner.Emission.{Wide, numberRefusal, offsetRefusal, lebForm}
 use Rattle.rewriting.specs.declared.emit_entry.Emitted.{Emitted}
@@ -38,7 +38,7 @@ use Rattle.rewriting.specs.declared.emit_entry.Emitted.the-variants.{To}
 use Rattle.rewriting.specs.declared.map.Mapped.{Mapped}
 use Rattle.rewriting.proofs.write_pass.Emissions.{EmitsAt, emits-as, emits-then}
 use Rattle.rewriting.proofs.map_pass.Exact.{tokenOk, Right, Rights, ExactReader, Exactly, TokenExact, number-exact, token-exact, are-drop}
-use Rattle.rewriting.proofs.write_pass.Splices.{fits-holds, next-zero, stays, reference-refusal, Sound, wide-of}
+use Rattle.rewriting.proofs.write_pass.Splices.{next-zero, absolute-none, reference-refusal, Sound, fit-sound, wide-of}
 use Rattle.rewriting.proofs.write_pass.ValueForms.{onlyAbsolute, formIs, LinkForm}
 use Rattle.rewriting.proofs.write_pass.ValueParts.{between-from, between-join, next-last, Value, token-known}
 
@@ -47,11 +47,11 @@ use Rattle.rewriting.proofs.write_pass.ValueParts.{between-from, betwee
 module _ (lists : Lists) (map : List Place) (depth : ℕ) where
   sibling-refusal : (e : Encoded) (v : ℕ) → pieceRefusal lists map depth (patchable e sibling v) ≡ offsetRefusal e v (siblingOf map depth v)
   unfolding pieceRefusal offsetRefusal numberRefusal hasPlace newValue
-  sibling-refusal e v = ap (λ b. pick (isSome (siblingOf map depth v)) (pick b 0 9) 8) (fits-holds lists map depth e (orSelf v (siblingOf map depth v)))
+  sibling-refusal e v = refl
 
   index-refusal : (e : Encoded) (k v : ℕ) → pieceRefusal lists map depth (patchable e (index k) v) ≡ numberRefusal e (rankOr (listAt lists k) v)
   unfolding pieceRefusal numberRefusal hasPlace newValue pick
-  index-refusal e k v = ap (λ b. pick b 0 9) (fits-holds lists map depth e (rankOr (listAt lists k) v))
+  index-refusal e k v = refl
 
   -- pieces that stay
   stay-bytes : (ps : List Piece) → Rights onlyAbsolute ps → bytesOf false (patchPieces (newValue lists map depth) ps) ≡ bytesOf false ps
@@ -64,10 +64,6 @@ module _ (lists : Lists) (map : List Place) (depth : ℕ) where
   stay-bytes (patchable e (index k) v ∷ ps) h = absurd (h .0 .1)
   stay-bytes (patchable e absolute v ∷ ps) h = ap (λ x. numberBytes false e v ++ x) (stay-bytes ps (h .1))
 
-  absolute-stays : (e : Encoded) (v : ℕ) → Fit e v → pieceRefusal lists map depth (patchable e absolute v) ≡ 0
-  unfolding hasPlace newValue
-  absolute-stays e v h = stays lists map depth e absolute v tt refl h
-
   copied-stays : (l : List ℕ) → pieceRefusal lists map depth (verbatim l) ≡ 0
   unfolding pieceRefusal
   copied-stays l = refl
@@ -75,20 +71,20 @@ module _ (lists : Lists) (map : List Place) (depth : ℕ) where
   stay-refusal : (ps : List Piece) → Rights onlyAbsolute ps → piecesRefusal lists map depth ps ≡ 0
   unfolding piecesRefusal Rights Right onlyAbsolute
   stay-refusal [] h = refl
-  stay-refusal (verbatim l ∷ ps) h = ap₂ (orNext lists map depth) (copied-stays l) (stay-refusal ps (h .1)) ∙ next-zero lists map depth 0
+  stay-refusal (verbatim l ∷ ps) h = ap₂ orNext (copied-stays l) (stay-refusal ps (h .1)) ∙ next-zero 0
   stay-refusal (patchable e reference v ∷ ps) h = absurd (h .0 .1)
   stay-refusal (patchable e typeReference v ∷ ps) h = absurd (h .0 .1)
   stay-refusal (patchable e sibling v ∷ ps) h = absurd (h .0 .1)
   stay-refusal (patchable e (index k) v ∷ ps) h = absurd (h .0 .1)
-  stay-refusal (patchable e absolute v ∷ ps) h = ap₂ (orNext lists map depth) (absolute-stays e v (h .0 .0)) (stay-refusal ps (h .1)) ∙ next-zero lists map depth 0
+  stay-refusal (patchable e absolute v ∷ ps) h = ap₂ orNext (absolute-none lists map depth e v (h .0 .0)) (stay-refusal ps (h .1)) ∙ next-zero 0
 
   one-link : (e : Encoded) (r : Role) (v : ℕ) → piecesRefusal lists map depth (patchable e r v ∷ []) ≡ pieceRefusal lists map depth (patchable e r v)
   unfolding piecesRefusal
-  one-link e r v = next-last lists map depth (pieceRefusal lists map depth (patchable e r v))
+  one-link e r v = next-last (pieceRefusal lists map depth (patchable e r v))
 
   first-copied : (l : List ℕ) (ps : List Piece) → piecesRefusal lists map depth (verbatim l ∷ ps) ≡ piecesRefusal lists map depth ps
   unfolding piecesRefusal
-  first-copied l ps = ap (λ n. orNext lists map depth n (piecesRefusal lists map depth ps)) (copied-stays l) ∙ next-zero lists map depth _
+  first-copied l ps = ap (λ n. orNext n (piecesRefusal lists map depth ps)) (copied-stays l) ∙ next-zero _
 
 -- ---- tokens
 
@@ -96,11 +92,6 @@ encoded-is : (c : Encoded) → encodedBy (isLeb (kindOf c)) (width c) ≡ c
 unfolding encodedBy isLeb kindOf width
 encoded-is (infixed w) = refl
 encoded-is (inleb n) = ap inleb (let h : suc n - 1 ≡ n = omega arith in h)
-
-fit-sound : (e : Encoded) (v : ℕ) → Fit e v → Sound e
-unfolding Fit Sound
-fit-sound (infixed w) v h = h .0
-fit-sound (inleb n) v h = h .0
 
 record LinkRead (kind : Kind) (role : Role) (r : ReadOf) : Type 0 where
   pub code : Encoded
@@ -190,8 +181,8 @@ module _ (e : Encoding) (unit : List ℕ) (values name : ℕ) (value : Attribute
         → between unit values (value .field .start) ++ bytes ≡ between unit values (w .o) ++ bytesOf false (patchPieces (newValue lists map depth) (w .v .pieces))
         → EmitsAt n bytes out₁ to r out₂ → Whole r out₂
     after-start n bytes r out₂ p q h =
-        emits-as (next-zero lists map depth n ∙ p ∙ sym (w .refused lists map depth)) (q ∙ sym (w .written (newValue lists map depth)))
-        (emits-then lists map depth 0 n (between unit values (value .field .start)) bytes out at to out₁ r out₂ (first start-after start-inside) h)
+        emits-as (next-zero n ∙ p ∙ sym (w .refused lists map depth)) (q ∙ sym (w .written (newValue lists map depth)))
+        (emits-then 0 n (between unit values (value .field .start)) bytes out at to out₁ r out₂ (first start-after start-inside) h)
 
     -- ---- an expression
 

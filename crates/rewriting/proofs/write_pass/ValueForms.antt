@@ -8,7 +8,7 @@ use mathlib.Core.Logic.{⊎-elim, _≢_}
 use lib.Dec.{T, leb, eqb}
 use mir.Facts.{eqb-yes, eqb-no, yes-eqb, leb-yes}
 use Rattle.readers.specs.Choice.{pick, _and_, _or_}
-use Rattle.readers.proofs.Choice.{pick-yes, pick-no, pick-either, either}
+use Rattle.readers.proofs.Choice.{pick-yes, pick-no, pick-either, either, and-both}
 use Rattle.readers.specs.Layout.{Kind, fixed, leb128, Role, reference, typeReference, sibling, index, absolute, Token, link, expression}
 use Rattle.readers.specs.Tokens.{Use, plain, as′, numberAs, tokenOf}
 use Rattle.readers.specs.Operations.{Codes}
@@ -19,11 +19,6 @@ use Rattle.rewriting.specs.inner.Emission.{lebForm}
 use Rattle.rewriting.proofs.map_pass.Exact.{useOk}
 
 -- ---- Bools
-
-pub and-both : (a b : Bool) → T (a and b) → T a × T b
-unfolding _and_
-and-both true b h = (tt, h)
-and-both false b h = absurd h
 
 or-last : (a b : Bool) → T (a or b) → T (not a) → T b
 unfolding _or_

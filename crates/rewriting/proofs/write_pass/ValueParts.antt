@@ -47,19 +47,18 @@ between-join s a m z h k =
     ∙ sym (take-add (m - a) (z - m) (drop a s))
     ∙ ap (λ n. take n (drop a s)) (let j : (m - a) + (z - m) ≡ z - a = omega arith in j)
 
-module _ (lists : Lists) (map : List Place) (depth : ℕ) where
-  pub next-last : (n : ℕ) → orNext lists map depth n 0 ≡ n
-  unfolding orNext
-  next-last n =
-      ⊎-elim (λ t. pick-yes _ _ _ t ∙ sym (eqb-yes {a = n} {b = 0} t)) (λ t. pick-no _ _ _ t) (either (eqb n 0))
+pub next-last : (n : ℕ) → orNext n 0 ≡ n
+unfolding orNext
+next-last n = ⊎-elim (λ t. pick-yes _ _ _ t ∙ sym (eqb-yes {a = n} {b = 0} t)) (λ t. pick-no _ _ _ t) (either (eqb n 0))
 
+module _ (lists : Lists) (map : List Place) (depth : ℕ) where
   pub one-refusal : (v : Read) → readsRefusal lists map depth (v ∷ []) ≡ piecesRefusal lists map depth (v .pieces)
   unfolding readsRefusal
   one-refusal v = next-last (piecesRefusal lists map depth (v .pieces))
 
   pub copied-refusal : (f : Read) (l : List ℕ) → f .pieces ≡ verbatim l ∷ [] → (rs : List Read) → readsRefusal lists map depth (f ∷ rs) ≡ readsRefusal lists map depth rs
   unfolding readsRefusal piecesRefusal pieceRefusal orNext pick
-  copied-refusal f l h rs = ap (λ ps. orNext lists map depth (piecesRefusal lists map depth ps) (readsRefusal lists map depth rs)) h
+  copied-refusal f l h rs = ap (λ ps. orNext (piecesRefusal lists map depth ps) (readsRefusal lists map depth rs)) h
 
 pub one-written : (f : Patch) (v : Read) → writeAll false (patchAll f (v ∷ [])) ≡ bytesOf false (patchPieces f (v .pieces))
 unfolding writeAll patchAll patchRead

@@ -2,15 +2,15 @@
 use mathlib.Core.Path.{_≡_}
 use Prim.Native.Nat.{ℕ, _+_, _≤_, _<_}
 use mathlib.Core.Bool.{Bool, true, false}
-use mathlib.Core.List.{List, [], _++_}
+use mathlib.Core.List.{List, _++_}
 use mathlib.Core.Option.{Option, none, some}
 use lib.ListN.{length, drop}
 use lib.Dec.{eqb}
 use Rattle.readers.specs.Choice.{pick, _or_}
 use Rattle.readers.specs.Codes.{«DW_FORM_GNU_str_index», «DW_FORM_loclistx», «DW_FORM_ref_udata», «DW_FORM_rnglistx», «DW_FORM_strx»}
-use Rattle.readers.specs.Layout.{Encoded}
+use Rattle.readers.specs.Layout.{Encoded, fits}
 use Rattle.rewriting.specs.inner.Written.{ListHeld}
-use Rattle.rewriting.specs.Rewriting.{Lists, noLists, fits, isSome, orSelf}
+use Rattle.rewriting.specs.Rewriting.{Lists, isSome, orSelf}
 use Rattle.rewriting.specs.declared.emit_entry.Emitted.{Emitted}
 use Rattle.rewriting.specs.declared.emit_entry.Emitted.the-variants.{To, Refused}
 use Rattle.rewriting.specs.declared.lists.ListCount.{ListCount}
@@ -40,13 +40,9 @@ unfoldable pub Wide : Bool → ℕ → Type 0
 Wide true w = (0 < w) × (w ≤ 10)
 Wide false w = w ≤ 8
 
--- whether a number can be written so, as every item is asked
-unfoldable pub holds : Encoded → ℕ → Bool
-holds e v = fits noLists [] 0 e v
-
 -- 9 for a number that does not fit
 unfoldable pub numberRefusal : Encoded → ℕ → ℕ
-numberRefusal e v = pick (holds e v) 0 9
+numberRefusal e v = pick (fits e v) 0 9
 
 -- 8 where there is no new offset
 unfoldable pub offsetRefusal : Encoded → ℕ → Option ℕ → ℕ

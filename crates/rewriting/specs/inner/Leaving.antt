@@ -4,25 +4,25 @@ use Prim.Native.Nat.{ℕ, _/_, _≤_}
 use mathlib.Core.Bool.{Bool, true, false}
 use mathlib.Core.List.{List, []}
 use mathlib.Core.Option.{some}
-use lib.ListN.{length, take}
-use lib.Dec.{leb, eqb}
-use Rattle.readers.specs.Choice.{pick, _and_, zeros}
+use lib.ListN.{length}
+use lib.Dec.{eqb}
+use Rattle.readers.specs.Choice.{pick, zeros}
 use Rattle.readers.specs.Abbreviations.{Placed, abbreviationsOf, indexOf}
 use Rattle.readers.specs.Header.{headerOf}
 use Rattle.readers.specs.declared.header.UnitHeader.{UnitHeader}
 use Rattle.readers.specs.declared.header.HeaderRead.{HeaderRead}
 use Rattle.readers.specs.declared.header.HeaderRead.the-variants.{Unit as Header′, Empty, Refused as NoHeader}
-use Rattle.marking.specs.Analysis.{Sections, Rooms, EntryRow, analysed, analysisOf}
+use Rattle.marking.specs.Analysis.{Sections, Rooms, rooms, EntryRow, analysed, analysisOf}
 use Rattle.marking.specs.Columns.{padTo, column, parentsIn, indexAfter}
 use Rattle.marking.specs.Marks.{keptCount}
 use Rattle.marking.specs.Resolution.{marksIn, unitMarks}
 use Rattle.marking.specs.declared.units.UnitMarks.{UnitMarks}
 use Rattle.marking.specs.declared.units.UnitMarks.the-variants.{Marked, Refused as NotMarked}
 use Rattle.rewriting.specs.Places.{keptFrom}
-use Rattle.rewriting.specs.Indices.{countOf}
-use Rattle.rewriting.specs.Rewriting.{Unit as Unit′, itemsIn, Lists, Room, Collected, untouched, rewritten, refused, noLists, marksCollected}
+use Rattle.rewriting.specs.Rewriting.{Unit as Unit′, itemsIn, Lists, Room, noLists, listsFit, marksCollected}
+use Rattle.rewriting.specs.Rewriting.{Collected, untouched, rewritten, refused}
 use Rattle.rewriting.specs.inner.Emission.{ListsLent}
-use Rattle.rewriting.specs.Outputs.{listCount, answerFor, mapFor, outputFor, listOr, listFor, rangesIn, locationsIn, stringsIn}
+use Rattle.rewriting.specs.Outputs.{roomBy, listCount, answerFor, mapFor, outputFor, listOr, listFor, rangesIn, locationsIn, stringsIn}
 use Rattle.rewriting.specs.declared.collect.Listed.{Listed}
 use Rattle.rewriting.specs.declared.collect.Listed.the-variants.{Made, Short}
 use Rattle.rewriting.specs.declared.collect.Collected.{Collected as Answer}
@@ -77,10 +77,6 @@ pub record MarkedTables (x : Sections) (tables : Rooms) (section : List ℕ) (ta
 
 -- ---- a unit whose entries were marked
 
--- the first unit of a section
-abbrev pub ownUnit : UnitHeader → List ℕ → List Placed → Unit′
-ownUnit h section ds = record { header = h; bytes = take (h .end) section; declared = ds }
-
 -- the tables that marking leaves, and its counts
 pub record Tabled (x : Sections) (tables : Rooms) (section : List ℕ) (h : UnitHeader) (ds : List Placed) (rows : List EntryRow)
     (abbreviations index parents ends marks : List ℕ) (entries kept : ℕ) : Type 0 where
@@ -109,19 +105,18 @@ markedOf x room typeUnits u rows = marksCollected x room typeUnits u (marksIn ro
 
 -- ---- its lists
 
-unfoldable pub haveRoom : Lists → ℕ → ℕ → ℕ → Bool
-haveRoom l ranges locations strings =
-    leb (countOf (l .ranges)) (ranges / 8) and leb (countOf (l .locations)) (locations / 8)
-    and leb (countOf (l .strings)) (strings / 8)
+-- what there is room for, by the lengths of the lists' slices
+abbrev pub listRoom : ℕ → ℕ → ℕ → Room
+listRoom ranges locations strings = roomBy (rooms 0 0) 0 ranges locations strings 0
 
 pub record ListsAnswer (l : Lists) (ranges locations strings : ℕ) (r : Listed) (ranges′ locations′ strings′ : List ℕ) : Type 0 where
-  pub short : haveRoom l ranges locations strings ≡ false → r ≡ Short
-  pub made : haveRoom l ranges locations strings ≡ true → r ≡ Made (listCount (l .ranges)) (listCount (l .locations)) (listCount (l .strings))
-  pub lent : haveRoom l ranges locations strings ≡ true
+  pub short : listsFit (listRoom ranges locations strings) l ≡ false → r ≡ Short
+  pub made : listsFit (listRoom ranges locations strings) l ≡ true → r ≡ Made (listCount (l .ranges)) (listCount (l .locations)) (listCount (l .strings))
+  pub lent : listsFit (listRoom ranges locations strings) l ≡ true
       → ListsLent l ranges′ (listCount (l .ranges)) locations′ (listCount (l .locations)) strings′ (listCount (l .strings))
-  pub ranges-left : haveRoom l ranges locations strings ≡ true → ranges′ ≡ listOr ranges (l .ranges)
-  pub locations-left : haveRoom l ranges locations strings ≡ true → locations′ ≡ listOr locations (l .locations)
-  pub strings-left : haveRoom l ranges locations strings ≡ true → strings′ ≡ listOr strings (l .strings)
+  pub ranges-left : listsFit (listRoom ranges locations strings) l ≡ true → ranges′ ≡ listOr ranges (l .ranges)
+  pub locations-left : listsFit (listRoom ranges locations strings) l ≡ true → locations′ ≡ listOr locations (l .locations)
+  pub strings-left : listsFit (listRoom ranges locations strings) l ≡ true → strings′ ≡ listOr strings (l .strings)
 
 -- ---- its map and output
 

@@ -1,62 +1,20 @@
--- `before` meets its contract: the halving of all places ends where that of those from low to high does.
-use mathlib.Core.Path.{refl}
-use Prim.Native.Nat.{_-_}
+-- `before` meets its contract.
+use mathlib.Core.Path.{_≡_, ap, _∙_}
+use Prim.Native.Nat.{ℕ, _-_}
 use native.Mathlib.Omega.{arith}
 use borrow.Author.Needs.{needs}
-use Rattle.rewriting.specs.Written.{oldAt}
-use Rattle.rewriting.proofs.list_pass.Ranks.{Halving, halving-start, halving-right, halving-left, halving-done}
+use Rattle.rewriting.specs.Written.{halved}
 use Rattle.rewriting.proofs.map.before.Statement.{statement}
 use Rattle.rewriting.proofs.map.before.Tie as tie
 
-abbrev Inv-loop : tie.InvT-loop
-Inv-loop map places old low₀ high₀ low high = Halving (oldAt map) (old .0) places 0 places low high
+whole : (at : ℕ → ℕ) (v n r : ℕ) → r ≡ halved (n - 0) at v 0 n → r ≡ halved n at v 0 n
+whole at v n r q = q ∙ ap (λ (k : ℕ). halved k at v 0 n) (let e : n - 0 ≡ n = omega arith in e)
 
-abbrev μ-loop : tie.MeasureT-loop
-μ-loop map places old low₀ high₀ low high = high - low
+first-row-requires : tie.Need-first-row-requires
+first-row-requires c κs = search needs
 
-loop-holds : tie.Need-loop-holds Inv-loop μ-loop
-loop-holds c = halving-start _ _ _ _ _ (omega arith)
-
-sub-middle : tie.Need-sub-middle Inv-loop μ-loop
-sub-middle c = omega arith
-
-add-middle : tie.Need-add-middle Inv-loop μ-loop
-add-middle c = omega arith
-
-old-at-requires : tie.Need-old-at-requires Inv-loop μ-loop
-old-at-requires c κs = search needs
-
-add-low : tie.Need-add-low Inv-loop μ-loop
-add-low c = omega arith
-
-loop-less : tie.Need-loop-less Inv-loop μ-loop
-loop-less c = omega arith
-
-loop-again : tie.Need-loop-again Inv-loop μ-loop
-loop-again c = halving-right _ _ _ _ _ _ _ _ _ (c .before .before .before .before .before .loop .inv) (omega arith) refl (c .before .before .before .old-at .ensures) (c .if1 .taken)
-
-loop-less-2 : tie.Need-loop-less-2 Inv-loop μ-loop
-loop-less-2 c = omega arith
-
-loop-again-2 : tie.Need-loop-again-2 Inv-loop μ-loop
-loop-again-2 c = halving-left _ _ _ _ _ _ _ _ _ (c .before .before .before .before .before .loop .inv) (omega arith) refl (c .before .before .before .old-at .ensures) (c .if1 .left)
-
-returns : tie.Need-returns Inv-loop μ-loop
-returns c = halving-done _ _ _ _ _ _ _ (c .before .loop .inv) (c .loop-test .left)
+returns : tie.Need-returns
+returns c = whole _ _ _ _ (c .first-row .ensures .0)
 
 pub before-spec : {M : Type 1} → statement M
-before-spec =
-    tie.close
-    (tie.spec
-    Inv-loop
-    μ-loop
-    loop-holds
-    sub-middle
-    add-middle
-    old-at-requires
-    add-low
-    loop-less
-    loop-again
-    loop-less-2
-    loop-again-2
-    returns)
+before-spec = tie.close (tie.spec first-row-requires returns)
