@@ -1,15 +1,15 @@
 -- The map: a place for each kept item, in the order of old offsets and of new ones, and where an old offset leads to.
 use Prim.Native.Nat.{ℕ, zero, suc, _+_, _≤_, _<_}
-use mathlib.Core.Path.{_≡_, refl, sym, ap, _∙_, subst}
+use mathlib.Core.Path.{_≡_, refl, sym, ap, _∙_}
 use mathlib.Core.Bool.{Bool, true, false}
-use mathlib.Core.List.{List, [], _∷_, _++_}
-use mathlib.Core.Logic.{_⊎_, inr, ⊎-elim, _↔_}
+use mathlib.Core.List.{List, [], _∷_}
+use mathlib.Core.Logic.{_⊎_, inr, ⊎-elim}
 use mathlib.Core.Option.{Option, some}
 use native.Mathlib.Omega.{arith}
 use native.Mathlib.Nat.{add-zero, add-assoc}
 use lib.ListN.{length, getD, take}
 use lib.Dec.{eqb}
-use mir.Facts.{eqb-yes, yes-eqb, no-eqb}
+use mir.Facts.{yes-eqb, no-eqb}
 use Rattle.readers.proofs.Choice.{pick-either, pick-yes, pick-no}
 use Rattle.marking.specs.Marks.{isKept}
 use Rattle.readers.specs.Stream.{Item, entry, terminator}
@@ -18,9 +18,8 @@ use Rattle.rewriting.specs.Rewriting.{isSome}
 use Rattle.marking.specs.Resolution.{Ascending as From}
 use Rattle.marking.specs.Members.{Member, here, there}
 use Rattle.rewriting.specs.Ascending.{Ascending}
-use Rattle.laws.specs.inner.Maps.{MappedTo, Sized, KeptSized, NewPlace}
+use Rattle.laws.specs.inner.Maps.{MappedTo, Sized, KeptSized}
 use Rattle.laws.specs.Thinned.{newOffsets}
-use Rattle.laws.specs.ValueRefusals.{Split}
 use Rattle.marking.proofs.Members.{nothing-in, in-cases, from-member}
 use Rattle.rewriting.proofs.list_pass.Sorted.{from-less}
 
@@ -30,14 +29,6 @@ pub places-length : (n : ℕ) (xs : List NestedItem) → length (placesFrom n xs
 unfolding placesFrom
 places-length n [] = refl
 places-length n (x ∷ xs) = ap suc (places-length (n + sizeOf (x .item)) xs)
-
--- the places of some items, and then those of the others
-pub places-append : (n : ℕ) (xs ys : List NestedItem) → placesFrom n (xs ++ ys) ≡ placesFrom n xs ++ placesFrom (n + sizeFrom xs) ys
-unfolding placesFrom sizeFrom
-places-append n [] ys = ap (λ (k : ℕ). placesFrom k ys) (sym (add-zero n))
-places-append n (x ∷ xs) ys =
-    ap (λ (l : List Place). record { old = offsetOf (x .item); new = n; depth = x .depth } ∷ l)
-    (places-append (n + sizeOf (x .item)) xs ys ∙ ap (λ (k : ℕ). placesFrom (n + sizeOf (x .item)) xs ++ placesFrom k ys) (add-assoc n (sizeOf (x .item)) (sizeFrom xs)))
 
 -- the new offsets are n, n and the first size, and so on
 pub new-at : (n : ℕ) (xs : List NestedItem) (i : ℕ) → i < length xs → getD (newOffsets (placesFrom n xs)) i 0 ≡ n + sizeFrom (take i xs)
@@ -89,14 +80,6 @@ news-ascending n xs h = from-less 0 n (newOffsets (placesFrom n xs)) (omega arit
 pub mapped-on : (p : Place) (map : List Place) (v n : ℕ) → MappedTo map v n → MappedTo (p ∷ map) v n
 mapped-on p map v n l = record { place = l .place; within = there (l .within); old = l .old; new = l .new }
 
-pub mapped-out : (map : List Place) (v n : ℕ) → newOf map v ≡ some n → MappedTo map v n
-unfolding newOf
-mapped-out [] v n = λ e. let z : _≡_ {A = ℕ} 0 1 = cc in absurd (omega arith)
-mapped-out (p ∷ ps) v n =
-    pick-either (λ (o : Option ℕ). o ≡ some n → MappedTo (p ∷ ps) v n) (eqb (p .old) v) (some (p .new)) (newOf ps v)
-    (λ t e. record { place = p; within = here refl; old = eqb-yes {a = p .old} {b = v} t; new = cc })
-    (λ t e. mapped-on p ps v n (mapped-out ps v n e))
-
 old-member : (p : Place) (map : List Place) → Member p map → Member (p .old) (oldOffsets map)
 unfolding oldOffsets
 old-member p [] m = absurd (nothing-in p m)
@@ -116,42 +99,8 @@ new-of low p (q ∷ ps) f (there m) =
 pub mapped-in : (map : List Place) (v n : ℕ) → Ascending (oldOffsets map) → MappedTo map v n → newOf map v ≡ some n
 mapped-in map v n f l = ap (newOf map) (sym (l .old)) ∙ new-of 0 (l .place) map f (l .within) ∙ ap (λ (x : ℕ). some x) (l .new)
 
-pub new-leads : (map : List Place) (v n : ℕ) → Ascending (oldOffsets map) → (newOf map v ≡ some n) ↔ MappedTo map v n
-new-leads map v n f = (mapped-out map v n, mapped-in map v n f)
-
 -- ---- every kept item has its place
 
-mapped-at : (n : ℕ) (before : List NestedItem) (x : NestedItem) (after : List NestedItem)
-    → MappedTo (placesFrom n (before ++ (x ∷ after))) (offsetOf (x .item)) (n + sizeFrom before)
-unfolding placesFrom sizeFrom
-mapped-at n [] x after =
-    record { place = record { old = offsetOf (x .item); new = n; depth = x .depth }; within = here refl; old = refl; new = sym (add-zero n) }
-mapped-at n (y ∷ before) x after =
-    let l = mapped-at (n + sizeOf (y .item)) before x after in
-    record { place = l .place; within = there (l .within); old = l .old; new = l .new ∙ add-assoc n (sizeOf (y .item)) (sizeFrom before) }
-
--- an item's new offset is n and the sizes of the kept items before it
-pub new-after : (n : ℕ) (before : List NestedItem) (x : NestedItem) (after : List NestedItem) → Ascending (oldOffsets (placesFrom n (before ++ (x ∷ after))))
-    → newOf (placesFrom n (before ++ (x ∷ after))) (offsetOf (x .item)) ≡ some (n + sizeFrom before)
-new-after n before x after f = mapped-in (placesFrom n (before ++ (x ∷ after))) (offsetOf (x .item)) (n + sizeFrom before) f (mapped-at n before x after)
-
-pub split-at : (xs : List NestedItem) (x : NestedItem) → Member x xs → Split xs x
-split-at [] x m = absurd (nothing-in x m)
-split-at (y ∷ xs) x (here e) = record { before = []; after = xs; whole = ap (λ (z : NestedItem). z ∷ xs) (sym e) }
-split-at (y ∷ xs) x (there m) =
-    let s = split-at xs x m in
-    record { before = y ∷ s .before; after = s .after; whole = ap (λ (l : List NestedItem). y ∷ l) (s .whole) }
-
-pub new-place : (n : ℕ) (kept : List NestedItem) (x : NestedItem) → Ascending (oldOffsets (placesFrom n kept)) → Member x kept → NewPlace n kept x
-new-place n kept x f m =
-    let s = split-at kept x m in
-    record {
-      split = s;
-      new = subst (λ (l : List NestedItem). Ascending (oldOffsets (placesFrom n l)) → newOf (placesFrom n l) (offsetOf (x .item)) ≡ some (n + sizeFrom (s .before))) (sym (s .whole))
-          (new-after n (s .before) x (s .after)) f;
-    }
-
--- in a map of any order it has some
 pub has-new : (n : ℕ) (kept : List NestedItem) (x : NestedItem) → Member x kept → isSome (newOf (placesFrom n kept) (offsetOf (x .item))) ≡ true
 unfolding placesFrom newOf isSome
 has-new n [] x m = absurd (nothing-in x m)
