@@ -176,8 +176,8 @@ module _ (x : Sections) (room : Room) (typeUnits : Bool) (section : List ℕ) (w
 
   -- what holds of the header, the declarations and the rows above holds of any that are read
   pub of-read : (P : UnitHeader → List Placed → List EntryRow → Type 0) → P (it .header) (it .declared) (it .rows)
-      → (h : UnitHeader) (ds : List Placed) (rows : List EntryRow) → headerOf section ≡ Header′ h → abbreviationsOf (x .abbreviations) (h .abbreviations) ≡ some ds
-      → analysisOf x section (room .tables) ≡ analysed rows → P h ds rows
+      → (h : UnitHeader) (ds : List Placed) (rows : List EntryRow) → headerOf section ≡ Header′ h
+      → abbreviationsOf (x .abbreviations) (h .abbreviations) ≡ some ds → analysisOf x section (room .tables) ≡ analysed rows → P h ds rows
   of-read P p h ds rows q d a =
       let f : it .header ≡ h = same-header h q in
       let z : some (it .declared) ≡ some ds = sym (accepted .declared) ∙ ap (λ (g : UnitHeader). abbreviationsOf (x .abbreviations) (g .abbreviations)) f ∙ d in

@@ -347,7 +347,7 @@ module _ (x : Sections) (room : Room) (typeUnits : Bool) (section : List ℕ) (w
         entries-are = it x room typeUnits section w answer .entries-is ∙ marks-each (it x room typeUnits section w answer .rows);
         count = count-law x room typeUnits section w answer;
         dead = dead-law x room typeUnits section w answer;
-        header-again = again-header x room typeUnits section w answer (it x room typeUnits section w answer .header) (it x room typeUnits section w answer .accepted .header);
+        header-again = again-header x room typeUnits section w answer _ (it x room typeUnits section w answer .accepted .header);
         header-bytes = header-bytes-law x room typeUnits section w answer;
         whole = ap (λ (z : Items). z .1) (again-law x room typeUnits section w answer .items);
         as-many = ap length new-items ∙ moved-length first items;
