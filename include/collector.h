@@ -18,7 +18,8 @@
  *   counts         COLLECTOR_COUNTS bytes: see below
  * Bytes short of a whole place or number count for nothing and end as zeros. Enough for every unit: as many bytes of
  * out as the section has; 12 bytes of map for each byte of the section (at most two places an entry); 8 bytes of a
- * list for each index of its kind.
+ * list for each index of its kind. A call writes every byte of what it is lent here, and of the host's tables: time
+ * goes by the lengths that are lent too.
  *
  * The answer is a refusal's number, 1 to 14, or one of the numbers below. Of an accepted answer `counts` holds seven
  * numbers of eight big-endian bytes: entries, kept entries, map places, bytes of the new unit (these two 0 where
@@ -29,7 +30,8 @@
  * Stack: collector_collect takes 211 KiB, most of it its tables; collector_collect_lent some KiB; and both 208 bytes
  * more for each level of DW_OP_entry_value operations that stand one in the other. A level takes at least two bytes of
  * the unit or of a location list, so 104 bytes of stack for each byte of the longer of these two sections, and 256
- * KiB, are enough for every input. Nothing else is recursive, and no memory is taken from anywhere else.
+ * KiB, are enough for every input. Nothing else is recursive, and no memory is taken from anywhere else. The archive
+ * has no data that is written, so threads may call at the same time, each with slices of its own to be written.
  *
  * Refusals: 1 header cut short, 2 a header value outside the domain, 3 abbreviations, 4 unreadable entry, 5 unreadable
  * list or expression, 6 the address table fails, 7 a section-absolute reference, 8 a reference whose target is not

@@ -180,8 +180,9 @@ fn run() -> io::Result<i32> {
 
 fn main() {
     panic::set_hook(Box::new(|_| ()));
-    // Entry values may nest as deep as a bundle has bytes, and the walk is recursive.
-    let child = std::thread::Builder::new().stack_size(1 << 30).spawn(run).expect("a thread");
+    // Entry values may nest as deep as a bundle has bytes, and the walk is recursive. STACK names another size.
+    let size = std::env::var("STACK").ok().and_then(|text| number(&text)).unwrap_or(1 << 30);
+    let child = std::thread::Builder::new().stack_size(size as usize).spawn(run).expect("a thread");
     match child.join() {
         Ok(Ok(code)) => std::process::exit(code),
         Ok(Err(e)) => {

@@ -1,6 +1,7 @@
 -- The numbers of a kept entry's attributes, read again at its new place, by the forms that document 01, "Rewriting", names.
 use mathlib.Core.Path.{_≡_}
 use Prim.Native.Nat.{ℕ, _≤_, _<_}
+use mathlib.Core.Bool.{Bool}
 use mathlib.Core.List.{List}
 use mathlib.Core.Logic.{_⊎_}
 use mathlib.Core.Option.{none, some}
@@ -14,10 +15,10 @@ use Rattle.marking.specs.Analysis.{Sections, valuesOfEntry}
 use Rattle.marking.specs.Members.{Nth}
 use Rattle.rewriting.specs.Places.{NestedItem, Place}
 use Rattle.laws.specs.Moved.{movedEntry}
-use Rattle.rewriting.specs.Rewriting.{Unit as Unit′, itemsIn, Lists, listAt}
+use Rattle.rewriting.specs.Rewriting.{Unit as Unit′, unitOf, itemsIn, Lists, listAt, Rewrite}
 use Rattle.readers.specs.Forms.{listForm}
 use Rattle.laws.specs.AttributesAgain.{payload}
-use Rattle.laws.specs.Thinned.{Pairwise, LandsOn, FirstFrom}
+use Rattle.laws.specs.Thinned.{Pairwise, LandsOn, FirstFrom, thinnedOf, Thinned}
 
 -- the form found, which is another than the declared one where that is DW_FORM_indirect
 abbrev pub formOf : Valued → ℕ
@@ -57,3 +58,10 @@ module _ (x : Sections) (u new : Unit′) (lists : Lists) (map : List Place) (ke
     pub each : length (valuesOfEntry (u .header .encoding) x (u .bytes) y) ≡ length (specsFrom (x .abbreviations) (y .declaration .attributes .at))
     pub attributes : Pairwise (AttributeByForm (s .depth)) (valuesOfEntry (u .header .encoding) x (u .bytes) y)
         (valuesOfEntry (new .header .encoding) x (new .bytes) (movedEntry at y))
+
+-- every kept entry of a thinned unit (Thinned.antt)
+pub record ThinnedByForm (x : Sections) (typeUnits : Bool) (section : List ℕ) (w : Rewrite) : Type 1 where
+  pub thinned : Thinned x typeUnits section w
+  pub entries : (m : ℕ) (s : NestedItem) (y : Entry) → Nth s m (thinned .kept) → s .item ≡ entry y
+      → EntryByForm x (unitOf (thinned .header) section (thinned .declared)) (thinnedOf (thinned .header) (w .output) (thinned .declared))
+      (w .lists) (w .map) (thinned .kept) m s y

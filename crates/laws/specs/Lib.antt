@@ -10,6 +10,7 @@ pub mod Moved
 pub mod LeftOut
 pub mod AttributesAgain
 pub mod ByForm
+pub mod FiveEntries
 pub mod HostReads
 pub mod MarkingSteps
 pub mod ValueRefusals

@@ -224,6 +224,11 @@ pub record Thinned (x : Sections) (typeUnits : Bool) (section : List ℕ) (w : R
   pub lists : (k : ℕ) → k < 3 → (xs : List ℕ) → listAt (w .lists) k ≡ some xs
       → IndexList x (unitOf header section declared) kept k xs
 
+-- where a number of it lands
+module _ (x : Sections) (typeUnits : Bool) (section : List ℕ) (w : Rewrite) (t : Thinned x typeUnits section w) where
+  abbrev pub Lands : ℕ → ℕ → Type 0
+  Lands = LandsOn x (unitOf (t .header) section (t .declared)) (thinnedOf (t .header) (w .output) (t .declared)) (w .lists) (w .map) (t .kept)
+
 -- ---- an untouched unit
 
 -- the lists of a unit with entries

@@ -9,7 +9,7 @@ use Rattle.readers.specs.Stream.{itemsFrom}
 use Rattle.readers.specs.declared.header.UnitHeader.{UnitHeader}
 use Rattle.marking.specs.Analysis.{Sections, EntryRow, Analysed, analysed, refused as notAnalysed, headerAnalysed, analysisOf}
 use Rattle.marking.proofs.EachRow.{items-whole}
-use Rattle.rewriting.specs.Rewriting.{Room, unitOf, Unit as Unit′, itemsIn, Lists, noLists, listsOf, refusalFrom, unitBytes, Rewrite, Collected, untouched, rewritten, refused, listsFit, orRefused, rewriteOf, marksCollected, rowsCollected, analysedCollected, declaredCollected, headerCollected, collectOf}
+use Rattle.rewriting.specs.Rewriting.{Room, unitOf, Unit as Unit′, Lists, noLists, listsOf, refusalFrom, unitBytes, Rewrite, Collected, untouched, rewritten, refused, listsFit, orRefused, rewriteOf, marksCollected, rowsCollected, analysedCollected, declaredCollected, headerCollected, collectOf}
 use Rattle.rewriting.proofs.write_pass.HeaderAgain.{HeaderLaw, header-laws}
 use Rattle.rewriting.proofs.whole.AcceptedUnits.{Accepted}
 use mathlib.Core.Option.{Option, none, some}
@@ -25,7 +25,8 @@ use Rattle.marking.specs.Below.{count}
 use Rattle.marking.specs.Marks.{isKept, keptCount}
 use Rattle.marking.specs.Resolution.{marksIn}
 use Rattle.marking.proofs.UnitMarkings.{marks-each}
-use Rattle.rewriting.specs.Places.{NestedItem, keptFrom, Place, placesFrom, sizeFrom}
+use Rattle.rewriting.specs.Places.{NestedItem, Place, placesFrom, sizeFrom}
+use Rattle.laws.specs.LeftOut.{survivorsIn}
 
 module _ (x : Sections) (room : Room) (section : List ℕ) (h : UnitHeader) (ds : List Placed) (rows : List EntryRow) (a : Accepted x room section h ds rows) where
   -- the items end at the unit's end
@@ -48,10 +49,6 @@ unfolding keptCount
 kept-most marks = count-most (length marks) (isKept marks)
 
 -- ---- what is accepted
-
--- what is kept of it, by the marks of its rows
-abbrev pub survivorsIn : Sections → Unit′ → List EntryRow → List NestedItem
-survivorsIn x u rows = keptFrom (marksIn rows) 0 [] (itemsIn x u)
 
 module _ (x : Sections) (room : Room) (typeUnits : Bool) (section : List ℕ) where
   -- rewritten: an entry is dead

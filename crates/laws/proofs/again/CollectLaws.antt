@@ -12,9 +12,10 @@ use lib.Dec.{T}
 use Rattle.readers.specs.Choice.{pick}
 use Rattle.readers.proofs.Choice.{pick-either}
 use Rattle.readers.specs.Numbers.{fixedBytes}
-use Rattle.readers.specs.Abbreviations.{declaredIn}
+use Rattle.readers.specs.Abbreviations.{Placed, declaredIn, abbreviationsOf}
 use Rattle.readers.specs.Header.{headerOf}
 use Rattle.readers.specs.Stream.{Item, Items}
+use Rattle.readers.specs.declared.header.UnitHeader.{UnitHeader}
 use Rattle.readers.specs.declared.header.HeaderRead.the-variants.{Unit as Header′}
 use Rattle.marking.specs.Below.{Number}
 use Rattle.marking.specs.Survivors.{Survivor}
@@ -25,7 +26,7 @@ use Rattle.rewriting.specs.Places.{NestedItem, Place, placesFrom, sizeFrom, old
 use Rattle.rewriting.specs.Indices.{insertAll, rankIn}
 use Rattle.marking.specs.Members.{Member}
 use Rattle.rewriting.specs.Ascending.{Ascending}
-use Rattle.laws.specs.LeftOut.{leftFrom}
+use Rattle.laws.specs.LeftOut.{survivorsIn, leftFrom}
 use Rattle.laws.specs.inner.Moved.{movedFrom}
 use Rattle.laws.specs.Ancestors.{ancestorsFrom}
 use Rattle.laws.specs.inner.Ancestors.{keptAncestors, AllMapTo}
@@ -41,7 +42,7 @@ use Rattle.laws.proofs.again.UnitAgain.{ReadAgain, unit-again}
 use Rattle.rewriting.proofs.write_pass.HeaderAgain.{HeaderLaw}
 use Rattle.marking.proofs.UnitMarkings.{marks-each}
 use Rattle.rewriting.proofs.whole.AcceptedUnits.{Accepted}
-use Rattle.laws.proofs.again.Accepted.{accepted-whole, accepted-header, survivorsIn, WasRewritten, WasUntouched, was-rewritten, was-untouched, was-empty}
+use Rattle.laws.proofs.again.Accepted.{accepted-whole, accepted-header, WasRewritten, WasUntouched, was-rewritten, was-untouched, was-empty}
 use Rattle.laws.proofs.survivors.ClosedMarks.{accepted-kept, accepted-count, accepted-marks, accepted-closed}
 use Rattle.rewriting.proofs.kept_pass.ReadableItems.{accepted-readable}
 use Rattle.laws.proofs.again.AncestorsAgain.{ancestors-again}
@@ -160,16 +161,34 @@ module _ (x : Sections) (room : Room) (typeUnits : Bool) (section : List ℕ) (w
       (accepted-whole x room section (it .header) (it .declared) (it .rows) accepted) (header-law .inside))
       ∙ ap (λ (n : ℕ). n + sizeFrom (leftFrom marks 0 [] (itemsIn x unit))) (sym (again-law .size))
 
-  -- its header is the old one, but for where the unit ends
-  pub again-header : headerOf (w .output) ≡ Header′ (withEnd (it .header) (length (w .output)))
+  header-again : headerOf (w .output) ≡ Header′ (withEnd (it .header) (length (w .output)))
   unfolding unitBytes
-  again-header =
+  header-again =
       header-law .again (w .output) (bytesFrom x unit (w .lists) (w .map) kept)
       (it .output-is
       ∙ append-assoc (fixedBytes (it .header .encoding .«big_endian») 4 (start + sizeFrom kept - 4)) (drop 4 (take start (unit .bytes))) (bytesFrom x unit (w .lists) (w .map) kept)
       ∙ ap₂ (λ (b : Bool) (n : ℕ). fixedBytes b 4 n ++ (drop 4 (take start (unit .bytes)) ++ bytesFrom x unit (w .lists) (w .map) kept))
       (header-law .little) (let q : start + sizeFrom kept - 4 ≡ length (w .output) - 4 = omega (arith, again-law .size) in q))
       (omega (arith, bytes-law, header-law .short))
+
+  same-header : (h : UnitHeader) → headerOf section ≡ Header′ h → it .header ≡ h
+  same-header h q = let z : Header′ (it .header) ≡ Header′ h = sym (accepted .header) ∙ q in cc
+
+  -- what holds of the header, the declarations and the rows above holds of any that are read
+  pub of-read : (P : UnitHeader → List Placed → List EntryRow → Type 0) → P (it .header) (it .declared) (it .rows)
+      → (h : UnitHeader) (ds : List Placed) (rows : List EntryRow) → headerOf section ≡ Header′ h
+      → abbreviationsOf (x .abbreviations) (h .abbreviations) ≡ some ds → analysisOf x section (room .tables) ≡ analysed rows → P h ds rows
+  of-read P p h ds rows q d a =
+      let f : it .header ≡ h = same-header h q in
+      let z : some (it .declared) ≡ some ds = sym (accepted .declared) ∙ ap (λ (g : UnitHeader). abbreviationsOf (x .abbreviations) (g .abbreviations)) f ∙ d in
+      let e : it .declared ≡ ds = cc in
+      let y : analysed (it .rows) ≡ analysed rows = sym (accepted .analysis) ∙ a in
+      let r : it .rows ≡ rows = cc in
+      subst (λ (g : UnitHeader). P g ds rows) f (subst (λ (l : List Placed). P (it .header) l rows) e (subst (P (it .header) (it .declared)) r p))
+
+  -- its header is the old one, but for where the unit ends
+  pub again-header : (h : UnitHeader) → headerOf section ≡ Header′ h → headerOf (w .output) ≡ Header′ (withEnd h (length (w .output)))
+  again-header h q = subst (λ (g : UnitHeader). headerOf (w .output) ≡ Header′ (withEnd g (length (w .output)))) (same-header h q) header-again
 
   -- ---- the map
 

@@ -18,7 +18,10 @@ use Rattle.readers.proofs.Expression.{expression-law}
 use Rattle.readers.specs.Fields.{size}
 use Rattle.readers.specs.Cursors.{cursor}
 use Rattle.readers.specs.Scan.{Scanned}
-use Rattle.readers.specs.Abbreviations.{declaredIn, attributesFrom}
+use Rattle.readers.specs.Abbreviations.{Placed, declaredIn, attributesFrom, abbreviationsOf}
+use Rattle.readers.specs.Header.{headerOf}
+use Rattle.readers.specs.declared.header.UnitHeader.{UnitHeader}
+use Rattle.readers.specs.declared.header.HeaderRead.the-variants.{Unit as Header′}
 use Rattle.readers.specs.Entries.{attributesLayout, specsLayout, foundLayout, entryLayout, entryFound, stepOfReads, stepAt}
 use Rattle.readers.specs.Stream.{Item, entry, Items}
 use Rattle.readers.specs.declared.cursor.Encoding.{Encoding}
@@ -28,13 +31,15 @@ use Rattle.readers.specs.declared.abbreviations.DeclarationFound.the-variants.{
 use Rattle.readers.specs.declared.entries.Entry.{Entry}
 use Rattle.readers.specs.declared.entries.Step.the-variants.{Entry as Entry′}
 use Rattle.readers.specs.EntryAttributes.{Valued, valuesOf, specsFrom, entryValues}
-use Rattle.marking.specs.Analysis.{Sections, valuesOfEntry}
+use Rattle.marking.specs.Analysis.{Sections, EntryRow, analysed, analysisOf, valuesOfEntry}
 use Rattle.readers.proofs.EntryAttributes.{specs-all}
 use Rattle.rewriting.specs.Places.{NestedItem, offsetOf, sizeOf, Place, placesFrom}
 use Rattle.marking.specs.Members.{Nth, now, later}
 use Rattle.laws.specs.Moved.{movedEntry, movedItem}
 use Rattle.laws.specs.inner.Moved.{movedFrom}
-use Rattle.rewriting.specs.Rewriting.{Unit as Unit′, itemsIn, readsAt, Lists, newValue, bytesFrom, Room, Rewrite, rewritten, collectOf}
+use Rattle.rewriting.specs.Rewriting.{Unit as Unit′, unitOf, itemsIn, readsAt, Lists, newValue, bytesFrom, Room, Rewrite, rewritten, collectOf}
+use Rattle.laws.specs.LeftOut.{survivorsIn}
+use Rattle.laws.specs.Thinned.{thinnedOf}
 use Rattle.laws.specs.AttributesAgain.{SameAttributes, AttributesAgain, EntryAgain}
 use Rattle.rewriting.proofs.kept_pass.DeepReads.{deep-step}
 use Rattle.rewriting.proofs.kept_pass.ItemDepths.{Every, Stands, kept-stand}
@@ -226,8 +231,19 @@ module _ (x : Sections) (room : Room) (typeUnits : Bool) (section : List ℕ) (w
             (ap (drop (p .new)) (p .bytes) ∙ drop-at (p .front) _ (p .new) (p .long));
       }
 
+  pub kept-again : (m : ℕ) (s : NestedItem) (y : Entry) → Nth s m ks → s .item ≡ entry y
+      → EntryAgain (w .lists) (w .map) (o .header .encoding) x (u .bytes) (w .output) (itemsIn x (Laws.again x room typeUnits section w answer)) m s y
+  kept-again m s y i q = entry-again m s y q (placed m s i)
+
   -- "Read again, a rewritten unit is the old tree less its dead entries, with order, nesting and, as document 01 has it, values kept.": the attributes of the m-th kept item, an entry, by the
   -- public reader of attributes at its new place
-  pub attributes-law : (m : ℕ) (s : NestedItem) (y : Entry) → Nth s m ks → s .item ≡ entry y
-      → EntryAgain (w .lists) (w .map) (o .header .encoding) x (u .bytes) (w .output) (itemsIn x (Laws.again x room typeUnits section w answer)) m s y
-  attributes-law m s y i q = entry-again m s y q (placed m s i)
+  pub attributes-law : (h : UnitHeader) (ds : List Placed) (rows : List EntryRow) → headerOf section ≡ Header′ h
+      → abbreviationsOf (x .abbreviations) (h .abbreviations) ≡ some ds → analysisOf x section (room .tables) ≡ analysed rows
+      → (m : ℕ) (s : NestedItem) (y : Entry) → Nth s m (survivorsIn x (unitOf h section ds) rows) → s .item ≡ entry y
+      → EntryAgain (w .lists) (w .map) (h .encoding) x (unitOf h section ds .bytes) (w .output) (itemsIn x (thinnedOf h (w .output) ds)) m s y
+  unfolding itemsIn
+  attributes-law =
+      Laws.of-read x room typeUnits section w answer
+      (λ (h : UnitHeader) (ds : List Placed) (rows : List EntryRow). (m : ℕ) (s : NestedItem) (y : Entry)
+      → Nth s m (survivorsIn x (unitOf h section ds) rows) → s .item ≡ entry y
+      → EntryAgain (w .lists) (w .map) (h .encoding) x (unitOf h section ds .bytes) (w .output) (itemsIn x (thinnedOf h (w .output) ds)) m s y) kept-again

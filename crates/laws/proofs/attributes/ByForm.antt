@@ -19,7 +19,9 @@ use Rattle.readers.proofs.Expression.{expression-law}
 use Rattle.readers.specs.Tokens.{Use, plain, as′}
 use Rattle.readers.specs.Forms.{useOf, valueToken, attributeLayout, listForm}
 use Rattle.readers.specs.Fields.{size, linkedValue, fieldOf}
-use Rattle.readers.specs.Abbreviations.{Placed, declaredIn}
+use Rattle.readers.specs.Abbreviations.{Placed, declaredIn, abbreviationsOf}
+use Rattle.readers.specs.Header.{headerOf}
+use Rattle.readers.specs.declared.header.HeaderRead.the-variants.{Unit as Header′}
 use Rattle.readers.specs.declared.header.UnitHeader.{UnitHeader}
 use Rattle.readers.specs.Entries.{attributeOfReads, asAttribute, attributeAt, attributesLayout, entryLayout, stepAt}
 use Rattle.readers.specs.Stream.{Item, entry}
@@ -31,7 +33,7 @@ use Rattle.readers.specs.declared.attributes.AttributeRead.the-variants.{Read a
 use Rattle.readers.specs.declared.entries.Entry.{Entry}
 use Rattle.readers.specs.declared.entries.Step.the-variants.{Entry as Entry′}
 use Rattle.readers.specs.EntryAttributes.{Valued, valuesOf, specsFrom, entryValues}
-use Rattle.marking.specs.Analysis.{Sections, valuesOfEntry}
+use Rattle.marking.specs.Analysis.{Sections, EntryRow, analysed, analysisOf, valuesOfEntry}
 use Rattle.marking.specs.Members.{Member, here, there, Nth}
 use Rattle.marking.proofs.Members.{nothing-in}
 use Rattle.rewriting.specs.Places.{NestedItem, offsetOf}
@@ -39,8 +41,9 @@ use Rattle.rewriting.specs.Rewriting.{Unit as Unit′, unitOf, itemsIn, readsAt
 use Rattle.readers.proofs.FormKinds.{form-list}
 use Rattle.readers.specs.inner.Forms.{roleList, useList}
 use Rattle.laws.specs.AttributesAgain.{newNumber, useIn, SameAttribute, SameAttributes, EntryAgain}
-use Rattle.laws.specs.Thinned.{Pairwise, Becomes, thinnedOf, Thinned}
-use Rattle.laws.specs.ByForm.{formOf, numberOf, RefersInUnit, AttributeByForm, EntryByForm}
+use Rattle.laws.specs.LeftOut.{survivorsIn}
+use Rattle.laws.specs.Thinned.{Pairwise, Becomes, thinnedOf}
+use Rattle.laws.specs.ByForm.{formOf, numberOf, RefersInUnit, AttributeByForm, EntryByForm, ThinnedByForm}
 use Rattle.rewriting.proofs.write_pass.Expressions.{isExpression}
 use Rattle.rewriting.proofs.write_pass.ValueForms.{own, LinkForm, reference-form, ranges-form, locations-form, strings-form}
 use Rattle.laws.proofs.attributes.ValuesAgain.{same-reader, LinkRead, link-read, ExpressionRead, expression-read, token-known}
@@ -48,7 +51,7 @@ use Rattle.laws.proofs.attributes.AttributesAgain.{Direct, direct-all, 
 use Rattle.rewriting.proofs.kept_pass.ItemDepths.{Stands}
 use Rattle.laws.proofs.thinned.ThinnedItems.{nth-member}
 use Rattle.laws.proofs.again.Rereading.{deep-read}
-use Rattle.laws.proofs.attributes.AttributeLaws.{Headed, headed, PlacedItem, placed, attributes-law}
+use Rattle.laws.proofs.attributes.AttributeLaws.{Headed, headed, PlacedItem, placed, kept-again}
 use Rattle.laws.proofs.thinned.ThinnedLaw.{becomes, thinned-law, of-thinned}
 use Rattle.laws.proofs.again.CollectLaws as Laws
 
@@ -368,12 +371,11 @@ module _ (x : Sections) (room : Room) (typeUnits : Bool) (section : List ℕ) (w
       (ap (λ (i : Item). readIn (en .«big_endian») (expressionIn en) (entryLayout en (x .abbreviations) (declaredIn (u .declared))) (drop (offsetOf i) (u .bytes))) (sym q)
       ∙ deep-read x u (w .lists) (w .map) s (p .could))
 
-  -- THE NUMBERS OF ATTRIBUTES, BY FORM: of the m-th kept item, an entry
-  pub form-law : (m : ℕ) (s : NestedItem) (y : Entry) → Nth s m ks → s .item ≡ entry y → EntryByForm x u new (w .lists) (w .map) ks m s y
+  kept-forms : (m : ℕ) (s : NestedItem) (y : Entry) → Nth s m ks → s .item ≡ entry y → EntryByForm x u new (w .lists) (w .map) ks m s y
   unfolding itemsIn
-  form-law m s y i q =
+  kept-forms m s y i q =
       let g : EntryAgain (w .lists) (w .map) en x (u .bytes) (w .output) (itemsIn x (Laws.again x room typeUnits section w answer)) m s y =
-      attributes-law x room typeUnits section w answer m s y i q in
+      kept-again x room typeUnits section w answer m s y i q in
       record {
         at = g .new;
         place = g .place;
@@ -382,13 +384,23 @@ module _ (x : Sections) (room : Room) (typeUnits : Bool) (section : List ℕ) (w
         attributes = by-forms s (nth-member s m ks i) (y .offset .0) (g .new) _ _ (entry-numbers m s y q (placed x room typeUnits section w answer m s i)) (g .attributes .same);
       }
 
-  -- the same in the terms of the unit that is thinned (specs/Thinned.antt)
-  abbrev t : Thinned x typeUnits section w
-  t = thinned-law x room typeUnits section w answer
+  -- THE NUMBERS OF ATTRIBUTES, BY FORM: of the m-th kept item, an entry
+  pub form-law : (h : UnitHeader) (ds : List Placed) (rows : List EntryRow) → headerOf section ≡ Header′ h
+      → abbreviationsOf (x .abbreviations) (h .abbreviations) ≡ some ds → analysisOf x section (room .tables) ≡ analysed rows
+      → (m : ℕ) (s : NestedItem) (y : Entry) → Nth s m (survivorsIn x (unitOf h section ds) rows) → s .item ≡ entry y
+      → EntryByForm x (unitOf h section ds) (thinnedOf h (w .output) ds) (w .lists) (w .map) (survivorsIn x (unitOf h section ds) rows) m s y
+  form-law =
+      Laws.of-read x room typeUnits section w answer
+      (λ (h : UnitHeader) (ds : List Placed) (rows : List EntryRow). (m : ℕ) (s : NestedItem) (y : Entry)
+      → Nth s m (survivorsIn x (unitOf h section ds) rows) → s .item ≡ entry y
+      → EntryByForm x (unitOf h section ds) (thinnedOf h (w .output) ds) (w .lists) (w .map) (survivorsIn x (unitOf h section ds) rows) m s y) kept-forms
 
-  pub thinned-form-law : (m : ℕ) (s : NestedItem) (y : Entry) → Nth s m (t .kept) → s .item ≡ entry y
-      → EntryByForm x (unitOf (t .header) section (t .declared)) (thinnedOf (t .header) (w .output) (t .declared)) (w .lists) (w .map) (t .kept) m s y
+  -- the same in the terms of the unit that is thinned
+  pub thinned-form-law : ThinnedByForm x typeUnits section w
   thinned-form-law =
-      of-thinned x room typeUnits section w answer
-      (λ (h : UnitHeader) (ds : List Placed) (ks : List NestedItem). (m : ℕ) (s : NestedItem) (y : Entry) → Nth s m ks → s .item ≡ entry y
-      → EntryByForm x (unitOf h section ds) (thinnedOf h (w .output) ds) (w .lists) (w .map) ks m s y) form-law
+      record {
+        thinned = thinned-law x room typeUnits section w answer;
+        entries = of-thinned x room typeUnits section w answer
+            (λ (h : UnitHeader) (ds : List Placed) (ks : List NestedItem). (m : ℕ) (s : NestedItem) (y : Entry) → Nth s m ks → s .item ≡ entry y
+            → EntryByForm x (unitOf h section ds) (thinnedOf h (w .output) ds) (w .lists) (w .map) ks m s y) kept-forms;
+      }

@@ -10,7 +10,7 @@ use Rattle.marking.specs.Columns.{padTo}
 use Rattle.rewriting.specs.Written.{runBytes}
 use Rattle.rewriting.specs.Rewriting.{Collected, untouched, refused, noLists}
 use Rattle.rewriting.specs.Outputs.{listCount, answerFor}
-use Rattle.laws.proofs.examples.FiveEntries.{none3, place, header5, rewrite5}
+use Rattle.laws.specs.FiveEntries.{none3, place, header5, rewrite5}
 use Rattle.rewriting.specs.declared.collect.Counts.{Counts}
 use Rattle.collector.specs.Call.{countOf, presenceOf, countBytes, isUncounted, numberFor, acceptedCounts, countsFor, isYes}
 

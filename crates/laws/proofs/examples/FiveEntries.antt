@@ -1,9 +1,7 @@
 -- P1 to P10 of document 01, computed by the definitions alone: the five-entry unit, padded numbers, tombstones.
 use mathlib.Core.Path.{_≡_, refl}
-use mathlib.Core.List.{List, [], _∷_, _++_}
+use mathlib.Core.List.{[], _∷_, _++_}
 use mathlib.Core.Bool.{true, false}
-use mathlib.Core.Option.{some}
-use Prim.Native.Nat.{ℕ}
 use Rattle.readers.specs.Choice.{pick, _and_, _or_, check, bind}
 use Rattle.readers.proofs.Choice.{All}
 use Rattle.readers.specs.Numbers.{below, groups, unsigned64, uleb, negative, signed64, sleb, padded, littleBytes, littleValue, ordered, fixedBytes, fixedValue}
@@ -35,44 +33,19 @@ use Rattle.marking.specs.EntryReferences.{after, andThen, targets, walkFound, e
 use Rattle.marking.specs.Below.{any, every, count, tab}
 use Rattle.marking.specs.Graph.{isParent, isRoot, references, names, parentFits, pairFits, rootFits, wellFormed, takes}
 use Rattle.marking.specs.Markings.{climbs, isDescendant, namedBy, isTop, isLive, justified}
+use Rattle.laws.specs.FiveEntries.{abbreviations5, room5, five, none3, place, header5, rewrite5}
 use Rattle.laws.specs.Markings.{accepts, step, run, nothing}
 use Rattle.marking.specs.Marks.{has, round, rounds, keptOf, markOf, marksOf, isKept, keptCount, markAnswer, endMarks}
 use Rattle.readers.specs.Stream.{push as push′Stream, onStep, itemsWithin, itemsFrom}
-use Rattle.marking.specs.Analysis.{onto, onVerdict, onFound, valuesOfEntry, rootOf, namesOf as namesOf′Analysis, baseOf, analyseItems, onDeclared, unitAnalysed, headerAnalysed, analysisOf, sections, rooms}
+use Rattle.marking.specs.Analysis.{onto, onVerdict, onFound, valuesOfEntry, rootOf, namesOf as namesOf′Analysis, baseOf, analyseItems, onDeclared, unitAnalysed, headerAnalysed, analysisOf, sections}
 use Rattle.marking.specs.Columns.{offsetsIn, parentsIn, rootsIn, namesIn as namesIn′Columns, endsIn, padTo, column}
 use Rattle.marking.specs.Resolution.{entryFrom, pairFor, pairsOfEntry, pairsFrom, pairsIn, graphOf, marksIn, unitMarks, Ascending}
 use Rattle.marking.specs.inner.Resolution.{asEntry}
-use Rattle.rewriting.specs.Places.{innermost, withIf, keptFrom, offsetOf, sizeOf, placesFrom, sizeFrom, newOf, firstFrom, orElse as orElse′Places, siblingOf, Place}
+use Rattle.rewriting.specs.Places.{innermost, withIf, keptFrom, offsetOf, sizeOf, placesFrom, sizeFrom, newOf, firstFrom, orElse as orElse′Places, siblingOf}
 use Rattle.rewriting.specs.Indices.{insert, insertAll, rankIn, indexIn, indicesIn, readIndices, declares, rankOr, countOf}
-use Rattle.rewriting.specs.Rewriting.{itemsIn, readsOr, readsAt, indicesFrom, itemDeclares, anyDeclares, listOf, listsOf, orSelf, isSome, listAt, newValue, hasPlace, pieceRefusal, orNext, piecesRefusal, readsRefusal, refusalFrom, bytesFrom, unitBytes, listsFit, orRefused, rewriteOf, marksCollected, rowsCollected, analysedCollected, declaredCollected, headerCollected, collectOf, Collected, Room, Lists, noLists, untouched, rewritten, refused as refused″}
+use Rattle.rewriting.specs.Rewriting.{itemsIn, readsOr, readsAt, indicesFrom, itemDeclares, anyDeclares, listOf, listsOf, orSelf, isSome, listAt, newValue, hasPlace, pieceRefusal, orNext, piecesRefusal, readsRefusal, refusalFrom, bytesFrom, unitBytes, listsFit, orRefused, rewriteOf, marksCollected, rowsCollected, analysedCollected, declaredCollected, headerCollected, collectOf, noLists, untouched, refused as refused″}
 use Rattle.rewriting.specs.Written.{groupsFit, paddedAnswer, paddedOut}
 use Rattle.rewriting.specs.declared.numbers.Padded.the-variants.{Written, Refused as Padded′}
-
--- 01 11 01 00 00 02 2e 00 11 1b 49 11 00 00 03 24 00 00 00 00
-abbrev pub abbreviations5 : List ℕ
-abbreviations5 = 0x01 ∷ 0x11 ∷ 0x01 ∷ 0 ∷ 0 ∷ 0x02 ∷ 0x2e ∷ 0 ∷ 0x11 ∷ 0x1b ∷ 0x49 ∷ 0x11 ∷ 0 ∷ 0 ∷ 0x03 ∷ 0x24 ∷ 0 ∷ 0 ∷ 0 ∷ 0 ∷ []
-
-abbrev pub unit5 : List ℕ
-unit5 = 0x12 ∷ 0 ∷ 0 ∷ 0 ∷ 0x05 ∷ 0 ∷ 0x01 ∷ 0x08 ∷ 0 ∷ 0 ∷ 0 ∷ 0 ∷ 0x01 ∷ 0x02 ∷ 0x00 ∷ 0x11 ∷ 0x03 ∷ 0x03 ∷ 0x02 ∷ 0x01 ∷ 0x10 ∷ 0x00 ∷ []
-
-abbrev pub room5 : Room
-room5 = record { tables = rooms 2048 8192; ranges = 8192; locations = 8192; strings = 8192; places = 4096; bytes = 65536 }
-
-abbrev pub five : List ℕ → Collected
-five table = collectOf (sections abbreviations5 [] [] table 0) room5 false unit5
-
-abbrev pub none3 : Lists
-none3 = record { ranges = some []; locations = some []; strings = some [] }
-
-abbrev pub place : ℕ → ℕ → ℕ → Place
-place o n d = record { old = o; new = n; depth = d }
-
--- the header of a unit with a length, and a body after it
-abbrev pub header5 : ℕ → List ℕ
-header5 n = n ∷ 0 ∷ 0 ∷ 0 ∷ 0x05 ∷ 0 ∷ 0x01 ∷ 0x08 ∷ 0 ∷ 0 ∷ 0 ∷ 0 ∷ []
-
-abbrev pub rewrite5 : ℕ → List Place → List ℕ → Collected
-rewrite5 kept map output = rewritten (record { entries = 5; kept = kept; lists = none3; map = map; output = output })
 
 pub p1-to-p10 :
     (five (1 ∷ 0 ∷ []) ≡ rewrite5 3 (place 12 12 0 ∷ place 13 13 1 ∷ place 17 16 1 ∷ place 21 17 1 ∷ []) (header5 0x0e ++ 0x01 ∷ 0x02 ∷ 0x00 ∷ 0x10 ∷ 0x03 ∷ 0x00 ∷ []))

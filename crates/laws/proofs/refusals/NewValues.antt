@@ -120,7 +120,8 @@ module _ (lists : Lists) (first : ℕ) (kept : List NestedItem) (depth : ℕ) wh
       inr (λ k. absurd (false≢true (sym (ap isSome h) ∙ new-out first kept v k)), after-by first kept depth v n q)
 
   -- THE new value of a number that has a place
-  pub new-value-law : (role : Role) (v : ℕ) → HasPlace kept depth role v → IsNew first kept lists depth role v (newValue lists map depth role v)
+  pub new-value-law : (role : Role) (v : ℕ) → HasPlace kept depth role v
+      → IsNew first kept lists depth role v (newValue lists (placesFrom first kept) depth role v)
   unfolding IsNew siblingOf newValue rankOr
   new-value-law reference v h = at-by first kept v _ (reference-lands lists map depth v (place-out lists first kept depth reference v h))
   new-value-law typeReference v h = (

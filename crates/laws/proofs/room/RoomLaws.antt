@@ -34,7 +34,8 @@ use Rattle.rewriting.specs.Rewriting.{Unit as Unit′, itemsIn, readsAt, Lists,
 use Rattle.laws.specs.RoomLaws.{ListsWithin, Within, ListShort, roomFor, needOf, IsAccepted, RoomLaw, Needs, TooShort, indexCount, unitRoom, declaredRoom, headerRoom, enoughRoom}
 use Rattle.laws.proofs.again.Maps.{places-length}
 use Rattle.laws.proofs.again.Sizes.{sizes-divided}
-use Rattle.laws.proofs.again.Accepted.{survivorsIn, WasRewritten, WasUntouched, was-untouched, was-empty}
+use Rattle.laws.specs.LeftOut.{survivorsIn}
+use Rattle.laws.proofs.again.Accepted.{WasRewritten, WasUntouched, was-untouched, was-empty}
 use Rattle.marking.proofs.UnitMarkings.{marks-each}
 use Rattle.laws.proofs.again.CollectLaws.{it, again-law}
 use Rattle.laws.proofs.refusals.CollectRefusals.{values-late, late-value}

@@ -48,7 +48,8 @@ use Rattle.rewriting.proofs.map_pass.Places.{nowhere, length-columns, old-held,
 use Rattle.rewriting.proofs.map_pass.Exact.{are-take, are-drop, tokenOk, LayoutOk, Right, Rights, AllRights, Exactly, ExactReader, RunExact, read-exact, inExpression, expression-exactly}
 use Rattle.rewriting.proofs.write_pass.HeaderAgain.{HeaderLaw}
 use Rattle.rewriting.proofs.whole.AcceptedUnits.{Accepted}
-use Rattle.laws.proofs.again.Accepted.{accepted-header, survivorsIn, WasRewritten}
+use Rattle.laws.specs.LeftOut.{survivorsIn}
+use Rattle.laws.proofs.again.Accepted.{accepted-header, WasRewritten}
 use Rattle.marking.proofs.UnitMarkings.{marks-each}
 use Rattle.laws.proofs.again.IndexMembers.{IndexKept}
 use Rattle.laws.proofs.again.CollectLaws.{it, unit, marks, kept, start, again-law, bytes-law, map-law, list-law, whole, whole-list-law}
@@ -533,9 +534,6 @@ module _ (x : Sections) (tables : Rooms) (typeUnits : Bool) (section : List ℕ)
   abbrev lent : Room
   lent = roomBy tables map ranges locations strings out
 
-  abbrev Reads : Collected → Type 0
-  Reads c = AnswerReads map ranges locations strings out c
-
   rewritten-reads : (w : Rewrite) → collectOf x lent typeUnits section ≡ rewritten w → RewrittenReads map ranges locations strings out w
   unfolding listAt roomAt pick
   rewritten-reads w q =
@@ -562,12 +560,12 @@ module _ (x : Sections) (tables : Rooms) (typeUnits : Bool) (section : List ℕ)
   unfolding mapFor outputFor listFor
   refused-reads n = record { map-read = refl; ranges-read = refl; locations-read = refl; strings-read = refl; output-read = refl }
 
-  by-answer : (c : Collected) → collectOf x lent typeUnits section ≡ c → Reads c
+  by-answer : (c : Collected) → collectOf x lent typeUnits section ≡ c → AnswerReads map ranges locations strings out c
   unfolding AnswerReads
   by-answer (rewritten w) q = rewritten-reads w q
   by-answer (untouched n l) q = untouched-reads n l q
   by-answer (refused n) q = refused-reads n
 
   -- "Output, map and index lists hold the answer, and zeros everywhere else, for every input": as a host reads them
-  pub host-law : Reads (collectOf x lent typeUnits section)
+  pub host-law : AnswerReads map ranges locations strings out (collectOf x (roomBy tables map ranges locations strings out) typeUnits section)
   host-law = by-answer (collectOf x lent typeUnits section) refl

@@ -12,7 +12,7 @@ use Rattle.marking.proofs.Members.{nothing-in, from-member}
 use Rattle.rewriting.specs.Places.{NestedItem, Place}
 use Rattle.laws.specs.inner.Maps.{MappedTo}
 use Rattle.rewriting.specs.Rewriting.{Unit as Unit′, unitOf, Lists, orSelf, Rewrite}
-use Rattle.laws.specs.Thinned.{LandsOn, thinnedOf, Thinned, newOffsets}
+use Rattle.laws.specs.Thinned.{LandsOn, Lands, thinnedOf, Thinned, newOffsets}
 use Rattle.laws.proofs.again.Maps.{mapped-in}
 use Rattle.laws.proofs.thinned.ThinnedItems.{nth-member}
 
@@ -49,20 +49,17 @@ module _ (x : Sections) (u new : Unit′) (lists : Lists) (map : List Place) (ke
       }
 
 module _ (x : Sections) (typeUnits : Bool) (section : List ℕ) (w : Rewrite) (t : Thinned x typeUnits section w) where
-  abbrev Lands : ℕ → ℕ → Type 0
-  Lands = LandsOn x (unitOf (t .header) section (t .declared)) (thinnedOf (t .header) (w .output) (t .declared)) (w .lists) (w .map) (t .kept)
-
-  leads : (v n : ℕ) → Lands v n → MappedTo (w .map) v n
+  leads : (v n : ℕ) → Lands x typeUnits section w t v n → MappedTo (w .map) v n
   leads = lands-leads x (unitOf (t .header) section (t .declared)) (thinnedOf (t .header) (w .output) (t .declared)) (w .lists) (w .map) (t .kept)
 
   -- a reference lands on one place
-  pub lands-once : (v n m : ℕ) → Lands v n → Lands v m → n ≡ m
+  pub lands-once : (v n m : ℕ) → Lands x typeUnits section w t v n → Lands x typeUnits section w t v m → n ≡ m
   unfolding orSelf
   lands-once v n m a b =
       ap (orSelf 0) (sym (mapped-in (w .map) v n (t .olds) (leads v n a)) ∙ mapped-in (w .map) v m (t .olds) (leads v m b))
 
   -- references to two items land on two places
-  pub lands-apart : (v v′ n : ℕ) → Lands v n → Lands v′ n → v ≡ v′
+  pub lands-apart : (v v′ n : ℕ) → Lands x typeUnits section w t v n → Lands x typeUnits section w t v′ n → v ≡ v′
   lands-apart v v′ n a b =
       let p : MappedTo (w .map) v n = leads v n a in
       let q : MappedTo (w .map) v′ n = leads v′ n b in

@@ -3,7 +3,7 @@ use mathlib.Core.Path.{_≡_, refl, ap, sym, _∙_, subst}
 use Prim.Native.Nat.{ℕ, zero, suc, _+_, _<_}
 use native.Mathlib.Omega.{arith}
 use mathlib.Core.Bool.{Bool, true}
-use mathlib.Core.List.{List, [], _∷_, map}
+use mathlib.Core.List.{List, [], _∷_}
 use mathlib.Core.Logic.{_⊎_, inl, inr, _↔_}
 use mathlib.Core.Option.{Option, none, some}
 use lib.ListN.{length, drop, getD}
@@ -16,7 +16,7 @@ use Rattle.marking.specs.Resolution.{graphOf, marksIn}
 use Rattle.marking.specs.Survivors.{Survivor}
 use Rattle.rewriting.specs.Places.{NestedItem, offsetOf, sizeOf, Place, placesFrom, newOf, firstFrom, siblingOf, orElse}
 use Rattle.rewriting.specs.Indices.{rankIn, rankOr}
-use Rattle.laws.specs.LeftOut.{leftFrom}
+use Rattle.laws.specs.LeftOut.{survivorsIn, leftFrom}
 use Rattle.marking.specs.Members.{Member, here, there, Nth, now, later}
 use Rattle.laws.specs.Ancestors.{ancestorsFrom}
 use Rattle.laws.specs.inner.Ancestors.{keptAncestors, MapTo, AllMapTo}
@@ -34,7 +34,7 @@ use Rattle.laws.proofs.references.SameReferences.{accepted-references, 
 use Rattle.laws.proofs.references.SameRoles.{accepted-roles}
 use Rattle.laws.proofs.thinned.HeaderBytes.{header-bytes-law}
 use Rattle.laws.proofs.thinned.AbsentLists.{absent-law}
-use Rattle.laws.proofs.again.Accepted.{accepted-header, survivorsIn, WasRewritten, WasUntouched, was-empty}
+use Rattle.laws.proofs.again.Accepted.{accepted-header, WasRewritten, WasUntouched, was-empty}
 use Rattle.marking.proofs.Members.{nothing-in}
 use Rattle.laws.proofs.thinned.Roles.{index-kind}
 use Rattle.laws.proofs.again.Maps.{has-new}
@@ -347,7 +347,7 @@ module _ (x : Sections) (room : Room) (typeUnits : Bool) (section : List ℕ) (w
         entries-are = it x room typeUnits section w answer .entries-is ∙ marks-each (it x room typeUnits section w answer .rows);
         count = count-law x room typeUnits section w answer;
         dead = dead-law x room typeUnits section w answer;
-        header-again = again-header x room typeUnits section w answer;
+        header-again = again-header x room typeUnits section w answer _ (it x room typeUnits section w answer .accepted .header);
         header-bytes = header-bytes-law x room typeUnits section w answer;
         whole = ap (λ (z : Items). z .1) (again-law x room typeUnits section w answer .items);
         as-many = ap length new-items ∙ moved-length first items;
