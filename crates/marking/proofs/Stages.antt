@@ -27,7 +27,7 @@ use Rattle.readers.specs.declared.entries.Nesting.{Nesting}
 use Rattle.readers.specs.declared.entries.Step.{Step}
 use Rattle.readers.specs.declared.entries.Step.the-variants.{Entry as Entry′, Terminator, End, Unreadable}
 use Rattle.readers.proofs.Declarations.{find-plain}
-use Rattle.readers.proofs.Nesting.{opened-is, closed-is}
+use Rattle.readers.proofs.Nesting.{opened-is, closed-is, chain-closed, length-opened, length-closed}
 use Rattle.readers.specs.inner.Nesting.{Chain}
 use Rattle.marking.specs.ReferenceTable.{written}
 use Rattle.readers.specs.Stream.{Items, push, onStep, itemsFrom}
@@ -188,21 +188,6 @@ unfolding opened Chain
 chain-open true parents n stack l b h = (getD-set-same parents n (top stack) 4294967295 l, chain-stays parents n (top stack) stack b h)
 chain-open false parents n stack l b h = chain-stays parents n (top stack) stack b h
 
-chain-close : (parents stack : List ℕ) → Chain parents stack → Chain parents (closed stack)
-unfolding closed Chain
-chain-close parents [] h = tt
-chain-close parents (k ∷ stack) h = h .1
-
-length-open : (children : Bool) (n : ℕ) (stack : List ℕ) → length (opened children n stack) ≤ suc (length stack)
-unfolding opened
-length-open true n stack = omega arith
-length-open false n stack = omega arith
-
-length-close : (stack : List ℕ) → length (closed stack) ≤ length stack
-unfolding closed
-length-close [] = omega arith
-length-close (k ∷ stack) = omega arith
-
 parent-of : (n : Nesting) (stack : List ℕ) → n ≡ nestingOf stack → n .parent .0 ≡ top stack
 unfolding nestingOf
 parent-of n stack e = ap (λ (m : Nesting). m .parent .0) e
@@ -349,9 +334,9 @@ module _ {e : Encoding} {x : Sections} {unit : List ℕ} {room : Rooms} {look : 
         to-is = h .to-is;
         to-most = h .to-most;
         nesting-is = n ∙ ap (nestingClosed parents) (h .nesting-is) ∙ closed-is parents (h .stack) (h .chain);
-        chain = chain-close parents (h .stack) (h .chain);
+        chain = chain-closed parents (h .stack) (h .chain);
         below = below-close count (h .stack) (h .below);
-        deep = omega (arith, length-close (h .stack));
+        deep = omega (arith, length-closed (h .stack));
         ahead = omega (arith, i .0);
         small = h .small;
         offsets-room = h .offsets-room;
@@ -450,7 +435,7 @@ module _ {e : Encoding} {x : Sections} {unit : List ℕ} {room : Rooms} {look : 
               nesting-is = n ∙ ap (nestingOpened (y .declaration .children) count) (h .nesting-is) ∙ opened-is (y .declaration .children) count (h .stack) (omega arith);
               chain = rw up (chain-open (y .declaration .children) parents count (h .stack) (omega arith) (h .below) (h .chain));
               below = below-open (y .declaration .children) count (h .stack) (h .below);
-              deep = omega (arith, length-open (y .declaration .children) count (h .stack));
+              deep = omega (arith, length-opened (y .declaration .children) count (h .stack));
               ahead = omega arith;
               small = h .small;
               offsets-room = ro;

@@ -3,7 +3,7 @@
 ghost use Prim.Native.Nat.{_≤_};
 use crate::answers::hex;
 use crate::answers::refused;
-use crate::size;
+use crate::lengths::size;
 use crate::text::number;
 use crate::text::text;
 use bundle::Bundle;

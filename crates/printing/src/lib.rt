@@ -1,30 +1,14 @@
 // What the programs print of bundles, and the arguments of those that print many.
+use crate::lengths::size;
 use crate::text::number;
 use crate::text::text;
-use readers::cursor::Cursor;
-use readers::cursor::Number;
-use readers::cursor::left;
 
 pub mod answers;
 pub mod cases;
 pub mod dump;
+pub mod lengths;
 pub mod marks;
 pub mod text;
-
-// How many bytes the bundle at a place has, its first length included; all that is left where it says more.
-fn size(s: &[u8], at: usize) -> usize {
-    let rest = left(s, at);
-    if rest < 4 {
-        return rest;
-    }
-    let Number::Value(n, _) = (Cursor { at }).fixed(s, 4, true) else {
-        return rest;
-    };
-    if n > ((rest - 4) as u64) {
-        return rest;
-    }
-    4 + (n as usize)
-}
 
 // ---- files: what is printed of them
 

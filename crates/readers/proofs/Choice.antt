@@ -89,11 +89,6 @@ unfolding bind
 bind-ext none f g h = refl
 bind-ext (some a) f g h = h a
 
-pub check-bind {ℓ κ} : {A : Type ℓ} {B : Type κ} (b : Bool) (o : Option A) (f : A → Option B) → bind (check b o) f ≡ check b (bind o f)
-unfolding check bind
-check-bind true o f = refl
-check-bind false o f = refl
-
 -- ---- what holds of a reading
 
 pub all-some {ℓ} : {A : Type ℓ} (P : A → Type 0) {a : A} → P a → All P (some a)

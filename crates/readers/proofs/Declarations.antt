@@ -277,15 +277,15 @@ module _ (s : List ℕ) (at : ℕ) where
   declarations-bad e = scan-bad (length s) (λ n. declarationTurn n (declarationAt s n)) (declared-goes s) at (ap (declarationTurn at) e)
 
 -- the declarations from one place up to another
-pub data Chain (s : List ℕ) : ℕ → List Placed → ℕ → Type 0 where
-  here : {at : ℕ} → Chain s at [] at
-  link : {at to : ℕ} {d : Declaration} {c : Cursor} {ds : List Placed} → declarationAt s at ≡ Declared d c → Chain s (c .at) ds to → Chain s at ((at, d) ∷ ds) to
+pub data Sequence (s : List ℕ) : ℕ → List Placed → ℕ → Type 0 where
+  here : {at : ℕ} → Sequence s at [] at
+  link : {at to : ℕ} {d : Declaration} {c : Cursor} {ds : List Placed} → declarationAt s at ≡ Declared d c → Sequence s (c .at) ds to → Sequence s at ((at, d) ∷ ds) to
 
-chain-more : {s : List ℕ} {a b : ℕ} {ds : List Placed} {d : Declaration} {c : Cursor} → Chain s a ds b → declarationAt s b ≡ Declared d c → Chain s a (ds ++ ((b, d) ∷ [])) (c .at)
+chain-more : {s : List ℕ} {a b : ℕ} {ds : List Placed} {d : Declaration} {c : Cursor} → Sequence s a ds b → declarationAt s b ≡ Declared d c → Sequence s a (ds ++ ((b, d) ∷ [])) (c .at)
 chain-more here e = link e here
 chain-more (link e′ k) e = link e′ (chain-more k e)
 
-chain-ahead : {s : List ℕ} {a b : ℕ} {ds : List Placed} → Chain s a ds b → a ≤ b
+chain-ahead : {s : List ℕ} {a b : ℕ} {ds : List Placed} → Sequence s a ds b → a ≤ b
 chain-ahead here = omega arith
 chain-ahead {s} {a} (link {d = d} {c = c} e k) = let h : c .at ≤ _ = chain-ahead k in omega (arith, declaration-ahead s a d c e .0)
 
@@ -304,7 +304,7 @@ unfolding onto bind push
 onto-push p ds none = refl
 onto-push p ds (some r) = refl
 
-chain-onto : {s : List ℕ} {a b : ℕ} {ds : List Placed} → Chain s a ds b → declarationsFrom s a ≡ onto ds (declarationsFrom s b)
+chain-onto : {s : List ℕ} {a b : ℕ} {ds : List Placed} → Sequence s a ds b → declarationsFrom s a ≡ onto ds (declarationsFrom s b)
 chain-onto {s} {a} here = onto-none (declarationsFrom s a)
 chain-onto {s} {a} {b} (link {d = d} {c = c} {ds = ds} e k) =
     declarations-more s a d c e ∙ ap (λ o. bind o (push (a, d))) (chain-onto k) ∙ onto-push (a, d) ds (declarationsFrom s b)
@@ -320,7 +320,7 @@ unfolding orElse
 else-nothing (Found′ d) = refl
 else-nothing Nothing = refl
 
-chain-search : {s : List ℕ} {a b : ℕ} {ds : List Placed} (to code : ℕ) → Chain s a ds b → b ≤ to → searchAt s to code a ≡ orElse (declaredIn ds code) (searchAt s to code b)
+chain-search : {s : List ℕ} {a b : ℕ} {ds : List Placed} (to code : ℕ) → Sequence s a ds b → b ≤ to → searchAt s to code a ≡ orElse (declaredIn ds code) (searchAt s to code b)
 unfolding declaredIn orElse
 chain-search to code here h = refl
 chain-search {s} {a} {b} to code (link {d = d} {c = c} {ds = ds} e k) h =
@@ -332,7 +332,7 @@ chain-search {s} {a} {b} to code (link {d = d} {c = c} {ds = ds} e k) h =
     (either (eqb (d .code) code))
 
 -- the search up to a place finds what is declared before it
-chain-searched : {s : List ℕ} {a b : ℕ} {ds : List Placed} (code : ℕ) → Chain s a ds b → searchAt s b code a ≡ declaredIn ds code
+chain-searched : {s : List ℕ} {a b : ℕ} {ds : List Placed} (code : ℕ) → Sequence s a ds b → searchAt s b code a ≡ declaredIn ds code
 chain-searched {s} {a} {b} {ds} code k =
     chain-search b code k (omega arith) ∙ ap (orElse (declaredIn ds code)) (sym (search-end s b code b (omega arith))) ∙ else-nothing (declaredIn ds code)
 
@@ -450,7 +450,7 @@ unfoldable Coded : List ℕ → List Placed → Type 0
 Coded s [] = Unit {0}
 Coded s (d ∷ ds) = (slotCode s (d .0 + 1) ≡ d .1 .code) × Coded s ds
 
-chain-coded : {s : List ℕ} {a b : ℕ} {ds : List Placed} → Chain s a ds b → Coded s ds
+chain-coded : {s : List ℕ} {a b : ℕ} {ds : List Placed} → Sequence s a ds b → Coded s ds
 unfolding Coded
 chain-coded here = tt
 chain-coded {s} {a} (link {d = d} {c = c} e k) = (declaration-code s a d c e, chain-coded k)
@@ -553,7 +553,7 @@ index-slots n k ds =
     (λ _. zeros-at (λ z. (z ≡ 0) ⊎ In z (slotsOf ds)) n k (inl refl))
 
 -- the declaration at the place that a slot holds
-chain-through : {s : List ℕ} {a b : ℕ} {ds : List Placed} (z code : ℕ) → Chain s a ds b → T (distinct ds) → In z (slotsOf ds) → slotCode s z ≡ code
+chain-through : {s : List ℕ} {a b : ℕ} {ds : List Placed} (z code : ℕ) → Sequence s a ds b → T (distinct ds) → In z (slotsOf ds) → slotCode s z ≡ code
     → declarationFound (declarationAt s (z - 1)) ≡ declaredIn ds code
 unfolding declaredIn distinct slotsOf In declarationFound
 chain-through z code here t i e = absurd i
@@ -578,7 +578,7 @@ chain-through {s} {a} z code (link {d = d} {c = c} {ds = ds} g k) t i e =
 unfoldable through : List ℕ → ℕ → DeclarationFound
 through s slot = declarationFound (declarationAt s (slot - 1))
 
-through-else : {s : List ℕ} {a b : ℕ} {ds : List Placed} (z code : ℕ) (rest : DeclarationFound) → Chain s a ds b → T (distinct ds) → (z ≡ 0) ⊎ In z (slotsOf ds)
+through-else : {s : List ℕ} {a b : ℕ} {ds : List Placed} (z code : ℕ) (rest : DeclarationFound) → Sequence s a ds b → T (distinct ds) → (z ≡ 0) ⊎ In z (slotsOf ds)
     → rest ≡ declaredIn ds code → pick (holdsCode s z code) (through s z) rest ≡ declaredIn ds code
 unfolding holdsCode through
 through-else {s} {a} {b} {ds} z code rest k t w e =
@@ -599,12 +599,12 @@ through-else {s} {a} {b} {ds} z code rest k t w e =
 -- the index and the place after some declarations
 pub record Gathering (s : List ℕ) (from : ℕ) (l m : List ℕ) (at count : ℕ) : Type 0 where
   pub done : List Placed
-  pub chain : Chain s from done at
+  pub chain : Sequence s from done at
   pub counted : count ≡ length done
   pub same : length m ≡ length l
   pub written : length done ≤ length l → m ≡ slotsOf done ++ drop (length done) l
 
-chain-count : {s : List ℕ} {a b : ℕ} {ds : List Placed} → Chain s a ds b → length ds + a ≤ b
+chain-count : {s : List ℕ} {a b : ℕ} {ds : List Placed} → Sequence s a ds b → length ds + a ≤ b
 chain-count here = omega arith
 chain-count {s} {a} (link {d = d} {c = c} e k) = omega (arith, chain-count k, declaration-ahead s a d c e .0)
 
@@ -676,7 +676,7 @@ refused-not e = let z : _≡_ {A = ℕ} 0 1 = cc in omega arith
 -- the place after some declarations that have no code twice
 pub record Checking (s : List ℕ) (from at : ℕ) : Type 0 where
   pub done : List Placed
-  pub chain : Chain s from done at
+  pub chain : Sequence s from done at
   pub once : T (distinct done)
 
 pub checking-none : (s : List ℕ) (from : ℕ) → Checking s from from
@@ -731,7 +731,7 @@ refused-index s from n h = of (abbreviationsOf s from) h
 record ClosedList (s : List ℕ) (from : ℕ) (ds : List Placed) : Type 0 where
   last : ℕ
   past : Cursor
-  chain : Chain s from ds last
+  chain : Sequence s from ds last
   closes : declarationAt s last ≡ Last past
 
 closed-step : (s : List ℕ) (ds : List Placed) (at e : ℕ) → ((p : Placed) (ds′ : List Placed) → ds ≡ p ∷ ds′ → (at e : ℕ) → declarationsFrom s at ≡ some (ds′, e) → ClosedList s at ds′)
@@ -746,11 +746,11 @@ closed-step s ds at e ih h (Declared d c) g = of (declarationsFrom s (c .at)) re
         let n : declarationsFrom s at ≡ some ((at, d) ∷ r .0, r .1) = declarations-more s at d c g ∙ ap (λ o. bind o (push (at, d))) k in
         let l : ds ≡ (at, d) ∷ r .0 = (let p : _≡_ {A = Scanned Placed ℕ} (ds, e) ((at, d) ∷ r .0, r .1) = cc in ap (λ (x : Scanned Placed ℕ). x .0) p) in
         let q : ClosedList s (c .at) (r .0) = ih (at, d) (r .0) l (c .at) (r .1) k in
-        record { last = q .last; past = q .past; chain = subst (λ x. Chain s at x (q .last)) (sym l) (link g (q .chain)); closes = q .closes }
+        record { last = q .last; past = q .past; chain = subst (λ x. Sequence s at x (q .last)) (sym l) (link g (q .chain)); closes = q .closes }
 closed-step s ds at e ih h (Last c) g =
     let n : declarationsFrom s at ≡ some ([], c .at) = declarations-last s at c g in
     let l : ds ≡ [] = (let p : _≡_ {A = Scanned Placed ℕ} (ds, e) ([], c .at) = cc in ap (λ (x : Scanned Placed ℕ). x .0) p) in
-    record { last = at; past = c; chain = subst (λ x. Chain s at x at) (sym l) here; closes = g }
+    record { last = at; past = c; chain = subst (λ x. Sequence s at x at) (sym l) here; closes = g }
 closed-step s ds at e ih h NoDeclaration g =
     let n : declarationsFrom s at ≡ none = declarations-bad s at g in
     let z : _≡_ {A = ℕ} 0 1 = cc in absurd (omega arith)
@@ -1009,7 +1009,7 @@ pub find-plain : (s : List ℕ) (from n : ℕ) (ds : List Placed) → abbreviati
 unfolding indexOf indexFor
 find-plain s from n ds h code =
     let q : Accept s from ds = accept-of s from ds h in
-    let k : Chain s from ds (q .closed .last) = q .closed .chain in
+    let k : Sequence s from ds (q .closed .last) = q .closed .chain in
     let i : indexOf s from n ≡ indexed (zeros n) ds = ap (indexFor n) h in
     let v : (q .closed .last < q .closed .past .at) × (q .closed .past .at ≤ length s) = last-inside s (q .closed .last) (q .closed .past) (q .closed .closes) in
     let w : q .closed .last < length s = omega (arith, v .0, v .1) in

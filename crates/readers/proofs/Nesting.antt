@@ -64,3 +64,25 @@ closed-is parents [] h = sym (closes-none parents (nestingOf []) refl)
 closed-is parents (k ∷ stack) h =
     sym (closes parents (nestingOf (k ∷ stack)) (λ q. absurd (let z : suc (length stack) ≡ 0 = q in omega arith)))
     ∙ ap₂ nesting (let e : suc (length stack) - 1 ≡ length stack = omega arith in e) (h .0)
+
+-- a stack whose entries are each other's parents stays so
+pub chain-opened : (parents : List ℕ) (children : Bool) (k : ℕ) (stack : List ℕ) → getD parents k 4294967295 ≡ top stack → Chain parents stack
+    → Chain parents (opened children k stack)
+unfolding Chain opened
+chain-opened parents true k stack e h = (e, h)
+chain-opened parents false k stack e h = h
+
+pub chain-closed : (parents stack : List ℕ) → Chain parents stack → Chain parents (closed stack)
+unfolding Chain closed
+chain-closed parents [] h = tt
+chain-closed parents (k ∷ stack) h = h .1
+
+pub length-opened : {A : Type 0} (children : Bool) (x : A) (stack : List A) → length (opened children x stack) ≤ suc (length stack)
+unfolding opened
+length-opened true x stack = omega arith
+length-opened false x stack = omega arith
+
+pub length-closed : {A : Type 0} (stack : List A) → length (closed stack) ≤ length stack
+unfolding closed
+length-closed [] = omega arith
+length-closed (x ∷ stack) = let z : length stack ≤ suc (length stack) = omega arith in z

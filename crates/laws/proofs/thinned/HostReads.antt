@@ -25,6 +25,7 @@ use Rattle.readers.specs.declared.header.UnitHeader.{UnitHeader}
 use Rattle.readers.specs.declared.header.HeaderRead.{HeaderRead}
 use Rattle.readers.specs.declared.header.HeaderRead.the-variants.{Unit as Header′, Empty, Refused}
 use Rattle.readers.specs.Header.{headerOf}
+use Rattle.readers.proofs.Nesting.{length-opened, length-closed}
 use Rattle.readers.specs.Nesting.{opened, closed}
 use Rattle.marking.specs.Marks.{isKept, keptCount}
 use Rattle.marking.specs.Analysis.{Sections, Rooms, EntryRow, Analysed, analysed, refused as notAnalysed, analysisOf}
@@ -159,16 +160,6 @@ present-reads size none r h = refl
 present-reads size (some xs) r h = list-reads size xs r (h xs refl)
 
 -- ---- the numbers of a map are small
-
-length-opened : (b k : Bool) (stack : List Bool) → length (opened b k stack) ≤ suc (length stack)
-unfolding opened
-length-opened true k stack = omega arith
-length-opened false k stack = omega arith
-
-length-closed : (stack : List Bool) → length (closed stack) ≤ length stack
-unfolding closed
-length-closed [] = omega arith
-length-closed (b ∷ stack) = let z : length stack ≤ suc (length stack) = omega arith in z
 
 with-cases : (b : Bool) (s x : NestedItem) (xs : List NestedItem) → Member s (withIf b x xs) → (s ≡ x) ⊎ Member s xs
 unfolding withIf

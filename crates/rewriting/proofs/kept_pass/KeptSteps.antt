@@ -19,7 +19,7 @@ use Rattle.readers.specs.Entries.{valuesAt, stepAt}
 use Rattle.readers.proofs.Lebs.{uleb-inside}
 use Rattle.readers.proofs.Values.{entryStep, foundStep, codeStep, step-by, step-none, step-terminator, step-unknown}
 use Rattle.readers.specs.Nesting.{opened, closed, top, nestingOf, nestingOpened, nestingClosed}
-use Rattle.readers.proofs.Nesting.{opened-is, closed-is}
+use Rattle.readers.proofs.Nesting.{opened-is, closed-is, chain-opened, chain-closed, length-opened, length-closed}
 use Rattle.readers.specs.inner.Nesting.{Chain}
 use Rattle.readers.specs.Stream.{Item, entry, terminator, Items, push, onStep, itemsFrom}
 use Rattle.readers.proofs.Streams.{EntryInside, step-inside, terminator-inside, items-step}
@@ -90,27 +90,6 @@ unfolding openKept innermost nestingOf top
 open-innermost marks [] = sym (closes-outside marks (nestingOf []) refl)
 open-innermost marks (k ∷ stack) =
     sym (closes-inside marks (nestingOf (k ∷ stack)) _ (λ q. absurd (let z : suc (length stack) ≡ 0 = q in omega arith)) refl)
-
-chained-open : (parents : List ℕ) (children : Bool) (k : ℕ) (stack : List ℕ) → getD parents k 4294967295 ≡ top stack → Chain parents stack
-    → Chain parents (opened children k stack)
-unfolding Chain opened
-chained-open parents true k stack e h = (e, h)
-chained-open parents false k stack e h = h
-
-chained-close : (parents stack : List ℕ) → Chain parents stack → Chain parents (closed stack)
-unfolding Chain closed
-chained-close parents [] h = tt
-chained-close parents (k ∷ stack) h = h .1
-
-length-open : (children : Bool) (k : ℕ) (stack : List ℕ) → length (opened children k stack) ≤ length stack + 1
-unfolding opened
-length-open true k stack = let h : suc (length stack) ≤ length stack + 1 = omega arith in h
-length-open false k stack = omega arith
-
-length-close : (stack : List ℕ) → length (closed stack) ≤ length stack
-unfolding closed
-length-close [] = omega arith
-length-close (k ∷ stack) = let h : length stack ≤ suc (length stack) = omega arith in h
 
 with-yes : (b : Bool) (x : NestedItem) (xs : List NestedItem) → b ≡ true → withIf b x xs ≡ x ∷ xs
 unfolding withIf
@@ -227,8 +206,8 @@ module _ (e : Encoding) (abbreviations : List ℕ) (look : ℕ → DeclarationFo
         let l : length stack < 2 ^ 64 - 1 = omega (arith, s .counted, s .passed, i .coded, i .ahead, i .within) in
         record {
           nested = m ∙ ap (nestingOpened (x .declaration .children) (t .count .0)) (s .nested) ∙ opened-is (x .declaration .children) (t .count .0) stack l;
-          chained = chained-open parents (x .declaration .children) (t .count .0) stack (h .0) (s .chained);
-          counted = omega (arith, length-open (x .declaration .children) (t .count .0) stack, s .counted);
+          chained = chain-opened parents (x .declaration .children) (t .count .0) stack (h .0) (s .chained);
+          counted = omega (arith, length-opened (x .declaration .children) (t .count .0) stack, s .counted);
           passed = omega (arith, s .passed, i .coded, i .ahead);
           holds = h .1;
           ends-hold = subst (λ (k : ℕ). EndsHeld ends k (items (x .next .at))) (sym (add-one (t .count .0))) (entry-ends t x q (s .ends-hold) .1);
@@ -259,8 +238,8 @@ module _ (e : Encoding) (abbreviations : List ℕ) (look : ℕ → DeclarationFo
         let i = terminator-inside e abbreviations look unit (t .at .at) c q in
         record {
           nested = m ∙ ap (nestingClosed parents) (s .nested) ∙ closed-is parents stack (s .chained);
-          chained = chained-close parents stack (s .chained);
-          counted = omega (arith, length-close stack, s .counted);
+          chained = chain-closed parents stack (s .chained);
+          counted = omega (arith, length-closed stack, s .counted);
           passed = omega (arith, s .passed, i .0);
           holds = subst (λ (is : List Item). HoldsFrom parents (t .count .0) (parentsFrom (t .count .0) stack is)) (items-terminator (t .at .at) c q) (s .holds);
           ends-hold = terminator-ends t c q (s .ends-hold);
