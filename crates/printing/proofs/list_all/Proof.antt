@@ -7,7 +7,7 @@ use Rattle.printing.proofs.list_all.Tie as tie
 use Rattle.printing.proofs.list_all.Reads as reads
 use Rattle.printing.proofs.list_all.Lts as lts
 use Rattle.printing.proofs.list.Reads as list-reads
-use Rattle.printing.proofs.size.Reads as size-reads
+use Rattle.printing.proofs.lengths.size.Reads as size-reads
 use Rattle.printing.proofs.text.number.Reads as number-reads
 use Rattle.printing.proofs.text.text.Reads as text-reads
 

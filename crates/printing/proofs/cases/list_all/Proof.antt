@@ -7,7 +7,7 @@ use Rattle.printing.proofs.cases.list_all.Tie as tie
 use Rattle.printing.proofs.cases.list_all.Reads as reads
 use Rattle.printing.proofs.cases.list_all.Lts as lts
 use Rattle.printing.proofs.cases.case.Reads as case-reads
-use Rattle.printing.proofs.size.Reads as size-reads
+use Rattle.printing.proofs.lengths.size.Reads as size-reads
 use Rattle.printing.proofs.text.number.Reads as number-reads
 use Rattle.printing.proofs.text.text.Reads as text-reads
 use Rattle.readers.proofs.cursor.left.Reads as left-reads
