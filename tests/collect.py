@@ -337,6 +337,8 @@ case('a header alone, type 5', 'H5', A5, NOTHING)
 case('padded codes and terminators keep their width', 'H 818000 02 8000', '1 11 children; 2 24', rewritten(2, 1, '12>12@0 16>15@1', '818000 8000'))
 case('a padded terminator of a dead parent', 'H 01 02 8000 00', '1 11 children; 2 24 children', rewritten(2, 1, '12>12@0 16>13@1', '01 00'))
 case('a padded ref_udata keeps its width', 'H 01 9000 02 02 00', '1 24 children 49/15; 2 24', rewritten(3, 2, '12>12@0 16>15@1 17>16@1', '01 8f00 02 00'))
+case('so does one of ten bytes', 'H 01 98808080808080808000 02 02 00', '1 24 children 49/15; 2 24',
+     rewritten(3, 2, '12>12@0 24>23@1 25>24@1', '01 97808080808080808000 02 00'))
 case('a padded length of an exprloc', 'H 01 8300 981300 02 02', X, rewritten(3, 2, '12>12@0 19>18@0', '01 8300 981200 02'))
 case('a padded operand', 'H 01 04 a8938000 02 02', X, rewritten(3, 2, '12>12@0 19>18@0', '01 04 a8928000 02'))
 case('a padded index', 'H 01 858000 09 02', '1 11 03/1a 03/1a; 2 24', rewritten(2, 1, '12>12@0', '01 808000 01', strings='5 9'))
@@ -377,11 +379,25 @@ case('ranges out of order, repeated', 'H 01 09 04 09 00 02', '1 11 55/23 55/23 5
 case('an address index is no list index', 'H 01 07 02', '1 11 11/1b; 2 24', rewritten(2, 1, '12>12@0', '01 07'))
 case('constx and addrx in an expression are copied', 'H 01 04 a105a206 02', X, rewritten(2, 1, '12>12@0', '01 04 a105a206'))
 
-# ---- 50: padded numbers, in the order of crates/test_collect/src/main.rt: value, width, length, bytes or none where refused (15)
+# ---- 50, and document 02's 3.1: padded numbers, in the order of crates/test_collect/src/main.rt: value, width, length, bytes or none where refused (15)
 PADDED = [(0, 1, 1, '00'), (16, 2, 3, '900000'), (127, 1, 3, '7f0000'), (128, 1, 3, None), (128, 2, 3, '800100'), (0, 0, 3, None), (0, 4, 3, None), (0, 3, 3, '808000'),
           (0, 1, 0, None), (0, 0, 0, None),
           (1, 10, 12, '818080808080808080000000'), (1, 11, 12, None), (2 ** 64 - 1, 10, 10, 'ffffffffffffffffff01'), (2 ** 64 - 1, 9, 10, None),
           (2 ** 63, 10, 12, '808080808080808080010000'), (2 ** 63 - 1, 9, 9, 'ffffffffffffffff7f'), (2 ** 63 - 1, 10, 9, None)]
+
+
+def by_shifts(value, width, length):
+    if not 0 < width <= min(10, length) or value >> 7 * width:
+        return None
+    return (bytes(value >> 7 * i & 127 | (i < width - 1) << 7 for i in range(width)) + bytes(length - width)).hex()
+
+
+assert all(answer == by_shifts(*given) for *given, answer in PADDED)
+TWELVE = [(1, width) for width in (*range(14), 2 ** 64 - 1)]  # each width
+TWELVE += [pair for k in range(1, 10) for pair in ((128 ** k - 1, k), (128 ** k, k), (128 ** k, k + 1))]  # below and at each power of 128
+TWELVE += [(2 ** 64 - 1, width) for width in (9, 10, 11)]
+SLICES = [(300, 2, length) for length in (1, 2, 3)] + [(0, 10, length) for length in (9, 10, 11)]  # one byte short, full, one byte longer
+PADDED += [(*given, by_shifts(*given)) for given in [(value, width, 12) for value, width in TWELVE] + SLICES]
 
 
 def padded_lines():

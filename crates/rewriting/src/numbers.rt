@@ -1,11 +1,9 @@
 // Numbers written into a part of the output.
 ghost use mathlib.Core.Path.{_≡_};
-ghost use Prim.Native.Nat.{_+_, _-_, _^_, _<_, _≤_};
+ghost use Prim.Native.Nat.{_-_, _^_, _<_};
 ghost use mathlib.Core.Bool.{true, false};
-ghost use mathlib.Core.List.{_++_};
-ghost use lib.ListN.{length, take, drop};
+ghost use lib.ListN.{length};
 ghost use lib.Dec.{ltb};
-ghost use Rattle.readers.specs.Choice.{zeros};
 ghost use Rattle.readers.specs.Numbers.{padded, fixedBytes};
 ghost use Rattle.readers.specs.Layout.{numberBytes};
 ghost use Rattle.readers.specs.References.{encodedBy};
@@ -52,49 +50,27 @@ fn groups_fit(value: u64, width: usize, room: usize) -> bool
     fits(value, 128, width)
 }
 
-// A ULEB128 number in exactly so many bytes, each but the last with its high bit set, zeros after them.
-fn uleb128_padded(value: u64, width: usize) -> [u8; 10]
+// A ULEB128 number in exactly so many bytes at the start of a part, each but the last with its high bit set: whether it
+// fits; else the part stays as it is.
+fn put_groups(value: u64, width: usize, out: &mut [u8]) -> bool
     ensures { λ r. ⌜
-        (0 < width → width ≤ 10 → value < 128 ^ width → r ≡ padded (width - 1) value ++ zeros (10 - width))
+        Put (groupsFit value width (length (now (out .entry)))) (padded (width - 1) value) width
+        (now (out .entry)) (now (out .entry)) r (now (out .exit))
         ⌝ }
 {
-    let mut number = [0u8; 10];
-    if width == 0 {
-        return number;
-    }
-    if width > 10 {
-        return number;
+    if !groups_fit(value, width, out.len()) {
+        return false;
     }
     let last = width - 1;
     let mut rest = value;
     let mut i: usize = 0;
     while i < last {
-        number[i] = (rest % 128) as u8 + 128;
+        out[i] = (rest % 128) as u8 + 128;
         rest = rest / 128;
         i += 1;
     }
-    number[i] = (rest % 128) as u8;
-    number
-}
-
-// Copies the first bytes of a number into the start of a part that has room for them.
-fn copy_number(number: &[u8; 10], width: usize, out: &mut [u8])
-    ensures { λ _. ⌜
-        (length (now (number .entry)) ≡ 10 → width ≤ 10 → width ≤ length (now (out .entry))
-        → now (out .exit) ≡ take width (now (number .entry)) ++ drop width (now (out .entry)))
-        ⌝ }
-{
-    if width > 10 {
-        return;
-    }
-    if width > out.len() {
-        return;
-    }
-    let mut i: usize = 0;
-    while i < width {
-        out[i] = number[i];
-        i += 1;
-    }
+    out[i] = rest as u8;
+    true
 }
 
 // A little-endian number in so many bytes, at most eight: whether it fits.
@@ -129,13 +105,12 @@ pub fn write_uleb128_padded(value: u64, width: usize, out: &mut [u8]) -> Padded
     ensures answer { λ r. ⌜ r ≡ paddedAnswer value width (length (now (out .entry))) ⌝ }
     ensures bytes { λ _. ⌜ now (out .exit) ≡ paddedOut value width (length (now (out .entry))) ⌝ }
 {
-    clear_bytes(out);
-    if !groups_fit(value, width, out.len()) {
-        return Padded::Refused(15);
+    if put_groups(value, width, out) {
+        clear_bytes(&mut out[width..]);
+        return Padded::Written;
     }
-    let number = uleb128_padded(value, width);
-    copy_number(&number, width, out);
-    Padded::Written
+    clear_bytes(out);
+    Padded::Refused(15)
 }
 
 // Writes a number in its own encoding at the start of a part: whether it fits. A padded number has a part of exactly its

@@ -7,8 +7,8 @@ use mathlib.Core.List.{List, [], _∷_, _++_, append-nil, reverse, reverse-cons}
 use native.Mathlib.Nat.{pow-zero, pow-suc, div-lt-iff-lt-mul}
 use native.Mathlib.Numerals.{add-one}
 use native.Mathlib.Omega.{arith}
-use lib.ListN.{length, getD, take, drop, set, length-append, length-replicate, length-set, drop-of-length-le, take-append-drop}
-use lib.Seq.{drop-cons, take-suc, take-at, getD-take, set-at, append-snoc, length-take-le}
+use lib.ListN.{length, getD, take, drop, set, length-append, length-drop, length-set, drop-of-length-le, take-append-drop}
+use lib.Seq.{drop-cons, take-suc, take-at, set-at, append-snoc, length-take-le}
 use lib.Dec.{ltb, leb, eqb}
 use mir.Facts.{ltb-yes, ltb-no}
 use borrow.Author.Tests.{lt-ltb, le-ltb, le-leb, lt-leb, ltb-true, leb-true, eq-eqb, ne-eqb}
@@ -81,31 +81,6 @@ copy-more bytes out₀ out i h l p =
 pub copy-done : (bytes out₀ out : List ℕ) (i : ℕ) → length bytes ≤ i → Putting bytes out₀ (drop i bytes) out i → out ≡ bytes ++ drop (length bytes) out₀
 copy-done bytes out₀ out i h p =
     putting-done bytes out₀ out i (length bytes) refl (subst (λ t. Putting bytes out₀ t out i) (drop-of-length-le bytes {i = i} h) p)
-
--- After i of the first bytes of a run that is as long.
-pub record Copying (bytes : List ℕ) (width : ℕ) (out₀ out : List ℕ) (i : ℕ) : Type 0 where
-  pub same : length out ≡ length out₀
-  pub putting : width ≤ length bytes → Putting (take width bytes) out₀ (drop i (take width bytes)) out i
-
-pub copying-start : (bytes : List ℕ) (width : ℕ) (out : List ℕ) → Copying bytes width out out 0
-copying-start bytes width out = record { same = refl; putting = λ k. putting-start (take width bytes) out }
-
-pub copying-more : (bytes : List ℕ) (width : ℕ) (out₀ out : List ℕ) (i : ℕ) → width ≤ length out₀ → i < width → Copying bytes width out₀ out i
-    → Copying bytes width out₀ (set out i (getD bytes i 0)) (i + 1)
-copying-more bytes width out₀ out i l h p =
-    record {
-      same = length-set out i (getD bytes i 0) ∙ p .same;
-      putting = λ k.
-          (let n : length (take width bytes) ≡ width = length-take-le width bytes k in
-          subst (λ b. Putting (take width bytes) out₀ (drop (i + 1) (take width bytes)) (set out i b) (i + 1)) (getD-take width bytes i 0 h)
-          (copy-more (take width bytes) out₀ out i (omega arith) (omega arith) (p .putting k)));
-    }
-
-pub copying-done : (bytes : List ℕ) (width : ℕ) (out₀ out : List ℕ) (i : ℕ) → width ≤ i → Copying bytes width out₀ out i → width ≤ length bytes
-    → out ≡ take width bytes ++ drop width out₀
-copying-done bytes width out₀ out i h p k =
-    let n : length (take width bytes) ≡ width = length-take-le width bytes k in
-    copy-done (take width bytes) out₀ out i (omega arith) (p .putting k) ∙ ap (λ m. take width bytes ++ drop m out₀) n
 
 -- ---- digits
 
@@ -194,10 +169,6 @@ module _ (value width n : ℕ) where
   unfolding groupsFit
   fit-some e = ltb-true 0 width (true-first _ _ e)
 
-  pub fit-ten : groupsFit value width n ≡ true → width ≤ 10
-  unfolding groupsFit
-  fit-ten e = leb-true width 10 (true-first _ _ (true-second (ltb 0 width) _ e))
-
   pub fit-room : groupsFit value width n ≡ true → width ≤ n
   unfolding groupsFit
   fit-room e = leb-true width n (true-first _ _ (true-second (leb width 10) _ (true-second (ltb 0 width) _ e)))
@@ -209,6 +180,11 @@ module _ (value width n : ℕ) where
   pub fit-low : groupsFit value width n ≡ true → value < 128 ^ width
   unfolding groupsFit
   fit-low e = ltb-true value (128 ^ width) (true-second (leb width n) _ (true-second (leb width 10) _ (true-second (ltb 0 width) _ e)))
+
+  pub fit-length : groupsFit value width n ≡ true → length (padded (width - 1) value) ≡ width
+  fit-length e =
+      let s : 0 < width = fit-some e in
+      length-padded (width - 1) value ∙ (let g : suc (width - 1) ≡ width = omega arith in g)
 
   pub bytes-over : 8 < width → bytesFit value width n ≡ false
   unfolding bytesFit
@@ -236,17 +212,20 @@ module _ (value width n : ℕ) where
 pub record Grouping (value last : ℕ) (out₀ : List ℕ) (rest i : ℕ) (out : List ℕ) : Type 0 where
   pub few : i ≤ last
   pub room : last < length out₀
-  pub low : value < 128 ^ suc last → rest < 128 ^ suc (last - i)
+  pub low : rest < 128 ^ suc (last - i)
   pub putting : Putting (padded last value) out₀ (padded (last - i) rest) out i
 
-pub grouping-start : (value last : ℕ) (out : List ℕ) → last < length out → Grouping value last out value 0 out
-grouping-start value last out h =
-    let e : last ≡ last - 0 = omega arith in
+pub grouping-start : (value width : ℕ) (out : List ℕ) → groupsFit value width (length out) ≡ true → Grouping value (width - 1) out value 0 out
+grouping-start value width out fit =
+    let s : 0 < width = fit-some value width (length out) fit in
+    let r : width ≤ length out = fit-room value width (length out) fit in
+    let e : width ≡ suc (width - 1 - 0) = omega arith in
+    let k : width - 1 ≡ width - 1 - 0 = omega arith in
     record {
       few = omega arith;
-      room = h;
-      low = λ l. subst (λ n. value < 128 ^ suc n) e l;
-      putting = subst (λ n. Putting (padded last value) out (padded n value) out 0) e (putting-start (padded last value) out);
+      room = omega arith;
+      low = subst (λ n. value < 128 ^ n) e (fit-low value width (length out) fit);
+      putting = subst (λ n. Putting (padded (width - 1) value) out (padded n value) out 0) k (putting-start (padded (width - 1) value) out);
     }
 
 pub grouping-more : (value last : ℕ) (out₀ : List ℕ) (rest i : ℕ) (out : List ℕ) → i < last → Grouping value last out₀ rest i out
@@ -259,51 +238,31 @@ grouping-more value last out₀ rest i out h p =
     record {
       few = omega arith;
       room = p .room;
-      low = λ v. (let l : rest < 128 ^ suc (suc k) = subst (λ n. rest < 128 ^ suc n) e (p .low v) in omega arith);
+      low = (let l : rest < 128 ^ suc (suc k) = subst (λ n. rest < 128 ^ suc n) e (p .low) in omega arith);
       putting = putting-more (padded last value) out₀ (padded k (rest / 128)) out i (rest % 128 + 128) (omega (arith, p .room))
           (subst (λ (t : List ℕ). Putting (padded last value) out₀ t out i) (ap (λ n. padded n rest) e ∙ ap (λ (x : ℕ). x ∷ padded k (rest / 128)) b) (p .putting));
     }
 
-grouping-low : (value last : ℕ) (out₀ : List ℕ) (rest i : ℕ) (out : List ℕ) → last ≤ i → Grouping value last out₀ rest i out → value < 128 ^ suc last → rest < 128
-grouping-low value last out₀ rest i out h p v =
-    let e : last - i ≡ 0 = (let f : i ≤ last = p .few in omega arith) in
-    let l : rest < 128 ^ suc 0 = subst (λ n. rest < 128 ^ suc n) e (p .low v) in omega arith
+-- the last byte
+grouping-end : (value last : ℕ) (out₀ : List ℕ) (rest i : ℕ) (out : List ℕ) → last ≤ i → Grouping value last out₀ rest i out → last - i ≡ 0
+grouping-end value last out₀ rest i out h p = let f : i ≤ last = p .few in omega arith
 
-grouping-done : (value last : ℕ) (out₀ : List ℕ) (rest i : ℕ) (out : List ℕ) → last ≤ i → Grouping value last out₀ rest i out → value < 128 ^ suc last
-    → set out i (rest % 128) ≡ padded last value ++ drop (suc last) out₀
+pub grouping-low : (value last : ℕ) (out₀ : List ℕ) (rest i : ℕ) (out : List ℕ) → last ≤ i → Grouping value last out₀ rest i out → rest < 128
+grouping-low value last out₀ rest i out h p =
+    let l : rest < 128 ^ suc 0 = subst (λ n. rest < 128 ^ suc n) (grouping-end value last out₀ rest i out h p) (p .low) in omega arith
+
+pub grouping-room : (value last : ℕ) (out₀ : List ℕ) (rest i : ℕ) (out : List ℕ) → Grouping value last out₀ rest i out → i < length out
+grouping-room value last out₀ rest i out p = let f : i ≤ last = p .few in omega (arith, p .room, p .putting .same)
+
+pub grouping-done : (value width : ℕ) (out₀ : List ℕ) (rest i : ℕ) (out : List ℕ) → groupsFit value width (length out₀) ≡ true
+    → width - 1 ≤ i → Grouping value (width - 1) out₀ rest i out → set out i rest ≡ padded (width - 1) value ++ drop width out₀
 unfolding padded
-grouping-done value last out₀ rest i out h p v =
-    let e : last - i ≡ 0 = (let f : i ≤ last = p .few in omega arith) in
-    let r : rest % 128 ≡ rest = (let l : rest < 128 = grouping-low value last out₀ rest i out h p v in omega arith) in
-    ap (λ b. set out i b) r ∙ putting-done (padded last value) out₀ (set out i rest) (i + 1) (suc last) (length-padded last value)
-    (putting-more (padded last value) out₀ [] out i rest (let f : i ≤ last = p .few in omega (arith, p .room))
-    (subst (λ n. Putting (padded last value) out₀ (padded n rest) out i) e (p .putting)))
-
--- the whole array
-pub number-made : (value width rest i : ℕ) (out : List ℕ) → width - 1 ≤ i → Grouping value (width - 1) (zeros 10) rest i out → 0 < width → value < 128 ^ width
-    → set out i (rest % 128) ≡ padded (width - 1) value ++ zeros (10 - width)
-number-made value width rest i out h p w v =
-    let e : width ≡ suc (width - 1) = omega arith in
-    grouping-done value (width - 1) (zeros 10) rest i out h p (subst (λ n. value < 128 ^ n) e v)
-    ∙ ap (λ n. padded (width - 1) value ++ drop n (zeros 10)) (sym e) ∙ ap (λ l. padded (width - 1) value ++ l) (drop-zeros 10 width)
-
--- made, and copied
-pub number-put : (value width : ℕ) (out number after : List ℕ) → groupsFit value width (length out) ≡ true
-    → (0 < width → width ≤ 10 → value < 128 ^ width → number ≡ padded (width - 1) value ++ zeros (10 - width))
-    → (length number ≡ 10 → width ≤ 10 → width ≤ length out → after ≡ take width number ++ drop width out)
-    → Put (groupsFit value width (length out)) (padded (width - 1) value) width out out true after
-number-put value width out number after e made copied =
-    let w : 0 < width = fit-some value width (length out) e in
-    let t : width ≤ 10 = fit-ten value width (length out) e in
-    let n : length (padded (width - 1) value) ≡ width = length-padded (width - 1) value ∙ (let g : suc (width - 1) ≡ width = omega arith in g) in
-    let m : number ≡ padded (width - 1) value ++ zeros (10 - width) = made w t (fit-low value width (length out) e) in
-    let ten : length number ≡ 10 =
-    ap length m ∙ length-append (padded (width - 1) value) (zeros (10 - width)) ∙ ap₂ (λ a b. a + b) n (length-replicate (10 - width) 0)
-    ∙ (let g : width + (10 - width) ≡ 10 = omega arith in g) in
-    accepted _ _ _ _ _ _ e
-    (copied ten t (fit-room value width (length out) e)
-    ∙ ap (λ l. take width l ++ drop width out) m
-    ∙ ap (λ l. l ++ drop width out) (take-at (padded (width - 1) value) (zeros (10 - width)) width n))
+grouping-done value width out₀ rest i out fit h p =
+    let bytes : List ℕ = padded (width - 1) value in
+    let f : i ≤ width - 1 = p .few in
+    putting-done bytes out₀ (set out i rest) (i + 1) width (fit-length value width (length out₀) fit)
+    (putting-more bytes out₀ [] out i rest (omega (arith, p .room))
+    (subst (λ n. Putting bytes out₀ (padded n rest) out i) (grouping-end value (width - 1) out₀ rest i out h p) (p .putting)))
 
 -- ---- a little-endian number
 
@@ -425,26 +384,48 @@ big-endian-there w s at v q e h = q ∙ ap valueOr (fixed-is true w s at e (omeg
 
 -- ---- a padded number in a part of its own, a number in its own encoding
 
-module _ (value width n : ℕ) (out out′ : List ℕ) (r : Bool) (z : out ≡ zeros n) (p : Put (groupsFit value width (length out)) (padded (width - 1) value) width out out r out′) where
-  fit-is : groupsFit value width n ≡ r
-  fit-is = ap (λ m. groupsFit value width m) (sym (ap length z ∙ length-replicate n 0)) ∙ sym (p .told)
+module _ (value width : ℕ) (out out′ : List ℕ) (r : Bool) (p : Put (groupsFit value width (length out)) (padded (width - 1) value) width out out r out′) where
+  groups-done : r ≡ true → groupsFit value width (length out) ≡ true
+  groups-done t = sym (p .told) ∙ t
 
-  out-is : out′ ≡ pick r (padded (width - 1) value ++ drop width out) out
-  out-is = p .left ∙ ap (λ b. pick b (padded (width - 1) value ++ drop width out) out) (sym (p .told))
+  sized : r ≡ true → length (padded (width - 1) value) ≡ width
+  sized t = fit-length value width (length out) (groups-done t)
 
-  pub padded-written : r ≡ true → (Written ≡ paddedAnswer value width n) × (out′ ≡ paddedOut value width n)
+  whole : r ≡ true → out′ ≡ padded (width - 1) value ++ drop width out
+  unfolding pick
+  whole t = p .left ∙ ap (λ b. pick b (padded (width - 1) value ++ drop width out) out) (groups-done t)
+
+  groups-same : r ≡ true → length out′ ≡ length out
+  groups-same t =
+      let i : width ≤ length out = fit-room value width (length out) (groups-done t) in
+      omega (arith, ap length (whole t), length-append (padded (width - 1) value) (drop width out), sized t, length-drop width out)
+
+  pub groups-inside : r ≡ true → width ≤ length out′
+  groups-inside t = omega (arith, groups-same t, fit-room value width (length out) (groups-done t))
+
+  -- the number, and zeros for what stood behind it
+  pub padded-written : r ≡ true → (rest after : List ℕ) → rest ≡ zeros (length (take (length out′ - width) (drop width out′)))
+      → after ≡ take width out′ ++ (rest ++ drop (length out′ - width) (drop width out′))
+      → (Written ≡ paddedAnswer value width (length out)) × (after ≡ paddedOut value width (length out))
   unfolding pick paddedAnswer paddedOut
-  padded-written t =
-      let e : groupsFit value width n ≡ true = fit-is ∙ t in
-      let o : out′ ≡ padded (width - 1) value ++ drop width out = rw t at out-is in
-      (rw e, rw e (o ∙ ap (λ l. padded (width - 1) value ++ drop width l) z ∙ ap (λ l. padded (width - 1) value ++ l) (drop-zeros n width)))
+  padded-written t rest after z q =
+      let e : groupsFit value width (length out) ≡ true = groups-done t in
+      let n : ℕ = length out′ - width in
+      let l : length (drop width out′) ≡ n = length-drop width out′ in
+      let k : length (take n (drop width out′)) ≡ length out - width =
+      length-take-le n (drop width out′) (omega arith) ∙ ap (λ m. m - width) (groups-same t) in
+      let one : take width out′ ≡ padded (width - 1) value = ap (take width) (whole t) ∙ take-at (padded (width - 1) value) (drop width out) width (sized t) in
+      let two : rest ++ drop n (drop width out′) ≡ zeros (length out - width) =
+      ap (λ x. rest ++ x) (drop-of-length-le (drop width out′) {i = n} (omega arith)) ∙ append-nil rest ∙ z ∙ ap (λ m. zeros m) k in
+      (rw e, rw e (q ∙ ap₂ (λ (x y : List ℕ). x ++ y) one two))
 
-  pub padded-refused : r ≡ false → (Refused 15 ≡ paddedAnswer value width n) × (out′ ≡ paddedOut value width n)
+  pub padded-refused : r ≡ false → (after : List ℕ) → after ≡ zeros (length out′)
+      → (Refused 15 ≡ paddedAnswer value width (length out)) × (after ≡ paddedOut value width (length out))
   unfolding pick paddedAnswer paddedOut
-  padded-refused t =
-      let e : groupsFit value width n ≡ false = fit-is ∙ t in
-      let o : out′ ≡ out = rw t at out-is in
-      (rw e, rw e (o ∙ z))
+  padded-refused t after z =
+      let e : groupsFit value width (length out) ≡ false = sym (p .told) ∙ t in
+      let o : out′ ≡ out = p .left ∙ ap (λ b. pick b (padded (width - 1) value ++ drop width out) out) e in
+      (rw e, rw e (z ∙ ap (λ x. zeros (length x)) o))
 
 -- what `write_uleb128_padded` leaves in a part of exactly the number's width
 module _ (value width : ℕ) (answer : Padded) (x : List ℕ) (told : answer ≡ paddedAnswer value width width) (left : x ≡ paddedOut value width width) where
