@@ -38,8 +38,8 @@ module _ (e : Encoding) (x : Sections) (unit : List ℕ) where
   RowsOf k stack rb lb (entry y ∷ rest) [] = ⊥
   RowsOf k stack rb lb (entry y ∷ rest) (r ∷ rows) =
       RowOf stack rb lb y r
-      × RowsOf (suc k) (opened (y .declaration .children) k stack) (baseOf e x unit «DW_AT_rnglists_base» rb y) (baseOf e x unit «DW_AT_loclists_base» lb y)
-      rest rows
+      × RowsOf (suc k) (opened (y .declaration .children) k stack) (baseOf e x unit «DW_AT_rnglists_base» rb y)
+      (baseOf e x unit «DW_AT_loclists_base» lb y) rest rows
 
 -- the items of a unit: from its first entry on, inside its own bytes, by its declarations; and whether the unit's end
 -- is what follows them

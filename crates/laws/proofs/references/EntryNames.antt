@@ -11,17 +11,15 @@ use lib.Seq.{length-take-le, drop-drop}
 use lib.Dec.{T, eqb, leb}
 use mir.Facts.{leb-yes, yes-eqb, eqb-yes, eqb-no, no-eqb}
 use Rattle.readers.specs.Choice.{pick, _and_, _or_, bind}
-use Rattle.readers.proofs.Choice.{pick-yes, pick-no, pick-either, either, bind-at, bind-bind, check-yes, All, all-some, all-none, all-of, all-bind, all-check, all-triv, and-both}
+use Rattle.readers.proofs.Choice.{pick-yes, pick-no, pick-either, either, bind-at, check-yes, All, all-some, all-none, all-of, all-bind, all-check, all-map, all-triv, and-both}
 use Rattle.readers.specs.Numbers.{uleb, sleb}
-use Rattle.readers.specs.Layout.{Kind, leb128, reference, sibling, Token, nothing, number, bounded, forms, signed, link, string, run, block, expression, unknown, Layout, done, field, verbatim, Read, ReadOf, RunOf, ExpressionReader, asBytes, copy, asNumber, asBounded, asForms, asSigned, asLink, asString, asBlock, asExpression, numberIn, formsIn, stringIn, tokenIn, readIn, before, bytesOf, pieceBytes}
-use Rattle.readers.proofs.LayoutLaws.{LebLaw, uleb-law, TokenLaw, token-law, as-bytes-law}
+use Rattle.readers.specs.Layout.{Kind, leb128, reference, sibling, Token, nothing, number, bounded, forms, signed, link, string, run, block, expression, unknown, field, verbatim, Read, ReadOf, RunOf, ExpressionReader, asBytes, copy, asNumber, asBounded, asForms, asSigned, asLink, asString, asBlock, asExpression, numberIn, formsIn, stringIn, tokenIn, readIn, bytesOf, pieceBytes}
+use Rattle.readers.proofs.LayoutLaws.{LebLaw, uleb-law}
 use Rattle.readers.specs.Expression.{expressionIn}
 use Rattle.readers.specs.Tokens.{Use, plain, as′, numberAs, tokenOf}
-use Rattle.readers.specs.Forms.{formTokens, tokenAmong, formToken, useOf, valueToken, attributeLayout}
-use Rattle.readers.specs.Fields.{size, linkedValue, fieldOf, asField, tokenAt}
-use Rattle.readers.specs.Cursors.{formsAt, asFormNumber}
+use Rattle.readers.specs.Forms.{formTokens, tokenAmong, formToken, useOf, valueToken}
+use Rattle.readers.specs.Fields.{size, linkedValue, fieldOf}
 use Rattle.readers.specs.Entries.{entryLayout, stepAt}
-use Rattle.readers.proofs.Values.{valued, behindForms, attribute-direct, attribute-indirect}
 use Rattle.readers.specs.declared.cursor.Encoding.{Encoding}
 use Rattle.readers.specs.declared.fields.Field.{Field}
 use Rattle.readers.specs.declared.abbreviations.DeclarationFound.{DeclarationFound}
@@ -30,7 +28,7 @@ use Rattle.readers.specs.declared.entries.Step.{Step}
 use Rattle.readers.specs.EntryAttributes.{Valued}
 use Rattle.marking.specs.EntryReferences.{partOf}
 use Rattle.rewriting.proofs.write_pass.Expressions.{isExpression, value-exprloc}
-use Rattle.rewriting.proofs.kept_pass.EntryReads.{ValueRead, StepBy, deep-by}
+use Rattle.rewriting.proofs.kept_pass.EntryReads.{TokenRead, StepBy, deep-by}
 use Rattle.laws.proofs.references.NamedPieces.{roleNames, pieceNames, piecesNames, readsNames, namesOf}
 
 -- a use that names nothing
@@ -276,76 +274,20 @@ module _ (e : Encoding) (unit : List ℕ) where
 
   -- ---- a value that was read deep
 
-  -- where a token ends
-  token-rest : (t : Token) (n : ℕ) (r : ReadOf) → tokenIn big asBytes t (drop n unit) ≡ some r → r .1 ≡ drop (fieldOf big n (r .0) .end) unit
-  unfolding fieldOf size
-  token-rest t n r q =
-      let l : TokenLaw big asBytes t (drop n unit) r = all-of (TokenLaw big asBytes t (drop n unit)) (token-law big asBytes (as-bytes-law big) t (drop n unit)) q in
-      l .0 .1 ∙ drop-drop _ n unit
-
-  -- an attribute: its value, where it ends, and its references
   abbrev valueNames : ℕ → Attribute → List ℕ
   valueNames name v = ownNames name (v .form) (v .field)
 
-  abbrev NamedValue : ℕ → ℕ → ℕ → RunOf → Type 0
-  NamedValue name form at r = ValueRead readsNames valueNames e unit name form at r
+  token-read : (indirect : Bool) (name form at : ℕ)
+      → All (TokenRead piecesNames valueNames e unit indirect name form at) (tokenIn big deep (valueToken e indirect name form) (drop at unit))
+  token-read indirect name form at =
+      let t : Token = valueToken e indirect name form in
+      all-map (NamedToken t at) (TokenRead piecesNames valueNames e unit indirect name form at) (tokenIn big deep t (drop at unit))
+      (λ r i. record { it = i .it; is = i .is; numbers = i .names ∙ value-names name (fieldOf big at (i .it)) indirect form })
+      (token-named t at)
 
-  module _ (name form at : ℕ) where
-    direct-value : T (not (eqb form 0x16)) → All (NamedValue name form at) (readIn big deep (field (valueToken e false name form) (λ _. done)) (drop at unit))
-    unfolding readIn before bind tokenAt asField valued readsNames
-    direct-value n =
-        let t : Token = valueToken e false name form in
-        all-bind (NamedToken t at) _ (tokenIn big deep t (drop at unit)) _ (token-named t at)
-        (λ r q i.
-        let f : Field = fieldOf big at (i .it) in
-        all-some (NamedValue name form at)
-        (record {
-          value = record { form = form; field = f };
-          is = attribute-direct e unit at name form (eqb-no {a = form} {b = 0x16} n) ∙ ap (λ o. valued form (asField big at o)) (i .is);
-          rest = token-rest t at (i .it, r .1) (i .is);
-          numbers = append-nil (piecesNames (r .0 .pieces)) ∙ i .names ∙ value-names name f false form;
-        }))
-
-    abbrev behind : ℕ → Layout
-    behind g = field (valueToken e true name g) (λ _. done)
-
-    -- the value after its form numbers
-    value-behind : T (eqb form 0x16) → (g : ℕ × ℕ) → formsIn (drop at unit) ≡ some g
-        → All (NamedValue name form at) (bind (readIn big deep (behind (g .1)) (drop (at + g .0) unit)) (before (copy (g .1) 0 (g .0) (drop at unit) .0)))
-    unfolding readIn before bind copy tokenAt asField valued formsAt asFormNumber behindForms readsNames piecesNames pieceNames
-    value-behind h g q =
-        let t : Token = valueToken e true name (g .1) in
-        let n : ℕ = at + g .0 in
-        let P : RunOf → Type 0 = NamedValue name form at in
-        subst (All P) (sym (bind-bind (tokenIn big deep t (drop n unit)) (λ (r : ReadOf). some (r .0 ∷ [], r .1)) (before (copy (g .1) 0 (g .0) (drop at unit) .0))))
-        (all-bind (NamedToken t n) P (tokenIn big deep t (drop n unit)) _ (token-named t n)
-        (λ r p i.
-        let f : Field = fieldOf big n (i .it) in
-        all-some P
-        (record {
-          value = record { form = g .1; field = f };
-          is =
-              attribute-indirect e unit at name form (eqb-yes {a = form} {b = 0x16} h)
-              ∙ ap (λ o. behindForms e unit at name form (asFormNumber at o)) q
-              ∙ ap (λ o. valued (g .1) (asField big n o)) (i .is);
-          rest = token-rest t n (i .it, r .1) (i .is);
-          numbers = append-nil (piecesNames (r .0 .pieces)) ∙ i .names ∙ value-names name f true (g .1);
-        })))
-
-    indirect-value : T (eqb form 0x16) → All (NamedValue name form at) (readIn big deep (field forms behind) (drop at unit))
-    unfolding readIn tokenIn asForms bind copy
-    indirect-value h =
-        let P : RunOf → Type 0 = NamedValue name form at in
-        let s : List ℕ = drop at unit in
-        subst (All P) (sym (bind-bind (formsIn s) (asForms s) (λ (r : ReadOf). bind (readIn big deep (behind (r .0 .seen)) (r .1)) (before (r .0)))))
-        (all-bind _ P (formsIn s) _ (all-triv (formsIn s))
-        (λ g q _. subst (λ (z : List ℕ). All P (bind (readIn big deep (behind (g .1)) z) (before (copy (g .1) 0 (g .0) s .0)))) (sym (drop-drop (g .0) at unit)) (value-behind h g q)))
-
-    value-read : All (NamedValue name form at) (readIn big deep (attributeLayout e name form) (drop at unit))
-    unfolding attributeLayout
-    value-read =
-        pick-either (λ g. All (NamedValue name form at) (readIn big deep g (drop at unit))) (eqb form 0x16) (field forms behind) (field (valueToken e false name form) (λ _. done))
-        indirect-value direct-value
+  copied-none : (l : List ℕ) → piecesNames (verbatim l ∷ []) ≡ []
+  unfolding piecesNames pieceNames
+  copied-none l = refl
 
   -- ---- the values of an entry
 
@@ -383,4 +325,4 @@ module _ (e : Encoding) (unit : List ℕ) where
     pub deep-names : (at : ℕ) (all : RunOf) → readIn big deep (entryLayout e abbreviations look) (drop at unit) ≡ some all
         → StepNames (stepAt e abbreviations look unit at) (readsNames (all .0))
     deep-names at all q =
-        deep-by piecesNames readsNames valuesNames valueNames no-reads more-reads no-values more-values e unit value-read no-code abbreviations look at all q
+        deep-by piecesNames readsNames valuesNames valueNames no-reads more-reads no-values more-values e unit token-read copied-none no-code abbreviations look at all q

@@ -8,22 +8,18 @@ use mathlib.Core.List.{List, [], _∷_, _++_, append-assoc, append-nil}
 use mathlib.Core.Option.{some}
 use mathlib.Core.Logic.{⊎-elim, _↔_}
 use lib.ListN.{length, getD, take, drop}
-use lib.Seq.{drop-drop}
 use lib.Dec.{T, eqb, leb}
 use mir.Facts.{leb-yes, eqb-yes, eqb-no, no-eqb}
 use Rattle.readers.specs.Choice.{pick, _and_, _or_, bind}
-use Rattle.readers.proofs.Choice.{pick-yes, pick-no, pick-either, either, bind-at, bind-bind, check-yes, All, all-some, all-none, all-of, all-bind, all-check, all-triv, and-both}
+use Rattle.readers.proofs.Choice.{pick-yes, pick-no, pick-either, either, bind-at, check-yes, All, all-some, all-none, all-of, all-bind, all-check, all-map, all-triv, and-both}
 use Rattle.readers.specs.Numbers.{uleb, sleb}
 use Rattle.readers.specs.Layout.{Encoded, Kind, leb128, Role, reference, typeReference, sibling, index, absolute, Token, nothing, number, bounded, forms, signed, link, string, run, block, expression, unknown, Layout, done, fail, field, Piece, verbatim, patchable, Read, ReadOf, RunOf, ExpressionReader, asBytes, copy, asNumber, asBounded, asForms, asSigned, asLink, asString, asBlock, asExpression, numberIn, formsIn, stringIn, tokenIn, readIn, before}
-use Rattle.readers.proofs.LayoutLaws.{TokenLaw, token-law, as-bytes-law}
 use Rattle.readers.specs.Expression.{allPieces, andRest, expressionWithin, expressionIn}
 use Rattle.readers.specs.Operations.{OperandRow, unreadableRow, rows, rowOf, rowLayout, operationRow, operation}
 use Rattle.readers.specs.Tokens.{Use, plain, as′, numberAs, tokenOf}
-use Rattle.readers.specs.Forms.{formTokens, tokenAmong, formToken, useOf, valueToken, attributeLayout}
-use Rattle.readers.specs.Fields.{size, linkedValue, fieldOf, asField, tokenAt}
-use Rattle.readers.specs.Cursors.{formsAt, asFormNumber}
+use Rattle.readers.specs.Forms.{formTokens, tokenAmong, formToken, useOf, valueToken}
+use Rattle.readers.specs.Fields.{linkedValue, fieldOf}
 use Rattle.readers.specs.Entries.{entryLayout, stepAt}
-use Rattle.readers.proofs.Values.{valued, behindForms, attribute-direct, attribute-indirect}
 use Rattle.readers.specs.declared.cursor.Encoding.{Encoding}
 use Rattle.readers.specs.declared.abbreviations.DeclarationFound.{DeclarationFound}
 use Rattle.readers.specs.declared.attributes.Attribute.{Attribute}
@@ -33,7 +29,7 @@ use Rattle.marking.specs.Members.{Member, here, there}
 use Rattle.marking.proofs.Members.{nothing-in, in-left, in-right, in-either}
 use Rattle.laws.specs.SameRoles.{RoleRead}
 use Rattle.laws.proofs.references.NamedPieces.{only}
-use Rattle.rewriting.proofs.kept_pass.EntryReads.{ValueRead as AttributeRead′, StepBy, deep-by}
+use Rattle.rewriting.proofs.kept_pass.EntryReads.{TokenRead, StepBy, deep-by}
 
 -- ---- uses
 
@@ -436,72 +432,23 @@ module _ (sought : Role → Bool) (no-reference : sought reference ≡ false) (n
       abbrev deep : ExpressionReader
       deep = expressionIn e
 
-      -- where a token ends
-      token-rest : (t : Token) (n : ℕ) (r : ReadOf) → tokenIn big asBytes t (drop n unit) ≡ some r → r .1 ≡ drop (fieldOf big n (r .0) .end) unit
-      unfolding fieldOf size
-      token-rest t n r q =
-          let l : TokenLaw big asBytes t (drop n unit) r = all-of (TokenLaw big asBytes t (drop n unit)) (token-law big asBytes (as-bytes-law big) t (drop n unit)) q in
-          l .0 .1 ∙ drop-drop _ n unit
+      token-read : (indirect : Bool) (name form at : ℕ)
+          → All (TokenRead piecesSought ownSought e unit indirect name form at) (tokenIn big deep (valueToken e indirect name form) (drop at unit))
+      unfolding ownSought fieldOf
+      token-read indirect name form at =
+          let t : Token = valueToken e indirect name form in
+          all-map (SoughtToken big deep t (drop at unit)) (TokenRead piecesSought ownSought e unit indirect name form at) (tokenIn big deep t (drop at unit))
+          (λ r i.
+          record {
+            it = i .it;
+            is = i .is;
+            numbers = i .numbers ∙ value-sought indirect name form (linkedValue (i .it .pieces) (i .it .seen));
+          })
+          (token-sought big deep expression-none t (drop at unit))
 
-      -- an attribute: its value, where it ends, and what is sought of it
-      abbrev ValueRead : ℕ → ℕ → ℕ → RunOf → Type 0
-      ValueRead name form at r = AttributeRead′ readsSought ownSought e unit name form at r
-
-      module _ (name form at : ℕ) where
-        direct-value : T (not (eqb form 0x16)) → All (ValueRead name form at) (readIn big deep (field (valueToken e false name form) (λ _. done)) (drop at unit))
-        unfolding readIn before bind tokenAt asField valued readsSought ownSought fieldOf
-        direct-value n =
-            let t : Token = valueToken e false name form in
-            all-bind (SoughtToken big deep t (drop at unit)) _ (tokenIn big deep t (drop at unit)) _ (token-sought big deep expression-none t (drop at unit))
-            (λ r q i.
-            let v : Attribute = record { form = form; field = fieldOf big at (i .it) } in
-            all-some (ValueRead name form at)
-            (record {
-              value = v;
-              is = attribute-direct e unit at name form (eqb-no {a = form} {b = 0x16} n) ∙ ap (λ o. valued form (asField big at o)) (i .is);
-              rest = token-rest t at (i .it, r .1) (i .is);
-              numbers = append-nil (piecesSought (r .0 .pieces)) ∙ i .numbers ∙ value-sought false name form (linkedValue (i .it .pieces) (i .it .seen));
-            }))
-
-        abbrev behind : ℕ → Layout
-        behind f = field (valueToken e true name f) (λ _. done)
-
-        value-behind : T (eqb form 0x16) → (f : ℕ × ℕ) → formsIn (drop at unit) ≡ some f
-            → All (ValueRead name form at) (bind (readIn big deep (behind (f .1)) (drop (at + f .0) unit)) (before (copy (f .1) 0 (f .0) (drop at unit) .0)))
-        unfolding readIn before bind copy tokenAt asField valued formsAt asFormNumber behindForms readsSought piecesSought pieceSought ownSought fieldOf
-        value-behind h f q =
-            let t : Token = valueToken e true name (f .1) in
-            let n : ℕ = at + f .0 in
-            let P : RunOf → Type 0 = ValueRead name form at in
-            subst (All P) (sym (bind-bind (tokenIn big deep t (drop n unit)) (λ (r : ReadOf). some (r .0 ∷ [], r .1)) (before (copy (f .1) 0 (f .0) (drop at unit) .0))))
-            (all-bind (SoughtToken big deep t (drop n unit)) P (tokenIn big deep t (drop n unit)) _ (token-sought big deep expression-none t (drop n unit))
-            (λ r p i.
-            let v : Attribute = record { form = f .1; field = fieldOf big n (i .it) } in
-            all-some P
-            (record {
-              value = v;
-              is =
-                  attribute-indirect e unit at name form (eqb-yes {a = form} {b = 0x16} h)
-                  ∙ ap (λ o. behindForms e unit at name form (asFormNumber at o)) q
-                  ∙ ap (λ o. valued (f .1) (asField big n o)) (i .is);
-              rest = token-rest t n (i .it, r .1) (i .is);
-              numbers = append-nil (piecesSought (r .0 .pieces)) ∙ i .numbers ∙ value-sought true name (f .1) (linkedValue (i .it .pieces) (i .it .seen));
-            })))
-
-        indirect-value : T (eqb form 0x16) → All (ValueRead name form at) (readIn big deep (field forms behind) (drop at unit))
-        unfolding readIn tokenIn asForms bind copy
-        indirect-value h =
-            let P : RunOf → Type 0 = ValueRead name form at in
-            let s : List ℕ = drop at unit in
-            subst (All P) (sym (bind-bind (formsIn s) (asForms s) (λ (r : ReadOf). bind (readIn big deep (behind (r .0 .seen)) (r .1)) (before (r .0)))))
-            (all-bind _ P (formsIn s) _ (all-triv (formsIn s))
-            (λ f q _. subst (λ (z : List ℕ). All P (bind (readIn big deep (behind (f .1)) z) (before (copy (f .1) 0 (f .0) s .0)))) (sym (drop-drop (f .0) at unit)) (value-behind h f q)))
-
-        value-read : All (ValueRead name form at) (readIn big deep (attributeLayout e name form) (drop at unit))
-        unfolding attributeLayout
-        value-read =
-            pick-either (λ g. All (ValueRead name form at) (readIn big deep g (drop at unit))) (eqb form 0x16) (field forms behind) (field (valueToken e false name form) (λ _. done))
-            indirect-value direct-value
+      copied-none : (l : List ℕ) → piecesSought (verbatim l ∷ []) ≡ []
+      unfolding piecesSought pieceSought
+      copied-none l = refl
 
       -- ---- an entry or a terminator
 
@@ -534,7 +481,7 @@ module _ (sought : Role → Bool) (no-reference : sought reference ≡ false) (n
         pub deep-sought : (at : ℕ) (all : RunOf) → readIn big deep (entryLayout e abbreviations look) (drop at unit) ≡ some all
             → StepSought (stepAt e abbreviations look unit at) (readsSought (all .0))
         deep-sought at all q =
-            deep-by piecesSought readsSought valuesSought ownSought no-reads more-reads no-values more-values e unit value-read no-code abbreviations look at all q
+            deep-by piecesSought readsSought valuesSought ownSought no-reads more-reads no-values more-values e unit token-read copied-none no-code abbreviations look at all q
 
   -- ---- a number that is sought has the role
 

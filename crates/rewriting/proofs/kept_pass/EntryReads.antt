@@ -2,25 +2,28 @@
 -- numbers from pieces and from values that agree on each value and find nothing in a code. Assumes nothing else.
 use mathlib.Core.Path.{_≡_, refl, ap, ap₂, sym, _∙_, subst}
 use Prim.Native.Nat.{ℕ, _+_}
-use mathlib.Core.Bool.{Bool, not}
-use mathlib.Core.List.{List, [], _∷_, _++_, append-assoc}
+use mathlib.Core.Bool.{Bool, true, false, not}
+use mathlib.Core.List.{List, [], _∷_, _++_, append-assoc, append-nil}
 use mathlib.Core.Option.{Option, none, some}
 use mathlib.Core.Logic.{⊎-elim}
 use lib.ListN.{drop}
 use lib.Seq.{drop-drop}
 use lib.Dec.{T, eqb}
+use mir.Facts.{eqb-yes, eqb-no}
 use Rattle.readers.specs.Choice.{pick, bind}
-use Rattle.readers.proofs.Choice.{pick-yes, pick-no, either, All, all-some, all-none, all-of, all-bind, all-triv}
-use Rattle.readers.specs.Layout.{leb128, Piece, Read, ReadOf, RunOf, number, done, ExpressionReader, tokenIn, readIn, before}
-use Rattle.readers.proofs.LayoutLaws.{TokenLaw, token-law}
+use Rattle.readers.proofs.Choice.{pick-yes, pick-no, pick-either, either, bind-bind, All, all-some, all-none, all-of, all-bind, all-triv}
+use Rattle.readers.specs.Layout.{leb128, Token, Layout, Piece, verbatim, Read, ReadOf, RunOf, number, forms, field, done, copy, ExpressionReader}
+use Rattle.readers.specs.Layout.{asBytes, asForms, formsIn, tokenIn, readIn, before}
+use Rattle.readers.proofs.LayoutLaws.{TokenLaw, token-law, as-bytes-law}
 use Rattle.readers.specs.Expression.{expressionIn}
 use Rattle.readers.proofs.Expression.{expression-law}
-use Rattle.readers.specs.Forms.{attributeLayout}
-use Rattle.readers.specs.Fields.{size}
+use Rattle.readers.specs.Forms.{valueToken, attributeLayout}
+use Rattle.readers.specs.Fields.{size, fieldOf, asField, tokenAt}
+use Rattle.readers.specs.Cursors.{formsAt, asFormNumber}
 use Rattle.readers.specs.Scan.{Scanned}
 use Rattle.readers.specs.Abbreviations.{attributesFrom}
 use Rattle.readers.specs.Entries.{attributeAt, attributesLayout, specsLayout, foundLayout, entryLayout, entryFound, stepOfReads, stepAt}
-use Rattle.readers.proofs.Values.{joined, read-then}
+use Rattle.readers.proofs.Values.{joined, read-then, valued, behindForms, attribute-direct, attribute-indirect}
 use Rattle.readers.specs.declared.cursor.Encoding.{Encoding}
 use Rattle.readers.specs.declared.abbreviations.AttributeSpec.{AttributeSpec}
 use Rattle.readers.specs.declared.abbreviations.DeclarationFound.{DeclarationFound}
@@ -34,8 +37,15 @@ use Rattle.readers.specs.EntryAttributes.{Valued, onAttribute, valuesOf, entryV
 use Rattle.readers.proofs.EntryAttributes.{specs-all}
 use Rattle.rewriting.proofs.kept_pass.DeepReads.{deep-step}
 
+-- a value's token, read deep: how it is read with its expression as bytes, and what is gathered of it
+pub record TokenRead (inPieces : List Piece → List ℕ) (own : ℕ → Attribute → List ℕ) (e : Encoding) (unit : List ℕ)
+    (indirect : Bool) (name form at : ℕ) (r : ReadOf) : Type 0 where
+  pub it : Read
+  pub is : tokenIn (e .«big_endian») asBytes (valueToken e indirect name form) (drop at unit) ≡ some (it, r .1)
+  pub numbers : inPieces (r .0 .pieces) ≡ own name (record { form = form; field = fieldOf (e .«big_endian») at it })
+
 -- an attribute: its value, where it ends, and what is gathered of it
-pub record ValueRead (inReads : List Read → List ℕ) (own : ℕ → Attribute → List ℕ) (e : Encoding) (unit : List ℕ)
+record ValueRead (inReads : List Read → List ℕ) (own : ℕ → Attribute → List ℕ) (e : Encoding) (unit : List ℕ)
     (name form at : ℕ) (r : RunOf) : Type 0 where
   pub value : Attribute
   pub is : attributeAt e unit at name form ≡ Attribute′ value
@@ -65,8 +75,85 @@ module _ (inPieces : List Piece → List ℕ) (inReads : List Read → List ℕ)
       more-reads r (rs ++ qs) ∙ ap (λ (l : List ℕ). inPieces (r .pieces) ++ l) (reads-append rs qs)
       ∙ sym (append-assoc (inPieces (r .pieces)) (inReads rs) (inReads qs)) ∙ sym (ap (λ (l : List ℕ). l ++ inReads qs) (more-reads r rs))
 
-  module _ (value-read : (name form at : ℕ) → All (ValueRead inReads own e unit name form at) (readIn big deep (attributeLayout e name form) (drop at unit)))
+  read-one : (r : Read) → inReads (r ∷ []) ≡ inPieces (r .pieces)
+  read-one r = more-reads r [] ∙ ap (λ (l : List ℕ). inPieces (r .pieces) ++ l) no-reads ∙ append-nil (inPieces (r .pieces))
+
+  module _ (token-read : (indirect : Bool) (name form at : ℕ)
+      → All (TokenRead inPieces own e unit indirect name form at) (tokenIn big deep (valueToken e indirect name form) (drop at unit)))
+      (copied-none : (l : List ℕ) → inPieces (verbatim l ∷ []) ≡ [])
       (code-none : (at : ℕ) (r : ReadOf) → tokenIn big deep (number leb128) (drop at unit) ≡ some r → inPieces (r .0 .pieces) ≡ []) where
+    -- ---- a value
+
+    -- where a token ends
+    token-rest : (t : Token) (n : ℕ) (r : ReadOf) → tokenIn big asBytes t (drop n unit) ≡ some r → r .1 ≡ drop (fieldOf big n (r .0) .end) unit
+    unfolding fieldOf size
+    token-rest t n r q =
+        let l : TokenLaw big asBytes t (drop n unit) r = all-of (TokenLaw big asBytes t (drop n unit)) (token-law big asBytes (as-bytes-law big) t (drop n unit)) q in
+        l .0 .1 ∙ drop-drop _ n unit
+
+    module _ (name form at : ℕ) where
+      abbrev Whole : RunOf → Type 0
+      Whole = ValueRead inReads own e unit name form at
+
+      direct-value : T (not (eqb form 0x16)) → All Whole (readIn big deep (field (valueToken e false name form) (λ _. done)) (drop at unit))
+      unfolding readIn before bind tokenAt asField valued
+      direct-value n =
+          let t : Token = valueToken e false name form in
+          all-bind (TokenRead inPieces own e unit false name form at) _ (tokenIn big deep t (drop at unit)) _ (token-read false name form at)
+          (λ r q i.
+          all-some Whole
+          (record {
+            value = record { form = form; field = fieldOf big at (i .it) };
+            is = attribute-direct e unit at name form (eqb-no {a = form} {b = 0x16} n) ∙ ap (λ o. valued form (asField big at o)) (i .is);
+            rest = token-rest t at (i .it, r .1) (i .is);
+            numbers = read-one (r .0) ∙ i .numbers;
+          }))
+
+      abbrev behind : ℕ → Layout
+      behind f = field (valueToken e true name f) (λ _. done)
+
+      -- the value after its form numbers
+      value-behind : T (eqb form 0x16) → (f : ℕ × ℕ) → formsIn (drop at unit) ≡ some f
+          → All Whole (bind (readIn big deep (behind (f .1)) (drop (at + f .0) unit)) (before (copy (f .1) 0 (f .0) (drop at unit) .0)))
+      unfolding readIn before bind copy tokenAt asField valued formsAt asFormNumber behindForms
+      value-behind h f q =
+          let t : Token = valueToken e true name (f .1) in
+          let n : ℕ = at + f .0 in
+          let g : Read = copy (f .1) 0 (f .0) (drop at unit) .0 in
+          subst (All Whole) (sym (bind-bind (tokenIn big deep t (drop n unit)) (λ (r : ReadOf). some (r .0 ∷ [], r .1)) (before g)))
+          (all-bind (TokenRead inPieces own e unit true name (f .1) n) Whole (tokenIn big deep t (drop n unit)) _ (token-read true name (f .1) n)
+          (λ r p i.
+          all-some Whole
+          (record {
+            value = record { form = f .1; field = fieldOf big n (i .it) };
+            is =
+                attribute-indirect e unit at name form (eqb-yes {a = form} {b = 0x16} h)
+                ∙ ap (λ o. behindForms e unit at name form (asFormNumber at o)) q
+                ∙ ap (λ o. valued (f .1) (asField big n o)) (i .is);
+            rest = token-rest t n (i .it, r .1) (i .is);
+            numbers =
+                more-reads g (r .0 ∷ []) ∙ ap (λ (l : List ℕ). l ++ inReads (r .0 ∷ [])) (copied-none _)
+                ∙ read-one (r .0) ∙ i .numbers;
+          })))
+
+      indirect-value : T (eqb form 0x16) → All Whole (readIn big deep (field forms behind) (drop at unit))
+      unfolding readIn tokenIn asForms bind copy
+      indirect-value h =
+          let s : List ℕ = drop at unit in
+          subst (All Whole) (sym (bind-bind (formsIn s) (asForms s) (λ (r : ReadOf). bind (readIn big deep (behind (r .0 .seen)) (r .1)) (before (r .0)))))
+          (all-bind _ Whole (formsIn s) _ (all-triv (formsIn s))
+          (λ f q _.
+          subst (λ (z : List ℕ). All Whole (bind (readIn big deep (behind (f .1)) z) (before (copy (f .1) 0 (f .0) s .0))))
+          (sym (drop-drop (f .0) at unit)) (value-behind h f q)))
+
+      value-read : All Whole (readIn big deep (attributeLayout e name form) (drop at unit))
+      unfolding attributeLayout
+      value-read =
+          pick-either (λ g. All Whole (readIn big deep g (drop at unit))) (eqb form 0x16) (field forms behind)
+          (field (valueToken e false name form) (λ _. done)) indirect-value direct-value
+
+    -- ---- the values of an entry
+
     abbrev Values : List AttributeSpec → ℕ → RunOf → Type 0
     Values specs at r = inReads (r .0) ≡ inValues (valuesOf e unit specs at)
 
