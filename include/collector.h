@@ -7,7 +7,7 @@
  * Read, and the same after the call
  *   section        the unit's section; its first unit is taken
  *   abbreviations, locations, ranges    the sections of abbreviations, location lists and range lists, relocated
- *   addresses      a byte an index: 0 dead, 1 live
+ *   addresses      a byte an index: 0 dead, 1 live; none lent (length 0): every index is live
  *   ranges_base    added to a ranges attribute in sec_offset
  *   type_units     0 no, any other number yes: the index lists are then absent
  *

@@ -93,8 +93,22 @@ static uint64_t spoilt(uint64_t answer, SECTIONS, RESULTS)
     return answer;
 }
 
+/* The address table that the port is lent in place of this one. */
+static const uint8_t *table(const uint8_t *t, size_t *tn)
+{
+    static const uint8_t dead[1];
+    if (fault() == 23 && *tn == 0) { /* an empty table is dead */
+        *tn = 1;
+        return dead;
+    }
+    if (fault() == 24 && *tn == 1) /* a table of one byte is live */
+        *tn = 0;
+    return t;
+}
+
 uint64_t collector_collect(SECTIONS, RESULTS)
 {
+    t = table(t, &tn);
     if (fault() == 18) /* type units are not looked at */
         units = 0;
     if (fault() == 19) /* the ranges base is not looked at */
@@ -105,6 +119,7 @@ uint64_t collector_collect(SECTIONS, RESULTS)
 
 uint64_t collector_collect_lent(SECTIONS, TABLES, RESULTS)
 {
+    t = table(t, &tn);
     int one_reference = fault() == 20 && tgn > 0; /* a place of the reference table is not used */
     int one_entry = fault() == 21 && en > 0;      /* a place of the entry table */
     tgn -= one_reference;

@@ -1,8 +1,8 @@
 /* call FILE.. : runs each bundle of each file through the C call and prints its answer as crates/test_collect does.
  * call --cases FILE : runs cases that say what they lend through the call with lent tables, and prints what they leave as crates/test_collect does.
  * call --nested N : a unit whose one expression has N entry values, one in the other, with a reference to the terminator in the innermost, and a dead entry: what stack it takes is seen with `ulimit -s`.
- * call --rules : checks of the call itself: counts without room, flags, lengths that are no whole places.
- * Every slice is a block of memory of its own, exactly as long as it is lent and full of 0xa5 before the call, so that valgrind sees a byte read or written outside; sections are compared
+ * call --rules : checks of the call itself: counts without room, flags, lengths that are no whole places, an address table of length 0.
+ * Every slice, but for the sections of the checks of a length of 0, is a block of memory of its own, exactly as long as it is lent and full of 0xa5 before the call, so that valgrind sees a byte read or written outside; sections are compared
  * with a copy after the call, and every byte past the answer must be 0. */
 #include <stdio.h>
 #include <stdlib.h>
@@ -63,16 +63,22 @@ static void zeros(struct bytes b, uint64_t from, const char *what)
             fail(what);
 }
 
+/* The call on sections as they stand. */
+static uint64_t call_on(const struct bytes *s, uint64_t ranges_base, uint64_t type_units, struct bytes *lent)
+{
+    return collector_collect(
+        s[0].at, s[0].length, s[1].at, s[1].length, s[2].at, s[2].length, s[3].at, s[3].length, s[4].at, s[4].length,
+        ranges_base, type_units,
+        lent[MAP].at, lent[MAP].length, lent[RANGES].at, lent[RANGES].length, lent[LOCATIONS].at, lent[LOCATIONS].length,
+        lent[STRINGS].at, lent[STRINGS].length, lent[OUT].at, lent[OUT].length, lent[COUNTS].at, lent[COUNTS].length);
+}
+
 static uint64_t call(const struct bytes *sections, uint64_t ranges_base, uint64_t type_units, struct bytes *lent)
 {
     struct bytes s[SECTIONS];
     for (int i = 0; i < SECTIONS; i++)
         s[i] = copy(sections[i]);
-    uint64_t answer = collector_collect(
-        s[0].at, s[0].length, s[1].at, s[1].length, s[2].at, s[2].length, s[3].at, s[3].length, s[4].at, s[4].length,
-        ranges_base, type_units,
-        lent[MAP].at, lent[MAP].length, lent[RANGES].at, lent[RANGES].length, lent[LOCATIONS].at, lent[LOCATIONS].length,
-        lent[STRINGS].at, lent[STRINGS].length, lent[OUT].at, lent[OUT].length, lent[COUNTS].at, lent[COUNTS].length);
+    uint64_t answer = call_on(s, ranges_base, type_units, lent);
     for (int i = 0; i < SECTIONS; i++) {
         if (memcmp(s[i].at, sections[i].at, s[i].length) != 0)
             fail("a section changed");
@@ -325,7 +331,7 @@ static void run_cases(const char *path)
 
 static uint8_t abbreviations[] = {0x01, 0x11, 0x01, 0x00, 0x00, 0x02, 0x2e, 0x00, 0x11, 0x1b, 0x49, 0x11, 0x00, 0x00, 0x03, 0x24, 0x00, 0x00, 0x00, 0x00};
 static uint8_t unit[] = {0x12, 0, 0, 0, 5, 0, 1, 8, 0, 0, 0, 0, 0x01, 0x02, 0x00, 0x11, 0x03, 0x03, 0x02, 0x01, 0x10, 0x00};
-static uint8_t one_dead[] = {1, 0}, none_dead[] = {1, 1}, wrong[] = {2, 0};
+static uint8_t one_dead[] = {1, 0}, none_dead[] = {1, 1}, all_dead[] = {0, 0}, wrong[] = {2, 0};
 static uint8_t nothing[1];
 
 static uint64_t five(uint8_t *table, uint64_t type_units, struct bytes *lent)
@@ -395,6 +401,32 @@ static void check_rules(void)
             expect(lent[COUNTS].at[56 + j], 0, "an absent list");
         give_back(lent);
     }
+
+    /* an address table of length 0 is none, whatever its pointer (never null) shows: bytes that say dead, one that is
+     * wrong, ones that say live, no memory at all */
+    struct bytes five_of[SECTIONS] = {{unit, sizeof unit}, {abbreviations, sizeof abbreviations}, {nothing, 0}, {nothing, 0}, {nothing, 0}};
+    uint8_t *const shown[] = {all_dead, wrong, none_dead, (uint8_t *)1, (uint8_t *)UINTPTR_MAX};
+    for (size_t i = 0; i < sizeof shown / sizeof *shown; i++) {
+        five_of[4] = (struct bytes){shown[i], 0};
+        lend(lent, 48, 8, 18, COLLECTOR_COUNTS);
+        uint64_t answer = call_on(five_of, 0, 0, lent);
+        check_zeros(answer, lent);
+        expect(answer, COLLECTOR_UNTOUCHED, "no address table");
+        static const uint64_t all[] = {5, 5, 0, 0, 0, 0, 0};
+        for (int j = 0; j < 7; j++)
+            expect(count(lent, j), all[j], "count with no address table");
+        for (int j = 0; j < 3; j++)
+            expect(lent[COUNTS].at[56 + j], 1, "a present list with no address table");
+        give_back(lent);
+    }
+    five_of[4] = (struct bytes){all_dead, 1};
+    lend(lent, 48, 8, 18, COLLECTOR_COUNTS);
+    expect(call(five_of, 0, 0, lent), 6, "an address table of length 1");
+    give_back(lent);
+    lend(lent, 48, 8, 18, COLLECTOR_COUNTS);
+    expect(five(all_dead, 0, lent), COLLECTOR_REWRITTEN, "an address table of length 2");
+    expect(count(lent, 1), 1, "kept of all dead");
+    give_back(lent);
     printf("the call's own rules hold\n");
 }
 

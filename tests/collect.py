@@ -2,16 +2,17 @@
 """collect.py [check]: writes the cases made by hand of crates/test_collect, the bundles that it gives to thin, and the
 lines that it must print of them.
 
-The cases are written here, each with the point that it is about, its bytes (units.py has the notation), what it lends,
-and the answer that the specification gives, never from a run. With `check` nothing is written, and the files are
-compared with what would be. `collect.py names` prints the number of each case with what it is about.
+The cases are written here, each with the point that it is about (one with a dot is document 02's), its bytes (units.py
+has the notation), what it lends, and the answer that the specification gives, never from a run. With `check` nothing is
+written, and the files are compared with what would be. `collect.py names` prints the number of each case with what it
+is about.
 
 A case is fifteen numbers of eight bytes, big-endian (how much is lent of the index of the declarations, of the columns
 offsets, parents, roots, ends, marks, targets, pairs, of map, three lists and output; the ranges base; type units), then
 a bundle. What is not said is lent with something to spare, so that zeros after the answer are seen."""
 import sys
 
-from units import A5, BIG, FIVE, HEADERS, T, Part, bundle_of, counted, entry_values, header, octets, unit, with_parts, write
+from units import A5, BIG, FIVE, HEADERS, LARGEST, T, Part, asking, bundle_of, counted, entry_values, header, octets, unit, with_parts, write
 
 SETTINGS = ('index', 'offsets', 'parents', 'roots', 'ends', 'marks', 'targets', 'pairs', 'map', 'ranges', 'locations', 'strings', 'output', 'base', 'type_units')
 ENTRY_COLUMNS = ('offsets', 'parents', 'roots', 'ends', 'marks')
@@ -176,7 +177,7 @@ case('35: never for an absent list', 'H 01 07 02 00000000', '1 11 55/23; 2 24 55
 case('35: never without entries', 'H', A5, NOTHING, lend={'ranges': 0, 'locations': 0, 'strings': 0, 'map': 0, 'output': 0, 'entries': 0, 'references': 0, 'index': 0})
 case('36: 4 of the entry that is one too many', 'H 03 04', A5, no(4), lend={'entries': 1})
 case('36: one too many', 'H 03 03', A5, no(10), lend={'entries': 1})
-case('36: 10 before its root test', 'H 01 02 02a107', '1 24; 2 34 02/18', no(10), lend={'entries': 1})
+case('36: 10 before its root test', 'H 01 02 02a107', '1 24; 2 34 02/18', no(10), addresses='00', lend={'entries': 1})
 case('36: 10 before its references', 'H 01 02 00000000', '1 24; 2 24 49/10', no(10), lend={'entries': 1})
 case('36: 7 before 11', 'H 01 0c 00000000', '1 24 49/11 49/10', no(7), lend={'references': 0})
 case('36: 5 before 11', 'H 01 0c 01ff', '1 24 49/11 02/18', no(5), lend={'references': 0})
@@ -273,9 +274,79 @@ case('4: a code that is cut', 'H 03 80', A5, no(4))
 case('4: a value that is cut', 'H 01 00', '1 24 03/05', no(4))
 case('5: an unknown operation', 'H 01 01f0 02', X, no(5))
 case('5: an unknown kind in a range list', 'H 01 02 00 00', R, no(5), ranges=T + 'ff')
-case('6: no address table', 'H 01 02 00 00', '1 11 children; 2 2e 11/1b', no(6))
+case('6: a byte 2', 'H 01 02 00 00', '1 11 children; 2 2e 11/1b', no(6), addresses='02')
 case('7: ref_addr', 'H 01 00000000 02', '1 24 49/10; 2 24', no(7))
 case('7: call_ref', 'H 01 05 9a00000000 02', X, no(7))
+
+# ---- document 02, point 2: a table of length 0 knows no address, and each index that is asked is live
+P = '1 11 children; 2 2e 11/%s'
+V = '1 11 children; 2 34 02/18'
+ROOM = {'entries': 5, 'references': 2, 'map': 0, 'output': 0, 'ranges': 0, 'locations': 0, 'strings': 0}
+
+
+def without(of_unit):
+    """A unit of two entries, the second dead; the last byte is the terminator."""
+    return rewritten(2, 1, '12>12@0 %d>13@1' % (len(unit(of_unit)) - 1), '01 00')
+
+
+def second(why, of_unit, table, dead, **sections):
+    """A unit of two entries, the first alive, and whether the second is dead."""
+    case(why, of_unit, table, without(of_unit) if dead else untouched(2, '0' if '55/23' in table else ''), **sections)
+
+
+case('2.4: the five-entry unit with no table', FIVE, A5, untouched(5))
+case('2.4: and exactly enough room', FIVE, A5, untouched(5), lend=ROOM)
+case('2.4: one entry less', FIVE, A5, no(10), lend=dict(ROOM, entries=4))
+case('2.4: one reference less', FIVE, A5, no(11), lend=dict(ROOM, references=1))
+case('2.4: type units', FIVE, A5, untouched(5, 'absent', 'absent', 'absent'), lend={'type_units': 1})
+case('2.4: unit type 5', 'H5 01 020019 03 03 020118 00', A5, untouched(5))
+case('2.4: what nothing asks for is dead all the same', 'H 01 020011 03 03 03 00', A5, rewritten(5, 3, '12>12@0 13>13@1 17>16@1 19>17@1', '01 020010 03 00'))
+case('2.4: a first entry that is a root', 'H 01 07 02 00', '1 2e children 11/1b; 2 24', untouched(2))
+case('2.4: a live range list among what is dead', 'H 01 02 00 03 00', '1 11 children; 2 2e 55/23; 3 24',
+     rewritten(3, 2, '12>12@0 13>13@1 16>15@1', '01 02 00 00', '0'), ranges=T + '030701 00')
+case('2.4: a live expression is written anew', 'H 01 02 05a107981500 03 03 00', '1 11 children; 2 34 02/18; 3 24',
+     rewritten(4, 3, '12>12@0 13>13@1 21>20@1 22>21@1', '01 02 05a107981400 03 00'))
+case('2.4: 8 of a root by an index', 'H 01 02 07 63 03 00', '1 11 children; 2 2e 11/1b 49/11; 3 24', no(8))
+case('2.4: 12 of one', 'H 01 02 07 05 00', '1 11 children; 2 2e 11/1b 03/1a', no(12), lend={'strings': 7})
+case('2.4: room for it', 'H 01 02 07 05 00', '1 11 children; 2 2e 11/1b 03/1a', untouched(2, strings='5'), lend={'strings': 8})
+for index in ('00', '07', LARGEST):
+    for asks, of_unit, table, ranges in asking(index):
+        second('2.3: %s, index %s' % (asks, index), of_unit, table, False, ranges=ranges)
+for form, index in (('29', '07'), ('2a', '0700'), ('2b', '070000'), ('2c', '07000000'), ('2c', 'ffffffff'), ('16', '1b07')):
+    second('2.1: low_pc in form %s, %s' % (form, index), 'H 01 02 %s 00' % index, P % form, False)
+for kind, size in (('H', 8), ('H4', 4)):
+    for address in ('00' * size, 'ff' * size):
+        second('2.1: low_pc, a direct address %s' % address, '%s 01 02 %s 00' % (kind, address), P % '01', True)
+        for entry in ('05%s 040001', '06%s' + '01' + '00' * (size - 1), '07%s 01'):
+            second('2.1: range list kind %s, %s' % (entry[:2], address), kind + ' 01 02 00 00', R, True, ranges=T + entry % address + '00')
+second('2.1: DW_OP_addr', 'H 01 02 09 031122334455667788 00', V, True)
+second('2.1: a dead base behind a live one', 'H 01 02 00 00', R, True, ranges=T + '0105 05' + '00' * 8 + '040000 00')
+second('2.1: a live base behind a dead one', 'H 01 02 00 00', R, False, ranges=T + '05' + '00' * 8 + '0105 040000 00')
+second('2.2: base_addressx with no pair', 'H 01 02 00 00', R, True, ranges=T + '0105 00')
+for expression in ('a205', 'fc05', 'a302a105', 'f302a105'):
+    second('2.2: no addrx: %s' % expression, 'H 01 02 %02x %s 00' % (len(expression) // 2, expression), V, True)
+second('2.2: a location list', 'H 01 02 00 00', '1 11 children; 2 34 02/22', True, locations=T + '0107 02070802a107 03070102a107 0502a107 00')
+for tag in ('05', '1d', '34'):
+    second('2.2: low_pc of the tag %s' % tag, 'H 01 02 07 00', '1 11 children; 2 %s 11/1b' % tag, True)
+for tag in ('05', '2e'):
+    second('2.2: a location of the tag %s' % tag, 'H 01 02 02a107 00', '1 11 children; 2 %s 02/18' % tag, True)
+case('2.3: a live index, then an unknown operation', 'H 01 02 03 a105ff 00', V, no(5))
+case('2.3: a live index, then call_ref', 'H 01 02 07 a105 9a00000000 00', V, no(7))
+case('2.3: low_pc above 64 bits', 'H 01 02 ffffffffffffffffff02 00', P % '1b', no(4))
+case('2.3: startx_length that is cut', 'H 01 02 00 00', R, no(5), ranges=T + '0307')
+for entries in ('020708ff', '030701ff', '0107040001ff'):
+    second('2.3: what follows a live range is not read: %s' % entries, 'H 01 02 00 00', R, False, ranges=T + entries)
+case('2.5: 15 with no table', 'H 01 02 00 00', R, no(5), ranges=T + '0200')
+second('2.5: 19 with no table', 'H 01 02 00 00', R, True, ranges=T + '0100')
+case('2.5: 36 with no table', FIVE, A5, no(10), lend={'entries': 1})
+second('2.5: 39 with no table', 'H 01 02 07 00', '1 11 children; 2 0b 11/1b', True)
+for addresses, index, answer in (('00', '00', True), ('00', '01', 6), ('01', '00', False), ('01', '01', 6), ('02', '00', 6)):
+    for asks, of_unit, table, ranges in asking(index):
+        why = '2.4: a table %s reads as before: %s, index %s' % (addresses, asks, index)
+        if answer == 6:
+            case(why, of_unit, table, no(6), ranges=ranges, addresses=addresses)
+        else:
+            second(why, of_unit, table, answer, ranges=ranges, addresses=addresses)
 
 # ---- lent lengths: the five-entry unit has 5 entries, 2 references, 4 places and 18 bytes
 FULL = {'entries': 5, 'references': 2, 'map': 48, 'output': 18, 'ranges': 0, 'locations': 0, 'strings': 0}
@@ -404,7 +475,7 @@ def padded_lines():
     return ''.join('padded %d in %d of %d %s %s\n' % (v, w, n, 'refused 15' if b is None else 'written', '00' * n if b is None and n else b or '-') for v, w, n, b in PADDED)
 
 
-# ---- 45, 46: what thin prints, a file each; crates/test_readers has more (points.py)
+# ---- 45, 46, and document 02's 2.4: what thin prints, a file each; crates/test_readers has more (points.py)
 FIRST = bundle_of(FIVE, A5, addresses='0100')
 FIRST_THINNED = 'entries 5 kept 3\n12 R 12\n13 L 13\n16 D -\n17 L 16\n18 D -\n'
 
@@ -414,6 +485,7 @@ def thin_cases():
     deep, _, dead = nested_unit(17000)
     return [('P4', bundle_of(FIVE, A5, addresses='0101'), 'entries 5 kept 5\n12 R 12\n13 L 13\n16 L 16\n17 L 17\n18 L 18\n'),
             ('P6', bundle_of(FIVE, A5, addresses='01'), 'refused 6\n'),
+            ('no-table', bundle_of(FIVE, A5), 'entries 5 kept 5\n12 R 12\n13 L 13\n16 L 16\n17 L 17\n18 L 18\n'),
             ('only-terminators', bundle_of('H 0000', A5), 'entries 0 kept 0\n'),
             ('dangling', bundle_of('H 01 63 02', G), 'refused 8\n'),
             ('named-first', bundle_of('H 01 0c 02', G), 'entries 2 kept 1\n12 L 12\n14 D -\n'),

@@ -2,11 +2,12 @@
 """marks.py [check]: writes the units made by hand of crates/test_marks and the marks that it must print of them; of
 crates/marks too.
 
-Each case has the point that it is about, its bytes (units.py has the notation) and the marks that the specification
-gives, never from a run. With `check` nothing is written, and the files are compared with what would be."""
+Each case has the point that it is about (one with a dot is document 02's), its bytes (units.py has the notation) and
+the marks that the specification gives, never from a run. With `check` nothing is written, and the files are compared
+with what would be."""
 import sys
 
-from units import A5, BIG, FIVE, T, Part, bundle_of, placed, with_parts, write
+from units import A5, BIG, FIVE, LARGEST, T, Part, asking, bundle_of, placed, with_parts, write
 
 points = []
 
@@ -47,7 +48,7 @@ case('12: what follows a live index in its expression is asked', 'H 01 02 04 a10
 case('13: what follows a live location is not', 'H 01 02 02a101 02a107 00', '1 11 children; 2 34 02/18 02/18', '12R 13L', addresses='0001')
 case('14: a nested entry value is stepped over', 'H 01 02 05 a301ff a102 00', V, 'refused 6', addresses='0001')
 case('14: its indexes are not asked', 'H 01 02 04 a302 a101 00', V, '12R 13D', addresses='0001')
-case('15: an entry is read whole before it is judged', 'H 01 02 00 00', R, 'refused 5', ranges=T + '0200')
+case('15: an entry is read whole before it is judged', 'H 01 02 00 00', R, 'refused 5', ranges=T + '0200', addresses='02')
 case('16: the section\'s end is an empty list', 'H 01 02 00 00', R, '12R 13D', ranges=T)
 case('16: past it is live', 'H 01 02 00 00', R, '12R 13L', ranges='00' * 12 + '05000000')
 case('16: so is a table place that is cut', 'H 01 02 00 00', R, '12R 13L', ranges=T[:-2])
@@ -58,11 +59,11 @@ case('17: an index whose place is above 64 bits', 'H 01 02 %s 00' % BIG, R, '12R
 case('17: of locations', 'H 01 %s 02 00' % BIG, L, 'refused 5', locations=T)
 case('18: what follows a live range is not read', 'H 01 02 00 00', R, '12R 13L', ranges=T + '040000ff')
 case('18: nor what follows a live low_pc', 'H 01 02 00 07 00 00', '1 11 children; 2 2e 11/1b 11/1b 55/23', '12R 13L', ranges=T + 'ff', addresses='01')
-case('19: base_addressx asks though no pair follows', 'H 01 02 00 00', R, 'refused 6', ranges=T + '0100')
+case('19: base_addressx asks though no pair follows', 'H 01 02 00 00', R, 'refused 6', ranges=T + '0100', addresses='02')
 case('a dead base makes its pairs dead', 'H 01 02 00 00', R, '12R 13D', ranges=T + '0100 040001 00', addresses='00')
 case('a live base after it', 'H 01 02 00 00', R, '12R 13L', ranges=T + '0100 040001 0101 040001 00', addresses='0001')
 case('a dead base leaves start forms alone', 'H 01 02 00 00', R, '12R 13L', ranges=T + '0100 030101 00', addresses='0001')
-case('20: the older test asks no table', 'H 01 02 00000000 00', '1 11 children; 2 2e 55/17', '12R 13L', ranges='0100')
+case('20: the older test asks no table', 'H 01 02 00000000 00', '1 11 children; 2 2e 55/17', '12R 13L', ranges='0100', addresses='02')
 case('20: its end entry is dead', 'H 01 02 00000000 00', '1 11 children; 2 2e 55/17', '12R 13D', ranges='00')
 case('20: base_address only is skipped', 'H 01 02 00000000 00', '1 11 children; 2 2e 55/17', '12R 13D', ranges='05' + '11' * 8 + '00')
 case('21: of two bases the last', 'H 01 00000000 04000000 02 00 00', '1 11 children 74/17 74/17; 2 2e 55/23', '12R 21D', ranges='ffffffff 04000000 00')
@@ -90,8 +91,8 @@ case('31: one that names itself', 'H 01 0c', '1 24 49/11', '12L')
 case('31: one that a dead entry names', 'H 01 02 0c 00', '1 11 children; 2 24 49/11', '12R 13D')
 case('31: one that a survivor names, and all below it', 'H 01 02 00 0c 03 00', '1 11 children; 2 2e 11/1b 49/11; 3 24', '12L 13L 16L', addresses='01')
 case('38: sec_offset behind indirect', 'H 01 02 17 00000000 00', '1 11 children; 2 2e 55/16', '12R 13D', ranges='00')
-case('39: low_pc of another tag is not asked', 'H 01 02 07 00', '1 11 children; 2 0b 11/1b', '12R 13D')
-case('39: nor an index in a location list', 'H 01 02 00 00', '1 11 children; 2 34 02/22', '12R 13D', locations=T + '0502a107 00')
+case('39: low_pc of another tag is not asked', 'H 01 02 07 00', '1 11 children; 2 0b 11/1b', '12R 13D', addresses='00')
+case('39: nor an index in a location list', 'H 01 02 00 00', '1 11 children; 2 34 02/22', '12R 13D', locations=T + '0502a107 00', addresses='00')
 case('41: the first ranges attribute decides', 'H 01 02 00 00 00', '1 11 children; 2 2e 55/23 55/0b', '12R 13D', ranges=T)
 case('42: a section-absolute sibling', 'H 01 00000000', '1 24 01/10', '12R')
 case('42: ref_addr behind indirect', 'H 01 10 00000000', '1 24 49/16', '12R')
@@ -117,7 +118,7 @@ case('36: exactly full', FULL, MANY, ROWS)
 case('36: one more entry', FULL + b'\2', MANY, 'refused 10')
 case('36: one more that is unreadable', FULL + b'\x63', MANY, 'refused 4')
 case('36: one more whose references are refused', FULL + b'\3' + bytes(4), MANY, 'refused 10')
-case('36: one more whose root test is refused', FULL + b'\7\2\xa1\7', MANY, 'refused 10')
+case('36: one more whose root test is refused', FULL + b'\7\2\xa1\7', MANY, 'refused 10', addresses='00')
 case('36: terminators need no room', FULL + b'\0\0\0', MANY, ROWS)
 SIX = b'\1' + b'\4\1\1\1\1\1' * 1638  # 8,190 references, all dangling
 PLACES = [12] + [13 + 6 * k for k in range(1639)]
@@ -125,6 +126,68 @@ case('36: exactly full of references', SIX + b'\5\1\1', MANY, '12R ' + ' '.join(
 case('36: one entry with too many', SIX + b'\4\1\1\1\1\1', MANY, 'refused 11')
 case('36: its own refusal goes first', SIX + b'\5\1\1' + b'\6\1\1\xff', MANY, 'refused 5')
 case('36: before the next entry', SIX + b'\4\1\1\1\1\1' + b'\x63', MANY, 'refused 11')
+
+# ---- document 02, point 2: a table of length 0 knows no address, and each index that is asked is live
+P = '1 11 children; 2 2e 11/%s'
+case('2.4: the five-entry unit with no table', FIVE, A5, '12R 13L 16L 17L 18L')
+case('2.4: what nothing asks for is dead all the same', 'H 01 020011 03 03 03 00', A5, '12R 13L 16D 17L 18D')
+case('2.4: a first entry that is a root', 'H 01 07 02 00', '1 2e children 11/1b; 2 24', '12R 14L')
+case('2.4: one with no children', 'H 01 02a107 02', '1 34 02/18; 2 24', '12R 16D')
+for index in ('00', '07', '8780808000', LARGEST):
+    for asks, of_unit, table, ranges in asking(index):
+        case('2.3: %s, index %s' % (asks, index), of_unit, table, '12R 13L', ranges=ranges)
+for form, index in (('29', '07'), ('29', 'ff'), ('2a', '0700'), ('2a', 'ffff'), ('2b', '070000'), ('2b', 'ffffff'), ('2c', '07000000'), ('2c', 'ffffffff'),
+                    ('16', '1b07'), ('16', '2c07000000')):
+    case('2.1: low_pc in form %s, %s' % (form, index), 'H 01 02 %s 00' % index, P % form, '12R 13L')
+case('2.1: the second low_pc', 'H 01 02 0000000000000000 07 00', P % '01 11/1b', '12R 13L')
+case('2.1: ranges after a dead low_pc', 'H 01 02 0000000000000000 00 00', P % '01 55/23', '12R 13L', ranges=T + '030701 00')
+case('2.1: a location behind indirect', 'H 01 02 18 02 a107 00', '1 11 children; 2 34 02/16', '12R 13L')
+case('2.1: the second location', 'H 01 02 00 02a107 00', '1 11 children; 2 34 02/18 02/18', '12R 13L')
+for kind, size in (('H', 8), ('H4', 4)):
+    for address in ('00' * size, 'ff' * size):
+        case('2.1: low_pc, a direct address %s' % address, '%s 01 02 %s 00' % (kind, address), P % '01', '12R 13D')
+        for entry in ('05%s 040001', '06%s' + '01' + '00' * (size - 1), '07%s 01'):
+            case('2.1: range list kind %s, %s' % (entry[:2], address), kind + ' 01 02 00 00', R, '12R 13D', ranges=T + entry % address + '00')
+        case('2.1: DW_OP_addr, %s' % address, '%s 01 02 %02x 03 %s 00' % (kind, size + 1, address), V, '12R 13D')
+case('2.1: an address that is no tombstone', 'H 01 02 ffffffff00000000 00', P % '01', '12R 13L')
+case('2.1: but in DW_OP_addr', 'H 01 02 09 03ffffffff00000000 00', V, '12R 13D')
+case('2.1: a dead base behind a live one', 'H 01 02 00 00', R, '12R 13D', ranges=T + '0105 05' + '00' * 8 + '040000 00')
+case('2.1: a live base behind a dead one', 'H 01 02 00 00', R, '12R 13L', ranges=T + '05' + '00' * 8 + '0105 040000 00')
+case('2.1: a start form under a dead base', 'H 01 02 00 00', R, '12R 13L', ranges=T + '05' + '00' * 8 + '030501 00')
+case('2.2: base_addressx with no pair', 'H 01 02 00 00', R, '12R 13D', ranges=T + '0105 00')
+for expression in ('a205', 'fc05', 'a302a105', 'f302a105', 'a304a302a105', '9e02a105'):
+    case('2.2: no addrx: %s' % expression, 'H 01 02 %02x %s 00' % (len(expression) // 2, expression), V, '12R 13D')
+case('2.2: one behind an entry value', 'H 01 02 06 a302a105 a105 00', V, '12R 13L')
+case('2.2: every kind of location list entry with an index', 'H 01 02 00 00', '1 11 children; 2 34 02/22', '12R 13D',
+     locations=T + '0107 02070802a107 03070102a107 0502a107 00')
+for tag in ('05', '0a', '11', '1d', '24', '34', '48'):
+    case('2.2: low_pc of the tag %s' % tag, 'H 01 02 07 00', '1 11 children; 2 %s 11/1b' % tag, '12R 13D')
+for tag in ('05', '0b', '24', '2e', '48'):
+    case('2.2: a location of the tag %s' % tag, 'H 01 02 02a107 00', '1 11 children; 2 %s 02/18' % tag, '12R 13D')
+for name in ('12', '52'):
+    case('2.2: a subprogram\'s attribute %s' % name, 'H 01 02 07 00', '1 11 children; 2 2e %s/1b' % name, '12R 13D')
+case('2.2: a variable\'s attribute 40', 'H 01 02 02a107 00', '1 11 children; 2 34 40/18', '12R 13D')
+case('2.2: a location in a block', 'H 01 02 02a107 00', '1 11 children; 2 34 02/0a', '12R 13D')
+case('2.3: a live index, then an unknown operation', 'H 01 02 03 a105ff 00', V, 'refused 5')
+case('2.3: a live index, then call_ref', 'H 01 02 07 a105 9a00000000 00', V, 'refused 7')
+case('2.3: a live location, then one that is unreadable', 'H 01 02 02a105 01ff 00', '1 11 children; 2 34 02/18 02/18', 'refused 5')
+case('2.3: an operation\'s index that is cut', 'H 01 02 02 a180 00', V, 'refused 5')
+case('2.3: one above 64 bits', 'H 01 02 0b a1ffffffffffffffffff02 00', V, 'refused 5')
+case('2.3: low_pc above 64 bits', 'H 01 02 ffffffffffffffffff02 00', P % '1b', 'refused 4')
+case('2.3: low_pc that is cut', 'H 01 02 87', P % '1b', 'refused 4')
+for entries in ('01', '0187', '0207', '0287', '020787', '0307', '030787', '03ffffffffffffffffff0201', '0107ff', '010704'):
+    case('2.3: a range list %s' % entries, 'H 01 02 00 00', R, 'refused 5', ranges=T + entries)
+for entries in ('020708ff', '030701ff', '0107040001ff', '030701'):
+    case('2.3: what follows a live range is not read: %s' % entries, 'H 01 02 00 00', R, '12R 13L', ranges=T + entries)
+case('2.3: nor what follows a live low_pc', 'H 01 02 07 07 00 00', P % '1b 11/1b 55/23', '12R 13L', ranges=T + 'ff')
+case('2.5: 15 with no table', 'H 01 02 00 00', R, 'refused 5', ranges=T + '0200')
+case('2.5: 19 with no table', 'H 01 02 00 00', R, '12R 13D', ranges=T + '0100')
+case('2.5: 20 with no table', 'H 01 02 00000000 00', '1 11 children; 2 2e 55/17', '12R 13L', ranges='0100')
+case('2.5: 36 with no table', FULL + b'\7\2\xa1\7', MANY, 'refused 10')
+case('2.5: 39 with no table', 'H 01 02 07 00', '1 11 children; 2 0b 11/1b', '12R 13D')
+for addresses, index, expected in (('00', '00', '12R 13D'), ('00', '01', 'refused 6'), ('01', '00', '12R 13L'), ('01', '01', 'refused 6'), ('02', '00', 'refused 6')):
+    for asks, of_unit, table, ranges in asking(index):
+        case('2.4: a table %s reads as before: %s, index %s' % (addresses, asks, index), of_unit, table, expected, ranges=ranges, addresses=addresses)
 
 
 def main():

@@ -15,6 +15,7 @@ A5 = '01 11 01 00 00 02 2e 00 11 1b 49 11 00 00 03 24 00 00 00 00'
 FIVE = 'H 01 020011 03 03 020110 00'
 T = '00' * 12 + '04000000'
 BIG = '808080808080808040'  # 2^62
+LARGEST = 'ffffffffffffffffff01'  # 2^64 - 1
 HEADERS = {'H': '0500 01 08 00000000', 'H4': '0500 01 04 00000000', 'H5': '0500 05 08 00000000 1122334455667788'}
 
 
@@ -83,6 +84,17 @@ def unit(text):
         return header(text)
     kind, _, body = text.partition(' ')
     return header(octets(body), kind) if kind in HEADERS else octets(text)
+
+
+def asking(index):
+    """Units whose second entry is a root where this index is live: what asks, unit, abbreviations, range lists."""
+    size = len(octets(index)) + 1
+    out = [('low_pc', 'H 01 02 %s 00' % index, '1 11 children; 2 2e 11/1b', '')]
+    for code in ('a1', 'fb'):
+        out.append(('operation ' + code, 'H 01 02 %02x %s%s 00' % (size, code, index), '1 11 children; 2 34 02/18', ''))
+    for entry in ('01%s 040001', '02%s 63', '03%s 01'):
+        out.append(('range list kind ' + entry[:2], 'H 01 02 00 00', '1 11 children; 2 2e 55/23', T + entry % index + '00'))
+    return out
 
 
 # ---- bundles: the length of the rest, version 1, five parts, each after its length

@@ -3,9 +3,9 @@
 use std::collections::BTreeSet;
 
 /// Families that are made of nothing given, in the order of README.md.
-pub const FAMILIES: [&str; 18] = [
+pub const FAMILIES: [&str; 19] = [
     "small", "bytes", "valid", "lists", "expressions", "trees", "deep", "refused", "headers", "declarations", "numbers", "operations", "kinds",
-    "siblings", "many", "damaged", "listed", "sums",
+    "siblings", "many", "damaged", "listed", "sums", "no-table",
 ];
 /// Families of given bundles.
 pub const OF_FILES: [&str; 2] = ["tables", "damaged-files"];
@@ -195,6 +195,8 @@ struct Style {
     listed: bool,
     /// Indices of lists whose place is above 64 bits, often.
     far: bool,
+    /// No address table, and mostly what asks it.
+    no_table: bool,
     /// A fault of each kind, 0 for none.
     fault: u8,
 }
@@ -219,6 +221,7 @@ struct Maker<'a> {
 
 const NAMES: [u16; 12] = [0x03, 0x0b, 0x10, 0x12, 0x1c, 0x31, 0x3a, 0x40, 0x49, 0x64, 0x72, 0x2107];
 const TAGS: [u16; 9] = [0x2e, 0x2e, 0x2e, 0x34, 0x34, 0x24, 0x0b, 0x13, 0x39];
+const ROOTS: [u16; 8] = [0x2e, 0x2e, 0x2e, 0x34, 0x34, 0x34, 0x24, 0x0b];
 const REFERENCES: [u16; 5] = [0x11, 0x12, 0x13, 0x14, 0x15];
 const FORMS: [u16; 41] = [
     0x01, 0x03, 0x04, 0x05, 0x06, 0x07, 0x08, 0x09, 0x0a, 0x0b, 0x0c, 0x0d, 0x0e, 0x0f, 0x11, 0x12, 0x13, 0x14, 0x15,
@@ -272,8 +275,11 @@ impl Maker<'_> {
         address.to_le_bytes()[..self.address_size].to_vec()
     }
 
-    /// An index into the address table: in it, but for fault 6.
+    /// An index into the address table: in it, but for fault 6; any number where there is none.
     fn address_index(&mut self) -> u64 {
+        if self.style.no_table && self.dice.rare(4) {
+            return self.dice.of(&[u64::MAX, u64::MAX - 1, 1 << 63, 1 << 62, 1 << 32, 0xffff_ffff]);
+        }
         if self.addresses == 0 || self.fault(6) {
             return self.dice.number();
         }
@@ -286,6 +292,8 @@ impl Maker<'_> {
             self.dice.of(&[0xff, 0x00, 0x04, 0xf0, 0xf1, 0xf8, 0xe1, 0xaa])
         } else if self.fault(7) {
             self.dice.of(&[0x9a, 0xa0, 0xf2])
+        } else if self.style.no_table && self.dice.rare(2) {
+            self.dice.of(&[0xa1, 0xa1, 0xa1, 0xfb, 0xfb, 0xa2, 0x03, 0xa3])
         } else {
             match self.dice.below(8) {
                 0 | 1 => self.dice.of(&[0x98, 0x99, 0xa4, 0xa5, 0xa6, 0xa7, 0xa8, 0xa9, 0xf4, 0xf5, 0xf6, 0xf7, 0xf9, 0xfa]),
@@ -375,7 +383,8 @@ impl Maker<'_> {
     fn abbreviation(&mut self, code: u64, tag: u16, children: bool) -> Abbreviation {
         let mut specs = Vec::new();
         let some = if self.style.lists || self.style.expressions { 3 } else { 5 };
-        for _ in 0..self.dice.below(some) {
+        let least = usize::from(self.style.no_table);
+        for _ in 0..least + self.dice.below(some - 2 * least) {
             let (name, form) = self.attribute(tag);
             specs.push(Spec { name, form, constant: self.dice.number() as i64 });
         }
@@ -388,7 +397,12 @@ impl Maker<'_> {
         let location = |d: &mut Dice| if listed && d.rare(8) { 0x06 } else { d.of(&[0x18, 0x18, 0x18, 0x22, 0x22, 0x17, 0x0a, 0x16]) };
         let ranges = |d: &mut Dice| if listed && d.rare(8) { 0x06 } else { d.of(&[0x23, 0x23, 0x23, 0x17, 0x16, 0x0b]) };
         let d = &mut *self.dice;
-        let kind = if style.lists && !d.rare(4) {
+        let kind = if style.no_table && !d.rare(4) {
+            match tag {
+                0x2e => d.of(&[0, 0, 2]),
+                _ => d.of(&[0, 0, 1, 4]),
+            }
+        } else if style.lists && !d.rare(4) {
             d.of(&[1, 2])
         } else if style.expressions && !d.rare(4) {
             d.of(&[1, 7])
@@ -398,6 +412,7 @@ impl Maker<'_> {
             d.below(8)
         };
         match kind {
+            0 if tag == 0x2e && style.no_table => (0x11, d.of(&[0x1b, 0x1b, 0x29, 0x2a, 0x2b, 0x2c, 0x01, 0x01, 0x01, 0x16])),
             0 if tag == 0x2e => (0x11, d.of(&[0x1b, 0x1b, 0x1b, 0x29, 0x2a, 0x2b, 0x2c, 0x01, 0x16, 0x0b])),
             0 if tag == 0x34 => (0x02, 0x18),
             1 => (0x02, location(d)),
@@ -516,7 +531,13 @@ impl Maker<'_> {
     fn range_list(&mut self) -> Vec<u8> {
         let mut out = Vec::new();
         for _ in 0..self.dice.of(&[0, 1, 1, 2, 2, 3, 5]) {
-            let kind = if self.fault(5) { self.dice.of(&[8, 9, 0xff]) } else { self.dice.of(&[1, 1, 2, 3, 4, 4, 5, 6, 7]) };
+            let kind = if self.fault(5) {
+                self.dice.of(&[8, 9, 0xff])
+            } else if self.style.no_table {
+                self.dice.of(&[1, 1, 1, 2, 3, 4, 5, 5, 6, 7])
+            } else {
+                self.dice.of(&[1, 1, 2, 3, 4, 4, 5, 6, 7])
+            };
             out.push(kind);
             let more = self.dice.padding();
             match kind {
@@ -653,7 +674,7 @@ fn shape(dice: &mut Dice, style: Style, abbreviations: &[Abbreviation], size: us
 
 fn structured(dice: &mut Dice, style: Style) -> Parts {
     let address_size = if dice.rare(4) { 4 } else { 8 };
-    let addresses = dice.of(&[1, 2, 3, 6, 140]);
+    let addresses = if style.no_table { 0 } else { dice.of(&[1, 2, 3, 6, 140]) };
     let dangling = dice.rare(12);
     let wild = style.trees || dice.rare(6);
     let mut maker = Maker {
@@ -685,7 +706,7 @@ fn structured(dice: &mut Dice, style: Style) -> Parts {
         } else if maker.dice.rare(20) {
             maker.dice.of(&[0x11, 0x41, 0xffff, 0x05])
         } else {
-            maker.dice.of(&TAGS)
+            maker.dice.of(if style.no_table { &ROOTS[..] } else { &TAGS[..] })
         };
         let children = if i == 0 { !maker.dice.rare(20) } else { maker.dice.rare(if style.trees { 2 } else { 3 }) };
         let mut made = maker.abbreviation(code, tag, children);
@@ -783,14 +804,29 @@ fn structured(dice: &mut Dice, style: Style) -> Parts {
     }
     table.extend(uleb(0, dice.padding()));
 
-    let addresses = address_table(dice, addresses);
+    let addresses = if style.no_table { vec![] } else { address_table(dice, addresses) };
     [unit, table, location_lists, range_lists, addresses]
 }
 
-/// Zeros and ones, from all dead to all live.
+/// A table that fails at every index, for units that have no index to ask, or are to be refused at the first. An empty one
+/// would say live: only `no-table` has it, damage that leaves nothing, and given units that came so.
+const FAILS: [u8; 1] = [2];
+
+/// Zeros and ones, from all dead to all live; of none a table that fails.
 fn address_table(dice: &mut Dice, count: usize) -> Vec<u8> {
     let live = dice.of(&[0, 10, 25, 50, 75, 100]);
+    if count == 0 {
+        return FAILS.to_vec();
+    }
     (0..count).map(|_| u8::from(dice.below(100) < live)).collect()
+}
+
+/// A table cut behind `keep` indices; behind none, one that fails.
+fn cut(table: &mut Vec<u8>, keep: usize) {
+    table.truncate(keep);
+    if keep == 0 {
+        table.extend(FAILS);
+    }
 }
 
 /// One to three changes anywhere.
@@ -870,7 +906,7 @@ fn refused(dice: &mut Dice) -> Parts {
         6 => match dice.below(3) {
             0 => {
                 let keep = dice.below(parts[4].len());
-                parts[4].truncate(keep);
+                cut(&mut parts[4], keep);
             }
             1 => {
                 let place = dice.below(parts[4].len());
@@ -1088,7 +1124,7 @@ fn siblings(dice: &mut Dice) -> Parts {
         body.extend([6, 0]);
     }
     body.push(0);
-    let mut parts = of_body(&body, &[]);
+    let mut parts = of_body(&body, &FAILS);
     parts[1] = vec![1, 0x24, 0];
     if early {
         parts[1].extend([0x49, 0x11]);
@@ -1120,7 +1156,7 @@ fn many(dice: &mut Dice) -> Parts {
         body.splice(place..place, held);
     }
     body.push(0);
-    let mut parts = of_body(&body, &[]);
+    let mut parts = of_body(&body, &FAILS);
     parts[1] = vec![1, 0x11, 1, 0, 0];
     for (code, tag, more) in [(2, 0x24, &[][..]), (3, 0x2e, &[0x11, 0x19])] {
         parts[1].extend([code, tag, 0]);
@@ -1270,7 +1306,7 @@ fn declarations(dice: &mut Dice) -> Parts {
         table.extend(number(dice, 0));
     }
     let body = [&[1, 0, 0][..], &[1], &[2, 0], &[], &[0]][dice.below(5)].to_vec();
-    let mut parts = of_body(&body, &[]);
+    let mut parts = of_body(&body, &FAILS);
     if dice.rare(8) {
         let offset = (dice.below(table.len() + 3) as u32).to_le_bytes();
         parts[0][8..12].copy_from_slice(&offset);
@@ -1340,13 +1376,17 @@ fn kinds(dice: &mut Dice) -> Parts {
     parts
 }
 
-/// A given unit with another address table: as long, seldom shorter or with a wrong byte.
+/// A given unit with another address table: as long, seldom shorter or with a wrong byte. One without a table keeps none.
 fn varied(dice: &mut Dice, parts: &mut Parts) {
     let count = parts[4].len();
-    parts[4] = address_table(dice, count);
-    if count > 0 && dice.rare(20) {
+    let table = address_table(dice, count);
+    if count == 0 {
+        return;
+    }
+    parts[4] = table;
+    if dice.rare(20) {
         let place = dice.below(count);
-        if dice.rare(2) { parts[4].truncate(place) } else { parts[4][place] = 2 }
+        if dice.rare(2) { cut(&mut parts[4], place) } else { parts[4][place] = 2 }
     }
 }
 
@@ -1384,6 +1424,10 @@ impl<'a> Cases<'a> {
             "deep" => deep(dice),
             "refused" => refused(dice),
             "sums" => structured(dice, Style { lists: true, far: true, ..style }),
+            "no-table" => {
+                let fault = dice.of(&[0, 0, 0, 0, 0, 0, 0, 0, 4, 5, 7, 8]);
+                structured(dice, Style { no_table: true, fault, ..style })
+            }
             "headers" => headers(dice),
             "declarations" => declarations(dice),
             "numbers" => numbers(dice),

@@ -16,7 +16,7 @@ pub(crate) enum Error {
     Read(gimli::Error),
     /// What `?` makes of a writing error.
     Write(gimli::write::Error),
-    /// Asked for an index that the lent table lacks, or where it holds neither 0 nor 1.
+    /// Asked for an index that the lent table, if it is not empty, lacks, or where it holds neither 0 nor 1.
     Address,
 }
 

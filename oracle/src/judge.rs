@@ -6,6 +6,7 @@ use gimli::{
     EndianSlice, LocationLists, RangeLists, RunTimeEndian,
 };
 use std::any::Any;
+use std::cell::Cell;
 use std::collections::BTreeSet;
 use std::fmt::Write as _;
 use std::panic::{self, AssertUnwindSafe};
@@ -45,6 +46,8 @@ pub struct Judged {
     pub references: Vec<usize>,
     /// Old offset and letter of each entry in stream order, once the marks are final.
     pub marks: Vec<(usize, char)>,
+    /// How often an index of the address table was asked for.
+    pub asked: usize,
 }
 
 impl Judged {
@@ -136,33 +139,43 @@ fn number(error: &Error) -> Option<u8> {
     })
 }
 
-/// Calls `gc_debug_info` of a module on the five sections of a bundle.
+/// The resolver: what the address table says of an index. Of an empty table, always live; of no other.
+fn resolved(table: &[u8], index: usize) -> Result<bool, Error> {
+    if table.is_empty() {
+        return Ok(true);
+    }
+    match table.get(index) {
+        Some(0) => Ok(false),
+        Some(1) => Ok(true),
+        _ => Err(Error::Address),
+    }
+}
+
+/// Calls `gc_debug_info` of a module on the five sections of a bundle, with this resolver.
 macro_rules! original {
-    ($module:ident, $parts:expr, $setting:expr) => {{
+    ($module:ident, $parts:expr, $setting:expr, $resolver:expr) => {{
         let (parts, setting): ([&[u8]; 5], Setting) = ($parts, $setting);
         let reader = |i: usize| EndianSlice::new(parts[i], RunTimeEndian::Little);
         let empty = EndianSlice::new(&[][..], RunTimeEndian::Little);
-        let table = parts[4];
-        let is_addr_live = |index: gimli::DebugAddrIndex<usize>| match table.get(index.0) {
-            Some(0) => Ok(false),
-            Some(1) => Ok(true),
-            _ => Err(Error::Address),
-        };
         $module::gc_debug_info(
             DebugInfo::from(reader(0)),
             DebugAbbrev::from(reader(1)),
             LocationLists::new(DebugLoc::from(empty), DebugLocLists::from(reader(2))),
             RangeLists::new(DebugRanges::from(empty), DebugRngLists::from(reader(3))),
             DebugRngListsBase(setting.ranges_base),
-            is_addr_live,
+            $resolver,
             shims::DwoId(0),
             setting.type_units,
         )
     }};
 }
 
-fn outcome(parts: [&[u8]; 5], setting: Setting) -> Outcome {
-    match original!(gc, parts, setting) {
+fn outcome(parts: [&[u8]; 5], setting: Setting, asked: &Cell<usize>) -> Outcome {
+    let resolver = |index: gimli::DebugAddrIndex<usize>| {
+        asked.set(asked.get() + 1);
+        resolved(parts[4], index.0)
+    };
+    match original!(gc, parts, setting, resolver) {
         Err(e) => Outcome::Error(number(&e), e.to_string()),
         Ok(a) => Outcome::Answer(Answer {
             rewritten: a.rewritten.map(|v| v.into_vec()),
@@ -174,20 +187,23 @@ fn outcome(parts: [&[u8]; 5], setting: Setting) -> Outcome {
 
 /// The original without the hook, its result freed: what is measured. The new unit's length, 0 where untouched, or none.
 pub fn measured(parts: [&[u8]; 5], setting: Setting) -> Option<usize> {
-    let answer = original!(plain, parts, setting).ok()?;
+    let resolver = |index: gimli::DebugAddrIndex<usize>| resolved(parts[4], index.0);
+    let answer = original!(plain, parts, setting, resolver).ok()?;
     Some(answer.rewritten.as_ref().map_or(0, |v| v.slice().len()))
 }
 
 /// Runs the original on the five sections of a bundle.
 pub fn judge(parts: [&[u8]; 5], setting: Setting) -> Judged {
     probe::clear();
-    let outcome = panic::catch_unwind(AssertUnwindSafe(|| outcome(parts, setting)));
+    let asked = Cell::new(0);
+    let outcome = panic::catch_unwind(AssertUnwindSafe(|| outcome(parts, setting, &asked)));
     let seen = probe::taken();
     Judged {
         outcome: outcome.unwrap_or_else(|p| Outcome::Panic(said(p))),
         met: seen.met,
         references: seen.references,
         marks: seen.marks,
+        asked: asked.get(),
     }
 }
 

@@ -6,3 +6,4 @@ pub mod thinned
 pub mod attributes
 pub mod refusals
 pub mod room
+pub mod tables

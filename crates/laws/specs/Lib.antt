@@ -21,3 +21,4 @@ pub mod UnitSurvivors
 pub mod inner
 pub mod Yields
 pub mod Ancestors
+pub mod AddressTables

@@ -1,6 +1,7 @@
 -- Tombstones and the address table, by the tests that were made. Assumes nothing.
 use mathlib.Core.Path.{_≡_}
 use Prim.Native.Nat.{ℕ, _≤_, _<_}
+use native.Mathlib.Omega.{arith}
 use mathlib.Core.Bool.{true, false}
 use mathlib.Core.List.{List}
 use lib.ListN.{length, getD}
@@ -32,19 +33,28 @@ module _ (address size : ℕ) where
   other-size n m = rw (ne-eqb size 4 n, ne-eqb size 8 m)
 
 module _ (table : List ℕ) (index : ℕ) where
-  pub past-table : length table ≤ index → Fails ≡ lookupAt table index
+  pub no-table : length table ≡ 0 → Live ≡ lookupAt table index
   unfolding lookupAt pick
-  past-table h = rw (le-ltb index (length table) h)
+  no-table z = rw (eq-eqb (length table) 0 z)
+
+  pub past-table : (length table ≡ 0 → ⊥) → length table ≤ index → Fails ≡ lookupAt table index
+  unfolding lookupAt pick
+  past-table n h = rw (ne-eqb (length table) 0 n, le-ltb index (length table) h)
 
   module _ (h : index < length table) where
+    some-table : eqb (length table) 0 ≡ false
+    some-table = ne-eqb (length table) 0 (λ z. omega arith)
+
     pub byte-zero : getD table index 0 ≡ 0 → Dead ≡ lookupAt table index
     unfolding lookupAt byteLiveness pick
-    byte-zero z = rw (lt-ltb index (length table) h, eq-eqb (getD table index 0) 0 z)
+    byte-zero z = rw (some-table, lt-ltb index (length table) h, eq-eqb (getD table index 0) 0 z)
 
     pub byte-one : (getD table index 0 ≡ 0 → ⊥) → getD table index 0 ≡ 1 → Live ≡ lookupAt table index
     unfolding lookupAt byteLiveness pick
-    byte-one z o = rw (lt-ltb index (length table) h, ne-eqb (getD table index 0) 0 z, eq-eqb (getD table index 0) 1 o)
+    byte-one z o =
+        rw (some-table, lt-ltb index (length table) h, ne-eqb (getD table index 0) 0 z, eq-eqb (getD table index 0) 1 o)
 
     pub byte-other : (getD table index 0 ≡ 0 → ⊥) → (getD table index 0 ≡ 1 → ⊥) → Fails ≡ lookupAt table index
     unfolding lookupAt byteLiveness pick
-    byte-other z o = rw (lt-ltb index (length table) h, ne-eqb (getD table index 0) 0 z, ne-eqb (getD table index 0) 1 o)
+    byte-other z o =
+        rw (some-table, lt-ltb index (length table) h, ne-eqb (getD table index 0) 0 z, ne-eqb (getD table index 0) 1 o)

@@ -1,4 +1,4 @@
--- Addresses (document 01, "Roots" and "What changes shape").
+-- Addresses (document 01, "Roots" and "What changes shape"; document 02, Point 2).
 use Prim.Native.Nat.{ℕ, _-_, _^_}
 use mathlib.Core.Bool.{Bool, false}
 use mathlib.Core.List.{List}
@@ -18,6 +18,10 @@ isTombstone address size =
 unfoldable pub byteLiveness : ℕ → AddressLookup
 byteLiveness b = pick (eqb b 0) Dead (pick (eqb b 1) Live Fails)
 
--- a table of bytes, one an index: 0 dead, 1 live, any other byte or an index past its end fails
+-- The lent table, one byte an index: 0 dead, 1 live, any other byte or an index past its end fails. By an empty table
+-- no address is known, and each index counts as live (Point 2).
 unfoldable pub lookupAt : List ℕ → ℕ → AddressLookup
-lookupAt table index = pick (ltb index (length table)) (byteLiveness (getD table index 0)) Fails
+lookupAt table index =
+    pick (eqb (length table) 0) Live
+    (pick (ltb index (length table)) (byteLiveness (getD table index 0))
+    Fails)

@@ -29,9 +29,13 @@ pub fn is_tombstone(address: u64, size: u8) -> bool
 }
 
 // An index of the address table, one byte an index: 0 dead, 1 live; any other byte, or an index past its end, fails.
+// Where the table is empty every index is live.
 pub fn lookup(table: &[u8], index: u64) -> AddressLookup
     ensures { λ r. ⌜ r ≡ lookupAt (now (table .entry)) index ⌝ }
 {
+    if table.len() == 0 {
+        return AddressLookup::Live; // no address is known
+    }
     if index >= (table.len() as u64) {
         return AddressLookup::Fails;
     }

@@ -319,6 +319,9 @@ struct Ended {
     /// The listed differences, where the two answer otherwise.
     listed: Option<String>,
     different: Option<String>,
+    /// Whether the address table is empty, and whether the original asked for an index then.
+    empty: bool,
+    asked: bool,
 }
 
 fn name(answer: Result<&Plan, u8>) -> String {
@@ -343,7 +346,8 @@ fn compared(parts: &Parts, setting: Setting, seed: u64, blocks: bool) -> Ended {
     let judged = judge(parts_of(parts), setting);
     let expected = expect(parts_of(parts), setting, &judged);
     let dice = &mut Dice(seed);
-    let mut ended = Ended::default();
+    let empty = parts[4].is_empty();
+    let mut ended = Ended { empty, asked: empty && judged.asked > 0, ..Ended::default() };
     let names: Vec<&str> = expected.rules.iter().copied().collect();
     if !expected.is(&judged, &parts[0]) {
         match names.is_empty() {
@@ -444,11 +448,16 @@ struct Tally {
     second: BTreeMap<String, usize>,
     listed: BTreeMap<String, usize>,
     different: usize,
+    /// With an empty address table, and those of them in which an index was asked for.
+    empty: usize,
+    asked: usize,
 }
 
 impl Tally {
     fn add(&mut self, ended: &Ended) {
         self.cases += 1;
+        self.empty += usize::from(ended.empty);
+        self.asked += usize::from(ended.asked);
         *self.first.entry(ended.first.clone()).or_default() += 1;
         *self.second.entry(ended.second.clone()).or_default() += 1;
         if ended.different.is_some() {
@@ -461,6 +470,8 @@ impl Tally {
     fn merge(&mut self, other: Tally) {
         self.cases += other.cases;
         self.different += other.different;
+        self.empty += other.empty;
+        self.asked += other.asked;
         for (into, from) in [(&mut self.first, other.first), (&mut self.second, other.second), (&mut self.listed, other.listed)] {
             for (k, n) in from {
                 *into.entry(k).or_default() += n;
@@ -496,7 +507,7 @@ fn run_part(family: &str, given: &[Parts], options: &Options, thread: usize, sav
         if !mine && family != "small" {
             continue;
         }
-        let parts = cases.case(i);
+        let mut parts = cases.case(i);
         if !mine {
             continue;
         }
@@ -504,13 +515,23 @@ fn run_part(family: &str, given: &[Parts], options: &Options, thread: usize, sav
         let mut dice = Dice(options.seed.wrapping_mul(0x9e37_79b9).wrapping_add(i as u64) << 7 ^ family.len() as u64);
         let with = setting(&mut dice);
         let seed = dice.next();
-        let ended = one(&parts, with, seed, options.blocks);
-        tally.add(&ended);
-        if let Some(what) = &ended.different {
-            let mut saved = saved.lock().unwrap();
-            *saved += 1;
-            if *saved <= 20 && !options.quiet {
-                report(family, i, &parts, with, seed, what, options);
+        // A body of `small` comes with its four tables, and once more with none (beside the first).
+        let again = family == "small" && parts[4] == [0, 0];
+        if family != "small" && dice.rare(8) {
+            parts[4].clear();
+        }
+        for turn in 0..1 + usize::from(again) {
+            if turn == 1 {
+                parts[4].clear();
+            }
+            let ended = one(&parts, with, seed, options.blocks);
+            tally.add(&ended);
+            if let Some(what) = &ended.different {
+                let mut saved = saved.lock().unwrap();
+                *saved += 1;
+                if *saved <= 20 && !options.quiet {
+                    report(family, i, &parts, with, seed, what, options);
+                }
             }
         }
     }
@@ -548,7 +569,7 @@ fn row(name: &str, tally: &Tally) -> String {
 }
 
 fn run(families: &[String], given: &[Parts], options: &Options) -> bool {
-    let mut rows = Vec::new();
+    let (mut rows, mut empty) = (Vec::new(), Vec::new());
     let mut total = Tally::default();
     let saved = Mutex::new(0);
     for family in families {
@@ -575,6 +596,7 @@ fn run(families: &[String], given: &[Parts], options: &Options) -> bool {
         });
         eprintln!("{} {:?}", row(family, &tally), started.elapsed());
         rows.push(row(family, &tally));
+        empty.push(format!("{family} {} {}", tally.empty, tally.asked));
         total.merge(tally);
     }
     println!("| family | cases | {} | then {} | listed | different |", FIRST.join(" | "), SECOND.join(" | "));
@@ -591,6 +613,7 @@ fn run(families: &[String], given: &[Parts], options: &Options) -> bool {
         }
     }
     println!("listed, by rule (several may match a case): {}", by_rule.iter().map(|(r, n)| format!("{r} {n}")).collect::<Vec<_>>().join(", "));
+    println!("empty address tables, and those in which an index was asked for: {}, all {} {}", empty.join(", "), total.empty, total.asked);
     println!("differ: {} cases, {} different", total.cases, total.different);
     total.different == 0
 }

@@ -1,4 +1,5 @@
--- P1 to P10 of document 01, computed by the definitions alone: the five-entry unit, padded numbers, tombstones.
+-- P1 to P10 of document 01, computed by the definitions alone: the five-entry unit, padded numbers, tombstones; and the
+-- five-entry unit with no address table (document 02, Point 2).
 use mathlib.Core.Path.{_≡_, refl}
 use mathlib.Core.List.{[], _∷_, _++_}
 use mathlib.Core.Bool.{true, false}
@@ -58,5 +59,6 @@ pub p1-to-p10 :
     × ((paddedAnswer 0 1 1 ≡ Written) × (paddedOut 0 1 1 ≡ 0x00 ∷ []) × (paddedAnswer 16 2 2 ≡ Written) × (paddedOut 16 2 2 ≡ 0x90 ∷ 0x00 ∷ []))
     × (paddedAnswer 128 1 1 ≡ Padded′ 15)
     × ((isTombstone 0xffffffff 4 ≡ true) × (isTombstone 0xffffffff 8 ≡ false) × (isTombstone 0xffffffff 2 ≡ false))
+    × (five [] ≡ untouched 5 none3)  -- document 02, Point 2
 unfolding groupsFit paddedAnswer paddedOut pick _and_ _or_ check bind All below groups unsigned64 uleb negative signed64 sleb padded littleBytes littleValue ordered fixedBytes fixedValue asBytes width kindOf asLeb stringIn within16 short afterForm formsWithin formsIn copy asNumber asLink asBounded asForms asSigned asString asBlock asExpression before numberIn tokenIn readIn numberBytes pieceBytes bytesOf writeAll patchPiece patchPieces patchRead patchAll FitPiece FitPieces FitAll numberAs tokenOf unreadableRow rows rowOf rowLayout operations rowAmong operationRow operation rangeEntries locationEntries listRow push onTurn scanWithin scan Goes allPieces andRest expressionWithin expressionIn formTokens tokenAmong formToken useOf valueToken attributeLayout asGroups groupsAt asLebNumber lebAt asFixed fixedAt skipAt asMoved stringAt asFormNumber formsAt linkedValue size fieldOf asField rowOfReads asRow tokenAt fieldAt rowAt numberField boundedField blockField numberAt partOf exprlocAt rowOperation operationOfReads asOperation operationAt listEntry rowEntry entryOfReads asListStep listEntryAt nameIn namesIn isAbsolute anyAbsolute asWalk walkOf named namedType referenceOf counted ownWalk yieldTurn operationTurn walkTurn yielded nextReference namesOf flatOperation flatTurn flat flattened flatFrom walkAnswer referencesAnswer numbersOf namesOr referencesIn answerTable referencesTable present right encodingOf headerMade headerFields headerOf listStart fromBase listOffset numberSpec implicitSpec specAt specTurn attributesFrom scannedTo pastAttributes numberDeclaration movedDeclaration headAt wholeDeclaration declarationAt declarationTurn declarationsFrom declaredIn isFound distinct checkDistinct abbreviationsOf asChecked checkedOf indexed indexFor indexOf searchTurn foundBy searchAt declarationFound findAt attributeOfReads asAttribute attributeAt then attributesLayout specsLayout asPast valuesAt foundLayout entryLayout entryFound stepOfReads asStep stepAt opened closed top nestingOf nestingOpened nestingClosed isTombstone byteLiveness lookupAt onNext walkWithin walk Forward orElse onLookup turnOf rangeEntry rangeStep rangesLive operationStep locationLive olderStep olderLive lowPc onAttribute valuesOf onSpec specsWithin specsFrom entryValues taken takenBy nextAttribute lowPcs locations otherRanges rangesOf firstRanges rootTest baseFrom baseAfter after andThen targets walkFound expressionFound locationFound onLocation locationStep listFound attributeFound attributesFound any every count tab isParent isRoot references names parentFits pairFits rootFits wellFormed takes climbs isDescendant namedBy isTop isLive justified accepts step run nothing has round rounds keptOf markOf marksOf isKept keptCount markAnswer endMarks push′Stream onStep itemsWithin itemsFrom onto onVerdict onFound valuesOfEntry rootOf namesOf′Analysis baseOf analyseItems onDeclared unitAnalysed headerAnalysed analysisOf offsetsIn parentsIn rootsIn namesIn′Columns endsIn padTo column entryFrom pairFor pairsOfEntry pairsFrom pairsIn graphOf marksIn unitMarks asEntry Ascending innermost withIf keptFrom offsetOf sizeOf placesFrom sizeFrom newOf firstFrom orElse′Places siblingOf insert insertAll rankIn indexIn indicesIn readIndices declares rankOr countOf itemsIn readsOr readsAt indicesFrom itemDeclares anyDeclares listOf listsOf orSelf isSome listAt newValue hasPlace fits pieceRefusal orNext piecesRefusal readsRefusal refusalFrom bytesFrom unitBytes listsFit orRefused rewriteOf marksCollected rowsCollected analysedCollected declaredCollected headerCollected collectOf
-p1-to-p10 = (refl, refl, refl, refl, refl, refl, refl, (refl, refl, refl, refl), refl, (refl, refl, refl))
+p1-to-p10 = (refl, refl, refl, refl, refl, refl, refl, (refl, refl, refl, refl), refl, (refl, refl, refl), refl)

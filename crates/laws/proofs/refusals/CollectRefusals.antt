@@ -96,11 +96,11 @@ or-rest true b t = absurd t
 or-rest false b t = t
 
 -- a number that is not one of some
-none-of : (ms : List ℕ) (n k : ℕ) → n ≡ k → T (not (isOneOf ms k)) → OneOf ms n → ⊥
+pub not-one-of : (ms : List ℕ) (n k : ℕ) → n ≡ k → T (not (isOneOf ms k)) → OneOf ms n → ⊥
 unfolding OneOf isOneOf _or_
-none-of [] n k e t o = o
-none-of (m ∷ ms) n k e t (inl q) = or-first (eqb k m) (isOneOf ms k) t (yes-eqb {a = k} {b = m} (sym e ∙ q))
-none-of (m ∷ ms) n k e t (inr o) = none-of ms n k e (or-rest (eqb k m) (isOneOf ms k) t) o
+not-one-of [] n k e t o = o
+not-one-of (m ∷ ms) n k e t (inl q) = or-first (eqb k m) (isOneOf ms k) t (yes-eqb {a = k} {b = m} (sym e ∙ q))
+not-one-of (m ∷ ms) n k e t (inr o) = not-one-of ms n k e (or-rest (eqb k m) (isOneOf ms k) t) o
 
 is-true : (b : Bool) → T b → b ≡ true
 is-true true t = refl
@@ -242,9 +242,9 @@ module _ (x : Sections) (room : Room) (typeUnits : Bool) (section : List ℕ) wh
 
   eight-at : (n : ℕ) → n ≡ 8 → RefusedAt x room typeUnits section n → RefusedNumber x room typeUnits section Unplaced
   unfolding isOneOf areOf OneOf _or_ _and_
-  eight-at n e (at-header q r) = absurd (none-of (1 ∷ 2 ∷ []) n 8 e tt r)
+  eight-at n e (at-header q r) = absurd (not-one-of (1 ∷ 2 ∷ []) n 8 e tt r)
   eight-at n e (at-abbreviations q d) = absurd (omega arith)
-  eight-at n e (at-entries q d a r) = absurd (none-of (4 ∷ 10 ∷ 5 ∷ 6 ∷ 7 ∷ 11 ∷ []) n 8 e tt r)
+  eight-at n e (at-entries q d a r) = absurd (not-one-of (4 ∷ 10 ∷ 5 ∷ 6 ∷ 7 ∷ 11 ∷ []) n 8 e tt r)
   eight-at n e (at-lists u m l) = absurd (omega arith)
   eight-at n e (at-map u d p) = absurd (omega arith)
   eight-at n e (at-output u d p b) = absurd (omega arith)
@@ -253,9 +253,9 @@ module _ (x : Sections) (room : Room) (typeUnits : Bool) (section : List ℕ) wh
 
   nine-at : (n : ℕ) → n ≡ 9 → RefusedAt x room typeUnits section n → RefusedNumber x room typeUnits section TooWide
   unfolding isOneOf areOf OneOf _or_ _and_
-  nine-at n e (at-header q r) = absurd (none-of (1 ∷ 2 ∷ []) n 9 e tt r)
+  nine-at n e (at-header q r) = absurd (not-one-of (1 ∷ 2 ∷ []) n 9 e tt r)
   nine-at n e (at-abbreviations q d) = absurd (omega arith)
-  nine-at n e (at-entries q d a r) = absurd (none-of (4 ∷ 10 ∷ 5 ∷ 6 ∷ 7 ∷ 11 ∷ []) n 9 e tt r)
+  nine-at n e (at-entries q d a r) = absurd (not-one-of (4 ∷ 10 ∷ 5 ∷ 6 ∷ 7 ∷ 11 ∷ []) n 9 e tt r)
   nine-at n e (at-lists u m l) = absurd (omega arith)
   nine-at n e (at-map u d p) = absurd (omega arith)
   nine-at n e (at-output u d p b) = absurd (omega arith)

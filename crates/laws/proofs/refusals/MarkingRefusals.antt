@@ -6,7 +6,6 @@ use mathlib.Core.Bool.{Bool, true, false}
 use mathlib.Core.List.{List, [], _∷_}
 use mathlib.Core.Option.{Option, none, some}
 use lib.ListN.{take}
-use lib.Dec.{T}
 use Rattle.readers.specs.Choice.{_and_, _or_}
 use Rattle.readers.proofs.Choice.{pick-either}
 use Rattle.laws.specs.RefusalNumbers.{OneOf, RootRefusal, ScanRefusal, EntriesRefusal, AnalysisRefusal, MarkRefusal}
@@ -29,6 +28,7 @@ use Rattle.readers.specs.declared.operations.OperationRead.{OperationRead}
 use Rattle.readers.specs.declared.operations.OperationRead.the-variants.{Read as Operation′, Unreadable as NoOperation}
 use Rattle.readers.specs.declared.attributes.Attribute.{Attribute}
 use Rattle.laws.proofs.refusals.ReaderRefusals.{isOneOf, areOf, one-of, wider, HeaderNumbered, header-numbered}
+use Rattle.marking.specs.Addresses.{lookupAt}
 use Rattle.marking.specs.declared.addresses.AddressLookup.{AddressLookup}
 use Rattle.marking.specs.declared.addresses.AddressLookup.the-variants.{Live as Alive, Dead as NotAlive, Fails}
 use Rattle.marking.specs.declared.root_test.Verdict.{Verdict}
@@ -67,134 +67,143 @@ module _ {S B : Type 0} (P : B → Type 0) where
   unfolding walk
   walk-numbered f d each end at n s = within-numbered f d each end _ s
 
--- ---- the root test: 5 or 6
+-- ---- the root test: 5, and 6 where the address table fails
 
-unfoldable pub VerdictNumbered : Verdict → Type 0
-VerdictNumbered Live = Unit {0}
-VerdictNumbered Dead = Unit {0}
-VerdictNumbered (Failed n) = RootRefusal n
+-- a refusal is one of some numbers
+unfoldable pub VerdictOf : List ℕ → Verdict → Type 0
+VerdictOf ms Live = Unit {0}
+VerdictOf ms Dead = Unit {0}
+VerdictOf ms (Failed n) = OneOf ms n
 
-abbrev TurnNumbered : RootTurn → Type 0
-TurnNumbered t = NextNumbered {S = Flagged} VerdictNumbered t
-
-else-numbered : (v w : Verdict) → VerdictNumbered v → VerdictNumbered w → VerdictNumbered (orElse v w)
-unfolding orElse VerdictNumbered
-else-numbered Dead w p q = q
-else-numbered Live w p q = tt
-else-numbered (Failed n) w p q = p
-
-lookup-numbered : {X : Type 0} (P : X → Type 0) (l : AddressLookup) (r : Verdict → X) (a b : X) → P (r (Failed 6)) → P a → P b → P (onLookup l r a b)
+lookup-numbered : {X : Type 0} (P : X → Type 0) (l : AddressLookup) (r : Verdict → X) (a b : X)
+    → (l ≡ Fails → P (r (Failed 6))) → P a → P b → P (onLookup l r a b)
 unfolding onLookup
 lookup-numbered P Alive r a b p q s = q
 lookup-numbered P NotAlive r a b p q s = s
-lookup-numbered P Fails r a b p q s = p
+lookup-numbered P Fails r a b p q s = p refl
 
-six-numbered : VerdictNumbered (Failed 6)
-unfolding VerdictNumbered isOneOf _or_
-six-numbered = one-of _ 6 tt
+module _ (ms : List ℕ) (five : OneOf ms 5) where
+  abbrev VerdictNumbered : Verdict → Type 0
+  VerdictNumbered v = VerdictOf ms v
 
-five-numbered : VerdictNumbered (Failed 5)
-unfolding VerdictNumbered isOneOf _or_
-five-numbered = one-of _ 5 tt
+  abbrev TurnNumbered : RootTurn → Type 0
+  TurnNumbered t = NextNumbered {S = Flagged} VerdictNumbered t
 
-live-numbered : VerdictNumbered Live
-unfolding VerdictNumbered
-live-numbered = tt
+  else-numbered : (v w : Verdict) → VerdictNumbered v → VerdictNumbered w → VerdictNumbered (orElse v w)
+  unfolding orElse VerdictOf
+  else-numbered Dead w p q = q
+  else-numbered Live w p q = tt
+  else-numbered (Failed n) w p q = p
 
-dead-numbered : VerdictNumbered Dead
-unfolding VerdictNumbered
-dead-numbered = tt
+  fails-numbered : (n : ℕ) → OneOf ms n → VerdictNumbered (Failed n)
+  unfolding VerdictOf
+  fails-numbered n q = q
 
-stop-numbered : (v : Verdict) → VerdictNumbered v → TurnNumbered (stop v)
-unfolding NextNumbered
-stop-numbered v q = q
+  live-numbered : VerdictNumbered Live
+  unfolding VerdictOf
+  live-numbered = tt
 
-go-numbered : (p : Flagged) → TurnNumbered (go p)
-unfolding NextNumbered
-go-numbered p = tt
+  dead-numbered : VerdictNumbered Dead
+  unfolding VerdictOf
+  dead-numbered = tt
 
-module _ (e : Encoding) (table : List ℕ) where
-  entry-numbered : (dead : Bool) (x : ListEntry) → TurnNumbered (rangeEntry e table dead x)
-  unfolding rangeEntry
-  entry-numbered dead x =
-      pick-either TurnNumbered _ _ _ (λ _. lookup-numbered TurnNumbered _ _ _ _ (stop-numbered _ six-numbered) (go-numbered _) (go-numbered _))
-      (λ _. pick-either TurnNumbered _ _ _ (λ _. lookup-numbered TurnNumbered _ _ _ _ (stop-numbered _ six-numbered) (stop-numbered _ live-numbered) (go-numbered _))
-      (λ _. pick-either TurnNumbered _ _ _ (λ _. pick-either TurnNumbered _ _ _ (λ _. go-numbered _) (λ _. stop-numbered _ live-numbered))
-      (λ _. pick-either TurnNumbered _ _ _ (λ _. go-numbered _)
-      (λ _. pick-either TurnNumbered _ _ _ (λ _. go-numbered _) (λ _. stop-numbered _ live-numbered)))))
+  stop-numbered : (v : Verdict) → VerdictNumbered v → TurnNumbered (stop v)
+  unfolding NextNumbered
+  stop-numbered v q = q
 
-  step-numbered : (dead : Bool) (t : ListStep) → TurnNumbered (rangeStep e table dead t)
-  unfolding rangeStep
-  step-numbered dead (Entry x) = entry-numbered dead x
-  step-numbered dead End = stop-numbered _ dead-numbered
-  step-numbered dead NoEntry = stop-numbered _ five-numbered
+  go-numbered : (p : Flagged) → TurnNumbered (go p)
+  unfolding NextNumbered
+  go-numbered p = tt
 
-  ranges-numbered : (s : List ℕ) (o : ListOffset) → VerdictNumbered (rangesLive e table s o)
-  unfolding rangesLive
-  ranges-numbered s (At c) = walk-numbered VerdictNumbered _ _ (λ p. step-numbered _ _) dead-numbered place _ _
-  ranges-numbered s Unresolved = live-numbered
+  older-step-numbered : (t : ListStep) → TurnNumbered (olderStep t)
+  unfolding olderStep
+  older-step-numbered (Entry x) = pick-either TurnNumbered _ _ _ (λ _. go-numbered _) (λ _. stop-numbered _ live-numbered)
+  older-step-numbered End = stop-numbered _ dead-numbered
+  older-step-numbered NoEntry = stop-numbered _ (fails-numbered 5 five)
 
-  operation-numbered : (live : Bool) (o : OperationRead) → TurnNumbered (operationStep e table live o)
-  unfolding operationStep
-  operation-numbered live (Operation′ op) =
-      pick-either TurnNumbered _ _ _ (λ _. lookup-numbered TurnNumbered _ _ _ _ (stop-numbered _ six-numbered) (go-numbered _) (go-numbered _)) (λ _. go-numbered _)
-  operation-numbered live NoOperation = stop-numbered _ five-numbered
+  older-numbered : (e : Encoding) (s : List ℕ) (o : ListOffset) → VerdictNumbered (olderLive e s o)
+  unfolding olderLive
+  older-numbered e s (At c) = walk-numbered VerdictNumbered _ _ (λ p. older-step-numbered _) dead-numbered place _ _
+  older-numbered e s Unresolved = live-numbered
 
-  location-numbered : (s : List ℕ) → VerdictNumbered (locationLive e table s)
-  unfolding locationLive
-  location-numbered s =
-      walk-numbered VerdictNumbered _ _
-      (λ p. pick-either TurnNumbered _ _ _ (λ _. operation-numbered _ _) (λ _. stop-numbered _ (pick-either VerdictNumbered _ _ _ (λ _. live-numbered) (λ _. dead-numbered))))
-      dead-numbered place _ _
+  module _ (e : Encoding) (table : List ℕ) (six : (index : ℕ) → lookupAt table index ≡ Fails → OneOf ms 6) where
+    asked-turn : (index : ℕ) (a b : RootTurn) → TurnNumbered a → TurnNumbered b → TurnNumbered (onLookup (lookupAt table index) stop a b)
+    asked-turn index a b p q = lookup-numbered TurnNumbered _ _ _ _ (λ z. stop-numbered _ (fails-numbered 6 (six index z))) p q
 
-  low-numbered : (v : Attribute) → VerdictNumbered (lowPc e table v)
-  unfolding lowPc
-  low-numbered v =
-      pick-either VerdictNumbered _ _ _ (λ _. lookup-numbered VerdictNumbered _ _ _ _ six-numbered live-numbered dead-numbered)
-      (λ _. pick-either VerdictNumbered _ _ _ (λ _. pick-either VerdictNumbered _ _ _ (λ _. dead-numbered) (λ _. live-numbered)) (λ _. live-numbered))
+    entry-numbered : (dead : Bool) (x : ListEntry) → TurnNumbered (rangeEntry e table dead x)
+    unfolding rangeEntry
+    entry-numbered dead x =
+        pick-either TurnNumbered _ _ _ (λ _. asked-turn _ _ _ (go-numbered _) (go-numbered _))
+        (λ _. pick-either TurnNumbered _ _ _ (λ _. asked-turn _ _ _ (stop-numbered _ live-numbered) (go-numbered _))
+        (λ _. pick-either TurnNumbered _ _ _ (λ _. pick-either TurnNumbered _ _ _ (λ _. go-numbered _) (λ _. stop-numbered _ live-numbered))
+        (λ _. pick-either TurnNumbered _ _ _ (λ _. go-numbered _)
+        (λ _. pick-either TurnNumbered _ _ _ (λ _. go-numbered _) (λ _. stop-numbered _ live-numbered)))))
 
-  lows-numbered : (vs : List Valued) → VerdictNumbered (lowPcs e table vs)
-  unfolding lowPcs
-  lows-numbered [] = dead-numbered
-  lows-numbered (a ∷ vs) = pick-either VerdictNumbered _ _ _ (λ _. else-numbered _ _ (low-numbered _) (lows-numbered vs)) (λ _. lows-numbered vs)
+    step-numbered : (dead : Bool) (t : ListStep) → TurnNumbered (rangeStep e table dead t)
+    unfolding rangeStep
+    step-numbered dead (Entry x) = entry-numbered dead x
+    step-numbered dead End = stop-numbered _ dead-numbered
+    step-numbered dead NoEntry = stop-numbered _ (fails-numbered 5 five)
 
-  locations-numbered : (unit : List ℕ) (vs : List Valued) → VerdictNumbered (locations e table unit vs)
-  unfolding locations
-  locations-numbered unit [] = dead-numbered
-  locations-numbered unit (a ∷ vs) = pick-either VerdictNumbered _ _ _ (λ _. else-numbered _ _ (location-numbered _) (locations-numbered unit vs)) (λ _. locations-numbered unit vs)
+    ranges-numbered : (s : List ℕ) (o : ListOffset) → VerdictNumbered (rangesLive e table s o)
+    unfolding rangesLive
+    ranges-numbered s (At c) = walk-numbered VerdictNumbered _ _ (λ p. step-numbered _ _) dead-numbered place _ _
+    ranges-numbered s Unresolved = live-numbered
 
-older-step-numbered : (t : ListStep) → TurnNumbered (olderStep t)
-unfolding olderStep
-older-step-numbered (Entry x) = pick-either TurnNumbered _ _ _ (λ _. go-numbered _) (λ _. stop-numbered _ live-numbered)
-older-step-numbered End = stop-numbered _ dead-numbered
-older-step-numbered NoEntry = stop-numbered _ five-numbered
+    operation-numbered : (live : Bool) (o : OperationRead) → TurnNumbered (operationStep e table live o)
+    unfolding operationStep
+    operation-numbered live (Operation′ op) =
+        pick-either TurnNumbered _ _ _ (λ _. asked-turn _ _ _ (go-numbered _) (go-numbered _)) (λ _. go-numbered _)
+    operation-numbered live NoOperation = stop-numbered _ (fails-numbered 5 five)
 
-older-numbered : (e : Encoding) (s : List ℕ) (o : ListOffset) → VerdictNumbered (olderLive e s o)
-unfolding olderLive
-older-numbered e s (At c) = walk-numbered VerdictNumbered _ _ (λ p. older-step-numbered _) dead-numbered place _ _
-older-numbered e s Unresolved = live-numbered
+    location-numbered : (s : List ℕ) → VerdictNumbered (locationLive e table s)
+    unfolding locationLive
+    location-numbered s =
+        walk-numbered VerdictNumbered _ _
+        (λ p. pick-either TurnNumbered _ _ _ (λ _. operation-numbered _ _)
+        (λ _. stop-numbered _ (pick-either VerdictNumbered _ _ _ (λ _. live-numbered) (λ _. dead-numbered))))
+        dead-numbered place _ _
 
-module _ (e : Encoding) (x : Ranges) where
-  ranges-of-numbered : (v : Attribute) → VerdictNumbered (rangesOf e x v)
-  unfolding rangesOf otherRanges
-  ranges-of-numbered v =
-      pick-either VerdictNumbered _ _ _ (λ _. ranges-numbered e (x .table) (x .ranges) _)
-      (λ _. pick-either VerdictNumbered _ _ _ (λ _. older-numbered e (x .ranges) _) (λ _. live-numbered))
+    low-numbered : (v : Attribute) → VerdictNumbered (lowPc e table v)
+    unfolding lowPc
+    low-numbered v =
+        pick-either VerdictNumbered _ _ _
+        (λ _. lookup-numbered VerdictNumbered _ _ _ _ (λ z. fails-numbered 6 (six _ z)) live-numbered dead-numbered)
+        (λ _. pick-either VerdictNumbered _ _ _ (λ _. pick-either VerdictNumbered _ _ _ (λ _. dead-numbered) (λ _. live-numbered)) (λ _. live-numbered))
 
-  first-numbered : (vs : List Valued) → VerdictNumbered (firstRanges e x vs)
-  unfolding firstRanges
-  first-numbered [] = dead-numbered
-  first-numbered (a ∷ vs) = pick-either VerdictNumbered _ _ _ (λ _. ranges-of-numbered _) (λ _. first-numbered vs)
+    lows-numbered : (vs : List Valued) → VerdictNumbered (lowPcs e table vs)
+    unfolding lowPcs
+    lows-numbered [] = dead-numbered
+    lows-numbered (a ∷ vs) = pick-either VerdictNumbered _ _ _ (λ _. else-numbered _ _ (low-numbered _) (lows-numbered vs)) (λ _. lows-numbered vs)
 
-  root-numbered : (unit : List ℕ) (tag : ℕ) (vs : List Valued) → VerdictNumbered (rootTest e x unit tag vs)
-  unfolding rootTest
-  root-numbered unit tag vs =
-      pick-either VerdictNumbered _ _ _ (λ _. else-numbered _ _ (lows-numbered e (x .table) vs) (first-numbered vs))
-      (λ _. pick-either VerdictNumbered _ _ _ (λ _. locations-numbered e (x .table) unit vs) (λ _. dead-numbered))
+    locations-numbered : (unit : List ℕ) (vs : List Valued) → VerdictNumbered (locations e table unit vs)
+    unfolding locations
+    locations-numbered unit [] = dead-numbered
+    locations-numbered unit (a ∷ vs) =
+        pick-either VerdictNumbered _ _ _ (λ _. else-numbered _ _ (location-numbered _) (locations-numbered unit vs)) (λ _. locations-numbered unit vs)
 
-  pub root-refusal : (unit : List ℕ) (tag : ℕ) (vs : List Valued) (n : ℕ) → rootTest e x unit tag vs ≡ Failed n → RootRefusal n
-  unfolding VerdictNumbered
-  root-refusal unit tag vs n q = subst VerdictNumbered q (root-numbered unit tag vs)
+  module _ (e : Encoding) (x : Ranges) (six : (index : ℕ) → lookupAt (x .table) index ≡ Fails → OneOf ms 6) where
+    ranges-of-numbered : (v : Attribute) → VerdictNumbered (rangesOf e x v)
+    unfolding rangesOf otherRanges
+    ranges-of-numbered v =
+        pick-either VerdictNumbered _ _ _ (λ _. ranges-numbered e (x .table) six (x .ranges) _)
+        (λ _. pick-either VerdictNumbered _ _ _ (λ _. older-numbered e (x .ranges) _) (λ _. live-numbered))
+
+    first-numbered : (vs : List Valued) → VerdictNumbered (firstRanges e x vs)
+    unfolding firstRanges
+    first-numbered [] = dead-numbered
+    first-numbered (a ∷ vs) = pick-either VerdictNumbered _ _ _ (λ _. ranges-of-numbered _) (λ _. first-numbered vs)
+
+    root-numbered : (unit : List ℕ) (tag : ℕ) (vs : List Valued) → VerdictNumbered (rootTest e x unit tag vs)
+    unfolding rootTest
+    root-numbered unit tag vs =
+        pick-either VerdictNumbered _ _ _ (λ _. else-numbered _ _ (lows-numbered e (x .table) six vs) (first-numbered vs))
+        (λ _. pick-either VerdictNumbered _ _ _ (λ _. locations-numbered e (x .table) six unit vs) (λ _. dead-numbered))
+
+pub root-refusal : (e : Encoding) (x : Ranges) (unit : List ℕ) (tag : ℕ) (vs : List Valued) (n : ℕ) → rootTest e x unit tag vs ≡ Failed n → RootRefusal n
+unfolding VerdictOf isOneOf _or_
+root-refusal e x unit tag vs n q =
+    subst (VerdictOf (5 ∷ 6 ∷ [])) q (root-numbered _ (one-of _ 5 tt) e x (λ index z. one-of _ 6 tt) unit tag vs)
 
 -- ---- references: 5 or 7
 
@@ -297,55 +306,59 @@ pub rows-of : (ms : List ℕ) (rows : List EntryRow) → AnalysedOf ms (analysed
 unfolding AnalysedOf
 rows-of ms rows = tt
 
-pub wider-of : (ms ks : List ℕ) (a : Analysed) → T (areOf ks ms) → AnalysedOf ms a → AnalysedOf ks a
-unfolding AnalysedOf
-wider-of ms ks (analysed rows) t h = tt
-wider-of ms ks (notAnalysed n) t h = wider ms ks n t h
-
 pub onto-of : (ms : List ℕ) (r : EntryRow) (a : Analysed) → AnalysedOf ms a → AnalysedOf ms (onto r a)
 unfolding onto AnalysedOf
 onto-of ms r (analysed rows) q = tt
 onto-of ms r (notAnalysed n) q = q
 
-pub verdict-of : (ms : List ℕ) → T (areOf ms (5 ∷ 6 ∷ [])) → (v : Verdict) (k : ℕ → Analysed) → VerdictNumbered v → ((n : ℕ) → AnalysedOf ms (k n))
-    → AnalysedOf ms (onVerdict v k)
-unfolding onVerdict VerdictNumbered
-verdict-of ms t Live k q h = h 1
-verdict-of ms t Dead k q h = h 0
-verdict-of ms t (Failed n) k q h = none-of ms n (wider (5 ∷ 6 ∷ []) ms n t q)
+pub verdict-of : (ms : List ℕ) (v : Verdict) (k : ℕ → Analysed) → VerdictOf ms v → ((n : ℕ) → AnalysedOf ms (k n)) → AnalysedOf ms (onVerdict v k)
+unfolding onVerdict VerdictOf
+verdict-of ms Live k q h = h 1
+verdict-of ms Dead k q h = h 0
+verdict-of ms (Failed n) k q h = none-of ms n q
 
-pub names-of : (ms : List ℕ) → T (areOf ms (5 ∷ 7 ∷ [])) → (f : ReferencesFound) (k : List ℕ → Analysed) → FoundNumbered f
+pub names-of : (ms : List ℕ) → ((n : ℕ) → ScanRefusal n → OneOf ms n) → (f : ReferencesFound) (k : List ℕ → Analysed) → FoundNumbered f
     → ((xs : List ℕ) → f ≡ found xs → AnalysedOf ms (k xs)) → AnalysedOf ms (onFound f k)
 unfolding onFound FoundNumbered
 names-of ms t (found xs) k q h = h xs refl
-names-of ms t (refusedAfter xs n) k q h = none-of ms n (wider (5 ∷ 7 ∷ []) ms n t q)
+names-of ms t (refusedAfter xs n) k q h = none-of ms n (t n q)
 
 abbrev entryNumbers : List ℕ
 entryNumbers = 4 ∷ 10 ∷ 5 ∷ 6 ∷ 7 ∷ 11 ∷ []
 
+-- all of them but 6
+abbrev entryNumbersButSix : List ℕ
+entryNumbersButSix = 4 ∷ 10 ∷ 5 ∷ 7 ∷ 11 ∷ []
+
 abbrev analysisNumbers : List ℕ
 analysisNumbers = 1 ∷ 2 ∷ 3 ∷ 4 ∷ 5 ∷ 6 ∷ 7 ∷ 10 ∷ 11 ∷ []
 
+-- 6 is among some numbers, if a table fails at all
+abbrev pub SixOf : List ℕ → List ℕ → Type 0
+SixOf ms table = (index : ℕ) → lookupAt table index ≡ Fails → OneOf ms 6
+
 module _ (e : Encoding) (x : Sections) (unit : List ℕ) where
-  pub root-of : (base : ℕ) (y : Entry′) → VerdictNumbered (rootOf e x unit base y)
+  pub root-of : (ms : List ℕ) → OneOf ms 5 → SixOf ms (x .addresses) → (base : ℕ) (y : Entry′) → VerdictOf ms (rootOf e x unit base y)
   unfolding rootOf
-  root-of base y = root-numbered e _ unit _ _
+  root-of ms five six base y = root-numbered ms five e _ six unit _ _
 
   pub references-of : (base : ℕ) (y : Entry′) → FoundNumbered (namesOf e x unit base y)
   unfolding namesOf
   references-of base y = attributes-numbered e _ _
 
-  items-of : (room : Rooms) (p : Reached) (is : List Item) (whole : Bool) → AnalysedOf entryNumbers (analyseItems e x unit room p is whole)
-  unfolding analyseItems isOneOf areOf _or_ _and_
-  items-of room p [] true = rows-of entryNumbers []
-  items-of room p [] false = none-of entryNumbers 4 (one-of entryNumbers 4 tt)
-  items-of room p (terminator a b ∷ is) whole = items-of room _ is whole
-  items-of room p (entry y ∷ is) whole =
-      pick-either (AnalysedOf entryNumbers) _ _ _
-      (λ _. verdict-of entryNumbers tt _ _ (root-of _ y) (λ root. names-of entryNumbers tt _ _ (references-of _ y)
-      (λ names _. pick-either (AnalysedOf entryNumbers) _ _ _
-      (λ _. onto-of entryNumbers _ _ (items-of room _ is whole)) (λ _. none-of entryNumbers 11 (one-of entryNumbers 11 tt)))))
-      (λ _. none-of entryNumbers 10 (one-of entryNumbers 10 tt))
+  module _ (ms : List ℕ) (others : (n : ℕ) → OneOf entryNumbersButSix n → OneOf ms n) (six : SixOf ms (x .addresses)) where
+    items-of : (room : Rooms) (p : Reached) (is : List Item) (whole : Bool) → AnalysedOf ms (analyseItems e x unit room p is whole)
+    unfolding analyseItems isOneOf areOf _or_ _and_
+    items-of room p [] true = rows-of ms []
+    items-of room p [] false = none-of ms 4 (others 4 (one-of entryNumbersButSix 4 tt))
+    items-of room p (terminator a b ∷ is) whole = items-of room _ is whole
+    items-of room p (entry y ∷ is) whole =
+        pick-either (AnalysedOf ms) _ _ _
+        (λ _. verdict-of ms _ _ (root-of ms (others 5 (one-of entryNumbersButSix 5 tt)) six _ y)
+        (λ root. names-of ms (λ n q. others n (wider (5 ∷ 7 ∷ []) entryNumbersButSix n tt q)) _ _ (references-of _ y)
+        (λ names _. pick-either (AnalysedOf ms) _ _ _
+        (λ _. onto-of ms _ _ (items-of room _ is whole)) (λ _. none-of ms 11 (others 11 (one-of entryNumbersButSix 11 tt))))))
+        (λ _. none-of ms 10 (others 10 (one-of entryNumbersButSix 10 tt)))
 
 pub declared-of : (ms : List ℕ) → OneOf ms 3 → (o : Option (List Placed)) (k : List Placed → Analysed) → ((ds : List Placed) → o ≡ some ds → AnalysedOf ms (k ds))
     → AnalysedOf ms (onDeclared o k)
@@ -353,27 +366,45 @@ unfolding onDeclared
 declared-of ms t none k h = none-of ms 3 t
 declared-of ms t (some ds) k h = h ds refl
 
-header-of : (x : Sections) (section : List ℕ) (room : Rooms) (h : HeaderRead) → HeaderNumbered h → AnalysedOf analysisNumbers (headerAnalysed x section room h)
-unfolding headerAnalysed unitAnalysed HeaderNumbered isOneOf areOf _or_ _and_
-header-of x section room Empty q = rows-of analysisNumbers []
-header-of x section room (Refused n) q = none-of analysisNumbers n (wider (1 ∷ 2 ∷ []) analysisNumbers n tt q)
-header-of x section room (Unit′ h) q =
-    declared-of analysisNumbers (one-of analysisNumbers 3 tt) _ _ (λ ds _. wider-of entryNumbers analysisNumbers _ tt (items-of _ x _ room _ _ _))
+-- some numbers, among them all but 6
+abbrev AnalysisOthers : List ℕ → Type 0
+AnalysisOthers ms = (n : ℕ) → OneOf (1 ∷ 2 ∷ 3 ∷ entryNumbersButSix) n → OneOf ms n
 
-analysis-of : (x : Sections) (section : List ℕ) (room : Rooms) → AnalysedOf analysisNumbers (analysisOf x section room)
-unfolding analysisOf
-analysis-of x section room = header-of x section room (headerOf section) (header-numbered section)
+module _ (ms : List ℕ) (others : AnalysisOthers ms) (x : Sections) (six : SixOf ms (x .addresses)) where
+  header-of : (section : List ℕ) (room : Rooms) (h : HeaderRead) → HeaderNumbered h → AnalysedOf ms (headerAnalysed x section room h)
+  unfolding headerAnalysed unitAnalysed HeaderNumbered isOneOf areOf _or_ _and_
+  header-of section room Empty q = rows-of ms []
+  header-of section room (Refused n) q = none-of ms n (others n (wider (1 ∷ 2 ∷ []) _ n tt q))
+  header-of section room (Unit′ h) q =
+      declared-of ms (others 3 (one-of _ 3 tt)) _ _ (λ ds _. items-of _ x _ ms (λ n o. others n (wider entryNumbersButSix _ n tt o)) six room _ _ _)
+
+  pub analysis-of : (section : List ℕ) (room : Rooms) → AnalysedOf ms (analysisOf x section room)
+  unfolding analysisOf
+  analysis-of section room = header-of section room (headerOf section) (header-numbered section)
+
+any-six : (x : Sections) → SixOf analysisNumbers (x .addresses)
+unfolding isOneOf _or_
+any-six x index z = one-of analysisNumbers 6 tt
+
+all-others : AnalysisOthers analysisNumbers
+unfolding isOneOf areOf _or_ _and_
+all-others n o = wider (1 ∷ 2 ∷ 3 ∷ entryNumbersButSix) analysisNumbers n tt o
+
+abbrev analysis-numbered : (x : Sections) (section : List ℕ) (room : Rooms) → AnalysedOf analysisNumbers (analysisOf x section room)
+analysis-numbered x section room = analysis-of analysisNumbers all-others x (any-six x) section room
 
 -- "A refusal carries a number of document 01"
 pub analysis-refusal : (x : Sections) (section : List ℕ) (room : Rooms) (n : ℕ) → analysisOf x section room ≡ notAnalysed n → AnalysisRefusal n
-analysis-refusal x section room n q = analysed-of analysisNumbers (analysisOf x section room) n (analysis-of x section room) q
+analysis-refusal x section room n q = analysed-of analysisNumbers (analysisOf x section room) n (analysis-numbered x section room) q
 
 -- where the header and the abbreviations are read, it is one of the entries
 declared-entries : (x : Sections) (section : List ℕ) (room : Rooms) (h : UnitHeader) (o : Option (List Placed)) (ds : List Placed) → o ≡ some ds
     → AnalysedOf entryNumbers (onDeclared o (λ ds. analyseItems (h .encoding) x (take (h .end) section) room startOf (itemsFrom (h .encoding) (x .abbreviations) (declaredIn ds) (take (h .end) section) (h .first .0) .0) (itemsFrom (h .encoding) (x .abbreviations) (declaredIn ds) (take (h .end) section) (h .first .0) .1)))
-unfolding onDeclared
+unfolding onDeclared isOneOf areOf _or_ _and_
 declared-entries x section room h none ds q = let z : _≡_ {A = ℕ} 0 1 = cc in absurd (omega arith)
-declared-entries x section room h (some es) ds q = items-of (h .encoding) x (take (h .end) section) room _ _ _
+declared-entries x section room h (some es) ds q =
+    items-of (h .encoding) x (take (h .end) section) entryNumbers (λ n o. wider entryNumbersButSix entryNumbers n tt o)
+    (λ index z. one-of entryNumbers 6 tt) room _ _ _
 
 pub entries-refusal : (x : Sections) (section : List ℕ) (room : Rooms) (h : UnitHeader) (ds : List Placed) (n : ℕ)
     → headerOf section ≡ Unit′ h → abbreviationsOf (x .abbreviations) (h .abbreviations) ≡ some ds → analysisOf x section room ≡ notAnalysed n → EntriesRefusal n
@@ -396,7 +427,7 @@ marks-numbered (notAnalysed n) h = h
 
 pub unit-marks-refusal : (x : Sections) (section : List ℕ) (room : Rooms) (n : ℕ) → unitMarks (analysisOf x section room) ≡ Refused″ n → AnalysisRefusal n
 unfolding MarksNumbered
-unit-marks-refusal x section room n q = subst MarksNumbered q (marks-numbered (analysisOf x section room) (analysis-of x section room))
+unit-marks-refusal x section room n q = subst MarksNumbered q (marks-numbered (analysisOf x section room) (analysis-numbered x section room))
 
 -- `mark`: 16
 unfoldable MarkNumbered : Marked′ → Type 0

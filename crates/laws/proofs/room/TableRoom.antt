@@ -251,7 +251,8 @@ module _ (e : Encoding) (x : Sections) (unit : List ℕ) (room : Rooms) where
       let h′ : p .count + suc (entryCount rest) ≤ room .entries = h in
       let k′ : p .references + (foundCount (namesOf e x unit (baseOf e x unit 0x8c (p .loclistsBase) y) y) + referenceCount e x unit (baseOf e x unit 0x8c (p .loclistsBase) y) rest) ≤ room .references = k in
       pick-either (AnalysedOf inputNumbers) (ltb (p .count) (room .entries)) _ _
-      (λ _. verdict-of inputNumbers tt _ _ (root-of e x unit _ y) (λ root. names-of inputNumbers tt _ _ (references-of e x unit _ y)
+      (λ _. verdict-of inputNumbers _ _ (root-of e x unit inputNumbers (one-of inputNumbers 5 tt) (λ index z. one-of inputNumbers 6 tt) _ y)
+      (λ root. names-of inputNumbers (λ n q. wider (5 ∷ 7 ∷ []) inputNumbers n tt q) _ _ (references-of e x unit _ y)
       (λ names q.
       let c : foundCount (namesOf e x unit (baseOf e x unit 0x8c (p .loclistsBase) y) y) ≡ length names = found-count _ names q in
       pick-either (AnalysedOf inputNumbers) (leb (p .references + length names) (room .references)) _ _

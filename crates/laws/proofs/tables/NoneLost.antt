@@ -1,0 +1,191 @@
+-- Without an address table nothing is lost that a table keeps (document 02, Point 2). Assumes nothing.
+use mathlib.Core.Path.{_≡_, refl, ap, ap₂, sym, _∙_, subst}
+use Prim.Native.Nat.{ℕ, suc, _+_, _<_}
+use mathlib.Core.Bool.{Bool, true, false}
+use mathlib.Core.List.{List, [], _∷_}
+use mathlib.Core.Logic.{inl, inr}
+use mathlib.Core.Option.{Option, none, some}
+use lib.ListN.{length, take}
+use lib.Dec.{ltb, leb}
+use Rattle.readers.specs.Codes.{«DW_AT_loclists_base», «DW_AT_rnglists_base»}
+use Rattle.readers.specs.Header.{headerOf}
+use Rattle.readers.specs.Abbreviations.{Placed, abbreviationsOf}
+use Rattle.readers.specs.Stream.{Item, entry, terminator}
+use Rattle.readers.specs.declared.cursor.Encoding.{Encoding}
+use Rattle.readers.specs.declared.header.HeaderRead.{HeaderRead}
+use Rattle.readers.specs.declared.header.HeaderRead.the-variants.{Unit as Unit′, Empty, Refused}
+use Rattle.marking.specs.declared.root_test.Verdict.{Verdict}
+use Rattle.marking.specs.declared.root_test.Verdict.the-variants.{Live, Dead, Refused as Failed}
+use Rattle.marking.specs.EntryReferences.{ReferencesFound, found, refused as refusedAfter}
+use Rattle.marking.specs.Members.{Member, Nth, now, later}
+use Rattle.marking.specs.Survivors.{Survivor}
+use Rattle.marking.specs.Analysis.{Sections, Rooms, EntryRow, Analysed, analysed, refused as notAnalysed, onto}
+use Rattle.marking.specs.Analysis.{onVerdict, onFound, Reached, startOf, tagOf, valuesOfEntry, rootOf, namesOf, baseOf}
+use Rattle.marking.specs.Analysis.{analyseItems, onDeclared, unitAnalysed, headerAnalysed, analysisOf}
+use Rattle.marking.specs.Columns.{offsetsIn}
+use Rattle.marking.specs.Resolution.{graphOf}
+use Rattle.laws.specs.AddressTables.{withTable, NoneLost}
+use Rattle.laws.specs.UnitSurvivors.{ParentIn, RootIn, NamesIn, Below, child, deeper, ClosedRows}
+use Rattle.laws.proofs.survivors.UnitLaws.{unit-survivors}
+use Rattle.laws.proofs.tables.LiveVerdicts.{Held, both-pick, root-held}
+
+-- ---- rows
+
+-- a row of an entry by a table, and by none: a root stays one
+record RowHeld (r s : EntryRow) : Type 0 where
+  pub offset-is : r .offset ≡ s .offset
+  pub parent-is : r .parent ≡ s .parent
+  pub names-are : r .names ≡ s .names
+  pub root-held : r .root ≡ 1 → s .root ≡ 1
+
+data RowsHeld : List EntryRow → List EntryRow → Type 0 where
+  no-rows : RowsHeld [] []
+  one-more : {r s : EntryRow} {rs ss : List EntryRow} → RowHeld r s → RowsHeld rs ss → RowsHeld (r ∷ rs) (s ∷ ss)
+
+-- the rows of an analysis that is accepted
+record Beside (rows : List EntryRow) (b : Analysed) : Type 0 where
+  pub all : List EntryRow
+  pub is : b ≡ analysed all
+  pub held : RowsHeld rows all
+
+unfoldable AnalysedHeld : Analysed → Analysed → Type 0
+AnalysedHeld (analysed rows) b = Beside rows b
+AnalysedHeld (notAnalysed n) b = Unit {0}
+
+refused-held : (n : ℕ) (b : Analysed) → AnalysedHeld (notAnalysed n) b
+unfolding AnalysedHeld
+refused-held n b = tt
+
+no-rows-held : AnalysedHeld (analysed []) (analysed [])
+unfolding AnalysedHeld
+no-rows-held = record { all = []; is = refl; held = no-rows }
+
+onto-held : (r s : EntryRow) → RowHeld r s → (a b : Analysed) → AnalysedHeld a b → AnalysedHeld (onto r a) (onto s b)
+unfolding AnalysedHeld onto
+onto-held r s h (analysed rows) b f = record { all = s ∷ f .all; is = ap (onto s) (f .is); held = one-more h (f .held) }
+onto-held r s h (notAnalysed n) b f = tt
+
+verdict-held : (v w : Verdict) → Held v w → (k h : ℕ → Analysed) → ((r s : ℕ) → (r ≡ 1 → s ≡ 1) → AnalysedHeld (k r) (h s))
+    → AnalysedHeld (onVerdict v k) (onVerdict w h)
+unfolding Held onVerdict AnalysedHeld
+verdict-held Live w q k h each = subst (λ (z : Verdict). AnalysedHeld (k 1) (onVerdict z h)) (sym q) (each 1 1 (λ e. e))
+verdict-held Dead w (inl q) k h each = subst (λ (z : Verdict). AnalysedHeld (k 0) (onVerdict z h)) (sym q) (each 0 1 (λ e. refl))
+verdict-held Dead w (inr q) k h each = subst (λ (z : Verdict). AnalysedHeld (k 0) (onVerdict z h)) (sym q) (each 0 0 (λ e. e))
+verdict-held (Failed n) w q k h each = tt
+
+found-held : (f : ReferencesFound) (k h : List ℕ → Analysed) → ((names : List ℕ) → AnalysedHeld (k names) (h names))
+    → AnalysedHeld (onFound f k) (onFound f h)
+unfolding onFound AnalysedHeld
+found-held (found names) k h each = each names
+found-held (refusedAfter names n) k h each = tt
+
+declared-held : (o : Option (List Placed)) (k h : List Placed → Analysed) → ((ds : List Placed) → AnalysedHeld (k ds) (h ds))
+    → AnalysedHeld (onDeclared o k) (onDeclared o h)
+unfolding onDeclared AnalysedHeld
+declared-held none k h each = tt
+declared-held (some ds) k h each = each ds
+
+module _ (x : Sections) (table : List ℕ) where
+  module _ (e : Encoding) (unit : List ℕ) (room : Rooms) where
+    items-held : (p : Reached) (is : List Item) (whole : Bool)
+        → AnalysedHeld (analyseItems e (withTable x table) unit room p is whole) (analyseItems e (withTable x []) unit room p is whole)
+    unfolding analyseItems rootOf namesOf baseOf valuesOfEntry
+    items-held p [] true = no-rows-held
+    items-held p [] false = refused-held _ _
+    items-held p (terminator a b ∷ is) whole = items-held _ is whole
+    items-held p (entry y ∷ is) whole =
+        both-pick AnalysedHeld (ltb (p .count) (room .entries)) _ _ _ _
+        (verdict-held _ _
+        (root-held e table (x .ranges) (x .rangesBase) (baseOf e x unit «DW_AT_rnglists_base» (p .rnglistsBase) y) unit (tagOf y)
+        (valuesOfEntry e x unit y)) _ _
+        (λ r s q. found-held (namesOf e x unit (baseOf e x unit «DW_AT_loclists_base» (p .loclistsBase) y) y) _ _
+        (λ names. both-pick AnalysedHeld (leb (p .references + length names) (room .references)) _ _ _ _
+        (onto-held _ _ (record { offset-is = refl; parent-is = refl; names-are = refl; root-held = q }) _ _ (items-held _ is whole))
+        (refused-held _ _))))
+        (refused-held _ _)
+
+  header-held : (section : List ℕ) (room : Rooms) (h : HeaderRead)
+      → AnalysedHeld (headerAnalysed (withTable x table) section room h) (headerAnalysed (withTable x []) section room h)
+  unfolding headerAnalysed unitAnalysed
+  header-held section room Empty = no-rows-held
+  header-held section room (Refused n) = refused-held _ _
+  header-held section room (Unit′ h) =
+      declared-held (abbreviationsOf (x .abbreviations) (h .abbreviations)) _ _
+      (λ ds. items-held (h .encoding) (take (h .end) section) room startOf _ _)
+
+  analysis-held : (section : List ℕ) (room : Rooms) (rows : List EntryRow) → analysisOf (withTable x table) section room ≡ analysed rows
+      → Beside rows (analysisOf (withTable x []) section room)
+  unfolding analysisOf AnalysedHeld
+  analysis-held section room rows q =
+      subst (λ (a : Analysed). AnalysedHeld a (headerAnalysed (withTable x []) section room (headerOf section))) q (header-held section room (headerOf section))
+
+-- ---- survivors
+
+same-offsets : {rows all : List EntryRow} → RowsHeld rows all → offsetsIn all ≡ offsetsIn rows
+unfolding offsetsIn
+same-offsets no-rows = refl
+same-offsets (one-more h hs) = ap₂ (λ (n : ℕ) (ns : List ℕ). n ∷ ns) (sym (h .offset-is)) (same-offsets hs)
+
+same-length : {rows all : List EntryRow} → RowsHeld rows all → length rows ≡ length all
+same-length no-rows = refl
+same-length (one-more h hs) = ap suc (same-length hs)
+
+record NthHeld (r : EntryRow) (i : ℕ) (all : List EntryRow) : Type 0 where
+  pub row : EntryRow
+  pub at : Nth row i all
+  pub held : RowHeld r row
+
+nth-held : {rows all : List EntryRow} → RowsHeld rows all → {r : EntryRow} {i : ℕ} → Nth r i rows → NthHeld r i all
+nth-held (one-more {s = s} h hs) (now q) = record { row = s; at = now refl; held = subst (λ (t : EntryRow). RowHeld t s) (sym q) h }
+nth-held (one-more h hs) (later n) = let m = nth-held hs n in record { row = m .row; at = later (m .at); held = m .held }
+
+module _ {rows all : List EntryRow} (h : RowsHeld rows all) where
+  root-in : {i : ℕ} → RootIn rows i → RootIn all i
+  root-in r = let n = nth-held h (r .at) in record { row = n .row; at = n .at; is = n .held .root-held (r .is) }
+
+  parent-in : {p i : ℕ} → ParentIn rows p i → ParentIn all p i
+  parent-in r =
+      let n = nth-held h (r .at) in
+      record { row = n .row; at = n .at; is = sym (n .held .parent-is) ∙ r .is; some-parent = r .some-parent }
+
+  names-in : {s t : ℕ} → NamesIn rows s t → NamesIn all s t
+  names-in r =
+      let n = nth-held h (r .at) in
+      let m = nth-held h (r .named-at) in
+      record {
+        row = n .row;
+        at = n .at;
+        named = m .row;
+        named-at = m .at;
+        among = subst (λ (o : ℕ). Member o (n .row .names)) (m .held .offset-is)
+            (subst (λ (ns : List ℕ). Member (r .named .offset) ns) (n .held .names-are) (r .among));
+      }
+
+  below-in : {r d : ℕ} → Below rows r d → Below all r d
+  below-in (child p) = child (parent-in p)
+  below-in (deeper b p) = deeper (below-in b) (parent-in p)
+
+  -- a set that holds what it must by the rows of the empty table does so by those of the other
+  closed-in : (S : ℕ → Type 0) → ClosedRows all S → ClosedRows rows S
+  closed-in S c =
+      record {
+        has-first = λ z. c .has-first (subst (λ (n : ℕ). 0 < n) (same-length h) z);
+        has-roots = λ i r. c .has-roots i (root-in r);
+        has-parents = λ p i r. c .has-parents p i (parent-in r);
+        has-named = λ s t r. c .has-named s t (names-in r);
+        has-under-roots = λ r d q b. c .has-under-roots r d (root-in q) (below-in b);
+        has-under-named = λ s t d q k b. c .has-under-named s t d (names-in q) k (below-in b);
+      }
+
+-- THE survivors by any table survive without one
+pub none-lost-law : (x : Sections) (table section : List ℕ) (room : Rooms) (rows : List EntryRow)
+    → analysisOf (withTable x table) section room ≡ analysed rows → NoneLost x section room rows
+none-lost-law x table section room rows q =
+    let b = analysis-held x table section room rows q in
+    record {
+      all = b .all;
+      accepted = b .is;
+      same-entries = same-offsets (b .held);
+      kept = unit-survivors (withTable x table) section room rows q .least .least (Survivor (graphOf (b .all)))
+          (closed-in (b .held) (Survivor (graphOf (b .all))) (unit-survivors (withTable x []) section room (b .all) (b .is) .least .closed));
+    }
