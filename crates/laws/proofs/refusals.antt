@@ -1,5 +1,7 @@
 -- Which number a call refuses with, and when.
 pub mod ReaderRefusals
+pub mod WalkRefusals
+pub mod ScanRefusals
 pub mod MarkingRefusals
 pub mod CollectRefusals
 pub mod ValueRefusals

@@ -1,4 +1,5 @@
 -- One unit by several address tables.
+pub mod BySeveralTables
 pub mod AllLive
 pub mod SameRewriting
 pub mod EmptyTable

@@ -1,8 +1,8 @@
--- "A refusal carries a number of document 01": the root test's is 5 or 6, the references' 5 or 7, the analysis' one of 1 to 7, 10 and 11, `mark`'s 16. Assumes nothing.
+-- "A refusal carries a number of document 01": the root test's is 5 or 6, the analysis' one of 1 to 7, 10 and 11, `mark`'s 16. Assumes nothing.
 use mathlib.Core.Path.{_≡_, refl, ap, sym, _∙_, subst}
-use Prim.Native.Nat.{ℕ, zero, suc}
+use Prim.Native.Nat.{ℕ}
 use native.Mathlib.Omega.{arith}
-use mathlib.Core.Bool.{Bool, true, false}
+use mathlib.Core.Bool.{Bool}
 use mathlib.Core.List.{List, [], _∷_}
 use mathlib.Core.Option.{Option, none, some}
 use lib.ListN.{take}
@@ -11,13 +11,10 @@ use Rattle.readers.proofs.Choice.{pick-either}
 use Rattle.laws.specs.RefusalNumbers.{OneOf, RootRefusal, ScanRefusal, EntriesRefusal, AnalysisRefusal, MarkRefusal}
 use Rattle.readers.specs.Header.{headerOf}
 use Rattle.readers.specs.Abbreviations.{Placed, declaredIn, abbreviationsOf}
-use Rattle.readers.specs.Stream.{Item, entry, terminator, itemsFrom}
+use Rattle.readers.specs.Stream.{itemsFrom}
 use Rattle.readers.specs.declared.cursor.Encoding.{Encoding}
 use Rattle.readers.specs.declared.header.UnitHeader.{UnitHeader}
-use Rattle.readers.specs.declared.header.HeaderRead.{HeaderRead}
-use Rattle.readers.specs.declared.header.HeaderRead.the-variants.{Unit as Unit′, Empty, Refused}
-use Rattle.readers.specs.declared.expressions.Walk.{Walk}
-use Rattle.readers.specs.declared.expressions.Walk.the-variants.{Walked, Unreadable as NoWalk}
+use Rattle.readers.specs.declared.header.HeaderRead.the-variants.{Unit as Unit′}
 use Rattle.readers.specs.declared.entries.Entry.{Entry as Entry′}
 use Rattle.readers.specs.declared.lists.ListOffset.{ListOffset}
 use Rattle.readers.specs.declared.lists.ListOffset.the-variants.{At, Unresolved}
@@ -27,7 +24,7 @@ use Rattle.readers.specs.declared.operations.ListStep.the-variants.{Entry, End,
 use Rattle.readers.specs.declared.operations.OperationRead.{OperationRead}
 use Rattle.readers.specs.declared.operations.OperationRead.the-variants.{Read as Operation′, Unreadable as NoOperation}
 use Rattle.readers.specs.declared.attributes.Attribute.{Attribute}
-use Rattle.laws.proofs.refusals.ReaderRefusals.{isOneOf, areOf, one-of, wider, HeaderNumbered, header-numbered}
+use Rattle.laws.proofs.refusals.ReaderRefusals.{isOneOf, areOf, one-of, wider}
 use Rattle.marking.specs.Addresses.{lookupAt}
 use Rattle.marking.specs.declared.addresses.AddressLookup.{AddressLookup}
 use Rattle.marking.specs.declared.addresses.AddressLookup.the-variants.{Live as Alive, Dead as NotAlive, Fails}
@@ -37,35 +34,17 @@ use Rattle.marking.specs.declared.units.UnitMarks.{UnitMarks}
 use Rattle.marking.specs.declared.units.UnitMarks.the-variants.{Marked, Refused as Refused″}
 use Rattle.marking.specs.declared.marks.Marked.{Marked as Marked′}
 use Rattle.marking.specs.declared.marks.Marked.the-variants.{Kept as KeptCount, Refused as Refused′}
-use Rattle.marking.specs.Walking.{Next, go, stop, onNext, walkWithin, walk}
-use Rattle.marking.specs.Roots.{Flagged, place, RootTurn, Ranges, orElse, onLookup, rangeEntry, rangeStep, rangesLive, operationStep, locationLive, olderStep, olderLive, lowPc, lowPcs, locations, otherRanges, rangesOf, firstRanges, rootTest}
+use Rattle.marking.specs.Walking.{go, stop}
+use Rattle.marking.specs.Roots.{Flagged, place, RootTurn, Ranges, orElse, onLookup, rangeEntry, rangeStep, rangesLive, operationStep, locationLive, olderStep, olderLive, lowPc, rootTest}
 use Rattle.readers.specs.EntryAttributes.{Valued}
-use Rattle.marking.specs.EntryReferences.{ReferencesFound, found, refused as refusedAfter, after, andThen, walkFound, expressionFound, ListReached, locationFound, onLocation, locationStep, listFound, Locations, attributeFound, attributesFound}
-use Rattle.marking.specs.Analysis.{Sections, Rooms, EntryRow, Analysed, analysed, refused as notAnalysed, onto, onVerdict, onFound, Reached, startOf, rootOf, namesOf, analyseItems, onDeclared, unitAnalysed, headerAnalysed, analysisOf}
+use Rattle.marking.specs.EntryReferences.{ReferencesFound, found, refused as refusedAfter}
+use Rattle.marking.specs.Analysis.{Sections, Rooms, EntryRow, Analysed, analysed, refused as notAnalysed, onto, onVerdict, onFound, startOf, rootOf, namesOf, analyseItems, onDeclared, unitAnalysed, headerAnalysed, analysisOf}
 use Rattle.marking.specs.Graph.{Graph, takes}
 use Rattle.marking.specs.Marks.{keptCount, marksOf, markAnswer}
 use Rattle.marking.specs.Resolution.{unitMarks}
-
--- ---- walks
-
-module _ {S B : Type 0} (P : B → Type 0) where
-  unfoldable NextNumbered : Next S B → Type 0
-  NextNumbered (go s) = Unit {0}
-  NextNumbered (stop b) = P b
-
-  next-numbered : (n : Next S B) → NextNumbered n → (k : S → B) → ((s : S) → P (k s)) → P (onNext n k)
-  unfolding NextNumbered onNext
-  next-numbered (go s) q k h = h s
-  next-numbered (stop b) q k h = q
-
-  within-numbered : (f : S → Next S B) (d : B) → ((s : S) → NextNumbered (f s)) → P d → (k : ℕ) (s : S) → P (walkWithin k f d s)
-  unfolding walkWithin
-  within-numbered f d each end zero s = end
-  within-numbered f d each end (suc k) s = next-numbered (f s) (each s) _ (λ t. within-numbered f d each end k t)
-
-  walk-numbered : (f : S → Next S B) (d : B) → ((s : S) → NextNumbered (f s)) → P d → (at : S → ℕ) (n : ℕ) (s : S) → P (walk at n f d s)
-  unfolding walk
-  walk-numbered f d each end at n s = within-numbered f d each end _ s
+use Rattle.laws.proofs.refusals.WalkRefusals.{NextNumbered, walk-numbered}
+use Rattle.laws.proofs.refusals.ScanRefusals.{FoundNumbered, attributes-numbered}
+use Rattle.laws.proofs.tables.BySeveralTables.{entryNumbersButSix, Verdicts, Analyses, root-by, items-by, analysis-by}
 
 -- ---- the root test: 5, and 6 where the address table fails
 
@@ -81,6 +60,10 @@ unfolding onLookup
 lookup-numbered P Alive r a b p q s = q
 lookup-numbered P NotAlive r a b p q s = s
 lookup-numbered P Fails r a b p q s = p refl
+
+-- 6 is among some numbers, if a table fails at all
+abbrev pub SixOf : List ℕ → List ℕ → Type 0
+SixOf ms table = (index : ℕ) → lookupAt table index ≡ Fails → OneOf ms 6
 
 module _ (ms : List ℕ) (five : OneOf ms 5) where
   abbrev VerdictNumbered : Verdict → Type 0
@@ -126,7 +109,7 @@ module _ (ms : List ℕ) (five : OneOf ms 5) where
   older-numbered e s (At c) = walk-numbered VerdictNumbered _ _ (λ p. older-step-numbered _) dead-numbered place _ _
   older-numbered e s Unresolved = live-numbered
 
-  module _ (e : Encoding) (table : List ℕ) (six : (index : ℕ) → lookupAt table index ≡ Fails → OneOf ms 6) where
+  module _ (e : Encoding) (table : List ℕ) (six : SixOf ms table) where
     asked-turn : (index : ℕ) (a b : RootTurn) → TurnNumbered a → TurnNumbered b → TurnNumbered (onLookup (lookupAt table index) stop a b)
     asked-turn index a b p q = lookup-numbered TurnNumbered _ _ _ _ (λ z. stop-numbered _ (fails-numbered 6 (six index z))) p q
 
@@ -171,121 +154,28 @@ module _ (ms : List ℕ) (five : OneOf ms 5) where
         (λ _. lookup-numbered VerdictNumbered _ _ _ _ (λ z. fails-numbered 6 (six _ z)) live-numbered dead-numbered)
         (λ _. pick-either VerdictNumbered _ _ _ (λ _. pick-either VerdictNumbered _ _ _ (λ _. dead-numbered) (λ _. live-numbered)) (λ _. live-numbered))
 
-    lows-numbered : (vs : List Valued) → VerdictNumbered (lowPcs e table vs)
-    unfolding lowPcs
-    lows-numbered [] = dead-numbered
-    lows-numbered (a ∷ vs) = pick-either VerdictNumbered _ _ _ (λ _. else-numbered _ _ (low-numbered _) (lows-numbered vs)) (λ _. lows-numbered vs)
+  -- by one table
+  numbered : (table : List ℕ) → SixOf ms table → Verdicts {I = Unit {0}} (λ i. table) (λ v. VerdictNumbered (v tt))
+  numbered table six =
+      record {
+        of-live = live-numbered;
+        of-dead = dead-numbered;
+        of-else = λ v w p q. else-numbered (v tt) (w tt) p q;
+        of-low-pc = λ e a. low-numbered e table six a;
+        of-location = λ e s. location-numbered e table six s;
+        of-ranges = λ e s o. ranges-numbered e table six s o;
+        of-older = λ e s o. older-numbered e s o;
+      }
 
-    locations-numbered : (unit : List ℕ) (vs : List Valued) → VerdictNumbered (locations e table unit vs)
-    unfolding locations
-    locations-numbered unit [] = dead-numbered
-    locations-numbered unit (a ∷ vs) =
-        pick-either VerdictNumbered _ _ _ (λ _. else-numbered _ _ (location-numbered _) (locations-numbered unit vs)) (λ _. locations-numbered unit vs)
-
-  module _ (e : Encoding) (x : Ranges) (six : (index : ℕ) → lookupAt (x .table) index ≡ Fails → OneOf ms 6) where
-    ranges-of-numbered : (v : Attribute) → VerdictNumbered (rangesOf e x v)
-    unfolding rangesOf otherRanges
-    ranges-of-numbered v =
-        pick-either VerdictNumbered _ _ _ (λ _. ranges-numbered e (x .table) six (x .ranges) _)
-        (λ _. pick-either VerdictNumbered _ _ _ (λ _. older-numbered e (x .ranges) _) (λ _. live-numbered))
-
-    first-numbered : (vs : List Valued) → VerdictNumbered (firstRanges e x vs)
-    unfolding firstRanges
-    first-numbered [] = dead-numbered
-    first-numbered (a ∷ vs) = pick-either VerdictNumbered _ _ _ (λ _. ranges-of-numbered _) (λ _. first-numbered vs)
-
-    root-numbered : (unit : List ℕ) (tag : ℕ) (vs : List Valued) → VerdictNumbered (rootTest e x unit tag vs)
-    unfolding rootTest
-    root-numbered unit tag vs =
-        pick-either VerdictNumbered _ _ _ (λ _. else-numbered _ _ (lows-numbered e (x .table) six vs) (first-numbered vs))
-        (λ _. pick-either VerdictNumbered _ _ _ (λ _. locations-numbered e (x .table) six unit vs) (λ _. dead-numbered))
+  root-numbered : (e : Encoding) (x : Ranges) → SixOf ms (x .table) → (unit : List ℕ) (tag : ℕ) (vs : List Valued)
+      → VerdictNumbered (rootTest e x unit tag vs)
+  root-numbered e x six unit tag vs =
+      root-by (λ (i : Unit {0}). x .table) (numbered (x .table) six) e (x .ranges) (x .rangesBase) (x .rnglistsBase) unit tag vs
 
 pub root-refusal : (e : Encoding) (x : Ranges) (unit : List ℕ) (tag : ℕ) (vs : List Valued) (n : ℕ) → rootTest e x unit tag vs ≡ Failed n → RootRefusal n
 unfolding VerdictOf isOneOf _or_
 root-refusal e x unit tag vs n q =
     subst (VerdictOf (5 ∷ 6 ∷ [])) q (root-numbered _ (one-of _ 5 tt) e x (λ index z. one-of _ 6 tt) unit tag vs)
-
--- ---- references: 5 or 7
-
-unfoldable pub FoundNumbered : ReferencesFound → Type 0
-FoundNumbered (found xs) = Unit {0}
-FoundNumbered (refusedAfter xs n) = ScanRefusal n
-
-found-numbered : (xs : List ℕ) → FoundNumbered (found xs)
-unfolding FoundNumbered
-found-numbered xs = tt
-
-no-numbered : (xs : List ℕ) (n : ℕ) → ScanRefusal n → FoundNumbered (refusedAfter xs n)
-unfolding FoundNumbered
-no-numbered xs n q = q
-
-no-five : ScanRefusal 5
-unfolding isOneOf _or_
-no-five = one-of _ 5 tt
-
-no-seven : ScanRefusal 7
-unfolding isOneOf _or_
-no-seven = one-of _ 7 tt
-
-after-numbered : (xs : List ℕ) (f : ReferencesFound) → FoundNumbered f → FoundNumbered (after xs f)
-unfolding after FoundNumbered
-after-numbered xs (found ys) q = tt
-after-numbered xs (refusedAfter ys n) q = q
-
-then-numbered : (f g : ReferencesFound) → FoundNumbered f → FoundNumbered g → FoundNumbered (andThen f g)
-unfolding andThen FoundNumbered
-then-numbered (found xs) g p q = after-numbered xs g q
-then-numbered (refusedAfter xs n) g p q = p
-
-walk-found-numbered : (xs : List ℕ) (w : Walk) → FoundNumbered (walkFound xs w)
-unfolding walkFound FoundNumbered
-walk-found-numbered xs NoWalk = no-five
-walk-found-numbered xs (Walked n true) = no-seven
-walk-found-numbered xs (Walked n false) = tt
-
-expression-numbered : (e : Encoding) (s : List ℕ) → FoundNumbered (expressionFound e s)
-unfolding expressionFound
-expression-numbered e s = walk-found-numbered _ _
-
-located-numbered : (e : Encoding) (s : List ℕ) (x : ListEntry) → FoundNumbered (locationFound e s x)
-unfolding locationFound
-located-numbered e s x = pick-either FoundNumbered _ _ _ (λ _. found-numbered _) (λ _. expression-numbered e _)
-
-on-numbered : (sofar : List ℕ) (x : ListEntry) (f : ReferencesFound) → FoundNumbered f → NextNumbered {S = ListReached} FoundNumbered (onLocation sofar x f)
-unfolding onLocation NextNumbered FoundNumbered
-on-numbered sofar x (found ys) q = tt
-on-numbered sofar x (refusedAfter ys n) q = q
-
-location-step-numbered : (e : Encoding) (s sofar : List ℕ) (t : ListStep) → NextNumbered {S = ListReached} FoundNumbered (locationStep e s sofar t)
-unfolding locationStep NextNumbered FoundNumbered
-location-step-numbered e s sofar (Entry x) = on-numbered sofar x _ (located-numbered e s x)
-location-step-numbered e s sofar End = tt
-location-step-numbered e s sofar NoEntry = no-five
-
-list-numbered : (e : Encoding) (s : List ℕ) (o : ListOffset) → FoundNumbered (listFound e s o)
-unfolding listFound
-list-numbered e s (At c) = walk-numbered {S = ListReached} FoundNumbered _ _ (λ p. location-step-numbered e s _ _) (found-numbered []) _ _ _
-list-numbered e s Unresolved = no-numbered [] 5 no-five
-
-attribute-numbered : (e : Encoding) (x : Locations) (a : Valued) → FoundNumbered (attributeFound e x a)
-unfolding attributeFound
-attribute-numbered e x a =
-    pick-either FoundNumbered _ _ _ (λ _. found-numbered _)
-    (λ _. pick-either FoundNumbered _ _ _ (λ _. no-numbered [] 7 no-seven)
-    (λ _. pick-either FoundNumbered _ _ _ (λ _. found-numbered _)
-    (λ _. pick-either FoundNumbered _ _ _ (λ _. expression-numbered e _)
-    (λ _. pick-either FoundNumbered _ _ _ (λ _. found-numbered _)
-    (λ _. pick-either FoundNumbered _ _ _ (λ _. list-numbered e _ _)
-    (λ _. pick-either FoundNumbered _ _ _ (λ _. list-numbered e _ _) (λ _. found-numbered _)))))))
-
-attributes-numbered : (e : Encoding) (x : Locations) (vs : List Valued) → FoundNumbered (attributesFound e x vs)
-unfolding attributesFound
-attributes-numbered e x [] = found-numbered []
-attributes-numbered e x (a ∷ vs) = then-numbered _ _ (attribute-numbered e x a) (attributes-numbered e x vs)
-
-pub scan-refusal : (e : Encoding) (x : Locations) (vs : List Valued) (xs : List ℕ) (n : ℕ) → attributesFound e x vs ≡ refusedAfter xs n → ScanRefusal n
-unfolding FoundNumbered
-scan-refusal e x vs xs n q = subst FoundNumbered q (attributes-numbered e x vs)
 
 -- ---- the analysis
 
@@ -326,16 +216,8 @@ names-of ms t (refusedAfter xs n) k q h = none-of ms n (t n q)
 abbrev entryNumbers : List ℕ
 entryNumbers = 4 ∷ 10 ∷ 5 ∷ 6 ∷ 7 ∷ 11 ∷ []
 
--- all of them but 6
-abbrev entryNumbersButSix : List ℕ
-entryNumbersButSix = 4 ∷ 10 ∷ 5 ∷ 7 ∷ 11 ∷ []
-
 abbrev analysisNumbers : List ℕ
 analysisNumbers = 1 ∷ 2 ∷ 3 ∷ 4 ∷ 5 ∷ 6 ∷ 7 ∷ 10 ∷ 11 ∷ []
-
--- 6 is among some numbers, if a table fails at all
-abbrev pub SixOf : List ℕ → List ℕ → Type 0
-SixOf ms table = (index : ℕ) → lookupAt table index ≡ Fails → OneOf ms 6
 
 module _ (e : Encoding) (x : Sections) (unit : List ℕ) where
   pub root-of : (ms : List ℕ) → OneOf ms 5 → SixOf ms (x .addresses) → (base : ℕ) (y : Entry′) → VerdictOf ms (rootOf e x unit base y)
@@ -346,41 +228,27 @@ module _ (e : Encoding) (x : Sections) (unit : List ℕ) where
   unfolding namesOf
   references-of base y = attributes-numbered e _ _
 
-  module _ (ms : List ℕ) (others : (n : ℕ) → OneOf entryNumbersButSix n → OneOf ms n) (six : SixOf ms (x .addresses)) where
-    items-of : (room : Rooms) (p : Reached) (is : List Item) (whole : Bool) → AnalysedOf ms (analyseItems e x unit room p is whole)
-    unfolding analyseItems isOneOf areOf _or_ _and_
-    items-of room p [] true = rows-of ms []
-    items-of room p [] false = none-of ms 4 (others 4 (one-of entryNumbersButSix 4 tt))
-    items-of room p (terminator a b ∷ is) whole = items-of room _ is whole
-    items-of room p (entry y ∷ is) whole =
-        pick-either (AnalysedOf ms) _ _ _
-        (λ _. verdict-of ms _ _ (root-of ms (others 5 (one-of entryNumbersButSix 5 tt)) six _ y)
-        (λ root. names-of ms (λ n q. others n (wider (5 ∷ 7 ∷ []) entryNumbersButSix n tt q)) _ _ (references-of _ y)
-        (λ names _. pick-either (AnalysedOf ms) _ _ _
-        (λ _. onto-of ms _ _ (items-of room _ is whole)) (λ _. none-of ms 11 (others 11 (one-of entryNumbersButSix 11 tt))))))
-        (λ _. none-of ms 10 (others 10 (one-of entryNumbersButSix 10 tt)))
-
-pub declared-of : (ms : List ℕ) → OneOf ms 3 → (o : Option (List Placed)) (k : List Placed → Analysed) → ((ds : List Placed) → o ≡ some ds → AnalysedOf ms (k ds))
-    → AnalysedOf ms (onDeclared o k)
-unfolding onDeclared
-declared-of ms t none k h = none-of ms 3 t
-declared-of ms t (some ds) k h = h ds refl
+numbered-rows : (ms : List ℕ) → ((n : ℕ) → OneOf entryNumbersButSix n → OneOf ms n)
+    → Analyses {I = Unit {0}} (λ v. VerdictOf ms (v tt)) (λ root. Unit {0}) (λ a. AnalysedOf ms (a tt))
+numbered-rows ms others =
+    record {
+      of-end = rows-of ms [];
+      of-refused = λ n o. none-of ms n (others n o);
+      of-verdict = λ v p k each. verdict-of ms (v tt) (k tt) p (λ n. each (λ i. n) tt);
+      of-onto = λ offset parent names root r a q. onto-of ms _ (a tt) q;
+    }
 
 -- some numbers, among them all but 6
 abbrev AnalysisOthers : List ℕ → Type 0
 AnalysisOthers ms = (n : ℕ) → OneOf (1 ∷ 2 ∷ 3 ∷ entryNumbersButSix) n → OneOf ms n
 
-module _ (ms : List ℕ) (others : AnalysisOthers ms) (x : Sections) (six : SixOf ms (x .addresses)) where
-  header-of : (section : List ℕ) (room : Rooms) (h : HeaderRead) → HeaderNumbered h → AnalysedOf ms (headerAnalysed x section room h)
-  unfolding headerAnalysed unitAnalysed HeaderNumbered isOneOf areOf _or_ _and_
-  header-of section room Empty q = rows-of ms []
-  header-of section room (Refused n) q = none-of ms n (others n (wider (1 ∷ 2 ∷ []) _ n tt q))
-  header-of section room (Unit′ h) q =
-      declared-of ms (others 3 (one-of _ 3 tt)) _ _ (λ ds _. items-of _ x _ ms (λ n o. others n (wider entryNumbersButSix _ n tt o)) six room _ _ _)
-
-  pub analysis-of : (section : List ℕ) (room : Rooms) → AnalysedOf ms (analysisOf x section room)
-  unfolding analysisOf
-  analysis-of section room = header-of section room (headerOf section) (header-numbered section)
+pub analysis-of : (ms : List ℕ) → AnalysisOthers ms → (x : Sections) → SixOf ms (x .addresses) → (section : List ℕ) (room : Rooms)
+    → AnalysedOf ms (analysisOf x section room)
+unfolding isOneOf areOf _or_ _and_
+analysis-of ms others x six section room =
+    analysis-by (λ (i : Unit {0}). x .addresses) (numbered ms (others 5 (one-of _ 5 tt)) (x .addresses) six)
+    (numbered-rows ms (λ n o. others n (wider entryNumbersButSix _ n tt o))) x (λ n o. none-of ms n (others n (wider (1 ∷ 2 ∷ 3 ∷ []) _ n tt o)))
+    section room
 
 any-six : (x : Sections) → SixOf analysisNumbers (x .addresses)
 unfolding isOneOf _or_
@@ -403,8 +271,8 @@ declared-entries : (x : Sections) (section : List ℕ) (room : Rooms) (h : UnitH
 unfolding onDeclared isOneOf areOf _or_ _and_
 declared-entries x section room h none ds q = let z : _≡_ {A = ℕ} 0 1 = cc in absurd (omega arith)
 declared-entries x section room h (some es) ds q =
-    items-of (h .encoding) x (take (h .end) section) entryNumbers (λ n o. wider entryNumbersButSix entryNumbers n tt o)
-    (λ index z. one-of entryNumbers 6 tt) room _ _ _
+    items-by (λ (i : Unit {0}). x .addresses) (numbered entryNumbers (one-of entryNumbers 5 tt) (x .addresses) (λ index z. one-of entryNumbers 6 tt))
+    (numbered-rows entryNumbers (λ n o. wider entryNumbersButSix entryNumbers n tt o)) x (h .encoding) (take (h .end) section) room startOf _ _
 
 pub entries-refusal : (x : Sections) (section : List ℕ) (room : Rooms) (h : UnitHeader) (ds : List Placed) (n : ℕ)
     → headerOf section ≡ Unit′ h → abbreviationsOf (x .abbreviations) (h .abbreviations) ≡ some ds → analysisOf x section room ≡ notAnalysed n → EntriesRefusal n

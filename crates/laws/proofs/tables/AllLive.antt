@@ -3,16 +3,11 @@ use mathlib.Core.Path.{_≡_, refl, ap, ap₂, sym, _∙_}
 use Prim.Native.Nat.{ℕ, zero, suc, _+_, _<_}
 use native.Mathlib.Omega.{arith}
 use mathlib.Core.Bool.{Bool, true, false}
-use mathlib.Core.List.{List, [], _∷_}
+use mathlib.Core.List.{List, []}
 use lib.ListN.{length, getD}
-use lib.Dec.{eqb, ltb}
-use Rattle.readers.specs.Choice.{pick, _and_}
-use Rattle.readers.specs.Codes.{«DW_AT_low_pc», «DW_AT_location», «DW_AT_ranges», «DW_FORM_exprloc», «DW_FORM_rnglistx»}
-use Rattle.readers.specs.Codes.{«DW_TAG_subprogram», «DW_TAG_variable»}
-use Rattle.readers.specs.Lists.{listOffset}
+use lib.Dec.{ltb}
+use Rattle.readers.specs.Choice.{pick}
 use Rattle.readers.specs.Steps.{operationAt, listEntryAt}
-use Rattle.readers.specs.EntryAttributes.{Valued}
-use Rattle.readers.specs.Fields.{partOf}
 use Rattle.readers.specs.declared.cursor.Encoding.{Encoding}
 use Rattle.readers.specs.declared.lists.ListOffset.{ListOffset}
 use Rattle.readers.specs.declared.lists.ListOffset.the-variants.{At, Unresolved}
@@ -27,9 +22,10 @@ use Rattle.marking.proofs.Lookups.{no-table, byte-one}
 use Rattle.marking.specs.declared.root_test.Verdict.{Verdict}
 use Rattle.marking.specs.declared.root_test.Verdict.the-variants.{Live, Dead}
 use Rattle.marking.specs.Walking.{Next, go, stop, onNext, walkWithin, walk}
-use Rattle.marking.specs.Roots.{Flagged, place, Ranges, rangesBy, orElse, rangeEntry, rangeStep, rangesLive}
-use Rattle.marking.specs.Roots.{operationStep, locationLive, lowPc, lowPcs, locations, rangesOf, firstRanges, rootTest}
+use Rattle.marking.specs.Roots.{Flagged, place, orElse, rangeEntry, rangeStep, rangesLive}
+use Rattle.marking.specs.Roots.{operationStep, locationLive, lowPc}
 use Rattle.laws.specs.AddressTables.{ones, Eventually}
+use Rattle.laws.proofs.tables.BySeveralTables.{Verdicts}
 
 -- ---- from some number on
 
@@ -48,7 +44,7 @@ pub soon-then : {X Y : Type 0} (g : ℕ → X → Y) (f : ℕ → X) (c : X) (d 
 soon-then g f c d s t =
     record { from = s .from + t .from; holds = λ n l. ap (g n) (s .holds n (omega arith)) ∙ t .holds n (omega arith) }
 
-pub soon-pick : {X : Type 0} (b : Bool) (f g : ℕ → X) (c d : X) → Soon f c → Soon g d → Soon (λ n. pick b (f n) (g n)) (pick b c d)
+soon-pick : {X : Type 0} (b : Bool) (f g : ℕ → X) (c d : X) → Soon f c → Soon g d → Soon (λ n. pick b (f n) (g n)) (pick b c d)
 unfolding pick
 soon-pick true f g c d s t = s
 soon-pick false f g c d s t = t
@@ -135,37 +131,19 @@ module _ (e : Encoding) where
   unfolding lowPc
   low-soon v = record { from = lookup-soon (v .field .value) .from; holds = λ n l. rw (lookup-soon (v .field .value) .holds n l) }
 
-  lows-soon : (vs : List Valued) → Soon (λ n. lowPcs e (ones n) vs) (lowPcs e [] vs)
-  unfolding lowPcs
-  lows-soon [] = at-once _
-  lows-soon (a ∷ vs) =
-      soon-pick (eqb (a .name) «DW_AT_low_pc») _ _ _ _ (else-soon _ _ _ _ (low-soon (a .value)) (lows-soon vs)) (lows-soon vs)
+-- by tables of ones: from some length on as by the empty one, which is that of length 0
+abbrev pub AsEmpty : {X : Type 0} → (ℕ → X) → Type 0
+AsEmpty f = Soon f (f 0)
 
-  locations-soon : (unit : List ℕ) (vs : List Valued) → Soon (λ n. locations e (ones n) unit vs) (locations e [] unit vs)
-  unfolding locations
-  locations-soon unit [] = at-once _
-  locations-soon unit (a ∷ vs) =
-      soon-pick (eqb (a .name) «DW_AT_location» and eqb (a .value .form) «DW_FORM_exprloc») _ _ _ _
-      (else-soon _ _ _ _ (location-soon (partOf unit (a .value .field))) (locations-soon unit vs)) (locations-soon unit vs)
-
-  module _ (ranges : List ℕ) (rangesBase rnglistsBase : ℕ) where
-    abbrev by : List ℕ → Ranges
-    by table = rangesBy ranges table rangesBase rnglistsBase
-
-    ranges-of-soon : (v : Attribute) → Soon (λ n. rangesOf e (by (ones n)) v) (rangesOf e (by []) v)
-    unfolding rangesOf
-    ranges-of-soon v =
-        soon-pick (eqb (v .form) «DW_FORM_rnglistx») _ _ _ _
-        (ranges-soon ranges (listOffset e ranges rnglistsBase (v .field .value))) (at-once _)
-
-    first-soon : (vs : List Valued) → Soon (λ n. firstRanges e (by (ones n)) vs) (firstRanges e (by []) vs)
-    unfolding firstRanges
-    first-soon [] = at-once _
-    first-soon (a ∷ vs) = soon-pick (eqb (a .name) «DW_AT_ranges») _ _ _ _ (ranges-of-soon (a .value)) (first-soon vs)
-
-    pub root-soon : (unit : List ℕ) (tag : ℕ) (vs : List Valued)
-        → Soon (λ n. rootTest e (by (ones n)) unit tag vs) (rootTest e (by []) unit tag vs)
-    unfolding rootTest
-    root-soon unit tag vs =
-        soon-pick (eqb tag «DW_TAG_subprogram») _ _ _ _ (else-soon _ _ _ _ (lows-soon vs) (first-soon vs))
-        (soon-pick (eqb tag «DW_TAG_variable») _ _ _ _ (locations-soon unit vs) (at-once _))
+pub all-live : Verdicts ones AsEmpty
+unfolding ones
+all-live =
+    record {
+      of-live = at-once Live;
+      of-dead = at-once Dead;
+      of-else = λ v w p q. else-soon v w (v 0) (w 0) p q;
+      of-low-pc = λ e a. low-soon e a;
+      of-location = λ e s. location-soon e s;
+      of-ranges = λ e s o. ranges-soon e s o;
+      of-older = λ e s o. at-once _;
+    }

@@ -2,11 +2,10 @@
 use mathlib.Core.Path.{_≡_, refl, sym, subst}
 use Prim.Native.Nat.{ℕ, zero, suc}
 use mathlib.Core.Bool.{Bool, true, false, false≢true}
-use mathlib.Core.List.{List, [], _∷_}
+use mathlib.Core.List.{List, []}
 use mathlib.Core.Logic.{_⊎_, inl, inr}
 use lib.ListN.{length}
 use Rattle.readers.specs.Choice.{pick}
-use Rattle.readers.specs.EntryAttributes.{Valued}
 use Rattle.readers.specs.Steps.{operationAt, listEntryAt}
 use Rattle.readers.specs.declared.cursor.Encoding.{Encoding}
 use Rattle.readers.specs.declared.lists.ListOffset.{ListOffset}
@@ -24,9 +23,9 @@ use Rattle.marking.specs.declared.addresses.AddressLookup.the-variants.{Live as
 use Rattle.marking.specs.declared.root_test.Verdict.{Verdict}
 use Rattle.marking.specs.declared.root_test.Verdict.the-variants.{Live, Dead, Refused}
 use Rattle.marking.specs.Walking.{go, stop, onNext, walkWithin, walk}
-use Rattle.marking.specs.Roots.{Flagged, place, RootTurn, toward, Ranges, rangesBy, orElse, onLookup, rangeEntry}
-use Rattle.marking.specs.Roots.{rangeStep, rangesLive, operationStep, locationLive, lowPc, lowPcs, locations, rangesOf}
-use Rattle.marking.specs.Roots.{firstRanges, rootTest}
+use Rattle.marking.specs.Roots.{Flagged, place, RootTurn, toward, orElse, onLookup, rangeEntry}
+use Rattle.marking.specs.Roots.{rangeStep, rangesLive, operationStep, locationLive, lowPc}
+use Rattle.laws.proofs.tables.BySeveralTables.{Verdicts}
 
 -- ---- verdicts
 
@@ -59,7 +58,7 @@ held-else Dead w v′ w′ (inl q) h = subst (λ (z : Verdict). Held w (orElse z
 held-else Dead w v′ w′ (inr q) h = subst (λ (z : Verdict). Held w (orElse z w′)) (sym q) h
 held-else (Refused n) w v′ w′ q h = tt
 
-pub both-pick : {X : Type 0} (R : X → X → Type 0) (c : Bool) (x y x′ y′ : X) → R x x′ → R y y′ → R (pick c x y) (pick c x′ y′)
+both-pick : {X : Type 0} (R : X → X → Type 0) (c : Bool) (x y x′ y′ : X) → R x x′ → R y y′ → R (pick c x y) (pick c x′ y′)
 unfolding pick
 both-pick R true x y x′ y′ p q = p
 both-pick R false x y x′ y′ p q = q
@@ -171,31 +170,16 @@ module _ (e : Encoding) (table : List ℕ) where
   unfolding lowPc
   low-held v = both-pick Held _ _ _ _ _ (asked Held (λ r. r) (held-refused 6) table _ _ _ _ _ (held-same Live) (held-live Dead)) (held-same _)
 
-  lows-held : (vs : List Valued) → Held (lowPcs e table vs) (lowPcs e [] vs)
-  unfolding lowPcs
-  lows-held [] = held-same Dead
-  lows-held (a ∷ vs) = both-pick Held _ _ _ _ _ (held-else _ _ _ _ (low-held (a .value)) (lows-held vs)) (lows-held vs)
-
-  locations-held : (unit : List ℕ) (vs : List Valued) → Held (locations e table unit vs) (locations e [] unit vs)
-  unfolding locations
-  locations-held unit [] = held-same Dead
-  locations-held unit (a ∷ vs) = both-pick Held _ _ _ _ _ (held-else _ _ _ _ (location-held _) (locations-held unit vs)) (locations-held unit vs)
-
-  module _ (ranges : List ℕ) (rangesBase rnglistsBase : ℕ) where
-    abbrev by : List ℕ → Ranges
-    by t = rangesBy ranges t rangesBase rnglistsBase
-
-    ranges-of-held : (v : Attribute) → Held (rangesOf e (by table) v) (rangesOf e (by []) v)
-    unfolding rangesOf
-    ranges-of-held v = both-pick Held _ _ _ _ _ (ranges-held e table ranges _) (held-same _)
-
-    first-held : (vs : List Valued) → Held (firstRanges e (by table) vs) (firstRanges e (by []) vs)
-    unfolding firstRanges
-    first-held [] = held-same Dead
-    first-held (a ∷ vs) = both-pick Held _ _ _ _ _ (ranges-of-held (a .value)) (first-held vs)
-
-    pub root-held : (unit : List ℕ) (tag : ℕ) (vs : List Valued) → Held (rootTest e (by table) unit tag vs) (rootTest e (by []) unit tag vs)
-    unfolding rootTest
-    root-held unit tag vs =
-        both-pick Held _ _ _ _ _ (held-else _ _ _ _ (lows-held vs) (first-held vs))
-        (both-pick Held _ _ _ _ _ (locations-held unit vs) (held-same Dead))
+-- by a table (true) and by the empty one (false)
+pub held : (table : List ℕ) → Verdicts (λ (i : Bool). pick i table []) (λ v. Held (v true) (v false))
+unfolding pick
+held table =
+    record {
+      of-live = held-same Live;
+      of-dead = held-same Dead;
+      of-else = λ v w p q. held-else (v true) (w true) (v false) (w false) p q;
+      of-low-pc = λ e a. low-held e table a;
+      of-location = λ e s. location-held e table s;
+      of-ranges = λ e s o. ranges-held e table s o;
+      of-older = λ e s o. held-same _;
+    }

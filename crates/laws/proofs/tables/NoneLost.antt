@@ -1,33 +1,25 @@
 -- Without an address table nothing is lost that a table keeps (document 02, Point 2). Assumes nothing.
 use mathlib.Core.Path.{_≡_, refl, ap, ap₂, sym, _∙_, subst}
-use Prim.Native.Nat.{ℕ, suc, _+_, _<_}
+use Prim.Native.Nat.{ℕ, suc, _<_}
 use mathlib.Core.Bool.{Bool, true, false}
 use mathlib.Core.List.{List, [], _∷_}
 use mathlib.Core.Logic.{inl, inr}
-use mathlib.Core.Option.{Option, none, some}
-use lib.ListN.{length, take}
-use lib.Dec.{ltb, leb}
-use Rattle.readers.specs.Codes.{«DW_AT_loclists_base», «DW_AT_rnglists_base»}
-use Rattle.readers.specs.Header.{headerOf}
-use Rattle.readers.specs.Abbreviations.{Placed, abbreviationsOf}
-use Rattle.readers.specs.Stream.{Item, entry, terminator}
-use Rattle.readers.specs.declared.cursor.Encoding.{Encoding}
-use Rattle.readers.specs.declared.header.HeaderRead.{HeaderRead}
-use Rattle.readers.specs.declared.header.HeaderRead.the-variants.{Unit as Unit′, Empty, Refused}
+use lib.ListN.{length}
 use Rattle.marking.specs.declared.root_test.Verdict.{Verdict}
 use Rattle.marking.specs.declared.root_test.Verdict.the-variants.{Live, Dead, Refused as Failed}
-use Rattle.marking.specs.EntryReferences.{ReferencesFound, found, refused as refusedAfter}
 use Rattle.marking.specs.Members.{Member, Nth, now, later}
 use Rattle.marking.specs.Survivors.{Survivor}
 use Rattle.marking.specs.Analysis.{Sections, Rooms, EntryRow, Analysed, analysed, refused as notAnalysed, onto}
-use Rattle.marking.specs.Analysis.{onVerdict, onFound, Reached, startOf, tagOf, valuesOfEntry, rootOf, namesOf, baseOf}
-use Rattle.marking.specs.Analysis.{analyseItems, onDeclared, unitAnalysed, headerAnalysed, analysisOf}
+use Rattle.marking.specs.Analysis.{onVerdict}
+use Rattle.marking.specs.Analysis.{analysisOf}
 use Rattle.marking.specs.Columns.{offsetsIn}
 use Rattle.marking.specs.Resolution.{graphOf}
 use Rattle.laws.specs.AddressTables.{withTable, NoneLost}
 use Rattle.laws.specs.UnitSurvivors.{ParentIn, RootIn, NamesIn, Below, child, deeper, ClosedRows}
 use Rattle.laws.proofs.survivors.UnitLaws.{unit-survivors}
-use Rattle.laws.proofs.tables.LiveVerdicts.{Held, both-pick, root-held}
+use Rattle.laws.proofs.tables.BySeveralTables.{Analyses, analysis-by}
+use Rattle.laws.proofs.tables.LiveVerdicts.{Held, held}
+use Rattle.readers.specs.Choice.{pick}
 
 -- ---- rows
 
@@ -73,51 +65,26 @@ verdict-held Dead w (inl q) k h each = subst (λ (z : Verdict). AnalysedHeld (k 
 verdict-held Dead w (inr q) k h each = subst (λ (z : Verdict). AnalysedHeld (k 0) (onVerdict z h)) (sym q) (each 0 0 (λ e. e))
 verdict-held (Failed n) w q k h each = tt
 
-found-held : (f : ReferencesFound) (k h : List ℕ → Analysed) → ((names : List ℕ) → AnalysedHeld (k names) (h names))
-    → AnalysedHeld (onFound f k) (onFound f h)
-unfolding onFound AnalysedHeld
-found-held (found names) k h each = each names
-found-held (refusedAfter names n) k h each = tt
+-- a root by the table (true) is one by the empty table (false)
+rows-held : Analyses {I = Bool} (λ v. Held (v true) (v false)) (λ root. root true ≡ 1 → root false ≡ 1)
+    (λ a. AnalysedHeld (a true) (a false))
+unfolding pick
+rows-held =
+    record {
+      of-end = no-rows-held;
+      of-refused = λ n o. refused-held n _;
+      of-verdict = λ v p k each. verdict-held (v true) (v false) p (k true) (k false) (λ r s q. each (λ i. pick i r s) q);
+      of-onto = λ offset parent names root r a q.
+          onto-held _ _ (record { offset-is = refl; parent-is = refl; names-are = refl; root-held = r }) (a true) (a false) q;
+    }
 
-declared-held : (o : Option (List Placed)) (k h : List Placed → Analysed) → ((ds : List Placed) → AnalysedHeld (k ds) (h ds))
-    → AnalysedHeld (onDeclared o k) (onDeclared o h)
-unfolding onDeclared AnalysedHeld
-declared-held none k h each = tt
-declared-held (some ds) k h each = each ds
-
-module _ (x : Sections) (table : List ℕ) where
-  module _ (e : Encoding) (unit : List ℕ) (room : Rooms) where
-    items-held : (p : Reached) (is : List Item) (whole : Bool)
-        → AnalysedHeld (analyseItems e (withTable x table) unit room p is whole) (analyseItems e (withTable x []) unit room p is whole)
-    unfolding analyseItems rootOf namesOf baseOf valuesOfEntry
-    items-held p [] true = no-rows-held
-    items-held p [] false = refused-held _ _
-    items-held p (terminator a b ∷ is) whole = items-held _ is whole
-    items-held p (entry y ∷ is) whole =
-        both-pick AnalysedHeld (ltb (p .count) (room .entries)) _ _ _ _
-        (verdict-held _ _
-        (root-held e table (x .ranges) (x .rangesBase) (baseOf e x unit «DW_AT_rnglists_base» (p .rnglistsBase) y) unit (tagOf y)
-        (valuesOfEntry e x unit y)) _ _
-        (λ r s q. found-held (namesOf e x unit (baseOf e x unit «DW_AT_loclists_base» (p .loclistsBase) y) y) _ _
-        (λ names. both-pick AnalysedHeld (leb (p .references + length names) (room .references)) _ _ _ _
-        (onto-held _ _ (record { offset-is = refl; parent-is = refl; names-are = refl; root-held = q }) _ _ (items-held _ is whole))
-        (refused-held _ _))))
-        (refused-held _ _)
-
-  header-held : (section : List ℕ) (room : Rooms) (h : HeaderRead)
-      → AnalysedHeld (headerAnalysed (withTable x table) section room h) (headerAnalysed (withTable x []) section room h)
-  unfolding headerAnalysed unitAnalysed
-  header-held section room Empty = no-rows-held
-  header-held section room (Refused n) = refused-held _ _
-  header-held section room (Unit′ h) =
-      declared-held (abbreviationsOf (x .abbreviations) (h .abbreviations)) _ _
-      (λ ds. items-held (h .encoding) (take (h .end) section) room startOf _ _)
-
-  analysis-held : (section : List ℕ) (room : Rooms) (rows : List EntryRow) → analysisOf (withTable x table) section room ≡ analysed rows
-      → Beside rows (analysisOf (withTable x []) section room)
-  unfolding analysisOf AnalysedHeld
-  analysis-held section room rows q =
-      subst (λ (a : Analysed). AnalysedHeld a (headerAnalysed (withTable x []) section room (headerOf section))) q (header-held section room (headerOf section))
+analysis-held : (x : Sections) (table section : List ℕ) (room : Rooms) (rows : List EntryRow)
+    → analysisOf (withTable x table) section room ≡ analysed rows
+    → Beside rows (analysisOf (withTable x []) section room)
+unfolding pick AnalysedHeld
+analysis-held x table section room rows q =
+    subst (λ (a : Analysed). AnalysedHeld a (analysisOf (withTable x []) section room)) q
+    (analysis-by (λ (i : Bool). pick i table []) (held table) rows-held x (λ n o. refused-held n (notAnalysed n)) section room)
 
 -- ---- survivors
 
