@@ -21,8 +21,8 @@
  * list for each index of its kind. A call writes every byte of what it is lent here, and of the host's tables: time
  * goes by the lengths that are lent too.
  *
- * The answer is a refusal's number, 1 to 14, or one of the numbers below. Of an accepted answer `counts` holds seven
- * numbers of eight big-endian bytes: entries, kept entries, map places, bytes of the new unit (these two 0 where
+ * The answer is a refusal's number, 1 to 14 or 17, or one of the numbers below. Of an accepted answer `counts` holds
+ * seven numbers of eight big-endian bytes: entries, kept entries, map places, bytes of the new unit (these two 0 where
  * untouched), numbers of the ranges, locations and strings list; then for each list a byte, 1 present, 0 absent (an
  * absent list counts 0); then zeros. Where `counts` is shorter than COLLECTOR_COUNTS the answer tells so, and `counts`
  * is zeros; all else is as it would be.
@@ -34,9 +34,10 @@
  * has no data that is written, so threads may call at the same time, each with slices of its own to be written.
  *
  * Refusals: 1 header cut short, 2 a header value outside the domain, 3 abbreviations, 4 unreadable entry, 5 unreadable
- * list or expression, 6 the address table fails, 7 a section-absolute reference, 8 a reference whose target is not
- * kept, 9 a value that does not fit its width, 10 more entries than the tables hold, 11 more references, 12 an index
- * list too short, 13 the map too short, 14 the output too short.
+ * list or expression, 6 the address table has a byte above 1 at an index that is asked, 7 a section-absolute reference,
+ * 8 a reference whose target is not kept, 9 a value that does not fit its width, 10 more entries than the tables hold,
+ * 11 more references, 12 an index list too short, 13 the map too short, 14 the output too short, 17 the address table,
+ * which is not empty, ends before an index that is asked (at 6's place: the first of the two that is met).
  */
 #ifndef COLLECTOR_H
 #define COLLECTOR_H

@@ -14,9 +14,9 @@ from units import CRATES, TESTS, Part, bundles, placed, read, with_parts, write
 KEPT = os.path.join(TESTS, '..', 'oracle', 'kept')
 DATA = os.path.join(CRATES, 'test_collect', 'data')
 FAMILIES = ('small bytes valid lists expressions trees deep refused damaged listed headers declarations numbers operations kinds '
-            'siblings sums no-table tables').split()
-ERRORS = {'ParseUnitAbbreviations': 3, 'ParseUnit': 4, 'Read': 5, 'Address': 6, 'UnexpectedSectionAbsoluteReference': 7,
-          'MalformedDebugInfo': 8}
+            'siblings sums no-table failures tables').split()
+ERRORS = {'ParseUnitAbbreviations': 3, 'ParseUnit': 4, 'Read': 5, 'Address': 6, 'AddressPastEnd': 17,
+          'UnexpectedSectionAbsoluteReference': 7, 'MalformedDebugInfo': 8}
 FIELDS = ('entries', 'kept', 'map', 'ranges', 'locations', 'strings', 'bytes')
 
 

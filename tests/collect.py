@@ -12,6 +12,7 @@ offsets, parents, roots, ends, marks, targets, pairs, of map, three lists and ou
 a bundle. What is not said is lent with something to spare, so that zeros after the answer are seen."""
 import sys
 
+import failures
 from units import A5, BIG, FIVE, HEADERS, LARGEST, T, Part, asking, bundle_of, counted, entry_values, header, octets, unit, with_parts, write
 
 SETTINGS = ('index', 'offsets', 'parents', 'roots', 'ends', 'marks', 'targets', 'pairs', 'map', 'ranges', 'locations', 'strings', 'output', 'base', 'type_units')
@@ -80,8 +81,8 @@ case('P1', FIVE, A5, ONE, addresses='0100')
 case('P2', FIVE, A5, rewritten(5, 1, '12>12@0 21>13@1', '01 00'), addresses='0000')
 case('P3', FIVE, A5, rewritten(5, 3, '12>12@0 16>13@1 18>14@1 21>17@1', '01 03 02010d 00'), addresses='0001')
 case('P4', FIVE, A5, untouched(5), addresses='0101')
-case('P5', FIVE, A5, no(6), addresses='0200')
-case('P6', FIVE, A5, no(6), addresses='01')
+case('P5, 5.3', FIVE, A5, no(6), addresses='0200')
+case('P6, 5.3', FIVE, A5, no(17), addresses='01')
 case('P7', '', A5, NOTHING)
 
 # ---- points
@@ -294,7 +295,15 @@ def second(why, of_unit, table, dead, **sections):
     case(why, of_unit, table, without(of_unit) if dead else untouched(2, '0' if '55/23' in table else ''), **sections)
 
 
-case('2.4: the five-entry unit with no table', FIVE, A5, untouched(5))
+def judged(why, of_unit, table, answer, **sections):
+    """The same by a word, live or dead; or the number of a refusal."""
+    if answer in ('live', 'dead'):
+        second(why, of_unit, table, answer == 'dead', **sections)
+    else:
+        case(why, of_unit, table, no(answer), **sections)
+
+
+case('2.4, 5.1: the five-entry unit with no table', FIVE, A5, untouched(5))
 case('2.4: and exactly enough room', FIVE, A5, untouched(5), lend=ROOM)
 case('2.4: one entry less', FIVE, A5, no(10), lend=dict(ROOM, entries=4))
 case('2.4: one reference less', FIVE, A5, no(11), lend=dict(ROOM, references=1))
@@ -340,13 +349,31 @@ case('2.5: 15 with no table', 'H 01 02 00 00', R, no(5), ranges=T + '0200')
 second('2.5: 19 with no table', 'H 01 02 00 00', R, True, ranges=T + '0100')
 case('2.5: 36 with no table', FIVE, A5, no(10), lend={'entries': 1})
 second('2.5: 39 with no table', 'H 01 02 07 00', '1 11 children; 2 0b 11/1b', True)
-for addresses, index, answer in (('00', '00', True), ('00', '01', 6), ('01', '00', False), ('01', '01', 6), ('02', '00', 6)):
+for addresses, index, answer in (('00', '00', 'dead'), ('00', '01', 17), ('01', '00', 'live'), ('01', '01', 17),
+                                 ('02', '00', 6)):
     for asks, of_unit, table, ranges in asking(index):
-        why = '2.4: a table %s reads as before: %s, index %s' % (addresses, asks, index)
-        if answer == 6:
-            case(why, of_unit, table, no(6), ranges=ranges, addresses=addresses)
-        else:
-            second(why, of_unit, table, answer, ranges=ranges, addresses=addresses)
+        judged('2.4, 5.3: a table %s: %s, index %s' % (addresses, asks, index), of_unit, table, answer, ranges=ranges,
+               addresses=addresses)
+
+# ---- document 02, point 5: 6 for a byte above 1, 17 for an index past the end of a table that isn't empty
+for why, of_unit, table, answer, sections in failures.cases():
+    judged(why, of_unit, table, answer, **sections)
+for n, byte in failures.EVERY:
+    places, of_unit, table, ranges, addresses = failures.every(n, byte)
+    entries, end = len(places) + 1, len(of_unit) + 11
+    answer = untouched(entries, '0 1 2') if byte else rewritten(entries, 1, '12>12@0 %d>13@1' % end, '01 00')
+    case('5.3: the last index of %d' % n, of_unit, table, answer, ranges=ranges, addresses=addresses)
+TWICE = '1 11 children%s; 2 ' + failures.TWICE
+case('5.2: 10 of the same entry', failures.EITHER, TWICE % '', no(10), addresses='0002', lend={'entries': 1})
+case('5.2: 11 of an entry before', 'H 01 0c 02 02 01 00', TWICE % ' 49/11', no(11), addresses='0002',
+     lend={'references': 0})
+for index, number in failures.FAILING:
+    for later, of_unit, table, lend in (
+            ('10 of the next entry', 'H 01 02 %s 02 00 00', P % '1b', {'entries': 2}),
+            ('11 of the same', 'H 01 02 0c %s 00', '1 11 children; 2 2e 49/11 11/1b', {'references': 0}),
+            ('12', 'H 01 05 02 %s 00', '1 11 children 03/1a; 2 2e 11/1b', {'strings': 0}),
+            ('14', 'H 01 02 00 02 %s 00', P % '1b', {'output': 0})):
+        case('5.2: %d before %s' % (number, later), of_unit % index, table, no(number), addresses='0002', lend=lend)
 
 # ---- lent lengths: the five-entry unit has 5 entries, 2 references, 4 places and 18 bytes
 FULL = {'entries': 5, 'references': 2, 'map': 48, 'output': 18, 'ranges': 0, 'locations': 0, 'strings': 0}
@@ -364,7 +391,8 @@ case('47: output one byte short', FIVE, A5, no(14), addresses='0100', lend=dict(
 case('no output', FIVE, A5, no(14), addresses='0100', lend=dict(FULL, output=0))
 case('47: output one byte more', FIVE, A5, ONE, addresses='0100', lend=dict(FULL, output=19))
 case('13 before 14', FIVE, A5, no(13), addresses='0100', lend=dict(FULL, map=47, output=17))
-case('6 before 13', FIVE, A5, no(6), addresses='01', lend=dict(FULL, map=0, output=0))
+case('6 before 13', FIVE, A5, no(6), addresses='0002', lend=dict(FULL, map=0, output=0))
+case('5.2: 17 before 13', FIVE, A5, no(17), addresses='01', lend=dict(FULL, map=0, output=0))
 case('no index of the declarations', FIVE, A5, ONE, addresses='0100', lend=dict(FULL, index=0))
 case('an index of one', FIVE, A5, ONE, addresses='0100', lend=dict(FULL, index=1))
 case('untouched needs no map and no output', FIVE, A5, untouched(5), addresses='0101', lend=dict(FULL, map=0, output=0))
@@ -475,7 +503,7 @@ def padded_lines():
     return ''.join('padded %d in %d of %d %s %s\n' % (v, w, n, 'refused 15' if b is None else 'written', '00' * n if b is None and n else b or '-') for v, w, n, b in PADDED)
 
 
-# ---- 45, 46, and document 02's 2.4: what thin prints, a file each; crates/test_readers has more (points.py)
+# ---- 45, 46, and document 02's 2.4 and 5.3: what thin prints, a file each; crates/test_readers has more (points.py)
 FIRST = bundle_of(FIVE, A5, addresses='0100')
 FIRST_THINNED = 'entries 5 kept 3\n12 R 12\n13 L 13\n16 D -\n17 L 16\n18 D -\n'
 
@@ -484,7 +512,8 @@ def thin_cases():
     room = 65536 - len(bundle_of(FIVE, A5))
     deep, _, dead = nested_unit(17000)
     return [('P4', bundle_of(FIVE, A5, addresses='0101'), 'entries 5 kept 5\n12 R 12\n13 L 13\n16 L 16\n17 L 17\n18 L 18\n'),
-            ('P6', bundle_of(FIVE, A5, addresses='01'), 'refused 6\n'),
+            ('P5', bundle_of(FIVE, A5, addresses='0200'), 'refused 6\n'),
+            ('P6', bundle_of(FIVE, A5, addresses='01'), 'refused 17\n'),
             ('no-table', bundle_of(FIVE, A5), 'entries 5 kept 5\n12 R 12\n13 L 13\n16 L 16\n17 L 17\n18 L 18\n'),
             ('only-terminators', bundle_of('H 0000', A5), 'entries 0 kept 0\n'),
             ('dangling', bundle_of('H 01 63 02', G), 'refused 8\n'),

@@ -7,6 +7,7 @@ the marks that the specification gives, never from a run. With `check` nothing i
 with what would be."""
 import sys
 
+import failures
 from units import A5, BIG, FIVE, LARGEST, T, Part, asking, bundle_of, placed, with_parts, write
 
 points = []
@@ -28,8 +29,8 @@ def letters(expected):
 
 # ---- the five-entry unit
 for addresses, expected in (('0100', '12R 13L 16D 17L 18D'), ('0000', '12R 13D 16D 17D 18D'), ('0001', '12R 13D 16L 17D 18L'),
-                            ('0101', '12R 13L 16L 17L 18L'), ('0200', 'refused 6'), ('01', 'refused 6')):
-    case('P1 to P6', FIVE, A5, expected, addresses=addresses)
+                            ('0101', '12R 13L 16L 17L 18L'), ('0200', 'refused 6'), ('01', 'refused 17')):
+    case('P1 to P6 (5.3: P5, P6)', FIVE, A5, expected, addresses=addresses)
 case('P7', '', A5, '')
 
 # ---- points
@@ -44,9 +45,9 @@ case('11: a surplus terminator before the first entry', 'H 00 03 03', A5, '13R 1
 case('11: a list of children that is open at the end', 'H 01 03', A5, '12R 13D')
 case('11: a second tree', 'H 03 03', A5, '12R 13D')
 case('11: a surplus terminator at the end', 'H 03 00', A5, '12R')
-case('12: what follows a live index in its expression is asked', 'H 01 02 04 a101a102 00', V, 'refused 6', addresses='0001')
+case('12: what follows a live index in its expression is asked', 'H 01 02 04 a101a102 00', V, 'refused 17', addresses='0001')
 case('13: what follows a live location is not', 'H 01 02 02a101 02a107 00', '1 11 children; 2 34 02/18 02/18', '12R 13L', addresses='0001')
-case('14: a nested entry value is stepped over', 'H 01 02 05 a301ff a102 00', V, 'refused 6', addresses='0001')
+case('14: a nested entry value is stepped over', 'H 01 02 05 a301ff a102 00', V, 'refused 17', addresses='0001')
 case('14: its indexes are not asked', 'H 01 02 04 a302 a101 00', V, '12R 13D', addresses='0001')
 case('15: an entry is read whole before it is judged', 'H 01 02 00 00', R, 'refused 5', ranges=T + '0200', addresses='02')
 case('16: the section\'s end is an empty list', 'H 01 02 00 00', R, '12R 13D', ranges=T)
@@ -64,6 +65,9 @@ case('a dead base makes its pairs dead', 'H 01 02 00 00', R, '12R 13D', ranges=T
 case('a live base after it', 'H 01 02 00 00', R, '12R 13L', ranges=T + '0100 040001 0101 040001 00', addresses='0001')
 case('a dead base leaves start forms alone', 'H 01 02 00 00', R, '12R 13L', ranges=T + '0100 030101 00', addresses='0001')
 case('20: the older test asks no table', 'H 01 02 00000000 00', '1 11 children; 2 2e 55/17', '12R 13L', ranges='0100', addresses='02')
+for entries in ('0101', '0102'):
+    case('20, 5.3: the older test asks no table: %s' % entries, 'H 01 02 00000000 00', '1 11 children; 2 2e 55/17', '12R 13L',
+         ranges=entries, addresses='0002')
 case('20: its end entry is dead', 'H 01 02 00000000 00', '1 11 children; 2 2e 55/17', '12R 13D', ranges='00')
 case('20: base_address only is skipped', 'H 01 02 00000000 00', '1 11 children; 2 2e 55/17', '12R 13D', ranges='05' + '11' * 8 + '00')
 case('21: of two bases the last', 'H 01 00000000 04000000 02 00 00', '1 11 children 74/17 74/17; 2 2e 55/23', '12R 21D', ranges='ffffffff 04000000 00')
@@ -129,7 +133,7 @@ case('36: before the next entry', SIX + b'\4\1\1\1\1\1' + b'\x63', MANY, 'refuse
 
 # ---- document 02, point 2: a table of length 0 knows no address, and each index that is asked is live
 P = '1 11 children; 2 2e 11/%s'
-case('2.4: the five-entry unit with no table', FIVE, A5, '12R 13L 16L 17L 18L')
+case('2.4, 5.1: the five-entry unit with no table', FIVE, A5, '12R 13L 16L 17L 18L')
 case('2.4: what nothing asks for is dead all the same', 'H 01 020011 03 03 03 00', A5, '12R 13L 16D 17L 18D')
 case('2.4: a first entry that is a root', 'H 01 07 02 00', '1 2e children 11/1b; 2 24', '12R 14L')
 case('2.4: one with no children', 'H 01 02a107 02', '1 34 02/18; 2 24', '12R 16D')
@@ -185,9 +189,20 @@ case('2.5: 19 with no table', 'H 01 02 00 00', R, '12R 13D', ranges=T + '0100')
 case('2.5: 20 with no table', 'H 01 02 00000000 00', '1 11 children; 2 2e 55/17', '12R 13L', ranges='0100')
 case('2.5: 36 with no table', FULL + b'\7\2\xa1\7', MANY, 'refused 10')
 case('2.5: 39 with no table', 'H 01 02 07 00', '1 11 children; 2 0b 11/1b', '12R 13D')
-for addresses, index, expected in (('00', '00', '12R 13D'), ('00', '01', 'refused 6'), ('01', '00', '12R 13L'), ('01', '01', 'refused 6'), ('02', '00', 'refused 6')):
+for addresses, index, expected in (('00', '00', '12R 13D'), ('00', '01', 'refused 17'), ('01', '00', '12R 13L'),
+                                   ('01', '01', 'refused 17'), ('02', '00', 'refused 6')):
     for asks, of_unit, table, ranges in asking(index):
-        case('2.4: a table %s reads as before: %s, index %s' % (addresses, asks, index), of_unit, table, expected, ranges=ranges, addresses=addresses)
+        case('2.4, 5.3: a table %s: %s, index %s' % (addresses, asks, index), of_unit, table, expected, ranges=ranges,
+             addresses=addresses)
+
+# ---- document 02, point 5: 6 for a byte above 1, 17 for an index past the end of a table that isn't empty
+for why, of_unit, table, answer, sections in failures.cases():
+    case(why, of_unit, table, {'live': '12R 13L', 'dead': '12R 13D'}.get(answer, 'refused %s' % answer), **sections)
+for n, byte in failures.EVERY:
+    places, of_unit, table, ranges, addresses = failures.every(n, byte)
+    case('5.3: the last index of %d' % n, of_unit, table, '12R ' + ' '.join('%d%s' % (at, 'DL'[byte]) for at in places),
+         ranges=ranges, addresses=addresses)
+case('5.2: 10 of the same entry', FULL + b'\7\2\xa1\0', MANY, 'refused 10', addresses='02')
 
 
 def main():

@@ -3,9 +3,9 @@
 use std::collections::BTreeSet;
 
 /// Families that are made of nothing given, in the order of README.md.
-pub const FAMILIES: [&str; 19] = [
+pub const FAMILIES: [&str; 20] = [
     "small", "bytes", "valid", "lists", "expressions", "trees", "deep", "refused", "headers", "declarations", "numbers", "operations", "kinds",
-    "siblings", "many", "damaged", "listed", "sums", "no-table",
+    "siblings", "many", "damaged", "listed", "sums", "no-table", "failures",
 ];
 /// Families of given bundles.
 pub const OF_FILES: [&str; 2] = ["tables", "damaged-files"];
@@ -195,10 +195,18 @@ struct Style {
     listed: bool,
     /// Indices of lists whose place is above 64 bits, often.
     far: bool,
-    /// No address table, and mostly what asks it.
+    /// Mostly what asks the address table, and there is none.
     no_table: bool,
+    /// The same, and the table is short, or holds bytes above 1.
+    failures: bool,
     /// A fault of each kind, 0 for none.
     fault: u8,
+}
+
+impl Style {
+    fn asks(&self) -> bool {
+        self.no_table || self.failures
+    }
 }
 
 struct Maker<'a> {
@@ -275,8 +283,12 @@ impl Maker<'_> {
         address.to_le_bytes()[..self.address_size].to_vec()
     }
 
-    /// An index into the address table: in it, but for fault 6; any number where there is none.
+    /// An index into the address table: in it, but for fault 6 and in `failures`; any number where there is none.
     fn address_index(&mut self) -> u64 {
+        if self.style.failures && self.dice.rare(12) {
+            let past = self.dice.of(&[0, 0, 0, 0, 1, 1, 2, 100, 1 << 16, 1 << 32, 1 << 63, u64::MAX]);
+            return past.saturating_add(self.addresses as u64);
+        }
         if self.style.no_table && self.dice.rare(4) {
             return self.dice.of(&[u64::MAX, u64::MAX - 1, 1 << 63, 1 << 62, 1 << 32, 0xffff_ffff]);
         }
@@ -292,7 +304,7 @@ impl Maker<'_> {
             self.dice.of(&[0xff, 0x00, 0x04, 0xf0, 0xf1, 0xf8, 0xe1, 0xaa])
         } else if self.fault(7) {
             self.dice.of(&[0x9a, 0xa0, 0xf2])
-        } else if self.style.no_table && self.dice.rare(2) {
+        } else if self.style.asks() && self.dice.rare(2) {
             self.dice.of(&[0xa1, 0xa1, 0xa1, 0xfb, 0xfb, 0xa2, 0x03, 0xa3])
         } else {
             match self.dice.below(8) {
@@ -383,7 +395,7 @@ impl Maker<'_> {
     fn abbreviation(&mut self, code: u64, tag: u16, children: bool) -> Abbreviation {
         let mut specs = Vec::new();
         let some = if self.style.lists || self.style.expressions { 3 } else { 5 };
-        let least = usize::from(self.style.no_table);
+        let least = usize::from(self.style.asks());
         for _ in 0..least + self.dice.below(some - 2 * least) {
             let (name, form) = self.attribute(tag);
             specs.push(Spec { name, form, constant: self.dice.number() as i64 });
@@ -397,8 +409,9 @@ impl Maker<'_> {
         let location = |d: &mut Dice| if listed && d.rare(8) { 0x06 } else { d.of(&[0x18, 0x18, 0x18, 0x22, 0x22, 0x17, 0x0a, 0x16]) };
         let ranges = |d: &mut Dice| if listed && d.rare(8) { 0x06 } else { d.of(&[0x23, 0x23, 0x23, 0x17, 0x16, 0x0b]) };
         let d = &mut *self.dice;
-        let kind = if style.no_table && !d.rare(4) {
+        let kind = if style.asks() && !d.rare(4) {
             match tag {
+                0x2e if style.failures => d.of(&[0, 2, 2]),
                 0x2e => d.of(&[0, 0, 2]),
                 _ => d.of(&[0, 0, 1, 4]),
             }
@@ -412,7 +425,9 @@ impl Maker<'_> {
             d.below(8)
         };
         match kind {
-            0 if tag == 0x2e && style.no_table => (0x11, d.of(&[0x1b, 0x1b, 0x29, 0x2a, 0x2b, 0x2c, 0x01, 0x01, 0x01, 0x16])),
+            0 if tag == 0x2e && style.asks() => {
+                (0x11, d.of(&[0x1b, 0x1b, 0x29, 0x2a, 0x2b, 0x2c, 0x01, 0x01, 0x01, 0x16]))
+            }
             0 if tag == 0x2e => (0x11, d.of(&[0x1b, 0x1b, 0x1b, 0x29, 0x2a, 0x2b, 0x2c, 0x01, 0x16, 0x0b])),
             0 if tag == 0x34 => (0x02, 0x18),
             1 => (0x02, location(d)),
@@ -533,6 +548,8 @@ impl Maker<'_> {
         for _ in 0..self.dice.of(&[0, 1, 1, 2, 2, 3, 5]) {
             let kind = if self.fault(5) {
                 self.dice.of(&[8, 9, 0xff])
+            } else if self.style.failures {
+                self.dice.of(&[1, 2, 2, 3, 3, 4, 5, 6, 7])
             } else if self.style.no_table {
                 self.dice.of(&[1, 1, 1, 2, 3, 4, 5, 5, 6, 7])
             } else {
@@ -706,7 +723,7 @@ fn structured(dice: &mut Dice, style: Style) -> Parts {
         } else if maker.dice.rare(20) {
             maker.dice.of(&[0x11, 0x41, 0xffff, 0x05])
         } else {
-            maker.dice.of(if style.no_table { &ROOTS[..] } else { &TAGS[..] })
+            maker.dice.of(if style.asks() { &ROOTS[..] } else { &TAGS[..] })
         };
         let children = if i == 0 { !maker.dice.rare(20) } else { maker.dice.rare(if style.trees { 2 } else { 3 }) };
         let mut made = maker.abbreviation(code, tag, children);
@@ -804,12 +821,20 @@ fn structured(dice: &mut Dice, style: Style) -> Parts {
     }
     table.extend(uleb(0, dice.padding()));
 
-    let addresses = if style.no_table { vec![] } else { address_table(dice, addresses) };
+    let mut addresses = if style.no_table { vec![] } else { address_table(dice, addresses) };
+    if style.failures {
+        for byte in &mut addresses {
+            if dice.rare(5) {
+                *byte = dice.of(&[2, 3, 0x7f, 0x80, 0x81, 0xff]);
+            }
+        }
+    }
     [unit, table, location_lists, range_lists, addresses]
 }
 
-/// A table that fails at every index, for units that have no index to ask, or are to be refused at the first. An empty one
-/// would say live: only `no-table` has it, damage that leaves nothing, and given units that came so.
+/// A table that fails at every index (6 at the first, 17 past it), for units that have no index to ask, or are to be
+/// refused at the first. An empty one would say live: only `no-table` has it, damage that leaves nothing, and given
+/// units that came so.
 const FAILS: [u8; 1] = [2];
 
 /// Zeros and ones, from all dead to all live; of none a table that fails.
@@ -1424,9 +1449,10 @@ impl<'a> Cases<'a> {
             "deep" => deep(dice),
             "refused" => refused(dice),
             "sums" => structured(dice, Style { lists: true, far: true, ..style }),
-            "no-table" => {
+            "no-table" | "failures" => {
                 let fault = dice.of(&[0, 0, 0, 0, 0, 0, 0, 0, 4, 5, 7, 8]);
-                structured(dice, Style { no_table: true, fault, ..style })
+                let no_table = self.family == "no-table";
+                structured(dice, Style { no_table, failures: !no_table, fault, ..style })
             }
             "headers" => headers(dice),
             "declarations" => declarations(dice),

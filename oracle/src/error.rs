@@ -1,4 +1,4 @@
-//! The crate's errors, as far as gc.rs names them, and one more: an address table that fails.
+//! The crate's errors, as far as gc.rs names them, and two more: the ways an address table fails.
 
 use std::fmt;
 
@@ -16,8 +16,10 @@ pub(crate) enum Error {
     Read(gimli::Error),
     /// What `?` makes of a writing error.
     Write(gimli::write::Error),
-    /// Asked for an index that the lent table, if it is not empty, lacks, or where it holds neither 0 nor 1.
+    /// The address table holds neither 0 nor 1 at the index that was asked for.
     Address,
+    /// The index that was asked for is past the end of an address table that is not empty.
+    AddressPastEnd,
 }
 
 pub(crate) type Result<T> = std::result::Result<T, Error>;

@@ -25,7 +25,7 @@ pub struct Expected {
     /// Entries met, and the references of each whose references were read.
     pub met: usize,
     pub references: Vec<usize>,
-    /// A refusal of the reading, 1 to 7, or what comes after.
+    /// A refusal of the reading, 1 to 7 or 17, or what comes after.
     pub read: Result<Plan, u8>,
     /// The listed differences that the case can show.
     pub rules: BTreeSet<&'static str>,

@@ -133,13 +133,15 @@ fn number(error: &Error) -> Option<u8> {
         Error::Read(gimli::Error::OffsetOutOfBounds) => return None,
         Error::Read(_) => 5,
         Error::Address => 6,
+        Error::AddressPastEnd => 17,
         Error::UnexpectedSectionAbsoluteReference => 7,
         Error::MalformedDebugInfo => 8,
         _ => return None,
     })
 }
 
-/// The resolver: what the address table says of an index. Of an empty table, always live; of no other.
+/// The resolver: what the address table says of an index, or which way it fails. Of an empty table, always live; of no
+/// other.
 fn resolved(table: &[u8], index: usize) -> Result<bool, Error> {
     if table.is_empty() {
         return Ok(true);
@@ -147,7 +149,8 @@ fn resolved(table: &[u8], index: usize) -> Result<bool, Error> {
     match table.get(index) {
         Some(0) => Ok(false),
         Some(1) => Ok(true),
-        _ => Err(Error::Address),
+        Some(_) => Err(Error::Address),
+        None => Err(Error::AddressPastEnd),
     }
 }
 

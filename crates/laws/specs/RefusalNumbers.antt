@@ -1,4 +1,4 @@
--- The numbers that each call refuses with (document 01, "Operations and their numbers").
+-- The numbers that each call refuses with (document 01, "Operations and their numbers"; document 02, Point 5).
 use mathlib.Core.Path.{_≡_}
 use Prim.Native.Nat.{ℕ}
 use mathlib.Core.Logic.{_⊎_}
@@ -17,9 +17,13 @@ HeaderRefusal n = OneOf (1 ∷ 2 ∷ []) n
 abbrev pub ReferencesRefusal : ℕ → Type 0
 ReferencesRefusal n = OneOf (2 ∷ 5 ∷ 7 ∷ 11 ∷ []) n
 
+-- the address table: "6 .. for a byte above 1", "17, index past the end of a table that isn't empty, at 6's place"
+abbrev pub tableNumbers : List ℕ
+tableNumbers = 6 ∷ 17 ∷ []
+
 -- "root test 5 (unreadable list or expression) or 6 (address table fails)"
 abbrev pub RootRefusal : ℕ → Type 0
-RootRefusal n = OneOf (5 ∷ 6 ∷ []) n
+RootRefusal n = OneOf (5 ∷ tableNumbers) n
 
 -- "references in attribute order 5 or 7"
 abbrev pub ScanRefusal : ℕ → Type 0
@@ -27,27 +31,42 @@ ScanRefusal n = OneOf (5 ∷ 7 ∷ []) n
 
 -- "Then entry by entry: 4 unreadable entry; 10 entry table full; root test ..; references ..; once the entry's references
 -- are read, 11 reference table full."
+abbrev pub entriesNumbers : List ℕ
+entriesNumbers = 4 ∷ 10 ∷ 5 ∷ 6 ∷ 17 ∷ 7 ∷ 11 ∷ []
+
 abbrev pub EntriesRefusal : ℕ → Type 0
-EntriesRefusal n = OneOf (4 ∷ 10 ∷ 5 ∷ 6 ∷ 7 ∷ 11 ∷ []) n
+EntriesRefusal n = OneOf entriesNumbers n
 
 -- the header's 1 and 2, "3 abbreviations", and those of the entries
+abbrev pub analysisNumbers : List ℕ
+analysisNumbers = 1 ∷ 2 ∷ 3 ∷ entriesNumbers
+
 abbrev pub AnalysisRefusal : ℕ → Type 0
-AnalysisRefusal n = OneOf (1 ∷ 2 ∷ 3 ∷ 4 ∷ 5 ∷ 6 ∷ 7 ∷ 10 ∷ 11 ∷ []) n
+AnalysisRefusal n = OneOf analysisNumbers n
 
 -- the same with tables that are long enough
+abbrev pub inputNumbers : List ℕ
+inputNumbers = 1 ∷ 2 ∷ 3 ∷ 4 ∷ 5 ∷ 6 ∷ 17 ∷ 7 ∷ []
+
 abbrev pub InputRefusal : ℕ → Type 0
-InputRefusal n = OneOf (1 ∷ 2 ∷ 3 ∷ 4 ∷ 5 ∷ 6 ∷ 7 ∷ []) n
+InputRefusal n = OneOf inputNumbers n
 
 -- "mark": 16
 abbrev pub MarkRefusal : ℕ → Type 0
 MarkRefusal n = OneOf (16 ∷ []) n
 
+abbrev pub collectNumbers : List ℕ
+collectNumbers = 1 ∷ 2 ∷ 3 ∷ 4 ∷ 5 ∷ 6 ∷ 7 ∷ 8 ∷ 9 ∷ 10 ∷ 11 ∷ 12 ∷ 13 ∷ 14 ∷ 17 ∷ []
+
 abbrev pub CollectRefusal : ℕ → Type 0
-CollectRefusal n = OneOf (1 ∷ 2 ∷ 3 ∷ 4 ∷ 5 ∷ 6 ∷ 7 ∷ 8 ∷ 9 ∷ 10 ∷ 11 ∷ 12 ∷ 13 ∷ 14 ∷ []) n
+CollectRefusal n = OneOf collectNumbers n
 
 -- the same with room enough
+abbrev pub roomyNumbers : List ℕ
+roomyNumbers = 1 ∷ 2 ∷ 3 ∷ 4 ∷ 5 ∷ 6 ∷ 7 ∷ 8 ∷ 9 ∷ 17 ∷ []
+
 abbrev pub RoomyRefusal : ℕ → Type 0
-RoomyRefusal n = OneOf (1 ∷ 2 ∷ 3 ∷ 4 ∷ 5 ∷ 6 ∷ 7 ∷ 8 ∷ 9 ∷ []) n
+RoomyRefusal n = OneOf roomyNumbers n
 
 -- "padded number": 15
 abbrev pub PaddedRefusal : ℕ → Type 0
@@ -55,5 +74,4 @@ PaddedRefusal n = OneOf (15 ∷ []) n
 
 -- 256 untouched, 257 rewritten, and 2 more where the counts have no room
 abbrev pub CallNumber : ℕ → Type 0
-CallNumber n =
-    OneOf (1 ∷ 2 ∷ 3 ∷ 4 ∷ 5 ∷ 6 ∷ 7 ∷ 8 ∷ 9 ∷ 10 ∷ 11 ∷ 12 ∷ 13 ∷ 14 ∷ 256 ∷ 257 ∷ 258 ∷ 259 ∷ []) n
+CallNumber n = OneOf (256 ∷ 257 ∷ 258 ∷ 259 ∷ collectNumbers) n

@@ -89,7 +89,7 @@ module _ (x : ListEntry) where
   unfolding onLookup Heads
   looked-heads Live t u f g = f
   looked-heads Dead t u f g = g
-  looked-heads Fails t u f g = tt
+  looked-heads (Fails n) t u f g = tt
 
   entry-heads : (e : Encoding) (table : List ℕ) (dead : Bool) → Heads x (rangeEntry e table dead x)
   unfolding rangeEntry Heads
@@ -186,7 +186,7 @@ module _ (e : Encoding) (table s : List ℕ) where
   unfolding onLookup Forward
   looked-forward p Live t u f g = f
   looked-forward p Dead t u f g = g
-  looked-forward p Fails t u f g = tt
+  looked-forward p (Fails n) t u f g = tt
 
   read-forward : (p : Flagged) (o : OperationRead) → operationAt e s (p .at) ≡ o → Forward place (length s) p (operationStep e table (p .flag) o)
   unfolding operationStep Forward
@@ -244,6 +244,6 @@ module _ (e : Encoding) (table s : List ℕ) where
           unfolding locationFrom onNext onLookup
           index-passed v = index-turn ∙ rw v
 
-          pub index-refused : l ≡ Fails → refused 6 ≡ locationLive e table s
+          pub index-refused : (n : ℕ) → l ≡ Fails n → refused n ≡ locationLive e table s
           unfolding onNext onLookup
-          index-refused v = sym (index-turn ∙ rw v)
+          index-refused n v = sym (index-turn ∙ rw v)

@@ -37,7 +37,7 @@ module _ (table : List ℕ) (index : ℕ) where
   unfolding lookupAt pick
   no-table z = rw (eq-eqb (length table) 0 z)
 
-  pub past-table : (length table ≡ 0 → ⊥) → length table ≤ index → Fails ≡ lookupAt table index
+  pub past-table : (length table ≡ 0 → ⊥) → length table ≤ index → Fails 17 ≡ lookupAt table index
   unfolding lookupAt pick
   past-table n h = rw (ne-eqb (length table) 0 n, le-ltb index (length table) h)
 
@@ -54,7 +54,7 @@ module _ (table : List ℕ) (index : ℕ) where
     byte-one z o =
         rw (some-table, lt-ltb index (length table) h, ne-eqb (getD table index 0) 0 z, eq-eqb (getD table index 0) 1 o)
 
-    pub byte-other : (getD table index 0 ≡ 0 → ⊥) → (getD table index 0 ≡ 1 → ⊥) → Fails ≡ lookupAt table index
+    pub byte-other : (getD table index 0 ≡ 0 → ⊥) → (getD table index 0 ≡ 1 → ⊥) → Fails 6 ≡ lookupAt table index
     unfolding lookupAt byteLiveness pick
     byte-other z o =
         rw (some-table, lt-ltb index (length table) h, ne-eqb (getD table index 0) 0 z, ne-eqb (getD table index 0) 1 o)

@@ -36,13 +36,14 @@ use Rattle.marking.specs.declared.addresses.AddressLookup.the-variants.{
 use Rattle.marking.specs.declared.root_test.Verdict.{Verdict}
 use Rattle.marking.specs.declared.root_test.Verdict.the-variants.{Live, Dead, Refused}
 
--- an empty table says live of every index; one of a byte or more says what its bytes say
+-- an empty table says live of every index; one of a byte or more says what its bytes say, and 17 past them
 lookups :
     ((index : ℕ) → lookupAt [] index ≡ AddressLive)
     × ((b : ℕ) (rest : List ℕ) (index : ℕ)
-    → lookupAt (b ∷ rest) index ≡ pick (ltb index (suc (length rest))) (byteLiveness (getD (b ∷ rest) index 0)) Fails)
-unfolding lookupAt pick
-lookups = (λ index. refl, λ b rest index. rw (ne-eqb (suc (length rest)) 0 (λ z. omega arith)))
+    → lookupAt (b ∷ rest) index ≡ pick (ltb index (suc (length rest))) (byteLiveness (getD (b ∷ rest) index 0)) (Fails 17))
+    × (byteLiveness 2 ≡ Fails 6) × (byteLiveness 255 ≡ Fails 6)
+unfolding lookupAt byteLiveness pick
+lookups = (λ index. refl, λ b rest index. rw (ne-eqb (suc (length rest)) 0 (λ z. omega arith)), refl, refl)
 
 -- the list with index 0 of a section: a header of twelve bytes, a table of one offset, and the list
 ranged : List ℕ → List ℕ → Verdict
@@ -58,6 +59,13 @@ range-lists :
     × (ranged [] (0xff ∷ []) ≡ Refused 5)  -- an unknown kind
     × (ranged [] (2 ∷ 0 ∷ []) ≡ Refused 5)  -- an entry is read whole before it is judged
     × (ranged (2 ∷ []) (1 ∷ 0 ∷ []) ≡ Refused 6)  -- a base asks the table though no pair follows
+    × (ranged (2 ∷ []) (1 ∷ 1 ∷ []) ≡ Refused 17)  -- past the table's end, whatever its bytes are
+    × (ranged (2 ∷ []) (2 ∷ 0 ∷ 1 ∷ 0 ∷ []) ≡ Refused 6)
+    × (ranged (1 ∷ []) (2 ∷ 1 ∷ 0 ∷ 0 ∷ []) ≡ Refused 17)
+    × (ranged (2 ∷ []) (3 ∷ 0 ∷ 1 ∷ 0 ∷ []) ≡ Refused 6)
+    × (ranged (1 ∷ []) (3 ∷ 1 ∷ 1 ∷ 0 ∷ []) ≡ Refused 17)
+    × (ranged (2 ∷ []) (3 ∷ 1 ∷ 1 ∷ 3 ∷ 0 ∷ 1 ∷ 0 ∷ []) ≡ Refused 17)  -- the failure that is met first
+    × (ranged (2 ∷ []) (3 ∷ 0 ∷ 1 ∷ 3 ∷ 1 ∷ 1 ∷ 0 ∷ []) ≡ Refused 6)
     × (ranged (0 ∷ []) (1 ∷ 0 ∷ 4 ∷ 0 ∷ 1 ∷ 0 ∷ []) ≡ Dead)  -- a pair after a dead base
     × (ranged (1 ∷ []) (1 ∷ 0 ∷ 4 ∷ 0 ∷ 1 ∷ 0 ∷ []) ≡ Live)
     × (ranged (0 ∷ []) (3 ∷ 0 ∷ 1 ∷ 0 ∷ []) ≡ Dead)
@@ -73,12 +81,15 @@ unfolding ranged rangesLive rangeStep rangeEntry onLookup lookupAt byteLiveness 
     listRow rangeEntries rowAmong rowOf rows unreadableRow rowLayout tokenOf numberAs readIn tokenIn numberIn before
     asNumber asBounded asLink asBlock asExpression asLeb asBytes copy uleb groups below unsigned64 fixedValue ordered
     littleValue width size bytesOf pieceBytes numberBytes fieldOf linkedValue rowOfReads pick check bind _and_ _or_
-range-lists = (refl, refl, refl, refl, refl, refl, refl, refl, refl, refl, refl, refl, refl, refl, refl)
+range-lists = (refl, refl, refl, refl, refl, refl, refl, refl, refl, refl, refl, refl, refl, refl, refl, refl, refl, refl, refl, refl, refl, refl)
 
 -- a location is read to its end though a live index was met; a nested entry value is stepped over; constx asks nothing
 locations-live :
     (locationLive (encodingOf 8) (0 ∷ 1 ∷ []) (0xa1 ∷ 1 ∷ []) ≡ Live)
-    × (locationLive (encodingOf 8) (0 ∷ 1 ∷ []) (0xa1 ∷ 1 ∷ 0xa1 ∷ 2 ∷ []) ≡ Refused 6)
+    × (locationLive (encodingOf 8) (0 ∷ 1 ∷ []) (0xa1 ∷ 1 ∷ 0xa1 ∷ 2 ∷ []) ≡ Refused 17)
+    × (locationLive (encodingOf 8) (0 ∷ 2 ∷ []) (0xa1 ∷ 1 ∷ 0xa1 ∷ 2 ∷ []) ≡ Refused 6)  -- the failure that is met first
+    × (locationLive (encodingOf 8) (0 ∷ 2 ∷ []) (0xfb ∷ 2 ∷ 0xa1 ∷ 1 ∷ 0xff ∷ []) ≡ Refused 17)
+    × (locationLive (encodingOf 8) (0 ∷ 2 ∷ 0 ∷ []) (0xfb ∷ 1 ∷ 0xff ∷ []) ≡ Refused 6)
     × (locationLive (encodingOf 8) (0 ∷ 1 ∷ []) (0xa3 ∷ 1 ∷ 0xff ∷ 0xfb ∷ 1 ∷ []) ≡ Live)
     × (locationLive (encodingOf 8) [] (0xa2 ∷ 7 ∷ []) ≡ Dead)
     × (locationLive (encodingOf 8) [] (0x03 ∷ 1 ∷ 0 ∷ 0 ∷ 0 ∷ 0 ∷ 0 ∷ 0 ∷ 0 ∷ []) ≡ Dead)
@@ -92,7 +103,7 @@ unfolding locationLive operationStep onLookup lookupAt byteLiveness walk walkWit
     rowLayout tokenOf numberAs readIn tokenIn numberIn before asNumber asBounded asLink asBlock asExpression asLeb
     asBytes copy uleb groups below unsigned64 fixedValue ordered littleValue width size bytesOf pieceBytes numberBytes
     fieldOf linkedValue rowOfReads pick check bind _and_ _or_
-locations-live = (refl, refl, refl, refl, refl, refl, refl, refl, refl, refl)
+locations-live = (refl, refl, refl, refl, refl, refl, refl, refl, refl, refl, refl, refl, refl)
 
 -- ---- entries, from the bytes of their specifications and of their values
 
@@ -110,7 +121,9 @@ entries :
     (tested (1 ∷ []) 0x2e (0x11 ∷ 0x1b ∷ 0 ∷ 0 ∷ []) (0 ∷ []) ≡ Live)  -- low_pc in addrx
     × (tested (0 ∷ []) 0x2e (0x11 ∷ 0x1b ∷ 0 ∷ 0 ∷ []) (0 ∷ []) ≡ Dead)
     × (tested (2 ∷ []) 0x2e (0x11 ∷ 0x1b ∷ 0 ∷ 0 ∷ []) (0 ∷ []) ≡ Refused 6)
-    × (tested (1 ∷ []) 0x2e (0x11 ∷ 0x1b ∷ 0 ∷ 0 ∷ []) (1 ∷ []) ≡ Refused 6)
+    × (tested (1 ∷ []) 0x2e (0x11 ∷ 0x1b ∷ 0 ∷ 0 ∷ []) (1 ∷ []) ≡ Refused 17)
+    × (tested (0 ∷ 2 ∷ []) 0x2e (0x11 ∷ 0x1b ∷ 0x11 ∷ 0x1b ∷ 0 ∷ 0 ∷ []) (2 ∷ 1 ∷ []) ≡ Refused 17)  -- the failure that is met first
+    × (tested (0 ∷ 2 ∷ []) 0x2e (0x11 ∷ 0x1b ∷ 0x11 ∷ 0x1b ∷ 0 ∷ 0 ∷ []) (1 ∷ 2 ∷ []) ≡ Refused 6)
     × (tested (0 ∷ 1 ∷ []) 0x2e (0x11 ∷ 0x1b ∷ 0x11 ∷ 0x1b ∷ 0 ∷ 0 ∷ []) (0 ∷ 1 ∷ []) ≡ Live)  -- each low_pc in turn
     × (tested [] 0x2e (0x55 ∷ 0x23 ∷ 0x55 ∷ 0x23 ∷ 0 ∷ 0 ∷ []) (0 ∷ 1 ∷ []) ≡ Dead)  -- the first ranges decide
     × (tested [] 0x2e (0x55 ∷ 0x23 ∷ 0x55 ∷ 0x23 ∷ 0 ∷ 0 ∷ []) (1 ∷ 0 ∷ []) ≡ Live)
@@ -121,6 +134,7 @@ entries :
     × (tested [] 0x2e (0x55 ∷ 0x17 ∷ 0 ∷ 0 ∷ []) (26 ∷ 0 ∷ 0 ∷ 0 ∷ []) ≡ Live)  -- past the section's end
     × (tested (1 ∷ []) 0x34 (0x02 ∷ 0x18 ∷ 0 ∷ 0 ∷ []) (2 ∷ 0xa1 ∷ 0 ∷ []) ≡ Live)  -- a variable's location in exprloc
     × (tested (0 ∷ []) 0x34 (0x02 ∷ 0x18 ∷ 0 ∷ 0 ∷ []) (2 ∷ 0xa1 ∷ 0 ∷ []) ≡ Dead)
+    × (tested (1 ∷ []) 0x34 (0x02 ∷ 0x18 ∷ 0 ∷ 0 ∷ []) (2 ∷ 0xa1 ∷ 1 ∷ []) ≡ Refused 17)
     × (tested [] 0x34 (0x02 ∷ 0x18 ∷ 0 ∷ 0 ∷ []) (0 ∷ []) ≡ Dead)  -- one of no bytes
     × (tested (1 ∷ []) 0x34 (0x11 ∷ 0x1b ∷ 0 ∷ 0 ∷ []) (0 ∷ []) ≡ Dead)  -- a variable's low_pc is not asked
     × (tested [] 0x11 (0x11 ∷ 0x1b ∷ 0 ∷ 0 ∷ []) (0 ∷ []) ≡ Dead)  -- another tag asks nothing
@@ -137,7 +151,7 @@ unfolding tested rootTest orElse lowPcs lowPc firstRanges rangesOf otherRanges o
     valueToken useOf formToken tokenAmong formTokens encodingOf tokenOf numberAs readIn tokenIn numberIn before asNumber
     asLink asExpression asLeb asBytes copy uleb groups below unsigned64 fixedValue ordered littleValue width size
     bytesOf pieceBytes numberBytes padded fieldOf linkedValue rowOfReads pick check bind _and_ _or_
-entries = (refl, refl, refl, refl, refl, refl, refl, refl, refl, refl, refl, refl, refl, refl, refl, refl, refl, refl, refl, refl, refl)
+entries = (refl, refl, refl, refl, refl, refl, refl, refl, refl, refl, refl, refl, refl, refl, refl, refl, refl, refl, refl, refl, refl, refl, refl, refl)
 
 -- rnglists_base in sec_offset: of several the last counts; another form, another name and another tag leave the base
 list-bases :

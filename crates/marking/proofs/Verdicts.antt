@@ -29,9 +29,9 @@ module _ (e : Encoding) (table : List ℕ) (dead : Bool) (x : ListEntry) where
       unfolding rangeEntry turnOf pick onLookup
       base-dead v = rw (eq-eqb (x .kind) 1 k, sym q ∙ v)
 
-      pub base-fails : l ≡ Fails → Decided (refused 6) ≡ turnOf (rangeEntry e table dead x)
+      pub base-fails : (n : ℕ) → l ≡ Fails n → Decided (refused n) ≡ turnOf (rangeEntry e table dead x)
       unfolding rangeEntry turnOf pick onLookup
-      base-fails v = rw (eq-eqb (x .kind) 1 k, sym q ∙ v)
+      base-fails n v = rw (eq-eqb (x .kind) 1 k, sym q ∙ v)
 
     module _ (k : x .kind ≡ 1 → ⊥) (h : x .kind ≤ 3) where
       pub start-live : l ≡ Live → Decided isLive ≡ turnOf (rangeEntry e table dead x)
@@ -42,9 +42,9 @@ module _ (e : Encoding) (table : List ℕ) (dead : Bool) (x : ListEntry) where
       unfolding rangeEntry turnOf pick onLookup
       start-dead v = rw (ne-eqb (x .kind) 1 k, le-leb (x .kind) 3 h, sym q ∙ v)
 
-      pub start-fails : l ≡ Fails → Decided (refused 6) ≡ turnOf (rangeEntry e table dead x)
+      pub start-fails : (n : ℕ) → l ≡ Fails n → Decided (refused n) ≡ turnOf (rangeEntry e table dead x)
       unfolding rangeEntry turnOf pick onLookup
-      start-fails v = rw (ne-eqb (x .kind) 1 k, le-leb (x .kind) 3 h, sym q ∙ v)
+      start-fails n v = rw (ne-eqb (x .kind) 1 k, le-leb (x .kind) 3 h, sym q ∙ v)
 
   module _ (k : x .kind ≡ 1 → ⊥) (h : 3 < x .kind) where
     pub pair-dead : x .kind ≡ 4 → dead ≡ true → On dead ≡ turnOf (rangeEntry e table dead x)
@@ -113,6 +113,6 @@ module _ (e : Encoding) (table : List ℕ) (v : Attribute) where
     unfolding lowPc pick onLookup
     index-dead t = rw (i, sym q ∙ t)
 
-    pub index-fails : l ≡ Fails → refused 6 ≡ lowPc e table v
+    pub index-fails : (n : ℕ) → l ≡ Fails n → refused n ≡ lowPc e table v
     unfolding lowPc pick onLookup
-    index-fails t = rw (i, sym q ∙ t)
+    index-fails n t = rw (i, sym q ∙ t)

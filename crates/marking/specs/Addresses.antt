@@ -1,4 +1,4 @@
--- Addresses (document 01, "Roots" and "What changes shape"; document 02, Point 2).
+-- Addresses (document 01, "Roots" and "What changes shape"; document 02, Points 2 and 5).
 use Prim.Native.Nat.{ℕ, _-_, _^_}
 use mathlib.Core.Bool.{Bool, false}
 use mathlib.Core.List.{List}
@@ -16,12 +16,12 @@ isTombstone address size =
     false)
 
 unfoldable pub byteLiveness : ℕ → AddressLookup
-byteLiveness b = pick (eqb b 0) Dead (pick (eqb b 1) Live Fails)
+byteLiveness b = pick (eqb b 0) Dead (pick (eqb b 1) Live (Fails 6))
 
--- The lent table, one byte an index: 0 dead, 1 live, any other byte or an index past its end fails. By an empty table
--- no address is known, and each index counts as live (Point 2).
+-- The lent table, one byte an index: 0 dead, 1 live; a failure has its number, 6 of any other byte, 17 of an index past
+-- the table's end (Point 5). By an empty table no address is known, and each index counts as live (Point 2).
 unfoldable pub lookupAt : List ℕ → ℕ → AddressLookup
 lookupAt table index =
     pick (eqb (length table) 0) Live
     (pick (ltb index (length table)) (byteLiveness (getD table index 0))
-    Fails)
+    (Fails 17))

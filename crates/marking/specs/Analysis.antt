@@ -1,6 +1,6 @@
--- The analysis of a unit (document 01, "collect"): entry by entry 4 unreadable, 10 entry table full, 5 or 6 of the root
--- test, 5 or 7 of the references in attribute order, 11 reference table full. "Full" is that the count up to and
--- including the present entry exceeds what is lent.
+-- The analysis of a unit (document 01, "collect"; document 02, Point 5): entry by entry 4 unreadable, 10 entry table
+-- full, 5, 6 or 17 of the root test, 5 or 7 of the references in attribute order, 11 reference table full. "Full" is that
+-- the count up to and including the present entry exceeds what is lent.
 use Prim.Native.Nat.{ℕ, suc, _+_}
 use mathlib.Core.Bool.{Bool, true, false}
 use mathlib.Core.List.{List, [], _∷_}

@@ -12,6 +12,5 @@ pub mod Analysis
 pub mod Columns
 pub mod Resolution
 pub mod Members
-pub mod Refusals
 pub mod EntryRows
 pub mod inner

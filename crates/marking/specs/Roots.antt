@@ -26,7 +26,6 @@ use Rattle.readers.specs.declared.operations.ListEntry.{ListEntry}
 use Rattle.readers.specs.declared.operations.ListStep.{ListStep}
 use Rattle.readers.specs.declared.operations.ListStep.the-variants.{Entry, End, Unreadable as NoEntry}
 use Rattle.marking.specs.Walking.{Next, go, stop, walk}
-use Rattle.marking.specs.Refusals.{refusalOfLookup}
 use Rattle.marking.specs.Addresses.{isTombstone, lookupAt}
 use Rattle.marking.specs.declared.addresses.AddressLookup.{AddressLookup}
 use Rattle.marking.specs.declared.addresses.AddressLookup.the-variants.{Live, Dead, Fails}
@@ -42,11 +41,11 @@ orElse isDead w = w
 orElse isLive w = isLive
 orElse (refused n) w = refused n
 
--- an index of the address table, and what follows if it is live, if it is dead; a table that fails is 6
+-- an index of the address table, and what follows if it is live, if it is dead; a failure is refused with its number
 unfoldable pub onLookup : {X : Type 0} → AddressLookup → (Verdict → X) → X → X → X
 onLookup Live refuse live dead = live
 onLookup Dead refuse live dead = dead
-onLookup Fails refuse live dead = refuse (refused (refusalOfLookup Fails))
+onLookup (Fails n) refuse live dead = refuse (refused n)
 
 -- ---- lists and expressions, from a place on, with a flag: in a range list, that the latest base was dead; in an expression, that a live index was met
 

@@ -2,11 +2,11 @@
 ghost use mathlib.Core.Path.{_≡_};
 ghost use Rattle.marking.specs.Addresses.{isTombstone, lookupAt};
 
-// What the address table says of an index: what gc.rs's `is_addr_live` answers. A table that fails is refused with 6.
+// What the address table says of an index: what gc.rs's `is_addr_live` answers. A failure carries its number of refusal.
 pub enum AddressLookup {
     Live,
     Dead,
-    Fails,
+    Fails(u8),
 }
 
 // Whether a linker put this address for code that it left out: 0, or all ones in the address's size.
@@ -28,8 +28,8 @@ pub fn is_tombstone(address: u64, size: u8) -> bool
     false
 }
 
-// An index of the address table, one byte an index: 0 dead, 1 live; any other byte, or an index past its end, fails.
-// Where the table is empty every index is live.
+// An index of the address table, one byte an index: 0 dead, 1 live; any other byte fails with 6, an index past its end
+// with 17. Where the table is empty every index is live.
 pub fn lookup(table: &[u8], index: u64) -> AddressLookup
     ensures { λ r. ⌜ r ≡ lookupAt (now (table .entry)) index ⌝ }
 {
@@ -37,7 +37,7 @@ pub fn lookup(table: &[u8], index: u64) -> AddressLookup
         return AddressLookup::Live; // no address is known
     }
     if index >= (table.len() as u64) {
-        return AddressLookup::Fails;
+        return AddressLookup::Fails(17);
     }
     let i = index as usize;
     let b = table[i];
@@ -47,5 +47,5 @@ pub fn lookup(table: &[u8], index: u64) -> AddressLookup
     if b == 1 {
         return AddressLookup::Live;
     }
-    AddressLookup::Fails
+    AddressLookup::Fails(6)
 }

@@ -434,7 +434,7 @@ fn find_unit(header: HeaderRead, abbreviations: &[u8], index: &mut [u64]) -> Uni
 // 1 for a root or 0, the number of references up to and with its own) and of a reference table (the offsets that are
 // named). At most so many entries and references, and as many as the shortest column has. The index of the declarations
 // is for finding them, and stays filled; its length changes no answer. A refusal leaves zeros in the columns: 1 and 2
-// of the header, 3 of the abbreviations, then entry by entry 4, 10, 5 or 6, 5 or 7, 11.
+// of the header, 3 of the abbreviations, then entry by entry 4, 10, one of 5, 6 and 17, 5 or 7, 11.
 pub fn analyse(
     section: &[u8],
     abbreviations: &[u8],

@@ -65,14 +65,14 @@ pub fn range_entry(table: &[u8], dead: bool, x: ListEntry, e: Encoding) -> Range
         return match lookup(table, first.value) {
             AddressLookup::Live => RangeTurn::On(false),
             AddressLookup::Dead => RangeTurn::On(true),
-            AddressLookup::Fails => RangeTurn::Decided(Verdict::Refused(6)),
+            AddressLookup::Fails(n) => RangeTurn::Decided(Verdict::Refused(n)),
         };
     }
     if kind <= DW_RLE_startx_length {
         return match lookup(table, first.value) {
             AddressLookup::Live => RangeTurn::Decided(Verdict::Live),
             AddressLookup::Dead => RangeTurn::On(dead),
-            AddressLookup::Fails => RangeTurn::Decided(Verdict::Refused(6)),
+            AddressLookup::Fails(n) => RangeTurn::Decided(Verdict::Refused(n)),
         };
     }
     if kind == DW_RLE_offset_pair {
@@ -134,8 +134,8 @@ pub fn location_expr_live(s: &[u8], table: &[u8], e: Encoding) -> Verdict
                     live = true;
                 }
                 AddressLookup::Dead => {}
-                AddressLookup::Fails => {
-                    return Verdict::Refused(6);
+                AddressLookup::Fails(n) => {
+                    return Verdict::Refused(n);
                 }
             }
         }
@@ -170,7 +170,7 @@ pub fn low_pc(v: Attribute, table: &[u8], e: Encoding) -> Verdict
     match lookup(table, field.value) {
         AddressLookup::Live => Verdict::Live,
         AddressLookup::Dead => Verdict::Dead,
-        AddressLookup::Fails => Verdict::Refused(6),
+        AddressLookup::Fails(n) => Verdict::Refused(n),
     }
 }
 

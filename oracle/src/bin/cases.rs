@@ -5,7 +5,7 @@ use std::io::{self, BufWriter, Write};
 
 const USAGE: &str = "usage: cases [--seed N] [--count N] FAMILY [BUNDLE ..]
 Families: small, bytes, valid, lists, expressions, trees, deep, refused, headers, declarations, numbers, operations, kinds, siblings, many,
-damaged, listed, sums, no-table; of given bundles: tables, damaged-files.";
+damaged, listed, sums, no-table, failures; of given bundles: tables, damaged-files.";
 
 fn main() -> io::Result<()> {
     let (mut seed, mut count) = (1u64, 1000usize);

@@ -388,6 +388,12 @@ fn setting(dice: &mut Dice) -> Setting {
     Setting { type_units: dice.rare(8), ranges_base }
 }
 
+/// An address table, not empty, that fails from some place on: it ends there, or holds bytes above 1.
+fn spoil(dice: &mut Dice, table: &mut Vec<u8>) {
+    let place = dice.below(table.len());
+    if place > 0 && dice.rare(2) { table.truncate(place) } else { table[place..].fill(dice.of(&[2, 0x80, 0xff])) }
+}
+
 /// Smaller parts that still differ: shorter, then with more zeros.
 fn reduced(parts: &Parts, with: Setting, seed: u64, blocks: bool) -> Parts {
     let mut best = parts.clone();
@@ -515,15 +521,19 @@ fn run_part(family: &str, given: &[Parts], options: &Options, thread: usize, sav
         let mut dice = Dice(options.seed.wrapping_mul(0x9e37_79b9).wrapping_add(i as u64) << 7 ^ family.len() as u64);
         let with = setting(&mut dice);
         let seed = dice.next();
-        // A body of `small` comes with its four tables, and once more with none (beside the first).
-        let again = family == "small" && parts[4] == [0, 0];
-        if family != "small" && dice.rare(8) {
-            parts[4].clear();
-        }
-        for turn in 0..1 + usize::from(again) {
-            if turn == 1 {
-                parts[4].clear();
+        let mut tables = vec![parts[4].clone()];
+        if family != "small" {
+            match dice.below(8) {
+                0 => tables[0].clear(),
+                1 | 2 if !tables[0].is_empty() => spoil(&mut dice, &mut tables[0]),
+                _ => {}
             }
+        } else if parts[4] == [0, 0] {
+            // A body of `small` comes with its four tables, and (beside the first) with none and with three that fail.
+            tables.extend([vec![], vec![1], vec![2], vec![1, 2]]);
+        }
+        for table in tables {
+            parts[4] = table;
             let ended = one(&parts, with, seed, options.blocks);
             tally.add(&ended);
             if let Some(what) = &ended.different {
@@ -555,7 +565,7 @@ fn report(family: &str, i: usize, parts: &Parts, with: Setting, seed: u64, what:
     let _ = fs::write(format!("{path}.txt"), text);
 }
 
-const FIRST: [&str; 13] = ["rewritten", "untouched", "1", "2", "3", "4", "5", "6", "7", "8", "9", "10", "11"];
+const FIRST: [&str; 14] = ["rewritten", "untouched", "1", "2", "3", "4", "5", "6", "17", "7", "8", "9", "10", "11"];
 const SECOND: [&str; 5] = ["10", "11", "12", "13", "14"];
 
 fn row(name: &str, tally: &Tally) -> String {

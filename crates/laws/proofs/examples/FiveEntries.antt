@@ -54,7 +54,7 @@ pub p1-to-p10 :
     × (five (0 ∷ 1 ∷ []) ≡ rewrite5 3 (place 12 12 0 ∷ place 16 13 1 ∷ place 18 14 1 ∷ place 21 17 1 ∷ []) (header5 0x0e ++ 0x01 ∷ 0x03 ∷ 0x02 ∷ 0x01 ∷ 0x0d ∷ 0x00 ∷ []))
     × (five (1 ∷ 1 ∷ []) ≡ untouched 5 none3)
     × (five (2 ∷ 0 ∷ []) ≡ refused″ 6)
-    × (five (1 ∷ []) ≡ refused″ 6)
+    × (five (1 ∷ []) ≡ refused″ 17)
     × (collectOf (sections abbreviations5 [] [] [] 0) room5 false [] ≡ untouched 0 noLists)
     × ((paddedAnswer 0 1 1 ≡ Written) × (paddedOut 0 1 1 ≡ 0x00 ∷ []) × (paddedAnswer 16 2 2 ≡ Written) × (paddedOut 16 2 2 ≡ 0x90 ∷ 0x00 ∷ []))
     × (paddedAnswer 128 1 1 ≡ Padded′ 15)

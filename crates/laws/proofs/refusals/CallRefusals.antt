@@ -1,13 +1,13 @@
 -- "A refusal carries a number of document 01", for the calls for C. Assumes nothing.
 use mathlib.Core.Path.{_≡_, refl}
 use Prim.Native.Nat.{ℕ}
-use mathlib.Core.List.{List, [], _∷_}
+use mathlib.Core.List.{List}
 use Rattle.readers.specs.Choice.{_and_, _or_}
 use Rattle.readers.proofs.Choice.{pick-either}
 use Rattle.laws.proofs.refusals.ReaderRefusals.{isOneOf, areOf, one-of, wider}
 use Rattle.rewriting.specs.Rewriting.{Room, Collected, untouched, rewritten, refused}
 use Rattle.rewriting.specs.Outputs.{answerFor}
-use Rattle.laws.specs.RefusalNumbers.{CollectRefusal, CallNumber}
+use Rattle.laws.specs.RefusalNumbers.{collectNumbers, CollectRefusal, CallNumber}
 use Rattle.laws.proofs.refusals.CollectRefusals.{collect-refusal}
 use Rattle.collector.specs.Call.{isUncounted, numberFor, collectedOf}
 
@@ -16,7 +16,7 @@ number-of : (n : ℕ) (c : Collected) → ((k : ℕ) → c ≡ refused k → Col
 unfolding numberFor answerFor isOneOf areOf _or_ _and_
 number-of n (untouched k l) h = pick-either CallNumber (isUncounted n) 258 256 (λ _. one-of _ 258 tt) (λ _. one-of _ 256 tt)
 number-of n (rewritten w) h = pick-either CallNumber (isUncounted n) 259 257 (λ _. one-of _ 259 tt) (λ _. one-of _ 257 tt)
-number-of n (refused k) h = wider (1 ∷ 2 ∷ 3 ∷ 4 ∷ 5 ∷ 6 ∷ 7 ∷ 8 ∷ 9 ∷ 10 ∷ 11 ∷ 12 ∷ 13 ∷ 14 ∷ []) _ k tt (h k refl)
+number-of n (refused k) h = wider collectNumbers _ k tt (h k refl)
 
 -- n is how many bytes the counts have
 pub call-number : (section abbreviations locations ranges addresses : List ℕ) (base typeUnits : ℕ) (room : Room) (n : ℕ)

@@ -9,17 +9,17 @@ use mathlib.Core.Logic.{inl, inr}
 use mathlib.Core.Option.{Option, none, some}
 use lib.ListN.{length, take}
 use lib.Dec.{T, leb, eqb}
-use mir.Facts.{eqb-no, leb-yes, leb-no, yes-eqb, no-eqb, yes-leb, no-leb}
+use mir.Facts.{eqb-no, leb-yes, leb-no, no-eqb, yes-leb, no-leb}
 use Rattle.readers.specs.Choice.{_and_, _or_}
 use Rattle.readers.proofs.Choice.{pick-either, pick-no, pick-yes}
-use Rattle.laws.specs.RefusalNumbers.{OneOf, CollectRefusal, PaddedRefusal}
+use Rattle.laws.specs.RefusalNumbers.{OneOf, entriesNumbers, CollectRefusal, PaddedRefusal}
 use Rattle.readers.specs.Abbreviations.{Placed, abbreviationsOf}
 use Rattle.readers.specs.Header.{headerOf}
 use Rattle.readers.specs.Layout.{Piece, verbatim, patchable, Read}
 use Rattle.readers.specs.declared.header.UnitHeader.{UnitHeader}
 use Rattle.readers.specs.declared.header.HeaderRead.{HeaderRead}
 use Rattle.readers.specs.declared.header.HeaderRead.the-variants.{Unit as Header′, Empty, Refused}
-use Rattle.laws.proofs.refusals.ReaderRefusals.{isOneOf, areOf, one-of, wider, header-refusal}
+use Rattle.laws.proofs.refusals.ReaderRefusals.{isOneOf, areOf, one-of, wider, not-one-of, header-refusal}
 use Rattle.marking.specs.Analysis.{Sections, EntryRow, Analysed, analysed, refused as notAnalysed, analysisOf}
 use Rattle.marking.specs.Marks.{keptCount}
 use Rattle.marking.specs.Resolution.{marksIn}
@@ -84,23 +84,6 @@ late-value n (inl e) t = absurd (eqb-no {a = n} {b = 0} t e)
 late-value n (inr o) t = o
 
 -- ---- collect
-
-or-first : (a b : Bool) → T (not (a or b)) → T a → ⊥
-unfolding _or_
-or-first true b t h = t
-or-first false b t h = h
-
-or-rest : (a b : Bool) → T (not (a or b)) → T (not b)
-unfolding _or_
-or-rest true b t = absurd t
-or-rest false b t = t
-
--- a number that is not one of some
-pub not-one-of : (ms : List ℕ) (n k : ℕ) → n ≡ k → T (not (isOneOf ms k)) → OneOf ms n → ⊥
-unfolding OneOf isOneOf _or_
-not-one-of [] n k e t o = o
-not-one-of (m ∷ ms) n k e t (inl q) = or-first (eqb k m) (isOneOf ms k) t (yes-eqb {a = k} {b = m} (sym e ∙ q))
-not-one-of (m ∷ ms) n k e t (inr o) = not-one-of ms n k e (or-rest (eqb k m) (isOneOf ms k) t) o
 
 is-true : (b : Bool) → T b → b ≡ true
 is-true true t = refl
@@ -244,7 +227,7 @@ module _ (x : Sections) (room : Room) (typeUnits : Bool) (section : List ℕ) wh
   unfolding isOneOf areOf OneOf _or_ _and_
   eight-at n e (at-header q r) = absurd (not-one-of (1 ∷ 2 ∷ []) n 8 e tt r)
   eight-at n e (at-abbreviations q d) = absurd (omega arith)
-  eight-at n e (at-entries q d a r) = absurd (not-one-of (4 ∷ 10 ∷ 5 ∷ 6 ∷ 7 ∷ 11 ∷ []) n 8 e tt r)
+  eight-at n e (at-entries q d a r) = absurd (not-one-of entriesNumbers n 8 e tt r)
   eight-at n e (at-lists u m l) = absurd (omega arith)
   eight-at n e (at-map u d p) = absurd (omega arith)
   eight-at n e (at-output u d p b) = absurd (omega arith)
@@ -255,7 +238,7 @@ module _ (x : Sections) (room : Room) (typeUnits : Bool) (section : List ℕ) wh
   unfolding isOneOf areOf OneOf _or_ _and_
   nine-at n e (at-header q r) = absurd (not-one-of (1 ∷ 2 ∷ []) n 9 e tt r)
   nine-at n e (at-abbreviations q d) = absurd (omega arith)
-  nine-at n e (at-entries q d a r) = absurd (not-one-of (4 ∷ 10 ∷ 5 ∷ 6 ∷ 7 ∷ 11 ∷ []) n 9 e tt r)
+  nine-at n e (at-entries q d a r) = absurd (not-one-of entriesNumbers n 9 e tt r)
   nine-at n e (at-lists u m l) = absurd (omega arith)
   nine-at n e (at-map u d p) = absurd (omega arith)
   nine-at n e (at-output u d p b) = absurd (omega arith)
@@ -274,14 +257,14 @@ module _ (x : Sections) (room : Room) (typeUnits : Bool) (section : List ℕ) wh
   unfolding isOneOf areOf _or_ _and_
   number-at n (at-header q r) = wider (1 ∷ 2 ∷ []) _ n tt r
   number-at n (at-abbreviations q d) = one-of _ 3 tt
-  number-at n (at-entries q d a r) = wider (4 ∷ 10 ∷ 5 ∷ 6 ∷ 7 ∷ 11 ∷ []) _ n tt r
+  number-at n (at-entries q d a r) = wider entriesNumbers _ n tt r
   number-at n (at-lists u m l) = one-of _ 12 tt
   number-at n (at-map u d p) = one-of _ 13 tt
   number-at n (at-output u d p b) = one-of _ 14 tt
   number-at n (at-place u d p b f) = one-of _ 8 tt
   number-at n (at-width u d p b f) = one-of _ 9 tt
 
-  -- "A refusal carries a number of document 01": 1 to 14
+  -- "A refusal carries a number of document 01", or of 02: 1 to 14, or 17
   pub collect-refusal : (n : ℕ) → collectOf x room typeUnits section ≡ refused n → CollectRefusal n
   collect-refusal n q = number-at n (refusal-law n q)
 

@@ -1,14 +1,17 @@
--- "A refusal carries a number of document 01": the root test's is 5 or 6, the analysis' one of 1 to 7, 10 and 11, `mark`'s 16. Assumes nothing.
+-- "A refusal carries a number of document 01", or of 02: the root test's is 5, 6 or 17, the analysis' one of 1 to 7, 17, 10 and 11, `mark`'s
+-- 16. Assumes nothing.
 use mathlib.Core.Path.{_≡_, refl, ap, sym, _∙_, subst}
 use Prim.Native.Nat.{ℕ}
 use native.Mathlib.Omega.{arith}
-use mathlib.Core.Bool.{Bool}
-use mathlib.Core.List.{List, [], _∷_}
+use mathlib.Core.List.{List, _∷_}
 use mathlib.Core.Option.{Option, none, some}
 use lib.ListN.{take}
+use lib.Dec.{T}
 use Rattle.readers.specs.Choice.{_and_, _or_}
 use Rattle.readers.proofs.Choice.{pick-either}
-use Rattle.laws.specs.RefusalNumbers.{OneOf, RootRefusal, ScanRefusal, EntriesRefusal, AnalysisRefusal, MarkRefusal}
+use Rattle.laws.specs.AddressTables.{Failure}
+use Rattle.laws.specs.RefusalNumbers.{OneOf, tableNumbers, RootRefusal, ScanRefusal, entriesNumbers, EntriesRefusal}
+use Rattle.laws.specs.RefusalNumbers.{analysisNumbers, AnalysisRefusal, MarkRefusal}
 use Rattle.readers.specs.Header.{headerOf}
 use Rattle.readers.specs.Abbreviations.{Placed, declaredIn, abbreviationsOf}
 use Rattle.readers.specs.Stream.{itemsFrom}
@@ -16,37 +19,28 @@ use Rattle.readers.specs.declared.cursor.Encoding.{Encoding}
 use Rattle.readers.specs.declared.header.UnitHeader.{UnitHeader}
 use Rattle.readers.specs.declared.header.HeaderRead.the-variants.{Unit as Unit′}
 use Rattle.readers.specs.declared.entries.Entry.{Entry as Entry′}
-use Rattle.readers.specs.declared.lists.ListOffset.{ListOffset}
-use Rattle.readers.specs.declared.lists.ListOffset.the-variants.{At, Unresolved}
-use Rattle.readers.specs.declared.operations.ListEntry.{ListEntry}
-use Rattle.readers.specs.declared.operations.ListStep.{ListStep}
-use Rattle.readers.specs.declared.operations.ListStep.the-variants.{Entry, End, Unreadable as NoEntry}
-use Rattle.readers.specs.declared.operations.OperationRead.{OperationRead}
-use Rattle.readers.specs.declared.operations.OperationRead.the-variants.{Read as Operation′, Unreadable as NoOperation}
-use Rattle.readers.specs.declared.attributes.Attribute.{Attribute}
 use Rattle.laws.proofs.refusals.ReaderRefusals.{isOneOf, areOf, one-of, wider}
-use Rattle.marking.specs.Addresses.{lookupAt}
-use Rattle.marking.specs.declared.addresses.AddressLookup.{AddressLookup}
-use Rattle.marking.specs.declared.addresses.AddressLookup.the-variants.{Live as Alive, Dead as NotAlive, Fails}
 use Rattle.marking.specs.declared.root_test.Verdict.{Verdict}
 use Rattle.marking.specs.declared.root_test.Verdict.the-variants.{Live, Dead, Refused as Failed}
 use Rattle.marking.specs.declared.units.UnitMarks.{UnitMarks}
 use Rattle.marking.specs.declared.units.UnitMarks.the-variants.{Marked, Refused as Refused″}
 use Rattle.marking.specs.declared.marks.Marked.{Marked as Marked′}
 use Rattle.marking.specs.declared.marks.Marked.the-variants.{Kept as KeptCount, Refused as Refused′}
-use Rattle.marking.specs.Walking.{go, stop}
-use Rattle.marking.specs.Roots.{Flagged, place, RootTurn, Ranges, orElse, onLookup, rangeEntry, rangeStep, rangesLive, operationStep, locationLive, olderStep, olderLive, lowPc, rootTest}
+use Rattle.marking.specs.Roots.{Ranges, rootTest}
 use Rattle.readers.specs.EntryAttributes.{Valued}
 use Rattle.marking.specs.EntryReferences.{ReferencesFound, found, refused as refusedAfter}
-use Rattle.marking.specs.Analysis.{Sections, Rooms, EntryRow, Analysed, analysed, refused as notAnalysed, onto, onVerdict, onFound, startOf, rootOf, namesOf, analyseItems, onDeclared, unitAnalysed, headerAnalysed, analysisOf}
+use Rattle.marking.specs.Analysis.{Sections, Rooms, EntryRow, Analysed, analysed, refused as notAnalysed, onto, onVerdict}
+use Rattle.marking.specs.Analysis.{onFound, startOf, rootOf, namesOf, analyseItems, onDeclared, unitAnalysed, headerAnalysed, analysisOf}
 use Rattle.marking.specs.Graph.{Graph, takes}
 use Rattle.marking.specs.Marks.{keptCount, marksOf, markAnswer}
 use Rattle.marking.specs.Resolution.{unitMarks}
-use Rattle.laws.proofs.refusals.WalkRefusals.{NextNumbered, walk-numbered}
 use Rattle.laws.proofs.refusals.ScanRefusals.{FoundNumbered, attributes-numbered}
-use Rattle.laws.proofs.tables.BySeveralTables.{entryNumbersButSix, Verdicts, Analyses, root-by, items-by, analysis-by}
+use Rattle.laws.proofs.tables.BySeveralTables.{entryNumbersButTable, root-by}
+use Rattle.laws.proofs.tables.FromLookups.{NoRefusal, verdicts-told, items-told, analysis-told}
+use Rattle.laws.proofs.tables.Failures.{failure-number}
+use Rattle.laws.proofs.tables.FirstFailure.{settling, settled-of}
 
--- ---- the root test: 5, and 6 where the address table fails
+-- ---- the root test: 5, and the table's own numbers
 
 -- a refusal is one of some numbers
 unfoldable pub VerdictOf : List ℕ → Verdict → Type 0
@@ -54,128 +48,34 @@ VerdictOf ms Live = Unit {0}
 VerdictOf ms Dead = Unit {0}
 VerdictOf ms (Failed n) = OneOf ms n
 
-lookup-numbered : {X : Type 0} (P : X → Type 0) (l : AddressLookup) (r : Verdict → X) (a b : X)
-    → (l ≡ Fails → P (r (Failed 6))) → P a → P b → P (onLookup l r a b)
-unfolding onLookup
-lookup-numbered P Alive r a b p q s = q
-lookup-numbered P NotAlive r a b p q s = s
-lookup-numbered P Fails r a b p q s = p refl
+-- the numbers with which a table fails
+abbrev pub FailuresOf : List ℕ → List ℕ → Type 0
+FailuresOf ms table = (index n : ℕ) → Failure table index n → OneOf ms n
 
--- 6 is among some numbers, if a table fails at all
-abbrev pub SixOf : List ℕ → List ℕ → Type 0
-SixOf ms table = (index : ℕ) → lookupAt table index ≡ Fails → OneOf ms 6
+pub either-failure : (ms table : List ℕ) → T (areOf ms tableNumbers) → FailuresOf ms table
+either-failure ms table t index n f = wider tableNumbers ms n t (failure-number table index n f)
 
-module _ (ms : List ℕ) (five : OneOf ms 5) where
-  abbrev VerdictNumbered : Verdict → Type 0
-  VerdictNumbered v = VerdictOf ms v
-
-  abbrev TurnNumbered : RootTurn → Type 0
-  TurnNumbered t = NextNumbered {S = Flagged} VerdictNumbered t
-
-  else-numbered : (v w : Verdict) → VerdictNumbered v → VerdictNumbered w → VerdictNumbered (orElse v w)
-  unfolding orElse VerdictOf
-  else-numbered Dead w p q = q
-  else-numbered Live w p q = tt
-  else-numbered (Failed n) w p q = p
-
-  fails-numbered : (n : ℕ) → OneOf ms n → VerdictNumbered (Failed n)
+module _ (ms : List ℕ) where
+  verdict-fine : (v : Verdict) → NoRefusal Failed v → VerdictOf ms v
   unfolding VerdictOf
-  fails-numbered n q = q
+  verdict-fine Live never = tt
+  verdict-fine Dead never = tt
+  verdict-fine (Failed n) never = absurd (never n refl)
 
-  live-numbered : VerdictNumbered Live
+  verdict-failed : (n : ℕ) → OneOf ms n → VerdictOf ms (Failed n)
   unfolding VerdictOf
-  live-numbered = tt
+  verdict-failed n o = o
 
-  dead-numbered : VerdictNumbered Dead
-  unfolding VerdictOf
-  dead-numbered = tt
-
-  stop-numbered : (v : Verdict) → VerdictNumbered v → TurnNumbered (stop v)
-  unfolding NextNumbered
-  stop-numbered v q = q
-
-  go-numbered : (p : Flagged) → TurnNumbered (go p)
-  unfolding NextNumbered
-  go-numbered p = tt
-
-  older-step-numbered : (t : ListStep) → TurnNumbered (olderStep t)
-  unfolding olderStep
-  older-step-numbered (Entry x) = pick-either TurnNumbered _ _ _ (λ _. go-numbered _) (λ _. stop-numbered _ live-numbered)
-  older-step-numbered End = stop-numbered _ dead-numbered
-  older-step-numbered NoEntry = stop-numbered _ (fails-numbered 5 five)
-
-  older-numbered : (e : Encoding) (s : List ℕ) (o : ListOffset) → VerdictNumbered (olderLive e s o)
-  unfolding olderLive
-  older-numbered e s (At c) = walk-numbered VerdictNumbered _ _ (λ p. older-step-numbered _) dead-numbered place _ _
-  older-numbered e s Unresolved = live-numbered
-
-  module _ (e : Encoding) (table : List ℕ) (six : SixOf ms table) where
-    asked-turn : (index : ℕ) (a b : RootTurn) → TurnNumbered a → TurnNumbered b → TurnNumbered (onLookup (lookupAt table index) stop a b)
-    asked-turn index a b p q = lookup-numbered TurnNumbered _ _ _ _ (λ z. stop-numbered _ (fails-numbered 6 (six index z))) p q
-
-    entry-numbered : (dead : Bool) (x : ListEntry) → TurnNumbered (rangeEntry e table dead x)
-    unfolding rangeEntry
-    entry-numbered dead x =
-        pick-either TurnNumbered _ _ _ (λ _. asked-turn _ _ _ (go-numbered _) (go-numbered _))
-        (λ _. pick-either TurnNumbered _ _ _ (λ _. asked-turn _ _ _ (stop-numbered _ live-numbered) (go-numbered _))
-        (λ _. pick-either TurnNumbered _ _ _ (λ _. pick-either TurnNumbered _ _ _ (λ _. go-numbered _) (λ _. stop-numbered _ live-numbered))
-        (λ _. pick-either TurnNumbered _ _ _ (λ _. go-numbered _)
-        (λ _. pick-either TurnNumbered _ _ _ (λ _. go-numbered _) (λ _. stop-numbered _ live-numbered)))))
-
-    step-numbered : (dead : Bool) (t : ListStep) → TurnNumbered (rangeStep e table dead t)
-    unfolding rangeStep
-    step-numbered dead (Entry x) = entry-numbered dead x
-    step-numbered dead End = stop-numbered _ dead-numbered
-    step-numbered dead NoEntry = stop-numbered _ (fails-numbered 5 five)
-
-    ranges-numbered : (s : List ℕ) (o : ListOffset) → VerdictNumbered (rangesLive e table s o)
-    unfolding rangesLive
-    ranges-numbered s (At c) = walk-numbered VerdictNumbered _ _ (λ p. step-numbered _ _) dead-numbered place _ _
-    ranges-numbered s Unresolved = live-numbered
-
-    operation-numbered : (live : Bool) (o : OperationRead) → TurnNumbered (operationStep e table live o)
-    unfolding operationStep
-    operation-numbered live (Operation′ op) =
-        pick-either TurnNumbered _ _ _ (λ _. asked-turn _ _ _ (go-numbered _) (go-numbered _)) (λ _. go-numbered _)
-    operation-numbered live NoOperation = stop-numbered _ (fails-numbered 5 five)
-
-    location-numbered : (s : List ℕ) → VerdictNumbered (locationLive e table s)
-    unfolding locationLive
-    location-numbered s =
-        walk-numbered VerdictNumbered _ _
-        (λ p. pick-either TurnNumbered _ _ _ (λ _. operation-numbered _ _)
-        (λ _. stop-numbered _ (pick-either VerdictNumbered _ _ _ (λ _. live-numbered) (λ _. dead-numbered))))
-        dead-numbered place _ _
-
-    low-numbered : (v : Attribute) → VerdictNumbered (lowPc e table v)
-    unfolding lowPc
-    low-numbered v =
-        pick-either VerdictNumbered _ _ _
-        (λ _. lookup-numbered VerdictNumbered _ _ _ _ (λ z. fails-numbered 6 (six _ z)) live-numbered dead-numbered)
-        (λ _. pick-either VerdictNumbered _ _ _ (λ _. pick-either VerdictNumbered _ _ _ (λ _. dead-numbered) (λ _. live-numbered)) (λ _. live-numbered))
-
-  -- by one table
-  numbered : (table : List ℕ) → SixOf ms table → Verdicts {I = Unit {0}} (λ i. table) (λ v. VerdictNumbered (v tt))
-  numbered table six =
-      record {
-        of-live = live-numbered;
-        of-dead = dead-numbered;
-        of-else = λ v w p q. else-numbered (v tt) (w tt) p q;
-        of-low-pc = λ e a. low-numbered e table six a;
-        of-location = λ e s. location-numbered e table six s;
-        of-ranges = λ e s o. ranges-numbered e table six s o;
-        of-older = λ e s o. older-numbered e s o;
-      }
-
-  root-numbered : (e : Encoding) (x : Ranges) → SixOf ms (x .table) → (unit : List ℕ) (tag : ℕ) (vs : List Valued)
-      → VerdictNumbered (rootTest e x unit tag vs)
-  root-numbered e x six unit tag vs =
-      root-by (λ (i : Unit {0}). x .table) (numbered (x .table) six) e (x .ranges) (x .rangesBase) (x .rnglistsBase) unit tag vs
+  root-numbered : OneOf ms 5 → (e : Encoding) (x : Ranges) → FailuresOf ms (x .table) → (unit : List ℕ) (tag : ℕ) (vs : List Valued)
+      → VerdictOf ms (rootTest e x unit tag vs)
+  root-numbered five e x fails unit tag vs =
+      settled-of (x .table) ms fails Failed (VerdictOf ms) verdict-fine verdict-failed _
+      (root-by (λ (t : List ℕ). t) (verdicts-told (settling (x .table) ms) five) e (x .ranges) (x .rangesBase) (x .rnglistsBase) unit tag vs)
 
 pub root-refusal : (e : Encoding) (x : Ranges) (unit : List ℕ) (tag : ℕ) (vs : List Valued) (n : ℕ) → rootTest e x unit tag vs ≡ Failed n → RootRefusal n
-unfolding VerdictOf isOneOf _or_
+unfolding VerdictOf isOneOf areOf _or_ _and_
 root-refusal e x unit tag vs n q =
-    subst (VerdictOf (5 ∷ 6 ∷ [])) q (root-numbered _ (one-of _ 5 tt) e x (λ index z. one-of _ 6 tt) unit tag vs)
+    subst (VerdictOf (5 ∷ tableNumbers)) q (root-numbered _ (one-of _ 5 tt) e x (either-failure _ (x .table) tt) unit tag vs)
 
 -- ---- the analysis
 
@@ -213,72 +113,63 @@ unfolding onFound FoundNumbered
 names-of ms t (found xs) k q h = h xs refl
 names-of ms t (refusedAfter xs n) k q h = none-of ms n (t n q)
 
-abbrev entryNumbers : List ℕ
-entryNumbers = 4 ∷ 10 ∷ 5 ∷ 6 ∷ 7 ∷ 11 ∷ []
-
-abbrev analysisNumbers : List ℕ
-analysisNumbers = 1 ∷ 2 ∷ 3 ∷ 4 ∷ 5 ∷ 6 ∷ 7 ∷ 10 ∷ 11 ∷ []
-
 module _ (e : Encoding) (x : Sections) (unit : List ℕ) where
-  pub root-of : (ms : List ℕ) → OneOf ms 5 → SixOf ms (x .addresses) → (base : ℕ) (y : Entry′) → VerdictOf ms (rootOf e x unit base y)
+  pub root-of : (ms : List ℕ) → OneOf ms 5 → FailuresOf ms (x .addresses) → (base : ℕ) (y : Entry′) → VerdictOf ms (rootOf e x unit base y)
   unfolding rootOf
-  root-of ms five six base y = root-numbered ms five e _ six unit _ _
+  root-of ms five fails base y = root-numbered ms five e _ fails unit _ _
 
   pub references-of : (base : ℕ) (y : Entry′) → FoundNumbered (namesOf e x unit base y)
   unfolding namesOf
   references-of base y = attributes-numbered e _ _
 
-numbered-rows : (ms : List ℕ) → ((n : ℕ) → OneOf entryNumbersButSix n → OneOf ms n)
-    → Analyses {I = Unit {0}} (λ v. VerdictOf ms (v tt)) (λ root. Unit {0}) (λ a. AnalysedOf ms (a tt))
-numbered-rows ms others =
-    record {
-      of-end = rows-of ms [];
-      of-refused = λ n o. none-of ms n (others n o);
-      of-verdict = λ v p k each. verdict-of ms (v tt) (k tt) p (λ n. each (λ i. n) tt);
-      of-onto = λ offset parent names root r a q. onto-of ms _ (a tt) q;
-    }
+analysed-fine : (ms : List ℕ) (a : Analysed) → NoRefusal notAnalysed a → AnalysedOf ms a
+analysed-fine ms (analysed rows) never = rows-of ms rows
+analysed-fine ms (notAnalysed n) never = absurd (never n refl)
 
--- some numbers, among them all but 6
+-- some numbers, among them all but the table's
 abbrev AnalysisOthers : List ℕ → Type 0
-AnalysisOthers ms = (n : ℕ) → OneOf (1 ∷ 2 ∷ 3 ∷ entryNumbersButSix) n → OneOf ms n
+AnalysisOthers ms = (n : ℕ) → OneOf (1 ∷ 2 ∷ 3 ∷ entryNumbersButTable) n → OneOf ms n
 
-pub analysis-of : (ms : List ℕ) → AnalysisOthers ms → (x : Sections) → SixOf ms (x .addresses) → (section : List ℕ) (room : Rooms)
+pub analysis-of : (ms : List ℕ) → AnalysisOthers ms → (x : Sections) → FailuresOf ms (x .addresses) → (section : List ℕ) (room : Rooms)
     → AnalysedOf ms (analysisOf x section room)
+analysis-of ms others x fails section room =
+    settled-of (x .addresses) ms fails notAnalysed (AnalysedOf ms) (analysed-fine ms) (none-of ms) _
+    (analysis-told (settling (x .addresses) ms) others x section room)
+
+analysis-numbered : (x : Sections) (section : List ℕ) (room : Rooms) → AnalysedOf analysisNumbers (analysisOf x section room)
 unfolding isOneOf areOf _or_ _and_
-analysis-of ms others x six section room =
-    analysis-by (λ (i : Unit {0}). x .addresses) (numbered ms (others 5 (one-of _ 5 tt)) (x .addresses) six)
-    (numbered-rows ms (λ n o. others n (wider entryNumbersButSix _ n tt o))) x (λ n o. none-of ms n (others n (wider (1 ∷ 2 ∷ 3 ∷ []) _ n tt o)))
-    section room
-
-any-six : (x : Sections) → SixOf analysisNumbers (x .addresses)
-unfolding isOneOf _or_
-any-six x index z = one-of analysisNumbers 6 tt
-
-all-others : AnalysisOthers analysisNumbers
-unfolding isOneOf areOf _or_ _and_
-all-others n o = wider (1 ∷ 2 ∷ 3 ∷ entryNumbersButSix) analysisNumbers n tt o
-
-abbrev analysis-numbered : (x : Sections) (section : List ℕ) (room : Rooms) → AnalysedOf analysisNumbers (analysisOf x section room)
-analysis-numbered x section room = analysis-of analysisNumbers all-others x (any-six x) section room
+analysis-numbered x section room =
+    analysis-of analysisNumbers (λ n o. wider (1 ∷ 2 ∷ 3 ∷ entryNumbersButTable) analysisNumbers n tt o) x
+    (either-failure analysisNumbers (x .addresses) tt) section room
 
 -- "A refusal carries a number of document 01"
 pub analysis-refusal : (x : Sections) (section : List ℕ) (room : Rooms) (n : ℕ) → analysisOf x section room ≡ notAnalysed n → AnalysisRefusal n
 analysis-refusal x section room n q = analysed-of analysisNumbers (analysisOf x section room) n (analysis-numbered x section room) q
 
--- where the header and the abbreviations are read, it is one of the entries
+-- what is analysed where the header is read
+abbrev pub declaredAnalysed : Sections → List ℕ → Rooms → UnitHeader → Option (List Placed) → Analysed
+declaredAnalysed x section room h o =
+    onDeclared o
+    (λ ds.
+    let items = itemsFrom (h .encoding) (x .abbreviations) (declaredIn ds) (take (h .end) section) (h .first .0) in
+    analyseItems (h .encoding) x (take (h .end) section) room startOf (items .0) (items .1))
+
+-- where the abbreviations are read too, it is one of the entries
 declared-entries : (x : Sections) (section : List ℕ) (room : Rooms) (h : UnitHeader) (o : Option (List Placed)) (ds : List Placed) → o ≡ some ds
-    → AnalysedOf entryNumbers (onDeclared o (λ ds. analyseItems (h .encoding) x (take (h .end) section) room startOf (itemsFrom (h .encoding) (x .abbreviations) (declaredIn ds) (take (h .end) section) (h .first .0) .0) (itemsFrom (h .encoding) (x .abbreviations) (declaredIn ds) (take (h .end) section) (h .first .0) .1)))
+    → AnalysedOf entriesNumbers (declaredAnalysed x section room h o)
 unfolding onDeclared isOneOf areOf _or_ _and_
 declared-entries x section room h none ds q = let z : _≡_ {A = ℕ} 0 1 = cc in absurd (omega arith)
 declared-entries x section room h (some es) ds q =
-    items-by (λ (i : Unit {0}). x .addresses) (numbered entryNumbers (one-of entryNumbers 5 tt) (x .addresses) (λ index z. one-of entryNumbers 6 tt))
-    (numbered-rows entryNumbers (λ n o. wider entryNumbersButSix entryNumbers n tt o)) x (h .encoding) (take (h .end) section) room startOf _ _
+    settled-of (x .addresses) entriesNumbers (either-failure entriesNumbers (x .addresses) tt) notAnalysed (AnalysedOf entriesNumbers)
+    (analysed-fine entriesNumbers) (none-of entriesNumbers) _
+    (items-told (settling (x .addresses) entriesNumbers) (λ n o. wider entryNumbersButTable entriesNumbers n tt o) x (h .encoding)
+    (take (h .end) section) room startOf _ _)
 
 pub entries-refusal : (x : Sections) (section : List ℕ) (room : Rooms) (h : UnitHeader) (ds : List Placed) (n : ℕ)
     → headerOf section ≡ Unit′ h → abbreviationsOf (x .abbreviations) (h .abbreviations) ≡ some ds → analysisOf x section room ≡ notAnalysed n → EntriesRefusal n
 unfolding analysisOf headerAnalysed unitAnalysed
 entries-refusal x section room h ds n q d a =
-    analysed-of entryNumbers _ n (declared-entries x section room h (abbreviationsOf (x .abbreviations) (h .abbreviations)) ds d)
+    analysed-of entriesNumbers _ n (declared-entries x section room h (abbreviationsOf (x .abbreviations) (h .abbreviations)) ds d)
     (sym (ap (headerAnalysed x section room) q) ∙ a)
 
 -- ---- marks

@@ -1,12 +1,12 @@
 -- "A refusal carries a number of document 01": the header's is 1 or 2, that of the references of an expression 2, 5, 7 or 11. Assumes nothing.
-use mathlib.Core.Path.{_≡_, sym, subst}
+use mathlib.Core.Path.{_≡_, sym, _∙_, subst}
 use Prim.Native.Nat.{ℕ, _-_, _/_}
-use mathlib.Core.Bool.{Bool, true, false}
+use mathlib.Core.Bool.{Bool, true, false, not}
 use mathlib.Core.List.{List, [], _∷_}
 use mathlib.Core.Logic.{_⊎_, inl, inr, ⊎-elim}
 use lib.ListN.{length}
 use lib.Dec.{T, eqb, leb}
-use mir.Facts.{eqb-yes}
+use mir.Facts.{eqb-yes, yes-eqb}
 use Rattle.readers.specs.Choice.{_and_, _or_}
 use Rattle.readers.proofs.Choice.{pick-either, and-both}
 use Rattle.readers.specs.Header.{present, right, encodingOf, headerMade, headerFields, headerOf}
@@ -48,6 +48,34 @@ unfolding OneOf areOf
 wider [] ks n t o = absurd o
 wider (m ∷ ms) ks n t (inl e) = subst (OneOf ks) (sym e) (one-of ks m (and-both (isOneOf ks m) (areOf ks ms) t .0))
 wider (m ∷ ms) ks n t (inr o) = wider ms ks n (and-both (isOneOf ks m) (areOf ks ms) t .1) o
+
+or-first : (a b : Bool) → T (not (a or b)) → T a → ⊥
+unfolding _or_
+or-first true b t h = t
+or-first false b t h = h
+
+or-rest : (a b : Bool) → T (not (a or b)) → T (not b)
+unfolding _or_
+or-rest true b t = absurd t
+or-rest false b t = t
+
+-- a number that is not one of some
+pub not-one-of : (ms : List ℕ) (n k : ℕ) → n ≡ k → T (not (isOneOf ms k)) → OneOf ms n → ⊥
+unfolding OneOf isOneOf _or_
+not-one-of [] n k e t o = o
+not-one-of (m ∷ ms) n k e t (inl q) = or-first (eqb k m) (isOneOf ms k) t (yes-eqb {a = k} {b = m} (sym e ∙ q))
+not-one-of (m ∷ ms) n k e t (inr o) = not-one-of ms n k e (or-rest (eqb k m) (isOneOf ms k) t) o
+
+-- none of some is one of others
+unfoldable pub areApart : List ℕ → List ℕ → Bool
+areApart ks [] = true
+areApart ks (m ∷ ms) = not (isOneOf ks m) and areApart ks ms
+
+pub apart : (ms ks : List ℕ) (n : ℕ) → T (areApart ks ms) → OneOf ms n → OneOf ks n → ⊥
+unfolding OneOf areApart
+apart [] ks n t o p = o
+apart (m ∷ ms) ks n t (inl e) p = not-one-of ks n m e (and-both (not (isOneOf ks m)) (areApart ks ms) t .0) p
+apart (m ∷ ms) ks n t (inr o) p = apart ms ks n (and-both (not (isOneOf ks m)) (areApart ks ms) t .1) o p
 
 -- one of one
 pub alone : (m n : ℕ) → OneOf (m ∷ []) n → n ≡ m

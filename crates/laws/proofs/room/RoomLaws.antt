@@ -13,7 +13,7 @@ use lib.Dec.{T, leb, ltb, eqb}
 use mir.Facts.{leb-yes, leb-no, yes-leb, no-leb, yes-eqb, no-eqb}
 use Rattle.readers.specs.Choice.{pick, _and_, _or_}
 use Rattle.readers.proofs.Choice.{pick-either, pick-yes, pick-no, either}
-use Rattle.laws.specs.RefusalNumbers.{OneOf, RoomyRefusal}
+use Rattle.laws.specs.RefusalNumbers.{inputNumbers, roomyNumbers, RoomyRefusal}
 use Rattle.readers.specs.Abbreviations.{Placed, abbreviationsOf}
 use Rattle.readers.specs.Header.{headerOf}
 use Rattle.readers.specs.Stream.{Item, entry, terminator}
@@ -21,7 +21,7 @@ use Rattle.readers.specs.declared.header.UnitHeader.{UnitHeader}
 use Rattle.readers.specs.declared.header.HeaderRead.{HeaderRead}
 use Rattle.readers.specs.declared.header.HeaderRead.the-variants.{Unit as Header′, Empty, Refused}
 use Rattle.readers.specs.Nesting.{opened, closed}
-use Rattle.laws.proofs.refusals.ReaderRefusals.{isOneOf, areOf, one-of, wider, header-refusal}
+use Rattle.laws.proofs.refusals.ReaderRefusals.{isOneOf, areOf, one-of, wider, areApart, apart, header-refusal}
 use Rattle.marking.specs.Analysis.{Sections, Rooms, EntryRow, Analysed, analysed, refused as notAnalysed, onDeclared, unitAnalysed, headerAnalysed, analysisOf}
 use Rattle.marking.specs.Columns.{namesIn}
 use Rattle.marking.specs.Marks.{isKept, keptCount}
@@ -475,9 +475,6 @@ list-count x u absent k kept =
 
 -- ---- with it, neither 10 to 14
 
-abbrev roomyNumbers : List ℕ
-roomyNumbers = 1 ∷ 2 ∷ 3 ∷ 4 ∷ 5 ∷ 6 ∷ 7 ∷ 8 ∷ 9 ∷ []
-
 unfoldable Roomy : Collected → Type 0
 Roomy (untouched n l) = Unit {0}
 Roomy (rewritten w) = Unit {0}
@@ -525,7 +522,7 @@ module _ (x : Sections) (lent : Room) (typeUnits : Bool) (section : List ℕ) wh
   analysed-roomy : (u : Unit′) → Within (unitRoom x u (enoughTables x section)) lent → (o : Analysed) → analysisOf x section (lent .tables) ≡ o → Roomy (analysedCollected x lent typeUnits u o)
   unfolding analysedCollected Roomy unitRoom areOf isOneOf _or_ _and_
   analysed-roomy u w (analysed rows) a = rows-roomy u (enoughTables x section) w rows
-  analysed-roomy u w (notAnalysed n) a = wider (1 ∷ 2 ∷ 3 ∷ 4 ∷ 5 ∷ 6 ∷ 7 ∷ []) roomyNumbers n tt (enough-tables x section (lent .tables) (w .tables) n a)
+  analysed-roomy u w (notAnalysed n) a = wider inputNumbers roomyNumbers n tt (enough-tables x section (lent .tables) (w .tables) n a)
 
   declared-roomy : (h : UnitHeader) (o : Option (List Placed)) → Within (declaredRoom x section h o) lent → Roomy (declaredCollected x lent typeUnits section h o)
   unfolding declaredCollected declaredRoom Roomy isOneOf _or_
@@ -544,28 +541,6 @@ module _ (x : Sections) (lent : Room) (typeUnits : Bool) (section : List ℕ) wh
   enough-law w n q = subst Roomy q (header-roomy (headerOf section) refl w)
 
 -- ---- every room: an accepted answer stays, or something is too short
-
--- what holds of each of some numbers holds of one of them
-unfoldable EachOf : (ℕ → Type 0) → List ℕ → Type 0
-EachOf P [] = Unit {0}
-EachOf P (m ∷ ms) = P m × EachOf P ms
-
-one-by : (P : ℕ → Type 0) (ms : List ℕ) (n : ℕ) → EachOf P ms → OneOf ms n → P n
-unfolding EachOf OneOf
-one-by P [] n e o = absurd o
-one-by P (m ∷ ms) n e (inl q) = subst P (sym q) (e .0)
-one-by P (m ∷ ms) n e (inr o) = one-by P ms n (e .1) o
-
-roomy-most : (n : ℕ) → RoomyRefusal n → n ≤ 9
-unfolding EachOf
-roomy-most n o =
-    one-by (λ (m : ℕ). m ≤ 9) roomyNumbers n
-    (omega arith, (omega arith, (omega arith, (omega arith, (omega arith, (omega arith, (omega arith, (omega arith, (omega arith, tt))))))))) o
-
-short-least : (n : ℕ) → OneOf (10 ∷ 11 ∷ 12 ∷ 13 ∷ 14 ∷ []) n → 10 ≤ n
-unfolding EachOf
-short-least n o =
-    one-by (λ (m : ℕ). 10 ≤ m) (10 ∷ 11 ∷ 12 ∷ 13 ∷ 14 ∷ []) n (omega arith, (omega arith, (omega arith, (omega arith, (omega arith, tt))))) o
 
 module _ (x : Sections) (typeUnits : Bool) (section : List ℕ) (c : Collected) (rows : List EntryRow) (need lent : Room) (law : RoomLaw x typeUnits section c rows need)
     (entries-are : need .tables .entries ≡ length rows) (references-are : need .tables .references ≡ length (namesIn rows)) where
@@ -631,7 +606,8 @@ module _ (x : Sections) (room : Room) (typeUnits : Bool) (section : List ℕ) (c
 
   -- it is accepted, and the same, with room that is enough for the input
   pub enough-same : (lent : Room) → Within (enoughRoom x section) lent → collectOf x lent typeUnits section ≡ c
+  unfolding isOneOf areApart _or_ _and_
   enough-same lent w =
       ⊎-elim (λ q. q)
-      (λ s. absurd (omega (arith, roomy-most (s .number) (enough-law x lent typeUnits section w (s .number) (s .answer)), short-least (s .number) (s .one))))
+      (λ s. absurd (apart roomyNumbers (10 ∷ 11 ∷ 12 ∷ 13 ∷ 14 ∷ []) (s .number) tt (enough-law x lent typeUnits section w (s .number) (s .answer)) (s .one)))
       (every-room-law lent)

@@ -28,10 +28,11 @@ use Rattle.marking.specs.declared.root_test.Verdict.{Verdict}
 use Rattle.marking.specs.declared.root_test.Verdict.the-variants.{Live, Dead, Refused as Failed}
 use Rattle.marking.specs.Analysis.{Sections, Rooms, EntryRow, Analysed, analysed, refused, onto, onVerdict, onFound, Reached, reached, startOf, rootOf, namesOf, baseOf, analyseItems, onDeclared, unitAnalysed, headerAnalysed, analysisOf}
 use Rattle.marking.specs.Columns.{namesIn}
-use Rattle.laws.specs.RefusalNumbers.{InputRefusal}
+use Rattle.laws.specs.RefusalNumbers.{inputNumbers, InputRefusal}
 use Rattle.laws.specs.TableRoom.{TablesWithin, tablesFor, TableLaw, foundCount, referenceCount, declaredTables, headerTables, enoughTables}
 use Rattle.marking.proofs.Rows.{Gives, gives-of, gives-onto, gives-map, gives-refused, UnitRows, analysis-rows}
-use Rattle.laws.proofs.refusals.MarkingRefusals.{AnalysedOf, analysed-of, none-of, rows-of, onto-of, verdict-of, names-of, root-of, references-of}
+use Rattle.laws.proofs.refusals.MarkingRefusals.{either-failure, AnalysedOf, analysed-of, none-of, rows-of, onto-of, verdict-of}
+use Rattle.laws.proofs.refusals.MarkingRefusals.{names-of, root-of, references-of, declaredAnalysed}
 
 -- the references of the first entries
 abbrev pub namesOfFirst : ℕ → List EntryRow → ℕ
@@ -231,9 +232,6 @@ tables-lent x w section rows q =
 
 -- ---- with tables that are enough for the input, neither 10 nor 11
 
-abbrev inputNumbers : List ℕ
-inputNumbers = 1 ∷ 2 ∷ 3 ∷ 4 ∷ 5 ∷ 6 ∷ 7 ∷ []
-
 found-count : (f : ReferencesFound) (xs : List ℕ) → f ≡ found xs → foundCount f ≡ length xs
 unfolding foundCount
 found-count f xs q = ap foundCount q
@@ -251,7 +249,7 @@ module _ (e : Encoding) (x : Sections) (unit : List ℕ) (room : Rooms) where
       let h′ : p .count + suc (entryCount rest) ≤ room .entries = h in
       let k′ : p .references + (foundCount (namesOf e x unit (baseOf e x unit 0x8c (p .loclistsBase) y) y) + referenceCount e x unit (baseOf e x unit 0x8c (p .loclistsBase) y) rest) ≤ room .references = k in
       pick-either (AnalysedOf inputNumbers) (ltb (p .count) (room .entries)) _ _
-      (λ _. verdict-of inputNumbers _ _ (root-of e x unit inputNumbers (one-of inputNumbers 5 tt) (λ index z. one-of inputNumbers 6 tt) _ y)
+      (λ _. verdict-of inputNumbers _ _ (root-of e x unit inputNumbers (one-of inputNumbers 5 tt) (either-failure inputNumbers (x .addresses) tt) _ y)
       (λ root. names-of inputNumbers (λ n q. wider (5 ∷ 7 ∷ []) inputNumbers n tt q) _ _ (references-of e x unit _ y)
       (λ names q.
       let c : foundCount (namesOf e x unit (baseOf e x unit 0x8c (p .loclistsBase) y) y) ≡ length names = found-count _ names q in
@@ -262,7 +260,7 @@ module _ (e : Encoding) (x : Sections) (unit : List ℕ) (room : Rooms) where
 
 module _ (x : Sections) (section : List ℕ) (room : Rooms) where
   declared-input : (h : UnitHeader) (o : Option (List Placed)) → TablesWithin (declaredTables (h .encoding) x (take (h .end) section) (h .first .0) o) room
-      → AnalysedOf inputNumbers (onDeclared o (λ ds. analyseItems (h .encoding) x (take (h .end) section) room startOf (itemsFrom (h .encoding) (x .abbreviations) (declaredIn ds) (take (h .end) section) (h .first .0) .0) (itemsFrom (h .encoding) (x .abbreviations) (declaredIn ds) (take (h .end) section) (h .first .0) .1)))
+      → AnalysedOf inputNumbers (declaredAnalysed x section room h o)
   unfolding onDeclared declaredTables isOneOf _or_
   declared-input h none t = none-of inputNumbers 3 (one-of inputNumbers 3 tt)
   declared-input h (some ds) t =

@@ -1,31 +1,15 @@
--- A root test by tables of ones: from some length on, they answer as the empty table does. Assumes nothing.
-use mathlib.Core.Path.{_≡_, refl, ap, ap₂, sym, _∙_}
+-- What is asked by tables of ones: from some length on the answer is that by the empty table. Assumes nothing.
+use mathlib.Core.Path.{_≡_, refl, ap, sym, _∙_}
 use Prim.Native.Nat.{ℕ, zero, suc, _+_, _<_}
 use native.Mathlib.Omega.{arith}
-use mathlib.Core.Bool.{Bool, true, false}
 use mathlib.Core.List.{List, []}
+use mathlib.Core.Logic.{_⊎_, inl, inr}
 use lib.ListN.{length, getD}
-use lib.Dec.{ltb}
-use Rattle.readers.specs.Choice.{pick}
-use Rattle.readers.specs.Steps.{operationAt, listEntryAt}
-use Rattle.readers.specs.declared.cursor.Encoding.{Encoding}
-use Rattle.readers.specs.declared.lists.ListOffset.{ListOffset}
-use Rattle.readers.specs.declared.lists.ListOffset.the-variants.{At, Unresolved}
-use Rattle.readers.specs.declared.operations.ListEntry.{ListEntry}
-use Rattle.readers.specs.declared.operations.ListStep.{ListStep}
-use Rattle.readers.specs.declared.operations.ListStep.the-variants.{Entry, End, Unreadable as NoEntry}
-use Rattle.readers.specs.declared.operations.OperationRead.{OperationRead}
-use Rattle.readers.specs.declared.operations.OperationRead.the-variants.{Read as Operation′, Unreadable as NoOperation}
-use Rattle.readers.specs.declared.attributes.Attribute.{Attribute}
 use Rattle.marking.specs.Addresses.{lookupAt}
 use Rattle.marking.proofs.Lookups.{no-table, byte-one}
-use Rattle.marking.specs.declared.root_test.Verdict.{Verdict}
-use Rattle.marking.specs.declared.root_test.Verdict.the-variants.{Live, Dead}
-use Rattle.marking.specs.Walking.{Next, go, stop, onNext, walkWithin, walk}
-use Rattle.marking.specs.Roots.{Flagged, place, orElse, rangeEntry, rangeStep, rangesLive}
-use Rattle.marking.specs.Roots.{operationStep, locationLive, lowPc}
+use Rattle.marking.specs.declared.addresses.AddressLookup.the-variants.{Live, Fails}
 use Rattle.laws.specs.AddressTables.{ones, Eventually}
-use Rattle.laws.proofs.tables.BySeveralTables.{Verdicts}
+use Rattle.laws.proofs.tables.FromLookups.{NoRefusal, Carried}
 
 -- ---- from some number on
 
@@ -44,32 +28,7 @@ pub soon-then : {X Y : Type 0} (g : ℕ → X → Y) (f : ℕ → X) (c : X) (d 
 soon-then g f c d s t =
     record { from = s .from + t .from; holds = λ n l. ap (g n) (s .holds n (omega arith)) ∙ t .holds n (omega arith) }
 
-soon-pick : {X : Type 0} (b : Bool) (f g : ℕ → X) (c d : X) → Soon f c → Soon g d → Soon (λ n. pick b (f n) (g n)) (pick b c d)
-unfolding pick
-soon-pick true f g c d s t = s
-soon-pick false f g c d s t = t
-
--- ---- walks
-
-next-soon : {S B : Type 0} (t : Next S B) (k : ℕ → S → B) (h : S → B) → ((s : S) → Soon (λ n. k n s) (h s))
-    → Soon (λ n. onNext t (λ s. k n s)) (onNext t (λ s. h s))
-unfolding onNext
-next-soon (go s) k h each = each s
-next-soon (stop b) k h each = at-once b
-
-module _ {S B : Type 0} (f : ℕ → S → Next S B) (g : S → Next S B) (d : B) (each : (s : S) → Soon (λ n. f n s) (g s)) where
-  within-soon : (k : ℕ) (s : S) → Soon (λ n. walkWithin k (f n) d s) (walkWithin k g d s)
-  unfolding walkWithin
-  within-soon zero s = at-once d
-  within-soon (suc k) s =
-      soon-then (λ n t. onNext t (λ r. walkWithin k (f n) d r)) (λ n. f n s) (g s) _ (each s)
-      (next-soon (g s) (λ n r. walkWithin k (f n) d r) (λ r. walkWithin k g d r) (λ r. within-soon k r))
-
-  walk-soon : (at : S → ℕ) (end : ℕ) (s : S) → Soon (λ n. walk at end (f n) d s) (walk at end g d s)
-  unfolding walk
-  walk-soon at end s = within-soon _ s
-
--- ---- the root test
+-- ---- tables of ones
 
 ones-length : (n : ℕ) → length (ones n) ≡ n
 unfolding ones
@@ -91,59 +50,38 @@ lookup-soon i =
           sym (byte-one (ones n) i (omega (arith, ones-length n)) (λ z. omega arith) one) ∙ no-table [] i refl;
     }
 
-else-soon : (f g : ℕ → Verdict) (v w : Verdict) → Soon f v → Soon g w → Soon (λ n. orElse (f n) (g n)) (orElse v w)
-else-soon f g v w s t =
-    record { from = s .from + t .from; holds = λ n l. ap₂ orElse (s .holds n (omega arith)) (t .holds n (omega arith)) }
+-- ---- by tables of ones as by the empty one, which is that of length 0
 
-module _ (e : Encoding) where
-  entry-soon : (dead : Bool) (x : ListEntry) → Soon (λ n. rangeEntry e (ones n) dead x) (rangeEntry e [] dead x)
-  unfolding rangeEntry
-  entry-soon dead x =
-      record { from = lookup-soon (x .first .value) .from; holds = λ n l. rw (lookup-soon (x .first .value) .holds n l) }
+pub record Refusing {X : Type 0} (refuse : ℕ → X) (c : X) : Type 0 where
+  pub number : ℕ
+  pub is : c ≡ refuse number
 
-  step-soon : (dead : Bool) (t : ListStep) → Soon (λ n. rangeStep e (ones n) dead t) (rangeStep e [] dead t)
-  unfolding rangeStep
-  step-soon dead (Entry x) = entry-soon dead x
-  step-soon dead End = at-once _
-  step-soon dead NoEntry = at-once _
+pub record AsEmpty {X : Type 0} (refuse : ℕ → X) (f : ℕ → X) : Type 0 where
+  pub soon : Soon f (f 0)
+  pub by-empty : Refusing refuse (f 0) ⊎ NoRefusal refuse (f 0)
 
-  ranges-soon : (s : List ℕ) (o : ListOffset) → Soon (λ n. rangesLive e (ones n) s o) (rangesLive e [] s o)
-  unfolding rangesLive
-  ranges-soon s (At c) =
-      walk-soon {S = Flagged} (λ n p. rangeStep e (ones n) (p .flag) (listEntryAt e false s (p .at))) _ _
-      (λ p. step-soon (p .flag) (listEntryAt e false s (p .at))) place (length s) _
-  ranges-soon s Unresolved = at-once _
+module _ {X Y : Type 0} (refuse : ℕ → X) (refuse′ : ℕ → Y) (f : ℕ → X) (g : ℕ → X → Y) (keeps : (n m : ℕ) → g n (refuse m) ≡ refuse′ m) where
+  then-by : Soon f (f 0) → Refusing refuse (f 0) ⊎ NoRefusal refuse (f 0) → ((c : X) → NoRefusal refuse c → AsEmpty refuse′ (λ n. g n c))
+      → AsEmpty refuse′ (λ n. g n (f n))
+  then-by s (inl r) each =
+      let to : (n : ℕ) → g n (f 0) ≡ refuse′ (r .number) = λ n. ap (g n) (r .is) ∙ keeps n (r .number) in
+      record {
+        soon = soon-then g f (f 0) _ s (record { from = 0; holds = λ n l. to n ∙ sym (to 0) });
+        by-empty = inl (record { number = r .number; is = to 0 });
+      }
+  then-by s (inr never) each =
+      let h = each (f 0) never in
+      record { soon = soon-then g f (f 0) _ s (h .soon); by-empty = h .by-empty }
 
-  operation-soon : (live : Bool) (o : OperationRead) → Soon (λ n. operationStep e (ones n) live o) (operationStep e [] live o)
-  unfolding operationStep
-  operation-soon live (Operation′ op) =
-      record { from = lookup-soon (op .first .value) .from; holds = λ n l. rw (lookup-soon (op .first .value) .holds n l) }
-  operation-soon live NoOperation = at-once _
+live-by-empty : (i : ℕ) → NoRefusal Fails (lookupAt [] i)
+live-by-empty i n q = let l : Live ≡ Fails n = no-table [] i refl ∙ q in let z : _≡_ {A = ℕ} 0 1 = cc in omega arith
 
-  location-soon : (s : List ℕ) → Soon (λ n. locationLive e (ones n) s) (locationLive e [] s)
-  unfolding locationLive
-  location-soon s =
-      walk-soon {S = Flagged}
-      (λ n p. pick (ltb (p .at) (length s)) (operationStep e (ones n) (p .flag) (operationAt e s (p .at))) (stop (pick (p .flag) Live Dead))) _ _
-      (λ p. soon-pick (ltb (p .at) (length s)) _ _ _ _ (operation-soon (p .flag) (operationAt e s (p .at))) (at-once _)) place (length s) _
-
-  low-soon : (v : Attribute) → Soon (λ n. lowPc e (ones n) v) (lowPc e [] v)
-  unfolding lowPc
-  low-soon v = record { from = lookup-soon (v .field .value) .from; holds = λ n l. rw (lookup-soon (v .field .value) .holds n l) }
-
--- by tables of ones: from some length on as by the empty one, which is that of length 0
-abbrev pub AsEmpty : {X : Type 0} → (ℕ → X) → Type 0
-AsEmpty f = Soon f (f 0)
-
-pub all-live : Verdicts ones AsEmpty
+pub all-live : (others : List ℕ) → Carried ones others (λ X. AsEmpty {X = X})
 unfolding ones
-all-live =
+all-live others =
     record {
-      of-live = at-once Live;
-      of-dead = at-once Dead;
-      of-else = λ v w p q. else-soon v w (v 0) (w 0) p q;
-      of-low-pc = λ e a. low-soon e a;
-      of-location = λ e s. location-soon e s;
-      of-ranges = λ e s o. ranges-soon e s o;
-      of-older = λ e s o. at-once _;
+      of-value = λ refuse c never. record { soon = at-once c; by-empty = inr never };
+      of-refusal = λ refuse n o. record { soon = at-once (refuse n); by-empty = inl (record { number = n; is = refl }) };
+      of-then = λ refuse refuse′ f g p keeps each. then-by refuse refuse′ f g keeps (p .soon) (p .by-empty) each;
+      of-lookup = λ i. record { soon = lookup-soon i; by-empty = inr (live-by-empty i) };
     }

@@ -31,11 +31,11 @@ use Rattle.laws.specs.RefusalNumbers.{OneOf}
 use Rattle.laws.proofs.refusals.ReaderRefusals.{isOneOf, areOf, one-of, wider, HeaderNumbered, header-numbered}
 use Rattle.laws.proofs.refusals.ScanRefusals.{FoundNumbered, attributes-numbered}
 
--- the numbers of the entries of a unit, but for the table's own 6
-abbrev pub entryNumbersButSix : List ℕ
-entryNumbersButSix = 4 ∷ 10 ∷ 5 ∷ 7 ∷ 11 ∷ []
+-- the numbers of the entries of a unit, but for the table's own 6 and 17
+abbrev pub entryNumbersButTable : List ℕ
+entryNumbersButTable = 4 ∷ 10 ∷ 5 ∷ 7 ∷ 11 ∷ []
 
-pick-of : {I X : Type 0} (P : (I → X) → Type 0) (c : Bool) (f g : I → X) → P f → P g → P (λ i. pick c (f i) (g i))
+pub pick-of : {I X : Type 0} (P : (I → X) → Type 0) (c : Bool) (f g : I → X) → P f → P g → P (λ i. pick c (f i) (g i))
 unfolding pick
 pick-of P true f g p q = p
 pick-of P false f g p q = q
@@ -53,7 +53,7 @@ pub record Verdicts {I : Type 0} (table : I → List ℕ) (P : (I → Verdict) �
 -- analyses, one by each table; N is what holds of the numbers that say whether an entry is a root
 pub record Analyses {I : Type 0} (P : (I → Verdict) → Type 0) (N : (I → ℕ) → Type 0) (Q : (I → Analysed) → Type 0) : Type 0 where
   pub of-end : Q (λ i. analysed [])
-  pub of-refused : (n : ℕ) → OneOf entryNumbersButSix n → Q (λ i. notAnalysed n)
+  pub of-refused : (n : ℕ) → OneOf entryNumbersButTable n → Q (λ i. notAnalysed n)
   pub of-verdict : (v : I → Verdict) → P v → (k : I → ℕ → Analysed) → ((root : I → ℕ) → N root → Q (λ i. k i (root i)))
       → Q (λ i. onVerdict (v i) (k i))
   pub of-onto : (offset parent : ℕ) (names : List ℕ) (root : I → ℕ) → N root → (a : I → Analysed) → Q a
@@ -103,13 +103,13 @@ module _ {I : Type 0} (table : I → List ℕ) where
         → Q (λ i. onFound f (k i))
     unfolding onFound FoundNumbered isOneOf areOf _or_ _and_
     found-by (found names) q k each = each names
-    found-by (refusedAfter names n) q k each = a .of-refused n (wider (5 ∷ 7 ∷ []) entryNumbersButSix n tt q)
+    found-by (refusedAfter names n) q k each = a .of-refused n (wider (5 ∷ 7 ∷ []) entryNumbersButTable n tt q)
 
     pub items-by : (e : Encoding) (unit : List ℕ) (room : Rooms) (p : Reached) (is : List Item) (whole : Bool)
         → Q (λ i. analyseItems e (withTable x (table i)) unit room p is whole)
     unfolding analyseItems rootOf namesOf baseOf valuesOfEntry isOneOf _or_
     items-by e unit room p [] true = a .of-end
-    items-by e unit room p [] false = a .of-refused 4 (one-of entryNumbersButSix 4 tt)
+    items-by e unit room p [] false = a .of-refused 4 (one-of entryNumbersButTable 4 tt)
     items-by e unit room p (terminator s t ∷ is) whole = items-by e unit room _ is whole
     items-by e unit room p (entry y ∷ is) whole =
         pick-of Q (ltb (p .count) (room .entries)) _ _
@@ -118,8 +118,8 @@ module _ {I : Type 0} (table : I → List ℕ) where
         (valuesOfEntry e x unit y)) _
         (λ root r. found-by (namesOf e x unit (baseOf e x unit «DW_AT_loclists_base» (p .loclistsBase) y) y) (attributes-numbered e _ _) _
         (λ names. pick-of Q (leb (p .references + length names) (room .references)) _ _
-        (a .of-onto _ _ names root r _ (items-by e unit room _ is whole)) (a .of-refused 11 (one-of entryNumbersButSix 11 tt)))))
-        (a .of-refused 10 (one-of entryNumbersButSix 10 tt))
+        (a .of-onto _ _ names root r _ (items-by e unit room _ is whole)) (a .of-refused 11 (one-of entryNumbersButTable 11 tt)))))
+        (a .of-refused 10 (one-of entryNumbersButTable 10 tt))
 
     -- the header's 1 and 2, and 3
     module _ (early : (n : ℕ) → OneOf (1 ∷ 2 ∷ 3 ∷ []) n → Q (λ i. notAnalysed n)) where

@@ -64,12 +64,12 @@ both-pick R true x y x′ y′ p q = p
 both-pick R false x y x′ y′ p q = q
 
 -- an index that is asked of the table, and of none
-module _ {X : Type 0} (R : X → X → Type 0) (refuse : Verdict → X) (fails : (u : X) → R (refuse (Refused 6)) u) where
+module _ {X : Type 0} (R : X → X → Type 0) (refuse : Verdict → X) (fails : (n : ℕ) (u : X) → R (refuse (Refused n)) u) where
   by-lookup : (l : AddressLookup) (a b u : X) → R a u → R b u → R (onLookup l refuse a b) u
   unfolding onLookup
   by-lookup Alive a b u p q = p
   by-lookup NotAlive a b u p q = q
-  by-lookup Fails a b u p q = fails u
+  by-lookup (Fails n) a b u p q = fails n u
 
   asked : (table : List ℕ) (index : ℕ) (a b u v : X) → R a u → R b u
       → R (onLookup (lookupAt table index) refuse a b) (onLookup (lookupAt [] index) refuse u v)
@@ -123,8 +123,8 @@ module _ (e : Encoding) (table : List ℕ) where
   entry-held : (x : ListEntry) (a b : Bool) → Base a b → Turns Base (rangeEntry e table a x) (rangeEntry e [] b x)
   unfolding rangeEntry
   entry-held x a b q =
-      both-pick (Turns Base) _ _ _ _ _ (asked (Turns Base) stop (λ u. failed) table _ _ _ _ _ (on (λ z. z)) (on (λ z. refl)))
-      (both-pick (Turns Base) _ _ _ _ _ (asked (Turns Base) stop (λ u. failed) table _ _ _ _ _ found found)
+      both-pick (Turns Base) _ _ _ _ _ (asked (Turns Base) stop (λ n u. failed) table _ _ _ _ _ (on (λ z. z)) (on (λ z. refl)))
+      (both-pick (Turns Base) _ _ _ _ _ (asked (Turns Base) stop (λ n u. failed) table _ _ _ _ _ found found)
       (both-pick (Turns Base) _ _ _ _ _ (pair-held x a b q)
       (both-pick (Turns Base) _ _ _ _ _ (on (λ z. z))
       (both-pick (Turns Base) _ _ _ _ _ (on q) found))))
@@ -151,7 +151,7 @@ module _ (e : Encoding) (table : List ℕ) where
   operation-held : (o : OperationRead) (a b : Bool) → Met a b → Turns Met (operationStep e table a o) (operationStep e [] b o)
   unfolding operationStep
   operation-held (Operation′ op) a b q =
-      both-pick (Turns Met) _ _ _ _ _ (asked (Turns Met) stop (λ u. failed) table _ _ _ _ _ (on (λ z. refl)) (on (λ z. refl))) (on q)
+      both-pick (Turns Met) _ _ _ _ _ (asked (Turns Met) stop (λ n u. failed) table _ _ _ _ _ (on (λ z. refl)) (on (λ z. refl))) (on q)
   operation-held NoOperation a b q = failed
 
   end-held : (a b : Bool) → Met a b → Held (pick a Live Dead) (pick b Live Dead)
@@ -168,7 +168,7 @@ module _ (e : Encoding) (table : List ℕ) where
 
   low-held : (v : Attribute) → Held (lowPc e table v) (lowPc e [] v)
   unfolding lowPc
-  low-held v = both-pick Held _ _ _ _ _ (asked Held (λ r. r) (held-refused 6) table _ _ _ _ _ (held-same Live) (held-live Dead)) (held-same _)
+  low-held v = both-pick Held _ _ _ _ _ (asked Held (λ r. r) held-refused table _ _ _ _ _ (held-same Live) (held-live Dead)) (held-same _)
 
 -- by a table (true) and by the empty one (false)
 pub held : (table : List ℕ) → Verdicts (λ (i : Bool). pick i table []) (λ v. Held (v true) (v false))

@@ -1,5 +1,5 @@
--- What is rewritten of a unit's rows asks no address table: it is the same by any two. Assumes nothing.
-use mathlib.Core.Path.{_≡_, refl, ap, ap₂}
+-- What is rewritten of a unit's rows asks no address table: where the rows are the same by two tables, so is the answer. Assumes nothing.
+use mathlib.Core.Path.{_≡_, refl, ap, ap₂, _∙_}
 use Prim.Native.Nat.{ℕ}
 use mathlib.Core.Bool.{Bool}
 use mathlib.Core.List.{List, [], _∷_, _++_}
@@ -8,13 +8,19 @@ use Rattle.readers.specs.Choice.{_or_}
 use Rattle.readers.specs.Codes.{«DW_AT_location», «DW_AT_ranges»}
 use Rattle.readers.specs.Layout.{Read, RunOf, patchAll, writeAll}
 use Rattle.readers.specs.Stream.{Item, entry, terminator}
-use Rattle.marking.specs.Analysis.{Sections, EntryRow, valuesOfEntry}
+use Rattle.readers.specs.Abbreviations.{Placed, abbreviationsOf}
+use Rattle.readers.specs.Header.{headerOf}
+use Rattle.readers.specs.declared.header.UnitHeader.{UnitHeader}
+use Rattle.readers.specs.declared.header.HeaderRead.{HeaderRead}
+use Rattle.readers.specs.declared.header.HeaderRead.the-variants.{Unit as Unit′, Empty, Refused}
+use Rattle.marking.specs.Analysis.{Sections, EntryRow, Analysed, analysed, refused as notAnalysed, valuesOfEntry, analysisOf}
 use Rattle.marking.specs.Resolution.{marksIn}
 use Rattle.rewriting.specs.Places.{NestedItem, Place, offsetOf}
 use Rattle.rewriting.specs.Indices.{readIndices}
 use Rattle.rewriting.specs.Rewriting.{Unit, itemsIn, readsOr, readsAt, Lists, indicesFrom, itemDeclares}
 use Rattle.rewriting.specs.Rewriting.{anyDeclares, listOf, listsOf, orNext, newValue, readsRefusal, refusalFrom}
 use Rattle.rewriting.specs.Rewriting.{bytesFrom, unitBytes, Room, orRefused, rewriteOf, marksCollected, rowsCollected}
+use Rattle.rewriting.specs.Rewriting.{analysedCollected, declaredCollected, headerCollected, collectOf}
 use Rattle.laws.specs.AddressTables.{withTable}
 
 module _ (x : Sections) (a b : List ℕ) (u : Unit) where
@@ -75,8 +81,32 @@ module _ (x : Sections) (a b : List ℕ) (u : Unit) where
     unfolding marksCollected
     same-marks typeUnits marks items = rw (same-lists typeUnits items, same-rewrite _ _ (listsOf (withTable x b) u typeUnits items) items)
 
-    pub same-rows : (typeUnits : Bool) (rows : List EntryRow)
+    same-rows : (typeUnits : Bool) (rows : List EntryRow)
         → rowsCollected (withTable x a) room typeUnits u rows ≡ rowsCollected (withTable x b) room typeUnits u rows
     unfolding rowsCollected itemsIn
     same-rows typeUnits [] = refl
     same-rows typeUnits (r ∷ rows) = same-marks typeUnits (marksIn (r ∷ rows)) _
+
+module _ (x : Sections) (a b : List ℕ) (room : Room) (typeUnits : Bool) (section : List ℕ) where
+  same-analysed : (u : Unit) (o : Analysed)
+      → analysedCollected (withTable x a) room typeUnits u o ≡ analysedCollected (withTable x b) room typeUnits u o
+  unfolding analysedCollected
+  same-analysed u (analysed rows) = same-rows x a b u room typeUnits rows
+  same-analysed u (notAnalysed n) = refl
+
+  module _ (q : analysisOf (withTable x a) section (room .tables) ≡ analysisOf (withTable x b) section (room .tables)) where
+    same-declared : (h : UnitHeader) (o : Option (List Placed))
+        → declaredCollected (withTable x a) room typeUnits section h o ≡ declaredCollected (withTable x b) room typeUnits section h o
+    unfolding declaredCollected
+    same-declared h none = refl
+    same-declared h (some ds) = ap (analysedCollected (withTable x a) room typeUnits _) q ∙ same-analysed _ _
+
+    same-headers : (h : HeaderRead) → headerCollected (withTable x a) room typeUnits section h ≡ headerCollected (withTable x b) room typeUnits section h
+    unfolding headerCollected
+    same-headers Empty = refl
+    same-headers (Refused n) = refl
+    same-headers (Unit′ h) = same-declared h (abbreviationsOf (x .abbreviations) (h .abbreviations))
+
+    pub same-collected : collectOf (withTable x a) room typeUnits section ≡ collectOf (withTable x b) room typeUnits section
+    unfolding collectOf
+    same-collected = same-headers (headerOf section)

@@ -38,8 +38,8 @@ enum-told-2 c = search needs
 enum-told-3 : tie.Need-enum-told-3 Inv-loop μ-loop
 enum-told-3 c = search needs
 
-enum-told-4 : tie.Need-enum-told-4 Inv-loop μ-loop
-enum-told-4 c = search needs
+enum-known-n : tie.Need-enum-known-n Inv-loop μ-loop
+enum-known-n c = search needs
 
 returns-2 : tie.Need-returns-2 Inv-loop μ-loop
 returns-2 c = search index-refused
@@ -82,7 +82,7 @@ location-expr-live-spec =
     lookup-requires
     enum-told-2
     enum-told-3
-    enum-told-4
+    enum-known-n
     returns-2
     loop-less
     loop-again

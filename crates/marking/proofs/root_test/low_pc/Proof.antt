@@ -29,8 +29,8 @@ enum-told c = search needs
 enum-told-2 : tie.Need-enum-told-2
 enum-told-2 c = search needs
 
-enum-told-3 : tie.Need-enum-told-3
-enum-told-3 c = search needs
+enum-known-n : tie.Need-enum-known-n
+enum-known-n c = search needs
 
 returns-5 : tie.Need-returns-5
 returns-5 c = ⊎-elim (λ w. search (index-live, form-sized)) (λ w. search (index-live, form-addrx)) (c .before .before .before .if3 .came)
@@ -39,7 +39,7 @@ returns-6 : tie.Need-returns-6
 returns-6 c = ⊎-elim (λ w. search (index-dead, form-sized)) (λ w. search (index-dead, form-addrx)) (c .before .before .before .if3 .came)
 
 returns-7 : tie.Need-returns-7
-returns-7 c = ⊎-elim (λ w. search (index-fails, form-sized)) (λ w. search (index-fails, form-addrx)) (c .before .before .before .if3 .came)
+returns-7 c = ⊎-elim (λ w. search (index-fails, form-sized)) (λ w. search (index-fails, form-addrx)) (c .before .before .before .before .if3 .came)
 
 pub low-pc-spec : {M : Type 1} → statement M
 low-pc-spec =
@@ -53,7 +53,7 @@ low-pc-spec =
     lookup-requires
     enum-told
     enum-told-2
-    enum-told-3
+    enum-known-n
     returns-5
     returns-6
     returns-7)

@@ -13,8 +13,8 @@ enum-told c = search needs
 enum-told-2 : tie.Need-enum-told-2
 enum-told-2 c = search needs
 
-enum-told-3 : tie.Need-enum-told-3
-enum-told-3 c = search needs
+enum-known-n : tie.Need-enum-known-n
+enum-known-n c = search needs
 
 returns : tie.Need-returns
 returns c = search base-live
@@ -28,14 +28,14 @@ returns-3 c = search base-fails
 lookup-requires-2 : tie.Need-lookup-requires-2
 lookup-requires-2 c κs = search needs
 
+enum-told-3 : tie.Need-enum-told-3
+enum-told-3 c = search needs
+
 enum-told-4 : tie.Need-enum-told-4
 enum-told-4 c = search needs
 
-enum-told-5 : tie.Need-enum-told-5
-enum-told-5 c = search needs
-
-enum-told-6 : tie.Need-enum-told-6
-enum-told-6 c = search needs
+enum-known-n-2 : tie.Need-enum-known-n-2
+enum-known-n-2 c = search needs
 
 returns-4 : tie.Need-returns-4
 returns-4 c = search start-live
@@ -71,14 +71,14 @@ range-entry-spec =
     lookup-requires
     enum-told
     enum-told-2
-    enum-told-3
+    enum-known-n
     returns
     returns-2
     returns-3
     lookup-requires-2
+    enum-told-3
     enum-told-4
-    enum-told-5
-    enum-told-6
+    enum-known-n-2
     returns-4
     returns-5
     returns-6
