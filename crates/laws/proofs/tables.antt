@@ -7,5 +7,6 @@ pub mod AllLive
 pub mod SameRewriting
 pub mod EmptyTable
 pub mod FailureLaws
+pub mod NotRead
 pub mod LiveVerdicts
 pub mod NoneLost

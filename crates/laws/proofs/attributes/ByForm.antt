@@ -35,7 +35,7 @@ use Rattle.readers.specs.declared.entries.Step.the-variants.{Entry as Entry′}
 use Rattle.readers.specs.EntryAttributes.{Valued, valuesOf, specsFrom, entryValues}
 use Rattle.marking.specs.Analysis.{Sections, EntryRow, analysed, analysisOf, valuesOfEntry}
 use Rattle.marking.specs.Members.{Member, here, there, Nth}
-use Rattle.marking.proofs.Members.{nothing-in}
+use Rattle.marking.proofs.Members.{nothing-in, in-left, in-right}
 use Rattle.rewriting.specs.Places.{NestedItem, offsetOf}
 use Rattle.rewriting.specs.Rewriting.{Unit as Unit′, unitOf, itemsIn, readsAt, newValue, Room, Rewrite, rewritten, collectOf}
 use Rattle.readers.proofs.FormKinds.{form-list}
@@ -54,17 +54,6 @@ use Rattle.laws.proofs.again.Rereading.{deep-read}
 use Rattle.laws.proofs.attributes.AttributeLaws.{Headed, headed, PlacedItem, placed, kept-again}
 use Rattle.laws.proofs.thinned.ThinnedLaw.{becomes, thinned-law, of-thinned}
 use Rattle.laws.proofs.again.CollectLaws as Laws
-
--- ---- members of lists one after the other
-
-member-left : {A : Type 0} (a : A) (xs ys : List A) → Member a xs → Member a (xs ++ ys)
-member-left a [] ys m = absurd (nothing-in a m)
-member-left a (x ∷ xs) ys (here e) = here e
-member-left a (x ∷ xs) ys (there m) = there (member-left a xs ys m)
-
-member-right : {A : Type 0} (a : A) (xs ys : List A) → Member a ys → Member a (xs ++ ys)
-member-right a [] ys m = m
-member-right a (x ∷ xs) ys m = there (member-right a xs ys m)
 
 -- ---- a number of a role, in some reads
 
@@ -211,9 +200,9 @@ module _ (e : Encoding) (unit : List ℕ) where
 
   joined-held : (one others : List Read) (v : Valued) (values : List Valued) → HeldBy one v → AllHeld others values → AllHeld (one ++ others) (v ∷ values)
   joined-held one others v values h t a (here q) =
-      subst (HeldBy (one ++ others)) (sym q) (λ role l. held-in role _ one (one ++ others) (λ r m. member-left r one others m) (h role l))
+      subst (HeldBy (one ++ others)) (sym q) (λ role l. held-in role _ one (one ++ others) (λ r m. in-left r one others m) (h role l))
   joined-held one others v values h t a (there m) =
-      λ role l. held-in role _ others (one ++ others) (λ r n. member-right r one others n) (t a m role l)
+      λ role l. held-in role _ others (one ++ others) (λ r n. in-right r one others n) (t a m role l)
 
   values-held : (specs : List AttributeSpec) (at : ℕ) (rs : List Read) (rest : List ℕ) → readIn big ex (attributesLayout e specs) (drop at unit) ≡ some (rs, rest)
       → AllHeld rs (valuesOf e unit specs at)

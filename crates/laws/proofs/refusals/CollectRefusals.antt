@@ -5,21 +5,21 @@ use Prim.Native.Nat.{ℕ, _+_, _≤_, _<_}
 use native.Mathlib.Omega.{arith}
 use mathlib.Core.Bool.{Bool, true, false, not, false≢true}
 use mathlib.Core.List.{List, [], _∷_}
-use mathlib.Core.Logic.{inl, inr}
+use mathlib.Core.Logic.{_⊎_, inl, inr, ⊎-elim}
 use mathlib.Core.Option.{Option, none, some}
 use lib.ListN.{length, take}
 use lib.Dec.{T, leb, eqb}
 use mir.Facts.{eqb-no, leb-yes, leb-no, no-eqb, yes-leb, no-leb}
 use Rattle.readers.specs.Choice.{_and_, _or_}
 use Rattle.readers.proofs.Choice.{pick-either, pick-no, pick-yes}
-use Rattle.laws.specs.RefusalNumbers.{OneOf, entriesNumbers, CollectRefusal, PaddedRefusal}
+use Rattle.laws.specs.RefusalNumbers.{OneOf, entriesNumbers, EntriesRefusal, CollectRefusal, PaddedRefusal}
 use Rattle.readers.specs.Abbreviations.{Placed, abbreviationsOf}
 use Rattle.readers.specs.Header.{headerOf}
 use Rattle.readers.specs.Layout.{Piece, verbatim, patchable, Read}
 use Rattle.readers.specs.declared.header.UnitHeader.{UnitHeader}
 use Rattle.readers.specs.declared.header.HeaderRead.{HeaderRead}
 use Rattle.readers.specs.declared.header.HeaderRead.the-variants.{Unit as Header′, Empty, Refused}
-use Rattle.laws.proofs.refusals.ReaderRefusals.{isOneOf, areOf, one-of, wider, not-one-of, header-refusal}
+use Rattle.laws.proofs.refusals.ReaderRefusals.{isOneOf, areOf, one-of, wider, areApart, apart, header-refusal}
 use Rattle.marking.specs.Analysis.{Sections, EntryRow, Analysed, analysed, refused as notAnalysed, analysisOf}
 use Rattle.marking.specs.Marks.{keptCount}
 use Rattle.marking.specs.Resolution.{marksIn}
@@ -223,50 +223,57 @@ module _ (x : Sections) (room : Room) (typeUnits : Bool) (section : List ℕ) wh
   refused-law n (at-place u d p b f) = value-refused u d p b 8 (omega arith) (eight-means x (unit u) (lists u) (u .header .first .0) (kept u) .1 f)
   refused-law n (at-width u d p b f) = value-refused u d p b 9 (omega arith) (nine-means x (unit u) (lists u) (u .header .first .0) (kept u) .1 f)
 
-  eight-at : (n : ℕ) → n ≡ 8 → RefusedAt x room typeUnits section n → RefusedNumber x room typeUnits section Unplaced
-  unfolding isOneOf areOf OneOf _or_ _and_
-  eight-at n e (at-header q r) = absurd (not-one-of (1 ∷ 2 ∷ []) n 8 e tt r)
-  eight-at n e (at-abbreviations q d) = absurd (omega arith)
-  eight-at n e (at-entries q d a r) = absurd (not-one-of entriesNumbers n 8 e tt r)
-  eight-at n e (at-lists u m l) = absurd (omega arith)
-  eight-at n e (at-map u d p) = absurd (omega arith)
-  eight-at n e (at-output u d p b) = absurd (omega arith)
-  eight-at n e (at-place u d p b f) = record { u = u; thinnable = d; number = refused-number x (unit u) (lists u) (u .header .first .0) (kept u) _ f }
-  eight-at n e (at-width u d p b f) = absurd (omega arith)
+  -- a refusal by its number: the entries', 8, 9, or another
+  pub data StageOf (n : ℕ) : Type 0 where
+    elsewhere : OneOf (1 ∷ 2 ∷ 3 ∷ 12 ∷ 13 ∷ 14 ∷ []) n → StageOf n
+    of-entries : analysisOf x section (room .tables) ≡ notAnalysed n → EntriesRefusal n → StageOf n
+    of-place : n ≡ 8 → RefusedNumber x room typeUnits section Unplaced → StageOf n
+    of-width : n ≡ 9 → RefusedNumber x room typeUnits section TooWide → StageOf n
 
-  nine-at : (n : ℕ) → n ≡ 9 → RefusedAt x room typeUnits section n → RefusedNumber x room typeUnits section TooWide
-  unfolding isOneOf areOf OneOf _or_ _and_
-  nine-at n e (at-header q r) = absurd (not-one-of (1 ∷ 2 ∷ []) n 9 e tt r)
-  nine-at n e (at-abbreviations q d) = absurd (omega arith)
-  nine-at n e (at-entries q d a r) = absurd (not-one-of entriesNumbers n 9 e tt r)
-  nine-at n e (at-lists u m l) = absurd (omega arith)
-  nine-at n e (at-map u d p) = absurd (omega arith)
-  nine-at n e (at-output u d p b) = absurd (omega arith)
-  nine-at n e (at-place u d p b f) = absurd (omega arith)
-  nine-at n e (at-width u d p b f) = record { u = u; thinnable = d; number = refused-number x (unit u) (lists u) (u .header .first .0) (kept u) _ f }
+  pub stage-of : (n : ℕ) → RefusedAt x room typeUnits section n → StageOf n
+  unfolding isOneOf areOf _or_ _and_
+  stage-of n (at-header q r) = elsewhere (wider (1 ∷ 2 ∷ []) _ n tt r)
+  stage-of n (at-abbreviations q d) = elsewhere (one-of _ 3 tt)
+  stage-of n (at-entries q d a r) = of-entries a r
+  stage-of n (at-lists u m l) = elsewhere (one-of _ 12 tt)
+  stage-of n (at-map u d p) = elsewhere (one-of _ 13 tt)
+  stage-of n (at-output u d p b) = elsewhere (one-of _ 14 tt)
+  stage-of n (at-place u d p b f) =
+      of-place refl (record { u = u; thinnable = d; number = refused-number x (unit u) (lists u) (u .header .first .0) (kept u) _ f })
+  stage-of n (at-width u d p b f) =
+      of-width refl (record { u = u; thinnable = d; number = refused-number x (unit u) (lists u) (u .header .first .0) (kept u) _ f })
+
+  -- 8 and 9
+  late-stage : (n : ℕ) → OneOf (8 ∷ 9 ∷ []) n → StageOf n
+      → ((n ≡ 8) × RefusedNumber x room typeUnits section Unplaced) ⊎ ((n ≡ 9) × RefusedNumber x room typeUnits section TooWide)
+  unfolding isOneOf areApart _or_ _and_
+  late-stage n o (elsewhere r) = absurd (apart (8 ∷ 9 ∷ []) (1 ∷ 2 ∷ 3 ∷ 12 ∷ 13 ∷ 14 ∷ []) n tt o r)
+  late-stage n o (of-entries a r) = absurd (apart (8 ∷ 9 ∷ []) entriesNumbers n tt o r)
+  late-stage n o (of-place e r) = inl (e, r)
+  late-stage n o (of-width e r) = inr (e, r)
 
   -- 8 only where a number of a kept item has no place
   pub eight-law : collectOf x room typeUnits section ≡ refused 8 → RefusedNumber x room typeUnits section Unplaced
-  eight-law q = eight-at 8 refl (refusal-law 8 q)
+  unfolding isOneOf _or_
+  eight-law q =
+      ⊎-elim (λ l. l .1) (λ r. absurd (let e : _≡_ {A = ℕ} 8 9 = r .0 in omega arith)) (late-stage 8 (one-of _ 8 tt) (stage-of 8 (refusal-law 8 q)))
 
   -- 9 only where one has a place, and its new value does not fit
   pub nine-law : collectOf x room typeUnits section ≡ refused 9 → RefusedNumber x room typeUnits section TooWide
-  nine-law q = nine-at 9 refl (refusal-law 9 q)
+  unfolding isOneOf _or_
+  nine-law q =
+      ⊎-elim (λ l. absurd (let e : _≡_ {A = ℕ} 9 8 = l .0 in omega arith)) (λ r. r .1) (late-stage 9 (one-of _ 9 tt) (stage-of 9 (refusal-law 9 q)))
 
-  number-at : (n : ℕ) → RefusedAt x room typeUnits section n → CollectRefusal n
+  number-at : (n : ℕ) → StageOf n → CollectRefusal n
   unfolding isOneOf areOf _or_ _and_
-  number-at n (at-header q r) = wider (1 ∷ 2 ∷ []) _ n tt r
-  number-at n (at-abbreviations q d) = one-of _ 3 tt
-  number-at n (at-entries q d a r) = wider entriesNumbers _ n tt r
-  number-at n (at-lists u m l) = one-of _ 12 tt
-  number-at n (at-map u d p) = one-of _ 13 tt
-  number-at n (at-output u d p b) = one-of _ 14 tt
-  number-at n (at-place u d p b f) = one-of _ 8 tt
-  number-at n (at-width u d p b f) = one-of _ 9 tt
+  number-at n (elsewhere r) = wider (1 ∷ 2 ∷ 3 ∷ 12 ∷ 13 ∷ 14 ∷ []) _ n tt r
+  number-at n (of-entries a r) = wider entriesNumbers _ n tt r
+  number-at n (of-place e r) = subst CollectRefusal (sym e) (one-of _ 8 tt)
+  number-at n (of-width e r) = subst CollectRefusal (sym e) (one-of _ 9 tt)
 
   -- "A refusal carries a number of document 01", or of 02: 1 to 14, or 17
   pub collect-refusal : (n : ℕ) → collectOf x room typeUnits section ≡ refused n → CollectRefusal n
-  collect-refusal n q = number-at n (refusal-law n q)
+  collect-refusal n q = number-at n (stage-of n (refusal-law n q))
 
 -- ---- a padded number: 15
 

@@ -26,10 +26,8 @@ use Rattle.marking.specs.Resolution.{unitMarks}
 use Rattle.rewriting.specs.Rewriting.{unitOf, Room, refused, analysedCollected, declaredCollected, headerCollected, collectOf}
 use Rattle.laws.specs.AddressTables.{withTable, FailedBy, AnsweredBy}
 use Rattle.laws.specs.RefusalNumbers.{OneOf, tableNumbers}
-use Rattle.laws.specs.RefusalStages.{RefusedAt, at-header, at-abbreviations, at-entries, at-lists, at-map}
-use Rattle.laws.specs.RefusalStages.{at-output, at-place, at-width}
 use Rattle.laws.proofs.refusals.ReaderRefusals.{isOneOf, one-of, not-one-of, areApart, apart}
-use Rattle.laws.proofs.refusals.CollectRefusals.{refusal-law}
+use Rattle.laws.proofs.refusals.CollectRefusals.{refusal-law, StageOf, elsewhere, of-entries, of-place, of-width, stage-of}
 use Rattle.laws.proofs.tables.BySeveralTables.{entryNumbersButTable, root-by}
 use Rattle.laws.proofs.tables.FromLookups.{verdicts-told, analysis-told}
 use Rattle.laws.proofs.tables.Failures.{failure-number, no-failure}
@@ -143,23 +141,20 @@ module _ (x : Sections) (room : Room) (typeUnits : Bool) (section : List ℕ) wh
     unfolding collectOf
     analysis-refused = by-header (headerOf section) refl
 
-  at-table : (n : ℕ) → OneOf tableNumbers n → RefusedAt x room typeUnits section n → analysisOf x section (room .tables) ≡ notAnalysed n
+  at-table : (n : ℕ) → OneOf tableNumbers n → StageOf x room typeUnits section n → analysisOf x section (room .tables) ≡ notAnalysed n
   unfolding isOneOf areApart _or_ _and_
-  at-table n o (at-header q r) = absurd (apart tableNumbers (1 ∷ 2 ∷ []) n tt o r)
-  at-table n o (at-abbreviations q d) = absurd (not-one-of tableNumbers 3 3 refl tt o)
-  at-table n o (at-entries q d a r) = a
-  at-table n o (at-lists u m l) = absurd (not-one-of tableNumbers 12 12 refl tt o)
-  at-table n o (at-map u d p) = absurd (not-one-of tableNumbers 13 13 refl tt o)
-  at-table n o (at-output u d p b) = absurd (not-one-of tableNumbers 14 14 refl tt o)
-  at-table n o (at-place u d p b f) = absurd (not-one-of tableNumbers 8 8 refl tt o)
-  at-table n o (at-width u d p b f) = absurd (not-one-of tableNumbers 9 9 refl tt o)
+  at-table n o (elsewhere r) = absurd (apart tableNumbers (1 ∷ 2 ∷ 3 ∷ 12 ∷ 13 ∷ 14 ∷ []) n tt o r)
+  at-table n o (of-entries a r) = a
+  at-table n o (of-place e r) = absurd (not-one-of tableNumbers n 8 e tt o)
+  at-table n o (of-width e r) = absurd (not-one-of tableNumbers n 9 e tt o)
 
 module _ (x : Sections) (room : Room) (typeUnits : Bool) (section : List ℕ) where
   -- THE refusals by the address table: 6 and 17 say what happened at an index that decides the answer
   pub failure-law : (n : ℕ) → OneOf tableNumbers n → collectOf x room typeUnits section ≡ refused n
       → FailedBy (λ t. collectOf (withTable x t) room typeUnits section) refused (x .addresses) n
   failure-law n o q =
-      let f = failure-analysis x section (room .tables) n o (at-table x room typeUnits section n o (refusal-law x room typeUnits section n q)) in
+      let s = stage-of x room typeUnits section n (refusal-law x room typeUnits section n q) in
+      let f = failure-analysis x section (room .tables) n o (at-table x room typeUnits section n o s) in
       record {
         asked = f .asked;
         fine = f .fine;

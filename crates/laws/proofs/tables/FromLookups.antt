@@ -47,13 +47,13 @@ pub record Carried {I : Type 0} (table : I → List ℕ) (others : List ℕ) (Ho
       → Holds Y refuse′ (λ i. g i (f i))
   pub of-lookup : (index : ℕ) → Holds AddressLookup Fails (λ i. lookupAt (table i) index)
 
-live-no-refusal : NoRefusal Refused Live
+pub live-no-refusal : NoRefusal Refused Live
 live-no-refusal n q = let z : _≡_ {A = ℕ} 0 1 = cc in omega arith
 
-dead-no-refusal : NoRefusal Refused Dead
+pub dead-no-refusal : NoRefusal Refused Dead
 dead-no-refusal n q = let z : _≡_ {A = ℕ} 0 1 = cc in omega arith
 
-rows-no-refusal : (rows : List EntryRow) → NoRefusal notAnalysed (analysed rows)
+pub rows-no-refusal : (rows : List EntryRow) → NoRefusal notAnalysed (analysed rows)
 rows-no-refusal rows n q = let z : _≡_ {A = ℕ} 0 1 = cc in omega arith
 
 abbrev ends : ℕ → RootTurn
