@@ -10,16 +10,18 @@
  *   addresses      a byte an index: 0 dead, 1 live; none lent (length 0): every index is live
  *   ranges_base    added to a ranges attribute in sec_offset
  *   type_units     0 no, any other number yes: the index lists are then absent
+ *   big_endian     0: the unit's fixed-width fields, those of its lists and expressions too, are little-endian; any
+ *                  other number: big-endian. Never guessed: a unit told wrongly is refused with 1 or 2
  *
  * Written, whatever it held before; zeros wherever the answer is not, all zeros after a refusal
  *   map            12 bytes a place: old offset, new offset, depth, four big-endian bytes each, ascending
  *   range_list, location_list, string_list    8 big-endian bytes a number, ascending without repeats
- *   out            the new unit
+ *   out            the new unit, in the old one's byte order
  *   counts         COLLECTOR_COUNTS bytes: see below
- * Bytes short of a whole place or number count for nothing and end as zeros. Enough for every unit: as many bytes of
- * out as the section has; 12 bytes of map for each byte of the section (at most two places an entry); 8 bytes of a
- * list for each index of its kind. A call writes every byte of what it is lent here, and of the host's tables: time
- * goes by the lengths that are lent too.
+ * Numbers of map, lists and counts are big-endian for every unit. Bytes short of a whole place or number count for
+ * nothing and end as zeros. Enough for every unit: as many bytes of out as the section has; 12 bytes of map for each
+ * byte of the section (at most two places an entry); 8 bytes of a list for each index of its kind. A call writes every
+ * byte of what it is lent here, and of the host's tables: time goes by the lengths that are lent too.
  *
  * The answer is a refusal's number, 1 to 14 or 17, or one of the numbers below. Of an accepted answer `counts` holds
  * seven numbers of eight big-endian bytes: entries, kept entries, map places, bytes of the new unit (these two 0 where
@@ -63,7 +65,7 @@ uint64_t collector_collect(
     const uint8_t *locations, size_t locations_length,
     const uint8_t *ranges, size_t ranges_length,
     const uint8_t *addresses, size_t addresses_length,
-    uint64_t ranges_base, uint64_t type_units,
+    uint64_t ranges_base, uint64_t type_units, uint64_t big_endian,
     uint8_t *map, size_t map_length,
     uint8_t *range_list, size_t range_list_length,
     uint8_t *location_list, size_t location_list_length,
@@ -81,7 +83,7 @@ uint64_t collector_collect_lent(
     const uint8_t *locations, size_t locations_length,
     const uint8_t *ranges, size_t ranges_length,
     const uint8_t *addresses, size_t addresses_length,
-    uint64_t ranges_base, uint64_t type_units,
+    uint64_t ranges_base, uint64_t type_units, uint64_t big_endian,
     uint64_t *index, size_t index_length,
     uint64_t *offsets, size_t offsets_length,
     uint32_t *parents, size_t parents_length,

@@ -5,7 +5,8 @@ refusal. With `check` nothing is written, and the files are compared with what w
 
 oracle/keep makes the cases. Each stands once: in crates/test_collect/data, of its family where the original's answer
 tells the marks too, in dangling.bundles where it is a refusal by 8; and in oracle/kept where the port is not held to
-it: cases with a listed difference, and headers that are refused (the original's errors don't tell 1 from 2)."""
+it: cases with a listed difference, and headers that are refused (the original's errors don't tell 1 from 2). Names of
+big-endian cases end with -big."""
 import os
 import sys
 
@@ -13,11 +14,18 @@ from units import CRATES, TESTS, Part, bundles, placed, read, with_parts, write
 
 KEPT = os.path.join(TESTS, '..', 'oracle', 'kept')
 DATA = os.path.join(CRATES, 'test_collect', 'data')
-FAMILIES = ('small bytes valid lists expressions trees deep refused damaged listed headers declarations numbers operations kinds '
-            'siblings sums no-table failures tables').split()
+BIG = '-big'
+OF_ONE_ORDER = ('small bytes valid lists expressions trees deep refused damaged listed headers declarations numbers operations kinds '
+                'siblings sums no-table failures tables').split()
+FAMILIES = OF_ONE_ORDER + [family + BIG for family in OF_ONE_ORDER]
 ERRORS = {'ParseUnitAbbreviations': 3, 'ParseUnit': 4, 'Read': 5, 'Address': 6, 'AddressPastEnd': 17,
           'UnexpectedSectionAbsoluteReference': 7, 'MalformedDebugInfo': 8}
 FIELDS = ('entries', 'kept', 'map', 'ranges', 'locations', 'strings', 'bytes')
+
+
+def is_big(name):
+    """Whether a family, or a file of bundles, is big-endian."""
+    return name.split('.')[0].endswith(BIG)
 
 
 def answer(line):
@@ -48,7 +56,9 @@ def place(family, line):
     """The file of a case."""
     if answer(line) is None:
         return os.path.join(KEPT, family + '.bundles')
-    return os.path.join(DATA, 'dangling.bundles' if answer(line) == 'refused 8\n' else family + '.bundles')
+    if answer(line) == 'refused 8\n':
+        family = 'dangling' + BIG * is_big(family)
+    return os.path.join(DATA, family + '.bundles')
 
 
 def lines(family):
@@ -57,7 +67,8 @@ def lines(family):
 
 def kept():
     """The cases of the crate with the original's lines, by file, in order."""
-    out = {os.path.join(DATA, family + '.bundles'): [] for family in FAMILIES + ['dangling']}
+    out = {os.path.join(DATA, family + '.bundles'): [] for family in OF_ONE_ORDER + ['dangling']}
+    out.update({path.replace('.bundles', BIG + '.bundles'): [] for path in list(out)})
     for family in FAMILIES:
         for line in lines(family):
             if answer(line) is not None:
@@ -75,11 +86,17 @@ def printed(cases, of):
     return ''.join(placed(name, [(data, of(line)) for data, line in held]) for name, held in cases.items())
 
 
+def files(cases):
+    """The arguments that name the files: the big-endian ones come last, after the word that says so."""
+    big = [name for name in cases if is_big(name)]
+    return [name for name in cases if not is_big(name)] + ['big-endian'] + big
+
+
 def main():
     cases = kept()
-    marked = {name: held for name, held in cases.items() if name != 'dangling.bundles'}
-    made = with_parts('test_collect', [Part('marks of kept cases', 'marks', marked, printed(marked, marks)),
-                                       Part('answers for kept cases', 'collect', cases, printed(cases, answer))])
+    marked = {name: held for name, held in cases.items() if not name.startswith('dangling')}
+    made = with_parts('test_collect', [Part('marks of kept cases', 'marks', files(marked), printed(marked, marks)),
+                                       Part('answers for kept cases', 'collect', files(cases), printed(cases, answer))])
     wrong = write(made, sys.argv[1:] == ['check'])
     print('answers: %s' % ', '.join('%s %d' % (name.split('.')[0], len(held)) for name, held in cases.items()))
     sys.exit(wrong > 0)

@@ -3,7 +3,8 @@
 
 With split DWARF the unit is that of OBJECT's .dwo file, or of its own .dwo sections; else that of .debug_info,
 relocated. The address table has one byte, 1, for each address of .debug_addr. A bundle of more than 65,536 bytes (or
-what MOST says) is not made."""
+what MOST says) is not made. A bundle has no place for the byte order: of a big-endian object `big-endian` is said on
+standard error."""
 import os
 import sys
 
@@ -15,24 +16,29 @@ from elftools.elf.relocation import RelocationHandler
 
 MOST = int(os.environ.get('MOST', 65536))
 
-# pyelftools knows no relocations of thread-local offsets; any value serves here: that of the symbol and what is there.
+# pyelftools knows no relocations of thread-local offsets, and not those of clang's call frames for PowerPC and MIPS; any
+# value serves here: that of the symbol and what is there.
 R64, R32 = RelocationHandler._RELOCATION_RECIPES_X64, RelocationHandler._RELOCATION_RECIPES_X86
 R64.update({17: R64[1], 21: R64[10]})
 R32.update({32: R32[1]})
+POWER, MIPS = RelocationHandler._RELOCATION_RECIPES_PPC64, RelocationHandler._RELOCATION_RECIPES_MIPS
+POWER.update({44: POWER[38], 78: POWER[38]})
+MIPS.update({39: MIPS[2], 248: MIPS[2]})
 
 
 def sections(elf, suffix):
     return [elf.get_section_by_name('.debug_' + n + suffix) for n in ('info', 'abbrev', 'loclists', 'rnglists')]
 
 
-def first_unit(info):
-    return info[:4 + int.from_bytes(info[:4], 'little')]
+def first_unit(info, order):
+    return info[:4 + int.from_bytes(info[:4], order)]
 
 
 def parts(path):
     dwo = os.path.splitext(path)[0] + '.dwo'
     with open(path, 'rb') as f:
         elf = ELFFile(f)
+        order = 'little' if elf.little_endian else 'big'
         width = elf.elfclass // 8
         table = elf.get_section_by_name('.debug_addr')
         count = max(0, table.data_size - 8) // width if table else 0
@@ -45,7 +51,12 @@ def parts(path):
             d = elf.get_dwarf_info(relocate_dwarf_sections=True)
             found = (d.debug_info_sec, d.debug_abbrev_sec, d.debug_loclists_sec, d.debug_rnglists_sec)
             data = [s.stream.getvalue() if s else b'' for s in found]
-    return [first_unit(data[0])] + data[1:] + [b'\x01' * count]
+    return [first_unit(data[0], order)] + data[1:] + [b'\x01' * count]
+
+
+def is_big(path):
+    with open(path, 'rb') as f:
+        return not ELFFile(f).little_endian
 
 
 def main():
@@ -59,6 +70,8 @@ def main():
         sys.exit('%s: a bundle of %d bytes, and %d are the most' % (sys.argv[1], len(made), MOST))
     with open(sys.argv[2], 'wb') as f:
         f.write(made)
+    if is_big(sys.argv[1]):
+        print('big-endian', file=sys.stderr)
 
 
 if __name__ == '__main__':

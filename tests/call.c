@@ -1,10 +1,14 @@
-/* call FILE.. : runs each bundle of each file through the C call and prints its answer as crates/test_collect does.
- * call --cases FILE : runs cases that say what they lend through the call with lent tables, and prints what they leave as crates/test_collect does.
- * call --nested N : a unit whose one expression has N entry values, one in the other, with a reference to the terminator in the innermost, and a dead entry: what stack it takes is seen with `ulimit -s`.
+/* call [collect] [big-endian] FILE.. : runs each bundle of each file through the C call and prints its answer as
+ * crates/test_collect does; `big-endian` holds for the files after it, up to the next `collect`.
+ * call --cases FILE.. : runs cases that say what they lend through the call with lent tables, and prints what they leave
+ * as crates/test_collect does.
+ * call --nested N [big-endian] : a unit whose one expression has N entry values, one in the other, with a reference to
+ * the terminator in the innermost, and a dead entry: what stack it takes is seen with `ulimit -s`.
  * call --rules : checks of the calls themselves: counts without room, flags, lengths that are no whole places, an
- * address table of length 0, the two ways in which one can fail.
- * Every slice, but for the sections of the checks of a length of 0, is a block of memory of its own, exactly as long as it is lent and full of 0xa5 before the call, so that valgrind sees a byte read or written outside; sections are compared
- * with a copy after the call, and every byte past the answer must be 0. */
+ * address table of length 0, the two ways in which one can fail, the byte order.
+ * Every slice, but for the sections of the checks of a length of 0, is a block of memory of its own, exactly as long as
+ * it is lent and full of 0xa5 before the call, so that valgrind sees a byte read or written outside; sections are
+ * compared with a copy after the call, and every byte past the answer must be 0. */
 #include <stdio.h>
 #include <stdlib.h>
 #include <string.h>
@@ -65,21 +69,23 @@ static void zeros(struct bytes b, uint64_t from, const char *what)
 }
 
 /* The call on sections as they stand. */
-static uint64_t call_on(const struct bytes *s, uint64_t ranges_base, uint64_t type_units, struct bytes *lent)
+static uint64_t call_on(
+    const struct bytes *s, uint64_t ranges_base, uint64_t type_units, uint64_t big_endian, struct bytes *lent)
 {
     return collector_collect(
         s[0].at, s[0].length, s[1].at, s[1].length, s[2].at, s[2].length, s[3].at, s[3].length, s[4].at, s[4].length,
-        ranges_base, type_units,
+        ranges_base, type_units, big_endian,
         lent[MAP].at, lent[MAP].length, lent[RANGES].at, lent[RANGES].length, lent[LOCATIONS].at, lent[LOCATIONS].length,
         lent[STRINGS].at, lent[STRINGS].length, lent[OUT].at, lent[OUT].length, lent[COUNTS].at, lent[COUNTS].length);
 }
 
-static uint64_t call(const struct bytes *sections, uint64_t ranges_base, uint64_t type_units, struct bytes *lent)
+static uint64_t call(
+    const struct bytes *sections, uint64_t ranges_base, uint64_t type_units, uint64_t big_endian, struct bytes *lent)
 {
     struct bytes s[SECTIONS];
     for (int i = 0; i < SECTIONS; i++)
         s[i] = copy(sections[i]);
-    uint64_t answer = call_on(s, ranges_base, type_units, lent);
+    uint64_t answer = call_on(s, ranges_base, type_units, big_endian, lent);
     for (int i = 0; i < SECTIONS; i++) {
         if (memcmp(s[i].at, sections[i].at, s[i].length) != 0)
             fail("a section changed");
@@ -186,12 +192,12 @@ static void sections_of(struct bytes bundle, struct bytes *sections)
     }
 }
 
-static void run_bundle(struct bytes bundle)
+static void run_bundle(struct bytes bundle, uint64_t big_endian)
 {
     struct bytes sections[SECTIONS], lent[LENT];
     sections_of(bundle, sections);
     lend(lent, 12 * 4096, 8 * 8192, 65536, COLLECTOR_COUNTS + 5);
-    uint64_t answer = call(sections, 0, 0, lent);
+    uint64_t answer = call(sections, 0, 0, big_endian, lent);
     check_zeros(answer, lent);
     print_answer(answer, lent);
     give_back(lent);
@@ -215,7 +221,7 @@ static struct bytes read_file(const char *path)
     return b;
 }
 
-static void run_file(const char *path)
+static void run_file(const char *path, uint64_t big_endian)
 {
     const char *name = strrchr(path, '/');
     printf("== %s\n", name == NULL ? path : name + 1);
@@ -226,15 +232,15 @@ static void run_file(const char *path)
         if (n > b.length - at)
             fail("a bundle that is cut");
         printf("-- %zu\n", at);
-        run_bundle((struct bytes){b.at + at, n});
+        run_bundle((struct bytes){b.at + at, n}, big_endian);
         at += n;
     }
     free(b.at);
 }
 
-/* ---- cases that say what they lend: fifteen numbers of eight big-endian bytes, then a bundle */
+/* ---- cases that say what they lend: sixteen numbers of eight big-endian bytes, then a bundle */
 
-enum { INDEX, OFFSETS, PARENTS, ROOTS, ENDS, MARKS, TARGETS, PAIRS, TABLES, SETTINGS = 15, WORK = 4096 };
+enum { INDEX, OFFSETS, PARENTS, ROOTS, ENDS, MARKS, TARGETS, PAIRS, TABLES, SETTINGS = 16, WORK = 4096 };
 
 static size_t setting(const uint8_t *settings, int which, size_t most)
 {
@@ -280,7 +286,8 @@ static void print_left(uint64_t answer, const struct bytes *lent)
 
 /* The call with lent tables, of so many elements each; they are zeros after it. */
 static uint64_t call_lent(
-    const struct bytes *s, uint64_t ranges_base, uint64_t type_units, const size_t *elements, struct bytes *lent)
+    const struct bytes *s, uint64_t ranges_base, uint64_t type_units, uint64_t big_endian, const size_t *elements,
+    struct bytes *lent)
 {
     static const size_t width[TABLES] = {8, 8, 4, 1, 8, 1, 8, 4};
     struct bytes table[TABLES + 1];
@@ -289,7 +296,7 @@ static uint64_t call_lent(
     table[TABLES] = block(4 * WORK);
     uint64_t answer = collector_collect_lent(
         s[0].at, s[0].length, s[1].at, s[1].length, s[2].at, s[2].length, s[3].at, s[3].length, s[4].at, s[4].length,
-        ranges_base, type_units,
+        ranges_base, type_units, big_endian,
         (uint64_t *)table[INDEX].at, table[INDEX].length / 8, (uint64_t *)table[OFFSETS].at, table[OFFSETS].length / 8,
         (uint32_t *)table[PARENTS].at, table[PARENTS].length / 4, table[ROOTS].at, table[ROOTS].length,
         (uint64_t *)table[ENDS].at, table[ENDS].length / 8, table[MARKS].at, table[MARKS].length,
@@ -317,7 +324,8 @@ static void run_case(const uint8_t *settings, struct bytes bundle)
     for (int i = 0; i < COUNTS; i++)
         lent[i] = block(setting(settings, TABLES + i, most_bytes[i]));
     lent[COUNTS] = block(COLLECTOR_COUNTS);
-    uint64_t answer = call_lent(s, big(settings + 8 * 13, 8), big(settings + 8 * 14, 8), elements, lent);
+    uint64_t answer = call_lent(
+        s, big(settings + 8 * 13, 8), big(settings + 8 * 14, 8), big(settings + 8 * 15, 8), elements, lent);
     print_left(answer, lent);
     give_back(lent);
 }
@@ -355,7 +363,7 @@ static uint8_t nothing[1];
 static uint64_t five_by(uint8_t *table, size_t length, uint64_t type_units, struct bytes *lent)
 {
     struct bytes sections[SECTIONS] = FIVE(table, length);
-    uint64_t answer = call(sections, 0, type_units, lent);
+    uint64_t answer = call(sections, 0, type_units, 0, lent);
     check_zeros(answer, lent);
     return answer;
 }
@@ -364,6 +372,9 @@ static uint64_t five(uint8_t *table, uint64_t type_units, struct bytes *lent)
 {
     return five_by(table, 2, type_units, lent);
 }
+
+/* Enough for its tables. */
+static const size_t room[TABLES] = {3, 5, 5, 5, 5, 5, 2, 4};
 
 static void expect(uint64_t is, uint64_t should, const char *what)
 {
@@ -377,7 +388,6 @@ static void expect(uint64_t is, uint64_t should, const char *what)
  * never does. Indexes 0 and 1 are asked, in this order. */
 static void check_failures(void)
 {
-    static const size_t room[TABLES] = {3, 5, 5, 5, 5, 5, 2, 4};
     static struct {
         uint8_t bytes[2];
         size_t length;
@@ -394,18 +404,121 @@ static void check_failures(void)
         struct bytes own = copy((struct bytes){tables[i].bytes, tables[i].length});
         struct bytes sections[SECTIONS] = FIVE(own.at, own.length);
         lend(lent, 120, 80, 20, COLLECTOR_COUNTS);
-        expect(call_lent(sections, 0, 0, room, lent), tables[i].answer, "an address table, with lent tables");
+        expect(call_lent(sections, 0, 0, 0, room, lent), tables[i].answer, "an address table, with lent tables");
         give_back(lent);
         free(own.at);
     }
 }
 
+/* What it becomes with the addresses 1 0: the map, which is big-endian for either order, and the unit. */
+static const uint8_t map[] = {
+    0, 0, 0, 12, 0, 0, 0, 12, 0, 0, 0, 0, 0, 0, 0, 13, 0, 0, 0, 13, 0, 0, 0, 1,
+    0, 0, 0, 17, 0, 0, 0, 16, 0, 0, 0, 1, 0, 0, 0, 21, 0, 0, 0, 17, 0, 0, 0, 1,
+};
+static const uint8_t thin[] = {0x0e, 0, 0, 0, 5, 0, 1, 8, 0, 0, 0, 0, 0x01, 0x02, 0x00, 0x10, 0x03, 0x00};
+static const uint8_t thin_big[] = {0, 0, 0, 0x0e, 0, 5, 1, 8, 0, 0, 0, 0, 0x01, 0x02, 0x00, 0x10, 0x03, 0x00};
+
+/* Either call. */
+static uint64_t either(int lent_tables, struct bytes *sections, uint64_t big_endian, struct bytes *lent)
+{
+    uint64_t answer = lent_tables ? call_lent(sections, 0, 0, big_endian, room, lent) : call(sections, 0, 0, big_endian, lent);
+    check_zeros(answer, lent);
+    return answer;
+}
+
+/* The byte order, through both calls: any number but 0 is big-endian; told wrongly, a unit is refused, with 1 where its
+ * length then reaches past the section, with 2 by its version else. */
+static void check_order(void)
+{
+    static uint8_t unit_big[] = {0, 0, 0, 0x12, 0, 5, 1, 8, 0, 0, 0, 0, 0x01, 0x02, 0x00, 0x11, 0x03, 0x03, 0x02, 0x01, 0x10, 0x00};
+    static const uint64_t orders[] = {0, 1, 2, 256, (uint64_t)1 << 32, (uint64_t)1 << 63, UINT64_MAX};
+    static const uint64_t counts[] = {5, 3, 4, 18, 0, 0, 0};
+    struct bytes lent[LENT];
+    for (size_t i = 0; i < sizeof orders / sizeof *orders; i++)
+        for (int lent_tables = 0; lent_tables < 2; lent_tables++) {
+            struct bytes sections[SECTIONS] = FIVE(one_dead, 2);
+            if (orders[i] != 0)
+                sections[0] = (struct bytes){unit_big, sizeof unit_big};
+            lend(lent, 48, 0, 18, COLLECTOR_COUNTS);
+            expect(either(lent_tables, sections, orders[i], lent), COLLECTOR_REWRITTEN, "a byte order");
+            expect((uint64_t)memcmp(lent[MAP].at, map, 48), 0, "map of a byte order");
+            expect((uint64_t)memcmp(lent[OUT].at, orders[i] == 0 ? thin : thin_big, 18), 0, "output of a byte order");
+            for (int j = 0; j < 7; j++)
+                expect(count(lent, j), counts[j], "count of a byte order");
+            give_back(lent);
+            sections[0] = orders[i] == 0 ? (struct bytes){unit_big, sizeof unit_big} : (struct bytes){unit, sizeof unit};
+            lend(lent, 60, 16, 22, COLLECTOR_COUNTS);
+            expect(either(lent_tables, sections, orders[i], lent), 1, "a unit told wrongly");
+            give_back(lent);
+        }
+
+    /* a length that both orders read within the section: 256 in the unit's, 65,536 in the other */
+    struct bytes section = block(65540), sections[SECTIONS] = FIVE(one_dead, 2);
+    sections[0] = section;
+    for (int is_big = 0; is_big < 2; is_big++) {
+        static const uint8_t heads[2][12] = {{0, 1, 0, 0, 5, 0, 1, 8, 0, 0, 0, 0}, {0, 0, 1, 0, 0, 5, 1, 8, 0, 0, 0, 0}};
+        memset(section.at, 0, section.length);
+        memcpy(section.at, heads[is_big], 12);
+        section.at[12] = 0x03;
+        for (int told = 0; told < 2; told++)
+            for (int lent_tables = 0; lent_tables < 2; lent_tables++) {
+                lend(lent, 60, 16, 22, COLLECTOR_COUNTS);
+                uint64_t answer = either(lent_tables, sections, (uint64_t)told, lent);
+                expect(answer, told == is_big ? COLLECTOR_UNTOUCHED : 2, "a unit whose length both orders read");
+                give_back(lent);
+            }
+    }
+    free(section.at);
+}
+
+/* A number in so many bytes, in a byte order. */
+static void put(uint8_t *at, uint64_t n, int width, int is_big)
+{
+    for (int i = 0; i < width; i++)
+        at[is_big ? width - 1 - i : i] = (uint8_t)(n >> (8 * i));
+}
+
+/* A sibling of two bytes: 65,535 fits, 65,536 is 9, in either order. Its number lies inside its owner, so the place
+ * behind the owner, the terminator, is found; a dead entry before it goes. */
+static void check_wide(void)
+{
+    static uint8_t declarations[] = {1, 0x11, 1, 0x49, 0x11, 0, 0, 2, 0x24, 0, 0x01, 0x12, 0x03, 0x04, 0, 0, 3, 0x24, 0, 0, 0, 0};
+    struct bytes lent[LENT];
+    for (int is_big = 0; is_big < 2; is_big++)
+        for (uint64_t place = 65535; place <= 65536; place++) {
+            /* 12 the first entry, which names the owner at 14; its sibling at 15, a block of four bytes' length at 17 */
+            struct bytes section = block(place + 2);
+            memset(section.at, 0, section.length);
+            put(section.at, place - 2, 4, is_big);
+            put(section.at + 4, 5, 2, is_big);
+            section.at[6] = 1;
+            section.at[7] = 8;
+            section.at[12] = 1;
+            section.at[13] = 14;
+            section.at[14] = 2;
+            put(section.at + 15, 20, 2, is_big);
+            put(section.at + 17, place - 21, 4, is_big);
+            section.at[place] = 3;
+            struct bytes sections[SECTIONS] = {section, {declarations, sizeof declarations}, {nothing, 0}, {nothing, 0}, {nothing, 0}};
+            lend(lent, 60, 0, place + 1, COLLECTOR_COUNTS);
+            uint64_t answer = either(0, sections, (uint64_t)is_big, lent);
+            expect(answer, place == 65535 ? COLLECTOR_REWRITTEN : 9, "a sibling of two bytes");
+            if (answer == COLLECTOR_REWRITTEN) {
+                uint8_t length[4], sibling[2];
+                put(length, place - 3, 4, is_big);
+                put(sibling, place, 2, is_big);
+                expect((uint64_t)memcmp(lent[OUT].at, length, 4), 0, "the new length");
+                expect((uint64_t)memcmp(lent[OUT].at + 15, sibling, 2), 0, "the new sibling");
+                expect((uint64_t)memcmp(lent[OUT].at + 17, section.at + 17, place - 17), 0, "what is copied");
+            }
+            give_back(lent);
+            free(section.at);
+        }
+}
+
 static void check_rules(void)
 {
     struct bytes lent[LENT];
-    static const uint8_t map[] = {0, 0, 0, 12, 0, 0, 0, 12, 0, 0, 0, 0, 0, 0, 0, 13, 0, 0, 0, 13, 0, 0, 0, 1, 0, 0, 0, 17, 0, 0, 0, 16, 0, 0, 0, 1, 0, 0, 0, 21, 0, 0, 0, 17, 0, 0, 0, 1};
-    static const uint8_t thin[] = {0x0e, 0, 0, 0, 5, 0, 1, 8, 0, 0, 0, 0, 0x01, 0x02, 0x00, 0x10, 0x03, 0x00};
-
     /* exactly full, and what is in the counts */
     lend(lent, 48, 0, 18, COLLECTOR_COUNTS);
     expect(five(one_dead, 0, lent), COLLECTOR_REWRITTEN, "exactly full");
@@ -460,7 +573,7 @@ static void check_rules(void)
     for (size_t i = 0; i < sizeof shown / sizeof *shown; i++) {
         five_of[4] = (struct bytes){shown[i], 0};
         lend(lent, 48, 8, 18, COLLECTOR_COUNTS);
-        uint64_t answer = call_on(five_of, 0, 0, lent);
+        uint64_t answer = call_on(five_of, 0, 0, 0, lent);
         check_zeros(answer, lent);
         expect(answer, COLLECTOR_UNTOUCHED, "no address table");
         static const uint64_t all[] = {5, 5, 0, 0, 0, 0, 0};
@@ -475,6 +588,8 @@ static void check_rules(void)
     expect(count(lent, 1), 1, "kept of all dead");
     give_back(lent);
     check_failures();
+    check_order();
+    check_wide();
     printf("the call's own rules hold\n");
 }
 
@@ -491,7 +606,7 @@ static size_t put_uleb(uint8_t *at, uint64_t n)
     return i;
 }
 
-static uint64_t nested(size_t levels)
+static uint64_t nested(size_t levels, int is_big)
 {
     static uint8_t declarations[] = {0x01, 0x24, 0x01, 0x02, 0x18, 0x00, 0x00, 0x02, 0x24, 0x00, 0x00, 0x00, 0x00};
     static const uint8_t innermost[] = {0x99, 0, 0, 0, 0}; /* call4 of the terminator */
@@ -507,25 +622,25 @@ static uint64_t nested(size_t levels)
         memcpy(expression.at + start + 1, length, w);
         n += w + 1;
     }
-    static const uint8_t header[] = {0, 0, 0, 0, 5, 0, 1, 8, 0, 0, 0, 0, 0x01};
+    static const uint8_t header[] = {0, 0, 0, 0, 0, 0, 1, 8, 0, 0, 0, 0, 0x01};
     memcpy(section.at, header, sizeof header);
+    put(section.at + 4, 5, 2, is_big);
     size_t at = sizeof header;
     at += put_uleb(section.at + at, n);
     memcpy(section.at + at, expression.at + start, n);
     at += n;
     section.at[at++] = 0x02;
     section.at[at++] = 0x00;
-    for (int i = 0; i < 4; i++) {
-        section.at[i] = (uint8_t)((at - 4) >> (8 * i));
-        section.at[at - 6 + i] = (uint8_t)((at - 1) >> (8 * i));
-    }
+    put(section.at, at - 4, 4, is_big);
+    put(section.at + at - 6, at - 1, 4, is_big);
     struct bytes sections[SECTIONS] = {{section.at, at}, {declarations, sizeof declarations}, {nothing, 0}, {nothing, 0}, {nothing, 0}};
     struct bytes lent[LENT];
     lend(lent, 12 * 4, 0, at - 1, COLLECTOR_COUNTS);
-    uint64_t answer = call(sections, 0, 0, lent);
+    uint64_t answer = call(sections, 0, 0, (uint64_t)is_big, lent);
     check_zeros(answer, lent);
-    for (int i = 0; i < 4; i++)
-        expect(lent[OUT].at[at - 6 + i], (uint8_t)((at - 2) >> (8 * i)), "the innermost reference");
+    uint8_t reference[4];
+    put(reference, at - 2, 4, is_big);
+    expect((uint64_t)memcmp(lent[OUT].at + at - 6, reference, 4), 0, "the innermost reference");
     give_back(lent);
     free(expression.at);
     free(section.at);
@@ -534,19 +649,27 @@ static uint64_t nested(size_t levels)
 
 int main(int argc, char **argv)
 {
-    if (argc == 3 && strcmp(argv[1], "--cases") == 0) {
-        run_cases(argv[2]);
+    if (argc >= 3 && strcmp(argv[1], "--cases") == 0) {
+        for (int i = 2; i < argc; i++)
+            run_cases(argv[i]);
         return 0;
     }
-    if (argc == 3 && strcmp(argv[1], "--nested") == 0) {
-        expect(nested(strtoull(argv[2], NULL, 10)), COLLECTOR_REWRITTEN, "nested entry values");
+    if (argc >= 3 && strcmp(argv[1], "--nested") == 0) {
+        expect(nested(strtoull(argv[2], NULL, 10), argc > 3), COLLECTOR_REWRITTEN, "nested entry values");
         return 0;
     }
     if (argc == 2 && strcmp(argv[1], "--rules") == 0) {
         check_rules();
         return 0;
     }
-    for (int i = 1; i < argc; i++)
-        run_file(argv[i]);
+    uint64_t big_endian = 0;
+    for (int i = 1; i < argc; i++) {
+        if (strcmp(argv[i], "collect") == 0)
+            big_endian = 0;
+        else if (strcmp(argv[i], "big-endian") == 0)
+            big_endian = 1;
+        else
+            run_file(argv[i], big_endian);
+    }
     return 0;
 }

@@ -7,18 +7,22 @@ has the notation), what it lends, and the answer that the specification gives, n
 written, and the files are compared with what would be. `collect.py names` prints the number of each case with what it
 is about.
 
-A case is fifteen numbers of eight bytes, big-endian (how much is lent of the index of the declarations, of the columns
-offsets, parents, roots, ends, marks, targets, pairs, of map, three lists and output; the ranges base; type units), then
-a bundle. What is not said is lent with something to spare, so that zeros after the answer are seen."""
+A case is sixteen numbers of eight bytes, big-endian (how much is lent of the index of the declarations, of the columns
+offsets, parents, roots, ends, marks, targets, pairs, of map, three lists and output; the ranges base; type units; the
+unit's byte order, 0 little-endian), then a bundle. What is not said is lent with something to spare, so that zeros
+after the answer are seen. Each case stands in both byte orders, in a file for each, with the same number."""
 import sys
+from functools import partial
 
 import failures
-from units import A5, BIG, FIVE, HEADERS, LARGEST, T, Part, asking, bundle_of, counted, entry_values, header, octets, unit, with_parts, write
+from units import (A5, BIG, CUT, DANGLING, FAR, FIVE, HEADERS, LARGEST, ORDERS, T, Part, asking, bundle_of, counted, entry_values, far, field, header, octets,
+                   unit, with_parts, write)
 
-SETTINGS = ('index', 'offsets', 'parents', 'roots', 'ends', 'marks', 'targets', 'pairs', 'map', 'ranges', 'locations', 'strings', 'output', 'base', 'type_units')
+SETTINGS = ('index', 'offsets', 'parents', 'roots', 'ends', 'marks', 'targets', 'pairs', 'map', 'ranges', 'locations', 'strings', 'output', 'base',
+            'type_units', 'big_endian')
 ENTRY_COLUMNS = ('offsets', 'parents', 'roots', 'ends', 'marks')
 LISTS = ('ranges', 'locations', 'strings')
-cases = []
+cases = {big: [] for big in ORDERS}  # by the order that is told
 
 
 # ---- answers
@@ -43,14 +47,25 @@ def numbers(text, width):
     return b''.join(int(w).to_bytes(width, 'big') for w in text.replace('>', ' ').replace('@', ' ').split())
 
 
-def case(why, of_unit, table, answer, locations='', ranges='', addresses='', tail='', lend=None):
-    """lend: settings that matter, by name; `entries` and `references` for a whole table."""
+def case(why, of_unit, table, answer, locations='', ranges='', addresses='', tail='', lend=None, wrong=False, told=1):
+    """lend: settings that matter, by name; `entries` and `references` for a whole table. wrong: the unit is of the
+    order that is not told. told: the number that says big-endian."""
+    for big in ORDERS:
+        data = bundle_of(of_unit, table, locations, ranges, addresses, tail, big != wrong)
+        settings, lines = lent_and_left(why, of_unit, answer, dict(lend or {}), big)
+        settings['big_endian'] = told * big
+        cases[big].append((why, b''.join(settings[k].to_bytes(8, 'big') for k in SETTINGS) + data, lines))
+
+
+def lent_and_left(why, of_unit, answer, lend, big):
+    """The settings of a case, and what it must print."""
     kind = of_unit.partition(' ')[0] if isinstance(of_unit, str) else 'H'
-    lend = dict(lend or {})
     refused = 'refused' in answer
     lists = {k: b'' if refused or answer[k] == 'absent' else numbers(answer[k], 8) for k in LISTS}
     places = b'' if refused else numbers(answer['places'], 4)
-    out = b'' if refused or answer['unit'] is None else header(octets(answer['unit']), kind if kind in HEADERS else 'H')
+    out = b''
+    if not refused and answer['unit'] is not None:
+        out = header(octets(answer['unit'], big), kind if kind in HEADERS else 'H', big)
     given = {'index': 16, 'targets': 8, 'pairs': 16, 'base': 0, 'type_units': 0,
              'map': 101 if refused else len(places) + 5, 'output': len(unit(of_unit) if refused else out) + 3}
     given.update({c: 8 if refused else answer['entries'] + 1 for c in ENTRY_COLUMNS})
@@ -70,9 +85,7 @@ def case(why, of_unit, table, answer, locations='', ranges='', addresses='', tai
     for name, data in (('map', places), ('ranges', lists['ranges']), ('locations', lists['locations']), ('strings', lists['strings']), ('output', out)):
         assert len(data) <= given[name], why
         lines.append('%s %s' % (name, (data + bytes(given[name] - len(data))).hex() or '-'))
-    lines.append('clean')
-    data = bundle_of(of_unit, table, locations, ranges, addresses, tail)
-    cases.append((why, b''.join(given[k].to_bytes(8, 'big') for k in SETTINGS) + data, ''.join(line + '\n' for line in lines)))
+    return given, ''.join(line + '\n' for line in lines + ['clean'])
 
 
 # ---- the five-entry unit
@@ -102,18 +115,18 @@ case('11: one between two trees', 'H 03 00 03', A5, rewritten(2, 1, '12>12@0', '
 case('11: one behind a closed tree', 'H 01 00 00 03', A5, rewritten(2, 1, '12>12@0 13>13@1', '01 00'))
 case('11: terminators and no entry', 'H 00 00', A5, NOTHING)
 case('16: an offset at the section\'s end is an empty list', 'H 01 02 00 00', R, rewritten(2, 1, '12>12@0 15>13@1', '01 00'), ranges=T)
-case('16: past it is live', 'H 01 02 00 00', R, untouched(2, '0'), ranges='00' * 12 + '05000000')
-case('16: so is a table place that is cut', 'H 01 02 00 00', R, untouched(2, '0'), ranges=T[:-2])
+case('16: past it is live', 'H 01 02 00 00', R, untouched(2, '0'), ranges='00' * 12 + ' 4:5')
+case('16: so is a table place that is cut', 'H 01 02 00 00', R, untouched(2, '0'), ranges=CUT)
 case('16: locations at the end', 'H 01 00 02 00', L, rewritten(2, 1, '12>12@0 15>14@1', '01 00 00', locations='0'), locations=T)
-case('16: locations past it', 'H 01 00 02 00', L, no(5), locations='00' * 12 + '05000000')
-case('16: a table place of locations that is cut', 'H 01 00 02 00', L, no(5), locations=T[:-2])
+case('16: locations past it', 'H 01 00 02 00', L, no(5), locations='00' * 12 + ' 4:5')
+case('16: a table place of locations that is cut', 'H 01 00 02 00', L, no(5), locations=CUT)
 case('17: an index whose place is above 64 bits', 'H 01 02 %s 00' % BIG, R, untouched(2, str(2 ** 62)), ranges=T)
 case('17: of locations', 'H 01 %s 02 00' % BIG, L, no(5), locations=T)
-case('17, 51: ranges base plus offset above 64 bits', 'H 01 02 01000000 00', O, untouched(2, 'absent'), ranges='ffff00', lend={'base': 2 ** 64 - 1})
-case('25: a dangling reference in a location list is no 8', 'H 01 00 02', M, rewritten(2, 1, '12>12@0', '01 00', locations='0'), locations=T + '0503986300 00')
-case('25, 57: one that names an entry keeps it', 'H 01 00 02', M, untouched(2, locations='0'), locations=T + '0503980e00 00')
-case('25: and the list is not rewritten', 'H 01 00 02 02', M, rewritten(3, 2, '12>12@0 15>14@0', '01 00 02', locations='0'), locations=T + '0503980f00 00')
-case('26: call2 with 0 dangles', 'H 01 03 980000 02', X, no(8))
+case('17, 51: ranges base plus offset above 64 bits', 'H 01 02 4:1 00', O, untouched(2, 'absent'), ranges='ffff00', lend={'base': 2 ** 64 - 1})
+case('25: a dangling reference in a location list is no 8', 'H 01 00 02', M, rewritten(2, 1, '12>12@0', '01 00', locations='0'), locations=T + '050398 2:63 00')
+case('25, 57: one that names an entry keeps it', 'H 01 00 02', M, untouched(2, locations='0'), locations=T + '050398 2:e 00')
+case('25: and the list is not rewritten', 'H 01 00 02 02', M, rewritten(3, 2, '12>12@0 15>14@0', '01 00 02', locations='0'), locations=T + '050398 2:f 00')
+case('26: call2 with 0 dangles', 'H 01 03 98 2:0 02', X, no(8))
 case('26: call4 with 0', 'H 01 05 9900000000 02', X, no(8))
 case('26: GNU_parameter_ref with 0', 'H 01 05 fa00000000 02', X, no(8))
 case('26: convert with 0 is copied', 'H 01 02 a800 02', X, rewritten(2, 1, '12>12@0', '01 02 a800'))
@@ -122,8 +135,8 @@ case('26: all six with 0', 'H 01 11 a40001ffa50100a60400a70400a800a900 02', X, r
 case('26: all six with an entry', 'H 01 11 a42001ffa50120a60420a70420a820a920 02 02', X,
      rewritten(3, 2, '12>12@0 32>31@0', '01 11 a41f01ffa5011fa6041fa7041fa81fa91f 02'))
 case('26: the GNU codes', 'H 01 0e f41d01fff5011df6041df71df91d 02 02', X, rewritten(3, 2, '12>12@0 29>28@0', '01 0e f41c01fff5011cf6041cf71cf91c 02'))
-case('26: call2, call4, GNU_parameter_ref', 'H 01 0d 981c00991c000000fa1c000000 02 02', X,
-     rewritten(3, 2, '12>12@0 28>27@0', '01 0d 981b00991b000000fa1b000000 02'))
+case('26: call2, call4, GNU_parameter_ref', 'H 01 0d 98 2:1c 99 4:1c fa 4:1c 02 02', X,
+     rewritten(3, 2, '12>12@0 28>27@0', '01 0d 98 2:1b 99 4:1b fa 4:1b 02'))
 case('27: a terminator of a kept parent', 'H 01 0f 02 00', '1 24 children 49/11; 2 24', rewritten(2, 1, '12>12@0 15>14@1', '01 0e 00'))
 case('27: a surplus one', 'H 01 0f 02 00', G, no(8))
 case('27: that of a dead parent', 'H 01 0f 02 00', '1 24 49/11; 2 24 children', no(8))
@@ -135,8 +148,8 @@ case('27: beyond it', 'H 01 63 02', G, no(8))
 case('27: a dangling reference where nothing is dead', 'H 01 63', G, untouched(1))
 case('27: one of a dead entry', 'H 01 02 63 00', '1 11 children; 2 24 49/11', rewritten(2, 1, '12>12@0 15>13@1', '01 00'))
 case('28: block1 under location is copied', 'H 01 03 980e00 02', '1 24 02/0a; 2 24', rewritten(2, 1, '12>12@0', '01 03 980e00'))
-case('28: block, block1, block2, block4', 'H 01 03980e00 03980e00 0300980e00 03000000980e00 02', '1 24 02/09 02/0a 02/03 02/04; 2 24',
-     rewritten(2, 1, '12>12@0', '01 03980e00 03980e00 0300980e00 03000000980e00'))
+case('28: block, block1, block2, block4', 'H 01 03980e00 03980e00 2:3 980e00 4:3 980e00 02', '1 24 02/09 02/0a 02/03 02/04; 2 24',
+     rewritten(2, 1, '12>12@0', '01 03980e00 03980e00 2:3 980e00 4:3 980e00'))
 case('32: a sibling that is its owner\'s child', 'H 01 0e 02 10 03 00 03 00', '1 11 children 49/11; 2 24 children 01/11; 3 24',
      rewritten(4, 3, '12>12@0 14>14@1 16>16@2 17>17@2 19>18@1', '01 0e 02 10 03 00 00'))
 case('32: one before its owner', 'H 01 0e 02 0c 03 00 03 00', '1 11 children 49/11; 2 24 children 01/11; 3 24',
@@ -153,12 +166,12 @@ case('32: the terminator of its own children is too deep', 'H 01 0e 03 00', '1 2
 case('32: 0 finds the first entry', 'H 01 00 03 00', '1 24 children 01/11; 3 24', rewritten(2, 1, '12>12@0 15>14@1', '01 0c 00'))
 case('32: a number inside an entry', 'H 01 0e 02 0d 03 00', S, rewritten(3, 2, '12>12@0 14>14@1 17>16@1', '01 0e 02 0e 00'))
 case('32: a sibling of a dead entry', 'H 01 10 02 63 03 00', S, rewritten(3, 2, '12>12@0 16>14@1 17>15@1', '01 0e 03 00'))
-for form, old, new, width in (('11', '12', '10', 1), ('12', '1300', '1100', 2), ('13', '15000000', '13000000', 4), ('14', '1900000000000000', '1700000000000000', 8),
-                              ('15', '12', '10', 1), ('15', '948000', '928000', 3), ('16', '1113', '1111', 2), ('16', '16121500', '16121300', 4)):
+for form, old, new, width in (('11', '12', '10', 1), ('12', '2:13', '2:11', 2), ('13', '4:15', '4:13', 4), ('14', '8:19', '8:17', 8),
+                              ('15', '12', '10', 1), ('15', '948000', '928000', 3), ('16', '1113', '1111', 2), ('16', '16 12 2:15', '16 12 2:13', 4)):
     case('32: a dead sibling in form %s, %s' % (form, old), 'H 01 0f 03 02 %s 03 03 00' % old, '1 11 children 49/11; 2 24 01/%s; 3 24' % form,
          rewritten(5, 2, '12>12@0 15>14@1 %d>%d@1' % (18 + width, 15 + width), '01 0e 02 %s 00' % new))
-case('42: a sibling in ref_addr is copied', 'H 01 0f 03 02 15000000 03 03 00', '1 11 children 49/11; 2 24 01/10; 3 24',
-     rewritten(5, 2, '12>12@0 15>14@1 22>19@1', '01 0e 02 15000000 00'))
+case('42: a sibling in ref_addr is copied', 'H 01 0f 03 02 4:15 03 03 00', '1 11 children 49/11; 2 24 01/10; 3 24',
+     rewritten(5, 2, '12>12@0 15>14@1 22>19@1', '01 0e 02 4:15 00'))
 case('42: ref_addr behind indirect is copied', 'H 01 10 00000000 02', '1 11 49/16; 2 24', rewritten(2, 1, '12>12@0', '01 10 00000000'))
 case('33: strx under the name of siblings', 'H 01 05 02', '1 11 01/1a; 2 24', rewritten(2, 1, '12>12@0', '01 00', strings='5'))
 case('33: strx behind indirect', 'H 01 1a 05 02', '1 11 03/16; 2 24', rewritten(2, 1, '12>12@0', '01 1a 00', strings='5'))
@@ -166,7 +179,7 @@ case('33: rnglistx and loclistx under another name', 'H 01 09 07 02', '1 11 40/2
 case('34: ranges in sec_offset, of a dead entry', 'H 01 07 02 00000000', '1 11 55/23; 2 24 55/17', rewritten(2, 1, '12>12@0', '01 07', 'absent'))
 case('34: of a kept entry', 'H 01 00000000 07 02', '1 11 55/17 55/23; 2 24', rewritten(2, 1, '12>12@0', '01 00000000 07', 'absent'))
 case('34: location in sec_offset', 'H 01 01 02 00000000', '1 11 02/22; 2 24 02/17', rewritten(2, 1, '12>12@0', '01 01', locations='absent'),
-     locations='00' * 12 + '0800000008000000')
+     locations='00' * 12 + ' 4:8 4:8')
 case('34: a declaration that no entry uses', 'H 01 07 02', '1 11 55/23; 2 24; 3 24 55/17', rewritten(2, 1, '12>12@0', '01 00', '7'))
 case('34: the other lists stay', 'H 01 05 07 09 02 00000000', '1 11 03/1a 55/23 40/22; 2 24 55/17', rewritten(2, 1, '12>12@0', '01 00 07 00', 'absent', '9', '5'))
 case('34: data4 makes no list absent', 'H 01 07 02 00000000 00', '1 11 children 55/23; 2 24 55/06', rewritten(2, 1, '12>12@0 19>14@1', '01 00 00', '7'))
@@ -197,34 +210,35 @@ case('41: the first ranges attribute decides', 'H 01 02 00 00 00', '1 11 childre
 
 # 43: a new place that does not fit. The sibling's number lies inside its owner, so the place behind the owner is found.
 NINE = '1 11 children 49/11; 2 24 01/%s 03/0a; 3 24'
+ZEROS = '00' * 250
 
 
 def long_owner(sibling, n, after='03 00'):
-    return bytes.fromhex('01 0e 02' + sibling) + bytes([n]) + bytes(n) + bytes.fromhex(after)
+    return partial(octets, '01 0e 02 %s %02x %s %s' % (sibling, n, '00' * n, after))
 
 
 case('43: ref1, 255', long_owner('14', 238), NINE % '11', rewritten(3, 2, '12>12@0 14>14@1 256>255@1', long_owner('ff', 238, '00')))
 case('43: ref1, 256', long_owner('14', 239), NINE % '11', no(9))
 case('43: ref1, where nothing is dead', long_owner('14', 250, '00'), NINE % '11', untouched(2))
-case('43: ref2, 256', long_owner('1400', 238), NINE % '12', rewritten(3, 2, '12>12@0 14>14@1 257>256@1', long_owner('0001', 238, '00')))
+case('43: ref2, 256', long_owner('2:14', 238), NINE % '12', rewritten(3, 2, '12>12@0 14>14@1 257>256@1', long_owner('2:100', 238, '00')))
 case('43: one byte of ref_udata, 127', long_owner('14', 110), NINE % '15', rewritten(3, 2, '12>12@0 14>14@1 128>127@1', long_owner('7f', 110, '00')))
 case('43: one byte of ref_udata, 128', long_owner('14', 111), NINE % '15', no(9))
 case('43: two bytes of ref_udata, 128', long_owner('9400', 110), NINE % '15', rewritten(3, 2, '12>12@0 14>14@1 129>128@1', long_owner('8001', 110, '00')))
 case('43: behind indirect', long_owner('1114', 250), NINE % '16', no(9))
 case('37: 14 before 9', long_owner('14', 239), NINE % '11', no(14), lend={'map': 36, 'output': 256})
 case('37: 9', long_owner('14', 239), NINE % '11', no(9), lend={'map': 36, 'output': 257})
-case('37: 9 before a later 8', bytes.fromhex('01 10 0e01 02 14 fa') + bytes(250) + bytes.fromhex('03 04 63 00'),
+case('37: 9 before a later 8', 'H 01 10 2:10e 02 14 fa %s 03 04 63 00' % ZEROS,
      '1 11 children 49/11 49/12; 2 24 01/11 03/0a; 3 24; 4 24 49/11', no(9))
-case('37: 8 before a later 9', bytes.fromhex('01 63 0f 02 14 fa') + bytes(250) + bytes.fromhex('03 00'), '1 11 children 49/11 49/11; 2 24 01/11 03/0a; 3 24', no(8))
-case('37: 9 before 8 in one entry', bytes.fromhex('01 0e 02 14 63 fa') + bytes(250) + bytes.fromhex('03 00'), '1 11 children 49/11; 2 24 01/11 49/11 03/0a; 3 24', no(9))
-case('37: 8 before 9 in one entry', bytes.fromhex('01 0e 02 63 14 fa') + bytes(250) + bytes.fromhex('03 00'), '1 11 children 49/11; 2 24 49/11 01/11 03/0a; 3 24', no(8))
+case('37: 8 before a later 9', 'H 01 63 0f 02 14 fa %s 03 00' % ZEROS, '1 11 children 49/11 49/11; 2 24 01/11 03/0a; 3 24', no(8))
+case('37: 9 before 8 in one entry', 'H 01 0e 02 14 63 fa %s 03 00' % ZEROS, '1 11 children 49/11; 2 24 01/11 49/11 03/0a; 3 24', no(9))
+case('37: 8 before 9 in one entry', 'H 01 0e 02 63 14 fa %s 03 00' % ZEROS, '1 11 children 49/11; 2 24 49/11 01/11 03/0a; 3 24', no(8))
 
 case('51: ranges base', 'H 01 02 00000000 00', O, rewritten(2, 1, '12>12@0 18>13@1', '01 00', 'absent'), ranges='ffff00', lend={'base': 2})
 case('51: without it', 'H 01 02 00000000 00', O, no(5), ranges='ffff00')
-case('51: up to the section\'s end', 'H 01 02 01000000 00', O, rewritten(2, 1, '12>12@0 18>13@1', '01 00', 'absent'), ranges='ffff00', lend={'base': 2})
-case('51: past it', 'H 01 02 02000000 00', O, untouched(2, 'absent'), ranges='ffff00', lend={'base': 2})
+case('51: up to the section\'s end', 'H 01 02 4:1 00', O, rewritten(2, 1, '12>12@0 18>13@1', '01 00', 'absent'), ranges='ffff00', lend={'base': 2})
+case('51: past it', 'H 01 02 4:2 00', O, untouched(2, 'absent'), ranges='ffff00', lend={'base': 2})
 case('51: not for rnglistx', 'H 01 02 00 00', R, rewritten(2, 1, '12>12@0 15>13@1', '01 00'), ranges=T, lend={'base': 1})
-case('51: not for locations', 'H 01 01000000 02', '1 24 02/17; 2 24', rewritten(2, 1, '12>12@0', '01 01000000', locations='absent'), locations='090009', lend={'base': 1})
+case('51: not for locations', 'H 01 4:1 02', '1 24 02/17; 2 24', rewritten(2, 1, '12>12@0', '01 4:1', locations='absent'), locations='090009', lend={'base': 1})
 TU = '1 11 03/1a 55/23 40/22; 2 24'
 case('51: type units: lists absent, indices copied', 'H 01 05 07 09 02', TU, rewritten(2, 1, '12>12@0', '01 05 07 09', 'absent', 'absent', 'absent'),
      lend={'type_units': 1, 'ranges': 0, 'locations': 0, 'strings': 0})
@@ -233,14 +247,14 @@ case('51: type units, where nothing is dead', 'H 01 05 07 09', TU, untouched(1, 
 case('51: type units, references patched all the same', 'H 01 0f 02 02', G, rewritten(3, 2, '12>12@0 15>14@0', '01 0e 02', 'absent', 'absent', 'absent'), lend={'type_units': 1})
 
 
-def nested(levels, operand):
-    """An expression with a call2 in the innermost of so many entry values."""
-    return counted(entry_values(levels, b'\x98' + operand.to_bytes(2, 'little')))
+def nested(levels, operand, after, big):
+    """An entry with a call2 in the innermost of so many entry values, and what follows."""
+    return b'\1' + counted(entry_values(levels, b'\x98' + field(2, operand, big))) + after
 
 
 def nested_unit(levels):
-    dead = 13 + len(nested(levels, 0))
-    return b'\1' + nested(levels, dead + 1) + b'\2\2', b'\1' + nested(levels, dead) + b'\2', dead
+    dead = 12 + len(nested(levels, 0, b'', False))
+    return partial(nested, levels, dead + 1, b'\2\2'), partial(nested, levels, dead, b'\2'), dead
 
 
 DEEP, THINNED, DEAD = nested_unit(3000)
@@ -251,24 +265,24 @@ case('53: nor named', 'H 01 0f 02', G, no(8), tail='02')
 case('55: 12 where the other lists were long enough', 'H 01 07 09 05 02', '1 11 55/23 40/22 03/1a; 2 24', no(12), lend={'ranges': 16, 'locations': 16, 'strings': 7})
 case('55: an untouched answer has its lists, no map and no output', 'H 01 07 09 05', '1 11 55/23 40/22 03/1a', untouched(1, '7', '9', '5'), lend={'map': 30, 'output': 20})
 case('55: 8 leaves no list', 'H 01 07 63 02', '1 11 03/1a 49/11; 2 24', no(8), lend={'strings': 8, 'map': 24, 'output': 24})
-case('56: two siblings in one entry', 'H 01 0f 03 02 14 1400 03 03 00', '1 11 children 49/11; 2 24 01/11 01/12; 3 24',
-     rewritten(5, 2, '12>12@0 15>14@1 21>18@1', '01 0e 02 12 1200 00'))
+case('56: two siblings in one entry', 'H 01 0f 03 02 14 2:14 03 03 00', '1 11 children 49/11; 2 24 01/11 01/12; 3 24',
+     rewritten(5, 2, '12>12@0 15>14@1 21>18@1', '01 0e 02 12 2:12 00'))
 case('56: any of several ranges in sec_offset', 'H 01 07 02 07 00000000', '1 11 55/23; 2 24 55/23 55/17', rewritten(2, 1, '12>12@0', '01 07', 'absent'))
 case('56: each low_pc in turn', 'H 01 02 00 01 03 00', '1 11 children; 2 2e 11/1b 11/1b; 3 24', rewritten(3, 2, '12>12@0 13>13@1 17>16@1', '01 02 00 01 00'), addresses='0001')
 
 # ---- refusals, each leaves zeros
 case('1: no length', '080000', A5, no(1))
-case('1: a length past the section, before the version', '03000000 0400', A5, no(1))
-case('1: cut inside the header', '02000000 0500', A5, no(1))
-case('1: a section one byte short', '08000000 0500 01 08 000000', A5, no(1))
-case('2: a length of 0xfffffff0', 'f0ffffff', A5, no(2))
-case('2: version 4', '08000000 0400 01 08 00000000', A5, no(2))
-case('2: version 4, and nothing after it', '02000000 0400', A5, no(2))
-case('2: unit type 4', '08000000 0500 04 08 00000000', A5, no(2))
-case('2: address size 2', '08000000 0500 01 02 00000000', A5, no(2))
+case('1: a length past the section, before the version', '4:3 2:4', A5, no(1))
+case('1: cut inside the header', '4:2 2:5', A5, no(1))
+case('1: a section one byte short', '4:8 2:5 01 08 000000', A5, no(1))
+case('2: a length of 0xfffffff0', '4:fffffff0', A5, no(2))
+case('2: version 4', '4:8 2:4 01 08 00000000', A5, no(2))
+case('2: version 4, and nothing after it', '4:2 2:4', A5, no(2))
+case('2: unit type 4', '4:8 2:5 04 08 00000000', A5, no(2))
+case('2: address size 2', '4:8 2:5 01 02 00000000', A5, no(2))
 case('3: a list that is not closed', 'H 03', A5[:-3], no(3))
 case('3: no abbreviations at all', 'H', '', no(3))
-case('3: an offset past the section', '08000000 0500 01 08 15000000', A5, no(3))
+case('3: an offset past the section', '4:8 2:5 01 08 4:15', A5, no(3))
 case('3: a code twice', 'H 01', '1 24; 1 24', no(3))
 case('4: an unknown code', 'H 63', A5, no(4))
 case('4: a code that is cut', 'H 03 80', A5, no(4))
@@ -313,22 +327,22 @@ case('2.4: what nothing asks for is dead all the same', 'H 01 020011 03 03 03 00
 case('2.4: a first entry that is a root', 'H 01 07 02 00', '1 2e children 11/1b; 2 24', untouched(2))
 case('2.4: a live range list among what is dead', 'H 01 02 00 03 00', '1 11 children; 2 2e 55/23; 3 24',
      rewritten(3, 2, '12>12@0 13>13@1 16>15@1', '01 02 00 00', '0'), ranges=T + '030701 00')
-case('2.4: a live expression is written anew', 'H 01 02 05a107981500 03 03 00', '1 11 children; 2 34 02/18; 3 24',
-     rewritten(4, 3, '12>12@0 13>13@1 21>20@1 22>21@1', '01 02 05a107981400 03 00'))
+case('2.4: a live expression is written anew', 'H 01 02 05a10798 2:15 03 03 00', '1 11 children; 2 34 02/18; 3 24',
+     rewritten(4, 3, '12>12@0 13>13@1 21>20@1 22>21@1', '01 02 05a10798 2:14 03 00'))
 case('2.4: 8 of a root by an index', 'H 01 02 07 63 03 00', '1 11 children; 2 2e 11/1b 49/11; 3 24', no(8))
 case('2.4: 12 of one', 'H 01 02 07 05 00', '1 11 children; 2 2e 11/1b 03/1a', no(12), lend={'strings': 7})
 case('2.4: room for it', 'H 01 02 07 05 00', '1 11 children; 2 2e 11/1b 03/1a', untouched(2, strings='5'), lend={'strings': 8})
 for index in ('00', '07', LARGEST):
     for asks, of_unit, table, ranges in asking(index):
         second('2.3: %s, index %s' % (asks, index), of_unit, table, False, ranges=ranges)
-for form, index in (('29', '07'), ('2a', '0700'), ('2b', '070000'), ('2c', '07000000'), ('2c', 'ffffffff'), ('16', '1b07')):
+for form, index in (('29', '07'), ('2a', '2:7'), ('2b', '3:7'), ('2c', '4:7'), ('2c', 'ffffffff'), ('16', '1b07')):
     second('2.1: low_pc in form %s, %s' % (form, index), 'H 01 02 %s 00' % index, P % form, False)
 for kind, size in (('H', 8), ('H4', 4)):
     for address in ('00' * size, 'ff' * size):
         second('2.1: low_pc, a direct address %s' % address, '%s 01 02 %s 00' % (kind, address), P % '01', True)
-        for entry in ('05%s 040001', '06%s' + '01' + '00' * (size - 1), '07%s 01'):
+        for entry in ('05%s 040001', '06%s' + ' %d:1 ' % size, '07%s 01'):
             second('2.1: range list kind %s, %s' % (entry[:2], address), kind + ' 01 02 00 00', R, True, ranges=T + entry % address + '00')
-second('2.1: DW_OP_addr', 'H 01 02 09 031122334455667788 00', V, True)
+second('2.1: DW_OP_addr', 'H 01 02 09 03 8:8877665544332211 00', V, True)
 second('2.1: a dead base behind a live one', 'H 01 02 00 00', R, True, ranges=T + '0105 05' + '00' * 8 + '040000 00')
 second('2.1: a live base behind a dead one', 'H 01 02 00 00', R, False, ranges=T + '05' + '00' * 8 + '0105 040000 00')
 second('2.2: base_addressx with no pair', 'H 01 02 00 00', R, True, ranges=T + '0105 00')
@@ -360,7 +374,7 @@ for why, of_unit, table, answer, sections in failures.cases():
     judged(why, of_unit, table, answer, **sections)
 for n, byte in failures.EVERY:
     places, of_unit, table, ranges, addresses = failures.every(n, byte)
-    entries, end = len(places) + 1, len(of_unit) + 11
+    entries, end = len(places) + 1, len(unit(of_unit)) - 1
     answer = untouched(entries, '0 1 2') if byte else rewritten(entries, 1, '12>12@0 %d>13@1' % end, '01 00')
     case('5.3: the last index of %d' % n, of_unit, table, answer, ranges=ranges, addresses=addresses)
 TWICE = '1 11 children%s; 2 ' + failures.TWICE
@@ -404,10 +418,10 @@ case('59: the column pairs is one number short', FIVE, A5, no(11), addresses='01
 case('59: the column pairs has an odd number', FIVE, A5, ONE, addresses='0100', lend=dict(FULL, pairs=5))
 case('repeats and dangling references count', 'H 01 63 63 0c', '1 24 49/11 49/11 49/11', untouched(1), lend={'references': 3})
 case('one short for them', 'H 01 63 63 0c', '1 24 49/11 49/11 49/11', no(11), lend={'references': 2})
-case('those of a location list count', 'H 01 00 02', M, no(11), locations=T + '0503986300 00', lend={'references': 0})
-case('those of nested entry values count', 'H 01 05 a303 980c00', X, no(11), lend={'references': 0})
+case('those of a location list count', 'H 01 00 02', M, no(11), locations=T + '050398 2:63 00', lend={'references': 0})
+case('those of nested entry values count', 'H 01 05 a303 98 2:c', X, no(11), lend={'references': 0})
 case('those of dead entries count', 'H 01 02 63 00', '1 11 children; 2 24 49/11', no(11), lend={'references': 0})
-case('call2 with 0 counts', 'H 01 03 980000', X, no(11), lend={'references': 0})
+case('call2 with 0 counts', 'H 01 03 98 2:0', X, no(11), lend={'references': 0})
 case('convert with 0 does not', 'H 01 02 a800', X, untouched(1), lend={'references': 0})
 case('a sibling does not', 'H 01 63', '1 24 01/11', untouched(1), lend={'references': 0})
 
@@ -438,13 +452,13 @@ case('a padded terminator of a dead parent', 'H 01 02 8000 00', '1 11 children; 
 case('a padded ref_udata keeps its width', 'H 01 9000 02 02 00', '1 24 children 49/15; 2 24', rewritten(3, 2, '12>12@0 16>15@1 17>16@1', '01 8f00 02 00'))
 case('so does one of ten bytes', 'H 01 98808080808080808000 02 02 00', '1 24 children 49/15; 2 24',
      rewritten(3, 2, '12>12@0 24>23@1 25>24@1', '01 97808080808080808000 02 00'))
-case('a padded length of an exprloc', 'H 01 8300 981300 02 02', X, rewritten(3, 2, '12>12@0 19>18@0', '01 8300 981200 02'))
+case('a padded length of an exprloc', 'H 01 8300 98 2:13 02 02', X, rewritten(3, 2, '12>12@0 19>18@0', '01 8300 98 2:12 02'))
 case('a padded operand', 'H 01 04 a8938000 02 02', X, rewritten(3, 2, '12>12@0 19>18@0', '01 04 a8928000 02'))
 case('a padded index', 'H 01 858000 09 02', '1 11 03/1a 03/1a; 2 24', rewritten(2, 1, '12>12@0', '01 808000 01', strings='5 9'))
 case('padded indices of each form', 'H 01 8500 8900 8700 8600 02', '1 11 03/1f02 55/23 40/22 03/1a; 2 24',
      rewritten(2, 1, '12>12@0', '01 8000 8000 8000 8100', '9', '7', '5 6'))
-case('every form of a reference', 'H 01 1e 1f00 20000000 2100000000000000 22 02 02 02 02 02 02', '1 11 49/11 49/12 49/13 49/14 49/15; 2 24',
-     rewritten(7, 6, '12>12@0 30>29@0 31>30@0 32>31@0 33>32@0 34>33@0', '01 1d 1e00 1f000000 2000000000000000 21 02 02 02 02 02'))
+case('every form of a reference', 'H 01 1e 2:1f 4:20 8:21 22 02 02 02 02 02 02', '1 11 49/11 49/12 49/13 49/14 49/15; 2 24',
+     rewritten(7, 6, '12>12@0 30>29@0 31>30@0 32>31@0 33>32@0 34>33@0', '01 1d 2:1e 4:1f 8:20 21 02 02 02 02 02'))
 case('a reference behind indirect', 'H 01 11 10 02 02', '1 11 49/16; 2 24', rewritten(3, 2, '12>12@0 16>15@0', '01 11 0f 02'))
 case('behind two', 'H 01 16 15 11 02 02', '1 11 49/16; 2 24', rewritten(3, 2, '12>12@0 17>16@0', '01 16 15 10 02'))
 case('a signature is copied', 'H 01 1122334455667788 02', '1 24 49/20; 2 24', rewritten(2, 1, '12>12@0', '01 1122334455667788'))
@@ -452,13 +466,13 @@ case('implicit_const under type is no reference', 'H 01 02', '01 24 00 49 21 0d 
 case('other values are copied', 'H 01 616200 33 3333 33333333 3333333333333333 33333333333333333333333333333333 ff7f b300 02',
      '1 24 03/08 03/19 03/0b 03/05 03/06 03/07 03/1e 03/0d 03/0f; 2 24',
      rewritten(2, 1, '12>12@0', '01 616200 33 3333 33333333 3333333333333333 33333333333333333333333333333333 ff7f b300'))
-case('references at three levels of entry values', 'H 01 0d 981c00 a308 981d00 a303 981f00 02 02 02 02 02', X,
-     rewritten(6, 4, '12>12@0 28>27@0 29>28@0 31>29@0', '01 0d 981b00 a308 981c00 a303 981d00 02 02 02'))
-case('GNU_entry_value', 'H 01 05 f303 981400 02 02', X, rewritten(3, 2, '12>12@0 20>19@0', '01 05 f303 981300 02'))
-case('a dangling reference in an entry value', 'H 01 05 a303 986300 02', X, no(8))
-case('an exprloc under any name', 'H 01 03 981200 02 02', '1 24 40/18; 2 24', rewritten(3, 2, '12>12@0 18>17@0', '01 03 981100 02'))
-case('an exprloc behind indirect', 'H 01 18 03 981300 02 02', '1 24 02/16; 2 24', rewritten(3, 2, '12>12@0 19>18@0', '01 18 03 981200 02'))
-case('operands that only look like references', 'H 01 0b 0e981300000000000008a8 02', X, rewritten(2, 1, '12>12@0', '01 0b 0e981300000000000008a8'))
+case('references at three levels of entry values', 'H 01 0d 98 2:1c a308 98 2:1d a303 98 2:1f 02 02 02 02 02', X,
+     rewritten(6, 4, '12>12@0 28>27@0 29>28@0 31>29@0', '01 0d 98 2:1b a308 98 2:1c a303 98 2:1d 02 02 02'))
+case('GNU_entry_value', 'H 01 05 f303 98 2:14 02 02', X, rewritten(3, 2, '12>12@0 20>19@0', '01 05 f303 98 2:13 02'))
+case('a dangling reference in an entry value', 'H 01 05 a303 98 2:63 02', X, no(8))
+case('an exprloc under any name', 'H 01 03 98 2:12 02 02', '1 24 40/18; 2 24', rewritten(3, 2, '12>12@0 18>17@0', '01 03 98 2:11 02'))
+case('an exprloc behind indirect', 'H 01 18 03 98 2:13 02 02', '1 24 02/16; 2 24', rewritten(3, 2, '12>12@0 19>18@0', '01 18 03 98 2:12 02'))
+case('operands that only look like references', 'H 01 0b 0e 8:1398 08a8 02', X, rewritten(2, 1, '12>12@0', '01 0b 0e 8:1398 08a8'))
 case('several trees', 'H 01 10 02 00 02 03 00 03', '1 24 49/11; 2 24 children; 3 24', rewritten(5, 3, '12>12@0 16>14@0 17>15@1 18>16@1', '01 0e 02 03 00'))
 case('two lists of children open at the end', 'H 01 0f 03 02 03', '1 11 children 49/11; 2 24 children; 3 24', rewritten(4, 3, '12>12@0 15>14@1 16>15@2', '01 0e 02 03'))
 case('a parent that is retained for its child', 'H 01 10 02 03 03 00 03 00', '1 11 children 49/11; 2 24 children; 3 24',
@@ -466,10 +480,10 @@ case('a parent that is retained for its child', 'H 01 10 02 03 03 00 03 00', '1 
 case('a dead subtree of three levels', 'H 01 02 02 03 00 00 03 00', '1 11 children; 2 24 children; 3 24', rewritten(5, 1, '12>12@0 19>13@1', '01 00'))
 case('unit type 5', 'H5 01 020019 03 03 020118 00', A5, rewritten(5, 3, '20>20@0 21>21@1 25>24@1 29>25@1', '01 020018 03 00'), addresses='0100')
 case('unit type 5, into its header', 'H5 01 0c 02', G, no(8))
-case('address size 4', 'H4 01 02 00000000 02 ffffffff 02 01000000 00', '1 11 children; 2 2e 11/01; 3 24', rewritten(4, 2, '12>12@0 23>13@1 28>18@1', '01 02 01000000 00'))
-case('address size 4 in an expression', 'H4 01 08 0398989898 981700 02 02', X, rewritten(3, 2, '12>12@0 23>22@0', '01 08 0398989898 981600 02'))
-case('strings in every form, repeats, out of order', 'H 01 05 0300 090000 05000000 07 03 02', '1 11 03/25 03/26 03/27 03/28 03/1a 03/1f02; 2 24',
-     rewritten(2, 1, '12>12@0', '01 01 0000 030000 01000000 02 00', strings='3 5 7 9'))
+case('address size 4', 'H4 01 02 00000000 02 ffffffff 02 4:1 00', '1 11 children; 2 2e 11/01; 3 24', rewritten(4, 2, '12>12@0 23>13@1 28>18@1', '01 02 4:1 00'))
+case('address size 4 in an expression', 'H4 01 08 0398989898 98 2:17 02 02', X, rewritten(3, 2, '12>12@0 23>22@0', '01 08 0398989898 98 2:16 02'))
+case('strings in every form, repeats, out of order', 'H 01 05 2:3 3:9 4:5 07 03 02', '1 11 03/25 03/26 03/27 03/28 03/1a 03/1f02; 2 24',
+     rewritten(2, 1, '12>12@0', '01 01 2:0 3:3 4:1 02 00', strings='3 5 7 9'))
 case('strings of a dead entry', 'H 01 05 02 03 00', '1 11 children 03/1a; 2 24 03/1a', rewritten(2, 1, '12>12@0 16>14@1', '01 00 00', strings='5'))
 case('strings of two entries', 'H 01 0f 09 02 04 03 00', '1 11 children 49/11 03/1a; 2 24 03/1a; 3 24',
      rewritten(3, 2, '12>12@0 15>15@1 18>17@1', '01 0f 01 02 00 00', strings='4 9'))
@@ -477,6 +491,82 @@ case('the largest index', 'H 01 ffffffffffffffffff01 02', '1 11 03/1a; 2 24', re
 case('ranges out of order, repeated', 'H 01 09 04 09 00 02', '1 11 55/23 55/23 55/23 55/23; 2 24', rewritten(2, 1, '12>12@0', '01 02 01 02 00', '0 4 9'))
 case('an address index is no list index', 'H 01 07 02', '1 11 11/1b; 2 24', rewritten(2, 1, '12>12@0', '01 07'))
 case('constx and addrx in an expression are copied', 'H 01 04 a105a206 02', X, rewritten(2, 1, '12>12@0', '01 04 a105a206'))
+
+# ---- document 02, point 12: all cases stand in both byte orders. Told wrongly, a unit is refused; fields whose bytes
+# differ, so that the other order would read or write another number
+TURNED = '%s 2:500 01 08 4:0 01 020011 03 03 020110 00'
+for number in (1, 2, 2 ** 63, 2 ** 64 - 1):
+    case('12: big-endian is told by %d' % number, FIVE, A5, ONE, addresses='0100', told=number)
+case('12.2: the map is big-endian', FIVE, A5, ONE, addresses='0100', lend=FULL)
+case('12.3: the five-entry unit, told wrongly', FIVE, A5, no(1), addresses='0100', wrong=True)
+case('12.3: its version alone is of the other order', TURNED % '4:12', A5, no(2), addresses='0100')
+case('12.3: its length alone', TURNED % '4:12', A5, no(1), addresses='0100', wrong=True)
+case('12.3: a length of 0xfffffff0', '4:fffffff0 2:5 01 08 4:0', A5, no(2))
+case('12.3: the same, told wrongly', '4:fffffff0 2:5 01 08 4:0', A5, no(1), wrong=True)
+case('12.3: a length of 0xf0ffffff', '4:f0ffffff 2:5 01 08 4:0', A5, no(1))
+case('12.3: the same, told wrongly', '4:f0ffffff 2:5 01 08 4:0', A5, no(2), wrong=True)
+case('12.3: a length of all ones, told wrongly', 'ffffffff', A5, no(2), wrong=True)
+case('12.3: an empty section, told wrongly', '', A5, NOTHING, wrong=True)
+case('12.3: a unit with no entries, told wrongly', 'H', A5, no(1), wrong=True)
+case('12.1: strx3', 'H 01 3:9 3:3 02', '1 11 03/27 1b/27; 2 24', rewritten(2, 1, '12>12@0', '01 3:1 3:0', strings='3 9'))
+case('12.1: addrx3', 'H 01 02 3:1 00', P % '2b', untouched(2), addresses='0001')
+case('12.2: ref_udata is the same', 'H 01 9000 02 02', '1 24 49/15; 2 24', rewritten(3, 2, '12>12@0 16>15@0', '01 8f00 02'))
+case('12: abbreviations from 0x102 on', 'HA 01 020011 03 03 020110 00', 'ff' * 258 + A5, ONE, addresses='0100')
+for form, width in (('26', 2), ('27', 3), ('28', 4)):
+    low, high = 0x10203040 >> 32 - 8 * width, 0x40302010 & 256 ** width - 1
+    low, high = sorted((low, high))
+    case('12.5: two numbers in form %s, by their size' % form, 'H 01 %d:%x %d:%x 02' % (width, high, width, low), '1 11 03/%s 03/%s; 2 24' % (form, form),
+         rewritten(2, 1, '12>12@0', '01 %d:1 %d:0' % (width, width), strings='%d %d' % (low, high)))
+ALL = bytes(range(256)).hex()
+case('12.5: ranks from 256 on', 'H 01 %s 2:1234 3:123456 4:12345678 02' % ALL, '1 11 %s 03/26 03/27 03/28; 2 24' % ' '.join(['03/25'] * 256),
+     rewritten(2, 1, '12>12@0', '01 %s 2:100 3:101 4:102' % ALL, strings=' '.join(map(str, [*range(256), 0x1234, 0x123456, 0x12345678]))))
+case('12.5: references of each width', 'H ' + far(302) + ' 02' * 8, FAR,
+     rewritten(9, 8, '12>12@0 ' + ' '.join('%d>%d@0' % (n, n - 1) for n in range(302, 309)), far(301) + ' 02' * 7))
+LESS = '01 2:%x 4:%x 8:%x 0d 98 2:%x 99 4:%x fa 4:%x d5' + '00' * 213
+case('12.5: from 256 to 255', 'H ' + LESS % ((256,) * 6) + '02 02', '1 24 49/12 49/13 49/14 02/18 03/0a; 2 24',
+     rewritten(3, 2, '12>12@0 256>255@0', LESS % ((255,) * 6) + '02'))
+for form, width in (('12', 2), ('13', 4), ('14', 8)):
+    case('12.5: a sibling of %d bytes, 256' % width, long_owner('%d:14' % width, 240 - width), NINE % form,
+         rewritten(3, 2, '12>12@0 14>14@1 257>256@1', long_owner('%d:100' % width, 240 - width, '00')))
+    mapped = '01 10 2:%%x 02 %d:%%x %02x %s ' % (width, 239 - width, '00' * (239 - width))
+    case('12.5: one that is kept, 258', 'H ' + mapped % (258, 258) + '03 03 00', '1 11 children 49/11 49/12; 2 24 01/%s 03/0a; 3 24' % form,
+         rewritten(4, 3, '12>12@0 16>16@1 258>257@1 259>258@1', mapped % (257, 257) + '03 00'))
+for of_unit, table in DANGLING:
+    case('12: a dangling reference', of_unit, table, no(8))
+EACH = 'H 01 %02x %s 98 2:%x 02 02'
+for operands in ('0a 2:1234 0b 2:fedc', '0c 4:12345678 0d 4:fedcba98', '0e 8:123456789abcdef0 0f 8:fedcba9876543210', '28 2:3 2f 2:fffd',
+                 '03 8:123456789abcdef0', '9e 02 1234', 'a3 03 0a 2:1234'):
+    size = len(octets(operands)) + 3
+    case('12.4: what is copied in an expression: ' + operands, EACH % (size, operands, 15 + size), X,
+         rewritten(3, 2, '12>12@0 %d>%d@0' % (15 + size, 14 + size), '01 %02x %s 98 2:%x 02' % (size, operands, 14 + size)))
+case('12.5: call4 in an entry value in another', 'H 01 09 a3 07 f3 05 99 4:18 02 02', X, rewritten(3, 2, '12>12@0 24>23@0', '01 09 a3 07 f3 05 99 4:17 02'))
+COPIED = '01 2:1234 4:12345678 8:123456789abcdef0 000102030405060708090a0b0c0d0e0f 4:1020304 4:5060708 4:90a0b0c 4:d0e0f00 8:102030405060708'
+case('12.4: what is copied', 'H ' + COPIED + ' 02', '1 24 03/05 03/06 03/07 03/1e 03/0e 03/1c 03/1d 03/17 03/20; 2 24', rewritten(2, 1, '12>12@0', COPIED))
+BLOCKS = '01 2:102 %s 4:103 %s 2:0 4:0' % ('aa' * 258, 'bb' * 259)
+case('12: lengths of blocks', 'H ' + BLOCKS + ' 02', '1 24 03/03 03/04 03/03 03/04; 2 24', rewritten(2, 1, '12>12@0', BLOCKS))
+case('12: a block2 that is cut', 'H 01 2:2 aa', '1 24 03/03', no(4))
+for form, width in (('2a', 2), ('2b', 3), ('2c', 4)):
+    second('12.1: low_pc in form %s, index 0x102' % form, 'H 01 02 %d:102 00' % width, P % form, False, addresses='00' * 258 + '01')
+    second('12.1: low_pc in form %s, index 0x102, dead' % form, 'H 01 02 %d:102 00' % width, P % form, True, addresses='00' * 259)
+    case('12.1: low_pc in form %s, index 0x201' % form, 'H 01 02 %d:201 00' % width, P % form, no(17), addresses='00' * 259)
+for kind, size in (('H', 8), ('H4', 4)):
+    for address in (1, 256 ** size - 2):
+        number = ' %d:%x ' % (size, address)
+        second('12: low_pc, a direct address%s' % number, kind + ' 01 02%s00' % number, P % '01', False)
+        for entry in ('05%s 040001', '06%s' + number, '07%s 01'):
+            second('12: range list kind %s,%s' % (entry[:2], number), kind + ' 01 02 00 00', R, False, ranges=T + entry % number + '00')
+second('12: a list by its offset', 'H 01 02 00 00', R, True, ranges='00' * 12 + ' 4:104 ' + 'ff' * 256 + '00')
+second('12: by the second of two', 'H 01 02 01 00', R, True, ranges='00' * 12 + ' 4:9 4:8 00 ff')
+case('12: a base of its own', 'H 01 4:104 02 00 00', '1 11 children 74/17; 2 2e 55/23', rewritten(2, 1, '12>12@0 19>17@1', '01 4:104 00'),
+     ranges='ff' * 260 + ' 4:4 00')
+case('12: ranges in sec_offset', 'H 01 02 4:102 00', O, rewritten(2, 1, '12>12@0 18>13@1', '01 00', 'absent'), ranges='ff' * 258 + '00')
+case('12: with a ranges base', 'H 01 02 4:102 00', O, rewritten(2, 1, '12>12@0 18>13@1', '01 00', 'absent'), ranges='ff' * 514 + '00', lend={'base': 256})
+case('12: a list of locations by its offset', 'H 01 00 02', M, untouched(2, locations='0'), locations='00' * 12 + ' 4:104 ' + 'ff' * 256 + '05 03 98 2:e 00')
+case('12: with a base of its own', 'H 01 4:104 00 02', '1 11 8c/17 02/22; 2 24', untouched(2, locations='0'), locations='ff' * 260 + ' 4:4 05 05 99 4:12 00')
+case('12: a location in sec_offset', 'H 01 4:102 02', '1 24 02/17; 2 24', untouched(2, locations='absent'), locations='ff' * 258 + '05 05 fa 4:11 00')
+case('12: ranks of lists are ULEB128', 'H 01 8904 8304 02', '1 11 40/23 40/22; 2 24', rewritten(2, 1, '12>12@0', '01 8000 8000', '521', '515'))
+case('12: ref_addr', 'H 01 4:c 02', '1 24 49/10; 2 24', no(7))
+case('12: call_ref', 'H 01 05 9a 4:13 02', X, no(7))
 
 # ---- 50, and document 02's 3.1: padded numbers, in the order of crates/test_collect/src/main.rt: value, width, length, bytes or none where refused (15)
 PADDED = [(0, 1, 1, '00'), (16, 2, 3, '900000'), (127, 1, 3, '7f0000'), (128, 1, 3, None), (128, 2, 3, '800100'), (0, 0, 3, None), (0, 4, 3, None), (0, 3, 3, '808000'),
@@ -503,45 +593,66 @@ def padded_lines():
     return ''.join('padded %d in %d of %d %s %s\n' % (v, w, n, 'refused 15' if b is None else 'written', '00' * n if b is None and n else b or '-') for v, w, n, b in PADDED)
 
 
-# ---- 45, 46, and document 02's 2.4 and 5.3: what thin prints, a file each; crates/test_readers has more (points.py)
+# ---- 45, 46, and document 02's 2.4, 5.3 and 12: what thin prints, a file each; crates/test_readers has more (points.py)
 FIRST = bundle_of(FIVE, A5, addresses='0100')
 FIRST_THINNED = 'entries 5 kept 3\n12 R 12\n13 L 13\n16 D -\n17 L 16\n18 D -\n'
+
+
+def ordered_cases(big, before):
+    """What stands in both byte orders."""
+    def five(**sections):
+        return bundle_of(FIVE, A5, big=big, **sections)
+
+    all_live = 'entries 5 kept 5\n12 R 12\n13 L 13\n16 L 16\n17 L 17\n18 L 18\n'
+    held = [('P4', five(addresses='0101'), all_live),
+            ('P5', five(addresses='0200'), 'refused 6\n'),
+            ('P6', five(addresses='01'), 'refused 17\n'),
+            ('no-table', five(), all_live),
+            ('only-terminators', bundle_of('H 0000', A5, big=big), 'entries 0 kept 0\n'),
+            ('dangling', bundle_of('H 01 63 02', G, big=big), 'refused 8\n'),
+            ('named-first', bundle_of('H 01 0c 02', G, big=big), 'entries 2 kept 1\n12 L 12\n14 D -\n')]
+    return [(before + name, data, lines) for name, data, lines in held]
 
 
 def thin_cases():
     room = 65536 - len(bundle_of(FIVE, A5))
     deep, _, dead = nested_unit(17000)
-    return [('P4', bundle_of(FIVE, A5, addresses='0101'), 'entries 5 kept 5\n12 R 12\n13 L 13\n16 L 16\n17 L 17\n18 L 18\n'),
-            ('P5', bundle_of(FIVE, A5, addresses='0200'), 'refused 6\n'),
-            ('P6', bundle_of(FIVE, A5, addresses='01'), 'refused 17\n'),
-            ('no-table', bundle_of(FIVE, A5), 'entries 5 kept 5\n12 R 12\n13 L 13\n16 L 16\n17 L 17\n18 L 18\n'),
-            ('only-terminators', bundle_of('H 0000', A5), 'entries 0 kept 0\n'),
-            ('dangling', bundle_of('H 01 63 02', G), 'refused 8\n'),
-            ('named-first', bundle_of('H 01 0c 02', G), 'entries 2 kept 1\n12 L 12\n14 D -\n'),
-            ('left-over', (len(FIRST) - 3).to_bytes(4, 'big') + FIRST[4:] + b'\0', 'bundle\n'),
-            ('65536', bundle_of(FIVE, A5, addresses=b'\1\0' + bytes(room - 2)), FIRST_THINNED),
-            ('65537', bundle_of(FIVE, A5, addresses=b'\1\0' + bytes(room - 1)), 'bundle\n'),
-            ('52-deep', bundle_of(deep, X), 'entries 3 kept 2\n12 R 12\n%d D -\n%d L %d\n' % (dead, dead + 1, dead))]
+    return ordered_cases(False, '') + [
+        ('left-over', (len(FIRST) - 3).to_bytes(4, 'big') + FIRST[4:] + b'\0', 'bundle\n'),
+        ('65536', bundle_of(FIVE, A5, addresses=b'\1\0' + bytes(room - 2)), FIRST_THINNED),
+        ('65537', bundle_of(FIVE, A5, addresses=b'\1\0' + bytes(room - 1)), 'bundle\n'),
+        ('52-deep', bundle_of(deep, X), 'entries 3 kept 2\n12 R 12\n%d D -\n%d L %d\n' % (dead, dead + 1, dead))]
+
+
+def big_thin_cases():
+    return ordered_cases(True, 'big-') + [
+        ('big-far', bundle_of('H ' + far(302) + ' 02' * 8, FAR, big=True),
+         'entries 9 kept 8\n12 R 12\n301 D -\n' + ''.join('%d L %d\n' % (n, n - 1) for n in range(302, 309)))]
+
+
+FILES = ((False, 'points.cases'), (True, 'points-big.cases'))
 
 
 def files():
-    thin = thin_cases()
-    made = with_parts('test_collect', [
-        Part('cases made by hand', 'cases', ['points.cases'],
-             '== points.cases\n' + ''.join('-- %d\n%s' % (n + 1, lines) for n, (_, _, lines) in enumerate(cases))),
-        Part('bundles through thin', 'thin', [name + '.bundle' for name, _, _ in thin], ''.join('== %s.bundle\n%s' % (name, lines) for name, _, lines in thin)),
-        Part('padded numbers', None, [], padded_lines())])
-    made['test_collect/data/points.cases'] = b''.join(data for _, data, _ in cases)
-    made.update({'test_collect/data/%s.bundle' % name: data for name, data, _ in thin})
+    held = [Part('cases made by hand', 'cases', [name for _, name in FILES],
+                 ''.join('== %s\n' % name + ''.join('-- %d\n%s' % (n + 1, lines) for n, (_, _, lines) in enumerate(cases[big]))
+                         for big, name in FILES))]
+    made = {'test_collect/data/' + name: b''.join(data for _, data, _ in cases[big]) for big, name in FILES}
+    for heading, thin, big in (('bundles through thin', thin_cases(), False), ('big-endian bundles through thin', big_thin_cases(), True)):
+        lines = ''.join('== %s.bundle\n%s' % (name, lines) for name, _, lines in thin)
+        held.append(Part(heading, 'thin', [name + '.bundle' for name, _, _ in thin], lines, big))
+        made.update({'test_collect/data/%s.bundle' % name: data for name, data, _ in thin})
+    made.update(with_parts('test_collect', held + [Part('padded numbers', None, [], padded_lines())]))
     made.update({'thin/stdin': FIRST, 'thin/stdout': FIRST_THINNED.encode()})
     return made
 
 
 if __name__ == '__main__':
     if sys.argv[1:] == ['names']:
-        for n, (why, _, _) in enumerate(cases):
+        for n, (why, _, _) in enumerate(cases[False]):
             print('%d %s' % (n + 1, why))
         sys.exit(0)
     wrong = write(files(), sys.argv[1:] == ['check'])
-    print('collect: %d cases, %d padded numbers; thin: %d files' % (len(cases), len(PADDED), len(thin_cases())))
+    print('collect: %d cases in each byte order, %d padded numbers; thin: %d files, %d of them big-endian' %
+          (len(cases[False]), len(PADDED), len(thin_cases() + big_thin_cases()), len(big_thin_cases())))
     sys.exit(wrong > 0)

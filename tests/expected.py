@@ -1,5 +1,6 @@
 #!/usr/bin/python3
-"""expected.py BUNDLE...: what `dump` should print of each bundle, after a line `== BUNDLE`, as Debian's pyelftools reads it.
+"""expected.py [--big-endian] BUNDLE...: what `dump` should print of each bundle, after a line `== BUNDLE`, as Debian's
+pyelftools reads it. With --big-endian their units are big-endian, else little-endian.
 
 pyelftools has the parsers of abbreviations, entries, forms, expressions and list entries. It knows no DW_FORM_strx and no data16,
 reads strx4 in eight bytes, skips no dwo_id, and has no parser for some operations: these are added below. A unit that it can't
@@ -65,14 +66,14 @@ def leb_end(data, at):
     return at + 1
 
 
-def dwarf_info(parts, address_size):
+def dwarf_info(parts, address_size, big):
     held = dict(zip(('info', 'abbrev', 'loclists', 'rnglists'), parts))
     words = {}
     for name in SECTION_NAMES:
         data = held.get(name)
         words['debug_%s_sec' % name] = None if data is None else DebugSectionDescriptor(
             stream=BytesIO(data), name='.debug_' + name, global_offset=0, size=len(data), address=0)
-    return DWARFInfo(config=DwarfConfig(little_endian=True, machine_arch='x64', default_address_size=address_size),
+    return DWARFInfo(config=DwarfConfig(little_endian=not big, machine_arch='x64', default_address_size=address_size),
                      eh_frame_sec=None, gnu_debugaltlink_sec=None, **words)
 
 
@@ -103,9 +104,10 @@ def expression_parser(structs):
 
 
 class Reader:
-    def __init__(self, parts):
+    def __init__(self, parts, big):
         self.data = parts
-        self.info = dwarf_info(parts[:4], parts[0][7])
+        self.order = 'big' if big else 'little'
+        self.info = dwarf_info(parts[:4], parts[0][7], big)
         self.unit = unit_of(self.info)
         self.structs = self.unit.structs
         self.parser = expression_parser(self.structs)
@@ -204,7 +206,7 @@ class Reader:
         place = base + 4 * index
         if place + 4 > len(data):
             return None
-        return base + int.from_bytes(data[place:place + 4], 'little')
+        return base + int.from_bytes(data[place:place + 4], self.order)
 
     # ---- entries
 
@@ -266,7 +268,8 @@ class Reader:
 
 def main():
     left_out = 0
-    for path in sys.argv[1:]:
+    big = sys.argv[1:2] == ['--big-endian']
+    for path in sys.argv[1 + big:]:
         with open(path, 'rb') as f:
             data = f.read()
         before = counts.copy()
@@ -274,7 +277,7 @@ def main():
             parts = units.parts(data)
             if parts is None:
                 raise LeftOut('no bundle')
-            lines = Reader(parts).read()
+            lines = Reader(parts, big).read()
         except (LeftOut, KeyError, DWARFError, ELFParseError) as why:
             counts.clear()
             counts.update(before)

@@ -16,7 +16,7 @@ EITHER = 'H 01 02 02 01 00'  # they fail with 17 and with 6
 # ---- what asks: its name, its tag and attribute, its largest index, and what makes the attribute's value and its list
 
 def in_form(width, index):
-    return index.to_bytes(width, 'little').hex() if width else uleb(index).hex(), ''
+    return '%d:%x' % (width, index) if width else uleb(index).hex(), ''
 
 
 def in_list(entries, index):
@@ -39,7 +39,7 @@ def lists(*texts):
     """A section of range lists."""
     out, at = '00' * 12, 4 * len(texts)
     for text in texts:
-        out += at.to_bytes(4, 'little').hex()
+        out += ' 4:%x ' % at
         at += len(octets(text))
     return out + ''.join(texts)
 
@@ -47,16 +47,16 @@ def lists(*texts):
 def every(n, byte):
     """All that asks in one unit, an entry each, for the last index of a table of n bytes; the last byte as told, and no
     other. The places of the entries, the unit, its abbreviations, its range lists and the table."""
-    body, declared, texts, places = b'\1', '1 11 children', [], []
+    body, declared, texts, places = '01', '1 11 children', [], []
     for code, (_, attribute, _, made) in enumerate(ASKERS, 2):
         value, text = made(n - 1)
         if text:
             value = '%02x' % len(texts)
             texts.append(text)
-        places.append(12 + len(body))
+        places.append(12 + len(octets(body)))
         declared += '; %d %s' % (code, attribute)
-        body += bytes([code]) + octets(value)
-    return places, body + b'\0', declared, lists(*texts), bytes([1 - byte]) * (n - 1) + bytes([byte])
+        body += ' %02x %s' % (code, value)
+    return places, 'H %s 00' % body, declared, lists(*texts), bytes([1 - byte]) * (n - 1) + bytes([byte])
 
 
 EVERY = ((1, 1), (2, 0), (255, 1), (256, 0))
@@ -156,8 +156,8 @@ def cases():
     add('5.3: another attribute', 'H 01 02 01 02 00', '2e 12/1b 12/1b', 'dead')
 
     # other numbers that go first
-    add('5.2: 1', '0e000000 0500 01 08 00000000 01 02 02 01 00', TWICE, 1)
-    add('5.2: 2', '0d000000 0500 01 02 00000000 01 02 02 01 00', TWICE, 2)
+    add('5.2: 1', '4:e 2:5 01 08 4:0 01 02 02 01 00', TWICE, 1)
+    add('5.2: 2', '4:d 2:5 01 02 4:0 01 02 02 01 00', TWICE, 2)
     add('5.2: 3', EITHER, abbreviations('1 11 children; 2 ' + TWICE)[:-1], 3)
     add('5.2: 4 of the same entry', EITHER, TWICE + ' 03/05', 4)
     add('5.2: 5 of the ranges of an entry before', 'H 01 03 00 02 02 01 00', TWICE + '; 3 2e 55/23', 5, ranges=T + 'ff')

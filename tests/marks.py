@@ -3,19 +3,21 @@
 crates/marks too.
 
 Each case has the point that it is about (one with a dot is document 02's), its bytes (units.py has the notation) and
-the marks that the specification gives, never from a run. With `check` nothing is written, and the files are compared
-with what would be."""
+the marks that the specification gives, never from a run. It stands in both byte orders, with the same marks. With
+`check` nothing is written, and the files are compared with what would be."""
 import sys
 
 import failures
-from units import A5, BIG, FIVE, LARGEST, T, Part, asking, bundle_of, placed, with_parts, write
+from units import A5, BIG, CUT, DANGLING, FAR, FIVE, LARGEST, ORDERS, T, Part, asking, bundle_of, far, placed, with_parts, write
 
-points = []
+points = {big: [] for big in ORDERS}  # by the order that is told
 
 
-def case(why, of_unit, table, expected, locations='', ranges='', addresses=''):
-    """expected: marks as `12R 13L`, or `refused N`."""
-    points.append((why, bundle_of(of_unit, table, locations, ranges, addresses), letters(expected)))
+def case(why, of_unit, table, expected, locations='', ranges='', addresses='', wrong=False):
+    """expected: marks as `12R 13L`, or `refused N`. wrong: the unit is of the order that is not told."""
+    for big in ORDERS:
+        data = bundle_of(of_unit, table, locations, ranges, addresses, big=big != wrong)
+        points[big].append((why, data, letters(expected)))
 
 
 def letters(expected):
@@ -39,7 +41,7 @@ V = '1 11 children; 2 34 02/18'
 L = '1 24 children 02/22; 2 24'
 X = '1 24 02/18; 2 24'
 case('1: data4 is another form, so ranges are live', 'H 01 02 00000000 00', '1 11 children; 2 2e 55/06', '12R 13L')
-case('1: a location in data4 is nothing', 'H 01 01000000', '1 34 02/06', '12R')
+case('1: a location in data4 is nothing', 'H 01 4:1', '1 34 02/06', '12R')
 case('1: behind indirect too', 'H 01 02 06 00000000 00', '1 11 children; 2 2e 55/16', '12R 13L')
 case('11: a surplus terminator before the first entry', 'H 00 03 03', A5, '13R 14D')
 case('11: a list of children that is open at the end', 'H 01 03', A5, '12R 13D')
@@ -51,11 +53,11 @@ case('14: a nested entry value is stepped over', 'H 01 02 05 a301ff a102 00', V,
 case('14: its indexes are not asked', 'H 01 02 04 a302 a101 00', V, '12R 13D', addresses='0001')
 case('15: an entry is read whole before it is judged', 'H 01 02 00 00', R, 'refused 5', ranges=T + '0200', addresses='02')
 case('16: the section\'s end is an empty list', 'H 01 02 00 00', R, '12R 13D', ranges=T)
-case('16: past it is live', 'H 01 02 00 00', R, '12R 13L', ranges='00' * 12 + '05000000')
-case('16: so is a table place that is cut', 'H 01 02 00 00', R, '12R 13L', ranges=T[:-2])
+case('16: past it is live', 'H 01 02 00 00', R, '12R 13L', ranges='00' * 12 + ' 4:5')
+case('16: so is a table place that is cut', 'H 01 02 00 00', R, '12R 13L', ranges=CUT)
 case('16: locations at the end', 'H 01 00 02 00', L, '12R 14D', locations=T)
-case('16: locations past it', 'H 01 00 02 00', L, 'refused 5', locations='00' * 12 + '05000000')
-case('16: a table place of locations that is cut', 'H 01 00 02 00', L, 'refused 5', locations=T[:-2])
+case('16: locations past it', 'H 01 00 02 00', L, 'refused 5', locations='00' * 12 + ' 4:5')
+case('16: a table place of locations that is cut', 'H 01 00 02 00', L, 'refused 5', locations=CUT)
 case('17: an index whose place is above 64 bits', 'H 01 02 %s 00' % BIG, R, '12R 13L', ranges=T)
 case('17: of locations', 'H 01 %s 02 00' % BIG, L, 'refused 5', locations=T)
 case('18: what follows a live range is not read', 'H 01 02 00 00', R, '12R 13L', ranges=T + '040000ff')
@@ -70,26 +72,26 @@ for entries in ('0101', '0102'):
          ranges=entries, addresses='0002')
 case('20: its end entry is dead', 'H 01 02 00000000 00', '1 11 children; 2 2e 55/17', '12R 13D', ranges='00')
 case('20: base_address only is skipped', 'H 01 02 00000000 00', '1 11 children; 2 2e 55/17', '12R 13D', ranges='05' + '11' * 8 + '00')
-case('21: of two bases the last', 'H 01 00000000 04000000 02 00 00', '1 11 children 74/17 74/17; 2 2e 55/23', '12R 21D', ranges='ffffffff 04000000 00')
-case('21: a nested unit entry counts, from itself on', 'H 01 02 00 03 04000000 02 00 00', '1 11 children; 2 2e 55/23; 3 11 74/17', '12R 13D 15D 20L',
-     ranges='00000000 04000000 040102 00 04000000')
-case('21: only a compile unit\'s own', 'H 01 04000000 02 00 00', '1 24 children 74/17; 2 2e 55/23', '12R 17D', ranges='00000000 04000000 04010200 00000000 0000')
+case('21: of two bases the last', 'H 01 4:0 4:4 02 00 00', '1 11 children 74/17 74/17; 2 2e 55/23', '12R 21D', ranges='ffffffff 4:4 00')
+case('21: a nested unit entry counts, from itself on', 'H 01 02 00 03 4:4 02 00 00', '1 11 children; 2 2e 55/23; 3 11 74/17', '12R 13D 15D 20L',
+     ranges='4:0 4:4 040102 00 4:4')
+case('21: only a compile unit\'s own', 'H 01 4:4 02 00 00', '1 24 children 74/17; 2 2e 55/23', '12R 17D', ranges='4:0 4:4 04010200 00000000 0000')
 case('22: low_pc in a reference form', 'H 01 02 0c 00', '1 11 children; 2 2e 11/11', '12L 13L')
 case('23: the root test before the references', 'H 01 02 00000000 00 00', '1 11 children; 2 2e 49/10 55/23', 'refused 5', ranges=T + 'ff')
 case('24: an expression before the next list entry', 'H 01 00 02 00', L, 'refused 7', locations=T + '05059a00000000ff')
-case('25: a dangling reference in a location list', 'H 01 00 02', '1 24 02/22; 2 24', '12R 14D', locations=T + '0503986300 00')
-case('57: one that names an entry', 'H 01 00 02', '1 24 02/22; 2 24', '12R 14L', locations=T + '0503980e00 00')
-case('a list under another name counts for nothing', 'H 01 00 02', '1 24 40/22; 2 24', '12R 14D', locations=T + '0503980e00 00')
-case('26: call2 with 0 dangles', 'H 01 03 980000 02', X, '12R 17D')
+case('25: a dangling reference in a location list', 'H 01 00 02', '1 24 02/22; 2 24', '12R 14D', locations=T + '050398 2:63 00')
+case('57: one that names an entry', 'H 01 00 02', '1 24 02/22; 2 24', '12R 14L', locations=T + '050398 2:e 00')
+case('a list under another name counts for nothing', 'H 01 00 02', '1 24 40/22; 2 24', '12R 14D', locations=T + '050398 2:e 00')
+case('26: call2 with 0 dangles', 'H 01 03 98 2:0 02', X, '12R 17D')
 case('26: convert with 0 is no reference', 'H 01 02 a800 02', X, '12R 16D')
 case('26: so with a padded 0', 'H 01 03 a88000 02', X, '12R 17D')
 case('27: a reference to a terminator marks nothing', 'H 01 0f 02 00', '1 24 children 49/11; 2 24', '12R 14D')
 case('28: a block is no expression', 'H 01 03 980e00 02', '1 24 02/0a; 2 24', '12R 17D')
-case('an exprloc is, under any name', 'H 01 03 981100 02', '1 24 40/18; 2 24', '12R 17L')
+case('an exprloc is, under any name', 'H 01 03 98 2:11 02', '1 24 40/18; 2 24', '12R 17L')
 case('29: breg31', 'H 01 02 8f00 02', X, '12R 16D')
 case('29: register 65,536', 'H 01 05 a580800400 02', X, 'refused 5')
 case('29: 0xf0', 'H 01 01 f0 02', X, 'refused 5')
-case('30: a base in data4 does not count', 'H 01 04000000 02 00 00', '1 11 children 74/06; 2 2e 55/23', '12R 17L')
+case('30: a base in data4 does not count', 'H 01 4:4 02 00 00', '1 11 children 74/06; 2 2e 55/23', '12R 17L')
 case('31: a first entry that is a root', 'H 01 00 02 00', '1 2e children 11/1b; 2 24', '12R 14L', addresses='01')
 case('31: one that names itself', 'H 01 0c', '1 24 49/11', '12L')
 case('31: one that a dead entry names', 'H 01 02 0c 00', '1 11 children; 2 24 49/11', '12R 13D')
@@ -107,12 +109,12 @@ case('56: each low_pc in turn', 'H 01 02 00 01 00', '1 11 children; 2 2e 11/1b 1
 case('a sibling names nothing', 'H 01 0e 02', '1 24 01/11; 2 24', '12R 14D')
 case('constx is no addrx', 'H 01 02 02 a200 00', V, '12R 13D', addresses='01')
 case('GNU_addr_index is', 'H 01 02 02 fb00 00', V, '12R 13L', addresses='01')
-case('a direct address makes no root', 'H 01 02 09 031122334455667788 00', V, '12R 13D')
-case('of a subprogram it does', 'H 01 02 1122334455667788 00', '1 11 children; 2 2e 11/01', '12R 13L')
+case('a direct address makes no root', 'H 01 02 09 03 8:8877665544332211 00', V, '12R 13D')
+case('of a subprogram it does', 'H 01 02 8:8877665544332211 00', '1 11 children; 2 2e 11/01', '12R 13L')
 case('but for a tombstone', 'H 01 02 ffffffffffffffff 00', '1 11 children; 2 2e 11/01', '12R 13D')
 case('references of a retained entry', 'H 01 0f 02 02', '1 24 49/11; 2 24', '12R 14D 15L')
 case('a parent of a named entry is retained, and its references count', 'H 01 10 02 12 03 00 03 03 00', '1 11 children 49/11; 2 24 children 49/11; 3 24', '12R 14R 16L 18L 19D')
-case('every form that names', 'H 01 1d 1e00 1f000000 2000000000000000 21 02 02 02 02 02 02', '1 11 49/11 49/12 49/13 49/14 49/15; 2 24', '12R 29L 30L 31L 32L 33L 34D')
+case('every form that names', 'H 01 1d 2:1e 4:1f 8:20 21 02 02 02 02 02 02', '1 11 49/11 49/12 49/13 49/14 49/15; 2 24', '12R 29L 30L 31L 32L 33L 34D')
 
 # ---- 36: the tables' lengths among an entry's other numbers
 MANY = '1 11 children; 2 24; 3 24 49/10; 4 24 49/11 49/11 49/11 49/11 49/11; 5 24 49/11 49/11; 6 24 49/11 02/18; 7 34 02/18'
@@ -140,8 +142,8 @@ case('2.4: one with no children', 'H 01 02a107 02', '1 34 02/18; 2 24', '12R 16D
 for index in ('00', '07', '8780808000', LARGEST):
     for asks, of_unit, table, ranges in asking(index):
         case('2.3: %s, index %s' % (asks, index), of_unit, table, '12R 13L', ranges=ranges)
-for form, index in (('29', '07'), ('29', 'ff'), ('2a', '0700'), ('2a', 'ffff'), ('2b', '070000'), ('2b', 'ffffff'), ('2c', '07000000'), ('2c', 'ffffffff'),
-                    ('16', '1b07'), ('16', '2c07000000')):
+for form, index in (('29', '07'), ('29', 'ff'), ('2a', '2:7'), ('2a', 'ffff'), ('2b', '3:7'), ('2b', 'ffffff'), ('2c', '4:7'), ('2c', 'ffffffff'),
+                    ('16', '1b07'), ('16', '2c 4:7')):
     case('2.1: low_pc in form %s, %s' % (form, index), 'H 01 02 %s 00' % index, P % form, '12R 13L')
 case('2.1: the second low_pc', 'H 01 02 0000000000000000 07 00', P % '01 11/1b', '12R 13L')
 case('2.1: ranges after a dead low_pc', 'H 01 02 0000000000000000 00 00', P % '01 55/23', '12R 13L', ranges=T + '030701 00')
@@ -150,11 +152,11 @@ case('2.1: the second location', 'H 01 02 00 02a107 00', '1 11 children; 2 34 02
 for kind, size in (('H', 8), ('H4', 4)):
     for address in ('00' * size, 'ff' * size):
         case('2.1: low_pc, a direct address %s' % address, '%s 01 02 %s 00' % (kind, address), P % '01', '12R 13D')
-        for entry in ('05%s 040001', '06%s' + '01' + '00' * (size - 1), '07%s 01'):
+        for entry in ('05%s 040001', '06%s' + ' %d:1 ' % size, '07%s 01'):
             case('2.1: range list kind %s, %s' % (entry[:2], address), kind + ' 01 02 00 00', R, '12R 13D', ranges=T + entry % address + '00')
         case('2.1: DW_OP_addr, %s' % address, '%s 01 02 %02x 03 %s 00' % (kind, size + 1, address), V, '12R 13D')
-case('2.1: an address that is no tombstone', 'H 01 02 ffffffff00000000 00', P % '01', '12R 13L')
-case('2.1: but in DW_OP_addr', 'H 01 02 09 03ffffffff00000000 00', V, '12R 13D')
+case('2.1: an address that is no tombstone', 'H 01 02 8:ffffffff 00', P % '01', '12R 13L')
+case('2.1: but in DW_OP_addr', 'H 01 02 09 03 8:ffffffff 00', V, '12R 13D')
 case('2.1: a dead base behind a live one', 'H 01 02 00 00', R, '12R 13D', ranges=T + '0105 05' + '00' * 8 + '040000 00')
 case('2.1: a live base behind a dead one', 'H 01 02 00 00', R, '12R 13L', ranges=T + '05' + '00' * 8 + '0105 040000 00')
 case('2.1: a start form under a dead base', 'H 01 02 00 00', R, '12R 13L', ranges=T + '05' + '00' * 8 + '030501 00')
@@ -204,15 +206,63 @@ for n, byte in failures.EVERY:
          ranges=ranges, addresses=addresses)
 case('5.2: 10 of the same entry', FULL + b'\7\2\xa1\0', MANY, 'refused 10', addresses='02')
 
+# ---- document 02, point 12: all cases stand in both byte orders. Told wrongly, a unit is refused; fields whose bytes
+# differ, so that the other order would read another number
+TURNED = '%s 2:500 01 08 4:0 01 020011 03 03 020110 00'
+case('12.3: the five-entry unit, told wrongly', FIVE, A5, 'refused 1', addresses='0100', wrong=True)
+case('12.3: its version alone is of the other order', TURNED % '4:12', A5, 'refused 2', addresses='0100')
+case('12.3: its length alone', TURNED % '4:12', A5, 'refused 1', addresses='0100', wrong=True)
+case('12.3: a length of 0xfffffff0', '4:fffffff0 2:5 01 08 4:0', A5, 'refused 2')
+case('12.3: the same, told wrongly', '4:fffffff0 2:5 01 08 4:0', A5, 'refused 1', wrong=True)
+case('12.3: a length of 0xf0ffffff', '4:f0ffffff 2:5 01 08 4:0', A5, 'refused 1')
+case('12.3: the same, told wrongly', '4:f0ffffff 2:5 01 08 4:0', A5, 'refused 2', wrong=True)
+case('12.3: a length of all ones, told wrongly', 'ffffffff', A5, 'refused 2', wrong=True)
+case('12.3: an empty section, told wrongly', '', A5, '', wrong=True)
+case('12.3: a unit with no entries, told wrongly', 'H', A5, 'refused 1', wrong=True)
+case('12: unit type 5', 'H5 01 020019 03 03 020118 00', A5, '20R 21L 24D 25L 26D', addresses='0100')
+case('12: abbreviations from 0x102 on', 'HA 01 020011 03 03 020110 00', 'ff' * 258 + A5, '12R 13L 16D 17L 18D', addresses='0100')
+case('12: references of each width', 'H ' + far(301) + ' 02' * 8, FAR, '12R ' + ' '.join('%dL' % n for n in range(301, 308)) + ' 308D')
+for of_unit, table in DANGLING:
+    place = len(bundle_of(of_unit, table)) - len(bundle_of('', table)) - 1
+    case('12: a dangling reference', of_unit, table, '12R %dD' % place)
+case('12.2: ref_udata is the same', 'H 01 9000 02 02', '1 24 49/15; 2 24', '12R 15D 16L')
+for form, width in (('2a', 2), ('2b', 3), ('2c', 4)):
+    for byte, answer in (('01', 'L'), ('00', 'D')):
+        case('12.1: low_pc in form %s, index 0x102' % form, 'H 01 02 %d:102 00' % width, P % form, '12R 13' + answer, addresses='00' * 258 + byte)
+    case('12.1: low_pc in form %s, index 0x201' % form, 'H 01 02 %d:201 00' % width, P % form, 'refused 17', addresses='00' * 259)
+for kind, size in (('H', 8), ('H4', 4)):
+    for address in (1, 256, 256 ** size - 2, 256 ** size - 256, 256 ** (size - 1)):
+        number = ' %d:%x ' % (size, address)
+        case('12: low_pc, a direct address%s' % number, kind + ' 01 02%s00' % number, P % '01', '12R 13L')
+        for entry in ('05%s 040001', '06%s' + number, '07%s 01'):
+            case('12: range list kind %s,%s' % (entry[:2], number), kind + ' 01 02 00 00', R, '12R 13L', ranges=T + entry % number + '00')
+case('12: a list by its offset', 'H 01 02 00 00', R, '12R 13D', ranges='00' * 12 + ' 4:104 ' + 'ff' * 256 + '00')
+case('12: by the second of two', 'H 01 02 01 00', R, '12R 13D', ranges='00' * 12 + ' 4:9 4:8 00 ff')
+case('12: by the first', 'H 01 02 00 00', R, 'refused 5', ranges='00' * 12 + ' 4:9 4:8 00 ff')
+case('12: a base of its own', 'H 01 4:104 02 00 00', '1 11 children 74/17; 2 2e 55/23', '12R 17D', ranges='ff' * 260 + ' 4:4 00')
+case('12: ranges in sec_offset', 'H 01 02 4:102 00', '1 11 children; 2 2e 55/17', '12R 13D', ranges='ff' * 258 + '00')
+case('12: a list of locations by its offset', 'H 01 00 02', '1 24 02/22; 2 24', '12R 14L', locations='00' * 12 + ' 4:104 ' + 'ff' * 256 + '05 03 98 2:e 00')
+case('12: with a base of its own', 'H 01 4:104 00 02', '1 11 8c/17 02/22; 2 24', '12R 18L', locations='ff' * 260 + ' 4:4 05 05 99 4:12 00')
+case('12: a location in sec_offset', 'H 01 4:102 02', '1 24 02/17; 2 24', '12R 17L', locations='ff' * 258 + '05 05 fa 4:11 00')
+case('12: every kind of location list entry with addresses', 'H 01 00 02 02', '1 24 02/22; 2 24', '12R 14L 15L',
+     locations=T + '06 8:1 07 8:1 8:2 03 98 2:e 08 8:1 05 03 98 2:f 00')
+case('12: and of four bytes', 'H4 01 00 02 02', '1 24 02/22; 2 24', '12R 14L 15L', locations=T + '06 4:1 07 4:1 4:2 03 98 2:e 08 4:1 05 03 98 2:f 00')
+for form in ('10', '20'):
+    answer = {'10': 'refused 7', '20': '12R %dD' % (13 + 8)}[form]
+    case('12: form %s' % form, 'H 01 %s 02' % {'10': '4:c', '20': '8:c'}[form], '1 24 49/%s; 2 24' % form, answer)
+for code in ('9a 4:11', 'a0 4:11 00', 'f2 4:11 00', 'fd 4:11'):
+    case('12: a section-absolute operand', 'H 01 %02x %s 02' % (6 if code.endswith('00') else 5, code), X, 'refused 7')
+
 
 def main():
-    first = points[0]
-    lines_of = placed('points.bundles', [(data, lines) for _, data, lines in points])
-    made = with_parts('test_marks', [Part('units made by hand', 'marks', ['points.bundles'], lines_of)])
-    made['test_marks/data/points.bundles'] = b''.join(data for _, data, _ in points)
-    made.update({'marks/stdin': first[1], 'marks/stdout': first[2].encode()})
+    _, data, lines = points[False][0]
+    made, held = {'marks/stdin': data, 'marks/stdout': lines.encode()}, []
+    for big, heading, name in ((False, 'units made by hand', 'points.bundles'), (True, 'big-endian units made by hand', 'points-big.bundles')):
+        held.append(Part(heading, 'marks', [name], placed(name, [(data, lines) for _, data, lines in points[big]]), big))
+        made['test_marks/data/' + name] = b''.join(data for _, data, _ in points[big])
+    made.update(with_parts('test_marks', held))
     wrong = write(made, sys.argv[1:] == ['check'])
-    print('marks: %d points' % len(points))
+    print('marks: %d points in each byte order' % len(points[False]))
     sys.exit(wrong > 0)
 
 

@@ -7,13 +7,15 @@ specification and from DWARF 5, never from a run; some also the lines that thin 
 written, and the files are compared with what would be.
 
 units.py has the notation. Expected lines stand with `|` between them; `unit N` stands for the header line of a unit `H`
-that ends at N."""
+that ends at N. A case whose bytes follow a byte order stands in both, with the same lines: in big-endian its name has
+`big-` before it."""
 import sys
+from functools import partial
 
-from units import A5, BIG, FIVE, T, Part, bundle_of, counted, entry_values, octets, uleb, with_parts, write
+from units import A5, BIG, CUT, FAR, FIVE, ORDERS, T, Part, bundle_of, counted, entry_values, far, octets, ordered, uleb, with_parts, write
 
-cases = []
-thinned = []
+cases = {big: [] for big in ORDERS}  # by the order that is told
+thinned = {big: [] for big in ORDERS}
 
 
 def printed(name, text):
@@ -29,33 +31,54 @@ def lines(text):
     return out
 
 
-def raw(name, point, data, expected, thin=None):
-    """A file, what dump prints of it, and thin."""
-    cases.append((name, point, data, printed(name, lines(expected))))
+def raw(name, point, data, expected, thin=None, big=False):
+    """A file, what dump prints of it, and thin. big: what is told."""
+    cases[big].append((name, point, data, printed(name, lines(expected))))
     if thin:
-        thinned.append((name, printed(name, thin.split('|'))))
+        thinned[big].append((name, printed(name, thin.split('|'))))
 
 
 def case(name, point, of_unit, table, expected, locations='', ranges='', addresses='', thin=None):
     """A bundle by its parts."""
     raw(name, point, bundle_of(of_unit, table, locations, ranges, addresses), expected, thin)
+    if any(ordered(part) for part in (of_unit, locations, ranges)):
+        turned(name, point, of_unit, table, expected, locations, ranges, addresses)
+
+
+def turned(name, point, of_unit, table, expected, locations='', ranges='', addresses='', thin=None):
+    """The same in big-endian."""
+    raw('big-' + name, point, bundle_of(of_unit, table, locations, ranges, addresses, big=True), expected, thin, True)
+
+
+def again(name, point, expected, big, thin=None):
+    """The file of another case, told the other byte order."""
+    raw(name, point, None, expected, thin, big)
 
 
 def single(name, point, pair, value, expected):
     """One entry with one attribute, and what follows `form N` in its line, with the lines after it; or a refusal."""
-    data = octets(value)
     at, form = (int(w, 16) for w in pair.split('/'))
-    head = 'unit %d|' % (13 + len(data))
+    head = 'unit %d|' % (13 + len(octets(value)))
     if not expected.startswith('refused'):
         head += 'entry 12 depth 0 code 1 tag 36| attribute %d form %s' % (at, '' if form == 0x16 else '%d ' % form)
-    case(name, point, b'\x01' + data, '1 24 ' + pair, head + expected)
+    case(name, point, partial(behind_code, value) if ordered(value) else behind_code(value), '1 24 ' + pair, head + expected)
+
+
+def behind_code(value, big=False):
+    """An entry with code 1."""
+    return b'\x01' + octets(value, big)
+
+
+def cut(text, big):
+    """Without the last byte."""
+    return octets(text, big)[:-1]
 
 
 def expression(name, point, text, expected=''):
     """One exprloc under DW_AT_location: it starts at 14, after a length of one byte."""
-    data = octets(text)
-    assert len(data) < 128
-    single(name, point, '02/18', '%02x' % len(data) + text, 'bytes 14 to %d' % (14 + len(data)) + ('|  ' + expected if expected else ''))
+    size = len(octets(text))
+    assert size < 128
+    single(name, point, '02/18', '%02x ' % size + text, 'bytes 14 to %d' % (14 + size) + ('|  ' + expected if expected else ''))
 
 
 def range_list(name, point, section, expected):
@@ -80,12 +103,13 @@ def declared(name, point, text, expected, body='H 01'):
 FIVE_LINES = ('unit 22|entry 12 depth 0 code 1 tag 17 children|entry 13 depth 1 code 2 tag 46| attribute 17 form 27 value 0|'
               ' attribute 73 form 17 value 17|entry 16 depth 1 code 3 tag 36|entry 17 depth 1 code 3 tag 36|entry 18 depth 1 code 2 tag 46|'
               ' attribute 17 form 27 value 1| attribute 73 form 17 value 16|terminator 21 depth 1')
+FIVE_THINNED = 'entries 5 kept 3|12 R 12|13 L 13|16 D -|17 L 16|18 D -'
 ENTRY = 'entry 12 depth 0 code 1 tag 36'
 
 # ---- bundles: the length of the rest, version 1, five parts, nothing more (65,536 bytes at most)
 whole = bundle_of(FIVE, A5, addresses='01 00')
 ROOM = 65536 - len(bundle_of(FIVE, A5))
-raw('five-entries', 'the five-entry unit', whole, FIVE_LINES, 'entries 5 kept 3|12 R 12|13 L 13|16 D -|17 L 16|18 D -')
+raw('five-entries', 'the five-entry unit', whole, FIVE_LINES, FIVE_THINNED)
 raw('bundle-empty', 'no bytes at all', b'', 'bundle', 'bundle')
 raw('bundle-three', 'a cut length', whole[:3], 'bundle', 'bundle')
 raw('bundle-no-version', 'no version byte', octets('00000000'), 'bundle')
@@ -103,44 +127,44 @@ raw('bundle-65537', 'one more than the largest', bundle_of(FIVE, A5, addresses=b
 # ---- the header: 1 cut short, 2 a value outside the domain, in byte order (point 5)
 header('header-empty', 'an empty section', '', 'empty', thin='entries 0 kept 0')
 header('header-3-bytes', 'a cut length', '120000', 'refused 1')
-header('header-fffffff0', '5: a length of 0xfffffff0, and nothing behind it', 'f0ffffff', 'refused 2')
+header('header-fffffff0', '5: a length of 0xfffffff0, and nothing behind it', '4:fffffff0', 'refused 2')
 header('header-ffffffff', '5: the 64-bit format', 'ffffffff 0000000000000000', 'refused 2')
-header('header-ffffffef', '5: the largest length reaches past the section', 'efffffff 0500', 'refused 1')
-header('header-past-wrong-version', '5: past the section, before the version is looked at', '03000000 0400', 'refused 1')
-header('header-one-too-far', 'a length that is one too large', '09000000 0500 01 08 00000000', 'refused 1')
+header('header-ffffffef', '5: the largest length reaches past the section', '4:ffffffef 2:5', 'refused 1')
+header('header-past-wrong-version', '5: past the section, before the version is looked at', '4:3 2:4', 'refused 1')
+header('header-one-too-far', 'a length that is one too large', '4:9 2:5 01 08 4:0', 'refused 1')
 header('header-0', 'no version', '00000000', 'refused 1')
-header('header-1', 'half a version', '01000000 05', 'refused 1')
-header('header-2-version-4', '5: another version, and nothing behind it', '02000000 0400', 'refused 2')
-header('header-version-0501', 'another version', '08000000 0501 01 08 00000000', 'refused 2')
-header('header-2', '5: cut at the unit\'s end, though bytes follow', '02000000 0500 01 08 00000000', 'refused 1')
-header('header-3-type-2', 'another unit type, and nothing behind it', '03000000 0500 02', 'refused 2')
-header('header-type-0', 'another unit type', '08000000 0500 00 08 00000000', 'refused 2')
-header('header-type-4', 'a skeleton unit', '10000000 0500 04 08 00000000 0000000000000000', 'refused 2')
-header('header-type-6', 'a split type unit', '10000000 0500 06 08 00000000 0000000000000000', 'refused 2')
-header('header-3', 'no address size', '03000000 0500 01', 'refused 1')
-header('header-4-size-2', 'another address size, and nothing behind it', '04000000 0500 01 02', 'refused 2')
-header('header-size-0', 'another address size', '08000000 0500 01 00 00000000', 'refused 2')
-header('header-type-before-size', 'the type goes before the size', '03000000 0500 03 03', 'refused 2')
-header('header-4', 'no abbreviation offset', '04000000 0500 01 08', 'refused 1')
-header('header-7', 'half an abbreviation offset', '07000000 0500 01 08 000000', 'refused 1')
-header('header-split-12', 'a split unit with no dwo_id', '08000000 0500 05 08 00000000', 'refused 1')
-header('header-split-19', 'a split unit with a cut dwo_id', '0f000000 0500 05 08 00000000 00000000000000', 'refused 1')
-header('header-split-20', 'a split unit with no entries', '10000000 0500 05 04 00000000 8877665544332211',
+header('header-1', 'half a version', '4:1 05', 'refused 1')
+header('header-2-version-4', '5: another version, and nothing behind it', '4:2 2:4', 'refused 2')
+header('header-version-0501', 'another version', '4:8 0501 01 08 00000000', 'refused 2')
+header('header-2', '5: cut at the unit\'s end, though bytes follow', '4:2 2:5 01 08 4:0', 'refused 1')
+header('header-3-type-2', 'another unit type, and nothing behind it', '4:3 2:5 02', 'refused 2')
+header('header-type-0', 'another unit type', '4:8 2:5 00 08 4:0', 'refused 2')
+header('header-type-4', 'a skeleton unit', '4:10 2:5 04 08 4:0 0000000000000000', 'refused 2')
+header('header-type-6', 'a split type unit', '4:10 2:5 06 08 4:0 0000000000000000', 'refused 2')
+header('header-3', 'no address size', '4:3 2:5 01', 'refused 1')
+header('header-4-size-2', 'another address size, and nothing behind it', '4:4 2:5 01 02', 'refused 2')
+header('header-size-0', 'another address size', '4:8 2:5 01 00 4:0', 'refused 2')
+header('header-type-before-size', 'the type goes before the size', '4:3 2:5 03 03', 'refused 2')
+header('header-4', 'no abbreviation offset', '4:4 2:5 01 08', 'refused 1')
+header('header-7', 'half an abbreviation offset', '4:7 2:5 01 08 000000', 'refused 1')
+header('header-split-12', 'a split unit with no dwo_id', '4:8 2:5 05 08 4:0', 'refused 1')
+header('header-split-19', 'a split unit with a cut dwo_id', '4:f 2:5 05 08 4:0 00000000000000', 'refused 1')
+header('header-split-20', 'a split unit with no entries', '4:10 2:5 05 04 4:0 8877665544332211',
        'unit type 5 address_size 4 abbreviations 0 first 20 end 20')
-header('header-split-entry', 'a split unit with an entry', '11000000 0500 05 08 00000000 0100000000000000 03',
+header('header-split-entry', 'a split unit with an entry', '4:11 2:5 05 08 4:0 8:1 03',
        'unit type 5 address_size 8 abbreviations 0 first 20 end 21|entry 20 depth 0 code 3 tag 36')
 header('header-no-entries', 'a unit with no entries', 'H', 'unit 12', thin='entries 0 kept 0')
-header('header-two-units', 'a second unit is not read', '09000000 0500 01 08 00000000 03 ffffffff', 'unit 13|entry 12 depth 0 code 3 tag 36')
+header('header-two-units', 'a second unit is not read', '4:9 2:5 01 08 4:0 03 ffffffff', 'unit 13|entry 12 depth 0 code 3 tag 36')
 
 # ---- abbreviations: 3 (points 3, 4, 6, 7)
 header('p03-no-code-0', '3: the list is not closed', 'H 03', 'refused 3', A5[:-3])
 header('p03-none', '3: no abbreviations at all', 'H', 'refused 3', '')
-header('p04-past', '4: the offset is past the section', '08000000 0500 01 08 15000000', 'refused 3')
-header('p04-at-end', '4: the offset is the section\'s end', '08000000 0500 01 08 14000000', 'refused 3')
-header('p04-largest', '4: the largest offset', '08000000 0500 01 08 ffffffff', 'refused 3')
-header('p04-closing', '4: the offset of the closing code: no abbreviations', '08000000 0500 01 08 13000000',
+header('p04-past', '4: the offset is past the section', '4:8 2:5 01 08 4:15', 'refused 3')
+header('p04-at-end', '4: the offset is the section\'s end', '4:8 2:5 01 08 4:14', 'refused 3')
+header('p04-largest', '4: the largest offset', '4:8 2:5 01 08 ffffffff', 'refused 3')
+header('p04-closing', '4: the offset of the closing code: no abbreviations', '4:8 2:5 01 08 4:13',
        'unit type 1 address_size 8 abbreviations 19 first 12 end 12')
-header('p04-inside', '4: the list starts at the offset: code 1 is none of it', '0a000000 0500 01 08 05000000 03 01',
+header('p04-inside', '4: the list starts at the offset: code 1 is none of it', '4:a 2:5 01 08 4:5 03 01',
        'unit type 1 address_size 8 abbreviations 5 first 12 end 14|entry 12 depth 0 code 3 tag 36|refused 4')
 declared('p06-pair-padded', '6: a closing pair padded to two bytes each', '01 24 00 8000 8000 00', 'unit 13|' + ENTRY)
 declared('p06-pair-three', '6: and to three', '01 24 00 808000 808000 00', 'unit 13|' + ENTRY)
@@ -152,7 +176,7 @@ declared('p06-unused', '6: an abbreviation that no entry uses must be readable',
 declared('p06-closing-ten', '6: the closing code in ten bytes', '01 24 00 0000 80808080808080808000', 'unit 13|' + ENTRY)
 declared('p06-closing-eleven', '6: and not in eleven', '01 24 00 0000 8080808080808080808000', 'refused 3')
 declared('p06-around', '6: bytes before the offset and behind the closing code', 'ff ff 01 24 00 0000 00 ff ff',
-         'unit type 1 address_size 8 abbreviations 2 first 12 end 13|' + ENTRY, '09000000 0500 01 08 02000000 01')
+         'unit type 1 address_size 8 abbreviations 2 first 12 end 13|' + ENTRY, '4:9 2:5 01 08 4:2 01')
 declared('abbreviation-code-ten', 'a code in ten bytes', '81808080808080808000 24 00 0000 00', 'unit 13|' + ENTRY)
 declared('abbreviation-code-largest', 'the largest code', 'ffffffffffffffffff01 24 00 0000 00',
          'unit 22|entry 12 depth 0 code 18446744073709551615 tag 36', 'H ffffffffffffffffff01')
@@ -200,30 +224,30 @@ declared('implicit-indirect-value', 'a form behind implicit_const', '01 24 00 03
 
 # ---- every form: its bytes, and what is read; one byte less is unreadable
 FORMS = (
-    ('01', '8877665544332211', 'value 1234605616436508552'), ('03', '0300 aabbcc', 'bytes 15 to 18'), ('04', '02000000 aabb', 'bytes 17 to 19'),
-    ('05', '3412', 'value 4660'), ('06', '78563412', 'value 305419896'), ('07', 'ffffffffffffffff', 'value 18446744073709551615'),
+    ('01', '8:1122334455667788', 'value 1234605616436508552'), ('03', '2:3 aabbcc', 'bytes 15 to 18'), ('04', '4:2 aabb', 'bytes 17 to 19'),
+    ('05', '2:1234', 'value 4660'), ('06', '4:12345678', 'value 305419896'), ('07', '8:ffffffffffffffff', 'value 18446744073709551615'),
     ('08', '616200', 'bytes 13 to 16'), ('09', '8300 010203', 'bytes 15 to 18'), ('0a', '02 aabb', 'bytes 14 to 16'), ('0b', 'ff', 'value 255'),
-    ('0c', '02', 'value 2'), ('0d', '807f', 'value -128'), ('0e', '04030201', 'value 16909060'), ('0f', '8001', 'value 128'),
-    ('10', '0c000000', 'value 12'), ('11', '0c', 'value 12'), ('12', '0c00', 'value 12'), ('13', '0c000000', 'value 12'),
-    ('14', '0c00000000000000', 'value 12'), ('15', '8c00', 'value 12'), ('17', '01000080', 'value 2147483649'), ('18', '01 96', 'bytes 14 to 15'),
-    ('1a', '808001', 'value 16384'), ('1b', 'ff01', 'value 255'), ('1c', '01020304', 'value 67305985'), ('1d', '01000000', 'value 1'),
-    ('1e', '000102030405060708090a0b0c0d0e0f', 'bytes 13 to 29'), ('1f', '02000000', 'value 2'), ('20', '0000000000000080', 'value 9223372036854775808'),
-    ('22', '8100', 'value 1|  list unresolved'), ('23', '02', 'value 2|  list unresolved'), ('24', '0100000000000000', 'value 1'),
-    ('25', 'fe', 'value 254'), ('26', 'feff', 'value 65534'), ('27', '563412', 'value 1193046'), ('28', '00000001', 'value 16777216'),
-    ('29', '01', 'value 1'), ('2a', '0100', 'value 1'), ('2b', 'ffffff', 'value 16777215'), ('2c', '01000000', 'value 1'), ('1f02', '9001', 'value 144'))
+    ('0c', '02', 'value 2'), ('0d', '807f', 'value -128'), ('0e', '4:1020304', 'value 16909060'), ('0f', '8001', 'value 128'),
+    ('10', '4:c', 'value 12'), ('11', '0c', 'value 12'), ('12', '2:c', 'value 12'), ('13', '4:c', 'value 12'),
+    ('14', '8:c', 'value 12'), ('15', '8c00', 'value 12'), ('17', '4:80000001', 'value 2147483649'), ('18', '01 96', 'bytes 14 to 15'),
+    ('1a', '808001', 'value 16384'), ('1b', 'ff01', 'value 255'), ('1c', '4:4030201', 'value 67305985'), ('1d', '4:1', 'value 1'),
+    ('1e', '000102030405060708090a0b0c0d0e0f', 'bytes 13 to 29'), ('1f', '4:2', 'value 2'), ('20', '8:8000000000000000', 'value 9223372036854775808'),
+    ('22', '8100', 'value 1|  list unresolved'), ('23', '02', 'value 2|  list unresolved'), ('24', '8:1', 'value 1'),
+    ('25', 'fe', 'value 254'), ('26', '2:fffe', 'value 65534'), ('27', '3:123456', 'value 1193046'), ('28', '4:1000000', 'value 16777216'),
+    ('29', '01', 'value 1'), ('2a', '2:1', 'value 1'), ('2b', '3:ffffff', 'value 16777215'), ('2c', '4:1', 'value 1'), ('1f02', '9001', 'value 144'))
 for form, value, expected in FORMS:
     single('form-%s' % form, 'form 0x%s' % form, '03/' + form, value, expected)
-    single('form-%s-cut' % form, 'form 0x%s, one byte less' % form, '03/' + form, octets(value)[:-1].hex(), 'refused 4')
+    single('form-%s-cut' % form, 'form 0x%s, one byte less' % form, '03/' + form, partial(cut, value), 'refused 4')
     # under indirect the line has the form that is found, and places stand behind the form number
     number = uleb(int(form, 16))
     words = expected.split()
     if words[0] == 'bytes':
         words[1], words[3] = (str(int(w) + len(number)) for w in (words[1], words[3]))
         expected = ' '.join(words)
-    single('indirect-%s' % form, 'form 0x%s under indirect' % form, '03/16', number.hex() + value, '%d %s' % (int(form, 16), expected))
+    single('indirect-%s' % form, 'form 0x%s under indirect' % form, '03/16', number.hex() + ' ' + value, '%d %s' % (int(form, 16), expected))
 single('form-19', 'flag_present takes no bytes', '03/19', '', 'value 1')
 single('indirect-19', 'flag_present under indirect', '03/16', '19', '25 value 1')
-case('form-01-32', 'form addr in a unit of address size 4', '0d000000 0500 01 04 00000000 01 44332211', '1 24 11/01',
+case('form-01-32', 'form addr in a unit of address size 4', '4:d 2:5 01 04 4:0 01 4:11223344', '1 24 11/01',
      'unit type 1 address_size 4 abbreviations 0 first 12 end 17|' + ENTRY + '| attribute 17 form 1 value 287454020')
 for form in ('02', '2d', '2e', '1f00', '1f01', '1f03', '1f20', '1f21', 'ffff'):
     single('form-%s-unknown' % form, 'form 0x%s is unknown' % form, '03/' + form, '00000000', 'refused 4')
@@ -246,9 +270,9 @@ single('form-04-huge', 'a block of 2^32-1 bytes', '03/04', 'ffffffff 00', 'refus
 single('form-08-empty', 'an empty string', '03/08', '00', 'bytes 13 to 14')
 single('form-0a-empty', 'an empty block', '03/0a', '00', 'bytes 14 to 14')
 single('form-18-empty', 'an empty expression', '03/18', '00', 'bytes 14 to 14')
-single('form-18-padded', 'a padded length', '02/18', '848000 98 0c00 96', 'bytes 16 to 20|  reference at 1 to 12 width 2')
-case('unit-end', 'attribute bytes end at the unit\'s end', '0a000000 0500 01 08 00000000 01 00 00 00 00', '1 24 03/05', 'unit 14|refused 4')
-case('string-end', 'a string whose zero lies behind the unit', '0a000000 0500 01 08 00000000 01 61 00', '1 24 03/08', 'unit 14|refused 4')
+single('form-18-padded', 'a padded length', '02/18', '848000 98 2:c 96', 'bytes 16 to 20|  reference at 1 to 12 width 2')
+case('unit-end', 'attribute bytes end at the unit\'s end', '4:a 2:5 01 08 4:0 01 00 00 00 00', '1 24 03/05', 'unit 14|refused 4')
+case('string-end', 'a string whose zero lies behind the unit', '4:a 2:5 01 08 4:0 01 61 00', '1 24 03/08', 'unit 14|refused 4')
 
 # ---- indirect, siblings, codes (points 8 to 11)
 single('p08-chain', '8: indirect under indirect', '03/16', '16 16 0b 00', '11 value 0')
@@ -269,7 +293,7 @@ case('p10-ten', '10: a terminator in ten bytes', 'H 01 80808080808080808000 03',
      'unit 24|entry 12 depth 0 code 1 tag 17 children|terminator 13 depth 1|entry 23 depth 0 code 3 tag 36')
 case('p10-eleven', '10: and in eleven', 'H 01 8080808080808080808000 03', A5, 'unit 25|entry 12 depth 0 code 1 tag 17 children|refused 4')
 case('p10-unfinished', '10: a code that is unfinished at the unit\'s end', 'H 03 80', A5, 'unit 14|entry 12 depth 0 code 3 tag 36|refused 4')
-case('p10-unfinished-more', '10: though bytes follow the unit', '0a000000 0500 01 08 00000000 03 80 00', A5,
+case('p10-unfinished-more', '10: though bytes follow the unit', '4:a 2:5 01 08 4:0 03 80 00', A5,
      'unit 14|entry 12 depth 0 code 3 tag 36|refused 4')
 case('code-unknown', 'a code that is none', 'H 03 04 03', A5, 'unit 15|entry 12 depth 0 code 3 tag 36|refused 4')
 case('code-too-large', 'a code above 64 bits', 'H ffffffffffffffffff02', A5, 'unit 22|refused 4')
@@ -285,16 +309,16 @@ case('p02-last', '2: the last entry ends where the unit ends', 'H 01 0f 02 02', 
 
 # ---- lists (points 1, 15 to 17, 21, 24, 30, 38)
 single('p01-ranges', '1: ranges in data4 name no list', '55/06', '00000000', 'value 0')
-single('p01-location', '1: nor does a location', '02/06', '01000000', 'value 1')
+single('p01-location', '1: nor does a location', '02/06', '4:1', 'value 1')
 range_list('p15', '15: startx_endx whose end is cut', T + '02 00', 'list at 16|list refused 5')
 range_list('p16-at-end', '16: an offset of the section\'s length is an empty list', T, 'list at 16|end')
-range_list('p16-past', '16: one more is not resolved', '00 ' * 12 + '05 00 00 00', 'list unresolved')
-range_list('p16-cut', '16: a table place of three bytes', T[:-2], 'list unresolved')
+range_list('p16-past', '16: one more is not resolved', '00' * 12 + ' 4:5', 'list unresolved')
+range_list('p16-cut', '16: a table place of three bytes', CUT, 'list unresolved')
 location_list('p16-locations-at-end', '16: the same for locations', T, 'list at 16|end')
-location_list('p16-locations-past', '16', '00 ' * 12 + '05 00 00 00', 'list unresolved')
-location_list('p16-locations-cut', '16', T[:-2], 'list unresolved')
-range_list('p16-before', '16: an offset of 0 is the table itself', '00 ' * 12 + '00 00 00 00', 'list at 12|end')
-range_list('p16-largest', '16: the largest offset', '00 ' * 12 + 'ff ff ff ff', 'list unresolved')
+location_list('p16-locations-past', '16', '00' * 12 + ' 4:5', 'list unresolved')
+location_list('p16-locations-cut', '16', CUT, 'list unresolved')
+range_list('p16-before', '16: an offset of 0 is the table itself', '00' * 12 + ' 4:0', 'list at 12|end')
+range_list('p16-largest', '16: the largest offset', '00' * 12 + ' 4:ffffffff', 'list unresolved')
 for form, what in (('23', 'ranges'), ('22', 'locations')):
     at, index, decimal = ('55' if form == '23' else '02'), BIG, 2 ** 62
     case('p17-' + what, '17: index 2^62, times four above 64 bits', 'H 01' + index, '1 24 %s/%s' % (at, form),
@@ -306,45 +330,45 @@ for form, what in (('23', 'ranges'), ('22', 'locations')):
 location_list('p24', '24: entry by entry', T + '05 05 9a00000000 ff', 'list at 16|kind 5 0 0 bytes 18 to 23|expression refused 7|list refused 5')
 case('p38', '38: sec_offset under indirect', 'H 01 17 00000000', '1 2e 55/16',
      'unit 18|entry 12 depth 0 code 1 tag 46| attribute 85 form 23 value 0|  list at 0|  end', ranges='00')
-case('location-sec-offset', 'a location\'s sec_offset is from the section\'s start', 'H 01 02000000', '1 34 02/17',
+case('location-sec-offset', 'a location\'s sec_offset is from the section\'s start', 'H 01 4:2', '1 34 02/17',
      'unit 17|entry 12 depth 0 code 1 tag 52| attribute 2 form 23 value 2|  list at 2|  kind 5 0 0 bytes 4 to 7|  reference at 1 to 12 width 2|  end',
-     locations='ffff 05 03 980c00 00')
-case('location-sec-offset-past', 'and past its end is not resolved', 'H 01 04000000', '1 34 02/17',
+     locations='ffff 05 03 98 2:c 00')
+case('location-sec-offset-past', 'and past its end is not resolved', 'H 01 4:4', '1 34 02/17',
      'unit 17|entry 12 depth 0 code 1 tag 52| attribute 2 form 23 value 4|  list unresolved', locations='050196')
 case('sec-offset-other', 'a sec_offset of another attribute names no list', 'H 01 00000000', '1 11 10/17',
      'unit 17|entry 12 depth 0 code 1 tag 17| attribute 16 form 23 value 0', locations='ff', ranges='ff')
 case('p21-bases', '21: the last base in an entry counts, for the whole entry and those behind it',
-     'H 02 00 01 00 00 00000000 04000000 02 00 00', '1 11 children 55/23 02/22 74/17 74/17; 2 24 55/23',
+     'H 02 00 01 00 00 00000000 4:4 02 00 00', '1 11 children 55/23 02/22 74/17 74/17; 2 24 55/23',
      'unit 28|entry 12 depth 0 code 2 tag 36| attribute 85 form 35 value 0|  list unresolved|'
      'entry 14 depth 0 code 1 tag 17 children| attribute 85 form 35 value 0|  list at 8|  kind 4 1 2|  end| attribute 2 form 34 value 0|  list at 16|  end|'
      ' attribute 116 form 23 value 0| attribute 116 form 23 value 4|entry 25 depth 1 code 2 tag 36| attribute 85 form 35 value 0|  list at 8|  kind 4 1 2|  end|'
-     'terminator 27 depth 1', locations=T, ranges='ffffffff 04000000 04 01 02 00')
+     'terminator 27 depth 1', locations=T, ranges='ffffffff 4:4 04 01 02 00')
 case('p21-indirect', '21: a base in sec_offset under indirect counts; a base of another tag does not',
-     'H 02 00000000 01 17 04000000 00 03', '1 11 8c/16 02/22; 2 24 8c/17; 3 24',
+     'H 02 00000000 01 17 4:4 00 03', '1 11 8c/16 02/22; 2 24 8c/17; 3 24',
      'unit 25|entry 12 depth 0 code 2 tag 36| attribute 140 form 23 value 0|entry 17 depth 0 code 1 tag 17| attribute 140 form 23 value 4|'
-     ' attribute 2 form 34 value 0|  list at 8|  end|entry 24 depth 0 code 3 tag 36', locations='ffffffff 04000000 00')
+     ' attribute 2 form 34 value 0|  list at 8|  end|entry 24 depth 0 code 3 tag 36', locations='ffffffff 4:4 00')
 case('p30', '30: a base in data4 does not count', 'H 01 00000000 00', '1 11 74/06 55/23',
      'unit 18|entry 12 depth 0 code 1 tag 17| attribute 116 form 6 value 0| attribute 85 form 35 value 0|  list at 16|  end', ranges=T)
 range_list('range-kinds', 'every kind of range list entry',
-           T + '01 05 02 8001 07 03 01 8000 04 10 20 05 0100000000000080 06 0200000000000000 0300000000000000 07 0400000000000000 ff01 00 ff',
+           T + '01 05 02 8001 07 03 01 8000 04 10 20 05 8:8000000000000001 06 8:2 8:3 07 8:4 ff01 00 ff',
            'list at 16|kind 1 5 0|kind 2 128 7|kind 3 1 0|kind 4 16 32|kind 5 9223372036854775809 0|kind 6 2 3|kind 7 4 255|end')
-case('range-kinds-32', 'the same with addresses of four bytes', '0a000000 0500 01 04 00000000 01 00', '1 24 55/23',
+case('range-kinds-32', 'the same with addresses of four bytes', '4:a 2:5 01 04 4:0 01 00', '1 24 55/23',
      'unit type 1 address_size 4 abbreviations 0 first 12 end 14|' + ENTRY + '| attribute 85 form 35 value 0|  list at 16|  kind 5 2147483649 0|'
-     '  kind 6 2 3|  kind 7 4 255|  end', ranges=T + '05 01000080 06 02000000 03000000 07 04000000 ff01 00')
+     '  kind 6 2 3|  kind 7 4 255|  end', ranges=T + '05 4:80000001 06 4:2 4:3 07 4:4 ff01 00')
 range_list('range-section-end', 'a list that ends with its section, between two entries', T + '04 00 00', 'list at 16|kind 4 0 0|end')
 range_list('range-kind-8', 'an unknown kind', T + '04 00 00 08 00 00', 'list at 16|kind 4 0 0|list refused 5')
 for text in ('01', '02 80', '03 00', '04 00 80', '05 00000000000000', '06 0000000000000000 00000000000000', '07 0000000000000000'):
     range_list('range-cut-' + text[:2], 'a list that breaks off inside an entry', T + text, 'list at 16|list refused 5')
 location_list('location-kinds', 'every kind of location list entry',
-              T + '01 05 02 8001 07 01 96 03 01 8000 03 980c00 04 10 20 00 05 02 a80c 06 0100000000000080'
-              ' 07 0200000000000000 0300000000000000 05 990d000000 08 0400000000000000 ff01 8100 96 00 ff',
+              T + '01 05 02 8001 07 01 96 03 01 8000 03 98 2:c 04 10 20 00 05 02 a80c 06 8:8000000000000001'
+              ' 07 8:2 8:3 05 99 4:d 08 8:4 ff01 8100 96 00 ff',
               'list at 16|kind 1 5 0|kind 2 128 7 bytes 23 to 24|kind 3 1 0 bytes 29 to 32|reference at 1 to 12 width 2|kind 4 16 32 bytes 36 to 36|'
               'kind 5 0 0 bytes 38 to 40|reference at 1 to 12 width 1|kind 6 9223372036854775809 0|kind 7 2 3 bytes 67 to 72|'
               'reference at 1 to 13 width 4|kind 8 4 255 bytes 85 to 86|end')
-case('location-kinds-32', 'the same with addresses of four bytes', '0a000000 0500 01 04 00000000 01 00', '1 24 02/22',
+case('location-kinds-32', 'the same with addresses of four bytes', '4:a 2:5 01 04 4:0 01 00', '1 24 02/22',
      'unit type 1 address_size 4 abbreviations 0 first 12 end 14|' + ENTRY + '| attribute 2 form 34 value 0|  list at 16|  kind 6 2147483649 0|'
      '  kind 7 2 3 bytes 31 to 32|  kind 8 4 255 bytes 40 to 45|  end',
-     locations=T + '06 01000080 07 02000000 03000000 01 96 08 04000000 ff01 05 03 04000000 00')
+     locations=T + '06 4:80000001 07 4:2 4:3 01 96 08 4:4 ff01 05 03 4:4 00')
 location_list('location-kind-9', '29: GNU_view_pair', T + '09 00 00', 'list at 16|list refused 5')
 location_list('location-section-end', 'a list that ends with its section', T + '05 00', 'list at 16|kind 5 0 0 bytes 18 to 18|end')
 location_list('location-too-long', 'an expression that reaches past the section', T + '05 02 96', 'list at 16|list refused 5')
@@ -381,45 +405,46 @@ for code in UNKNOWN:
         expression('unknown-%02x' % code, '29: no operation', '%02x 00 00' % code, 'expression refused 5')
 expression('p40', '40: GNU_variable_value', 'fd00000000', 'expression refused 7')
 for code, tail in (('9a', ''), ('a0', '00'), ('f2', '7f')):
-    expression('absolute-' + code, 'a section-absolute operand', code + '0c000000' + tail, 'expression refused 7')
+    expression('absolute-' + code, 'a section-absolute operand', code + ' 4:c ' + tail, 'expression refused 7')
     expression('absolute-%s-cut' % code, 'a cut one', code + '0c0000', 'expression refused 5')
 expression('p44', '44: 5 in an entry value goes before 7', '9a00000000 a301ff', 'expression refused 5')
-expression('p44-inside', '44: 7 in an entry value', '98 0c00 a305 9a00000000 96', 'expression refused 7')
+expression('p44-inside', '44: 7 in an entry value', '98 2:c a305 9a00000000 96', 'expression refused 7')
 expression('p44-both-inside', '44: and 5 behind it', 'a306 9a00000000 ff', 'expression refused 5')
 expression('p49-places', '49: places are in the outermost expression',
-           '96 a30d 96 98 0c00 f305 99 0d000000 30 31 a8 8e00',
+           '96 a30d 96 98 2:c f305 99 4:d 30 31 a8 8e00',
            'reference at 5 to 12 width 2|  reference at 10 to 13 width 4|  reference at 17 to 14 width 2')
-expression('p54', '54: a piece of 2^61 bytes', '93 808080808080808020 98 0c00', 'reference at 11 to 12 width 2')
+expression('p54', '54: a piece of 2^61 bytes', '93 808080808080808020 98 2:c', 'reference at 11 to 12 width 2')
 expression('p54-largest', '54: and of 2^64-1', '93 ffffffffffffffffff01', '')
 expression('piece-too-large', 'one above 64 bits', '93 ffffffffffffffffff02', 'expression refused 5')
 expression('p07-consts', '7: a signed number above 64 bits', '11 80808080808080808001', 'expression refused 5')
-expression('consts-least', '7: the least signed number', '11 8080808080808080807f 98 0c00', 'reference at 12 to 12 width 2')
+expression('consts-least', '7: the least signed number', '11 8080808080808080807f 98 2:c', 'reference at 12 to 12 width 2')
 expression('part-end', 'expression bytes end at their part\'s end', 'a3 02 98 0c 00', 'expression refused 5')
 expression('entry-value-too-long', 'an entry value that reaches past the expression', 'a3 02 96', 'expression refused 5')
-expression('entry-value-empty', 'an empty entry value', 'a3 00 98 0c00', 'reference at 3 to 12 width 2')
+expression('entry-value-empty', 'an empty entry value', 'a3 00 98 2:c', 'reference at 3 to 12 width 2')
 expression('implicit-value-bytes', 'the bytes of an implicit value are not walked', '9e 03 980c00 96', '')
 expression('const-type-bytes', 'nor those of a typed constant', 'a4 0c 03 980d00', 'reference at 1 to 12 width 1')
 expression('const-type-too-long', 'bytes that reach past the expression', 'a4 0c 04 980d00', 'expression refused 5')
-expression('repeats', 'repeats and dangling references count', '98 0c00 98 0c00 98 ffff', 'reference at 1 to 12 width 2|  reference at 4 to 12 width 2|'
+expression('repeats', 'repeats and dangling references count', '98 2:c 98 2:c 98 ffff', 'reference at 1 to 12 width 2|  reference at 4 to 12 width 2|'
            '  reference at 7 to 65535 width 2')
 expression('type-large', 'a type\'s offset may have 64 bits', 'a8 ffffffffffffffffff01', 'reference at 1 to 18446744073709551615 width 10')
 case('unit-end-expression', 'an expression whose operand lies behind the exprloc', 'H 01 01 98 0c 00', '1 24 02/18 03/05',
      'unit 17|' + ENTRY + '| attribute 2 form 24 bytes 14 to 15|  expression refused 5| attribute 3 form 5 value 12')
-case('expression-any-name', 'an exprloc under any name is an expression', 'H 01 03 980c00', '1 24 03/18',
+case('expression-any-name', 'an exprloc under any name is an expression', 'H 01 03 98 2:c', '1 24 03/18',
      'unit 17|' + ENTRY + '| attribute 3 form 24 bytes 14 to 17|  reference at 1 to 12 width 2')
 
 # Every operation once, alone in its entry and with a call2 behind it, whose place shows how many bytes it takes: code,
 # operands, and the reference that it holds itself (place, offset, width).
+ADDRESS = 'address'
 NONE = [0x06, 0x12, 0x13, 0x14, 0x16, 0x17, 0x18] + list(range(0x19, 0x23)) + list(range(0x24, 0x28)) + list(range(0x29, 0x2f)) + \
     list(range(0x30, 0x70)) + [0x96, 0x97, 0x9b, 0x9c, 0x9f, 0xe0]
 OPERATIONS = [(c, '', None) for c in NONE] + [(c, '8180 00', None) for c in range(0x70, 0x90)] + [
-    (0x03, '0102030405060708', None), (0x08, '98', None), (0x09, '98', None), (0x15, '98', None), (0x94, '98', None), (0x95, '98', None),
-    (0x0a, '9898', None), (0x0b, '9898', None), (0x28, '9898', None), (0x2f, '9898', None),
-    (0x0c, '98989898', None), (0x0d, '98989898', None), (0x0e, '9898989898989898', None), (0x0f, '9898989898989898', None),
+    (0x03, ADDRESS, None), (0x08, '98', None), (0x09, '98', None), (0x15, '98', None), (0x94, '98', None), (0x95, '98', None),
+    (0x0a, '2:9898', None), (0x0b, '2:9898', None), (0x28, '2:9898', None), (0x2f, '2:9898', None),
+    (0x0c, '4:98989898', None), (0x0d, '4:98989898', None), (0x0e, '8:9898989898989898', None), (0x0f, '8:9898989898989898', None),
     (0x10, '988000', None), (0x23, '988000', None), (0x90, '988000', None), (0x93, '988000', None), (0xa1, '988000', None),
     (0xfb, '988000', None), (0xa2, '988000', None), (0xfc, '988000', None), (0x11, '98807f', None), (0x91, '98807f', None),
     (0x92, '9800 98807f', None), (0x9d, '9800 988000', None), (0x9e, '02 9898', None), (0xa3, '02 0898', None), (0xf3, '8200 0998', None),
-    (0x98, '0d00', (1, 13, 2)), (0x99, '0d000000', (1, 13, 4)), (0xfa, '0d000000', (1, 13, 4)),
+    (0x98, '2:d', (1, 13, 2)), (0x99, '4:d', (1, 13, 4)), (0xfa, '4:d', (1, 13, 4)),
     (0xa8, '8d00', (1, 13, 2)), (0xf7, '8d00', (1, 13, 2)), (0xa9, '8d00', (1, 13, 2)), (0xf9, '8d00', (1, 13, 2)),
     (0xa5, '9800 0d', (3, 13, 1)), (0xf5, '9800 0d', (3, 13, 1)), (0xa6, '98 0d', (2, 13, 1)), (0xf6, '98 0d', (2, 13, 1)),
     (0xa7, '98 0d', (2, 13, 1)), (0xa4, '8d00 02 9898', (1, 13, 2)), (0xf4, '8d00 02 9898', (1, 13, 2))]
@@ -427,25 +452,31 @@ OPERATIONS = [(c, '', None) for c in NONE] + [(c, '8180 00', None) for c in rang
 
 def operations(name, size):
     """All of them in one unit; with addresses of four bytes where size is 4. Without its last byte each is refused."""
-    body, out, at = b'', [], 12
-    for code, text, own in sorted(OPERATIONS):
-        operands = octets(text)[:size if code == 0x03 else 99]
-        whole = bytes([code]) + operands
-        for data, cut in ((whole + octets('98 0c00'), False), (whole[:-1], True)):
-            if cut and not operands:
+    held, out, at = [], [], 12
+    for code, operands, own in sorted(OPERATIONS):
+        if operands == ADDRESS:
+            operands = {8: '8:807060504030201', 4: '4:4030201'}[size]
+        text = '%02x %s' % (code, operands)
+        length = len(octets(text))
+        for expression, refused in ((partial(octets, text + ' 98 2:c'), False), (partial(cut, text), True)):
+            if refused and not operands:
                 continue
-            body += b'\x01' + bytes([len(data)]) + data
+            held.append(expression)
+            end = at + 2 + len(expression(False))
             out.append('entry %d depth 0 code 1 tag 36' % at)
-            out.append(' attribute 2 form 24 bytes %d to %d' % (at + 2, at + 2 + len(data)))
-            if cut:
+            out.append(' attribute 2 form 24 bytes %d to %d' % (at + 2, end))
+            if refused:
                 out.append('  expression refused 5')
             else:
                 if own:
                     out.append('  reference at %d to %d width %d' % own)
-                out.append('  reference at %d to 12 width 2' % (len(whole) + 1))
-            at += 2 + len(data)
-    case(name, 'every operation', '%s %s' % ({8: 'H', 4: 'H4'}[size], body.hex()), '1 24 02/18',
-         '|'.join(['unit type 1 address_size %d abbreviations 0 first 12 end %d' % (size, at)] + out))
+                out.append('  reference at %d to 12 width 2' % (length + 1))
+            at = end
+    head = 'unit type 1 address_size %d abbreviations 0 first 12 end %d' % (size, at)
+    for big in ORDERS:
+        body = b''.join(b'\1' + counted(expression(big)) for expression in held)
+        data = bundle_of('%s %s' % ({8: 'H', 4: 'H4'}[size], body.hex()), '1 24 02/18', big=big)
+        raw('big-' * big + name, 'every operation', data, '|'.join([head] + out), big=big)
 
 
 def every_unknown():
@@ -493,7 +524,7 @@ case('p23', '23: ref_addr before a broken range list', 'H 01 02 00000000 00 00',
      CHILD % (20, 46) + ' attribute 73 form 16 value 0| attribute 85 form 35 value 0|  list at 16|  list refused 5|terminator 19 depth 1', ranges=T + 'ff')
 case('p25', '25: a dangling reference in a location list', 'H 01 00 02', '1 24 02/22; 2 24',
      'unit 15|' + ENTRY + '| attribute 2 form 34 value 0|  list at 16|  kind 5 0 0 bytes 18 to 21|  reference at 1 to 99 width 2|  end|'
-     'entry 14 depth 0 code 2 tag 36', locations=T + '05 03 986300 00')
+     'entry 14 depth 0 code 2 tag 36', locations=T + '05 03 98 2:63 00')
 case('p32', '32: siblings', 'H 01 0e 02 10 03 00 03 00', '1 24 children 01/11; 2 24 children 01/11; 3 24',
      'unit 20|entry 12 depth 0 code 1 tag 36 children| attribute 1 form 17 value 14|entry 14 depth 1 code 2 tag 36 children| attribute 1 form 17 value 16|'
      'entry 16 depth 2 code 3 tag 36|terminator 17 depth 2|entry 18 depth 1 code 3 tag 36|terminator 19 depth 1')
@@ -510,20 +541,66 @@ case('p41', '41: two ranges attributes', 'H 01 02 00 00 00', '1 11 children; 2 2
 # ---- references that are copied or read as numbers
 single('p42-sibling', '42: a sibling in ref_addr', '01/10', '00000000', 'value 0')
 single('p42-indirect', '42: ref_addr under indirect', '49/16', '10 00000000', '16 value 0')
-single('ranges-sec-offset', 'a range list at an offset past its section', '55/17', '01000000', 'value 1|  list unresolved')
+single('ranges-sec-offset', 'a range list at an offset past its section', '55/17', '4:1', 'value 1|  list unresolved')
+
+
+# ---- document 02, point 12: a unit told wrongly is refused; fields whose bytes differ
+turned('five-entries', 'P1 in big-endian', FIVE, A5, FIVE_LINES, addresses='01 00', thin=FIVE_THINNED)
+turned('header-no-entries', 'a unit with no entries', 'H', A5, 'unit 12')
+again('big-five-entries', '0.4, 12.3: a big-endian unit, told wrongly', 'refused 1', False, 'refused 1')
+again('five-entries', '12.3: a little-endian unit, told wrongly', 'refused 1', True, 'refused 1')
+again('big-header-fffffff0', '12.3: a length of 0xfffffff0, told wrongly', 'refused 1', False)
+again('header-fffffff0', '12.3', 'refused 1', True)
+again('header-ffffffff', '12.3: a length of all ones', 'refused 2', True)
+again('header-empty', 'an empty section', 'empty', True)
+case('p12-version', '12.3: the version alone is of the other order', '4:12 2:500 01 08 4:0 01 020011 03 03 020110 00', A5, 'refused 2')
+case('p12-type-5', '12: unit type 5 keeps its id as it is', '4:11 2:5 05 04 4:0 1122334455667788 03', A5,
+     'unit type 5 address_size 4 abbreviations 0 first 20 end 21|entry 20 depth 0 code 3 tag 36')
+case('p12-abbreviations', '12: abbreviations from 0x102 on', 'HA 03', 'ff' * 258 + A5,
+     'unit type 1 address_size 8 abbreviations 258 first 12 end 13|entry 12 depth 0 code 3 tag 36')
+for form, value in (('07', '8:123456789abcdef0'), ('10', '4:1020304'), ('12', '2:102'), ('13', '4:1020304'), ('14', '8:102030405060708'), ('17', '4:1020304'),
+                    ('1d', '4:1020304'), ('1f', '4:1020304'), ('20', '8:102030405060708'), ('24', '8:102030405060708'), ('26', '2:102'), ('27', '3:10203'),
+                    ('28', '4:1020304'), ('2a', '2:102'), ('2b', '3:10203'), ('2c', '4:1020304')):
+    single('p12-form-' + form, '12: form 0x%s' % form, '03/' + form, value, 'value %d' % int(value[2:], 16))
+single('p12-block2', '12: a block of 0x102 bytes', '03/03', '2:102' + ' aa' * 258, 'bytes 15 to 273')
+single('p12-block4', '12: and its length in four', '03/04', '4:102' + ' aa' * 258, 'bytes 17 to 275')
+turned('p12-not-turned', '12.2: what has no order: one byte, data16, LEB128, strings and blocks',
+       'H 01 ff 02 0c fe 01 000102030405060708090a0b0c0d0e0f 8102 807f 8c00 808001 ff01 616200 02 aabb 02 aabb',
+       '1 24 03/0b 03/0c 03/11 03/25 03/29 03/1e 03/0f 03/0d 03/15 03/1a 03/1b 03/08 03/0a 03/09',
+       'unit 54|' + ENTRY + '| attribute 3 form 11 value 255| attribute 3 form 12 value 2| attribute 3 form 17 value 12| attribute 3 form 37 value 254|'
+       ' attribute 3 form 41 value 1| attribute 3 form 30 bytes 18 to 34| attribute 3 form 15 value 257| attribute 3 form 13 value -128|'
+       ' attribute 3 form 21 value 12| attribute 3 form 26 value 16384| attribute 3 form 27 value 255| attribute 3 form 8 bytes 45 to 48|'
+       ' attribute 3 form 10 bytes 49 to 51| attribute 3 form 9 bytes 52 to 54')
+case('p12-far', '12: references of each width', 'H ' + far(301) + ' 02' * 8, FAR,
+     'unit 309|' + ENTRY + '| attribute 73 form 18 value 301| attribute 73 form 19 value 302| attribute 73 form 20 value 303| attribute 73 form 21 value 304|'
+     ' attribute 2 form 24 bytes 30 to 43|  reference at 1 to 305 width 2|  reference at 4 to 306 width 4|  reference at 9 to 307 width 4|'
+     ' attribute 3 form 3 bytes 45 to 301|' + '|'.join('entry %d depth 0 code 2 tag 36' % n for n in range(301, 309)))
+expression('p12-nested', '12: operands in entry values', 'a3 0d 99 4:1020304 f3 06 fa 4:5060708 96',
+           'reference at 3 to 16909060 width 4|  reference at 10 to 84281096 width 4')
+range_list('p12-range-offset', '12: a list by its offset', '00' * 12 + ' 4:104 ' + 'ff' * 256 + '00', 'list at 272|end')
+location_list('p12-location-offset', '12: a list by its offset', '00' * 12 + ' 4:104 ' + 'ff' * 256 + '05 03 98 2:102 00',
+              'list at 272|kind 5 0 0 bytes 274 to 277|reference at 1 to 258 width 2|end')
+case('p12-second-offset', '12: the second of two lists', 'H 01 01', '1 24 55/23',
+     'unit 14|' + ENTRY + '| attribute 85 form 35 value 1|  list at 276|  kind 6 16909060 84281096|  end',
+     ranges='00' * 12 + ' 4:0 4:108 ' + 'ff' * 256 + '06 8:1020304 8:5060708 00')
 
 
 def main():
-    names = [name for name, _, _, _ in cases]
-    assert len(set(names)) == len(names), [n for n in names if names.count(n) > 1]
-    made = with_parts('test_readers', [
-        Part('bundles and units made by hand', 'dump', [n + '.bundle' for n in names], ''.join(text for _, _, _, text in cases)),
-        Part('some of them through thin', 'thin', [n + '.bundle' for n, _ in thinned], ''.join(text for _, text in thinned))])
-    made.update({'test_readers/data/%s.bundle' % name: data for name, _, data, _ in cases})
-    # the program that reads one bundle: it has the five-entry unit
-    made.update({'dump/stdin': whole, 'dump/stdout': cases[0][3].split('\n', 1)[1].encode()})
+    held, made = [], {}
+    for big, heading in ((False, 'bundles and units made by hand'), (True, 'big-endian bundles and units made by hand')):
+        names = [name for name, _, _, _ in cases[big]]
+        assert len(set(names)) == len(names), [n for n in names if names.count(n) > 1]
+        held.append(Part(heading, 'dump', [n + '.bundle' for n in names], ''.join(text for _, _, _, text in cases[big]), big))
+        made.update({'test_readers/data/%s.bundle' % name: data for name, _, data, _ in cases[big] if data is not None})
+    for big, heading in ((False, 'some of them through thin'), (True, 'some of them through thin, big-endian')):
+        held.append(Part(heading, 'thin', [n + '.bundle' for n, _ in thinned[big]], ''.join(text for _, text in thinned[big]), big))
+    made.update(with_parts('test_readers', held))
+    # the program that reads one bundle: it has the five-entry unit, in big-endian
+    made.update({'dump/args': b'--big-endian\n', 'dump/stdin': bundle_of(FIVE, A5, addresses='01 00', big=True),
+                 'dump/stdout': ''.join(line + '\n' for line in lines(FIVE_LINES)).encode()})
     wrong = write(made, sys.argv[1:] == ['check'])
-    print('points: %d cases, %d through thin' % (len(cases), len(thinned)))
+    through = len(thinned[False] + thinned[True])
+    print('points: %d cases in little-endian, %d in big-endian, %d through thin' % (len(cases[False]), len(cases[True]), through))
     sys.exit(wrong > 0)
 
 

@@ -1,9 +1,11 @@
 """Units, bundles, and the files of the test crates: what the scripts of tests/ and oracle/ are built from.
 
-Bytes are hexadecimal text, or bytes as they stand. `H ..` is a unit by the bytes behind its header, which gets the
-right length: `H` has type 1 and address size 8, `H4` address size 4, `H5` type 5. Abbreviations are `code tag children
-name/form ..`, with `;` between them; `name/form/bytes` has implicit_const's value. A5 are
-those of the five-entry unit. T is a list section of 12 zeros and a table of one offset, 4; its list follows."""
+Bytes are hexadecimal text, or bytes as they stand. In text `W:N` is a field that follows the unit's byte order: the
+number N, hexadecimal, in W bytes. What depends on the order in another way is a function of it (True is big-endian).
+`H ..` is a unit by the bytes behind its header, which gets the right length: `H` has type 1 and address size 8, `H4`
+address size 4, `H5` type 5, `HA` abbreviations from 0x102 on. Abbreviations are `code tag children name/form ..`, with `;` between them;
+`name/form/bytes` has implicit_const's value. A5 are those of the five-entry unit. T is a list section of 12 zeros and
+a table of one offset, 4; its list follows. CUT is T without its last byte."""
 import importlib.util
 import os
 import subprocess
@@ -13,10 +15,12 @@ TESTS = os.path.dirname(os.path.abspath(__file__))
 CRATES = os.path.join(TESTS, '..', 'crates')
 A5 = '01 11 01 00 00 02 2e 00 11 1b 49 11 00 00 03 24 00 00 00 00'
 FIVE = 'H 01 020011 03 03 020110 00'
-T = '00' * 12 + '04000000'
+T = '00' * 12 + ' 4:4 '
+CUT = '00' * 12 + '040000'
 BIG = '808080808080808040'  # 2^62
 LARGEST = 'ffffffffffffffffff01'  # 2^64 - 1
-HEADERS = {'H': '0500 01 08 00000000', 'H4': '0500 01 04 00000000', 'H5': '0500 05 08 00000000 1122334455667788'}
+HEADERS = {'H': '2:5 01 08 4:0', 'H4': '2:5 01 04 4:0', 'H5': '2:5 05 08 4:0 1122334455667788', 'HA': '2:5 01 08 4:102'}
+ORDERS = (False, True)  # little-endian, big-endian
 
 
 def need(*packages):
@@ -34,8 +38,26 @@ def need_module(name, package):
 
 # ---- bytes
 
-def octets(text):
-    return text if isinstance(text, bytes) else bytes.fromhex(text)
+def field(width, number, big):
+    return number.to_bytes(width, 'big' if big else 'little')
+
+
+def octets(text, big=False):
+    """Bytes by their notation, in a byte order."""
+    if isinstance(text, bytes):
+        return text
+    if callable(text):
+        return text(big)
+    out = b''
+    for word in text.split():
+        width, colon, number = word.partition(':')
+        out += field(int(width), int(number, 16), big) if colon else bytes.fromhex(word)
+    return out
+
+
+def ordered(text):
+    """Whether there are fields in it, beside those of a header."""
+    return callable(text) or isinstance(text, str) and ':' in text
 
 
 def uleb(n):
@@ -73,17 +95,17 @@ def table(text):
     return octets(text) if isinstance(text, bytes) or not set(text) & set('/;') else abbreviations(text)
 
 
-def header(body, kind='H'):
-    rest = octets(HEADERS[kind]) + body
-    return len(rest).to_bytes(4, 'little') + rest
+def header(body, kind='H', big=False):
+    rest = octets(HEADERS[kind], big) + body
+    return field(4, len(rest), big) + rest
 
 
-def unit(text):
-    """A unit by `H ..`; its bytes behind H as bytes; any other text as it stands."""
-    if isinstance(text, bytes):
-        return header(text)
+def unit(text, big=False):
+    """A unit by `H ..`; its bytes behind H as bytes, or as a function; any other text as it stands."""
+    if not isinstance(text, str):
+        return header(octets(text, big), 'H', big)
     kind, _, body = text.partition(' ')
-    return header(octets(body), kind) if kind in HEADERS else octets(text)
+    return header(octets(body, big), kind, big) if kind in HEADERS else octets(text, big)
 
 
 def asking(index):
@@ -97,6 +119,23 @@ def asking(index):
     return out
 
 
+FAR = '1 24 49/12 49/13 49/14 49/15 02/18 03/03; 2 24'
+
+
+def far(target):
+    """An entry whose references name the entries at this place and the six behind it: in each form wider than a byte,
+    and in each operation with an operand of fixed width. It reaches from 12 to 301."""
+    text = '01 2:%x 4:%x 8:%x %s 0d 98 2:%x 99 4:%x fa 4:%x 2:100 ' + '00' * 256
+    return text % (target, target + 1, target + 2, uleb(target + 3).hex(), target + 4, target + 5, target + 6)
+
+
+# What only one byte order accepts: the numbers, read in the other, are those of the second entry. The unit, and its
+# abbreviations.
+DANGLING = [('H 01 %s 02' % value, '1 24 49/%s; 2 24' % form) for form, value in (('12', '2:f00'), ('13', '4:11000000'), ('14', '8:1500000000000000'))]
+DANGLING += [('H 01 %02x %s %s 02' % (size + 1, code, value), '1 24 02/18; 2 24')
+             for code, size, value in (('98', 2, '2:1100'), ('99', 4, '4:13000000'), ('fa', 4, '4:13000000'), ('a3 03 98', 4, '2:1300'))]
+
+
 # ---- bundles: the length of the rest, version 1, five parts, each after its length
 
 def bundle(parts):
@@ -104,8 +143,9 @@ def bundle(parts):
     return len(rest).to_bytes(4, 'big') + rest
 
 
-def bundle_of(of_unit, of_table, locations='', ranges='', addresses='', tail=''):
-    return bundle([unit(of_unit) + octets(tail), table(of_table)] + [octets(p) for p in (locations, ranges, addresses)])
+def bundle_of(of_unit, of_table, locations='', ranges='', addresses='', tail='', big=False):
+    lists = [octets(p, big) for p in (locations, ranges)]
+    return bundle([unit(of_unit, big) + octets(tail), table(of_table)] + lists + [octets(addresses)])
 
 
 def parts(data):
@@ -142,10 +182,11 @@ def placed(name, cases):
 # ---- the files of a crate
 
 class Part:
-    """A part of a test crate's arguments and of what it prints: a heading, what is asked for, files, lines."""
-    def __init__(self, heading, word, files, lines):
+    """A part of a test crate's arguments and of what it prints: a heading, what is asked for, files, lines; and whether
+    the files' units are big-endian."""
+    def __init__(self, heading, word, files, lines, big=False):
         self.heading = '# %s\n' % heading
-        self.args = word + '\n' + ''.join(f + '\n' for f in files) if word else None
+        self.args = ''.join(w + '\n' for w in [word] + ['big-endian'] * big + list(files)) if word else None
         self.lines = lines
 
 
@@ -170,12 +211,13 @@ def read(path):
 
 
 def with_parts(crate, made):
-    """args and stdout of a crate with these parts in place of theirs."""
+    """args and stdout of a crate with these parts in place of theirs. What the arguments ask for is printed first."""
     args, stdout = (by_heading(read(os.path.join(CRATES, crate, name)).decode()) for name in ('args', 'stdout'))
     for part in made:
         stdout[part.heading] = part.lines
         if part.args is not None:
             args[part.heading] = part.args
+    stdout = {h: stdout[h] for h in [*args, *(h for h in stdout if h not in args)]}
     return {crate + '/' + name: ''.join(h + text for h, text in held.items()).encode()
             for name, held in (('args', args), ('stdout', stdout))}
 
@@ -194,8 +236,9 @@ def write(made, checking):
             with open(path, 'wb') as f:
                 f.write(data)
     for crate in {name.split('/')[0] for name in made if name.endswith('/args')}:
+        data = os.path.join(CRATES, crate, 'data')
         named = read(os.path.join(CRATES, crate, 'args')).decode().splitlines()
-        for name in sorted(set(os.listdir(os.path.join(CRATES, crate, 'data'))) - set(named)):
+        for name in sorted(set(os.listdir(data) if os.path.isdir(data) else ()) - set(named)):
             wrong += 1
             print('%s/data/%s is in no part' % (crate, name))
     return wrong

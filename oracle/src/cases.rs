@@ -1,5 +1,7 @@
-//! Makes cases, the same for the same seed. README.md names the families.
+//! Makes cases, the same for the same seed. README.md names the families. A number of a fixed width is written by the case's byte order, and of two
+//! orders the same dice make the same case.
 
+use crate::order::{fit, fixed, fixed_bytes, order, Order};
 use std::collections::BTreeSet;
 
 /// Families that are made of nothing given, in the order of README.md.
@@ -151,15 +153,15 @@ fn resolve(target: Target, places: &Places) -> u64 {
     }
 }
 
-fn render(pieces: &[Piece], places: &Places, out: &mut Vec<u8>) {
+fn render(order: Order, pieces: &[Piece], places: &Places, out: &mut Vec<u8>) {
     for piece in pieces {
         match piece {
             Piece::Bytes(bytes) => out.extend(bytes),
-            Piece::Fixed(target, width) => out.extend(&resolve(*target, places).to_le_bytes()[..*width]),
+            Piece::Fixed(target, width) => out.extend(fixed_bytes(order, resolve(*target, places), *width)),
             Piece::Uleb(target, more) => out.extend(uleb(resolve(*target, places), *more)),
             Piece::Counted(inner, more) => {
                 let mut held = Vec::new();
-                render(inner, places, &mut held);
+                render(order, inner, places, &mut held);
                 out.extend(uleb(held.len() as u64, *more));
                 out.extend(held);
             }
@@ -211,6 +213,7 @@ impl Style {
 
 struct Maker<'a> {
     dice: &'a mut Dice,
+    order: Order,
     style: Style,
     address_size: usize,
     /// Indices that the address table has.
@@ -243,6 +246,10 @@ impl Maker<'_> {
         let here = self.style.fault == n && !self.done && self.dice.rare(3);
         self.done |= here;
         here
+    }
+
+    fn fixed(&self, n: u64, width: usize) -> Vec<u8> {
+        fixed_bytes(self.order, n, width)
     }
 
     fn target(&mut self) -> Target {
@@ -280,7 +287,7 @@ impl Maker<'_> {
             2 => 0xffff_ffff,
             _ => self.dice.number(),
         };
-        address.to_le_bytes()[..self.address_size].to_vec()
+        self.fixed(address, self.address_size)
     }
 
     /// An index into the address table: in it, but for fault 6 and in `failures`; any number where there is none.
@@ -452,8 +459,8 @@ impl Maker<'_> {
             0x03 | 0x04 | 0x09 | 0x0a => {
                 let held = self.dice.below(6);
                 let length = match form {
-                    0x03 => (held as u16).to_le_bytes().to_vec(),
-                    0x04 => (held as u32).to_le_bytes().to_vec(),
+                    0x03 => self.fixed(held as u64, 2),
+                    0x04 => self.fixed(held as u64, 4),
                     0x0a => vec![held as u8],
                     _ => uleb(held as u64, more),
                 };
@@ -462,7 +469,7 @@ impl Maker<'_> {
             }
             0x0b | 0x0c => out.push(Piece::Bytes(vec![n as u8])),
             0x05 => out.push(Piece::Bytes(self.dice.bytes(2))),
-            0x06 | 0x0e | 0x10 | 0x1c | 0x1d | 0x1f | 0x1f20 | 0x1f21 => out.push(Piece::Bytes((n as u32).to_le_bytes().to_vec())),
+            0x06 | 0x0e | 0x10 | 0x1c | 0x1d | 0x1f | 0x1f20 | 0x1f21 => out.push(Piece::Bytes(self.fixed(n, 4))),
             0x07 | 0x20 | 0x24 => out.push(Piece::Bytes(self.dice.bytes(8))),
             0x1e => out.push(Piece::Bytes(self.dice.bytes(16))),
             0x08 => {
@@ -531,13 +538,15 @@ impl Maker<'_> {
             0x22 => out.push(Piece::Bytes(uleb(self.index(self.locations, 50), more))),
             0x23 => out.push(Piece::Bytes(uleb(self.index(self.ranges, 12), more))),
             0x25 => out.push(Piece::Bytes(self.dice.bytes(1))),
-            0x26 => out.push(Piece::Bytes(vec![self.dice.below(9) as u8, self.dice.below(2) as u8])),
-            0x27 => out.push(Piece::Bytes(vec![self.dice.below(9) as u8, self.dice.below(2) as u8, 0])),
-            0x28 => out.push(Piece::Bytes(vec![self.dice.below(9) as u8, 0, self.dice.below(2) as u8, 0])),
+            0x26..=0x28 => {
+                let low = self.dice.below(9) as u64;
+                let high = (self.dice.below(2) as u64) << if form == 0x28 { 16 } else { 8 };
+                out.push(Piece::Bytes(self.fixed(high | low, usize::from(form) - 0x24)));
+            }
             0x29..=0x2c => {
                 let width = usize::from(form) - 0x28;
                 let index = self.address_index();
-                out.push(Piece::Bytes(index.to_le_bytes()[..width].to_vec()));
+                out.push(Piece::Bytes(self.fixed(index, width)));
             }
             _ => unreachable!("form {form:#x}"),
         }
@@ -611,20 +620,22 @@ impl Maker<'_> {
 }
 
 /// A list section: header, table of offsets from behind the header, lists.
-fn list_section(dice: &mut Dice, address_size: usize, lists: &[Vec<u8>], places: &mut Vec<usize>) -> Vec<u8> {
+fn list_section(dice: &mut Dice, order: Order, address_size: usize, lists: &[Vec<u8>], places: &mut Vec<usize>) -> Vec<u8> {
     let mut body: Vec<u8> = Vec::new();
     let mut table: Vec<u8> = Vec::new();
     for list in lists {
         let past = if dice.rare(100) { dice.below(3) } else { 0 };
-        table.extend(((4 * lists.len() + body.len() + past) as u32).to_le_bytes());
+        table.extend(fixed_bytes(order, (4 * lists.len() + body.len() + past) as u64, 4));
         places.push(12 + 4 * lists.len() + body.len());
         body.extend(list);
     }
-    let mut out = ((8 + table.len() + body.len()) as u32).to_le_bytes().to_vec();
-    out.extend([5, 0, address_size as u8, 0]);
-    out.extend((lists.len() as u32).to_le_bytes());
+    let mut out = vec![0; 4];
+    out.extend(fixed_bytes(order, 5, 2));
+    out.extend([address_size as u8, 0]);
+    out.extend(fixed_bytes(order, lists.len() as u64, 4));
     out.extend(table);
     out.extend(body);
+    fit(order, &mut out);
     out
 }
 
@@ -689,13 +700,14 @@ fn shape(dice: &mut Dice, style: Style, abbreviations: &[Abbreviation], size: us
     shape
 }
 
-fn structured(dice: &mut Dice, style: Style) -> Parts {
+fn structured(dice: &mut Dice, order: Order, style: Style) -> Parts {
     let address_size = if dice.rare(4) { 4 } else { 8 };
     let addresses = if style.no_table { 0 } else { dice.of(&[1, 2, 3, 6, 140]) };
     let dangling = dice.rare(12);
     let wild = style.trees || dice.rare(6);
     let mut maker = Maker {
         dice,
+        order,
         style,
         address_size,
         addresses,
@@ -770,7 +782,7 @@ fn structured(dice: &mut Dice, style: Style) -> Parts {
         let mut now = Vec::new();
         for pieces in &items {
             now.push(first + body.len());
-            render(pieces, &places, &mut body);
+            render(order, pieces, &places, &mut body);
         }
         if now == places.items {
             break;
@@ -783,23 +795,25 @@ fn structured(dice: &mut Dice, style: Style) -> Parts {
         .iter()
         .map(|pieces| {
             let mut out = Vec::new();
-            render(pieces, &places, &mut out);
+            render(order, pieces, &places, &mut out);
             out
         })
         .collect();
-    let location_lists = list_section(dice, address_size, &located, &mut places.locations);
-    let range_lists = list_section(dice, address_size, &lists, &mut places.ranges);
+    let location_lists = list_section(dice, order, address_size, &located, &mut places.locations);
+    let range_lists = list_section(dice, order, address_size, &lists, &mut places.ranges);
     body.clear();
     for pieces in &items {
-        render(pieces, &places, &mut body);
+        render(order, pieces, &places, &mut body);
     }
 
     let before = if dice.rare(10) { dice.below(5) } else { 0 };
-    let mut unit = ((first - 4 + body.len()) as u32).to_le_bytes().to_vec();
-    unit.extend([5, 0, if split { 5 } else { 1 }, address_size as u8]);
-    unit.extend((before as u32).to_le_bytes());
+    let mut unit = vec![0; 4];
+    unit.extend(fixed_bytes(order, 5, 2));
+    unit.extend([if split { 5 } else { 1 }, address_size as u8]);
+    unit.extend(fixed_bytes(order, before as u64, 4));
     unit.extend(dice.bytes(first - 12));
     unit.extend(body);
+    fit(order, &mut unit);
     if dice.rare(10) {
         let more = dice.below(20);
         unit.extend(dice.bytes(more));
@@ -855,7 +869,7 @@ fn cut(table: &mut Vec<u8>, keep: usize) {
 }
 
 /// One to three changes anywhere.
-fn damage(dice: &mut Dice, parts: &mut Parts) {
+fn damage(dice: &mut Dice, order: Order, parts: &mut Parts) {
     for _ in 0..dice.of(&[1, 1, 1, 2, 3]) {
         let which = dice.of(&[0, 0, 0, 0, 1, 1, 2, 3, 4]);
         let part = &mut parts[which];
@@ -881,29 +895,27 @@ fn damage(dice: &mut Dice, parts: &mut Parts) {
         }
     }
     // The length field fits again, mostly.
-    let unit = &mut parts[0];
-    if unit.len() >= 4 && !dice.rare(6) {
-        let length = unit.len() as u32 - 4;
-        unit[..4].copy_from_slice(&length.to_le_bytes());
+    if parts[0].len() >= 4 && !dice.rare(6) {
+        fit(order, &mut parts[0]);
     }
 }
 
 /// A unit with one fault of a chosen kind: 1 and 2 in the header, 3 in the abbreviations, 4 to 8 as the refusals.
-fn refused(dice: &mut Dice) -> Parts {
+fn refused(dice: &mut Dice, order: Order) -> Parts {
     let fault = 1 + dice.below(8) as u8;
     let style = Style { fault, lists: fault == 5 && dice.rare(2), expressions: fault >= 5 && dice.rare(2), ..Style::default() };
-    let mut parts = structured(dice, style);
+    let mut parts = structured(dice, order, style);
     match fault {
         1 => {
             let keep = dice.below(parts[0].len().min(24));
             parts[0].truncate(keep);
             if keep >= 4 && dice.rare(2) {
-                parts[0][..4].copy_from_slice(&(keep as u32 - 4).to_le_bytes());
+                fit(order, &mut parts[0]);
             }
         }
         2 => match dice.below(4) {
-            0 => parts[0][..4].copy_from_slice(&(0xffff_fff0 + dice.below(16) as u32).to_le_bytes()),
-            1 => parts[0][4] = dice.of(&[0, 1, 2, 3, 4, 6]),
+            0 => parts[0][..4].copy_from_slice(&fixed_bytes(order, 0xffff_fff0 + dice.below(16) as u64, 4)),
+            1 => parts[0][4..6].copy_from_slice(&fixed_bytes(order, dice.of(&[0, 1, 2, 3, 4, 6]), 2)),
             2 => parts[0][6] = dice.of(&[0, 2, 3, 4, 6, 7]),
             _ => parts[0][7] = dice.of(&[0, 1, 2, 3, 16]),
         },
@@ -926,7 +938,7 @@ fn refused(dice: &mut Dice) -> Parts {
         4 if dice.rare(2) => {
             let keep = 12 + dice.below(parts[0].len() - 11);
             parts[0].truncate(keep);
-            parts[0][..4].copy_from_slice(&(keep as u32 - 4).to_le_bytes());
+            fit(order, &mut parts[0]);
         }
         6 => match dice.below(3) {
             0 => {
@@ -946,10 +958,12 @@ fn refused(dice: &mut Dice) -> Parts {
 
 const A5: [u8; 20] = [1, 0x11, 1, 0, 0, 2, 0x2e, 0, 0x11, 0x1b, 0x49, 0x11, 0, 0, 3, 0x24, 0, 0, 0, 0];
 
-fn of_body(body: &[u8], table: &[u8]) -> Parts {
-    let mut unit = (8 + body.len() as u32).to_le_bytes().to_vec();
-    unit.extend([5, 0, 1, 8, 0, 0, 0, 0]);
+fn of_body(order: Order, body: &[u8], table: &[u8]) -> Parts {
+    let mut unit = vec![0; 4];
+    unit.extend(fixed_bytes(order, 5, 2));
+    unit.extend([1, 8, 0, 0, 0, 0]);
     unit.extend(body);
+    fit(order, &mut unit);
     [unit, A5.to_vec(), vec![], vec![], table.to_vec()]
 }
 
@@ -971,7 +985,7 @@ impl Small {
     }
 
     /// The case at hand; then the next one.
-    fn case(&mut self) -> Parts {
+    fn case(&mut self, order: Order) -> Parts {
         let mut body = Vec::new();
         let mut references = self.references.iter();
         for &kind in &self.kinds {
@@ -982,7 +996,7 @@ impl Small {
                 _ => body.extend([2, kind - 3, 11 + *references.next().unwrap() as u8]),
             }
         }
-        let parts = of_body(&body, &[self.table & 1, self.table >> 1]);
+        let parts = of_body(order, &body, &[self.table & 1, self.table >> 1]);
         self.step();
         parts
     }
@@ -1017,7 +1031,7 @@ impl Small {
 }
 
 /// Bodies of any bytes that mean something over the five-entry unit's abbreviations.
-fn bytes(dice: &mut Dice) -> Parts {
+fn bytes(dice: &mut Dice, order: Order) -> Parts {
     let length = dice.below(14);
     let body: Vec<u8> = (0..length)
         .map(|_| match dice.below(8) {
@@ -1028,11 +1042,11 @@ fn bytes(dice: &mut Dice) -> Parts {
         .collect();
     let count = dice.below(4);
     let table = address_table(dice, count);
-    of_body(&body, &table)
+    of_body(order, &body, &table)
 }
 
 /// Trees and entry values, one in the other, many levels deep.
-fn deep(dice: &mut Dice) -> Parts {
+fn deep(dice: &mut Dice, order: Order) -> Parts {
     let levels = dice.of(&[50, 300, 1000]);
     if dice.rare(2) {
         let mut body = vec![1; levels];
@@ -1041,9 +1055,17 @@ fn deep(dice: &mut Dice) -> Parts {
         body.extend(vec![3; dice.below(3)]);
         body.extend(vec![0; levels - dice.of(&[0, 0, 1])]);
         let table = address_table(dice, 1);
-        return of_body(&body, &table);
+        return of_body(order, &body, &table);
     }
-    let mut expression = dice.of(&[&[0x98, 12, 0][..], &[0x99, 14, 0, 0, 0], &[0xa8, 12], &[0xff], &[0x9a, 0, 0, 0, 0], &[]]).to_vec();
+    let (two, four) = (fixed_bytes(order, 12, 2), fixed_bytes(order, 14, 4));
+    let mut expression = match dice.below(6) {
+        0 => [&[0x98], &two[..]].concat(),
+        1 => [&[0x99], &four[..]].concat(),
+        2 => vec![0xa8, 12],
+        3 => vec![0xff],
+        4 => vec![0x9a, 0, 0, 0, 0],
+        _ => vec![],
+    };
     for _ in 0..levels {
         let mut outer = vec![dice.of(&[0xa3, 0xf3])];
         outer.extend(uleb(expression.len() as u64, 0));
@@ -1054,23 +1076,23 @@ fn deep(dice: &mut Dice) -> Parts {
     body.extend(uleb(expression.len() as u64, 0));
     body.extend(expression);
     body.extend([2, 2, 0]);
-    let mut parts = of_body(&body, &[1]);
+    let mut parts = of_body(order, &body, &[1]);
     parts[1] = vec![1, 0x11, 1, 0x40, 0x18, 0, 0, 2, 0x24, 0, 0, 0, 0];
     parts
 }
 
 /// Headers: every field right or wrong, at every width, of every version that the original knows, cut anywhere.
-fn headers(dice: &mut Dice) -> Parts {
-    let mut parts = if dice.rare(2) { of_body(&[1, 3, 2, 0, 13, 0], &[1]) } else { structured(dice, Style::default()) };
+fn headers(dice: &mut Dice, order: Order) -> Parts {
+    let mut parts = if dice.rare(2) { of_body(order, &[1, 3, 2, 0, 13, 0], &[1]) } else { structured(dice, order, Style::default()) };
     let size = if parts[0][6] == 5 { 20 } else { 12 };
     let body = parts[0][size..].to_vec();
-    let offset = parts[0][8..12].to_vec();
+    let offset = fixed(order, &parts[0][8..12]);
     let version = if dice.rare(3) { dice.of(&[0, 1, 2, 3, 4, 6, 0x105, 0xffff]) } else { dice.of(&[5, 5, 5, 4]) };
     let kind = if dice.rare(2) { dice.of(&[0, 2, 3, 4, 6, 7, 0x80, 0xff]) } else { dice.of(&[1, 5]) };
     let address_size = if dice.rare(4) { dice.of(&[0, 1, 2, 3, 16, 255]) } else { parts[0][7] };
     let wide = dice.rare(8);
-    let mut fields = u16::to_le_bytes(version).to_vec();
-    let offset = if wide { [&offset[..], &[0; 4]].concat() } else { offset };
+    let mut fields = fixed_bytes(order, version, 2);
+    let offset = fixed_bytes(order, offset, if wide { 8 } else { 4 });
     if version >= 5 {
         fields.extend([kind, address_size]);
         fields.extend(offset);
@@ -1094,7 +1116,7 @@ fn headers(dice: &mut Dice) -> Parts {
         _ => {}
     }
     let mut unit = if wide { vec![0xff; 4] } else { vec![] };
-    unit.extend(&length.to_le_bytes()[..if wide { 8 } else { 4 }]);
+    unit.extend(fixed_bytes(order, length, if wide { 8 } else { 4 }));
     unit.extend(fields);
     if dice.rare(5) {
         let keep = dice.below(unit.len().min(26));
@@ -1105,7 +1127,7 @@ fn headers(dice: &mut Dice) -> Parts {
 }
 
 /// Siblings whose first target dies, so that a later place is searched for: one that fits the width, or lies just behind what fits.
-fn siblings(dice: &mut Dice) -> Parts {
+fn siblings(dice: &mut Dice, order: Order) -> Parts {
     let form = dice.of(&[0x11, 0x11, 0x11, 0x12, 0x13, 0x14, 0x15, 0x15, 0x15, 0x18]);
     let width = match form {
         0x18 => 2,
@@ -1136,10 +1158,10 @@ fn siblings(dice: &mut Dice) -> Parts {
     body.extend(match form {
         0x18 => vec![1, dice.of(&[0x96, 0xff])],
         0x15 => uleb(target as u64, width - 1),
-        _ => target.to_le_bytes()[..width].to_vec(),
+        _ => fixed_bytes(order, target as u64, width),
     });
     body.extend([3, 2, 4]);
-    body.extend((held as u16).to_le_bytes());
+    body.extend(fixed_bytes(order, held as u64, 2));
     body.extend(vec![0; held + 1]);
     body.push(0);
     if dice.rare(4) {
@@ -1149,7 +1171,7 @@ fn siblings(dice: &mut Dice) -> Parts {
         body.extend([6, 0]);
     }
     body.push(0);
-    let mut parts = of_body(&body, &FAILS);
+    let mut parts = of_body(order, &body, &FAILS);
     parts[1] = vec![1, 0x24, 0];
     if early {
         parts[1].extend([0x49, 0x11]);
@@ -1162,7 +1184,7 @@ fn siblings(dice: &mut Dice) -> Parts {
 }
 
 /// About as many entries as the C call's own table holds, or about as many references.
-fn many(dice: &mut Dice) -> Parts {
+fn many(dice: &mut Dice, order: Order) -> Parts {
     let count = dice.of(&[2030, 2045, 2046, 2046, 2047, 2047, 2048, 2060]);
     let references = dice.of(&[0, 1, 3, 4, 4, 4, 5]);
     let live = dice.of(&[2, 40, 1000]);
@@ -1170,18 +1192,18 @@ fn many(dice: &mut Dice) -> Parts {
     let mut body = vec![1];
     for _ in 0..count {
         body.push(if dice.rare(live) { 3 } else { 2 });
-        body.extend((0..references).flat_map(|_| [named, 0]));
+        body.extend(fixed_bytes(order, named, 2).repeat(references));
     }
     // One more entry, with the references that are missing, or one more or less.
     let missing = 8190usize.saturating_sub(count * references) + dice.below(5);
     if missing < 200 {
-        let expression = [0x98, 13, 0].repeat(missing);
+        let expression = [&[0x98], &fixed_bytes(order, 13, 2)[..]].concat().repeat(missing);
         let place = if dice.rare(2) { 1 } else { body.len() };
         let held = [vec![4], uleb(expression.len() as u64, 0), expression].concat();
         body.splice(place..place, held);
     }
     body.push(0);
-    let mut parts = of_body(&body, &FAILS);
+    let mut parts = of_body(order, &body, &FAILS);
     parts[1] = vec![1, 0x11, 1, 0, 0];
     for (code, tag, more) in [(2, 0x24, &[][..]), (3, 0x2e, &[0x11, 0x19])] {
         parts[1].extend([code, tag, 0]);
@@ -1208,19 +1230,19 @@ fn edge(dice: &mut Dice) -> Vec<u8> {
 }
 
 /// A unit of three entries: the second's abbreviation has this tag and these attributes, and this is its value.
-fn of_value(tag: u8, specs: &[u8], value: &[u8]) -> Parts {
-    let mut parts = of_body(&[&[1, 2], value, &[3, 0]].concat(), &[1, 0]);
+fn of_value(order: Order, tag: u8, specs: &[u8], value: &[u8]) -> Parts {
+    let mut parts = of_body(order, &[&[1, 2], value, &[3, 0]].concat(), &[1, 0]);
     parts[1] = [&[1, 0x11, 1, 0, 0, 2, tag, 0], specs, &[0, 0, 3, 0x24, 0, 0, 0, 0]].concat();
     parts
 }
 
 /// A list section with one list.
-fn one_list(held: &[u8]) -> Vec<u8> {
-    [&[0; 12][..], &[4, 0, 0, 0], held].concat()
+fn one_list(order: Order, held: &[u8]) -> Vec<u8> {
+    [&[0; 12][..], &fixed_bytes(order, 4, 4), held].concat()
 }
 
 /// Numbers at the edges of what can be read, in every place that has one.
-fn numbers(dice: &mut Dice) -> Parts {
+fn numbers(dice: &mut Dice, order: Order) -> Parts {
     let mut number = edge(dice);
     let second = edge(dice);
     let more = dice.below(4);
@@ -1229,10 +1251,9 @@ fn numbers(dice: &mut Dice) -> Parts {
     match dice.below(8) {
         // the code of an entry, or a terminator
         0 => {
-            let mut parts = of_value(tag, &[], &[]);
+            let mut parts = of_value(order, tag, &[], &[]);
             parts[0].splice(13..14, number);
-            let length = parts[0].len() as u32 - 4;
-            parts[0][..4].copy_from_slice(&length.to_le_bytes());
+            fit(order, &mut parts[0]);
             parts
         }
         // a value, or the length of one
@@ -1242,9 +1263,9 @@ fn numbers(dice: &mut Dice) -> Parts {
             if matches!(form, 0x09 | 0x18) {
                 number.extend(after);
             }
-            let mut parts = of_value(tag, &[name, form], &number);
-            parts[2] = one_list(&[0]);
-            parts[3] = one_list(&[0]);
+            let mut parts = of_value(order, tag, &[name, form], &number);
+            parts[2] = one_list(order, &[0]);
+            parts[3] = one_list(order, &[0]);
             parts
         }
         // the number of a form, and a value of it
@@ -1256,7 +1277,7 @@ fn numbers(dice: &mut Dice) -> Parts {
                 value = number;
             }
             value.extend(dice.of(&[&[0x0c][..], &[0, 0, 0, 0], &[0x0b, 1], &[0x8b, 0, 1], &[0x8b, 0x80, 0, 1], &[0x8b, 0x80, 0x80, 0, 1]]));
-            of_value(tag, &[dice.of(&[0x01, 0x02, 0x49, 0x55, 0x03]), 0x16], &value)
+            of_value(order, tag, &[dice.of(&[0x01, 0x02, 0x49, 0x55, 0x03]), 0x16], &value)
         }
         // an operand, also in an entry value
         4 | 5 => {
@@ -1272,28 +1293,28 @@ fn numbers(dice: &mut Dice) -> Parts {
             }
             let name = dice.of(&[0x02, 0x40]);
             if dice.rare(3) {
-                let mut parts = of_value(tag, &[name, 0x22], &[0]);
-                parts[2] = one_list(&[&[5], &uleb(expression.len() as u64, 0)[..], &expression, &[0]].concat());
+                let mut parts = of_value(order, tag, &[name, 0x22], &[0]);
+                parts[2] = one_list(order, &[&[5], &uleb(expression.len() as u64, 0)[..], &expression, &[0]].concat());
                 return parts;
             }
-            of_value(tag, &[name, 0x18], &[&uleb(expression.len() as u64, 0)[..], &expression].concat())
+            of_value(order, tag, &[name, 0x18], &[&uleb(expression.len() as u64, 0)[..], &expression].concat())
         }
         // lists
         6 => {
-            let mut parts = of_value(0x2e, &[0x55, 0x23], &[0]);
-            parts[3] = one_list(&[&[dice.of(&[1, 2, 3, 4])], &number[..], &second, &[0]].concat());
+            let mut parts = of_value(order, 0x2e, &[0x55, 0x23], &[0]);
+            parts[3] = one_list(order, &[&[dice.of(&[1, 2, 3, 4])], &number[..], &second, &[0]].concat());
             parts
         }
         _ => {
-            let mut parts = of_value(tag, &[0x02, 0x22], &[0]);
-            parts[2] = one_list(&[&[dice.of(&[1, 2, 3, 4, 5])], &number[..], &second, &[1, 0x96, 0]].concat());
+            let mut parts = of_value(order, tag, &[0x02, 0x22], &[0]);
+            parts[2] = one_list(order, &[&[dice.of(&[1, 2, 3, 4, 5])], &number[..], &second, &[1, 0x96, 0]].concat());
             parts
         }
     }
 }
 
 /// Tables of abbreviations, every number of them at its edges.
-fn declarations(dice: &mut Dice) -> Parts {
+fn declarations(dice: &mut Dice, order: Order) -> Parts {
     let seldom = dice.of(&[6, 20, 60]);
     let number = |dice: &mut Dice, usual: u64| {
         if dice.rare(seldom) {
@@ -1331,9 +1352,9 @@ fn declarations(dice: &mut Dice) -> Parts {
         table.extend(number(dice, 0));
     }
     let body = [&[1, 0, 0][..], &[1], &[2, 0], &[], &[0]][dice.below(5)].to_vec();
-    let mut parts = of_body(&body, &FAILS);
+    let mut parts = of_body(order, &body, &FAILS);
     if dice.rare(8) {
-        let offset = (dice.below(table.len() + 3) as u32).to_le_bytes();
+        let offset = fixed_bytes(order, dice.below(table.len() + 3) as u64, 4);
         parts[0][8..12].copy_from_slice(&offset);
     }
     parts[1] = table;
@@ -1341,7 +1362,7 @@ fn declarations(dice: &mut Dice) -> Parts {
 }
 
 /// Expressions of operations of any code, with operands of any bytes: mostly 0x30, an operation of its own, and as an offset that of the last entry.
-fn operations(dice: &mut Dice) -> Parts {
+fn operations(dice: &mut Dice, order: Order) -> Parts {
     let mut expression = Vec::new();
     for _ in 0..dice.of(&[1, 1, 1, 2, 3]) {
         expression.push(dice.next() as u8);
@@ -1354,7 +1375,10 @@ fn operations(dice: &mut Dice) -> Parts {
         }
     }
     if dice.rare(4) {
-        expression = vec![dice.next() as u8, 0x30, 0, 0, 0, 0x30];
+        let code = dice.next() as u8;
+        let mut operand = fixed_bytes(order, 0x30, match code { 0x98 => 2, 0x99 | 0xfa => 4, _ => 1 });
+        operand.resize(4, 0);
+        expression = [&[code], &operand[..], &[0x30]].concat();
         let keep = 1 + dice.below(6);
         expression.truncate(keep);
     }
@@ -1368,11 +1392,11 @@ fn operations(dice: &mut Dice) -> Parts {
     let body = [&[1, 3, 2], &value[..], &[fill as u8], &vec![0; fill], &[3, 0]].concat();
     let count = dice.below(60);
     let table = address_table(dice, count);
-    let mut parts = of_body(&body, &table);
+    let mut parts = of_body(order, &body, &table);
     let specs: &[u8] = if in_list { &[0x02, 0x22, 0x03, 0x0a] } else { &[name, 0x18, 0x03, 0x0a] };
     let root: &[u8] = if dice.rare(4) { &[] } else { &[0x11, 0x19] };
     parts[1] = [&[1, 0x11, 1, 0, 0, 2, tag, 0], specs, root, &[0, 0, 3, 0x24, 0, 0, 0, 0]].concat();
-    parts[2] = one_list(&[&[5], &held[..], &[0]].concat());
+    parts[2] = one_list(order, &[&[5], &held[..], &[0]].concat());
     if dice.rare(4) {
         parts[0][7] = 4;
     }
@@ -1380,7 +1404,7 @@ fn operations(dice: &mut Dice) -> Parts {
 }
 
 /// Lists of entries of any kind, with operands of any bytes.
-fn kinds(dice: &mut Dice) -> Parts {
+fn kinds(dice: &mut Dice, order: Order) -> Parts {
     let mut list = Vec::new();
     for _ in 0..dice.of(&[0, 1, 1, 2, 3]) {
         list.push(if dice.rare(12) { dice.next() as u8 } else { dice.below(10) as u8 });
@@ -1391,8 +1415,9 @@ fn kinds(dice: &mut Dice) -> Parts {
     list.extend(vec![0; dice.below(3)]);
     let ranges = dice.rare(2);
     let (name, index, tag) = if ranges { (0x55, 0x23, 0x2e) } else { (0x02, 0x22, dice.of(&[0x34, 0x2e, 0x24])) };
-    let mut parts = if dice.rare(3) { of_value(tag, &[name, 0x17], &[16, 0, 0, 0]) } else { of_value(tag, &[name, index], &[0]) };
-    parts[if ranges { 3 } else { 2 }] = one_list(&list);
+    let at_offset = dice.rare(3);
+    let mut parts = if at_offset { of_value(order, tag, &[name, 0x17], &fixed_bytes(order, 16, 4)) } else { of_value(order, tag, &[name, index], &[0]) };
+    parts[if ranges { 3 } else { 2 }] = one_list(order, &list);
     if dice.rare(4) {
         parts[0][7] = 4;
     }
@@ -1419,59 +1444,60 @@ fn varied(dice: &mut Dice, parts: &mut Parts) {
 pub struct Cases<'a> {
     family: &'a str,
     seed: u64,
+    order: Order,
     given: &'a [Parts],
     small: Small,
 }
 
 impl<'a> Cases<'a> {
-    /// None where there is no such family, or nothing given for one that needs it.
-    pub fn new(family: &'a str, seed: u64, given: &'a [Parts]) -> Option<Self> {
+    /// None where there is no such family, or nothing given for one that needs it. What is given has this byte order.
+    pub fn new(family: &'a str, seed: u64, big_endian: bool, given: &'a [Parts]) -> Option<Self> {
         let known = FAMILIES.contains(&family) || OF_FILES.contains(&family) && !given.is_empty();
-        known.then(|| Cases { family, seed, given, small: Small::new() })
+        known.then(|| Cases { family, seed, order: order(big_endian), given, small: Small::new() })
     }
 
     /// Case `i`, the same however many are made. Of `small` they have to be taken in order, from 0 on.
     pub fn case(&mut self, i: usize) -> Parts {
         let dice = &mut Dice(self.seed.wrapping_mul(0x2545_f491_4f6c_dd1d).wrapping_add(i as u64) << 8);
         dice.next();
-        let style = Style::default();
+        let (order, style) = (self.order, Style::default());
         match self.family {
-            "small" => self.small.case(),
-            "bytes" => bytes(dice),
-            "valid" => structured(dice, style),
-            "lists" => structured(dice, Style { lists: true, ..style }),
-            "expressions" => structured(dice, Style { expressions: true, ..style }),
-            "trees" => structured(dice, Style { trees: true, ..style }),
+            "small" => self.small.case(order),
+            "bytes" => bytes(dice, order),
+            "valid" => structured(dice, order, style),
+            "lists" => structured(dice, order, Style { lists: true, ..style }),
+            "expressions" => structured(dice, order, Style { expressions: true, ..style }),
+            "trees" => structured(dice, order, Style { trees: true, ..style }),
             "listed" => {
                 let style = Style { listed: true, trees: dice.rare(3), lists: dice.rare(3), ..style };
-                structured(dice, style)
+                structured(dice, order, style)
             }
-            "deep" => deep(dice),
-            "refused" => refused(dice),
-            "sums" => structured(dice, Style { lists: true, far: true, ..style }),
+            "deep" => deep(dice, order),
+            "refused" => refused(dice, order),
+            "sums" => structured(dice, order, Style { lists: true, far: true, ..style }),
             "no-table" | "failures" => {
                 let fault = dice.of(&[0, 0, 0, 0, 0, 0, 0, 0, 4, 5, 7, 8]);
                 let no_table = self.family == "no-table";
-                structured(dice, Style { no_table, failures: !no_table, fault, ..style })
+                structured(dice, order, Style { no_table, failures: !no_table, fault, ..style })
             }
-            "headers" => headers(dice),
-            "declarations" => declarations(dice),
-            "numbers" => numbers(dice),
-            "operations" => operations(dice),
-            "kinds" => kinds(dice),
-            "siblings" => siblings(dice),
-            "many" => many(dice),
+            "headers" => headers(dice, order),
+            "declarations" => declarations(dice, order),
+            "numbers" => numbers(dice, order),
+            "operations" => operations(dice, order),
+            "kinds" => kinds(dice, order),
+            "siblings" => siblings(dice, order),
+            "many" => many(dice, order),
             "damaged" => {
                 let style = Style { lists: dice.rare(4), expressions: dice.rare(4), trees: dice.rare(4), ..style };
-                let mut parts = structured(dice, style);
-                damage(dice, &mut parts);
+                let mut parts = structured(dice, order, style);
+                damage(dice, order, &mut parts);
                 parts
             }
             _ => {
                 let mut parts = self.given[i % self.given.len()].clone();
                 varied(dice, &mut parts);
                 if self.family == "damaged-files" {
-                    damage(dice, &mut parts);
+                    damage(dice, order, &mut parts);
                 }
                 parts
             }

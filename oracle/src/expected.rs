@@ -4,7 +4,8 @@
 
 use crate::judge::{self, Answer, Judged, List, Outcome, Setting};
 use crate::listed::{self, padded, Case, Change};
-use crate::unit::{self, fixed, header, uleb, Attribute, Unit};
+use crate::order::{fit, fixed, fixed_bytes, Order};
+use crate::unit::{self, header, uleb, Attribute, Unit};
 use std::collections::{BTreeMap, BTreeSet, HashMap};
 
 /// What an accepted unit comes to, whatever is lent.
@@ -70,9 +71,9 @@ impl Expected {
     }
 
     /// Whether the original's own answer is this one, nothing lent being short.
-    pub fn is(&self, judged: &Judged, section: &[u8]) -> bool {
+    pub fn is(&self, judged: &Judged, section: &[u8], order: Order) -> bool {
         match (&judged.outcome, &self.read) {
-            (Outcome::Error(Some(1), _), Err(n)) => *n == header(section),
+            (Outcome::Error(Some(1), _), Err(n)) => *n == header(section, order),
             (Outcome::Error(Some(n), _), Err(m)) => n == m,
             (Outcome::Error(Some(n), _), Ok(plan)) => plan.output.as_ref().err() == Some(n),
             (Outcome::Answer(answer), Ok(plan)) => {
@@ -101,8 +102,8 @@ fn list_of(form: u16) -> Option<usize> {
     }
 }
 
-fn index_of(form: u16, value: &[u8]) -> u64 {
-    if form >= 0x25 && form <= 0x28 { fixed(value) } else { uleb(value).map_or(0, |v| v.0) }
+fn index_of(form: u16, value: &[u8], order: Order) -> u64 {
+    if form >= 0x25 && form <= 0x28 { fixed(order, value) } else { uleb(value).map_or(0, |v| v.0) }
 }
 
 fn lists(unit: &Unit, bytes: &[u8], kept: &dyn Fn(usize) -> bool, type_units: bool) -> [List; 3] {
@@ -120,7 +121,7 @@ fn lists(unit: &Unit, bytes: &[u8], kept: &dyn Fn(usize) -> bool, type_units: bo
     for item in unit.items.iter().filter(|i| kept(i.start)) {
         for a in item.entry.iter().flat_map(|e| &e.attributes) {
             if let Some(list) = list_of(a.form).and_then(|i| lists[i].as_mut()) {
-                list.insert(index_of(a.form, &bytes[a.at..a.end]));
+                list.insert(index_of(a.form, &bytes[a.at..a.end], unit.order));
             }
         }
     }
@@ -130,10 +131,10 @@ fn lists(unit: &Unit, bytes: &[u8], kept: &dyn Fn(usize) -> bool, type_units: bo
 type Map = BTreeMap<u64, (usize, usize)>;
 
 /// The new value of an attribute of an entry at this depth, as wide as the old one.
-fn emitted(a: &Attribute, value: &[u8], depth: usize, map: &Map, lists: &[List; 3], address_size: u8) -> Result<Vec<u8>, u8> {
-    let width = value.len();
+fn emitted(unit: &Unit, a: &Attribute, value: &[u8], depth: usize, map: &Map, lists: &[List; 3]) -> Result<Vec<u8>, u8> {
+    let (width, order) = (value.len(), unit.order);
     if let 0x11..=0x15 = a.form {
-        let old = if a.form == 0x15 { uleb(value).map_or(0, |v| v.0) } else { fixed(value) };
+        let old = if a.form == 0x15 { uleb(value).map_or(0, |v| v.0) } else { fixed(order, value) };
         let mapped = map.get(&old);
         let found = if a.name == 0x01 { mapped.or_else(|| map.range(old..).map(|p| p.1).find(|p| p.1 <= depth)) } else { mapped };
         let new = found.ok_or(8)?.0 as u64;
@@ -141,22 +142,22 @@ fn emitted(a: &Attribute, value: &[u8], depth: usize, map: &Map, lists: &[List; 
         if bits < 64 && new >> bits != 0 {
             return Err(9);
         }
-        return Ok(if a.form == 0x15 { padded(new, width) } else { new.to_le_bytes()[..width].to_vec() });
+        return Ok(if a.form == 0x15 { padded(new, width) } else { fixed_bytes(order, new, width) });
     }
     if a.form == 0x18 {
         let mut out = value.to_vec();
         let start = uleb(value).map_or(0, |v| v.1);
-        for (place, old, width, is_uleb) in judge::references(&value[start..], address_size).unwrap_or_default() {
+        for (place, old, width, is_uleb) in judge::references(&value[start..], unit.encoding.address_size, order).unwrap_or_default() {
             let new = map.get(&old).ok_or(8)?.0 as u64;
-            let bytes = if is_uleb { padded(new, width) } else { new.to_le_bytes()[..width].to_vec() };
+            let bytes = if is_uleb { padded(new, width) } else { fixed_bytes(order, new, width) };
             out[start + place..start + place + width].copy_from_slice(&bytes);
         }
         return Ok(out);
     }
     if let Some(list) = list_of(a.form).and_then(|i| lists[i].as_ref()) {
-        let index = index_of(a.form, value);
+        let index = index_of(a.form, value, order);
         let rank = list.iter().take_while(|i| **i < index).count() as u64;
-        return Ok(if a.form >= 0x25 && a.form <= 0x28 { rank.to_le_bytes()[..width].to_vec() } else { padded(rank, width) });
+        return Ok(if a.form >= 0x25 && a.form <= 0x28 { fixed_bytes(order, rank, width) } else { padded(rank, width) });
     }
     Ok(value.to_vec())
 }
@@ -198,12 +199,11 @@ fn plan(unit: &Unit, bytes: &[u8], marks: &[(usize, char)], type_units: bool) ->
 
     let map: Map = plan.map.iter().map(|(old, new, depth)| (*old as u64, (*new, *depth))).collect();
     let mut out = bytes[..unit.first].to_vec();
-    out[..4].copy_from_slice(&(place as u32 - 4).to_le_bytes());
     for (item, depth) in written {
         let mut at = item.start;
         for a in item.entry.iter().flat_map(|e| &e.attributes) {
             out.extend(&bytes[at..a.at]);
-            match emitted(a, &bytes[a.at..a.end], depth, &map, &plan.lists, unit.encoding.address_size) {
+            match emitted(unit, a, &bytes[a.at..a.end], depth, &map, &plan.lists) {
                 Ok(value) => out.extend(value),
                 Err(n) => {
                     plan.output = Err(n);
@@ -214,6 +214,7 @@ fn plan(unit: &Unit, bytes: &[u8], marks: &[(usize, char)], type_units: bool) ->
         }
         out.extend(&bytes[at..item.end]);
     }
+    fit(unit.order, &mut out);
     plan.output = Ok(out);
     plan
 }
@@ -221,8 +222,9 @@ fn plan(unit: &Unit, bytes: &[u8], marks: &[(usize, char)], type_units: bool) ->
 /// What the port has to answer where the original answered so.
 pub fn expect(parts: [&[u8]; 5], setting: Setting, judged: &Judged) -> Expected {
     let refused = |n: u8, rules| Expected { met: 0, references: vec![], read: Err(n), rules };
+    let order = setting.order();
     if !parts[0].is_empty() {
-        match header(parts[0]) {
+        match header(parts[0], order) {
             0 => {}
             n => return refused(n, if n == 2 { BTreeSet::from(["header"]) } else { BTreeSet::new() }),
         }
@@ -236,9 +238,9 @@ pub fn expect(parts: [&[u8]; 5], setting: Setting, judged: &Judged) -> Expected 
             None => (parts, setting, judged),
             Some((p, s, j)) => ([&p[0], &p[1], &p[2], &p[3], &p[4]], *s, j),
         };
-        let unit = match unit::read(now, seen.met) {
+        let unit = match unit::read(now, order, seen.met) {
             Ok(Some(unit)) => unit,
-            Ok(None) => Unit { encoding: gimli::Encoding { format: gimli::Format::Dwarf32, version: 5, address_size: 8 }, first: 0, items: vec![] },
+            Ok(None) => Unit { order, encoding: gimli::Encoding { format: gimli::Format::Dwarf32, version: 5, address_size: 8 }, first: 0, items: vec![] },
             Err(_) => return refused(if let Outcome::Error(Some(n), _) = seen.outcome { n } else { 0 }, rules),
         };
         let case = Case { parts: now, setting: with, met: seen.met, marks: &seen.marks };

@@ -1,6 +1,7 @@
 //! Units that grow: families of one shape each, of any size. What bench measures; README.md of bench/ names them.
 
 use crate::cases::{Dice, Parts};
+use crate::order::{fit, fixed_bytes, Order};
 
 /// The families, and what their size counts.
 pub const FAMILIES: [(&str, &str); 22] = [
@@ -92,12 +93,16 @@ fn table() -> Vec<u8> {
     t
 }
 
-/// A unit in the making: the bytes behind the header.
-struct Unit(Vec<u8>);
+/// A unit in the making: the bytes behind the header, and the byte order.
+struct Unit(Vec<u8>, Order);
 
 impl Unit {
-    fn new() -> Self {
-        Unit(vec![ROOT])
+    fn new(order: Order) -> Self {
+        Unit(vec![ROOT], order)
+    }
+
+    fn four(&mut self, n: usize) {
+        self.0.extend(fixed_bytes(self.1, n as u64, 4));
     }
 
     /// Where the next item stands.
@@ -107,12 +112,12 @@ impl Unit {
 
     fn reference(&mut self, code: u8, to: usize) {
         self.0.push(code);
-        self.0.extend((to as u32).to_le_bytes());
+        self.four(to);
     }
 
     fn function(&mut self, live: bool, to: usize) {
         self.0.extend([FUNCTION, live.into()]);
-        self.0.extend((to as u32).to_le_bytes());
+        self.four(to);
     }
 
     fn bare(&mut self, live: bool) {
@@ -130,9 +135,11 @@ impl Unit {
     /// The bundle's parts; the address table has a dead and a live index.
     fn parts(mut self, table: Vec<u8>, locations: Vec<u8>, ranges: Vec<u8>) -> Parts {
         self.end();
-        let mut section = ((8 + self.0.len()) as u32).to_le_bytes().to_vec();
-        section.extend([5, 0, 1, 8, 0, 0, 0, 0]);
+        let mut section = vec![0; 4];
+        section.extend(fixed_bytes(self.1, 5, 2));
+        section.extend([1, 8, 0, 0, 0, 0]);
         section.extend(self.0);
+        fit(self.1, &mut section);
         [section, table, locations, ranges, vec![0, 1]]
     }
 
@@ -142,8 +149,8 @@ impl Unit {
 }
 
 /// Four entries a step: a type, a name for it, a function of that type, a type that nobody names. Every second function is live.
-fn wide(n: usize, dead: bool) -> Parts {
-    let mut u = Unit::new();
+fn wide(order: Order, n: usize, dead: bool) -> Parts {
+    let mut u = Unit::new(order);
     for i in 0..n / 4 {
         let base = u.place();
         u.base();
@@ -159,8 +166,8 @@ fn wide(n: usize, dead: bool) -> Parts {
 }
 
 /// Each level holds a dead entry and the next level; the innermost a live function.
-fn deep(n: usize) -> Parts {
-    let mut u = Unit::new();
+fn deep(order: Order, n: usize) -> Parts {
+    let mut u = Unit::new(order);
     for _ in 0..n / 2 {
         u.0.push(STRUCTURE);
         u.base();
@@ -173,8 +180,8 @@ fn deep(n: usize) -> Parts {
 }
 
 /// Names of names, a dead entry behind each; the live function names the chain's start.
-fn chain(n: usize, forward: bool) -> Parts {
-    let mut u = Unit::new();
+fn chain(order: Order, n: usize, forward: bool) -> Parts {
+    let mut u = Unit::new(order);
     if forward {
         u.function(true, u.place() + 6);
     }
@@ -197,9 +204,9 @@ fn chain(n: usize, forward: bool) -> Parts {
 }
 
 /// Structures of two entries each, one of them dead. A structure is kept for its kept entry, and names the kept entry of the next one.
-fn alternating(n: usize, forward: bool) -> Parts {
+fn alternating(order: Order, n: usize, forward: bool) -> Parts {
     let steps = n / 3;
-    let mut u = Unit::new();
+    let mut u = Unit::new(order);
     for i in 0..steps {
         let here = u.place();
         let first = if forward { i == 0 } else { i == steps - 1 };
@@ -218,8 +225,8 @@ fn alternating(n: usize, forward: bool) -> Parts {
 }
 
 /// Each entry names any other; one in sixteen is a live function, one in sixteen a dead one.
-fn random(n: usize) -> Parts {
-    let mut u = Unit::new();
+fn random(order: Order, n: usize) -> Parts {
+    let mut u = Unit::new(order);
     let first = u.place();
     let place = |i: usize| first + i / 16 * 82 + if i % 16 == 0 { 0 } else if i % 16 < 9 { 6 + (i % 16 - 1) * 5 } else { 12 + (i % 16 - 2) * 5 };
     let mut dice = Dice(1);
@@ -237,7 +244,7 @@ fn random(n: usize) -> Parts {
 }
 
 /// Half as many declarations as entries; each entry has any of them.
-fn codes(n: usize, kind: &str) -> Parts {
+fn codes(order: Order, n: usize, kind: &str) -> Parts {
     let number = |i: usize| match kind {
         "codes-above-index" => (1 << 40) + i as u64,
         _ => 2 + i as u64,
@@ -250,7 +257,7 @@ fn codes(n: usize, kind: &str) -> Parts {
         declare(&mut t, number(i), 0x2e, false, &[(0x11, 0x29)]);
     }
     t.push(0);
-    let mut u = Unit::new();
+    let mut u = Unit::new(order);
     let mut dice = Dice(1);
     for i in 0..n {
         uleb(&mut u.0, number(dice.below(count)));
@@ -260,18 +267,18 @@ fn codes(n: usize, kind: &str) -> Parts {
 }
 
 /// Functions of a string each, every second one live.
-fn strings(n: usize, shuffled: bool) -> Parts {
-    let mut numbers: Vec<u32> = (0..n as u32).collect();
+fn strings(order: Order, n: usize, shuffled: bool) -> Parts {
+    let mut numbers: Vec<usize> = (0..n).collect();
     if shuffled {
         let mut dice = Dice(1);
         for i in (1..n).rev() {
             numbers.swap(i, dice.below(i + 1));
         }
     }
-    let mut u = Unit::new();
+    let mut u = Unit::new(order);
     for (i, number) in numbers.iter().enumerate() {
         u.0.extend([NAMED, (i % 2) as u8]);
-        u.0.extend(number.to_le_bytes());
+        u.four(*number);
     }
     u.plain()
 }
@@ -283,8 +290,8 @@ fn variable(u: &mut Unit, expression: &[u8]) {
 }
 
 /// A live variable's expression that names so many types, among fifty, each in an entry of its own; and fifty dead ones.
-fn expression(n: usize) -> Parts {
-    let mut u = Unit::new();
+fn expression(order: Order, n: usize) -> Parts {
+    let mut u = Unit::new(order);
     let first = u.place();
     for _ in 0..100 {
         u.base();
@@ -299,8 +306,8 @@ fn expression(n: usize) -> Parts {
 }
 
 /// A live variable's expression with entry values one in the other; the innermost names a type.
-fn nested(n: usize) -> Parts {
-    let mut u = Unit::new();
+fn nested(order: Order, n: usize) -> Parts {
+    let mut u = Unit::new(order);
     let named = u.place();
     u.base();
     u.base();
@@ -322,8 +329,8 @@ fn nested(n: usize) -> Parts {
 }
 
 /// The same number of entry values, one level deep.
-fn beside(n: usize) -> Parts {
-    let mut u = Unit::new();
+fn beside(order: Order, n: usize) -> Parts {
+    let mut u = Unit::new(order);
     let named = u.place();
     u.base();
     u.base();
@@ -336,20 +343,20 @@ fn beside(n: usize) -> Parts {
 }
 
 /// A list section's header, of as many lists as bytes of its table; lists follow.
-fn lists(starts: &[usize]) -> Vec<u8> {
+fn lists(order: Order, starts: &[usize]) -> Vec<u8> {
     let mut out = vec![0; 12];
     for start in starts {
-        out.extend((start + 4 * starts.len()).to_le_bytes()[..4].to_vec());
+        out.extend(fixed_bytes(order, (start + 4 * starts.len()) as u64, 4));
     }
     out
 }
 
 /// A function whose ranges are all dead but the last.
-fn range_list(n: usize) -> Parts {
-    let mut u = Unit::new();
+fn range_list(order: Order, n: usize) -> Parts {
+    let mut u = Unit::new(order);
     u.base();
     u.0.extend([RANGED, 0]);
-    let mut ranges = lists(&[0]);
+    let mut ranges = lists(order, &[0]);
     for _ in 1..n {
         ranges.extend([3, 0, 16]);
     }
@@ -358,13 +365,13 @@ fn range_list(n: usize) -> Parts {
 }
 
 /// A live function with one location list whose every place names a type.
-fn location_list(n: usize) -> Parts {
-    let mut u = Unit::new();
+fn location_list(order: Order, n: usize) -> Parts {
+    let mut u = Unit::new(order);
     let named = u.place() as u8;
     u.base();
     u.base();
     u.0.extend([LOCATED, 1, 0]);
-    let mut locations = lists(&[0]);
+    let mut locations = lists(order, &[0]);
     for _ in 0..n {
         locations.extend([3, 0, 16, 2, 0xa8, named]);
     }
@@ -373,8 +380,8 @@ fn location_list(n: usize) -> Parts {
 }
 
 /// Functions, each with a range list and a location list of its own of three places; every second one live.
-fn many_lists(n: usize) -> Parts {
-    let mut u = Unit::new();
+fn many_lists(order: Order, n: usize) -> Parts {
+    let mut u = Unit::new(order);
     let named = u.place() as u8;
     u.base();
     for i in 0..n {
@@ -382,8 +389,8 @@ fn many_lists(n: usize) -> Parts {
         uleb(&mut u.0, i as u64);
         uleb(&mut u.0, i as u64);
     }
-    let mut ranges = lists(&(0..n).map(|i| 10 * i).collect::<Vec<_>>());
-    let mut locations = lists(&(0..n).map(|i| 19 * i).collect::<Vec<_>>());
+    let mut ranges = lists(order, &(0..n).map(|i| 10 * i).collect::<Vec<_>>());
+    let mut locations = lists(order, &(0..n).map(|i| 19 * i).collect::<Vec<_>>());
     for i in 0..n {
         ranges.extend([3, 0, 16, 3, 0, 16, 3, (i % 2) as u8, 16, 0]);
         locations.extend([3, 0, 16, 2, 0xa8, named, 3, 0, 16, 2, 0x91, 8, 3, 0, 16, 2, 0x91, 16, 0]);
@@ -392,8 +399,8 @@ fn many_lists(n: usize) -> Parts {
 }
 
 /// Functions with a sibling each, the entry behind; every second one live, so half of the kept siblings name a dead one.
-fn siblings_near(n: usize) -> Parts {
-    let mut u = Unit::new();
+fn siblings_near(order: Order, n: usize) -> Parts {
+    let mut u = Unit::new(order);
     for i in 0..n {
         u.reference(BESIDE, u.place() + 6);
         u.0.push(u8::from(i % 4 < 2));
@@ -402,8 +409,8 @@ fn siblings_near(n: usize) -> Parts {
 }
 
 /// Live functions whose sibling is one dead entry; behind it as many live ones, one level deeper.
-fn siblings_far(n: usize) -> Parts {
-    let mut u = Unit::new();
+fn siblings_far(order: Order, n: usize) -> Parts {
+    let mut u = Unit::new(order);
     let dead = u.place() + 6 * (n / 2) + 1;
     for _ in 0..n / 2 {
         u.reference(BESIDE, dead);
@@ -419,14 +426,14 @@ fn siblings_far(n: usize) -> Parts {
 }
 
 /// Four entries of so many attributes together, names that nobody asks for; two dead, two in a live function.
-fn attributes(n: usize) -> Parts {
+fn attributes(order: Order, n: usize) -> Parts {
     let mut t = Vec::new();
     declare(&mut t, 1, 0x11, true, &[]);
     let all: Vec<(u8, u8)> = (0..n / 4).map(|i| (0x0b, [0x0b, 0x05, 0x0f, 0x0d][i % 4])).collect();
     declare(&mut t, 2, 0x24, false, &all);
     declare(&mut t, 3, 0x2e, true, &[(0x11, 0x29)]);
     t.push(0);
-    let mut u = Unit::new();
+    let mut u = Unit::new(order);
     let entry = |u: &mut Unit| {
         u.0.push(2);
         for (_, form) in &all {
@@ -443,28 +450,28 @@ fn attributes(n: usize) -> Parts {
 }
 
 /// The unit of this family and size; none where there is no such family.
-pub fn unit(family: &str, size: usize) -> Option<Parts> {
+pub fn unit(family: &str, size: usize, order: Order) -> Option<Parts> {
     Some(match family {
-        "wide" => wide(size, true),
-        "wide-untouched" => wide(size, false),
-        "deep" => deep(size),
-        "chain-forward" => chain(size, true),
-        "chain-backward" => chain(size, false),
-        "alternating-forward" => alternating(size, true),
-        "alternating-backward" => alternating(size, false),
-        "references-random" => random(size),
-        "codes-in-order" | "codes-out-of-order" | "codes-above-index" => codes(size, family),
-        "strings-in-order" => strings(size, false),
-        "strings-shuffled" => strings(size, true),
-        "expression" => expression(size),
-        "entry-values" => nested(size),
-        "entry-values-wide" => beside(size),
-        "range-list" => range_list(size),
-        "location-list" => location_list(size),
-        "lists-many" => many_lists(size),
-        "siblings-near" => siblings_near(size),
-        "siblings-far" => siblings_far(size),
-        "attributes" => attributes(size),
+        "wide" => wide(order, size, true),
+        "wide-untouched" => wide(order, size, false),
+        "deep" => deep(order, size),
+        "chain-forward" => chain(order, size, true),
+        "chain-backward" => chain(order, size, false),
+        "alternating-forward" => alternating(order, size, true),
+        "alternating-backward" => alternating(order, size, false),
+        "references-random" => random(order, size),
+        "codes-in-order" | "codes-out-of-order" | "codes-above-index" => codes(order, size, family),
+        "strings-in-order" => strings(order, size, false),
+        "strings-shuffled" => strings(order, size, true),
+        "expression" => expression(order, size),
+        "entry-values" => nested(order, size),
+        "entry-values-wide" => beside(order, size),
+        "range-list" => range_list(order, size),
+        "location-list" => location_list(order, size),
+        "lists-many" => many_lists(order, size),
+        "siblings-near" => siblings_near(order, size),
+        "siblings-far" => siblings_far(order, size),
+        "attributes" => attributes(order, size),
         _ => return None,
     })
 }

@@ -1,9 +1,10 @@
 //! One run of `gc_debug_info`, and what it let be seen.
 
+use crate::order::{order, Order};
 use crate::{error::Error, gc, gc::probe, plain, shims};
 use gimli::{
     DebugAbbrev, DebugInfo, DebugLoc, DebugLocLists, DebugRanges, DebugRngLists, DebugRngListsBase,
-    EndianSlice, LocationLists, RangeLists, RunTimeEndian,
+    EndianSlice, LocationLists, RangeLists,
 };
 use std::any::Any;
 use std::cell::Cell;
@@ -16,6 +17,14 @@ use std::panic::{self, AssertUnwindSafe};
 pub struct Setting {
     pub type_units: bool,
     pub ranges_base: usize,
+    /// Fixed-width fields of the unit and its lists are big-endian, else little-endian.
+    pub big_endian: bool,
+}
+
+impl Setting {
+    pub fn order(&self) -> Order {
+        order(self.big_endian)
+    }
 }
 
 /// Numbers of an index list, or none where it is absent.
@@ -158,8 +167,8 @@ fn resolved(table: &[u8], index: usize) -> Result<bool, Error> {
 macro_rules! original {
     ($module:ident, $parts:expr, $setting:expr, $resolver:expr) => {{
         let (parts, setting): ([&[u8]; 5], Setting) = ($parts, $setting);
-        let reader = |i: usize| EndianSlice::new(parts[i], RunTimeEndian::Little);
-        let empty = EndianSlice::new(&[][..], RunTimeEndian::Little);
+        let reader = |i: usize| EndianSlice::new(parts[i], setting.order());
+        let empty = EndianSlice::new(&[][..], setting.order());
         $module::gc_debug_info(
             DebugInfo::from(reader(0)),
             DebugAbbrev::from(reader(1)),
@@ -211,8 +220,8 @@ pub fn judge(parts: [&[u8]; 5], setting: Setting) -> Judged {
 }
 
 /// `walk_expression` alone: place, old offset and width of each reference in the order of the walk, and whether it is a ULEB128.
-pub fn references(bytes: &[u8], address_size: u8) -> Result<Vec<(usize, u64, usize, bool)>, String> {
-    probe::references(bytes, address_size).map_err(|e| e.to_string())
+pub fn references(bytes: &[u8], address_size: u8, order: Order) -> Result<Vec<(usize, u64, usize, bool)>, String> {
+    probe::references(bytes, address_size, order).map_err(|e| e.to_string())
 }
 
 /// `write_uleb128_padded` alone.

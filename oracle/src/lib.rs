@@ -7,6 +7,7 @@ pub mod expected;
 pub mod growth;
 pub mod judge;
 pub mod listed;
+pub mod order;
 mod shims;
 pub mod unit;
 mod package {

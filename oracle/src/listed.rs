@@ -2,8 +2,9 @@
 //! changed so that the original reads what the port reads.
 
 use crate::judge::Setting;
-use crate::unit::{self, fixed, uleb, Slice, Unit};
-use gimli::{EndianSlice, Operation, Reader, RunTimeEndian};
+use crate::order;
+use crate::unit::{self, uleb, Slice, Unit};
+use gimli::{EndianSlice, Operation, Reader};
 use std::collections::{BTreeMap, BTreeSet, HashMap};
 
 pub struct Case<'a> {
@@ -58,7 +59,8 @@ fn odd_operation(expression: Slice<'_>, encoding: gimli::Encoding) -> Option<(us
 pub(crate) fn reading(case: &Case<'_>, unit: &Unit) -> Vec<(&'static str, Vec<Change>)> {
     let bytes = case.parts[0];
     let encoding = unit.encoding;
-    let reader = |part| EndianSlice::new(part, RunTimeEndian::Little);
+    let reader = |part| EndianSlice::new(part, unit.order);
+    let fixed = |bytes: &[u8]| order::fixed(unit.order, bytes);
     let section = reader(case.parts[2]);
     let lists = gimli::LocationLists::new(gimli::DebugLoc::from(reader(&[][..])), gimli::DebugLocLists::from(section));
     let mut found = Vec::new();
@@ -151,6 +153,7 @@ pub(crate) fn writing(case: &Case<'_>, unit: &Unit) -> BTreeSet<&'static str> {
     if !marks.values().any(|m| *m == 'D') {
         return rules;
     }
+    let fixed = |bytes: &[u8]| order::fixed(unit.order, bytes);
     let kept = |item: &unit::Item| marks.get(&item.start).is_some_and(|m| *m != 'D');
     let mut map: BTreeMap<usize, (usize, usize)> = BTreeMap::new();
     let mut open: Vec<bool> = Vec::new();
@@ -213,8 +216,9 @@ pub fn rules(case: &Case<'_>) -> BTreeSet<&'static str> {
     if case.parts[0].is_empty() {
         return BTreeSet::new();
     }
-    match unit::header(case.parts[0]) {
-        0 => match unit::read(case.parts, case.met) {
+    let order = case.setting.order();
+    match unit::header(case.parts[0], order) {
+        0 => match unit::read(case.parts, order, case.met) {
             Ok(Some(unit)) => {
                 let mut rules = writing(case, &unit);
                 rules.extend(reading(case, &unit).into_iter().map(|f| f.0));

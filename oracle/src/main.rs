@@ -1,12 +1,12 @@
 //! The original collector as the judge: reads bundles and prints one line for each. README.md has the line's form.
 
 use oracle::judge::{self, judge, or_dash, said, Judged, Setting};
-use oracle::listed;
+use oracle::{listed, order};
 use std::io::{self, BufRead, BufReader, BufWriter, Read, Write};
 use std::panic::{self, AssertUnwindSafe};
 
-const USAGE: &str = "usage: oracle [--type-units] [--ranges-base N] [--more] [BUNDLE ..]
-       oracle --expression ADDRESS_SIZE HEX | --padded VALUE WIDTH | --tombstone ADDRESS ADDRESS_SIZE
+const USAGE: &str = "usage: oracle [--type-units] [--ranges-base N] [--big-endian] [--more] [BUNDLE ..]
+       oracle [--big-endian] --expression ADDRESS_SIZE HEX | --padded VALUE WIDTH | --tombstone ADDRESS ADDRESS_SIZE
 Without a file: bundles one after another from standard input.";
 
 /// The five sections of a bundle whose first length has been taken off, or none for a wrong layout.
@@ -103,11 +103,15 @@ fn number(text: &str) -> Option<u64> {
 
 /// The calls that take no unit.
 fn single(args: &[String]) -> Option<String> {
+    let (big_endian, args) = match args {
+        [first, rest @ ..] if first == "--big-endian" => (true, rest),
+        _ => (false, args),
+    };
     let [what, first, second] = args else { return None };
     Some(match what.as_str() {
         "--expression" => {
             let (size, bytes) = (number(first)? as u8, unhex(second)?);
-            caught(|| match judge::references(&bytes, size) {
+            caught(|| match judge::references(&bytes, size, order::order(big_endian)) {
                 Err(e) => format!("error {e}"),
                 Ok(found) => {
                     let shown: Vec<String> =
@@ -146,6 +150,7 @@ fn run() -> io::Result<i32> {
     while let Some(arg) = args.next() {
         match arg.as_str() {
             "--type-units" => setting.type_units = true,
+            "--big-endian" => setting.big_endian = true,
             "--more" => more = true,
             "--ranges-base" => match args.next().as_deref().and_then(number) {
                 Some(base) => setting.ranges_base = base as usize,

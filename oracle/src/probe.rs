@@ -55,9 +55,9 @@ pub(super) fn marks(dies: &[DieRecord], places: &HashMap<gimli::UnitOffset, usiz
 }
 
 /// `walk_expression` alone: place, old offset and width of each reference, in the order of the walk, and whether it is a ULEB128.
-pub(crate) fn references(bytes: &[u8], address_size: u8) -> Result<Vec<(usize, u64, usize, bool)>> {
+pub(crate) fn references(bytes: &[u8], address_size: u8, order: RunTimeEndian) -> Result<Vec<(usize, u64, usize, bool)>> {
     let encoding = gimli::Encoding { format: gimli::Format::Dwarf32, version: 5, address_size };
-    let expression = gimli::EndianSlice::new(bytes, RunTimeEndian::Little);
+    let expression = gimli::EndianSlice::new(bytes, order);
     let mut found: Vec<ExprRef> = Vec::new();
     let mut absolute = false;
     walk_expression(gimli::Expression(expression), 0, encoding, &mut |r| found.push(r), &mut |_| {
@@ -79,7 +79,7 @@ pub(crate) fn references(bytes: &[u8], address_size: u8) -> Result<Vec<(usize, u
         .collect()
 }
 
-/// `write_uleb128_padded` alone.
+/// `write_uleb128_padded` alone; a ULEB128 is the same in either byte order.
 pub(crate) fn padded(value: u64, width: usize) -> Result<Vec<u8>> {
     let mut out = EndianVec::new(RunTimeEndian::Little);
     write_uleb128_padded(&mut out, gimli::UnitOffset(value as usize), width)?;

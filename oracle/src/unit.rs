@@ -1,8 +1,9 @@
 //! A unit as a list of its items, read by gimli: what the rules of `listed` and the answers of `expected` are told from.
 
-use gimli::{EndianSlice, Reader, RunTimeEndian};
+use crate::order::{fixed, Order};
+use gimli::{EndianSlice, Reader};
 
-pub(crate) type Slice<'a> = EndianSlice<'a, RunTimeEndian>;
+pub(crate) type Slice<'a> = EndianSlice<'a, Order>;
 
 pub(crate) struct Attribute {
     pub(crate) name: u16,
@@ -32,6 +33,7 @@ pub(crate) struct Item {
 
 /// The first unit of a section, up to the last entry that was met.
 pub(crate) struct Unit {
+    pub(crate) order: Order,
     pub(crate) encoding: gimli::Encoding,
     /// Where the first item starts.
     pub(crate) first: usize,
@@ -39,15 +41,15 @@ pub(crate) struct Unit {
 }
 
 /// The specification's number for the header, 0 where it is fine.
-pub fn header(section: &[u8]) -> u8 {
+pub fn header(section: &[u8], order: Order) -> u8 {
     let Some((length, rest)) = section.split_first_chunk::<4>() else { return 1 };
-    let length = u32::from_le_bytes(*length);
+    let length = fixed(order, length);
     if length >= 0xffff_fff0 {
         return 2;
     }
     let Some(unit) = rest.get(..length as usize) else { return 1 };
     let fields: [(usize, &dyn Fn(&[u8]) -> bool); 4] =
-        [(2, &|u| u[..2] == [5, 0]), (3, &|u| matches!(u[2], 1 | 5)), (4, &|u| matches!(u[3], 4 | 8)), (8, &|_| true)];
+        [(2, &|u| fixed(order, &u[..2]) == 5), (3, &|u| matches!(u[2], 1 | 5)), (4, &|u| matches!(u[3], 4 | 8)), (8, &|_| true)];
     for (need, right) in fields {
         if unit.len() < need {
             return 1;
@@ -59,14 +61,11 @@ pub fn header(section: &[u8]) -> u8 {
     u8::from(unit[2] == 5 && unit.len() < 16)
 }
 
+/// The same in either byte order.
 pub(crate) fn uleb(bytes: &[u8]) -> Option<(u64, usize)> {
-    let mut reader = EndianSlice::new(bytes, RunTimeEndian::Little);
+    let mut reader = EndianSlice::new(bytes, Order::Little);
     let value = reader.read_uleb128().ok()?;
     Some((value, bytes.len() - reader.len()))
-}
-
-pub(crate) fn fixed(bytes: &[u8]) -> u64 {
-    bytes.iter().rev().fold(0, |n, b| n << 8 | u64::from(*b))
 }
 
 fn attribute(section: &[u8], spec: &gimli::AttributeSpecification, start: usize, end: usize) -> Option<Attribute> {
@@ -82,12 +81,12 @@ fn attribute(section: &[u8], spec: &gimli::AttributeSpecification, start: usize,
 }
 
 /// The items up to the last of `met` entries; none where the section holds no unit.
-pub(crate) fn read(parts: [&[u8]; 5], met: usize) -> gimli::Result<Option<Unit>> {
-    let reader = |i: usize| EndianSlice::new(parts[i], RunTimeEndian::Little);
+pub(crate) fn read(parts: [&[u8]; 5], order: Order, met: usize) -> gimli::Result<Option<Unit>> {
+    let reader = |i: usize| EndianSlice::new(parts[i], order);
     let section = gimli::DebugInfo::from(reader(0));
     let Some(header) = section.units().next()? else { return Ok(None) };
     let table = header.abbreviations(&gimli::DebugAbbrev::from(reader(1)))?;
-    let mut unit = Unit { encoding: header.encoding(), first: header.size_of_header(), items: Vec::new() };
+    let mut unit = Unit { order, encoding: header.encoding(), first: header.size_of_header(), items: Vec::new() };
     let mut left = met;
     let mut entries = header.entries_raw(&table, None)?;
     while !entries.is_empty() {

@@ -8,6 +8,7 @@ use lib.Dec.{ltb}
 use Rattle.readers.specs.Choice.{pick, zeros}
 use Rattle.marking.specs.Columns.{padTo}
 use Rattle.marking.specs.Analysis.{sections}
+use Rattle.marking.specs.declared.setting.Setting.{Setting}
 use Rattle.rewriting.specs.Written.{runBytes}
 use Rattle.rewriting.specs.Rewriting.{Collected, Room, collectOf}
 use Rattle.rewriting.specs.Outputs.{roomOf}
@@ -63,10 +64,14 @@ countsFor n (Refused k) = zeros n
 abbrev pub isYes : ℕ → Bool
 isYes n = ltb 0 n
 
+-- what a call tells by its numbers: the ranges base, and the byte order, 0 for little-endian, any other for big-endian
+abbrev pub settingOf : ℕ → ℕ → Setting
+settingOf base bigEndian = record { «ranges_base» = base; «big_endian» = isYes bigEndian }
+
 -- what collect makes of a call's sections and numbers
-abbrev pub collectedOf : List ℕ → List ℕ → List ℕ → List ℕ → List ℕ → ℕ → ℕ → Room → Collected
-collectedOf section abbreviations locations ranges addresses base typeUnits room =
-    collectOf (sections abbreviations locations ranges addresses base) room (isYes typeUnits) section
+abbrev pub collectedOf : List ℕ → List ℕ → List ℕ → List ℕ → List ℕ → ℕ → ℕ → ℕ → Room → Collected
+collectedOf section abbreviations locations ranges addresses base typeUnits bigEndian room =
+    collectOf (sections abbreviations locations ranges addresses (settingOf base bigEndian)) room (isYes typeUnits) section
 
 -- the room of the call's own tables, 2,048 entries and 8,192 references, with lent slices of some lengths
 abbrev pub ownRoom : ℕ → ℕ → ℕ → ℕ → ℕ → Room

@@ -5,6 +5,7 @@ ghost use Rattle.readers.specs.Choice.{zeros};
 ghost use Rattle.rewriting.specs.Outputs.{roomOf, answerFor, mapFor, listFor, outputFor, rangesIn, locationsIn, stringsIn};
 ghost use Rattle.collector.specs.Call.{numberFor, countsFor, collectedOf, ownRoom};
 use crate::answers::give;
+use marking::setting::Setting;
 use rewriting::collect::collect;
 
 // Thins the first unit of a section with tables that are lent. They are scratch, and zeros after the call.
@@ -17,6 +18,7 @@ pub extern "C" fn collector_collect_lent(
     addresses: &[u8],
     ranges_base: u64,
     type_units: u64,
+    big_endian: u64,
     index: &mut [u64],
     offsets: &mut [u64],
     parents: &mut [u32],
@@ -39,7 +41,7 @@ pub extern "C" fn collector_collect_lent(
         (length (now (targets .entry))) (length (now (map .entry))) (length (now («range_list» .entry)))
         (length (now («location_list» .entry))) (length (now («string_list» .entry))) (length (now (out .entry))) in
         let answer = collectedOf (now (section .entry)) (now (abbreviations .entry)) (now (locations .entry))
-        (now (ranges .entry)) (now (addresses .entry)) «ranges_base» «type_units» room in
+        (now (ranges .entry)) (now (addresses .entry)) «ranges_base» «type_units» «big_endian» room in
         (r ≡ numberFor (length (now (counts .entry))) (answerFor answer))
         × (now (counts .exit) ≡ countsFor (length (now (counts .entry))) (answerFor answer))
         × (now (map .exit) ≡ mapFor (length (now (map .entry))) answer)
@@ -58,13 +60,17 @@ pub extern "C" fn collector_collect_lent(
         × (now (work .exit) ≡ zeros (length (now (work .entry))))
         ) ⌝ }
 {
+    let setting = Setting {
+        ranges_base,
+        big_endian: big_endian > 0,
+    };
     let answer = collect(
         section,
         abbreviations,
         locations,
         ranges,
         addresses,
-        ranges_base,
+        setting,
         type_units > 0,
         index,
         offsets,
@@ -94,6 +100,7 @@ pub extern "C" fn collector_collect(
     addresses: &[u8],
     ranges_base: u64,
     type_units: u64,
+    big_endian: u64,
     map: &mut [u8],
     range_list: &mut [u8],
     location_list: &mut [u8],
@@ -105,7 +112,7 @@ pub extern "C" fn collector_collect(
         let room = ownRoom (length (now (map .entry))) (length (now («range_list» .entry)))
         (length (now («location_list» .entry))) (length (now («string_list» .entry))) (length (now (out .entry))) in
         let answer = collectedOf (now (section .entry)) (now (abbreviations .entry)) (now (locations .entry))
-        (now (ranges .entry)) (now (addresses .entry)) «ranges_base» «type_units» room in
+        (now (ranges .entry)) (now (addresses .entry)) «ranges_base» «type_units» «big_endian» room in
         (r ≡ numberFor (length (now (counts .entry))) (answerFor answer))
         × (now (counts .exit) ≡ countsFor (length (now (counts .entry))) (answerFor answer))
         × (now (map .exit) ≡ mapFor (length (now (map .entry))) answer)
@@ -132,6 +139,7 @@ pub extern "C" fn collector_collect(
         addresses,
         ranges_base,
         type_units,
+        big_endian,
         &mut index,
         &mut offsets,
         &mut parents,

@@ -8,3 +8,4 @@ pub mod ValueRefusals
 pub mod NewValues
 pub mod Accepting
 pub mod CallRefusals
+pub mod ByteOrders

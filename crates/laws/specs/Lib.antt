@@ -22,3 +22,4 @@ pub mod inner
 pub mod Yields
 pub mod Ancestors
 pub mod AddressTables
+pub mod ByteOrders

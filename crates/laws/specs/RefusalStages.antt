@@ -27,7 +27,7 @@ pub record UnitRead (x : Sections) (room : Room) (section : List ℕ) : Type 0 w
   pub header : UnitHeader
   pub declared : List Placed
   pub rows : List EntryRow
-  pub header-is : headerOf section ≡ Header′ header
+  pub header-is : headerOf (x .setting .«big_endian») section ≡ Header′ header
   pub declared-are : abbreviationsOf (x .abbreviations) (header .abbreviations) ≡ some declared
   pub rows-are : analysisOf x section (room .tables) ≡ analysed rows
 
@@ -50,10 +50,10 @@ module _ (x : Sections) (room : Room) (typeUnits : Bool) (section : List ℕ) wh
   -- where a refusal comes from, and what was passed before it: "Header .. 1 .., 2 .. . 3 abbreviations. Then entry by entry
   -- .. . Then 12 an index list too short .. . If something is dead: 13 map, 14 output too short, then in stream order 8 .. or 9"
   pub data RefusedAt : ℕ → Type 0 where
-    at-header : {n : ℕ} → headerOf section ≡ Refused n → HeaderRefusal n → RefusedAt n
-    at-abbreviations : {h : UnitHeader} → headerOf section ≡ Header′ h
+    at-header : {n : ℕ} → headerOf (x .setting .«big_endian») section ≡ Refused n → HeaderRefusal n → RefusedAt n
+    at-abbreviations : {h : UnitHeader} → headerOf (x .setting .«big_endian») section ≡ Header′ h
         → abbreviationsOf (x .abbreviations) (h .abbreviations) ≡ none → RefusedAt 3
-    at-entries : {h : UnitHeader} {ds : List Placed} {n : ℕ} → headerOf section ≡ Header′ h
+    at-entries : {h : UnitHeader} {ds : List Placed} {n : ℕ} → headerOf (x .setting .«big_endian») section ≡ Header′ h
         → abbreviationsOf (x .abbreviations) (h .abbreviations) ≡ some ds
         → analysisOf x section (room .tables) ≡ notAnalysed n → EntriesRefusal n → RefusedAt n
     at-lists : (u : UnitRead x room section) → 0 < length (u .rows) → listsFit room (listsIn u) ≡ false → RefusedAt 12

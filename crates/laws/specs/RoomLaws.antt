@@ -131,4 +131,4 @@ module _ (x : Sections) (section : List ℕ) where
 
   -- THE room that is enough
   unfoldable pub enoughRoom : Room
-  enoughRoom = headerRoom (headerOf section)
+  enoughRoom = headerRoom (headerOf (x .setting .«big_endian») section)

@@ -160,7 +160,7 @@ module _ (x : Sections) (u : Unit′) where
 pub record UnitReferences (x : Sections) (section : List ℕ) (rows : List EntryRow) : Type 0 where
   pub header : UnitHeader
   pub declared : List Placed
-  pub header-is : headerOf section ≡ Header′ header
+  pub header-is : headerOf (x .setting .«big_endian») section ≡ Header′ header
   pub declared-is : abbreviationsOf (x .abbreviations) (header .abbreviations) ≡ some declared
   -- row by row: list bases default to 12
   pub rows-are : RowsReferences x (unitOf header section declared) 12 (itemsIn x (unitOf header section declared)) rows

@@ -60,7 +60,7 @@ pub record SameRoles (x : Sections) (u : Unit′) (y : Entry) : Type 0 where
 pub record UnitRoles (x : Sections) (section : List ℕ) : Type 0 where
   pub header : UnitHeader
   pub declared : List Placed
-  pub header-is : headerOf section ≡ Header′ header
+  pub header-is : headerOf (x .setting .«big_endian») section ≡ Header′ header
   pub declared-is : abbreviationsOf (x .abbreviations) (header .abbreviations) ≡ some declared
   pub each : (y : Entry) → Member (entry y) (itemsIn x (unitOf header section declared))
       → SameRoles x (unitOf header section declared) y

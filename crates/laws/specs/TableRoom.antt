@@ -65,4 +65,4 @@ headerTables x section (Unit′ h) =
 
 -- THE tables that are enough for the first unit of a section
 unfoldable pub enoughTables : Sections → List ℕ → Rooms
-enoughTables x section = headerTables x section (headerOf section)
+enoughTables x section = headerTables x section (headerOf (x .setting .«big_endian») section)

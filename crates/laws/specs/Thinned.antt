@@ -12,7 +12,7 @@ use Rattle.readers.specs.Layout.{Encoded, Role, reference, typeReference, sibli
 use Rattle.readers.specs.Expression.{expressionIn}
 use Rattle.readers.specs.Abbreviations.{Placed, declaredIn, abbreviationsOf}
 use Rattle.readers.specs.Entries.{entryLayout}
-use Rattle.readers.specs.Header.{headerOf}
+use Rattle.readers.specs.Header.{headerOf, withEnd}
 use Rattle.readers.specs.Nesting.{opened}
 use Rattle.readers.specs.Stream.{Item, entry, terminator, itemsFrom}
 use Rattle.readers.specs.declared.entries.Entry.{Entry}
@@ -28,7 +28,7 @@ use Rattle.rewriting.specs.Ascending.{Ascending}
 use Rattle.marking.specs.Members.{Member, Nth}
 use Rattle.laws.specs.Ancestors.{ancestorsFrom}
 use Rattle.laws.specs.Moved.{movedItem, depthsFrom}
-use Rattle.rewriting.specs.Rewriting.{Unit as Unit′, unitOf, itemsIn, Lists, listsOf, noLists, listAt, Rewrite, withEnd, Room}
+use Rattle.rewriting.specs.Rewriting.{Unit as Unit′, unitOf, itemsIn, Lists, listsOf, noLists, listAt, Rewrite, Room}
 use Rattle.laws.specs.AbsentLists.{DeclaresOffset}
 use Rattle.laws.specs.HeaderBytes.{HeaderBytes}
 use Rattle.laws.specs.SameReferences.{UnitReferences}
@@ -193,7 +193,7 @@ pub record Thinned (x : Sections) (typeUnits : Bool) (section : List ℕ) (w : R
   pub rows : List EntryRow
   pub kept : List NestedItem
   pub left : List NestedItem
-  pub header-is : headerOf section ≡ Header′ header
+  pub header-is : headerOf (x .setting .«big_endian») section ≡ Header′ header
   pub declared-are : abbreviationsOf (x .abbreviations) (header .abbreviations) ≡ some declared
   -- the least set (specs/UnitSurvivors.antt), by the references that are patched below
   -- (specs/SameReferences.antt); which numbers are patched, by their forms (specs/SameRoles.antt)
@@ -206,7 +206,7 @@ pub record Thinned (x : Sections) (typeUnits : Bool) (section : List ℕ) (w : R
   pub count : Number (Survivor (graphOf rows)) (w .entries) (w .kept)
   pub dead : Without (Survivor (graphOf rows)) (w .entries)
   -- "Read again": by its own header, which is the old one but for the unit's length, and the same abbreviations, up to its end
-  pub header-again : headerOf (w .output) ≡ Header′ (withEnd header (length (w .output)))
+  pub header-again : headerOf (x .setting .«big_endian») (w .output) ≡ Header′ (withEnd header (length (w .output)))
   pub header-bytes : HeaderBytes header (take (header .end) section) (w .output)
   pub whole : itemsFrom (header .encoding) (x .abbreviations) (declaredIn declared) (w .output) (header .first .0) .1 ≡ true
   -- "a rewritten unit is the old tree less its dead entries, with order, nesting and, as document 01 has it, values kept"; "lands on the new place"
@@ -237,7 +237,7 @@ pub record UntouchedLists (x : Sections) (typeUnits : Bool) (section : List ℕ)
   pub declared : List Placed
   pub kept : List NestedItem
   pub left : List NestedItem
-  pub header-is : headerOf section ≡ Header′ header
+  pub header-is : headerOf (x .setting .«big_endian») section ≡ Header′ header
   pub declared-are : abbreviationsOf (x .abbreviations) (header .abbreviations) ≡ some declared
   pub parted : Parted (Survivor (graphOf rows)) 0 [] (itemsIn x (unitOf header section declared)) kept left
   pub lists-are : lists ≡ listsOf x (unitOf header section declared) typeUnits kept

@@ -9,7 +9,7 @@ use mathlib.Core.Logic.{_⊎_, _↔_}
 use lib.ListN.{length, getD, take}
 use lib.Dec.{T}
 use Rattle.readers.specs.Abbreviations.{Placed, abbreviationsOf}
-use Rattle.readers.specs.Header.{headerOf}
+use Rattle.readers.specs.Header.{headerOf, Known}
 use Rattle.readers.specs.declared.header.UnitHeader.{UnitHeader}
 use Rattle.readers.specs.declared.header.HeaderRead.the-variants.{Unit as Unit′}
 use Rattle.marking.specs.Members.{Member, Nth}
@@ -60,11 +60,13 @@ LeastRows rows S = LeastBy (length rows) (RootIn rows) (ParentIn rows) (Below ro
 -- ---- what the rows say of the entries
 
 -- the first unit of a section, by the header and the declarations that are found: its items are read to its end, and
--- the rows are those of its entries. At first no entry is open and the list bases are 12.
+-- the rows are those of its entries. At first no entry is open and the list bases are 12. Its encoding is one of those
+-- that are read, in the byte order that was told.
 pub record FirstUnit (x : Sections) (section : List ℕ) (rows : List EntryRow) : Type 0 where
   pub header : UnitHeader
   pub declared : List Placed
-  pub header-is : headerOf section ≡ Unit′ header
+  pub header-is : headerOf (x .setting .«big_endian») section ≡ Unit′ header
+  pub known : Known (x .setting .«big_endian») (header .encoding)
   pub declared-is : abbreviationsOf (x .abbreviations) (header .abbreviations) ≡ some declared
   pub whole : unitItems x section header declared .1 ≡ true
   pub each : RowsOf (header .encoding) x (take (header .end) section) 0 [] 12 12 (unitItems x section header declared .0) rows

@@ -86,7 +86,7 @@ module _ (e : Encoding) (x : Sections) (unit : List ℕ) where
 -- ---- of the first unit of a section, with its header and its declarations
 
 module _ (x : Sections) (section : List ℕ) (room : Rooms) (h : UnitHeader) (ds : List Placed) (rows : List EntryRow)
-    (header : headerOf section ≡ Unit′ h) (declared : abbreviationsOf (x .abbreviations) (h .abbreviations) ≡ some ds)
+    (header : headerOf (x .setting .«big_endian») section ≡ Unit′ h) (declared : abbreviationsOf (x .abbreviations) (h .abbreviations) ≡ some ds)
     (analysis : analysisOf x section room ≡ analysed rows) where
   abbrev own : List ℕ
   own = take (h .end) section

@@ -1,5 +1,6 @@
 -- The scan of references computed, by the definitions alone (docs/DECISIONS.md has the points).
 use mathlib.Core.Path.{_≡_, refl}
+use mathlib.Core.Bool.{true, false}
 use mathlib.Core.List.{[], _∷_}
 use Rattle.readers.specs.Choice.{pick, check, bind, _and_, _or_}
 use Rattle.readers.specs.Numbers.{groups, below, uleb, unsigned64, ordered, littleValue, fixedValue}
@@ -10,6 +11,8 @@ use Rattle.readers.specs.Operations.{unreadableRow, rows, rowOf, rowLayout, ope
 use Rattle.readers.specs.Operations.{operation, locationEntries, listRow}
 use Rattle.readers.specs.Expression.{allPieces, andRest, expressionWithin, expressionIn}
 use Rattle.readers.specs.References.{nameIn, namesIn, isAbsolute, anyAbsolute, asWalk, walkOf, namesOr, referencesIn}
+use Rattle.readers.specs.References.{walkAnswer, referencesAnswer, numbersOf, answerTable, referencesTable}
+use Rattle.readers.specs.declared.expressions.References.the-variants.{Count, Refused}
 use Rattle.readers.specs.Cursors.{cursor}
 use Rattle.readers.specs.Fields.{linkedValue, size, fieldOf, rowOfReads}
 use Rattle.readers.specs.Steps.{listEntry, rowEntry, entryOfReads, asListStep, listEntryAt}
@@ -18,29 +21,49 @@ use Rattle.readers.specs.declared.lists.ListOffset.the-variants.{At, Unresolved
 use Rattle.marking.specs.Walking.{onNext, walkWithin, walk}
 use Rattle.marking.specs.EntryReferences.{found, refused, targets, walkFound, expressionFound, partOf}
 use Rattle.marking.specs.EntryReferences.{locationFound, onLocation, locationStep, listFound}
+use Rattle.marking.proofs.RootExamples.{little8, big8, big4}
 
 expressions :
-    (expressionFound (encodingOf 8) (0x98 ∷ 0 ∷ 0 ∷ []) ≡ found (0 ∷ []))  -- call2 names 0 too
-    × (expressionFound (encodingOf 8) (0xa8 ∷ 0 ∷ []) ≡ found [])  -- convert to no type
-    × (expressionFound (encodingOf 8) (0xa3 ∷ 3 ∷ 0x98 ∷ 7 ∷ 0 ∷ 0xa8 ∷ 9 ∷ []) ≡ found (7 ∷ 9 ∷ []))  -- an entry value's, in walk order
-    × (expressionFound (encodingOf 8) (0xfd ∷ 0 ∷ 0 ∷ 0 ∷ 0 ∷ []) ≡ refused [] 7)
-    × (expressionFound (encodingOf 8) (0x9a ∷ 0 ∷ 0 ∷ 0 ∷ 0 ∷ 0xa3 ∷ 1 ∷ 0xff ∷ []) ≡ refused [] 5)  -- 5 before 7, nested ones too
+    (expressionFound little8 (0x98 ∷ 0 ∷ 0 ∷ []) ≡ found (0 ∷ []))  -- call2 names 0 too
+    × (expressionFound little8 (0xa8 ∷ 0 ∷ []) ≡ found [])  -- convert to no type
+    × (expressionFound little8 (0xa3 ∷ 3 ∷ 0x98 ∷ 7 ∷ 0 ∷ 0xa8 ∷ 9 ∷ []) ≡ found (7 ∷ 9 ∷ []))  -- an entry value's, in walk order
+    × (expressionFound little8 (0xfd ∷ 0 ∷ 0 ∷ 0 ∷ 0 ∷ []) ≡ refused [] 7)
+    × (expressionFound little8 (0x9a ∷ 0 ∷ 0 ∷ 0 ∷ 0 ∷ 0xa3 ∷ 1 ∷ 0xff ∷ []) ≡ refused [] 5)  -- 5 before 7, nested ones too
+    × (expressionFound big8 (0x98 ∷ 1 ∷ 7 ∷ []) ≡ found (0x0107 ∷ []))  -- big-endian: call2, call4
+    × (expressionFound big8 (0x99 ∷ 0 ∷ 0 ∷ 1 ∷ 7 ∷ []) ≡ found (0x0107 ∷ []))
+    × (expressionFound big8 (0xfa ∷ 0 ∷ 0 ∷ 1 ∷ 7 ∷ []) ≡ found (0x0107 ∷ []))  -- GNU_parameter_ref
+    × (expressionFound big8 (0xa3 ∷ 3 ∷ 0x98 ∷ 0 ∷ 7 ∷ 0xa8 ∷ 0x87 ∷ 2 ∷ []) ≡ found (7 ∷ 0x0107 ∷ []))  -- ULEB128 is the same
 unfolding expressionFound walkFound targets walkOf asWalk referencesIn namesOr namesIn nameIn anyAbsolute isAbsolute
     expressionIn expressionWithin andRest allPieces encodingOf operation operationRow operations rowAmong rowOf rows
     unreadableRow rowLayout tokenOf numberAs readIn tokenIn numberIn before asNumber asBounded asLink asBlock
     asExpression asLeb copy uleb groups below unsigned64 fixedValue ordered littleValue width bytesOf pieceBytes
     numberBytes pick check bind _and_ _or_
-expressions = (refl, refl, refl, refl, refl)
+expressions = (refl, refl, refl, refl, refl, refl, refl, refl, refl)
 
 lists :
-    (listFound (encodingOf 8) (5 ∷ 3 ∷ 0x98 ∷ 0x63 ∷ 0 ∷ 0 ∷ []) (At (cursor 0)) ≡ found (0x63 ∷ []))  -- a default location, and the end
-    × (listFound (encodingOf 8) (5 ∷ 5 ∷ 0x9a ∷ 0 ∷ 0 ∷ 0 ∷ 0 ∷ 0xff ∷ []) (At (cursor 0)) ≡ refused [] 7)  -- judged before the next entry is read
-    × (listFound (encodingOf 8) (1 ∷ 0 ∷ 9 ∷ []) (At (cursor 0)) ≡ refused [] 5)  -- an unknown kind
-    × (listFound (encodingOf 8) [] Unresolved ≡ refused [] 5)
+    (listFound little8 (5 ∷ 3 ∷ 0x98 ∷ 0x63 ∷ 0 ∷ 0 ∷ []) (At (cursor 0)) ≡ found (0x63 ∷ []))  -- a default location, and the end
+    × (listFound little8 (5 ∷ 5 ∷ 0x9a ∷ 0 ∷ 0 ∷ 0 ∷ 0 ∷ 0xff ∷ []) (At (cursor 0)) ≡ refused [] 7)  -- judged before the next entry is read
+    × (listFound little8 (1 ∷ 0 ∷ 9 ∷ []) (At (cursor 0)) ≡ refused [] 5)  -- an unknown kind
+    × (listFound little8 [] Unresolved ≡ refused [] 5)
+    × (listFound big4 (8 ∷ 1 ∷ 2 ∷ 3 ∷ 4 ∷ 9 ∷ 3 ∷ 0x98 ∷ 0 ∷ 0x63 ∷ 0 ∷ []) (At (cursor 0)) ≡ found (0x63 ∷ []))  -- big-endian: start_length
 unfolding listFound locationStep onLocation locationFound partOf walk walkWithin onNext listEntryAt asListStep entryOfReads
     rowEntry listEntry listRow locationEntries asBytes size fieldOf linkedValue rowOfReads expressionFound walkFound
     targets walkOf asWalk referencesIn namesOr namesIn nameIn anyAbsolute isAbsolute expressionIn expressionWithin
     andRest allPieces encodingOf operation operationRow operations rowAmong rowOf rows unreadableRow rowLayout tokenOf
     numberAs readIn tokenIn numberIn before asNumber asBounded asLink asBlock asExpression asLeb copy uleb groups below
     unsigned64 fixedValue ordered littleValue width bytesOf pieceBytes numberBytes pick check bind _and_ _or_
-lists = (refl, refl, refl, refl)
+lists = (refl, refl, refl, refl, refl)
+
+-- references of an expression: place, offset and width, by the byte order that is told
+calls :
+    (referencesAnswer 8 false 6 (0x98 ∷ 1 ∷ 7 ∷ []) ≡ Count 1)
+    × (referencesTable 8 false 6 (0x98 ∷ 1 ∷ 7 ∷ []) ≡ 1 ∷ 0x0701 ∷ 2 ∷ 0 ∷ 0 ∷ 0 ∷ [])
+    × (referencesAnswer 8 true 6 (0x98 ∷ 1 ∷ 7 ∷ []) ≡ Count 1)
+    × (referencesTable 8 true 6 (0x98 ∷ 1 ∷ 7 ∷ []) ≡ 1 ∷ 0x0107 ∷ 2 ∷ 0 ∷ 0 ∷ 0 ∷ [])
+    × (referencesAnswer 3 true 6 [] ≡ Refused 2)
+unfolding referencesAnswer referencesTable answerTable walkAnswer numbersOf walkOf asWalk referencesIn namesOr namesIn
+    nameIn anyAbsolute isAbsolute expressionIn expressionWithin andRest allPieces encodingOf operation operationRow
+    operations rowAmong rowOf rows unreadableRow rowLayout tokenOf numberAs readIn tokenIn numberIn before asNumber
+    asBounded asLink asBlock asExpression asLeb copy uleb groups below unsigned64 fixedValue ordered littleValue width
+    bytesOf pieceBytes numberBytes pick check bind _and_ _or_
+calls = (refl, refl, refl, refl, refl)

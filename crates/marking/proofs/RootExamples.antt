@@ -1,15 +1,16 @@
 -- The root test computed, by the definitions alone: the address table, range lists, the older test, locations, entries
 -- and list bases, with decided points of documents 01 and 02 (docs/DECISIONS.md).
+use mathlib.Core.Bool.{true, false}
 use mathlib.Core.Path.{_≡_, refl}
 use Prim.Native.Nat.{ℕ, suc}
-use mathlib.Core.List.{List, [], _∷_}
+use mathlib.Core.List.{List, [], _∷_, _++_}
 use lib.ListN.{length, getD}
 use lib.Dec.{ltb}
 use native.Mathlib.Omega.{arith}
 use borrow.Author.Tests.{ne-eqb}
 use Rattle.readers.specs.Choice.{pick, check, bind, _and_, _or_}
 use Rattle.readers.specs.Numbers.{groups, below, uleb, unsigned64, padded, ordered}
-use Rattle.readers.specs.Numbers.{littleValue, fixedValue}
+use Rattle.readers.specs.Numbers.{littleBytes, littleValue, fixedBytes, fixedValue}
 use Rattle.readers.specs.Layout.{within16, short, asBytes, width, asLeb, copy, asNumber, asLink, asBounded}
 use Rattle.readers.specs.Layout.{asBlock, asExpression, before, numberIn, tokenIn, readIn}
 use Rattle.readers.specs.Layout.{numberBytes, pieceBytes, bytesOf}
@@ -23,6 +24,9 @@ use Rattle.readers.specs.Steps.{rowOperation, operationOfReads, asOperation, op
 use Rattle.readers.specs.Steps.{entryOfReads, asListStep, listEntryAt}
 use Rattle.readers.specs.Lists.{listStart, fromBase, listOffset}
 use Rattle.readers.specs.Header.{encodingOf}
+use Rattle.readers.specs.declared.cursor.Encoding.{Encoding}
+use Rattle.readers.specs.declared.operations.ListStep.{ListStep}
+use Rattle.readers.specs.declared.operations.ListStep.the-variants.{Entry as Entry′, End as ListEnd, Unreadable as ListUnreadable}
 use Rattle.readers.specs.Abbreviations.{numberSpec, implicitSpec, specAt}
 use Rattle.readers.specs.Entries.{attributeOfReads, asAttribute, attributeAt}
 use Rattle.marking.specs.Addresses.{isTombstone, byteLiveness, lookupAt}
@@ -45,59 +49,94 @@ lookups :
 unfolding lookupAt byteLiveness pick
 lookups = (λ index. refl, λ b rest index. rw (ne-eqb (suc (length rest)) 0 (λ z. omega arith)), refl, refl)
 
+-- the encodings of the examples
+abbrev pub little8 : Encoding
+little8 = encodingOf false 5 4 8
+
+abbrev pub big8 : Encoding
+big8 = encodingOf true 5 4 8
+
+abbrev pub big4 : Encoding
+big4 = encodingOf true 5 4 4
+
 -- the list with index 0 of a section: a header of twelve bytes, a table of one offset, and the list
-ranged : List ℕ → List ℕ → Verdict
-ranged table list =
-    rangesLive (encodingOf 8) table (section list) (listOffset (encodingOf 8) (section list) 12 0)
+ranged : Encoding → List ℕ → List ℕ → Verdict
+ranged e table list = rangesLive e table section (listOffset e section 12 0)
   where
-    section : List ℕ → List ℕ
-    section list = 0 ∷ 0 ∷ 0 ∷ 0 ∷ 0 ∷ 0 ∷ 0 ∷ 0 ∷ 0 ∷ 0 ∷ 0 ∷ 0 ∷ 4 ∷ 0 ∷ 0 ∷ 0 ∷ list
+    section : List ℕ
+    section = 0 ∷ 0 ∷ 0 ∷ 0 ∷ 0 ∷ 0 ∷ 0 ∷ 0 ∷ 0 ∷ 0 ∷ 0 ∷ 0 ∷ (fixedBytes (e .«big_endian») 4 4 ++ list)
 
 range-lists :
-    (ranged [] [] ≡ Dead)  -- the section's end is an empty list
-    × (ranged [] (4 ∷ 0 ∷ 0 ∷ 0xff ∷ []) ≡ Live)  -- what stands behind a live range is not read
-    × (ranged [] (0xff ∷ []) ≡ Refused 5)  -- an unknown kind
-    × (ranged [] (2 ∷ 0 ∷ []) ≡ Refused 5)  -- an entry is read whole before it is judged
-    × (ranged (2 ∷ []) (1 ∷ 0 ∷ []) ≡ Refused 6)  -- a base asks the table though no pair follows
-    × (ranged (2 ∷ []) (1 ∷ 1 ∷ []) ≡ Refused 17)  -- past the table's end, whatever its bytes are
-    × (ranged (2 ∷ []) (2 ∷ 0 ∷ 1 ∷ 0 ∷ []) ≡ Refused 6)
-    × (ranged (1 ∷ []) (2 ∷ 1 ∷ 0 ∷ 0 ∷ []) ≡ Refused 17)
-    × (ranged (2 ∷ []) (3 ∷ 0 ∷ 1 ∷ 0 ∷ []) ≡ Refused 6)
-    × (ranged (1 ∷ []) (3 ∷ 1 ∷ 1 ∷ 0 ∷ []) ≡ Refused 17)
-    × (ranged (2 ∷ []) (3 ∷ 1 ∷ 1 ∷ 3 ∷ 0 ∷ 1 ∷ 0 ∷ []) ≡ Refused 17)  -- the failure that is met first
-    × (ranged (2 ∷ []) (3 ∷ 0 ∷ 1 ∷ 3 ∷ 1 ∷ 1 ∷ 0 ∷ []) ≡ Refused 6)
-    × (ranged (0 ∷ []) (1 ∷ 0 ∷ 4 ∷ 0 ∷ 1 ∷ 0 ∷ []) ≡ Dead)  -- a pair after a dead base
-    × (ranged (1 ∷ []) (1 ∷ 0 ∷ 4 ∷ 0 ∷ 1 ∷ 0 ∷ []) ≡ Live)
-    × (ranged (0 ∷ []) (3 ∷ 0 ∷ 1 ∷ 0 ∷ []) ≡ Dead)
-    × (ranged [] (1 ∷ 5 ∷ 0 ∷ []) ≡ Dead)  -- no table: a base with no pair behind it is no range
-    × (ranged [] (1 ∷ 5 ∷ 4 ∷ 0 ∷ 1 ∷ 0 ∷ []) ≡ Live)
-    × (ranged [] (2 ∷ 7 ∷ 8 ∷ 0 ∷ []) ≡ Live)
-    × (ranged [] (3 ∷ 7 ∷ 1 ∷ 0 ∷ []) ≡ Live)
-    × (ranged [] (5 ∷ 0 ∷ 0 ∷ 0 ∷ 0 ∷ 0 ∷ 0 ∷ 0 ∷ 0 ∷ 4 ∷ 0 ∷ 1 ∷ 0 ∷ []) ≡ Dead)  -- direct addresses keep their test
-    × (ranged [] (6 ∷ 0 ∷ 0 ∷ 0 ∷ 0 ∷ 0 ∷ 0 ∷ 0 ∷ 0 ∷ 1 ∷ 0 ∷ 0 ∷ 0 ∷ 0 ∷ 0 ∷ 0 ∷ 0 ∷ 0 ∷ []) ≡ Dead)
-    × (ranged [] (7 ∷ 0 ∷ 0 ∷ 0 ∷ 0 ∷ 0 ∷ 0 ∷ 0 ∷ 0 ∷ 1 ∷ 0 ∷ []) ≡ Dead)
-unfolding ranged rangesLive rangeStep rangeEntry onLookup lookupAt byteLiveness isTombstone walk walkWithin onNext
+    (ranged little8 [] [] ≡ Dead)  -- the section's end is an empty list
+    × (ranged little8 [] (4 ∷ 0 ∷ 0 ∷ 0xff ∷ []) ≡ Live)  -- what stands behind a live range is not read
+    × (ranged little8 [] (0xff ∷ []) ≡ Refused 5)  -- an unknown kind
+    × (ranged little8 [] (2 ∷ 0 ∷ []) ≡ Refused 5)  -- an entry is read whole before it is judged
+    × (ranged little8 (2 ∷ []) (1 ∷ 0 ∷ []) ≡ Refused 6)  -- a base asks the table though no pair follows
+    × (ranged little8 (2 ∷ []) (1 ∷ 1 ∷ []) ≡ Refused 17)  -- past the table's end, whatever its bytes are
+    × (ranged little8 (2 ∷ []) (2 ∷ 0 ∷ 1 ∷ 0 ∷ []) ≡ Refused 6)
+    × (ranged little8 (1 ∷ []) (2 ∷ 1 ∷ 0 ∷ 0 ∷ []) ≡ Refused 17)
+    × (ranged little8 (2 ∷ []) (3 ∷ 0 ∷ 1 ∷ 0 ∷ []) ≡ Refused 6)
+    × (ranged little8 (1 ∷ []) (3 ∷ 1 ∷ 1 ∷ 0 ∷ []) ≡ Refused 17)
+    × (ranged little8 (2 ∷ []) (3 ∷ 1 ∷ 1 ∷ 3 ∷ 0 ∷ 1 ∷ 0 ∷ []) ≡ Refused 17)  -- the failure that is met first
+    × (ranged little8 (2 ∷ []) (3 ∷ 0 ∷ 1 ∷ 3 ∷ 1 ∷ 1 ∷ 0 ∷ []) ≡ Refused 6)
+    × (ranged little8 (0 ∷ []) (1 ∷ 0 ∷ 4 ∷ 0 ∷ 1 ∷ 0 ∷ []) ≡ Dead)  -- a pair after a dead base
+    × (ranged little8 (1 ∷ []) (1 ∷ 0 ∷ 4 ∷ 0 ∷ 1 ∷ 0 ∷ []) ≡ Live)
+    × (ranged little8 (0 ∷ []) (3 ∷ 0 ∷ 1 ∷ 0 ∷ []) ≡ Dead)
+    × (ranged little8 [] (1 ∷ 5 ∷ 0 ∷ []) ≡ Dead)  -- no table: a base with no pair behind it is no range
+    × (ranged little8 [] (1 ∷ 5 ∷ 4 ∷ 0 ∷ 1 ∷ 0 ∷ []) ≡ Live)
+    × (ranged little8 [] (2 ∷ 7 ∷ 8 ∷ 0 ∷ []) ≡ Live)
+    × (ranged little8 [] (3 ∷ 7 ∷ 1 ∷ 0 ∷ []) ≡ Live)
+    × (ranged little8 [] (5 ∷ 0 ∷ 0 ∷ 0 ∷ 0 ∷ 0 ∷ 0 ∷ 0 ∷ 0 ∷ 4 ∷ 0 ∷ 1 ∷ 0 ∷ []) ≡ Dead)  -- direct addresses keep their test
+    × (ranged little8 [] (6 ∷ 0 ∷ 0 ∷ 0 ∷ 0 ∷ 0 ∷ 0 ∷ 0 ∷ 0 ∷ 1 ∷ 0 ∷ 0 ∷ 0 ∷ 0 ∷ 0 ∷ 0 ∷ 0 ∷ 0 ∷ []) ≡ Dead)
+    × (ranged little8 [] (7 ∷ 0 ∷ 0 ∷ 0 ∷ 0 ∷ 0 ∷ 0 ∷ 0 ∷ 0 ∷ 1 ∷ 0 ∷ []) ≡ Dead)
+    -- big-endian: offsets of the table, addresses and so tombstones
+    × (ranged big8 (0 ∷ 1 ∷ []) [] ≡ Dead)
+    × (ranged big8 (0 ∷ 1 ∷ []) (4 ∷ 0 ∷ 0 ∷ []) ≡ Live)
+    × (ranged big8 (0 ∷ 1 ∷ []) (3 ∷ 0 ∷ 1 ∷ 3 ∷ 1 ∷ 1 ∷ 0 ∷ []) ≡ Live)
+    × (ranged big4 (0 ∷ 1 ∷ []) (7 ∷ 0 ∷ 0 ∷ 0 ∷ 1 ∷ 9 ∷ 0 ∷ []) ≡ Live)
+    × (ranged big4 (0 ∷ 1 ∷ []) (7 ∷ 0 ∷ 0 ∷ 0 ∷ 0 ∷ 9 ∷ 0 ∷ []) ≡ Dead)
+    × (ranged big4 (0 ∷ 1 ∷ []) (7 ∷ 0xff ∷ 0xff ∷ 0xff ∷ 0xff ∷ 9 ∷ 0 ∷ []) ≡ Dead)
+    × (ranged big4 (0 ∷ 1 ∷ []) (6 ∷ 0xff ∷ 0xff ∷ 0xff ∷ 0xfe ∷ 0 ∷ 0 ∷ 0 ∷ 0 ∷ 0 ∷ []) ≡ Live)
+    × (ranged big8 (0 ∷ 1 ∷ []) (5 ∷ 0 ∷ 0 ∷ 0 ∷ 0 ∷ 0 ∷ 0 ∷ 0 ∷ 0 ∷ 4 ∷ 0 ∷ 1 ∷ 0 ∷ []) ≡ Dead)
+    × (ranged big8 (0 ∷ 1 ∷ []) (5 ∷ 1 ∷ 0 ∷ 0 ∷ 0 ∷ 0 ∷ 0 ∷ 0 ∷ 0 ∷ 4 ∷ 0 ∷ 1 ∷ 0 ∷ []) ≡ Live)
+unfolding ranged rangesLive fixedBytes littleBytes rangeStep rangeEntry onLookup lookupAt byteLiveness isTombstone walk walkWithin onNext
     listOffset fromBase listStart fixedAt asFixed encodingOf listEntryAt asListStep entryOfReads rowEntry listEntry
     listRow rangeEntries rowAmong rowOf rows unreadableRow rowLayout tokenOf numberAs readIn tokenIn numberIn before
     asNumber asBounded asLink asBlock asExpression asLeb asBytes copy uleb groups below unsigned64 fixedValue ordered
     littleValue width size bytesOf pieceBytes numberBytes fieldOf linkedValue rowOfReads pick check bind _and_ _or_
-range-lists = (refl, refl, refl, refl, refl, refl, refl, refl, refl, refl, refl, refl, refl, refl, refl, refl, refl, refl, refl, refl, refl, refl)
+range-lists = (refl, refl, refl, refl, refl, refl, refl, refl, refl, refl, refl, refl, refl, refl, refl, refl, refl, refl, refl, refl, refl, refl, refl, refl, refl, refl, refl, refl, refl, refl, refl)
+
+-- an address is read in the unit's order: the first operand of a list entry of kind start_length
+unfoldable firstOperand : ListStep → ℕ
+firstOperand (Entry′ x) = x .first .value
+firstOperand ListEnd = 0
+firstOperand ListUnreadable = 0
+
+addresses :
+    (firstOperand (listEntryAt little8 false (7 ∷ 1 ∷ 2 ∷ 3 ∷ 4 ∷ 5 ∷ 6 ∷ 7 ∷ 8 ∷ 9 ∷ []) 0) ≡ 0x0807060504030201)
+    × (firstOperand (listEntryAt big8 false (7 ∷ 1 ∷ 2 ∷ 3 ∷ 4 ∷ 5 ∷ 6 ∷ 7 ∷ 8 ∷ 9 ∷ []) 0) ≡ 0x0102030405060708)
+    × (firstOperand (listEntryAt big4 false (7 ∷ 1 ∷ 2 ∷ 3 ∷ 4 ∷ 9 ∷ []) 0) ≡ 0x01020304)
+unfolding firstOperand listEntryAt asListStep entryOfReads rowEntry listEntry listRow rangeEntries rowAmong rowOf rows
+    unreadableRow rowLayout encodingOf tokenOf numberAs readIn tokenIn numberIn before asNumber asBounded asLink asBlock
+    asExpression asLeb asBytes copy uleb groups below unsigned64 fixedValue ordered littleValue width size bytesOf
+    pieceBytes numberBytes fieldOf linkedValue rowOfReads pick check bind _and_ _or_
+addresses = (refl, refl, refl)
 
 -- a location is read to its end though a live index was met; a nested entry value is stepped over; constx asks nothing
 locations-live :
-    (locationLive (encodingOf 8) (0 ∷ 1 ∷ []) (0xa1 ∷ 1 ∷ []) ≡ Live)
-    × (locationLive (encodingOf 8) (0 ∷ 1 ∷ []) (0xa1 ∷ 1 ∷ 0xa1 ∷ 2 ∷ []) ≡ Refused 17)
-    × (locationLive (encodingOf 8) (0 ∷ 2 ∷ []) (0xa1 ∷ 1 ∷ 0xa1 ∷ 2 ∷ []) ≡ Refused 6)  -- the failure that is met first
-    × (locationLive (encodingOf 8) (0 ∷ 2 ∷ []) (0xfb ∷ 2 ∷ 0xa1 ∷ 1 ∷ 0xff ∷ []) ≡ Refused 17)
-    × (locationLive (encodingOf 8) (0 ∷ 2 ∷ 0 ∷ []) (0xfb ∷ 1 ∷ 0xff ∷ []) ≡ Refused 6)
-    × (locationLive (encodingOf 8) (0 ∷ 1 ∷ []) (0xa3 ∷ 1 ∷ 0xff ∷ 0xfb ∷ 1 ∷ []) ≡ Live)
-    × (locationLive (encodingOf 8) [] (0xa2 ∷ 7 ∷ []) ≡ Dead)
-    × (locationLive (encodingOf 8) [] (0x03 ∷ 1 ∷ 0 ∷ 0 ∷ 0 ∷ 0 ∷ 0 ∷ 0 ∷ 0 ∷ []) ≡ Dead)
-    × (locationLive (encodingOf 8) [] (0xff ∷ []) ≡ Refused 5)
-    × (locationLive (encodingOf 8) [] (0xa1 ∷ 7 ∷ []) ≡ Live)  -- no table
-    × (locationLive (encodingOf 8) [] (0xfb ∷ 7 ∷ []) ≡ Live)
-    × (locationLive (encodingOf 8) [] (0xa3 ∷ 2 ∷ 0xa1 ∷ 7 ∷ []) ≡ Dead)
-    × (locationLive (encodingOf 8) [] (0xa1 ∷ 7 ∷ 0xff ∷ []) ≡ Refused 5)
+    (locationLive little8 (0 ∷ 1 ∷ []) (0xa1 ∷ 1 ∷ []) ≡ Live)
+    × (locationLive little8 (0 ∷ 1 ∷ []) (0xa1 ∷ 1 ∷ 0xa1 ∷ 2 ∷ []) ≡ Refused 17)
+    × (locationLive little8 (0 ∷ 2 ∷ []) (0xa1 ∷ 1 ∷ 0xa1 ∷ 2 ∷ []) ≡ Refused 6)  -- the failure that is met first
+    × (locationLive little8 (0 ∷ 2 ∷ []) (0xfb ∷ 2 ∷ 0xa1 ∷ 1 ∷ 0xff ∷ []) ≡ Refused 17)
+    × (locationLive little8 (0 ∷ 2 ∷ 0 ∷ []) (0xfb ∷ 1 ∷ 0xff ∷ []) ≡ Refused 6)
+    × (locationLive little8 (0 ∷ 1 ∷ []) (0xa3 ∷ 1 ∷ 0xff ∷ 0xfb ∷ 1 ∷ []) ≡ Live)
+    × (locationLive little8 [] (0xa2 ∷ 7 ∷ []) ≡ Dead)
+    × (locationLive little8 [] (0x03 ∷ 1 ∷ 0 ∷ 0 ∷ 0 ∷ 0 ∷ 0 ∷ 0 ∷ 0 ∷ []) ≡ Dead)
+    × (locationLive little8 [] (0xff ∷ []) ≡ Refused 5)
+    × (locationLive little8 [] (0xa1 ∷ 7 ∷ []) ≡ Live)  -- no table
+    × (locationLive little8 [] (0xfb ∷ 7 ∷ []) ≡ Live)
+    × (locationLive little8 [] (0xa3 ∷ 2 ∷ 0xa1 ∷ 7 ∷ []) ≡ Dead)
+    × (locationLive little8 [] (0xa1 ∷ 7 ∷ 0xff ∷ []) ≡ Refused 5)
 unfolding locationLive operationStep onLookup lookupAt byteLiveness walk walkWithin onNext encodingOf operationAt
     asOperation operationOfReads rowOperation operation operationRow operations rowAmong rowOf rows unreadableRow
     rowLayout tokenOf numberAs readIn tokenIn numberIn before asNumber asBounded asLink asBlock asExpression asLeb
@@ -107,42 +146,57 @@ locations-live = (refl, refl, refl, refl, refl, refl, refl, refl, refl, refl, re
 
 -- ---- entries, from the bytes of their specifications and of their values
 
-entryOf : List ℕ → List ℕ → List Valued
-entryOf specs values = entryValues (encodingOf 8) specs 0 values 0
+entryOf : Encoding → List ℕ → List ℕ → List Valued
+entryOf e specs values = entryValues e specs 0 values 0
 
 -- the test of an entry with a tag; the range lists have two lists, index 0 an empty one, index 1 a live range
-tested : List ℕ → ℕ → List ℕ → List ℕ → Verdict
-tested table tag specs values = rootTest (encodingOf 8) (rangesBy section table 0 12) values tag (entryOf specs values)
+tested : Encoding → List ℕ → ℕ → List ℕ → List ℕ → Verdict
+tested e table tag specs values = rootTest e (rangesBy section table 0 12) values tag (entryOf e specs values)
   where
+    number : ℕ → List ℕ
+    number n = fixedBytes (e .«big_endian») 4 n
+
     section : List ℕ
-    section = 0 ∷ 0 ∷ 0 ∷ 0 ∷ 0 ∷ 0 ∷ 0 ∷ 0 ∷ 0 ∷ 0 ∷ 0 ∷ 0 ∷ 8 ∷ 0 ∷ 0 ∷ 0 ∷ 9 ∷ 0 ∷ 0 ∷ 0 ∷ 0 ∷ 4 ∷ 0 ∷ 1 ∷ 0 ∷ []
+    section = 0 ∷ 0 ∷ 0 ∷ 0 ∷ 0 ∷ 0 ∷ 0 ∷ 0 ∷ 0 ∷ 0 ∷ 0 ∷ 0 ∷ (number 8 ++ (number 9 ++ (0 ∷ 4 ∷ 0 ∷ 1 ∷ 0 ∷ [])))
 
 entries :
-    (tested (1 ∷ []) 0x2e (0x11 ∷ 0x1b ∷ 0 ∷ 0 ∷ []) (0 ∷ []) ≡ Live)  -- low_pc in addrx
-    × (tested (0 ∷ []) 0x2e (0x11 ∷ 0x1b ∷ 0 ∷ 0 ∷ []) (0 ∷ []) ≡ Dead)
-    × (tested (2 ∷ []) 0x2e (0x11 ∷ 0x1b ∷ 0 ∷ 0 ∷ []) (0 ∷ []) ≡ Refused 6)
-    × (tested (1 ∷ []) 0x2e (0x11 ∷ 0x1b ∷ 0 ∷ 0 ∷ []) (1 ∷ []) ≡ Refused 17)
-    × (tested (0 ∷ 2 ∷ []) 0x2e (0x11 ∷ 0x1b ∷ 0x11 ∷ 0x1b ∷ 0 ∷ 0 ∷ []) (2 ∷ 1 ∷ []) ≡ Refused 17)  -- the failure that is met first
-    × (tested (0 ∷ 2 ∷ []) 0x2e (0x11 ∷ 0x1b ∷ 0x11 ∷ 0x1b ∷ 0 ∷ 0 ∷ []) (1 ∷ 2 ∷ []) ≡ Refused 6)
-    × (tested (0 ∷ 1 ∷ []) 0x2e (0x11 ∷ 0x1b ∷ 0x11 ∷ 0x1b ∷ 0 ∷ 0 ∷ []) (0 ∷ 1 ∷ []) ≡ Live)  -- each low_pc in turn
-    × (tested [] 0x2e (0x55 ∷ 0x23 ∷ 0x55 ∷ 0x23 ∷ 0 ∷ 0 ∷ []) (0 ∷ 1 ∷ []) ≡ Dead)  -- the first ranges decide
-    × (tested [] 0x2e (0x55 ∷ 0x23 ∷ 0x55 ∷ 0x23 ∷ 0 ∷ 0 ∷ []) (1 ∷ 0 ∷ []) ≡ Live)
-    × (tested (0 ∷ []) 0x2e (0x55 ∷ 0x23 ∷ 0x11 ∷ 0x1b ∷ 0 ∷ 0 ∷ []) (1 ∷ 0 ∷ []) ≡ Live)  -- after a dead low_pc
-    × (tested (2 ∷ []) 0x2e (0x55 ∷ 0x23 ∷ 0x11 ∷ 0x1b ∷ 0 ∷ 0 ∷ []) (1 ∷ 0 ∷ []) ≡ Refused 6)  -- low_pc is asked before ranges, though it stands behind them
-    × (tested [] 0x2e (0x55 ∷ 0x17 ∷ 0 ∷ 0 ∷ []) (20 ∷ 0 ∷ 0 ∷ 0 ∷ []) ≡ Dead)  -- ranges in sec_offset: the older test
-    × (tested [] 0x2e (0x55 ∷ 0x17 ∷ 0 ∷ 0 ∷ []) (21 ∷ 0 ∷ 0 ∷ 0 ∷ []) ≡ Live)
-    × (tested [] 0x2e (0x55 ∷ 0x17 ∷ 0 ∷ 0 ∷ []) (26 ∷ 0 ∷ 0 ∷ 0 ∷ []) ≡ Live)  -- past the section's end
-    × (tested (1 ∷ []) 0x34 (0x02 ∷ 0x18 ∷ 0 ∷ 0 ∷ []) (2 ∷ 0xa1 ∷ 0 ∷ []) ≡ Live)  -- a variable's location in exprloc
-    × (tested (0 ∷ []) 0x34 (0x02 ∷ 0x18 ∷ 0 ∷ 0 ∷ []) (2 ∷ 0xa1 ∷ 0 ∷ []) ≡ Dead)
-    × (tested (1 ∷ []) 0x34 (0x02 ∷ 0x18 ∷ 0 ∷ 0 ∷ []) (2 ∷ 0xa1 ∷ 1 ∷ []) ≡ Refused 17)
-    × (tested [] 0x34 (0x02 ∷ 0x18 ∷ 0 ∷ 0 ∷ []) (0 ∷ []) ≡ Dead)  -- one of no bytes
-    × (tested (1 ∷ []) 0x34 (0x11 ∷ 0x1b ∷ 0 ∷ 0 ∷ []) (0 ∷ []) ≡ Dead)  -- a variable's low_pc is not asked
-    × (tested [] 0x11 (0x11 ∷ 0x1b ∷ 0 ∷ 0 ∷ []) (0 ∷ []) ≡ Dead)  -- another tag asks nothing
-    × (tested (0 ∷ []) 0x2e (0x11 ∷ 0x0b ∷ 0 ∷ 0 ∷ []) (0 ∷ []) ≡ Live)  -- low_pc in another form
-    × (tested [] 0x2e (0x11 ∷ 0x1b ∷ 0 ∷ 0 ∷ []) (7 ∷ []) ≡ Live)  -- no table: every index that is asked is live
-    × (tested [] 0x34 (0x02 ∷ 0x18 ∷ 0 ∷ 0 ∷ []) (2 ∷ 0xa1 ∷ 7 ∷ []) ≡ Live)
-    × (tested [] 0x2e (0x11 ∷ 0x01 ∷ 0 ∷ 0 ∷ []) (0 ∷ 0 ∷ 0 ∷ 0 ∷ 0 ∷ 0 ∷ 0 ∷ 0 ∷ []) ≡ Dead)  -- a direct address is not asked of it
-unfolding tested rootTest orElse lowPcs lowPc firstRanges rangesOf otherRanges olderLive olderStep rangesLive rangeStep
+    (tested little8 (1 ∷ []) 0x2e (0x11 ∷ 0x1b ∷ 0 ∷ 0 ∷ []) (0 ∷ []) ≡ Live)  -- low_pc in addrx
+    × (tested little8 (0 ∷ []) 0x2e (0x11 ∷ 0x1b ∷ 0 ∷ 0 ∷ []) (0 ∷ []) ≡ Dead)
+    × (tested little8 (2 ∷ []) 0x2e (0x11 ∷ 0x1b ∷ 0 ∷ 0 ∷ []) (0 ∷ []) ≡ Refused 6)
+    × (tested little8 (1 ∷ []) 0x2e (0x11 ∷ 0x1b ∷ 0 ∷ 0 ∷ []) (1 ∷ []) ≡ Refused 17)
+    × (tested little8 (0 ∷ 2 ∷ []) 0x2e (0x11 ∷ 0x1b ∷ 0x11 ∷ 0x1b ∷ 0 ∷ 0 ∷ []) (2 ∷ 1 ∷ []) ≡ Refused 17)  -- the failure that is met first
+    × (tested little8 (0 ∷ 2 ∷ []) 0x2e (0x11 ∷ 0x1b ∷ 0x11 ∷ 0x1b ∷ 0 ∷ 0 ∷ []) (1 ∷ 2 ∷ []) ≡ Refused 6)
+    × (tested little8 (0 ∷ 1 ∷ []) 0x2e (0x11 ∷ 0x1b ∷ 0x11 ∷ 0x1b ∷ 0 ∷ 0 ∷ []) (0 ∷ 1 ∷ []) ≡ Live)  -- each low_pc in turn
+    × (tested little8 [] 0x2e (0x55 ∷ 0x23 ∷ 0x55 ∷ 0x23 ∷ 0 ∷ 0 ∷ []) (0 ∷ 1 ∷ []) ≡ Dead)  -- the first ranges decide
+    × (tested little8 [] 0x2e (0x55 ∷ 0x23 ∷ 0x55 ∷ 0x23 ∷ 0 ∷ 0 ∷ []) (1 ∷ 0 ∷ []) ≡ Live)
+    × (tested little8 (0 ∷ []) 0x2e (0x55 ∷ 0x23 ∷ 0x11 ∷ 0x1b ∷ 0 ∷ 0 ∷ []) (1 ∷ 0 ∷ []) ≡ Live)  -- after a dead low_pc
+    × (tested little8 (2 ∷ []) 0x2e (0x55 ∷ 0x23 ∷ 0x11 ∷ 0x1b ∷ 0 ∷ 0 ∷ []) (1 ∷ 0 ∷ []) ≡ Refused 6)  -- low_pc is asked before ranges, though it stands behind them
+    × (tested little8 [] 0x2e (0x55 ∷ 0x17 ∷ 0 ∷ 0 ∷ []) (20 ∷ 0 ∷ 0 ∷ 0 ∷ []) ≡ Dead)  -- ranges in sec_offset: the older test
+    × (tested little8 [] 0x2e (0x55 ∷ 0x17 ∷ 0 ∷ 0 ∷ []) (21 ∷ 0 ∷ 0 ∷ 0 ∷ []) ≡ Live)
+    × (tested little8 [] 0x2e (0x55 ∷ 0x17 ∷ 0 ∷ 0 ∷ []) (26 ∷ 0 ∷ 0 ∷ 0 ∷ []) ≡ Live)  -- past the section's end
+    × (tested little8 (1 ∷ []) 0x34 (0x02 ∷ 0x18 ∷ 0 ∷ 0 ∷ []) (2 ∷ 0xa1 ∷ 0 ∷ []) ≡ Live)  -- a variable's location in exprloc
+    × (tested little8 (0 ∷ []) 0x34 (0x02 ∷ 0x18 ∷ 0 ∷ 0 ∷ []) (2 ∷ 0xa1 ∷ 0 ∷ []) ≡ Dead)
+    × (tested little8 (1 ∷ []) 0x34 (0x02 ∷ 0x18 ∷ 0 ∷ 0 ∷ []) (2 ∷ 0xa1 ∷ 1 ∷ []) ≡ Refused 17)
+    × (tested little8 [] 0x34 (0x02 ∷ 0x18 ∷ 0 ∷ 0 ∷ []) (0 ∷ []) ≡ Dead)  -- one of no bytes
+    × (tested little8 (1 ∷ []) 0x34 (0x11 ∷ 0x1b ∷ 0 ∷ 0 ∷ []) (0 ∷ []) ≡ Dead)  -- a variable's low_pc is not asked
+    × (tested little8 [] 0x11 (0x11 ∷ 0x1b ∷ 0 ∷ 0 ∷ []) (0 ∷ []) ≡ Dead)  -- another tag asks nothing
+    × (tested little8 (0 ∷ []) 0x2e (0x11 ∷ 0x0b ∷ 0 ∷ 0 ∷ []) (0 ∷ []) ≡ Live)  -- low_pc in another form
+    × (tested little8 [] 0x2e (0x11 ∷ 0x1b ∷ 0 ∷ 0 ∷ []) (7 ∷ []) ≡ Live)  -- no table: every index that is asked is live
+    × (tested little8 [] 0x34 (0x02 ∷ 0x18 ∷ 0 ∷ 0 ∷ []) (2 ∷ 0xa1 ∷ 7 ∷ []) ≡ Live)
+    × (tested little8 [] 0x2e (0x11 ∷ 0x01 ∷ 0 ∷ 0 ∷ []) (0 ∷ 0 ∷ 0 ∷ 0 ∷ 0 ∷ 0 ∷ 0 ∷ 0 ∷ []) ≡ Dead)  -- a direct address is not asked of it
+    -- big-endian
+    × (tested big8 (0 ∷ 1 ∷ []) 0x2e (0x11 ∷ 0x2a ∷ 0 ∷ 0 ∷ []) (0 ∷ 1 ∷ []) ≡ Live)  -- low_pc in addrx2, addrx3, addrx4
+    × (tested big8 (0 ∷ 1 ∷ []) 0x2e (0x11 ∷ 0x2b ∷ 0 ∷ 0 ∷ []) (0 ∷ 0 ∷ 1 ∷ []) ≡ Live)
+    × (tested big8 (0 ∷ 1 ∷ []) 0x2e (0x11 ∷ 0x2c ∷ 0 ∷ 0 ∷ []) (0 ∷ 0 ∷ 0 ∷ 1 ∷ []) ≡ Live)
+    × (tested big8 (0 ∷ 1 ∷ []) 0x2e (0x11 ∷ 0x2a ∷ 0 ∷ 0 ∷ []) (1 ∷ 0 ∷ []) ≡ Refused 17)
+    × (tested big8 [] 0x2e (0x55 ∷ 0x23 ∷ 0 ∷ 0 ∷ []) (0 ∷ []) ≡ Dead)
+    × (tested big8 [] 0x2e (0x55 ∷ 0x23 ∷ 0 ∷ 0 ∷ []) (1 ∷ []) ≡ Live)
+    × (tested big8 [] 0x2e (0x55 ∷ 0x17 ∷ 0 ∷ 0 ∷ []) (0 ∷ 0 ∷ 0 ∷ 20 ∷ []) ≡ Dead)
+    × (tested big8 [] 0x2e (0x55 ∷ 0x17 ∷ 0 ∷ 0 ∷ []) (0 ∷ 0 ∷ 0 ∷ 21 ∷ []) ≡ Live)
+    × (tested big8 [] 0x2e (0x11 ∷ 0x01 ∷ 0 ∷ 0 ∷ []) (0 ∷ 0 ∷ 0 ∷ 0 ∷ 0 ∷ 0 ∷ 0 ∷ 1 ∷ []) ≡ Live)
+    × (tested big8 [] 0x2e (0x11 ∷ 0x01 ∷ 0 ∷ 0 ∷ []) (0 ∷ 0 ∷ 0 ∷ 0 ∷ 0 ∷ 0 ∷ 0 ∷ 0 ∷ []) ≡ Dead)
+    × (tested big8 (1 ∷ []) 0x34 (0x02 ∷ 0x18 ∷ 0 ∷ 0 ∷ []) (2 ∷ 0xa1 ∷ 0 ∷ []) ≡ Live)
+unfolding tested fixedBytes littleBytes rootTest orElse lowPcs lowPc firstRanges rangesOf otherRanges olderLive olderStep rangesLive rangeStep
     rangeEntry listOffset fromBase listStart fixedAt asFixed listEntryAt asListStep entryOfReads rowEntry listEntry
     listRow rangeEntries rowAmong rowOf rows unreadableRow rowLayout locations partOf locationLive operationStep
     operationAt asOperation operationOfReads rowOperation operation operationRow operations onLookup lookupAt
@@ -151,17 +205,18 @@ unfolding tested rootTest orElse lowPcs lowPc firstRanges rangesOf otherRanges o
     valueToken useOf formToken tokenAmong formTokens encodingOf tokenOf numberAs readIn tokenIn numberIn before asNumber
     asLink asExpression asLeb asBytes copy uleb groups below unsigned64 fixedValue ordered littleValue width size
     bytesOf pieceBytes numberBytes padded fieldOf linkedValue rowOfReads pick check bind _and_ _or_
-entries = (refl, refl, refl, refl, refl, refl, refl, refl, refl, refl, refl, refl, refl, refl, refl, refl, refl, refl, refl, refl, refl, refl, refl, refl)
+entries = (refl, refl, refl, refl, refl, refl, refl, refl, refl, refl, refl, refl, refl, refl, refl, refl, refl, refl, refl, refl, refl, refl, refl, refl, refl, refl, refl, refl, refl, refl, refl, refl, refl, refl, refl)
 
 -- rnglists_base in sec_offset: of several the last counts; another form, another name and another tag leave the base
 list-bases :
-    (baseAfter 0x74 12 0x11 (entryOf (0x74 ∷ 0x17 ∷ 0x74 ∷ 0x17 ∷ 0 ∷ 0 ∷ []) (16 ∷ 0 ∷ 0 ∷ 0 ∷ 20 ∷ 0 ∷ 0 ∷ 0 ∷ [])) ≡ 20)
-    × (baseAfter 0x74 12 0x11 (entryOf (0x74 ∷ 0x17 ∷ 0x74 ∷ 0x06 ∷ 0 ∷ 0 ∷ []) (16 ∷ 0 ∷ 0 ∷ 0 ∷ 20 ∷ 0 ∷ 0 ∷ 0 ∷ [])) ≡ 16)
-    × (baseAfter 0x8c 12 0x11 (entryOf (0x74 ∷ 0x17 ∷ 0 ∷ 0 ∷ []) (16 ∷ 0 ∷ 0 ∷ 0 ∷ [])) ≡ 12)
-    × (baseAfter 0x74 12 0x2e (entryOf (0x74 ∷ 0x17 ∷ 0 ∷ 0 ∷ []) (16 ∷ 0 ∷ 0 ∷ 0 ∷ [])) ≡ 12)
+    (baseAfter 0x74 12 0x11 (entryOf little8 (0x74 ∷ 0x17 ∷ 0x74 ∷ 0x17 ∷ 0 ∷ 0 ∷ []) (16 ∷ 0 ∷ 0 ∷ 0 ∷ 20 ∷ 0 ∷ 0 ∷ 0 ∷ [])) ≡ 20)
+    × (baseAfter 0x74 12 0x11 (entryOf little8 (0x74 ∷ 0x17 ∷ 0x74 ∷ 0x06 ∷ 0 ∷ 0 ∷ []) (16 ∷ 0 ∷ 0 ∷ 0 ∷ 20 ∷ 0 ∷ 0 ∷ 0 ∷ [])) ≡ 16)
+    × (baseAfter 0x8c 12 0x11 (entryOf little8 (0x74 ∷ 0x17 ∷ 0 ∷ 0 ∷ []) (16 ∷ 0 ∷ 0 ∷ 0 ∷ [])) ≡ 12)
+    × (baseAfter 0x74 12 0x2e (entryOf little8 (0x74 ∷ 0x17 ∷ 0 ∷ 0 ∷ []) (16 ∷ 0 ∷ 0 ∷ 0 ∷ [])) ≡ 12)
+    × (baseAfter 0x74 12 0x11 (entryOf big8 (0x74 ∷ 0x17 ∷ 0 ∷ 0 ∷ []) (0 ∷ 0 ∷ 1 ∷ 16 ∷ [])) ≡ 0x0110)  -- big-endian
 unfolding baseAfter baseFrom entryOf entryValues valuesOf onAttribute specsFrom specsWithin onSpec specAt implicitSpec
     numberSpec lebAt asLebNumber short within16 attributeAt asAttribute attributeOfReads attributeLayout valueToken
     useOf formToken tokenAmong formTokens encodingOf tokenOf numberAs readIn tokenIn numberIn before asNumber copy
     groups below fixedValue ordered littleValue width size bytesOf pieceBytes fieldOf linkedValue pick check bind _and_
     _or_
-list-bases = (refl, refl, refl, refl)
+list-bases = (refl, refl, refl, refl, refl)

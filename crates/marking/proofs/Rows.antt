@@ -309,7 +309,7 @@ module _ (x : Sections) (section : List ℕ) (room : Rooms) (rows : List EntryRo
 
   pub analysis-rows : analysisOf x section room ≡ analysed rows → UnitRows section room 0 rows
   unfolding analysisOf
-  analysis-rows q = header-rows (headerOf section) q
+  analysis-rows q = header-rows (headerOf (x .setting .«big_endian») section) q
 
 -- ---- their graph
 

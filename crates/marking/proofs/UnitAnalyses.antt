@@ -1,22 +1,20 @@
 -- The first unit of a section: its header, its declarations, then its entries; what the columns and the index hold in each case. Assumes nothing.
 use mathlib.Core.Path.{_≡_, refl, ap, ap₂, sym, _∙_, subst}
-use Prim.Native.Nat.{ℕ, zero, suc, _+_, _-_, _≤_, _<_}
-use mathlib.Core.Bool.{Bool, false}
+use Prim.Native.Nat.{ℕ, _-_, _≤_, _<_}
+use mathlib.Core.Bool.{Bool}
 use mathlib.Core.Option.{Option, none, some}
-use mathlib.Core.List.{List, [], _∷_}
+use mathlib.Core.List.{List, []}
 use native.Mathlib.Omega.{arith}
 use lib.ListN.{length, take, length-replicate}
-use lib.Dec.{leb, eqb}
+use lib.Dec.{leb}
 use mir.Facts.{leb-yes, leb-no}
-use Rattle.readers.specs.Choice.{_or_, zeros}
+use Rattle.readers.specs.Choice.{zeros}
 use Rattle.readers.proofs.Choice.{pick-either}
-use Rattle.readers.specs.Cursors.{fixedAt}
-use Rattle.readers.specs.Header.{present, right, headerMade, headerFields, headerOf}
+use Rattle.readers.specs.Header.{headerOf}
+use Rattle.readers.proofs.HeaderLaws.{header-laws}
 use Rattle.readers.specs.Abbreviations.{Placed, abbreviationsOf, asChecked, checkedOf, indexFor, indexOf}
 use Rattle.readers.specs.declared.abbreviations.Checked.{Checked}
 use Rattle.readers.specs.declared.abbreviations.Checked.the-variants.{Accepted, Refused as Undeclared}
-use Rattle.readers.specs.declared.cursor.Number.{Number}
-use Rattle.readers.specs.declared.cursor.Number.the-variants.{Value, Unreadable}
 use Rattle.readers.specs.declared.header.UnitHeader.{UnitHeader}
 use Rattle.readers.specs.declared.header.HeaderRead.{HeaderRead}
 use Rattle.readers.specs.declared.header.HeaderRead.the-variants.{Unit as Unit′, Empty, Refused as Unheaded}
@@ -100,55 +98,8 @@ module _ {w w′ : Analysed} {offsets₀ parents₀ roots₀ ends₀ targets₀ 
 
 -- ---- a unit's end is below 0xffffffff
 
-unfoldable Small : HeaderRead → Type 0
-Small (Unit′ h) = h .end < 0xffffffff
-Small Empty = Unit {0}
-Small (Unheaded n) = Unit {0}
-
-small-present : (n : Number) (k : ℕ → HeaderRead) → ((v : ℕ) → Small (k v)) → Small (present n k)
-unfolding present Small
-small-present (Value v c) k h = h v
-small-present Unreadable k h = tt
-
-small-right : (b : Bool) (r : HeaderRead) → Small r → Small (right b r)
-unfolding right Small
-small-right b r h = pick-either Small b r (Unheaded 2) (λ _. h) (λ _. tt)
-
-small-made : (u : List ℕ) (t a b first : ℕ) → length u < 0xffffffff → Small (headerMade u t a b first)
-unfolding headerMade Small
-small-made u t a b first h = h
-
-small-fields : (u : List ℕ) → length u < 0xffffffff → Small (headerFields u)
-unfolding headerFields
-small-fields u h =
-    small-present (fixedAt false 2 u 4) _ (λ version. small-right (eqb version 5) _
-    (small-present (fixedAt false 1 u 6) _ (λ unitType. small-right (eqb unitType 1 or eqb unitType 5) _
-    (small-present (fixedAt false 1 u 7) _ (λ addressSize. small-right (eqb addressSize 4 or eqb addressSize 8) _
-    (small-present (fixedAt false 4 u 8) _ (λ abbreviations.
-    pick-either Small (eqb unitType 1) _ _
-    (λ _. small-made u unitType addressSize abbreviations 12 h)
-    (λ _. small-present (fixedAt false 8 u 12) _ (λ _. small-made u unitType addressSize abbreviations 20 h)))))))))
-
-take-most : (n : ℕ) (l : List ℕ) → length (take n l) ≤ n
-take-most zero l = omega arith
-take-most (suc n) [] = omega arith
-take-most (suc n) (a ∷ l) = let k : length (take n l) ≤ n = take-most n l in omega arith
-
-small-header : (s : List ℕ) → Small (headerOf s)
-unfolding headerOf Small
-small-header s =
-    pick-either Small (eqb (length s) 0) _ _ (λ _. tt) (λ _.
-    small-present (fixedAt false 4 s 0) _ (λ n.
-    pick-either Small (leb 0xfffffff0 n) _ _ (λ _. tt) (λ t.
-    let l : n < 0xfffffff0 = leb-no {a = 0xfffffff0} {b = n} t in
-    pick-either Small (leb n (length s - 4)) _ _ (λ _. small-fields (take (4 + n) s) (let k : length (take (4 + n) s) ≤ 4 + n = take-most (4 + n) s in omega arith)) (λ _. tt))))
-
-pub small-unit : (s : List ℕ) (h : UnitHeader) → headerOf s ≡ Unit′ h → length (take (h .end) s) < 0xffffffff
-unfolding Small
-small-unit s h e =
-    let k : h .end < 0xffffffff = subst Small e (small-header s) in
-    let l : length (take (h .end) s) ≤ h .end = take-most (h .end) s in
-    omega arith
+pub small-unit : (big : Bool) (s : List ℕ) (h : UnitHeader) → headerOf big s ≡ Unit′ h → length (take (h .end) s) < 0xffffffff
+small-unit big s h e = omega (arith, header-laws big s h e .below)
 
 -- ---- rooms
 
@@ -237,15 +188,15 @@ index-found : (abbreviations : List ℕ) (r : HeaderRead) (h : UnitHeader) (k : 
 unfolding indexAfter
 index-found abbreviations r h k index e i = i ∙ ap (λ (q : HeaderRead). indexAfter abbreviations q k) e
 
-pub unit-ready : (abbreviations index section : List ℕ) (h : UnitHeader) (k : ℕ) {entries references n m : ℕ}
+pub unit-ready : (big : Bool) (abbreviations index section : List ℕ) (h : UnitHeader) (k : ℕ) {entries references n m : ℕ}
     (nf np nr ne nt : ℕ) (offsets parents roots ends targets : List ℕ)
-    → Found′ h ≡ unitFound abbreviations (headerOf section) → index ≡ indexAfter abbreviations (headerOf section) k
+    → Found′ h ≡ unitFound abbreviations (headerOf big section) → index ≡ indexAfter abbreviations (headerOf big section) k
     → Room entries references (length offsets) (length parents) (length roots) (length ends) (length targets) n m
     → Clear nf np nr ne nt offsets parents roots ends targets
     → AnalysisInput abbreviations index (h .abbreviations) (take (h .end) section) n m offsets parents roots ends targets
-unit-ready abbreviations index section h k {entries} {references} {n} {m} nf np nr ne nt offsets parents roots ends targets q i r c =
-    let u : (headerOf section ≡ Unit′ h) × (checkedOf abbreviations (h .abbreviations) ≡ Accepted) = unit-found abbreviations (headerOf section) h q in
-    let j : index ≡ indexOf abbreviations (h .abbreviations) k = index-found abbreviations (headerOf section) h k index (u .0) i in
+unit-ready big abbreviations index section h k {entries} {references} {n} {m} nf np nr ne nt offsets parents roots ends targets q i r c =
+    let u : (headerOf big section ≡ Unit′ h) × (checkedOf abbreviations (h .abbreviations) ≡ Accepted) = unit-found abbreviations (headerOf big section) h q in
+    let j : index ≡ indexOf abbreviations (h .abbreviations) k = index-found abbreviations (headerOf big section) h k index (u .0) i in
     let e₁ : n ≡ least entries (least (least (length offsets) (length parents)) (least (length roots) (length ends))) = r .rows in
     let e₂ : m ≡ least references (length targets) = r .names in
     let front : ℕ = least (length offsets) (length parents) in
@@ -256,7 +207,7 @@ unit-ready abbreviations index section h k {entries} {references} {n} {m} nf np 
     record {
       accepted = u .1;
       indexed = j ∙ ap (indexOf abbreviations (h .abbreviations)) (sym (length-index abbreviations (h .abbreviations) k) ∙ sym (ap length j));
-      small = small-unit section h (u .0);
+      small = small-unit big section h (u .0);
       offsets-room = omega (arith, least-left (length offsets) (length parents));
       parents-room = omega (arith, least-right (length offsets) (length parents));
       roots-room = omega (arith, least-left (length roots) (length ends));
@@ -275,14 +226,14 @@ module _ (x : Sections) (section : List ℕ) (room : Rooms) (k nf np nr ne nt : 
   abbrev pub Answered : Analysis → Type 0
   Answered r =
       (r ≡ answerOf (analysisOf x section room))
-      × ((index ≡ indexAfter (x .abbreviations) (headerOf section) k)
+      × ((index ≡ indexAfter (x .abbreviations) (headerOf (x .setting .«big_endian») section) k)
       × Filled′ (analysisOf x section room) nf np nr ne nt offsets parents roots ends targets)
 
-  analysis-by : (r : HeaderRead) → headerOf section ≡ r → analysisOf x section room ≡ headerAnalysed x section room r
+  analysis-by : (r : HeaderRead) → headerOf (x .setting .«big_endian») section ≡ r → analysisOf x section room ≡ headerAnalysed x section room r
   unfolding analysisOf
   analysis-by r e = ap (headerAnalysed x section room) e
 
-  module _ (i : index ≡ indexAfter (x .abbreviations) (headerOf section) k) where
+  module _ (i : index ≡ indexAfter (x .abbreviations) (headerOf (x .setting .«big_endian») section) k) where
     module _ (c : Clear nf np nr ne nt offsets parents roots ends targets) where
       section-refused : (n : ℕ) → analysisOf x section room ≡ refused n → Answered (Refused′ n)
       unfolding answerOf
@@ -334,11 +285,11 @@ module _ (x : Sections) (section : List ℕ) (room : Rooms) (k nf np nr ne nt : 
       undeclared h a none q f = let e : a ≡ Refused′ 3 = cc in (e, refl)
       undeclared h a (some ds) q f = let z : _≡_ {A = ℕ} 0 1 = cc in absurd (omega arith)
 
-      pub section-answered : (a : Analysis) → Answered′ a ≡ unitFound (x .abbreviations) (headerOf section) → Answered a
+      pub section-answered : (a : Analysis) → Answered′ a ≡ unitFound (x .abbreviations) (headerOf (x .setting .«big_endian») section) → Answered a
       unfolding headerAnalysed unitAnalysed checkedOf unitFound
-      section-answered a q = of (headerOf section) refl q
+      section-answered a q = of (headerOf (x .setting .«big_endian») section) refl q
         where
-          of : (r : HeaderRead) → headerOf section ≡ r → Answered′ a ≡ unitFound (x .abbreviations) r → Answered a
+          of : (r : HeaderRead) → headerOf (x .setting .«big_endian») section ≡ r → Answered′ a ≡ unitFound (x .abbreviations) r → Answered a
           of Empty e q′ =
               let s : a ≡ Entries 0 0 = cc in
               subst Answered (sym s) (section-empty (analysis-by Empty e))
@@ -349,14 +300,14 @@ module _ (x : Sections) (section : List ℕ) (room : Rooms) (k nf np nr ne nt : 
               let u = undeclared h a (abbreviationsOf (x .abbreviations) (h .abbreviations)) q′ _ in
               subst Answered (sym (u .0)) (section-refused 3 (analysis-by (Unit′ h) e ∙ u .1))
 
-    pub section-unit : (h : UnitHeader) → Found′ h ≡ unitFound (x .abbreviations) (headerOf section)
+    pub section-unit : (h : UnitHeader) → Found′ h ≡ unitFound (x .abbreviations) (headerOf (x .setting .«big_endian») section)
         → (room′ : Rooms) (nf′ np′ nr′ ne′ nt′ : ℕ) (r : Analysis) → room′ ≡ room → nf′ ≡ nf → np′ ≡ np → nr′ ≡ nr → ne′ ≡ ne → nt′ ≡ nt
         → (r ≡ answerOf (unitAnalysed (h .encoding) x (take (h .end) section) room′ (h .abbreviations) (h .first .0)))
         × Filled′ (unitAnalysed (h .encoding) x (take (h .end) section) room′ (h .abbreviations) (h .first .0)) nf′ np′ nr′ ne′ nt′ offsets parents roots ends targets
         → Answered r
     unfolding headerAnalysed
     section-unit h u room′ nf′ np′ nr′ ne′ nt′ r m o p q s t f =
-        let e : headerOf section ≡ Unit′ h = unit-found (x .abbreviations) (headerOf section) h u .0 in
+        let e : headerOf (x .setting .«big_endian») section ≡ Unit′ h = unit-found (x .abbreviations) (headerOf (x .setting .«big_endian») section) h u .0 in
         let w : unitAnalysed (h .encoding) x (take (h .end) section) room′ (h .abbreviations) (h .first .0) ≡ analysisOf x section room =
         ap (λ (n : Rooms). unitAnalysed (h .encoding) x (take (h .end) section) n (h .abbreviations) (h .first .0)) m ∙ sym (analysis-by (Unit′ h) e) in (
           f .0 ∙ ap answerOf w,

@@ -105,7 +105,7 @@ record Bounded (room : Rooms) (rows : List EntryRow) : Type 0 where
   pub small : length unit < 2 ^ 32
 
 module _ (x : Sections) (section : List ℕ) (room : Rooms) (rows : List EntryRow) where
-  header-bounded : (h : HeaderRead) → headerOf section ≡ h → headerAnalysed x section room h ≡ analysed rows → Bounded room rows
+  header-bounded : (h : HeaderRead) → headerOf (x .setting .«big_endian») section ≡ h → headerAnalysed x section room h ≡ analysed rows → Bounded room rows
   unfolding headerAnalysed
   header-bounded Empty e q =
       let z : [] ≡ rows = cc in
@@ -115,12 +115,12 @@ module _ (x : Sections) (section : List ℕ) (room : Rooms) (rows : List EntryRo
     unit = take (h .end) section;
     first = h .first .0;
     ruled = unit-rows (h .encoding) x (take (h .end) section) room (h .abbreviations) (h .first .0) rows q;
-    small = omega (arith, small-unit section h e);
+    small = omega (arith, small-unit (x .setting .«big_endian») section h e);
   }
 
   bounded : analysisOf x section room ≡ analysed rows → Bounded room rows
   unfolding analysisOf
-  bounded q = header-bounded (headerOf section) refl q
+  bounded q = header-bounded (headerOf (x .setting .«big_endian») section) refl q
 
 record RowsOf (w : Analysed) (n : ℕ) : Type 0 where
   pub rows : List EntryRow
@@ -165,7 +165,7 @@ module _ (x : Sections) (section : List ℕ) (nm nq nf np nr ne nt k : ℕ) (ind
 
   abbrev UnitMarked : UnitMarks → List ℕ → List ℕ → Type 0
   UnitMarked r marks′ pairs′ =
-      (r ≡ unitMarks (analysisOf x section lent)) × ((index ≡ indexAfter (x .abbreviations) (headerOf section) k) × ((offsets ≡ column offsetsIn nf (analysisOf x section lent)) × (
+      (r ≡ unitMarks (analysisOf x section lent)) × ((index ≡ indexAfter (x .abbreviations) (headerOf (x .setting .«big_endian») section) k) × ((offsets ≡ column offsetsIn nf (analysisOf x section lent)) × (
       (parents ≡ column parentsIn np (analysisOf x section lent)) × ((roots ≡ column rootsIn nr (analysisOf x section lent)) × ((ends ≡ column (endsIn 0) ne (analysisOf x section lent)) × (
       (marks′ ≡ column marksIn nm (analysisOf x section lent)) × ((targets ≡ column namesIn nt (analysisOf x section lent)) × (pairs′ ≡ column pairsIn nq (analysisOf x section lent)))))))))
 

@@ -23,19 +23,21 @@ use Rattle.marking.specs.Roots.{rangesBy, rootTest, baseAfter}
 use Rattle.readers.specs.EntryAttributes.{Valued, entryValues}
 use Rattle.marking.specs.EntryReferences.{ReferencesFound, found, refused as refusedAfter, locationsBy, attributesFound}
 use Rattle.marking.specs.declared.root_test.Verdict.{Verdict}
+use Rattle.marking.specs.declared.setting.Setting.{Setting}
 use Rattle.marking.specs.declared.root_test.Verdict.the-variants.{Live, Dead, Refused as Failed}
 use Rattle.readers.specs.Stream.{Item, entry, terminator, itemsFrom}
 
--- what a unit is read by: the other sections, already relocated, the address table, and the base of older range lists
+-- what a unit is read by: the other sections, already relocated, the address table, and what a call tells beside them:
+-- the base of older range lists and the byte order
 pub record Sections : Type 0 where
   pub abbreviations : List ℕ
   pub locations : List ℕ
   pub ranges : List ℕ
   pub addresses : List ℕ
-  pub rangesBase : ℕ
+  pub setting : Setting
 
-abbrev pub sections : List ℕ → List ℕ → List ℕ → List ℕ → ℕ → Sections
-sections a l r t b = record { abbreviations = a; locations = l; ranges = r; addresses = t; rangesBase = b }
+abbrev pub sections : List ℕ → List ℕ → List ℕ → List ℕ → Setting → Sections
+sections a l r t s = record { abbreviations = a; locations = l; ranges = r; addresses = t; setting = s }
 
 -- how many entries and references the tables have room for
 pub record Rooms : Type 0 where
@@ -95,7 +97,8 @@ module _ (e : Encoding) (x : Sections) (unit : List ℕ) where
 
   -- DW_AT_rnglists_base, DW_AT_loclists_base: from this entry's root test on
   unfoldable pub rootOf : ℕ → Entry → Verdict
-  rootOf base y = rootTest e (rangesBy (x .ranges) (x .addresses) (x .rangesBase) base) unit (tagOf y) (valuesOfEntry y)
+  rootOf base y =
+      rootTest e (rangesBy (x .ranges) (x .addresses) (x .setting .«ranges_base») base) unit (tagOf y) (valuesOfEntry y)
 
   unfoldable pub namesOf : ℕ → Entry → ReferencesFound
   namesOf base y = attributesFound e (locationsBy unit (x .locations) base) (valuesOfEntry y)
@@ -149,4 +152,4 @@ headerAnalysed x section room (Unit′ h) =
 
 -- THE analysis of the first unit of a section
 unfoldable pub analysisOf : Sections → List ℕ → Rooms → Analysed
-analysisOf x section room = headerAnalysed x section room (headerOf section)
+analysisOf x section room = headerAnalysed x section room (headerOf (x .setting .«big_endian») section)

@@ -13,6 +13,7 @@ use crate::references::scan_live_die_attrs;
 use crate::root_test::Verdict;
 use crate::root_test::base_after;
 use crate::root_test::is_root;
+use crate::setting::Setting;
 use readers::abbreviations::Checked;
 use readers::abbreviations::check_abbreviations;
 use readers::codes::DW_AT_loclists_base;
@@ -77,7 +78,7 @@ fn analyse_entry(
     locations: &[u8],
     ranges: &[u8],
     addresses: &[u8],
-    ranges_base: u64,
+    setting: Setting,
     rnglists_base: u64,
     loclists_base: u64,
     e: Encoding,
@@ -86,7 +87,7 @@ fn analyse_entry(
 ) -> EntryAnalysis
     ensures { λ r. ⌜ (
         let lent = sections (now (abbreviations .entry)) (now (locations .entry)) (now (ranges .entry))
-        (now (addresses .entry)) «ranges_base» in
+        (now (addresses .entry)) setting in
         let end = headEnd e (now (abbreviations .entry)) (now (unit .entry)) x in
         let root = rootOf e lent (now (unit .entry)) «rnglists_base» (headed x) in
         let names = namesOf e lent (now (unit .entry)) «loclists_base» (headed x) in
@@ -106,7 +107,7 @@ fn analyse_entry(
         declaration.tag,
         ranges,
         addresses,
-        ranges_base,
+        setting,
         rnglists_base,
         e,
     ) {
@@ -154,7 +155,7 @@ fn analyse_entries(
     locations: &[u8],
     ranges: &[u8],
     addresses: &[u8],
-    ranges_base: u64,
+    setting: Setting,
     entry_room: usize,
     reference_room: usize,
     offsets: &mut [u64],
@@ -167,7 +168,7 @@ fn analyse_entries(
         (now offsets) (now parents) (now roots) (now «reference_ends») (now targets) ⌝ }
     ensures { λ r. ⌜ (
         let lent = sections (now (abbreviations .entry)) (now (locations .entry)) (now (ranges .entry))
-        (now (addresses .entry)) «ranges_base» in
+        (now (addresses .entry)) setting in
         let found = unitAnalysed e lent (now (unit .entry)) (rooms «entry_room» «reference_room») from (first .at) in
         (r ≡ answerOf found)
         × Outcome found
@@ -220,7 +221,7 @@ fn analyse_entries(
                     locations,
                     ranges,
                     addresses,
-                    ranges_base,
+                    setting,
                     rnglists_base,
                     loclists_base,
                     e,
@@ -356,7 +357,7 @@ fn analyse_unit(
     locations: &[u8],
     ranges: &[u8],
     addresses: &[u8],
-    ranges_base: u64,
+    setting: Setting,
     entry_room: usize,
     reference_room: usize,
     offsets: &mut [u64],
@@ -369,7 +370,7 @@ fn analyse_unit(
         «entry_room» «reference_room» (now offsets) (now parents) (now roots) (now «reference_ends») (now targets) ⌝ }
     ensures { λ r. ⌜ (
         let lent = sections (now (abbreviations .entry)) (now (locations .entry)) (now (ranges .entry))
-        (now (addresses .entry)) «ranges_base» in
+        (now (addresses .entry)) setting in
         let found = unitAnalysed (h .encoding) lent (take (h .end) (now (section .entry)))
         (rooms «entry_room» «reference_room») (h .abbreviations) (h .first .0) in
         (r ≡ answerOf found)
@@ -393,7 +394,7 @@ fn analyse_unit(
         locations,
         ranges,
         addresses,
-        ranges_base,
+        setting,
         entry_room,
         reference_room,
         offsets,
@@ -441,7 +442,7 @@ pub fn analyse(
     locations: &[u8],
     ranges: &[u8],
     addresses: &[u8],
-    ranges_base: u64,
+    setting: Setting,
     entries: usize,
     references: usize,
     index: &mut [u64],
@@ -453,11 +454,11 @@ pub fn analyse(
 ) -> UnitAnalysis
     ensures { λ r. ⌜ (
         let lent = sections (now (abbreviations .entry)) (now (locations .entry)) (now (ranges .entry))
-        (now (addresses .entry)) «ranges_base» in
+        (now (addresses .entry)) setting in
         let room = roomsOf entries references (length (now (offsets .entry))) (length (now (parents .entry)))
         (length (now (roots .entry))) (length (now («reference_ends» .entry))) (length (now (targets .entry))) in
         let found = analysisOf lent (now (section .entry)) room in
-        let header = headerOf (now (section .entry)) in
+        let header = headerOf (setting .«big_endian») (now (section .entry)) in
         ((r .header ≡ header) × (r .analysis ≡ answerOf found))
         × ((now (index .exit) ≡ indexAfter (now (abbreviations .entry)) header (length (now (index .entry))))
         × ((now (offsets .exit) ≡ column offsetsIn (length (now (offsets .entry))) found)
@@ -467,7 +468,7 @@ pub fn analyse(
         × (now (targets .exit) ≡ column namesIn (length (now (targets .entry))) found))))))
         ) ⌝ }
 {
-    let header = unit_header(section);
+    let header = unit_header(section, setting.big_endian);
     clear_columns(offsets, parents, roots, reference_ends, targets);
     match find_unit(header, abbreviations, index) {
         UnitFound::Answered(analysis) => UnitAnalysis { header, analysis },
@@ -487,7 +488,7 @@ pub fn analyse(
                 locations,
                 ranges,
                 addresses,
-                ranges_base,
+                setting,
                 room,
                 least_of(references, targets.len()),
                 offsets,

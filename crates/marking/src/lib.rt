@@ -6,5 +6,6 @@ pub mod marks;
 pub mod references;
 pub mod root_test;
 mod rules;
+pub mod setting;
 mod spread;
 pub mod units;

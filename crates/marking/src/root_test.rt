@@ -9,6 +9,7 @@ ghost use Rattle.readers.specs.declared.lists.ListOffset.the-variants.{At};
 use crate::addresses::AddressLookup;
 use crate::addresses::is_tombstone;
 use crate::addresses::lookup;
+use crate::setting::Setting;
 use readers::attributes::Attribute;
 use readers::codes::DW_AT_location;
 use readers::codes::DW_AT_low_pc;
@@ -350,7 +351,7 @@ pub fn first_ranges(
 }
 
 // The root test of an entry with a tag (gc.rs: `is_root`): a subprogram by its low_pc and its ranges, a variable by its
-// location; other tags never.
+// location; other tags never. Numbers are read by the encoding; of the setting the ranges base counts.
 pub fn is_root(
     unit: &[u8],
     abbreviations: &[u8],
@@ -359,12 +360,12 @@ pub fn is_root(
     tag: u64,
     ranges: &[u8],
     table: &[u8],
-    ranges_base: u64,
+    setting: Setting,
     rnglists_base: u64,
     e: Encoding,
 ) -> Verdict
     ensures { λ r. ⌜ (
-        let lists = rangesBy (now (ranges .entry)) (now (table .entry)) «ranges_base» «rnglists_base» in
+        let lists = rangesBy (now (ranges .entry)) (now (table .entry)) (setting .«ranges_base») «rnglists_base» in
         let attributes = entryValues e (now (abbreviations .entry)) (specs .at) (now (unit .entry)) (values .at) in
         r ≡ rootTest e lists (now (unit .entry)) tag attributes
         ) ⌝ }
@@ -379,7 +380,7 @@ pub fn is_root(
                 values,
                 ranges,
                 table,
-                ranges_base,
+                setting.ranges_base,
                 rnglists_base,
                 e,
             ),

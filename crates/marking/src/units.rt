@@ -14,6 +14,7 @@ use crate::analysis::Analysis;
 use crate::analysis::analyse;
 use crate::marks::Marked;
 use crate::marks::mark_with;
+use crate::setting::Setting;
 use readers::header::HeaderRead;
 use readers::offsets::EntryIndex;
 use readers::offsets::UnitOffset;
@@ -182,7 +183,7 @@ pub fn mark_unit(
     locations: &[u8],
     ranges: &[u8],
     addresses: &[u8],
-    ranges_base: u64,
+    setting: Setting,
     index: &mut [u64],
     offsets: &mut [u64],
     parents: &mut [u32],
@@ -195,12 +196,12 @@ pub fn mark_unit(
 ) -> UnitMarking
     ensures { λ r. ⌜ (
         let lent = sections (now (abbreviations .entry)) (now (locations .entry)) (now (ranges .entry))
-        (now (addresses .entry)) «ranges_base» in
+        (now (addresses .entry)) setting in
         let room = unitRooms (length (now (marks .entry))) (length (now (pairs .entry)))
         (length (now (offsets .entry))) (length (now (parents .entry))) (length (now (roots .entry)))
         (length (now («reference_ends» .entry))) (length (now (targets .entry))) in
         let found = analysisOf lent (now (section .entry)) room in
-        let header = headerOf (now (section .entry)) in
+        let header = headerOf (setting .«big_endian») (now (section .entry)) in
         ((r .header ≡ header) × (r .marks ≡ unitMarks found))
         × ((now (index .exit) ≡ indexAfter (now (abbreviations .entry)) header (length (now (index .entry))))
         × ((now (offsets .exit) ≡ column offsetsIn (length (now (offsets .entry))) found)
@@ -222,7 +223,7 @@ pub fn mark_unit(
         locations,
         ranges,
         addresses,
-        ranges_base,
+        setting,
         marks.len(),
         pairs.len() / 2,
         index,

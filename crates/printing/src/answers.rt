@@ -6,6 +6,7 @@ use crate::text::text;
 use bundle::BundleRead;
 use bundle::section_bytes;
 use libc::STDOUT_FILENO;
+use marking::setting::Setting;
 use marking::units::UnitMarks;
 use readers::offsets::UnitOffset;
 use rewriting::collect::Collected;
@@ -64,6 +65,7 @@ fn marked(
     locations: &[u8],
     ranges: &[u8],
     addresses: &[u8],
+    setting: Setting,
     map: &[u8],
     c: Counts,
     rewritten: bool,
@@ -76,6 +78,7 @@ fn marked(
         locations,
         ranges,
         addresses,
+        setting,
         &mut offsets,
         &mut marks,
     ) {
@@ -191,6 +194,7 @@ fn unit(
     locations: &[u8],
     ranges: &[u8],
     addresses: &[u8],
+    setting: Setting,
     whole: bool,
 ) {
     let mut index = [0u64; 1024];
@@ -213,7 +217,7 @@ fn unit(
         locations,
         ranges,
         addresses,
-        0,
+        setting,
         false,
         &mut index,
         &mut offsets,
@@ -248,6 +252,7 @@ fn unit(
                     locations,
                     ranges,
                     addresses,
+                    setting,
                     &map,
                     c,
                     false,
@@ -272,6 +277,7 @@ fn unit(
                     locations,
                     ranges,
                     addresses,
+                    setting,
                     &map,
                     c,
                     true,
@@ -284,7 +290,7 @@ fn unit(
     }
 }
 
-fn of_bundle(s: &[u8], whole: bool) {
+fn of_bundle(s: &[u8], setting: Setting, whole: bool) {
     let BundleRead::Read(b) = bundle::read_bundle(s) else {
         text(b"bundle\n");
         return;
@@ -295,17 +301,18 @@ fn of_bundle(s: &[u8], whole: bool) {
         section_bytes(s, b.locations),
         section_bytes(s, b.ranges),
         section_bytes(s, b.addresses),
+        setting,
         whole,
     );
 }
 
-// Prints the entries of a bundle's unit with their marks and new offsets; `refused` and a number; `bundle` where it is
-// none.
-pub fn thin(s: &[u8]) {
-    of_bundle(s, false);
+// Prints the entries of a bundle's unit, by what is told of it, with their marks and new offsets; `refused` and a
+// number; `bundle` where it is none.
+pub fn thin(s: &[u8], setting: Setting) {
+    of_bundle(s, setting, false);
 }
 
 // Prints all that collect answers for a bundle's unit, on one line.
-pub fn answer(s: &[u8]) {
-    of_bundle(s, true);
+pub fn answer(s: &[u8], setting: Setting) {
+    of_bundle(s, setting, true);
 }

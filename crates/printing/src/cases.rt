@@ -9,6 +9,7 @@ use crate::text::text;
 use bundle::Bundle;
 use bundle::BundleRead;
 use bundle::section_bytes;
+use marking::setting::Setting;
 use readers::cursor::Cursor;
 use readers::cursor::Number;
 use readers::cursor::left;
@@ -48,12 +49,22 @@ const RANGES_BASE: usize = 104;
 
 const TYPE_UNITS: usize = 112;
 
-const SETTINGS: usize = 120;
+const BIG_ENDIAN: usize = 120;
+
+const SETTINGS: usize = 128;
 
 fn setting(settings: &[u8], at: usize) -> u64 {
     match (Cursor { at }).fixed(settings, 8, true) {
         Number::Value(n, _) => n,
         Number::Unreadable => 0,
+    }
+}
+
+// What is told of the unit.
+fn told(settings: &[u8]) -> Setting {
+    Setting {
+        ranges_base: setting(settings, RANGES_BASE),
+        big_endian: setting(settings, BIG_ENDIAN) != 0,
     }
 }
 
@@ -96,7 +107,7 @@ fn collect_bundle(
         section_bytes(s, b.locations),
         section_bytes(s, b.ranges),
         section_bytes(s, b.addresses),
-        setting(settings, RANGES_BASE),
+        told(settings),
         setting(settings, TYPE_UNITS) != 0,
         index,
         offsets,

@@ -116,9 +116,14 @@ fn reference_lines(table: &[u64], count: usize) {
     }
 }
 
-fn expression(s: &[u8], address_size: u8) {
+fn expression(s: &[u8], e: Encoding) {
     let mut table = [0u64; 6144];
-    match readers::expressions::references_of_expression(s, address_size, &mut table) {
+    match readers::expressions::references_of_expression(
+        s,
+        e.address_size,
+        e.big_endian,
+        &mut table,
+    ) {
         References::Count(n) => {
             reference_lines(&table, n);
         }
@@ -164,7 +169,7 @@ fn list_lines(s: &[u8], entry: ListEntry, location: bool, e: Encoding) {
             number(b" bytes ", f.start as u64);
             number(b" to ", f.end as u64);
             text(b"\n");
-            expression(f.expression(s), e.address_size);
+            expression(f.expression(s), e);
             return;
         }
     }
@@ -268,7 +273,7 @@ fn attribute_lines(
     number(b" form ", v.form);
     value(v.form, field, a.implicit);
     if v.form == DW_FORM_exprloc {
-        expression(field.expression(unit), e.address_size);
+        expression(field.expression(unit), e);
     }
     lists(locations, ranges, p, a.name, v.form, field.value, e);
 }
@@ -516,14 +521,15 @@ fn unit_lines(
     }
 }
 
-// Prints what a bundle holds; `bundle` where it is none, `refused` and a number where its unit can't be read.
-pub fn dump(s: &[u8]) {
+// Prints what a bundle holds, by the byte order of its unit; `bundle` where it is none, `refused` and a number where its
+// unit can't be read.
+pub fn dump(s: &[u8], big_endian: bool) {
     let BundleRead::Read(b) = bundle::read_bundle(s) else {
         text(b"bundle\n");
         return;
     };
     let unit = bundle::section_bytes(s, b.unit);
-    match readers::header::unit_header(unit) {
+    match readers::header::unit_header(unit, big_endian) {
         HeaderRead::Empty => {
             text(b"empty\n");
         }

@@ -4,6 +4,7 @@ use crate::text::number;
 use crate::text::text;
 use bundle::BundleRead;
 use bundle::section_bytes;
+use marking::setting::Setting;
 use marking::units::UnitMarks;
 
 // R retained, L live, D dead.
@@ -40,6 +41,7 @@ pub fn mark(
     locations: &[u8],
     ranges: &[u8],
     addresses: &[u8],
+    setting: Setting,
     offsets: &mut [u64],
     marks: &mut [u8],
 ) -> UnitMarks {
@@ -56,7 +58,7 @@ pub fn mark(
         locations,
         ranges,
         addresses,
-        0,
+        setting,
         &mut index,
         offsets,
         &mut parents,
@@ -71,7 +73,14 @@ pub fn mark(
 }
 
 // The marks of the unit of given sections.
-fn unit(section: &[u8], abbreviations: &[u8], locations: &[u8], ranges: &[u8], addresses: &[u8]) {
+fn unit(
+    section: &[u8],
+    abbreviations: &[u8],
+    locations: &[u8],
+    ranges: &[u8],
+    addresses: &[u8],
+    setting: Setting,
+) {
     let mut offsets = [0u64; 2048];
     let mut marks = [0u8; 2048];
     match mark(
@@ -80,6 +89,7 @@ fn unit(section: &[u8], abbreviations: &[u8], locations: &[u8], ranges: &[u8], a
         locations,
         ranges,
         addresses,
+        setting,
         &mut offsets,
         &mut marks,
     ) {
@@ -96,8 +106,8 @@ fn unit(section: &[u8], abbreviations: &[u8], locations: &[u8], ranges: &[u8], a
     }
 }
 
-// Prints the marks of a bundle; `bundle` where it is none.
-pub fn list(s: &[u8]) {
+// Prints the marks of a bundle's unit, by what is told of it; `bundle` where it is none.
+pub fn list(s: &[u8], setting: Setting) {
     let BundleRead::Read(b) = bundle::read_bundle(s) else {
         text(b"bundle\n");
         return;
@@ -108,5 +118,6 @@ pub fn list(s: &[u8]) {
         section_bytes(s, b.locations),
         section_bytes(s, b.ranges),
         section_bytes(s, b.addresses),
+        setting,
     );
 }

@@ -46,20 +46,20 @@ module _ (a : ℕ) where
   size-8 q = right (eqb a 4) (eqb a 8) (yes-eqb {a = a} {b = 8} q)
 
   -- the table t, cleared
-  module _ (s t : List ℕ) (numbers : ℕ) (cleared : t ≡ zeros numbers) where
+  module _ (big : Bool) (s t : List ℕ) (numbers : ℕ) (cleared : t ≡ zeros numbers) where
     abbrev Answers : References → List ℕ → Type 0
-    Answers r l = (r ≡ referencesAnswer a numbers s) × (l ≡ referencesTable a numbers s)
+    Answers r l = (r ≡ referencesAnswer a big numbers s) × (l ≡ referencesTable a big numbers s)
 
-    refused : (k : ℕ) → Refused k ≡ referencesAnswer a numbers s → Answers (Refused k) t
+    refused : (k : ℕ) → Refused k ≡ referencesAnswer a big numbers s → Answers (Refused k) t
     unfolding referencesTable answerTable
-    refused k q = (q, cleared ∙ ap (λ r. answerTable numbers r (referencesIn (encodingOf a) s)) q)
+    refused k q = (q, cleared ∙ ap (λ r. answerTable numbers r (referencesIn (encodingOf big 5 4 a) s)) q)
 
     pub refuse-size : (a ≡ 4 → ⊥) → (a ≡ 8 → ⊥) → Answers (Refused 2) t
     unfolding referencesAnswer
     refuse-size p q = refused 2 (sym (pick-no _ _ _ (neither (eqb a 4) (eqb a 8) (no-eqb {a = a} {b = 4} p) (no-eqb {a = a} {b = 8} q))))
 
-    module _ (good : T (eqb a 4 or eqb a 8)) (u : Walk) (is : u ≡ walkOf (encodingOf a) s) where
-      answer : (w : Walk) → u ≡ w → walkAnswer (numbers / 3) w ≡ referencesAnswer a numbers s
+    module _ (good : T (eqb a 4 or eqb a 8)) (u : Walk) (is : u ≡ walkOf (encodingOf big 5 4 a) s) where
+      answer : (w : Walk) → u ≡ w → walkAnswer (numbers / 3) w ≡ referencesAnswer a big numbers s
       unfolding referencesAnswer
       answer w q = ap (walkAnswer (numbers / 3)) (sym q ∙ is) ∙ sym (pick-yes _ _ _ good)
 
@@ -73,7 +73,7 @@ module _ (a : ℕ) where
         refuse-absolute p = refused 7 (ap (λ x. walkAnswer (numbers / 3) (Walked n x)) (sym p) ∙ answer (Walked n b) q)
 
         module _ (p : b ≡ false) where
-          relative : pick (leb n (numbers / 3)) (Count n) (Refused 11) ≡ referencesAnswer a numbers s
+          relative : pick (leb n (numbers / 3)) (Count n) (Refused 11) ≡ referencesAnswer a big numbers s
           unfolding walkAnswer
           relative = ap (λ x. walkAnswer (numbers / 3) (Walked n x)) (sym p) ∙ answer (Walked n b) q
 
@@ -89,19 +89,19 @@ module _ (a : ℕ) where
             enough : n ≤ numbers / 3
             enough = subst (λ m. n ≤ m / 3) same l
 
-            counts : Count n ≡ referencesAnswer a numbers s
+            counts : Count n ≡ referencesAnswer a big numbers s
             counts = sym (pick-yes _ _ _ (yes-leb {a = n} {b = numbers / 3} enough)) ∙ relative
 
-            flat-is : (flatFrom (encodingOf a) s 0 ≡ referencesIn (encodingOf a) s) × (length (flatFrom (encodingOf a) s 0) ≡ n)
-            flat-is = walked-flat (encodingOf a) s n b (sym is ∙ q)
+            flat-is : (flatFrom (encodingOf big 5 4 a) s 0 ≡ referencesIn (encodingOf big 5 4 a) s) × (length (flatFrom (encodingOf big 5 4 a) s 0) ≡ n)
+            flat-is = walked-flat (encodingOf big 5 4 a) s n b (sym is ∙ q)
 
-            pub has-room : Room (flatFrom (encodingOf a) s 0) t n
+            pub has-room : Room (flatFrom (encodingOf big 5 4 a) s 0) t n
             has-room = record { count = flat-is .1; fits = omega arith; cleared = cleared ∙ ap zeros (sym same) }
 
-            pub accept : (l : List ℕ) → l ≡ numbersOf (flatFrom (encodingOf a) s 0) ++ zeros (length t - 3 * n) → Answers (Count n) l
+            pub accept : (l : List ℕ) → l ≡ numbersOf (flatFrom (encodingOf big 5 4 a) s 0) ++ zeros (length t - 3 * n) → Answers (Count n) l
             unfolding referencesTable answerTable
             accept l f = (
               counts,
               f ∙ ap₂ (λ rs m. numbersOf rs ++ zeros (m - 3 * n)) (flat-is .0) same
-                  ∙ ap (λ r. answerTable numbers r (referencesIn (encodingOf a) s)) counts,
+                  ∙ ap (λ r. answerTable numbers r (referencesIn (encodingOf big 5 4 a) s)) counts,
             )

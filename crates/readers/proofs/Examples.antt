@@ -6,7 +6,7 @@ use mathlib.Core.Bool.{true, false}
 use mathlib.Core.List.{List, [], _∷_}
 use mathlib.Core.Option.{none, some}
 use Rattle.readers.specs.Choice.{pick, check, bind, _and_, _or_}
-use Rattle.readers.specs.Numbers.{groups, below, uleb, unsigned64, sleb, signed64, negative, ordered, littleValue, fixedValue}
+use Rattle.readers.specs.Numbers.{groups, below, uleb, unsigned64, sleb, signed64, negative, ordered, littleBytes, littleValue, fixedBytes, fixedValue}
 use Rattle.readers.specs.Layout.{short, within16, numberIn, width}
 use Rattle.readers.specs.Cursors.{fixedAt, asFixed, lebAt, asLebNumber}
 use Rattle.readers.specs.Scan.{push, onTurn, scanWithin, scan}
@@ -16,8 +16,8 @@ use Rattle.readers.specs.Abbreviations.{pastAttributes, numberDeclaratio
 use Rattle.readers.specs.Abbreviations.{wholeDeclaration, declarationAt, declarationTurn, declarationsFrom}
 use Rattle.readers.specs.Abbreviations.{declaredIn, isFound, distinct, checkDistinct, abbreviationsOf}
 use Rattle.readers.specs.Abbreviations.{insertByCode, byCode, slotsOf, indexed, indexFor, indexOf}
-use Rattle.readers.specs.Header.{present, right, encodingOf, headerMade, headerFields, headerOf}
-use Rattle.readers.specs.declared.header.HeaderRead.the-variants.{Empty, Refused}
+use Rattle.readers.specs.Header.{present, right, lengthBytes, encodingOf, headerMade, headerFields, headerIn, headerOf}
+use Rattle.readers.specs.declared.header.HeaderRead.the-variants.{Unit as Unit′, Empty, Refused}
 
 -- ---- 7.6, table 7.7: unsigned numbers
 
@@ -65,24 +65,52 @@ limits = (refl, refl, refl, refl, refl, refl, refl, refl, refl, refl)
 orders :
     (fixedValue false (0x12 ∷ 0x34 ∷ 0x56 ∷ []) ≡ 0x563412)
     × (fixedValue true (0x12 ∷ 0x34 ∷ 0x56 ∷ []) ≡ 0x123456)
-unfolding fixedValue ordered littleValue
-orders = (refl, refl)
+    × (fixedValue false (1 ∷ 2 ∷ []) ≡ 0x0201)
+    × (fixedValue true (1 ∷ 2 ∷ []) ≡ 0x0102)
+    × (fixedValue true (1 ∷ 2 ∷ 3 ∷ 4 ∷ []) ≡ 0x01020304)
+    × (fixedValue true (1 ∷ 2 ∷ 3 ∷ 4 ∷ 5 ∷ 6 ∷ 7 ∷ 8 ∷ []) ≡ 0x0102030405060708)
+    × (fixedBytes false 3 0x123456 ≡ 0x56 ∷ 0x34 ∷ 0x12 ∷ [])
+    × (fixedBytes true 3 0x123456 ≡ 0x12 ∷ 0x34 ∷ 0x56 ∷ [])
+    × (fixedBytes true 8 0x0102030405060708 ≡ 1 ∷ 2 ∷ 3 ∷ 4 ∷ 5 ∷ 6 ∷ 7 ∷ 8 ∷ [])
+unfolding fixedValue fixedBytes ordered littleValue littleBytes
+orders = (refl, refl, refl, refl, refl, refl, refl, refl, refl)
+
+-- the length field of either format (7.4)
+length-fields : (lengthBytes 4 ≡ 4) × (lengthBytes 8 ≡ 12)
+unfolding lengthBytes pick
+length-fields = (refl, refl)
 
 -- ---- the order of the header's refusals: the length before what follows it, then each field first there, then right
 
 headers :
-    (headerOf [] ≡ Empty)
-    × (headerOf (0x08 ∷ 0 ∷ 0 ∷ []) ≡ Refused 1)
-    × (headerOf (0xf0 ∷ 0xff ∷ 0xff ∷ 0xff ∷ []) ≡ Refused 2)
-    × (headerOf (0x03 ∷ 0 ∷ 0 ∷ 0 ∷ 4 ∷ 0 ∷ []) ≡ Refused 1)
-    × (headerOf (0x02 ∷ 0 ∷ 0 ∷ 0 ∷ 4 ∷ 0 ∷ []) ≡ Refused 2)
-    × (headerOf (0x02 ∷ 0 ∷ 0 ∷ 0 ∷ 5 ∷ 0 ∷ 1 ∷ 8 ∷ 0 ∷ 0 ∷ 0 ∷ 0 ∷ []) ≡ Refused 1)
-    × (headerOf (0x08 ∷ 0 ∷ 0 ∷ 0 ∷ 5 ∷ 0 ∷ 2 ∷ 8 ∷ 0 ∷ 0 ∷ 0 ∷ 0 ∷ []) ≡ Refused 2)
-    × (headerOf (0x08 ∷ 0 ∷ 0 ∷ 0 ∷ 5 ∷ 0 ∷ 1 ∷ 3 ∷ 0 ∷ 0 ∷ 0 ∷ 0 ∷ []) ≡ Refused 2)
-    × (headerOf (0x08 ∷ 0 ∷ 0 ∷ 0 ∷ 5 ∷ 0 ∷ 5 ∷ 8 ∷ 0 ∷ 0 ∷ 0 ∷ 0 ∷ []) ≡ Refused 1)
-unfolding headerOf headerFields present right headerMade encodingOf fixedAt asFixed numberIn width fixedValue
+    (headerOf false [] ≡ Empty)
+    × (headerOf false (0x08 ∷ 0 ∷ 0 ∷ []) ≡ Refused 1)
+    × (headerOf false (0xf0 ∷ 0xff ∷ 0xff ∷ 0xff ∷ []) ≡ Refused 2)
+    × (headerOf false (0x03 ∷ 0 ∷ 0 ∷ 0 ∷ 4 ∷ 0 ∷ []) ≡ Refused 1)
+    × (headerOf false (0x02 ∷ 0 ∷ 0 ∷ 0 ∷ 4 ∷ 0 ∷ []) ≡ Refused 2)
+    × (headerOf false (0x02 ∷ 0 ∷ 0 ∷ 0 ∷ 5 ∷ 0 ∷ 1 ∷ 8 ∷ 0 ∷ 0 ∷ 0 ∷ 0 ∷ []) ≡ Refused 1)
+    × (headerOf false (0x08 ∷ 0 ∷ 0 ∷ 0 ∷ 5 ∷ 0 ∷ 2 ∷ 8 ∷ 0 ∷ 0 ∷ 0 ∷ 0 ∷ []) ≡ Refused 2)
+    × (headerOf false (0x08 ∷ 0 ∷ 0 ∷ 0 ∷ 5 ∷ 0 ∷ 1 ∷ 3 ∷ 0 ∷ 0 ∷ 0 ∷ 0 ∷ []) ≡ Refused 2)
+    × (headerOf false (0x08 ∷ 0 ∷ 0 ∷ 0 ∷ 5 ∷ 0 ∷ 5 ∷ 8 ∷ 0 ∷ 0 ∷ 0 ∷ 0 ∷ []) ≡ Refused 1)
+    -- big-endian; a header of 20 bytes whose abbreviations start at 0x0102; units told wrongly
+    × (headerOf true [] ≡ Empty)
+    × (headerOf true (0 ∷ 0 ∷ 8 ∷ []) ≡ Refused 1)
+    × (headerOf true (0xff ∷ 0xff ∷ 0xff ∷ 0xf0 ∷ []) ≡ Refused 2)
+    × (headerOf true (0xff ∷ 0xff ∷ 0xff ∷ 0xef ∷ []) ≡ Refused 1)
+    × (headerOf true (0xf0 ∷ 0xff ∷ 0xff ∷ 0xff ∷ []) ≡ Refused 1)
+    × (headerOf true (0 ∷ 0 ∷ 0 ∷ 0x02 ∷ 0 ∷ 4 ∷ []) ≡ Refused 2)
+    × (headerOf true (0 ∷ 0 ∷ 0 ∷ 0x02 ∷ 0 ∷ 5 ∷ 1 ∷ 8 ∷ 0 ∷ 0 ∷ 0 ∷ 0 ∷ []) ≡ Refused 1)
+    × (headerOf true (0 ∷ 0 ∷ 0 ∷ 0x08 ∷ 0 ∷ 5 ∷ 2 ∷ 8 ∷ 0 ∷ 0 ∷ 0 ∷ 0 ∷ []) ≡ Refused 2)
+    × (headerOf true (0 ∷ 0 ∷ 0 ∷ 0x08 ∷ 0 ∷ 5 ∷ 1 ∷ 3 ∷ 0 ∷ 0 ∷ 0 ∷ 0 ∷ []) ≡ Refused 2)
+    × (headerOf true (0 ∷ 0 ∷ 0 ∷ 0x08 ∷ 0 ∷ 5 ∷ 5 ∷ 8 ∷ 0 ∷ 0 ∷ 0 ∷ 0 ∷ []) ≡ Refused 1)
+    × (headerOf true (0 ∷ 0 ∷ 0 ∷ 16 ∷ 0 ∷ 5 ∷ 5 ∷ 4 ∷ 0 ∷ 0 ∷ 1 ∷ 2 ∷ 1 ∷ 2 ∷ 3 ∷ 4 ∷ 5 ∷ 6 ∷ 7 ∷ 8 ∷ [])
+    ≡ Unit′ (record { encoding = encodingOf true 5 4 4; «unit_type» = 5; abbreviations = 0x0102; first = record { 0 = 20 }; end = 20 }))
+    × (headerOf true (0x08 ∷ 0 ∷ 0 ∷ 0 ∷ 5 ∷ 0 ∷ 1 ∷ 8 ∷ 0 ∷ 0 ∷ 0 ∷ 0 ∷ []) ≡ Refused 1)
+    × (headerOf true (0 ∷ 0 ∷ 0 ∷ 0 ∷ 5 ∷ 0 ∷ 1 ∷ 8 ∷ 0 ∷ 0 ∷ 0 ∷ 0 ∷ []) ≡ Refused 1)
+    × (headerOf false (0 ∷ 0 ∷ 0 ∷ 0x08 ∷ 0 ∷ 5 ∷ 1 ∷ 8 ∷ 0 ∷ 0 ∷ 0 ∷ 0 ∷ []) ≡ Refused 1)
+unfolding headerOf headerIn headerFields lengthBytes present right headerMade encodingOf fixedAt asFixed numberIn width fixedValue
     ordered littleValue pick check _or_
-headers = (refl, refl, refl, refl, refl, refl, refl, refl, refl)
+headers = (refl, refl, refl, refl, refl, refl, refl, refl, refl, refl, refl, refl, refl, refl, refl, refl, refl, refl, refl, refl, refl, refl, refl)
 
 -- ---- the index: declarations with the codes 9, 2 and 5 at 0, 5 and 10 in the order of their codes; zeros where it has no room for them
 

@@ -1,6 +1,6 @@
 -- The header of a unit, field by field: the answer is that of the fields from here on, or a refusal. Assumes nothing.
 use Prim.Native.Nat.{ℕ, _+_, _-_, _≤_, _<_}
-use mathlib.Core.Path.{_≡_, refl, ap, _∙_}
+use mathlib.Core.Path.{_≡_, refl, ap, sym, _∙_, subst}
 use mathlib.Core.Logic.{_⊎_, ⊎-elim}
 use mathlib.Core.Bool.{Bool, true, false, not}
 use mathlib.Core.List.{List}
@@ -9,9 +9,9 @@ use lib.ListN.{length, take, getD}
 use lib.Dec.{T, eqb}
 use mir.Facts.{yes-leb, no-leb, yes-eqb, no-eqb}
 use Rattle.readers.specs.Choice.{pick, _or_}
-use Rattle.readers.proofs.Choice.{pick-yes, pick-no}
+use Rattle.readers.proofs.Choice.{pick-yes, pick-no, pick-either}
 use Rattle.readers.specs.Cursors.{fixedAt}
-use Rattle.readers.specs.Header.{present, right, headerMade, headerFields, headerOf}
+use Rattle.readers.specs.Header.{present, right, lengthBytes, encodingOf, headerMade, headerFields, headerIn, headerOf}
 use Rattle.readers.specs.declared.cursor.Cursor.{Cursor}
 use Rattle.readers.specs.declared.cursor.Number.{Number}
 use Rattle.readers.specs.declared.cursor.Number.the-variants.{Value, Unreadable}
@@ -21,7 +21,7 @@ use Rattle.readers.proofs.Widths.{fixed-one, fixed-is, fixed-short}
 
 -- ---- a field that is there or is not, and a value in the domain or not
 
-present-at : (n : Number) (v : ℕ) (c : Cursor) (k : ℕ → HeaderRead) → n ≡ Value v c → present n k ≡ k v
+pub present-at : (n : Number) (v : ℕ) (c : Cursor) (k : ℕ → HeaderRead) → n ≡ Value v c → present n k ≡ k v
 unfolding present
 present-at n v c k e = ap (λ (m : Number). present m k) e
 
@@ -49,123 +49,156 @@ neither v a b f g = both (eqb v a) (eqb v b) (no-eqb {a = v} {b = a} f) (no-eqb 
     both true y t u = t
     both false y t u = u
 
--- ---- the fields of a unit
+-- ---- the fields of a unit, the first at n
 
-module _ (u : List ℕ) where
+module _ (big : Bool) (w : ℕ) (u : List ℕ) (n : ℕ) where
   -- what is still to be read from each field on
   unfoldable pub atFirst : ℕ → ℕ → ℕ → HeaderRead
   atFirst unitType addressSize abbreviations =
       pick (eqb unitType 1)
-      (headerMade u unitType addressSize abbreviations 12)
-      (present (fixedAt false 8 u 12) (λ _. headerMade u unitType addressSize abbreviations 20))
+      (headerMade (encodingOf big 5 w addressSize) u unitType abbreviations (n + 4 + w))
+      (present (fixedAt big 8 u (n + 4 + w)) (λ _. headerMade (encodingOf big 5 w addressSize) u unitType abbreviations (n + 4 + w + 8)))
 
   unfoldable pub atAbbreviations : ℕ → ℕ → HeaderRead
-  atAbbreviations unitType addressSize = present (fixedAt false 4 u 8) (atFirst unitType addressSize)
+  atAbbreviations unitType addressSize = present (fixedAt big w u (n + 4)) (atFirst unitType addressSize)
 
   unfoldable pub atSize : ℕ → HeaderRead
   atSize unitType =
-      present (fixedAt false 1 u 7) (λ addressSize. right (eqb addressSize 4 or eqb addressSize 8) (atAbbreviations unitType addressSize))
+      present (fixedAt big 1 u (n + 3)) (λ addressSize. right (eqb addressSize 4 or eqb addressSize 8) (atAbbreviations unitType addressSize))
 
   unfoldable pub atType : HeaderRead
-  atType = present (fixedAt false 1 u 6) (λ unitType. right (eqb unitType 1 or eqb unitType 5) (atSize unitType))
+  atType = present (fixedAt big 1 u (n + 2)) (λ unitType. right (eqb unitType 1 or eqb unitType 5) (atSize unitType))
 
-  split : headerFields u ≡ present (fixedAt false 2 u 4) (λ version. right (eqb version 5) atType)
-  unfolding headerFields atType atSize atAbbreviations atFirst
-  split = refl
+  unfoldable atVersion : HeaderRead
+  atVersion = present (fixedAt big 2 u n) (λ version. right (eqb version 5) atType)
 
-  pub version-none : fixedAt false 2 u 4 ≡ Unreadable → headerFields u ≡ Refused 1
-  version-none e = split ∙ absent _ _ e
+module _ (big : Bool) (w : ℕ) (u : List ℕ) where
+  fields-at : headerFields big w u ≡ atVersion big w u (lengthBytes w)
+  unfolding headerFields atVersion atType atSize atAbbreviations atFirst
+  fields-at = refl
 
-  module _ (v : ℕ) (c : Cursor) (e : fixedAt false 2 u 4 ≡ Value v c) where
-    pub version-other : (v ≡ 5 → ⊥) → headerFields u ≡ Refused 2
-    unfolding right
-    version-other h = split ∙ present-at _ v c _ e ∙ pick-no _ _ _ (no-eqb {a = v} {b = 5} h)
+module _ (big : Bool) (w : ℕ) (u : List ℕ) (n : ℕ) where
+  module _ (is : n ≡ lengthBytes w) where
+    split : headerFields big w u ≡ present (fixedAt big 2 u n) (λ version. right (eqb version 5) (atType big w u n))
+    unfolding atVersion
+    split = fields-at big w u ∙ ap (atVersion big w u) (sym is)
 
-    pub version-five : v ≡ 5 → headerFields u ≡ atType
-    unfolding right
-    version-five h = split ∙ present-at _ v c _ e ∙ pick-yes _ _ _ (yes-eqb {a = v} {b = 5} h)
+    pub version-none : fixedAt big 2 u n ≡ Unreadable → headerFields big w u ≡ Refused 1
+    version-none e = split ∙ absent _ _ e
 
-  byte-none : (at : ℕ) (k : ℕ → HeaderRead) → length u ≤ at → present (fixedAt false 1 u at) k ≡ Refused 1
-  byte-none at k h = absent _ k (fixed-short false 1 u at (omega arith))
+    module _ (v : ℕ) (c : Cursor) (e : fixedAt big 2 u n ≡ Value v c) where
+      pub version-other : (v ≡ 5 → ⊥) → headerFields big w u ≡ Refused 2
+      unfolding right
+      version-other h = split ∙ present-at _ v c _ e ∙ pick-no _ _ _ (no-eqb {a = v} {b = 5} h)
 
-  byte-at : (at : ℕ) (k : ℕ → HeaderRead) → at < length u → present (fixedAt false 1 u at) k ≡ k (getD u at 0)
-  byte-at at k h = present-at _ _ _ k (fixed-one false u at h)
+      pub version-five : v ≡ 5 → headerFields big w u ≡ atType big w u n
+      unfolding right
+      version-five h = split ∙ present-at _ v c _ e ∙ pick-yes _ _ _ (yes-eqb {a = v} {b = 5} h)
 
-  pub type-none : length u ≤ 6 → atType ≡ Refused 1
+  byte-none : (at : ℕ) (k : ℕ → HeaderRead) → length u ≤ at → present (fixedAt big 1 u at) k ≡ Refused 1
+  byte-none at k h = absent _ k (fixed-short big 1 u at (omega arith))
+
+  byte-at : (at : ℕ) (k : ℕ → HeaderRead) → at < length u → present (fixedAt big 1 u at) k ≡ k (getD u at 0)
+  byte-at at k h = present-at _ _ _ k (fixed-one big u at h)
+
+  pub type-none : length u ≤ n + 2 → atType big w u n ≡ Refused 1
   unfolding atType
-  type-none h = byte-none 6 _ h
+  type-none h = byte-none (n + 2) _ h
 
-  pub type-other : 6 < length u → (getD u 6 0 ≡ 1 → ⊥) → (getD u 6 0 ≡ 5 → ⊥) → atType ≡ Refused 2
+  pub type-other : n + 2 < length u → (getD u (n + 2) 0 ≡ 1 → ⊥) → (getD u (n + 2) 0 ≡ 5 → ⊥) → atType big w u n ≡ Refused 2
   unfolding atType right
-  type-other h f g = byte-at 6 _ h ∙ pick-no _ _ _ (neither (getD u 6 0) 1 5 f g)
+  type-other h f g = byte-at (n + 2) _ h ∙ pick-no _ _ _ (neither (getD u (n + 2) 0) 1 5 f g)
 
-  pub type-known : 6 < length u → (getD u 6 0 ≡ 1) ⊎ (getD u 6 0 ≡ 5) → atType ≡ atSize (getD u 6 0)
+  pub type-known : n + 2 < length u → (getD u (n + 2) 0 ≡ 1) ⊎ (getD u (n + 2) 0 ≡ 5) → atType big w u n ≡ atSize big w u n (getD u (n + 2) 0)
   unfolding atType right
-  type-known h f = byte-at 6 _ h ∙ pick-yes _ _ _ (one-of (getD u 6 0) 1 5 f)
+  type-known h f = byte-at (n + 2) _ h ∙ pick-yes _ _ _ (one-of (getD u (n + 2) 0) 1 5 f)
 
   module _ (t : ℕ) where
-    pub size-none : length u ≤ 7 → atSize t ≡ Refused 1
+    pub size-none : length u ≤ n + 3 → atSize big w u n t ≡ Refused 1
     unfolding atSize
-    size-none h = byte-none 7 _ h
+    size-none h = byte-none (n + 3) _ h
 
-    pub size-other : 7 < length u → (getD u 7 0 ≡ 4 → ⊥) → (getD u 7 0 ≡ 8 → ⊥) → atSize t ≡ Refused 2
+    pub size-other : n + 3 < length u → (getD u (n + 3) 0 ≡ 4 → ⊥) → (getD u (n + 3) 0 ≡ 8 → ⊥) → atSize big w u n t ≡ Refused 2
     unfolding atSize right
-    size-other h f g = byte-at 7 _ h ∙ pick-no _ _ _ (neither (getD u 7 0) 4 8 f g)
+    size-other h f g = byte-at (n + 3) _ h ∙ pick-no _ _ _ (neither (getD u (n + 3) 0) 4 8 f g)
 
-    pub size-known : 7 < length u → (getD u 7 0 ≡ 4) ⊎ (getD u 7 0 ≡ 8) → atSize t ≡ atAbbreviations t (getD u 7 0)
+    pub size-known : n + 3 < length u → (getD u (n + 3) 0 ≡ 4) ⊎ (getD u (n + 3) 0 ≡ 8) → atSize big w u n t ≡ atAbbreviations big w u n t (getD u (n + 3) 0)
     unfolding atSize right
-    size-known h f = byte-at 7 _ h ∙ pick-yes _ _ _ (one-of (getD u 7 0) 4 8 f)
+    size-known h f = byte-at (n + 3) _ h ∙ pick-yes _ _ _ (one-of (getD u (n + 3) 0) 4 8 f)
 
     module _ (a : ℕ) where
-      pub abbreviations-none : fixedAt false 4 u 8 ≡ Unreadable → atAbbreviations t a ≡ Refused 1
+      pub abbreviations-none : fixedAt big w u (n + 4) ≡ Unreadable → atAbbreviations big w u n t a ≡ Refused 1
       unfolding atAbbreviations
       abbreviations-none e = absent _ _ e
 
-      module _ (v : ℕ) (c : Cursor) (e : fixedAt false 4 u 8 ≡ Value v c) where
-        pub whole : t ≡ 1 → atAbbreviations t a ≡ headerMade u t a v 12
+      module _ (v : ℕ) (c : Cursor) (e : fixedAt big w u (n + 4) ≡ Value v c) where
+        pub whole : t ≡ 1 → atAbbreviations big w u n t a ≡ headerMade (encodingOf big 5 w a) u t v (n + 4 + w)
         unfolding atAbbreviations atFirst
         whole h = present-at _ v c _ e ∙ pick-yes _ _ _ (yes-eqb {a = t} {b = 1} h)
 
-        pub id-none : (t ≡ 1 → ⊥) → length u < 20 → atAbbreviations t a ≡ Refused 1
+        pub id-none : (t ≡ 1 → ⊥) → length u < n + 4 + w + 8 → atAbbreviations big w u n t a ≡ Refused 1
         unfolding atAbbreviations atFirst
         id-none h k =
-            present-at _ v c _ e ∙ pick-no _ _ _ (no-eqb {a = t} {b = 1} h) ∙ absent _ _ (fixed-short false 8 u 12 (omega arith))
+            present-at _ v c _ e ∙ pick-no _ _ _ (no-eqb {a = t} {b = 1} h) ∙ absent _ _ (fixed-short big 8 u (n + 4 + w) (omega arith))
 
-        pub id-there : (t ≡ 1 → ⊥) → 20 ≤ length u → atAbbreviations t a ≡ headerMade u t a v 20
+        pub id-there : (t ≡ 1 → ⊥) → n + 4 + w + 8 ≤ length u → atAbbreviations big w u n t a ≡ headerMade (encodingOf big 5 w a) u t v (n + 4 + w + 8)
         unfolding atAbbreviations atFirst
         id-there h k =
             present-at _ v c _ e
             ∙ pick-no _ _ _ (no-eqb {a = t} {b = 1} h)
-            ∙ present-at _ _ _ _ (fixed-is false 8 u 12 (omega arith) (omega arith))
+            ∙ present-at _ _ _ _ (fixed-is big 8 u (n + 4 + w) (omega arith) (omega arith))
 
 -- ---- the length of a unit
 
-module _ (s : List ℕ) where
-  pub header-empty : length s ≡ 0 → headerOf s ≡ Empty
+pub bytes-eight : (w : ℕ) → w ≡ 8 → lengthBytes w ≡ 12
+unfolding lengthBytes
+bytes-eight w h = pick-yes _ _ _ (yes-eqb {a = w} {b = 8} h)
+
+pub bytes-other : (w : ℕ) → (w ≡ 8 → ⊥) → lengthBytes w ≡ 4
+unfolding lengthBytes
+bytes-other w h = pick-no _ _ _ (no-eqb {a = w} {b = 8} h)
+
+pub bytes-most : (n w : ℕ) → n ≡ lengthBytes w → n ≤ 12
+unfolding lengthBytes
+bytes-most n w q = subst (λ (k : ℕ). k ≤ 12) (sym q) (pick-either (λ (k : ℕ). k ≤ 12) (eqb w 8) 12 4 (λ _. omega arith) (λ _. omega arith))
+
+pub four-bytes : lengthBytes 4 ≡ 4
+four-bytes = bytes-other 4 (λ e. absurd (omega (arith, e)))
+
+module _ (big : Bool) (s : List ℕ) where
+  -- the unit of the n bytes after the length is there, or is not
+  over : (n : ℕ) → length s - 4 < n → headerIn big 4 s n ≡ Refused 1
+  unfolding headerIn
+  over n k = pick-no _ _ _ (no-leb {a = n} {b = length s - lengthBytes 4} (subst (λ (l : ℕ). length s - l < n) (sym four-bytes) k))
+
+  there : (n : ℕ) → n ≤ length s - 4 → headerIn big 4 s n ≡ headerFields big 4 (take (4 + n) s)
+  unfolding headerIn
+  there n k =
+      pick-yes _ _ _ (yes-leb {a = n} {b = length s - lengthBytes 4} (subst (λ (l : ℕ). n ≤ length s - l) (sym four-bytes) k))
+      ∙ ap (λ (l : ℕ). headerFields big 4 (take (l + n) s)) four-bytes
+
+  pub header-empty : length s ≡ 0 → headerOf big s ≡ Empty
   unfolding headerOf
   header-empty h = pick-yes _ _ _ (yes-eqb {a = length s} {b = 0} h)
 
   module _ (some : length s ≡ 0 → ⊥) where
-    pub length-none : fixedAt false 4 s 0 ≡ Unreadable → headerOf s ≡ Refused 1
+    pub length-none : fixedAt big 4 s 0 ≡ Unreadable → headerOf big s ≡ Refused 1
     unfolding headerOf
     length-none e = pick-no _ _ _ (no-eqb {a = length s} {b = 0} some) ∙ absent _ _ e
 
-    module _ (n : ℕ) (c : Cursor) (e : fixedAt false 4 s 0 ≡ Value n c) where
-      pub length-other : 0xfffffff0 ≤ n → headerOf s ≡ Refused 2
+    module _ (n : ℕ) (c : Cursor) (e : fixedAt big 4 s 0 ≡ Value n c) where
+      pub length-other : 0xfffffff0 ≤ n → headerOf big s ≡ Refused 2
       unfolding headerOf
       length-other h =
           pick-no _ _ _ (no-eqb {a = length s} {b = 0} some) ∙ present-at _ n c _ e ∙ pick-yes _ _ _ (yes-leb {a = 0xfffffff0} {b = n} h)
 
-      pub length-over : n < 0xfffffff0 → length s - 4 < n → headerOf s ≡ Refused 1
+      short : n < 0xfffffff0 → headerOf big s ≡ headerIn big 4 s n
       unfolding headerOf
-      length-over h k =
-          pick-no _ _ _ (no-eqb {a = length s} {b = 0} some) ∙ present-at _ n c _ e
-          ∙ pick-no _ _ _ (no-leb {a = 0xfffffff0} {b = n} h)
-          ∙ pick-no _ _ _ (no-leb {a = n} {b = length s - 4} k)
+      short h =
+          pick-no _ _ _ (no-eqb {a = length s} {b = 0} some) ∙ present-at _ n c _ e ∙ pick-no _ _ _ (no-leb {a = 0xfffffff0} {b = n} h)
 
-      pub length-there : n < 0xfffffff0 → n ≤ length s - 4 → headerOf s ≡ headerFields (take (4 + n) s)
-      unfolding headerOf
-      length-there h k =
-          pick-no _ _ _ (no-eqb {a = length s} {b = 0} some) ∙ present-at _ n c _ e
-          ∙ pick-no _ _ _ (no-leb {a = 0xfffffff0} {b = n} h)
-          ∙ pick-yes _ _ _ (yes-leb {a = n} {b = length s - 4} k)
+      pub length-over : n < 0xfffffff0 → length s - 4 < n → headerOf big s ≡ Refused 1
+      length-over h k = short h ∙ over n k
+
+      pub length-there : n < 0xfffffff0 → n ≤ length s - 4 → headerOf big s ≡ headerFields big 4 (take (4 + n) s)
+      length-there h k = short h ∙ there n k

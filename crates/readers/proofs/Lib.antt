@@ -5,6 +5,7 @@ pub mod Lebs
 pub mod Tokens
 pub mod Steps
 pub mod Headers
+pub mod HeaderLaws
 pub mod ListStarts
 pub mod Specs
 pub mod SlotOrders

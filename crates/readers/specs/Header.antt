@@ -1,7 +1,9 @@
 -- The header of the first unit of a section (DWARF 5, 7.5.1.1 and 7.5.1.2; document 01, "Readers" and the order of
 -- refusals 1 and 2).
 use Prim.Native.Nat.{ℕ, _+_, _-_}
-use mathlib.Core.Bool.{Bool, false}
+use mathlib.Core.Path.{_≡_}
+use mathlib.Core.Logic.{_⊎_}
+use mathlib.Core.Bool.{Bool}
 use mathlib.Core.List.{List}
 use lib.ListN.{length, take}
 use lib.Dec.{leb, eqb}
@@ -11,6 +13,7 @@ use Rattle.readers.specs.Cursors.{fixedAt}
 use Rattle.readers.specs.declared.cursor.Encoding.{Encoding}
 use Rattle.readers.specs.declared.cursor.Number.{Number}
 use Rattle.readers.specs.declared.cursor.Number.the-variants.{Value, Unreadable}
+use Rattle.readers.specs.declared.header.UnitHeader.{UnitHeader}
 use Rattle.readers.specs.declared.header.HeaderRead.{HeaderRead}
 use Rattle.readers.specs.declared.header.HeaderRead.the-variants.{Unit as Unit′, Empty, Refused}
 
@@ -23,38 +26,66 @@ present Unreadable k = Refused 1
 unfoldable pub right : Bool → HeaderRead → HeaderRead
 right b h = pick b h (Refused 2)
 
--- the 32-bit format of version 5, little-endian
-unfoldable pub encodingOf : ℕ → Encoding
-encodingOf addressSize = record { version = 5; «offset_size» = 4; «address_size» = addressSize; «big_endian» = false }
+-- unit_length (7.4), by the size of an offset: 4 bytes, or in the 64-bit format 0xffffffff and eight more
+unfoldable pub lengthBytes : ℕ → ℕ
+lengthBytes w = pick (eqb w 8) 12 4
 
-unfoldable pub headerMade : List ℕ → ℕ → ℕ → ℕ → ℕ → HeaderRead
-headerMade u unitType addressSize abbreviations first =
+abbrev pub lengthSize : Encoding → ℕ
+lengthSize e = lengthBytes (e .«offset_size»)
+
+-- byte order, version, size of an offset, size of an address
+unfoldable pub encodingOf : Bool → ℕ → ℕ → ℕ → Encoding
+encodingOf big version w addressSize =
+    record { version = version; «offset_size» = w; «address_size» = addressSize; «big_endian» = big }
+
+unfoldable pub headerMade : Encoding → List ℕ → ℕ → ℕ → ℕ → HeaderRead
+headerMade e u unitType abbreviations first =
     Unit′ (record {
-      encoding = encodingOf addressSize;
+      encoding = e;
       «unit_type» = unitType;
       abbreviations = abbreviations;
       first = record { 0 = first };
       end = length u;
     })
 
--- version (2 bytes), unit_type (1), address_size (1): 4 or 8, debug_abbrev_offset (4), and for DW_UT_split_compile
--- dwo_id (8)
-unfoldable pub headerFields : List ℕ → HeaderRead
-headerFields u =
-    present (fixedAt false 2 u 4) (λ version. right (eqb version 5)
-    (present (fixedAt false 1 u 6) (λ unitType.
-    right (eqb unitType «DW_UT_compile» or eqb unitType «DW_UT_split_compile»)
-    (present (fixedAt false 1 u 7) (λ addressSize. right (eqb addressSize 4 or eqb addressSize 8)
-    (present (fixedAt false 4 u 8) (λ abbreviations.
-    pick (eqb unitType «DW_UT_compile»)
-    (headerMade u unitType addressSize abbreviations 12)
-    (present (fixedAt false 8 u 12) (λ _. headerMade u unitType addressSize abbreviations 20)))))))))
+-- in either byte order, with offsets of w bytes
+module _ (big : Bool) (w : ℕ) where
+  -- after unit_length: version (2 bytes), unit_type (1), address_size (1): 4 or 8, debug_abbrev_offset (w), and for
+  -- DW_UT_split_compile dwo_id (8)
+  unfoldable pub headerFields : List ℕ → HeaderRead
+  headerFields u =
+      let at = lengthBytes w in
+      present (fixedAt big 2 u at) (λ version. right (eqb version 5)
+      (present (fixedAt big 1 u (at + 2)) (λ unitType.
+      right (eqb unitType «DW_UT_compile» or eqb unitType «DW_UT_split_compile»)
+      (present (fixedAt big 1 u (at + 3)) (λ addressSize. right (eqb addressSize 4 or eqb addressSize 8)
+      (present (fixedAt big w u (at + 4)) (λ abbreviations.
+      pick (eqb unitType «DW_UT_compile»)
+      (headerMade (encodingOf big 5 w addressSize) u unitType abbreviations (at + 4 + w))
+      (present (fixedAt big 8 u (at + 4 + w)) (λ _.
+      headerMade (encodingOf big 5 w addressSize) u unitType abbreviations (at + 4 + w + 8))))))))))
 
--- unit_length (4): 0xfffffff0 and above is no length of the 32-bit format (7.4); the unit is what it covers, and must
--- be there
-unfoldable pub headerOf : List ℕ → HeaderRead
-headerOf s =
+  -- the unit is the n bytes after unit_length, and must be there
+  unfoldable pub headerIn : List ℕ → ℕ → HeaderRead
+  headerIn s n = pick (leb n (length s - lengthBytes w)) (headerFields (take (lengthBytes w + n) s)) (Refused 1)
+
+-- unit_length (4): 0xfffffff0 and above is no length of the 32-bit format (7.4). The byte order is told (document 02,
+-- Point 12: "told by an argument .. and not guessed").
+unfoldable pub headerOf : Bool → List ℕ → HeaderRead
+headerOf big s =
     pick (eqb (length s) 0) Empty
-    (present (fixedAt false 4 s 0) (λ n.
-    pick (leb 0xfffffff0 n) (Refused 2)
-    (pick (leb n (length s - 4)) (headerFields (take (4 + n) s)) (Refused 1))))
+    (present (fixedAt big 4 s 0) (λ n. pick (leb 0xfffffff0 n) (Refused 2) (headerIn big 4 s n)))
+
+-- the same header of a unit of another length
+abbrev pub withEnd : UnitHeader → ℕ → UnitHeader
+withEnd h n =
+    record { encoding = h .encoding; «unit_type» = h .«unit_type»; abbreviations = h .abbreviations; first = h .first; end = n }
+
+-- ---- the units that are read
+
+-- document 01, "Readers", and document 02, Point 12: the byte order is the one that was told
+pub record Known (big : Bool) (e : Encoding) : Type 0 where
+  pub version-is : e .version ≡ 5
+  pub offset-is : e .«offset_size» ≡ 4
+  pub address-is : (e .«address_size» ≡ 4) ⊎ (e .«address_size» ≡ 8)
+  pub order-is : e .«big_endian» ≡ big

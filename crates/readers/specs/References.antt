@@ -147,9 +147,10 @@ walkAnswer room Unreadable = Refused (refusalOfWalk Unreadable)
 walkAnswer room (Walked n true) = Refused (refusalOfWalk (Walked n true))
 walkAnswer room (Walked n false) = pick (leb n room) (Count n) (Refused 11)
 
-unfoldable pub referencesAnswer : ℕ → ℕ → List ℕ → References
-referencesAnswer n numbers s =
-    pick (eqb n 4 or eqb n 8) (walkAnswer (numbers / 3) (walkOf (encodingOf n) s)) (Refused 2)
+-- by the address size, the byte order, and how many numbers the table has
+unfoldable pub referencesAnswer : ℕ → Bool → ℕ → List ℕ → References
+referencesAnswer a big numbers s =
+    pick (eqb a 4 or eqb a 8) (walkAnswer (numbers / 3) (walkOf (encodingOf big 5 4 a) s)) (Refused 2)
 
 -- three numbers each: the place, the offset, the width in bytes
 unfoldable pub numbersOf : List Named → List ℕ
@@ -169,5 +170,6 @@ unfoldable pub answerTable : ℕ → References → List Named → List ℕ
 answerTable numbers (Count n) rs = numbersOf rs ++ zeros (numbers - 3 * n)
 answerTable numbers (Refused k) rs = zeros numbers
 
-unfoldable pub referencesTable : ℕ → ℕ → List ℕ → List ℕ
-referencesTable n numbers s = answerTable numbers (referencesAnswer n numbers s) (referencesIn (encodingOf n) s)
+unfoldable pub referencesTable : ℕ → Bool → ℕ → List ℕ → List ℕ
+referencesTable a big numbers s =
+    answerTable numbers (referencesAnswer a big numbers s) (referencesIn (encodingOf big 5 4 a) s)

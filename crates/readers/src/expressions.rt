@@ -219,12 +219,18 @@ impl Cursor {
 }
 
 // The references of an expression, in walk order: three numbers each, where its operand stands, the offset that it
-// names, and the operand's width. Refused with 2 for an address size other than 4 and 8, 5 for an unreadable
-// expression, 7 for an offset in the section, 11 for a table that is too short.
-pub fn references_of_expression(s: &[u8], address_size: u8, table: &mut [u64]) -> References
-    ensures answer { λ r. ⌜ r ≡ referencesAnswer «address_size» (length (now (table .entry))) (now (s .entry)) ⌝ }
+// names, and the operand's width. The byte order is that of the expression's unit. Refused with 2 for an address size
+// other than 4 and 8, 5 for an unreadable expression, 7 for an offset in the section, 11 for a table that is too short.
+pub fn references_of_expression(
+    s: &[u8],
+    address_size: u8,
+    big_endian: bool,
+    table: &mut [u64],
+) -> References
+    ensures answer { λ r. ⌜ r
+        ≡ referencesAnswer «address_size» «big_endian» (length (now (table .entry))) (now (s .entry)) ⌝ }
     ensures filled { λ r. ⌜ now (table .exit)
-        ≡ referencesTable «address_size» (length (now (table .entry))) (now (s .entry)) ⌝ }
+        ≡ referencesTable «address_size» «big_endian» (length (now (table .entry))) (now (s .entry)) ⌝ }
 {
     clear(table);
     if address_size != 4 {
@@ -236,7 +242,7 @@ pub fn references_of_expression(s: &[u8], address_size: u8, table: &mut [u64]) -
         version: 5,
         offset_size: 4,
         address_size,
-        big_endian: false,
+        big_endian,
     };
     let Walk::Walked {
         references,

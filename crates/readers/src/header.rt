@@ -1,7 +1,8 @@
-// The header of a unit (DWARF 5, 7.5.1), within the domain: version 5, 32-bit format, little-endian.
+// The header of a unit (DWARF 5, 7.5.1), within the domain: version 5, 32-bit format, either byte
+// order.
 ghost use mathlib.Core.Path.{_≡_};
 ghost use lib.ListN.{take};
-ghost use Rattle.readers.specs.Header.{headerOf, headerFields};
+ghost use Rattle.readers.specs.Header.{lengthBytes, headerFields, headerOf};
 use crate::codes::DW_UT_compile;
 use crate::codes::DW_UT_split_compile;
 use crate::cursor::Cursor;
@@ -28,72 +29,85 @@ pub enum HeaderRead {
     Refused(u8),
 }
 
-// The fields after the length, of a unit that ends where its length says.
-fn header_fields(unit: &[u8]) -> HeaderRead
-    ensures { λ r. ⌜ r ≡ headerFields (now (unit .entry)) ⌝ }
+// How many bytes the length field takes, by the size of an offset.
+pub fn length_bytes(offset_size: u8) -> usize
+    ensures { λ r. ⌜ r ≡ lengthBytes «offset_size» ⌝ }
 {
-    let Number::Value(version, _) = (Cursor { at: 4 }).fixed(unit, 2, false) else {
+    if offset_size == 8 { 12 } else { 4 }
+}
+
+// The fields after the length, of a unit that ends where its length says.
+fn header_fields(unit: &[u8], offset_size: u8, big_endian: bool) -> HeaderRead
+    ensures { λ r. ⌜ r ≡ headerFields «big_endian» «offset_size» (now (unit .entry)) ⌝ }
+{
+    let from = length_bytes(offset_size);
+    let Number::Value(version, _) = (Cursor { at: from }).fixed(unit, 2, big_endian) else {
         return HeaderRead::Refused(1);
     };
     if version != 5 {
         return HeaderRead::Refused(2);
     }
-    if unit.len() <= 6 {
+    let type_at = from + 2;
+    if unit.len() <= type_at {
         return HeaderRead::Refused(1);
     }
-    let unit_type = unit[6];
+    let unit_type = unit[type_at];
     if unit_type != DW_UT_compile {
         if unit_type != DW_UT_split_compile {
             return HeaderRead::Refused(2);
         }
     }
-    if unit.len() <= 7 {
+    let size_at = from + 3;
+    if unit.len() <= size_at {
         return HeaderRead::Refused(1);
     }
-    let address_size = unit[7];
+    let address_size = unit[size_at];
     if address_size != 4 {
         if address_size != 8 {
             return HeaderRead::Refused(2);
         }
     }
-    let Number::Value(abbreviations, _) = (Cursor { at: 8 }).fixed(unit, 4, false) else {
+    let width = offset_size as usize;
+    let Number::Value(abbreviations, _) = (Cursor { at: from + 4 }).fixed(unit, width, big_endian)
+    else {
         return HeaderRead::Refused(1);
     };
     let encoding = Encoding {
         version: 5,
-        offset_size: 4,
+        offset_size,
         address_size,
-        big_endian: false,
+        big_endian,
     };
+    let first = from + 4 + width;
     if unit_type == DW_UT_compile {
         return HeaderRead::Unit(UnitHeader {
             encoding,
             unit_type,
             abbreviations,
-            first: UnitOffset(12),
+            first: UnitOffset(first as u64),
             end: unit.len(),
         });
     }
-    if unit.len() < 20 {
+    if unit.len() < first + 8 {
         return HeaderRead::Refused(1);
     }
     HeaderRead::Unit(UnitHeader {
         encoding,
         unit_type,
         abbreviations,
-        first: UnitOffset(20),
+        first: UnitOffset((first + 8) as u64),
         end: unit.len(),
     })
 }
 
-// The header of the first unit of a section.
-pub fn unit_header(section: &[u8]) -> HeaderRead
-    ensures { λ r. ⌜ r ≡ headerOf (now (section .entry)) ⌝ }
+// The header of the first unit of a section, by the byte order that it is told.
+pub fn unit_header(section: &[u8], big_endian: bool) -> HeaderRead
+    ensures { λ r. ⌜ r ≡ headerOf «big_endian» (now (section .entry)) ⌝ }
 {
     if section.len() == 0 {
         return HeaderRead::Empty;
     }
-    let Number::Value(length, _) = (Cursor { at: 0 }).fixed(section, 4, false) else {
+    let Number::Value(length, _) = (Cursor { at: 0 }).fixed(section, 4, big_endian) else {
         return HeaderRead::Refused(1);
     };
     if length >= 0xffff_fff0 {
@@ -103,7 +117,7 @@ pub fn unit_header(section: &[u8]) -> HeaderRead
         return HeaderRead::Refused(1);
     }
     let end = 4 + (length as usize);
-    header_fields(&section[..end])
+    header_fields(&section[..end], 4, big_endian)
 }
 
 // The part of a section that a unit is: nothing of the unit is read past it.

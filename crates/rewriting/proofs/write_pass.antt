@@ -5,7 +5,6 @@ pub mod EntryEmits
 pub mod Expressions
 pub mod FormKinds
 pub mod HeaderEmits
-pub mod HeaderAgain
 pub mod ItemEmits
 pub mod Putting
 pub mod Splices

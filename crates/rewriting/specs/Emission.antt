@@ -1,12 +1,14 @@
 -- What emission writes: bytes at the start of the part of the output that begins at the next free byte, or nothing that
 -- counts and the number of a refusal.
 use Prim.Native.Nat.{ℕ, _-_, _^_}
-use mathlib.Core.Bool.{Bool, false}
+use mathlib.Core.Bool.{Bool}
 use mathlib.Core.List.{List, _++_}
 use lib.ListN.{length, take, drop}
 use lib.Dec.{ltb, leb}
 use Rattle.readers.specs.Choice.{pick, _and_}
+use Rattle.readers.specs.Header.{lengthSize}
 use Rattle.readers.specs.Numbers.{fixedBytes}
+use Rattle.readers.specs.declared.cursor.Encoding.{Encoding}
 
 -- the bytes of a slice from one place to another
 unfoldable pub between : List ℕ → ℕ → ℕ → List ℕ
@@ -16,19 +18,30 @@ between s from to = take (to - from) (drop from s)
 unfoldable pub copiedCount : List ℕ → List ℕ → ℕ
 copiedCount bytes out = pick (leb (length bytes) (length out)) (length bytes) 0
 
--- ---- the header: the new length, then as it was
+-- ---- the header of a unit of so many bytes: as it was, but for the length
 
-unfoldable pub headerBytes : List ℕ → ℕ → ℕ → List ℕ
-headerBytes unit first bytes = fixedBytes false 4 (bytes - 4) ++ drop 4 (take first unit)
+module _ (e : Encoding) (unit : List ℕ) (first bytes : ℕ) where
+  -- the bytes of an offset, and of the length field
+  abbrev w : ℕ
+  w = e .«offset_size»
 
--- whether it is in the unit, has room and its length is a number of four bytes
-unfoldable pub headerFits : List ℕ → ℕ → ℕ → List ℕ → Bool
-headerFits unit first bytes out =
-    leb 4 first and leb first (length unit) and leb first (length out) and leb 4 bytes and ltb (bytes - 4) (2 ^ 32)
+  abbrev l : ℕ
+  l = lengthSize e
 
--- how many bytes are written, and the part then
-unfoldable pub headerCount : List ℕ → ℕ → ℕ → List ℕ → ℕ
-headerCount unit first bytes out = pick (headerFits unit first bytes out) first 0
+  -- "The length field is the new size less 4.": less what the length field takes. What stands before its number stays:
+  -- nothing in the 32-bit format, 0xffffffff in the 64-bit one (7.4).
+  unfoldable pub headerBytes : List ℕ
+  headerBytes = take (l - w) unit ++ fixedBytes (e .«big_endian») w (bytes - l) ++ drop l (take first unit)
 
-unfoldable pub headerOver : List ℕ → ℕ → ℕ → List ℕ → List ℕ
-headerOver unit first bytes out = pick (headerFits unit first bytes out) (headerBytes unit first bytes ++ drop first out) out
+  -- whether it is in the unit and has room, and its length is a number of so many bytes, no wider than the field
+  unfoldable pub headerFits : List ℕ → Bool
+  headerFits out =
+      leb l first and leb first (length unit) and leb first (length out) and leb l bytes and leb w l
+      and ltb (bytes - l) (256 ^ w)
+
+  -- how many bytes are written, and the part then
+  unfoldable pub headerCount : List ℕ → ℕ
+  headerCount out = pick (headerFits out) first 0
+
+  unfoldable pub headerOver : List ℕ → List ℕ
+  headerOver out = pick (headerFits out) (headerBytes ++ drop first out) out

@@ -1,5 +1,5 @@
 -- What collect answers (document 01, "collect" and "Rewriting").
-use Prim.Native.Nat.{ℕ, _+_, _-_}
+use Prim.Native.Nat.{ℕ, _+_}
 use mathlib.Core.Bool.{Bool, true, false}
 use mathlib.Core.List.{List, [], _∷_, _++_}
 use mathlib.Core.Option.{Option, none, some}
@@ -7,7 +7,6 @@ use lib.ListN.{length, take, drop}
 use lib.Dec.{leb, eqb}
 use Rattle.readers.specs.Choice.{pick, _and_, _or_}
 use Rattle.readers.specs.Codes.{«DW_AT_location», «DW_AT_ranges»}
-use Rattle.readers.specs.Numbers.{fixedBytes}
 use Rattle.readers.specs.Layout.{Role, reference, typeReference, sibling, index, absolute, fits}
 use Rattle.readers.specs.Layout.{Piece, verbatim, patchable, Read, RunOf, Patch, patchAll, readIn, writeAll}
 use Rattle.readers.specs.Expression.{expressionIn}
@@ -26,6 +25,7 @@ use Rattle.rewriting.specs.declared.map.Mapped.the-variants.{Nothing}
 use Rattle.rewriting.specs.declared.collect.Listed.the-variants.{Short}
 use Rattle.rewriting.specs.Refusals.{refusalOfMapped, refusalOfListed}
 use Rattle.rewriting.specs.Places.{NestedItem, keptFrom, offsetOf, Place, placesFrom, sizeFrom, newOf, siblingOf}
+use Rattle.rewriting.specs.Emission.{headerBytes}
 use Rattle.rewriting.specs.Indices.{insertAll, readIndices, declares, rankOr, countOf}
 
 -- ---- a unit: how it is read
@@ -153,11 +153,10 @@ module _ (x : Sections) (u : Unit) (lists : Lists) (map : List Place) where
       writeAll (u .header .encoding .«big_endian») (patchAll (newValue lists map (s .depth)) (readsAt x u (offsetOf (s .item))))
       ++ bytesFrom rest
 
-  -- "The length field is the new size less 4."
+  -- the header, with the length of the new unit, and the items
   unfoldable pub unitBytes : List NestedItem → List ℕ
   unitBytes kept =
-      fixedBytes (u .header .encoding .«big_endian») 4 (u .header .first .0 + sizeFrom kept - 4)
-      ++ drop 4 (take (u .header .first .0) (u .bytes)) ++ bytesFrom kept
+      headerBytes (u .header .encoding) (u .bytes) (u .header .first .0) (u .header .first .0 + sizeFrom kept) ++ bytesFrom kept
 
 -- ---- the answer
 
@@ -238,8 +237,4 @@ module _ (x : Sections) (room : Room) where
 
   -- THE answer of collect
   unfoldable pub collectOf : Bool → List ℕ → Collected
-  collectOf typeUnits section = headerCollected typeUnits section (headerOf section)
-
--- the same header of a unit of another length
-abbrev pub withEnd : UnitHeader → ℕ → UnitHeader
-withEnd h n = record { encoding = h .encoding; «unit_type» = h .«unit_type»; abbreviations = h .abbreviations; first = h .first; end = n }
+  collectOf typeUnits section = headerCollected typeUnits section (headerOf (x .setting .«big_endian») section)

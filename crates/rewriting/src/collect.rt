@@ -24,6 +24,7 @@ use crate::lists::ListCount;
 use crate::offset_pass::place_items;
 use crate::siblings::fill_bounds;
 use marking::analysis::clear_columns;
+use marking::setting::Setting;
 use marking::units::UnitMarking;
 use marking::units::UnitMarks;
 use marking::units::mark_unit;
@@ -287,7 +288,7 @@ fn write_unit(
         return Collected::Refused(14);
     }
     fill_bounds(map, size.places, work);
-    let at = emit_header(unit, first, size.bytes, out);
+    let at = emit_header(unit, first, size.bytes, r.encoding, out);
     match emit_dies(
         unit,
         abbreviations,
@@ -534,7 +535,7 @@ fn collect_unit(
     locations: &[u8],
     ranges: &[u8],
     addresses: &[u8],
-    ranges_base: u64,
+    setting: Setting,
     type_units: bool,
     index: &mut [u64],
     offsets: &mut [u64],
@@ -553,7 +554,7 @@ fn collect_unit(
 ) -> Collected
     ensures { λ r. ⌜ (
         let x = sections (now (abbreviations .entry)) (now (locations .entry)) (now (ranges .entry))
-        (now (addresses .entry)) «ranges_base» in
+        (now (addresses .entry)) setting in
         let room = roomOf (length (now (marks .entry))) (length (now (pairs .entry))) (length (now (offsets .entry)))
         (length (now (parents .entry))) (length (now (roots .entry))) (length (now (ends .entry)))
         (length (now (targets .entry))) (length (now (map .entry))) (length (now («range_list» .entry)))
@@ -571,7 +572,7 @@ fn collect_unit(
         locations,
         ranges,
         addresses,
-        ranges_base,
+        setting,
         index,
         offsets,
         parents,
@@ -613,7 +614,7 @@ pub fn collect(
     locations: &[u8],
     ranges: &[u8],
     addresses: &[u8],
-    ranges_base: u64,
+    setting: Setting,
     type_units: bool,
     index: &mut [u64],
     offsets: &mut [u64],
@@ -632,7 +633,7 @@ pub fn collect(
 ) -> Collected
     ensures { λ r. ⌜ (
         let x = sections (now (abbreviations .entry)) (now (locations .entry)) (now (ranges .entry))
-        (now (addresses .entry)) «ranges_base» in
+        (now (addresses .entry)) setting in
         let room = roomOf (length (now (marks .entry))) (length (now (pairs .entry))) (length (now (offsets .entry)))
         (length (now (parents .entry))) (length (now (roots .entry))) (length (now (ends .entry)))
         (length (now (targets .entry))) (length (now (map .entry))) (length (now («range_list» .entry)))
@@ -661,7 +662,7 @@ pub fn collect(
         locations,
         ranges,
         addresses,
-        ranges_base,
+        setting,
         type_units,
         index,
         offsets,

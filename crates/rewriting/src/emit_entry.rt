@@ -3,7 +3,6 @@
 ghost use mathlib.Core.Path.{_≡_};
 ghost use mathlib.Core.List.{List};
 ghost use mathlib.Core.Option.{Option, some};
-ghost use mathlib.Core.Bool.{false};
 ghost use Prim.Native.Nat.{ℕ, _+_, _-_, _^_, _≤_, _<_};
 ghost use lib.ListN.{length, drop};
 ghost use Rattle.readers.specs.Layout.{Read, Piece, readIn, writeAll, patchAll, bytesOf, patchPieces, numberBytes};
@@ -95,31 +94,31 @@ fn after(done: usize, rest: Emitted) -> Emitted
 }
 
 // A number in so many bytes: 9 where it does not fit.
-fn emit_number(value: u64, width: usize, leb: bool, out: &mut [u8]) -> Emitted
+fn emit_number(value: u64, width: usize, leb: bool, big_endian: bool, out: &mut [u8]) -> Emitted
     ensures within { λ r. ⌜ Within (now (out .entry)) r (now (out .exit)) ⌝ }
     ensures bytes { λ r. ⌜
         (Wide leb width
         → let e = encodedBy leb width in
-        Emits (numberRefusal e value) (numberBytes false e value) (now (out .entry)) r (now (out .exit)))
+        Emits (numberRefusal e value) (numberBytes «big_endian» e value) (now (out .entry)) r (now (out .exit)))
         ⌝ }
 {
-    if put_number(value, width, leb, out) {
+    if put_number(value, width, leb, big_endian, out) {
         return Emitted::To(width);
     }
     Emitted::Refused(9)
 }
 
 // The new offset in the old one's place: 8 where it has none (gc.rs: `write_ref_value`).
-fn emit_offset(new: Mapped, width: usize, leb: bool, out: &mut [u8]) -> Emitted
+fn emit_offset(new: Mapped, width: usize, leb: bool, big_endian: bool, out: &mut [u8]) -> Emitted
     ensures within { λ r. ⌜ Within (now (out .entry)) r (now (out .exit)) ⌝ }
     ensures bytes { λ r. ⌜
         ((o : Option ℕ) (v : ℕ) → new ≡ asMapped o → Wide leb width
         → let e = encodedBy leb width in
-        Emits (offsetRefusal e v o) (numberBytes false e (orSelf v o)) (now (out .entry)) r (now (out .exit)))
+        Emits (offsetRefusal e v o) (numberBytes «big_endian» e (orSelf v o)) (now (out .entry)) r (now (out .exit)))
         ⌝ }
 {
     match new {
-        Mapped::To(value) => emit_number(value.0, width, leb, out),
+        Mapped::To(value) => emit_number(value.0, width, leb, big_endian, out),
         Mapped::Nothing => Emitted::Refused(8),
     }
 }
@@ -129,9 +128,9 @@ fn emit_expression(s: &[u8], e: Encoding, map: &[u8], places: usize, out: &mut [
     ensures within { λ r. ⌜ Within (now (out .entry)) r (now (out .exit)) ⌝ }
     ensures bytes { λ r. ⌜
         ((lists : Lists) (ps : List Place) (depth : ℕ) (pieces : List Piece)
-        → e .«big_endian» ≡ false → MapHeld ps (now (map .entry)) → places ≡ length ps
-        → expressionIn e (now (s .entry)) ≡ some pieces
-        → Emits (piecesRefusal lists ps depth pieces) (bytesOf false (patchPieces (newValue lists ps depth) pieces))
+        → MapHeld ps (now (map .entry)) → places ≡ length ps → expressionIn e (now (s .entry)) ≡ some pieces
+        → Emits (piecesRefusal lists ps depth pieces)
+        (bytesOf (e .«big_endian») (patchPieces (newValue lists ps depth) pieces))
         (now (out .entry)) r (now (out .exit)))
         ⌝ }
 {
@@ -152,6 +151,7 @@ fn emit_expression(s: &[u8], e: Encoding, map: &[u8], places: usize, out: &mut [
             new_offset(map, places, target),
             r.width,
             r.leb,
+            e.big_endian,
             &mut out[to..],
         ) {
             Emitted::To(n) => {
@@ -222,15 +222,15 @@ fn emit_attribute(
     ensures within { λ r. ⌜ Within (now (out .entry)) r (now (out .exit)) ⌝ }
     ensures bytes { λ r. ⌜
         ((lists : Lists) (ps : List Place) (rs : List Read) (rest : List ℕ)
-        → e .«big_endian» ≡ false
         → MapHeld ps (now (map .entry)) → places ≡ length ps → Bounds ps (now (bounds .entry))
         → ListsLent lists (now (ranges .entry)) «ranges_count» (now (locations .entry)) «locations_count»
         (now (strings .entry)) «strings_count»
         → values .at ≤ length (now (unit .entry))
         → attributeAt e (now (unit .entry)) (values .at) (a .name) (a .declared) ≡ Attribute′ (a .value)
-        → readIn false (expressionIn e) (attributeLayout e (a .name) (a .declared))
+        → readIn (e .«big_endian») (expressionIn e) (attributeLayout e (a .name) (a .declared))
         (drop (values .at) (now (unit .entry))) ≡ some (rs, rest)
-        → Emits (readsRefusal lists ps depth rs) (writeAll false (patchAll (newValue lists ps depth) rs))
+        → Emits (readsRefusal lists ps depth rs)
+        (writeAll (e .«big_endian») (patchAll (newValue lists ps depth) rs))
         (now (out .entry)) r (now (out .exit)))
         ⌝ }
 {
@@ -254,6 +254,7 @@ fn emit_attribute(
                         sibling_offset(map, places, bounds, UnitOffset(field.value), depth),
                         width(field),
                         leb,
+                        e.big_endian,
                         &mut out[to..],
                     ),
                 );
@@ -264,6 +265,7 @@ fn emit_attribute(
                     new_offset(map, places, UnitOffset(field.value)),
                     width(field),
                     leb,
+                    e.big_endian,
                     &mut out[to..],
                 ),
             );
@@ -277,6 +279,7 @@ fn emit_attribute(
                 new_index(ranges, ranges_count, field.value),
                 width(field),
                 leb,
+                e.big_endian,
                 &mut out[to..],
             ),
         );
@@ -288,6 +291,7 @@ fn emit_attribute(
                 new_index(locations, locations_count, field.value),
                 width(field),
                 leb,
+                e.big_endian,
                 &mut out[to..],
             ),
         );
@@ -299,6 +303,7 @@ fn emit_attribute(
                 new_index(strings, strings_count, field.value),
                 width(field),
                 leb,
+                e.big_endian,
                 &mut out[to..],
             ),
         );
@@ -330,15 +335,15 @@ pub(crate) fn emit_entry(
     ensures within { λ r. ⌜ Within (now (out .entry)) r (now (out .exit)) ⌝ }
     ensures bytes { λ r. ⌜
         ((lists : Lists) (ps : List Place) (look : ℕ → DeclarationFound) (x : Entry) (rs : List Read) (rest : List ℕ)
-        → e .«big_endian» ≡ false
         → MapHeld ps (now (map .entry)) → places ≡ length ps → Bounds ps (now (bounds .entry))
         → ListsLent lists (now (ranges .entry)) «ranges_count» (now (locations .entry)) «locations_count»
         (now (strings .entry)) «strings_count»
         → stepAt e (now (abbreviations .entry)) look (now (unit .entry)) (start .0) ≡ Entry′ x
         → specs ≡ x .declaration .attributes → values ≡ x .values
-        → readIn false (expressionIn e) (entryLayout e (now (abbreviations .entry)) look)
+        → readIn (e .«big_endian») (expressionIn e) (entryLayout e (now (abbreviations .entry)) look)
         (drop (start .0) (now (unit .entry))) ≡ some (rs, rest)
-        → Emits (readsRefusal lists ps depth rs) (writeAll false (patchAll (newValue lists ps depth) rs))
+        → Emits (readsRefusal lists ps depth rs)
+        (writeAll (e .«big_endian») (patchAll (newValue lists ps depth) rs))
         (now (out .entry)) r (now (out .exit)))
         ⌝ }
 {

@@ -1,7 +1,6 @@
 // The pass that writes a unit anew: its header with the new length, then the kept entries and terminators (gc.rs:
 // `emit_dies`).
 ghost use mathlib.Core.Path.{_≡_};
-ghost use mathlib.Core.Bool.{false};
 ghost use mathlib.Core.List.{List, []};
 ghost use lib.ListN.{length};
 ghost use Rattle.marking.specs.Analysis.{Sections};
@@ -21,10 +20,13 @@ use crate::kept_items::PassPosition;
 use crate::kept_items::Reading;
 use crate::kept_items::next_kept;
 use crate::lists::ListCount;
+use crate::numbers::bytes_fit;
 use crate::numbers::put_bytes;
-use crate::numbers::put_number;
+use crate::numbers::put_fixed;
 use readers::cursor::Cursor;
+use readers::cursor::Encoding;
 use readers::entries::Nesting;
+use readers::header::length_bytes;
 use readers::offsets::EntryIndex;
 use readers::offsets::UnitOffset;
 
@@ -54,7 +56,7 @@ pub(crate) fn emit_dies(
         ((x : Sections) (u : Unit′) (lists : Lists) (ps : List Place)
         → PassInput x u r (now (abbreviations .entry)) (now (index .entry)) (now (unit .entry)) (now (parents .entry))
         (now (ends .entry)) (now (marks .entry)) (first .0)
-        → first .0 ≡ u .header .first .0 → r .encoding .«big_endian» ≡ false
+        → first .0 ≡ u .header .first .0
         → MapHeld ps (now (map .entry)) → places ≡ length ps → Bounds ps (now (bounds .entry))
         → ListsLent lists (now (ranges .entry)) «ranges_count» (now (locations .entry)) «locations_count»
         (now (strings .entry)) «strings_count»
@@ -117,14 +119,22 @@ pub(crate) fn emit_dies(
     }
 }
 
-// The header: the new length, then as it was (gc.rs: the end of `rewrite_unit`). How many bytes; 0, and nothing is written,
-// where it has no room or its length is no number of four bytes.
-pub fn emit_header(unit: &[u8], first: UnitOffset, bytes: usize, out: &mut [u8]) -> usize
-    ensures count { λ r. ⌜ r ≡ headerCount (now (unit .entry)) (first .0) bytes (now (out .entry)) ⌝ }
-    ensures part { λ _. ⌜ now (out .exit) ≡ headerOver (now (unit .entry)) (first .0) bytes (now (out .entry)) ⌝ }
+// The header: as it was, but for the new length (gc.rs: the end of `rewrite_unit`). How many bytes; 0, and nothing is
+// written, where it has no room or its length is no number of so many bytes.
+pub fn emit_header(
+    unit: &[u8],
+    first: UnitOffset,
+    bytes: usize,
+    e: Encoding,
+    out: &mut [u8],
+) -> usize
+    ensures count { λ r. ⌜ r ≡ headerCount e (now (unit .entry)) (first .0) bytes (now (out .entry)) ⌝ }
+    ensures part { λ _. ⌜ now (out .exit) ≡ headerOver e (now (unit .entry)) (first .0) bytes (now (out .entry)) ⌝ }
 {
     let at = first.0 as usize;
-    if at < 4 {
+    let width = e.offset_size as usize;
+    let length = length_bytes(e.offset_size);
+    if at < length {
         return 0;
     }
     if at > unit.len() {
@@ -133,14 +143,15 @@ pub fn emit_header(unit: &[u8], first: UnitOffset, bytes: usize, out: &mut [u8])
     if at > out.len() {
         return 0;
     }
-    if bytes < 4 {
+    if bytes < length {
         return 0;
     }
-    let size = (bytes - 4) as u64;
-    if size >= 0x100000000 {
+    let size = (bytes - length) as u64;
+    if !bytes_fit(size, width, length) {
         return 0;
     }
     put_bytes(&unit[..at], out);
-    put_number(size, 4, false, out);
+    let place = length - width;
+    put_fixed(size, width, e.big_endian, &mut out[place..]);
     at
 }

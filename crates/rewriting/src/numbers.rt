@@ -1,8 +1,9 @@
 // Numbers written into a part of the output.
 ghost use mathlib.Core.Path.{_≡_};
-ghost use Prim.Native.Nat.{_-_, _^_, _<_};
+ghost use Prim.Native.Nat.{_-_, _^_, _≤_, _<_};
 ghost use mathlib.Core.Bool.{true, false};
-ghost use lib.ListN.{length};
+ghost use mathlib.Core.List.{_++_};
+ghost use lib.ListN.{length, drop};
 ghost use lib.Dec.{ltb};
 ghost use Rattle.readers.specs.Numbers.{padded, fixedBytes};
 ghost use Rattle.readers.specs.Layout.{numberBytes};
@@ -73,22 +74,24 @@ fn put_groups(value: u64, width: usize, out: &mut [u8]) -> bool
     true
 }
 
-// A little-endian number in so many bytes, at most eight: whether it fits.
-fn put_fixed(value: u64, width: usize, out: &mut [u8]) -> bool
-    ensures { λ r. ⌜
-        Put (bytesFit value width (length (now (out .entry)))) (fixedBytes false width value) width
-        (now (out .entry)) (now (out .entry)) r (now (out .exit))
-        ⌝ }
+// Whether a number of a fixed width, at most eight bytes, goes into so many bytes of a part of so many.
+pub(crate) fn bytes_fit(value: u64, width: usize, room: usize) -> bool
+    ensures { λ r. ⌜ r ≡ bytesFit value width room ⌝ }
 {
     if width > 8 {
         return false;
     }
-    if width > out.len() {
+    if width > room {
         return false;
     }
-    if !fits(value, 256, width) {
-        return false;
-    }
+    fits(value, 256, width)
+}
+
+// Writes a little-endian number at the start of a part that has room for it.
+fn put_little_endian(value: u64, width: usize, out: &mut [u8])
+    requires { ⌜ width ≤ length (now out) ⌝ }
+    ensures { λ _. ⌜ now (out .exit) ≡ fixedBytes false width value ++ drop width (now (out .entry)) ⌝ }
+{
     let mut rest = value;
     let mut i: usize = 0;
     while i < width {
@@ -96,6 +99,23 @@ fn put_fixed(value: u64, width: usize, out: &mut [u8]) -> bool
         rest = rest / 256;
         i += 1;
     }
+}
+
+// A number in so many bytes, at most eight, in a byte order: whether it fits; else the part stays as it is.
+pub(crate) fn put_fixed(value: u64, width: usize, big_endian: bool, out: &mut [u8]) -> bool
+    ensures { λ r. ⌜
+        Put (bytesFit value width (length (now (out .entry)))) (fixedBytes «big_endian» width value) width
+        (now (out .entry)) (now (out .entry)) r (now (out .exit))
+        ⌝ }
+{
+    if !bytes_fit(value, width, out.len()) {
+        return false;
+    }
+    if big_endian {
+        put_big_endian(out, 0, width, value);
+        return true;
+    }
+    put_little_endian(value, width, out);
     true
 }
 
@@ -114,10 +134,17 @@ pub fn write_uleb128_padded(value: u64, width: usize, out: &mut [u8]) -> Padded
 }
 
 // Writes a number in its own encoding at the start of a part: whether it fits. A padded number has a part of exactly its
-// width.
-pub(crate) fn put_number(value: u64, width: usize, leb: bool, out: &mut [u8]) -> bool
+// width; the byte order is of fixed widths alone.
+pub(crate) fn put_number(
+    value: u64,
+    width: usize,
+    leb: bool,
+    big_endian: bool,
+    out: &mut [u8],
+) -> bool
     ensures { λ r. ⌜
-        Put (numberFits leb value width (length (now (out .entry)))) (numberBytes false (encodedBy leb width) value) width
+        Put (numberFits leb value width (length (now (out .entry))))
+        (numberBytes «big_endian» (encodedBy leb width) value) width
         (now (out .entry)) (unfit leb width (now (out .entry))) r (now (out .exit))
         ⌝ }
 {
@@ -134,7 +161,7 @@ pub(crate) fn put_number(value: u64, width: usize, leb: bool, out: &mut [u8]) ->
             }
         }
     }
-    put_fixed(value, width, out)
+    put_fixed(value, width, big_endian, out)
 }
 
 // Copies a run of bytes into the start of a part that has room for it; else the part stays as it is.

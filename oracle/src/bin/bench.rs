@@ -1,25 +1,26 @@
 //! Time and stack of the port's C call and of the original, in one process on the same units; bench/README.md has the rules.
 
 use oracle::cases::{unbundle, Parts};
-use oracle::growth::{half_live, name, sizes, unit, FAMILIES};
+use oracle::growth::{self, half_live, name, sizes, FAMILIES};
 use oracle::judge::{judge, measured, Judged, Outcome, Setting};
+use oracle::order::order;
 use std::collections::BTreeSet;
 use std::hint::black_box;
 
-const USAGE: &str = "usage: bench units BUNDLE ..          each bundle, with about half of its addresses dead
-       bench families MOST [FAMILY ..] each family, up to this size
-       bench calls SIZE [BUNDLE ..]    one call of each kind through bench_measured, of the families' units of this size and the bundles: for callgrind
-       bench repeat SIDE N BUNDLE      N calls of port, own or original";
+const USAGE: &str = "usage: bench [--big-endian] units BUNDLE ..          each bundle, with about half of its addresses dead
+       bench [--big-endian] families MOST [FAMILY ..] each family, up to this size
+       bench [--big-endian] calls SIZE [BUNDLE ..]    one call of each kind through bench_measured, of the families' units of this size and the bundles: for callgrind
+       bench [--big-endian] repeat SIDE N BUNDLE      N calls of port, own or original";
 
 extern "C" {
     fn collector_collect(
         section: *const u8, _: usize, abbreviations: *const u8, _: usize, locations: *const u8, _: usize, ranges: *const u8, _: usize,
-        addresses: *const u8, _: usize, ranges_base: u64, type_units: u64, map: *mut u8, _: usize, range_list: *mut u8, _: usize,
+        addresses: *const u8, _: usize, ranges_base: u64, type_units: u64, big_endian: u64, map: *mut u8, _: usize, range_list: *mut u8, _: usize,
         location_list: *mut u8, _: usize, string_list: *mut u8, _: usize, out: *mut u8, _: usize, counts: *mut u8, _: usize,
     ) -> u64;
     fn collector_collect_lent(
         section: *const u8, _: usize, abbreviations: *const u8, _: usize, locations: *const u8, _: usize, ranges: *const u8, _: usize,
-        addresses: *const u8, _: usize, ranges_base: u64, type_units: u64, index: *mut u64, _: usize, offsets: *mut u64, _: usize,
+        addresses: *const u8, _: usize, ranges_base: u64, type_units: u64, big_endian: u64, index: *mut u64, _: usize, offsets: *mut u64, _: usize,
         parents: *mut u32, _: usize, roots: *mut u8, _: usize, ends: *mut u64, _: usize, marks: *mut u8, _: usize, targets: *mut u64, _: usize,
         pairs: *mut u32, _: usize, work: *mut u32, _: usize, map: *mut u8, _: usize, range_list: *mut u8, _: usize,
         location_list: *mut u8, _: usize, string_list: *mut u8, _: usize, out: *mut u8, _: usize, counts: *mut u8, _: usize,
@@ -78,6 +79,22 @@ fn stack(call: &mut dyn FnMut()) -> usize {
     (here - PAINTED..here).find(|at| unsafe { (*at as *const u8).read_volatile() } != 0xa5).map_or(0, |at| here - at)
 }
 
+/// What is measured, and how it is to be read.
+struct Unit {
+    parts: Parts,
+    setting: Setting,
+}
+
+impl Unit {
+    fn new(parts: Parts, big_endian: bool) -> Self {
+        Unit { parts, setting: Setting { big_endian, ..Setting::default() } }
+    }
+
+    fn parts(&self) -> [&[u8]; 5] {
+        [0, 1, 2, 3, 4].map(|i: usize| &self.parts[i][..])
+    }
+}
+
 /// What a host can know of a unit.
 struct Sizes {
     entries: usize,
@@ -86,8 +103,8 @@ struct Sizes {
     lists: [usize; 3],
 }
 
-fn sizes_of(parts: &Parts) -> gimli::Result<Sizes> {
-    let reader = |i: usize| gimli::EndianSlice::new(&parts[i], gimli::RunTimeEndian::Little);
+fn sizes_of(unit: &Unit) -> gimli::Result<Sizes> {
+    let reader = |i: usize| gimli::EndianSlice::new(&unit.parts[i], unit.setting.order());
     let header = gimli::DebugInfo::from(reader(0)).units().next()?.ok_or(gimli::Error::MissingUnitDie)?;
     let table = header.abbreviations(&gimli::DebugAbbrev::from(reader(1)))?;
     let mut found = Sizes { entries: 0, items: 0, lists: [0; 3] };
@@ -130,8 +147,8 @@ struct Lent {
 impl Lent {
     /// Tables of the unit's size; an index of as many declarations as its abbreviations have room for; a map of all its items; an output as long as
     /// the section.
-    fn new(parts: &Parts, sizes: &Sizes, references: usize) -> Self {
-        let n = sizes.entries;
+    fn new(unit: &Unit, sizes: &Sizes, references: usize) -> Self {
+        let (parts, n) = (&unit.parts, sizes.entries);
         Lent {
             index: vec![0; parts[1].len() / 5 + 1],
             offsets: vec![0; n],
@@ -160,12 +177,12 @@ impl Lent {
 }
 
 macro_rules! collect {
-    ($f:ident, $parts:expr, $l:expr, [$($t:ident),*]) => {{
-        let (s, l): (&Parts, &mut Lent) = ($parts, $l);
+    ($f:ident, $unit:expr, $l:expr, [$($t:ident),*]) => {{
+        let (s, l): ([&[u8]; 5], &mut Lent) = ($unit.parts(), $l);
         unsafe {
             $f(
                 s[0].as_ptr(), s[0].len(), s[1].as_ptr(), s[1].len(), s[2].as_ptr(), s[2].len(), s[3].as_ptr(), s[3].len(),
-                s[4].as_ptr(), s[4].len(), 0, 0, $(l.$t.as_mut_ptr(), l.$t.len(),)* l.map.as_mut_ptr(), l.map.len(),
+                s[4].as_ptr(), s[4].len(), 0, 0, $unit.setting.big_endian.into(), $(l.$t.as_mut_ptr(), l.$t.len(),)* l.map.as_mut_ptr(), l.map.len(),
                 l.lists[0].as_mut_ptr(), l.lists[0].len(), l.lists[1].as_mut_ptr(), l.lists[1].len(), l.lists[2].as_mut_ptr(), l.lists[2].len(),
                 l.out.as_mut_ptr(), l.out.len(), l.counts.as_mut_ptr(), l.counts.len(),
             )
@@ -173,16 +190,16 @@ macro_rules! collect {
     }};
 }
 
-fn port(parts: &Parts, lent: &mut Lent) -> u64 {
-    collect!(collector_collect_lent, parts, lent, [index, offsets, parents, roots, ends, marks, targets, pairs, work])
+fn port(unit: &Unit, lent: &mut Lent) -> u64 {
+    collect!(collector_collect_lent, unit, lent, [index, offsets, parents, roots, ends, marks, targets, pairs, work])
 }
 
-fn own(parts: &Parts, lent: &mut Lent) -> u64 {
-    collect!(collector_collect, parts, lent, [])
+fn own(unit: &Unit, lent: &mut Lent) -> u64 {
+    collect!(collector_collect, unit, lent, [])
 }
 
-fn original(parts: &Parts) -> Option<usize> {
-    measured([&parts[0], &parts[1], &parts[2], &parts[3], &parts[4]], Setting::default())
+fn original(unit: &Unit) -> Option<usize> {
+    measured(unit.parts(), unit.setting)
 }
 
 /// The answer's counts: entries, kept entries, places, bytes, numbers of the three lists.
@@ -204,15 +221,15 @@ fn same(what: &str, judged: &Outcome, number: u64, lent: &Lent) {
 }
 
 /// What the original finds in a unit: its references, and the answer.
-fn judged(parts: &Parts) -> Judged {
-    judge([&parts[0], &parts[1], &parts[2], &parts[3], &parts[4]], Setting::default())
+fn judged(unit: &Unit) -> Judged {
+    judge(unit.parts(), unit.setting)
 }
 
 /// What is lent for a unit that both sides answer, after one call of each; none where both refuse.
-fn prepared(what: &str, parts: &Parts, sizes: &Sizes) -> Option<(Lent, usize)> {
-    let judged = judged(parts);
-    let mut lent = Lent::new(parts, sizes, judged.all_references());
-    let number = port(parts, &mut lent);
+fn prepared(what: &str, unit: &Unit, sizes: &Sizes) -> Option<(Lent, usize)> {
+    let judged = judged(unit);
+    let mut lent = Lent::new(unit, sizes, judged.all_references());
+    let number = port(unit, &mut lent);
     if let Outcome::Error(_, names) = &judged.outcome {
         println!("refused\t{what}\t{names}\t{number}");
         assert!(number < 256, "{what}: the port answers what the original refuses");
@@ -234,12 +251,12 @@ fn shown(n: Option<impl ToString>) -> String {
 }
 
 /// Measures the sides that are to be called, port and original, and prints what was found.
-fn row(kind: &str, what: &str, size: usize, parts: &Parts, scaled: usize, sides: (bool, bool)) -> Option<(Times, usize)> {
-    let sizes = sizes_of(parts).expect("a readable unit");
+fn row(kind: &str, what: &str, size: usize, unit: &Unit, scaled: usize, sides: (bool, bool)) -> Option<(Times, usize)> {
+    let sizes = sizes_of(unit).expect("a readable unit");
     let (mut lent, references) = match sides {
-        (true, true) => prepared(what, parts, &sizes)?,
-        (_, true) => (Lent::new(parts, &sizes, 0), judged(parts).all_references()),
-        _ => (Lent::new(parts, &sizes, scaled), scaled),
+        (true, true) => prepared(what, unit, &sizes)?,
+        (_, true) => (Lent::new(unit, &sizes, 0), judged(unit).all_references()),
+        _ => (Lent::new(unit, &sizes, scaled), scaled),
     };
     let fits = sizes.entries <= OWN.0 && references <= OWN.1;
     let painted = size <= 1000;
@@ -253,15 +270,15 @@ fn row(kind: &str, what: &str, size: usize, parts: &Parts, scaled: usize, sides:
         runs = runs.max(times);
         (Some(time), used)
     };
-    let (by_original, original_stack) = one(sides.1, &mut || _ = black_box(original(parts)));
-    let (by_own, own_stack) = one(sides.0 && fits, &mut || _ = black_box(own(parts, &mut lent)));
-    let (by_port, port_stack) = one(sides.0, &mut || _ = black_box(port(parts, &mut lent)));
-    assert!(!sides.0 || port(parts, &mut lent) >= 256, "{what}: the port refuses");
+    let (by_original, original_stack) = one(sides.1, &mut || _ = black_box(original(unit)));
+    let (by_own, own_stack) = one(sides.0 && fits, &mut || _ = black_box(own(unit, &mut lent)));
+    let (by_port, port_stack) = one(sides.0, &mut || _ = black_box(port(unit, &mut lent)));
+    assert!(!sides.0 || port(unit, &mut lent) >= 256, "{what}: the port refuses");
     let found = counts(&lent);
     let (tables, answer) = lent.bytes();
     println!(
         "{kind}\t{what}\t{size}\t{}\t{}\t{references}\t{}\t{}\t{}\t{}\t{}\t{tables}\t{answer}\t{}\t{}\t{}\t{runs}",
-        sizes.entries, found[1], parts[0].len(), found[3], shown(by_port), shown(by_original), shown(by_own),
+        sizes.entries, found[1], unit.parts[0].len(), found[3], shown(by_port), shown(by_original), shown(by_own),
         shown(port_stack), shown(original_stack), shown(own_stack),
     );
     Some((Times { port: by_port, original: by_original }, references))
@@ -276,7 +293,12 @@ fn goes_on(before: Option<f64>, now: Option<f64>) -> bool {
     }
 }
 
-fn family(what: &str, most: usize) {
+/// A family's unit of a size.
+fn grown(what: &str, size: usize, big_endian: bool) -> Unit {
+    Unit::new(growth::unit(what, size, order(big_endian)).expect("a family"), big_endian)
+}
+
+fn family(what: &str, most: usize, big_endian: bool) {
     let mut last = Times::default();
     let mut sides = (true, true);
     let mut scale = (0, 1);
@@ -284,10 +306,10 @@ fn family(what: &str, most: usize) {
         if !sides.0 && !sides.1 {
             return;
         }
-        let parts = unit(what, size).expect("a family");
+        let unit = grown(what, size, big_endian);
         // Without the original to count them, references grow as the size does.
         let scaled = scale.0 * size / scale.1 * 101 / 100 + 300;
-        let (times, found) = row("family", what, size, &parts, scaled, sides).expect("an answer");
+        let (times, found) = row("family", what, size, &unit, scaled, sides).expect("an answer");
         sides = (sides.0 && goes_on(last.port, times.port), sides.1 && goes_on(last.original, times.original));
         last = times;
         scale = (found, size);
@@ -302,32 +324,33 @@ fn bench_measured(call: &mut dyn FnMut()) {
 }
 
 /// Calls of each kind, after one that is not counted; the names tell the order of what callgrind writes.
-fn calls(what: &str, size: usize, parts: &Parts) {
-    let sizes = sizes_of(parts).expect("a readable unit");
-    let Some((mut lent, references)) = prepared(what, parts, &sizes) else { return };
-    original(parts);
+fn calls(what: &str, size: usize, unit: &Unit) {
+    let sizes = sizes_of(unit).expect("a readable unit");
+    let Some((mut lent, references)) = prepared(what, unit, &sizes) else { return };
+    original(unit);
     println!("calls\t{what}\t{size}\t{}\tport", sizes.entries);
-    bench_measured(&mut || _ = black_box(port(parts, &mut lent)));
+    bench_measured(&mut || _ = black_box(port(unit, &mut lent)));
     println!("calls\t{what}\t{size}\t{}\toriginal", sizes.entries);
-    bench_measured(&mut || _ = black_box(original(parts)));
+    bench_measured(&mut || _ = black_box(original(unit)));
     if sizes.entries <= OWN.0 && references <= OWN.1 {
         println!("calls\t{what}\t{size}\t{}\town", sizes.entries);
-        bench_measured(&mut || _ = black_box(own(parts, &mut lent)));
+        bench_measured(&mut || _ = black_box(own(unit, &mut lent)));
     }
 }
 
-fn read(path: &str) -> Parts {
-    half_live(std::fs::read(path).ok().and_then(|b| unbundle(&b)).unwrap_or_else(|| panic!("{path}: no bundle")))
+fn read(path: &str, big_endian: bool) -> Unit {
+    let parts = std::fs::read(path).ok().and_then(|b| unbundle(&b)).unwrap_or_else(|| panic!("{path}: no bundle"));
+    Unit::new(half_live(parts), big_endian)
 }
 
-fn repeat(side: &str, times: usize, path: &str) {
-    let parts = read(path);
-    let sizes = sizes_of(&parts).expect("a readable unit");
-    let (mut lent, _) = prepared(path, &parts, &sizes).expect("an answer");
+fn repeat(side: &str, times: usize, path: &str, big_endian: bool) {
+    let unit = &read(path, big_endian);
+    let sizes = sizes_of(unit).expect("a readable unit");
+    let (mut lent, _) = prepared(path, unit, &sizes).expect("an answer");
     let call: &mut dyn FnMut() = match side {
-        "port" => &mut || _ = black_box(port(&parts, &mut lent)),
-        "own" => &mut || _ = black_box(own(&parts, &mut lent)),
-        _ => &mut || _ = black_box(original(&parts)),
+        "port" => &mut || _ = black_box(port(unit, &mut lent)),
+        "own" => &mut || _ = black_box(own(unit, &mut lent)),
+        _ => &mut || _ = black_box(original(unit)),
     };
     for _ in 0..times {
         bench_measured(call);
@@ -335,26 +358,30 @@ fn repeat(side: &str, times: usize, path: &str) {
 }
 
 fn run(args: &[String]) -> Option<()> {
+    let (big_endian, args) = match args {
+        [first, rest @ ..] if first == "--big-endian" => (true, rest),
+        _ => (false, args),
+    };
     let number = |i: usize| args.get(i).and_then(|n| n.parse::<usize>().ok());
     match args.first()?.as_str() {
         "units" => {
             for path in &args[1..] {
-                row("unit", &name(path), 0, &read(path), 0, (true, true));
+                row("unit", &name(path), 0, &read(path, big_endian), 0, (true, true));
             }
         }
         "families" => {
             let most = number(1)?;
             let named = |f: &str| args.len() == 2 || args[2..].iter().any(|a| a == f);
-            FAMILIES.iter().filter(|f| named(f.0)).for_each(|f| family(f.0, most));
+            FAMILIES.iter().filter(|f| named(f.0)).for_each(|f| family(f.0, most, big_endian));
         }
         "calls" => {
             let size = number(1)?;
             if size > 0 {
-                FAMILIES.iter().for_each(|f| calls(f.0, size, &unit(f.0, size).expect("a family")));
+                FAMILIES.iter().for_each(|f| calls(f.0, size, &grown(f.0, size, big_endian)));
             }
-            args[2..].iter().for_each(|path| calls(&name(path), 0, &read(path)));
+            args[2..].iter().for_each(|path| calls(&name(path), 0, &read(path, big_endian)));
         }
-        "repeat" => repeat(args.get(1)?, number(2)?, args.get(3)?),
+        "repeat" => repeat(args.get(1)?, number(2)?, args.get(3)?, big_endian),
         _ => return None,
     }
     Some(())
@@ -363,7 +390,7 @@ fn run(args: &[String]) -> Option<()> {
 fn main() {
     let args: Vec<String> = std::env::args().skip(1).collect();
     // Entry values take stack, of the original more than of the port.
-    let size = if args.first().is_some_and(|a| a == "families") { 1 << 30 } else { 1 << 28 };
+    let size = if args.iter().any(|a| a == "families") { 1 << 30 } else { 1 << 28 };
     let done = std::thread::Builder::new().stack_size(size).spawn(move || run(&args)).expect("a thread").join();
     match done {
         Ok(Some(())) => (),

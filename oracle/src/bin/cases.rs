@@ -3,12 +3,12 @@
 use oracle::cases::{bundle, unbundle, Cases};
 use std::io::{self, BufWriter, Write};
 
-const USAGE: &str = "usage: cases [--seed N] [--count N] FAMILY [BUNDLE ..]
+const USAGE: &str = "usage: cases [--seed N] [--count N] [--big-endian] FAMILY [BUNDLE ..]
 Families: small, bytes, valid, lists, expressions, trees, deep, refused, headers, declarations, numbers, operations, kinds, siblings, many,
-damaged, listed, sums, no-table, failures; of given bundles: tables, damaged-files.";
+damaged, listed, sums, no-table, failures; of given bundles: tables, damaged-files. Little-endian, or big-endian, as given bundles then have to be.";
 
 fn main() -> io::Result<()> {
-    let (mut seed, mut count) = (1u64, 1000usize);
+    let (mut seed, mut count, mut big_endian) = (1u64, 1000usize, false);
     let mut words = Vec::new();
     let mut args = std::env::args().skip(1);
     let usage = || -> ! {
@@ -20,6 +20,7 @@ fn main() -> io::Result<()> {
         match arg.as_str() {
             "--seed" => seed = number(),
             "--count" => count = number() as usize,
+            "--big-endian" => big_endian = true,
             _ if arg.starts_with('-') => usage(),
             _ => words.push(arg),
         }
@@ -35,7 +36,7 @@ fn main() -> io::Result<()> {
             }
         }
     }
-    let Some(mut cases) = Cases::new(family, seed, &given) else { usage() };
+    let Some(mut cases) = Cases::new(family, seed, big_endian, &given) else { usage() };
     let mut output = BufWriter::new(io::stdout().lock());
     for i in 0..count {
         output.write_all(&bundle(&cases.case(i)))?;

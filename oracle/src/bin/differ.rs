@@ -3,7 +3,9 @@
 
 use oracle::cases::{bundle, unbundle, Cases, Dice, Parts, FAMILIES, OF_FILES};
 use oracle::expected::{expect, Expected, Plan, Room};
-use oracle::judge::{hex, judge, said, Answer, Setting};
+use oracle::judge::{hex, judge, said, Answer, Outcome, Setting};
+use oracle::order::fit;
+use oracle::unit::header;
 use std::collections::{BTreeMap, BTreeSet};
 use std::fs;
 use std::io::{self, Read as _};
@@ -11,21 +13,22 @@ use std::panic;
 use std::sync::atomic::{AtomicUsize, Ordering};
 use std::sync::Mutex;
 
-const USAGE: &str = "usage: differ [--seed N] [--count N] [--threads N] [--blocks] [--quiet | --save FOLDER] [FAMILY .. | --only-files] [-- BUNDLE ..]
-       differ --lines [--type-units] [--ranges-base N] < BUNDLES
-So many cases of each family (of many a fiftieth, of tables and damaged-files a fifth); all families if none is named. --blocks: what is lent is a
-block of memory of its own, nothing around it. --save: where cases that differ are left; --quiet: they are only counted. --lines: the port's answer for each of the bundles
-on standard input.";
+const USAGE: &str = "usage: differ [--seed N] [--count N] [--threads N] [--blocks] [--quiet | --save FOLDER] [--big-endian] [FAMILY .. | --only-files]
+              [-- BUNDLE .. [--big-endian BUNDLE ..]]
+       differ --lines [--type-units] [--ranges-base N] [--big-endian] < BUNDLES
+So many cases of each family in each byte order (of many a fiftieth, of tables and damaged-files a fifth); all families if none is named. --big-endian: no
+little-endian ones; among the bundles: those behind it are big-endian. --blocks: what is lent is a block of memory of its own, nothing around it. --save: where
+cases that differ are left; --quiet: they are only counted. --lines: the port's answer for each of the bundles on standard input.";
 
 extern "C" {
     fn collector_collect(
         section: *const u8, _: usize, abbreviations: *const u8, _: usize, locations: *const u8, _: usize, ranges: *const u8, _: usize,
-        addresses: *const u8, _: usize, ranges_base: u64, type_units: u64, map: *mut u8, _: usize, range_list: *mut u8, _: usize,
+        addresses: *const u8, _: usize, ranges_base: u64, type_units: u64, big_endian: u64, map: *mut u8, _: usize, range_list: *mut u8, _: usize,
         location_list: *mut u8, _: usize, string_list: *mut u8, _: usize, out: *mut u8, _: usize, counts: *mut u8, _: usize,
     ) -> u64;
     fn collector_collect_lent(
         section: *const u8, _: usize, abbreviations: *const u8, _: usize, locations: *const u8, _: usize, ranges: *const u8, _: usize,
-        addresses: *const u8, _: usize, ranges_base: u64, type_units: u64, index: *mut u64, _: usize, offsets: *mut u64, _: usize,
+        addresses: *const u8, _: usize, ranges_base: u64, type_units: u64, big_endian: u64, index: *mut u64, _: usize, offsets: *mut u64, _: usize,
         parents: *mut u32, _: usize, roots: *mut u8, _: usize, ends: *mut u64, _: usize, marks: *mut u8, _: usize, targets: *mut u64, _: usize,
         pairs: *mut u32, _: usize, work: *mut u32, _: usize, map: *mut u8, _: usize,
         range_list: *mut u8, _: usize, location_list: *mut u8, _: usize, string_list: *mut u8, _: usize, out: *mut u8, _: usize,
@@ -150,7 +153,8 @@ struct Left {
 struct Manner {
     around: usize,
     fill: u8,
-    yes: u64,
+    /// The number that says yes, of type units and of big-endian.
+    yes: [u64; 2],
 }
 
 fn call(parts: &Parts, setting: Setting, lengths: &Lengths, manner: Manner) -> Left {
@@ -159,14 +163,15 @@ fn call(parts: &Parts, setting: Setting, lengths: &Lengths, manner: Manner) -> L
     let mut s: Vec<Lent<u8>> = parts.iter().map(|p| Lent::of(p, around, fill)).collect();
     let (mut map, mut output, mut counts) = (bytes(lengths.map), bytes(lengths.output), bytes(lengths.counts));
     let mut lists = lengths.lists.map(bytes);
-    let (base, units) = (setting.ranges_base as u64, if setting.type_units { yes } else { 0 });
+    let base = setting.ranges_base as u64;
+    let [units, big] = [(setting.type_units, yes[0]), (setting.big_endian, yes[1])].map(|(is, yes)| if is { yes } else { 0 });
     let mut wrong = None;
     macro_rules! lend {
         ($f:ident, $s:ident, [$($t:expr),*]) => {
             unsafe {
                 $f(
                     $s[0].start(), $s[0].length(), $s[1].start(), $s[1].length(), $s[2].start(), $s[2].length(), $s[3].start(), $s[3].length(),
-                    $s[4].start(), $s[4].length(), base, units, $($t.start(), $t.length(),)* map.start(), map.length(),
+                    $s[4].start(), $s[4].length(), base, units, big, $($t.start(), $t.length(),)* map.start(), map.length(),
                     lists[0].start(), lists[0].length(), lists[1].start(), lists[1].length(), lists[2].start(), lists[2].length(),
                     output.start(), output.length(), counts.start(), counts.length(),
                 )
@@ -349,7 +354,7 @@ fn compared(parts: &Parts, setting: Setting, seed: u64, blocks: bool) -> Ended {
     let empty = parts[4].is_empty();
     let mut ended = Ended { empty, asked: empty && judged.asked > 0, ..Ended::default() };
     let names: Vec<&str> = expected.rules.iter().copied().collect();
-    if !expected.is(&judged, &parts[0]) {
+    if !expected.is(&judged, &parts[0], setting.order()) {
         match names.is_empty() {
             true => ended.different = Some(format!("the original answers otherwise, and no rule matches: {}", judged.line())),
             false => ended.listed = Some(names.join(",")),
@@ -360,7 +365,7 @@ fn compared(parts: &Parts, setting: Setting, seed: u64, blocks: bool) -> Ended {
         let manner = Manner {
             around: if blocks { 0 } else { 16 },
             fill: dice.of(&[0xa5, 0x5a, 0xff, 0x01, 0x80]),
-            yes: dice.of(&[1, 1, 2, 256, 1 << 32, u64::MAX]),
+            yes: [(); 2].map(|_| dice.of(&[1, 1, 2, 256, 1 << 32, u64::MAX])),
         };
         let answer = expected.answer(&lengths.room());
         let left = call(parts, setting, &lengths, manner);
@@ -376,8 +381,24 @@ fn compared(parts: &Parts, setting: Setting, seed: u64, blocks: bool) -> Ended {
     ended
 }
 
+/// A case under the other byte order than its own. Where its header is right in its own, both sides have to refuse the header.
+fn told_wrongly(parts: &Parts, with: Setting, seed: u64, blocks: bool) -> Ended {
+    let told = Setting { big_endian: !with.big_endian, ..with };
+    let mut ended = one(parts, told, seed, blocks);
+    if header(&parts[0], with.order()) == 0 {
+        let original = judge(parts_of(parts), told);
+        if !matches!(original.outcome, Outcome::Error(Some(1), _)) {
+            ended.different.get_or_insert(format!("the original reads it in both byte orders: {}", original.line()));
+        }
+        if [&ended.first, &ended.second].iter().any(|n| *n != "1" && *n != "2") {
+            ended.different.get_or_insert(format!("in the other byte order {} and {}, not 1 or 2", ended.first, ended.second));
+        }
+    }
+    ended
+}
+
 /// The setting of a case: mostly as the program has it.
-fn setting(dice: &mut Dice) -> Setting {
+fn setting(dice: &mut Dice, big_endian: bool) -> Setting {
     let ranges_base = match dice.below(24) {
         0 => dice.below(40),
         1 => 12,
@@ -385,7 +406,7 @@ fn setting(dice: &mut Dice) -> Setting {
         3 => usize::MAX - dice.below(40),
         _ => 0,
     };
-    Setting { type_units: dice.rare(8), ranges_base }
+    Setting { type_units: dice.rare(8), ranges_base, big_endian }
 }
 
 /// An address table, not empty, that fails from some place on: it ends there, or holds bytes above 1.
@@ -398,12 +419,6 @@ fn spoil(dice: &mut Dice, table: &mut Vec<u8>) {
 fn reduced(parts: &Parts, with: Setting, seed: u64, blocks: bool) -> Parts {
     let mut best = parts.clone();
     let mut tries = 0;
-    let fit = |p: &mut Parts| {
-        if p[0].len() >= 4 {
-            let length = p[0].len() as u32 - 4;
-            p[0][..4].copy_from_slice(&length.to_le_bytes());
-        }
-    };
     let mut again = true;
     while again && tries < 20_000 {
         again = false;
@@ -415,7 +430,7 @@ fn reduced(parts: &Parts, with: Setting, seed: u64, blocks: bool) -> Parts {
                     let mut shorter = best.clone();
                     shorter[part].drain(at..at + size);
                     let mut fitted = shorter.clone();
-                    fit(&mut fitted);
+                    fit(with.order(), &mut fitted[0]);
                     tries += 2;
                     if let Some(p) = [fitted, shorter].into_iter().find(|p| one(p, with, seed, blocks).different.is_some()) {
                         best = p;
@@ -457,6 +472,8 @@ struct Tally {
     /// With an empty address table, and those of them in which an index was asked for.
     empty: usize,
     asked: usize,
+    /// Told the other byte order, by the port's answer. These are no cases.
+    told: BTreeMap<String, usize>,
 }
 
 impl Tally {
@@ -473,14 +490,25 @@ impl Tally {
         }
     }
 
-    fn merge(&mut self, other: Tally) {
+    fn add_told(&mut self, ended: &Ended) {
+        *self.told.entry(ended.first.clone()).or_default() += 1;
+        self.different += usize::from(ended.different.is_some());
+    }
+
+    fn merge(&mut self, other: &Tally) {
         self.cases += other.cases;
         self.different += other.different;
         self.empty += other.empty;
         self.asked += other.asked;
-        for (into, from) in [(&mut self.first, other.first), (&mut self.second, other.second), (&mut self.listed, other.listed)] {
+        let counts = [
+            (&mut self.first, &other.first),
+            (&mut self.second, &other.second),
+            (&mut self.listed, &other.listed),
+            (&mut self.told, &other.told),
+        ];
+        for (into, from) in counts {
             for (k, n) in from {
-                *into.entry(k).or_default() += n;
+                *into.entry(k.clone()).or_default() += n;
             }
         }
     }
@@ -496,12 +524,31 @@ struct Options {
     save: String,
 }
 
+/// A family in a byte order.
+#[derive(Clone, Copy)]
+struct Group<'a> {
+    family: &'a str,
+    big_endian: bool,
+    given: &'a [Parts],
+}
+
+impl Group<'_> {
+    fn cases(&self, seed: u64) -> Option<Cases<'_>> {
+        Cases::new(self.family, seed, self.big_endian, self.given)
+    }
+
+    fn name(&self) -> String {
+        format!("{}{}", self.family, if self.big_endian { " big-endian" } else { "" })
+    }
+}
+
 /// Which case each thread is at, for one that ends the process.
 static AT: [AtomicUsize; 8] = [const { AtomicUsize::new(0) }; 8];
 
-fn run_part(family: &str, given: &[Parts], options: &Options, thread: usize, saved: &Mutex<usize>) -> Tally {
+fn run_part(group: Group, options: &Options, thread: usize, saved: &Mutex<usize>) -> Tally {
     let mut tally = Tally::default();
-    let Some(mut cases) = Cases::new(family, options.seed, given) else { return tally };
+    let family = group.family;
+    let Some(mut cases) = group.cases(options.seed) else { return tally };
     // Large units: fewer.
     let count = match family {
         "many" => options.count.div_ceil(50),
@@ -519,7 +566,7 @@ fn run_part(family: &str, given: &[Parts], options: &Options, thread: usize, sav
         }
         AT[thread].store(i, Ordering::Relaxed);
         let mut dice = Dice(options.seed.wrapping_mul(0x9e37_79b9).wrapping_add(i as u64) << 7 ^ family.len() as u64);
-        let with = setting(&mut dice);
+        let with = setting(&mut dice, group.big_endian);
         let seed = dice.next();
         let mut tables = vec![parts[4].clone()];
         if family != "small" {
@@ -532,33 +579,46 @@ fn run_part(family: &str, given: &[Parts], options: &Options, thread: usize, sav
             // A body of `small` comes with its four tables, and (beside the first) with none and with three that fail.
             tables.extend([vec![], vec![1], vec![2], vec![1, 2]]);
         }
+        let wrongly = dice.rare(8);
+        let note = |ended: &Ended, parts: &Parts, with: Setting| {
+            let Some(what) = &ended.different else { return };
+            let mut saved = saved.lock().unwrap();
+            *saved += 1;
+            if *saved <= 20 && !options.quiet {
+                report(group, i, parts, with, seed, what, options);
+            }
+        };
         for table in tables {
             parts[4] = table;
             let ended = one(&parts, with, seed, options.blocks);
             tally.add(&ended);
-            if let Some(what) = &ended.different {
-                let mut saved = saved.lock().unwrap();
-                *saved += 1;
-                if *saved <= 20 && !options.quiet {
-                    report(family, i, &parts, with, seed, what, options);
-                }
+            note(&ended, &parts, with);
+        }
+        if wrongly && !parts[0].is_empty() {
+            if dice.rare(4) && header(&parts[0], with.order()) == 0 {
+                // A length that is the same in both byte orders, so that the version alone tells them apart.
+                parts[0].resize(4 + 0x10100, 0);
+                fit(with.order(), &mut parts[0]);
             }
+            let ended = told_wrongly(&parts, with, seed, options.blocks);
+            tally.add_told(&ended);
+            note(&ended, &parts, Setting { big_endian: !with.big_endian, ..with });
         }
     }
     tally
 }
 
-fn report(family: &str, i: usize, parts: &Parts, with: Setting, seed: u64, what: &str, options: &Options) {
+fn report(group: Group, i: usize, parts: &Parts, with: Setting, seed: u64, what: &str, options: &Options) {
     let small = reduced(parts, with, seed, options.blocks);
     let why = one(&small, with, seed, options.blocks).different.unwrap_or_default();
     let text = format!(
-        "{family} seed {} case {i} {with:?}\n  {what}\nreduced\n  unit {}\n  abbreviations {}\n  locations {}\n  ranges {}\n  addresses {}\n  {why}\n  \
+        "{} seed {} case {i} {with:?}\n  {what}\nreduced\n  unit {}\n  abbreviations {}\n  locations {}\n  ranges {}\n  addresses {}\n  {why}\n  \
          original: {}\n",
-        options.seed, hex(&small[0]), hex(&small[1]), hex(&small[2]), hex(&small[3]), hex(&small[4]),
+        group.name(), options.seed, hex(&small[0]), hex(&small[1]), hex(&small[2]), hex(&small[3]), hex(&small[4]),
         judge(parts_of(&small), with).line(),
     );
     println!("{text}");
-    let path = format!("{}/{family}-{}-{i}", options.save, options.seed);
+    let path = format!("{}/{}-{}-{i}", options.save, group.name().replace(' ', "-"), options.seed);
     let _ = fs::create_dir_all(&options.save);
     let _ = fs::write(format!("{path}.bundle"), bundle(parts));
     let _ = fs::write(format!("{path}.reduced.bundle"), bundle(&small));
@@ -578,11 +638,12 @@ fn row(name: &str, tally: &Tally) -> String {
     format!("| {} |", cells.join(" | "))
 }
 
-fn run(families: &[String], given: &[Parts], options: &Options) -> bool {
+fn run(groups: &[Group], options: &Options) -> bool {
     let (mut rows, mut empty) = (Vec::new(), Vec::new());
-    let mut total = Tally::default();
+    // Little-endian, big-endian.
+    let mut orders = [Tally::default(), Tally::default()];
     let saved = Mutex::new(0);
-    for family in families {
+    for group in groups {
         let started = std::time::Instant::now();
         let mut tally = Tally::default();
         std::thread::scope(|scope| {
@@ -591,22 +652,28 @@ fn run(families: &[String], given: &[Parts], options: &Options) -> bool {
                 .map(|t| {
                     // Entry values may nest as deep as a bundle has bytes, and the walks are recursive.
                     let builder = std::thread::Builder::new().stack_size(1 << 29);
-                    builder.spawn_scoped(scope, move || run_part(family, given, options, t, saved)).expect("a thread")
+                    builder.spawn_scoped(scope, move || run_part(*group, options, t, saved)).expect("a thread")
                 })
                 .collect();
             for part in parts {
                 match part.join() {
-                    Ok(t) => tally.merge(t),
+                    Ok(t) => tally.merge(&t),
                     Err(p) => {
-                        println!("{family}: {} (about case {:?})", said(p), AT[0]);
+                        println!("{}: {} (about case {:?})", group.name(), said(p), AT[0]);
                         tally.different += 1;
                     }
                 }
             }
         });
-        eprintln!("{} {:?}", row(family, &tally), started.elapsed());
-        rows.push(row(family, &tally));
-        empty.push(format!("{family} {} {}", tally.empty, tally.asked));
+        let name = group.name();
+        eprintln!("{} {:?}", row(&name, &tally), started.elapsed());
+        rows.push(row(&name, &tally));
+        empty.push(format!("{name} {} {}", tally.empty, tally.asked));
+        orders[usize::from(group.big_endian)].merge(&tally);
+    }
+    let mut total = Tally::default();
+    for (name, tally) in ["little-endian", "big-endian"].iter().zip(&orders) {
+        rows.push(row(&format!("all {name}"), tally));
         total.merge(tally);
     }
     println!("| family | cases | {} | then {} | listed | different |", FIRST.join(" | "), SECOND.join(" | "));
@@ -624,6 +691,10 @@ fn run(families: &[String], given: &[Parts], options: &Options) -> bool {
     }
     println!("listed, by rule (several may match a case): {}", by_rule.iter().map(|(r, n)| format!("{r} {n}")).collect::<Vec<_>>().join(", "));
     println!("empty address tables, and those in which an index was asked for: {}, all {} {}", empty.join(", "), total.empty, total.asked);
+    for (name, tally) in ["little-endian", "big-endian"].iter().zip(&orders) {
+        let told = tally.told.iter().map(|(answer, n)| format!("{answer} {n}")).collect::<Vec<_>>().join(", ");
+        println!("{name}: {} cases, {} different; and told the other byte order, by answer: {told}", tally.cases, tally.different);
+    }
     println!("differ: {} cases, {} different", total.cases, total.different);
     total.different == 0
 }
@@ -632,7 +703,7 @@ fn run(families: &[String], given: &[Parts], options: &Options) -> bool {
 fn line(parts: &Parts, with: Setting) -> String {
     let size = parts[0].len() + 1;
     let lengths = Lengths { map: 12 * size, lists: [8 * size; 3], output: size, counts: COUNTS, tables: None };
-    let left = call(parts, with, &lengths, Manner { around: 16, fill: 0xa5, yes: 1 });
+    let left = call(parts, with, &lengths, Manner { around: 16, fill: 0xa5, yes: [1; 2] });
     if let Some(wrong) = left.wrong {
         return format!("wrong: {wrong}");
     }
@@ -709,16 +780,19 @@ fn main() {
         std::process::exit(2)
     };
     let mut options = Options { seed: 1, count: 1000, threads: 2, blocks: false, quiet: false, save: "different".to_string() };
-    let mut families = Vec::new();
-    let mut given = Vec::new();
+    let mut families: Vec<String> = Vec::new();
+    // Little-endian, big-endian.
+    let mut given = [Vec::new(), Vec::new()];
+    let mut big_files = false;
     let (mut files, mut only, mut in_lines) = (false, false, false);
     let mut with = Setting::default();
     let mut args = std::env::args().skip(1);
     while let Some(arg) = args.next() {
         let mut number = || args.next().and_then(|n| n.parse().ok()).unwrap_or_else(|| usage());
         match arg.as_str() {
+            "--big-endian" if files => big_files = true,
             _ if files => match fs::read(&arg).ok().and_then(|b| unbundle(&b)) {
-                Some(parts) => given.push(parts),
+                Some(parts) => given[usize::from(big_files)].push(parts),
                 None => {
                     eprintln!("{arg}: no bundle");
                     std::process::exit(1)
@@ -726,6 +800,7 @@ fn main() {
             },
             "--lines" => in_lines = true,
             "--type-units" => with.type_units = true,
+            "--big-endian" => with.big_endian = true,
             "--ranges-base" => with.ranges_base = number() as usize,
             "--seed" => options.seed = number(),
             "--count" => options.count = number() as usize,
@@ -744,12 +819,18 @@ fn main() {
         std::process::exit(i32::from(!matches!(child.join(), Ok(Ok(())))))
     }
     if families.is_empty() {
-        families = FAMILIES.iter().filter(|_| !only).chain(OF_FILES.iter().filter(|_| !given.is_empty())).map(|f| f.to_string()).collect();
+        families = FAMILIES.iter().filter(|_| !only).chain(&OF_FILES).map(|f| f.to_string()).collect();
     }
-    if families.iter().any(|f| Cases::new(f, 1, &given).is_none()) {
+    let orders = [false, true].into_iter().filter(|big| *big || !with.big_endian);
+    let mut groups = Vec::new();
+    for family in &families {
+        let found = orders.clone().map(|big_endian| Group { family, big_endian, given: &given[usize::from(big_endian)] });
+        groups.extend(found.filter(|g| g.cases(1).is_some()));
+    }
+    if families.iter().any(|f| !FAMILIES.contains(&&f[..]) && !OF_FILES.contains(&&f[..])) || groups.is_empty() {
         usage();
     }
     panic::set_hook(Box::new(|_| ()));
     ending::watch();
-    std::process::exit(i32::from(!run(&families, &given, &options)))
+    std::process::exit(i32::from(!run(&groups, &options)))
 }

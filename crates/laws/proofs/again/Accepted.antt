@@ -1,4 +1,5 @@
 -- An accepted unit: its header and rows, and the answer of collect, taken apart. Assumes nothing.
+use mathlib.Core.Logic.{inl}
 use mathlib.Core.Path.{_≡_, refl, ap, _∙_, subst}
 use Prim.Native.Nat.{ℕ, zero, suc, _+_, _≤_, _<_}
 use mathlib.Core.Bool.{true, Bool}
@@ -10,7 +11,7 @@ use Rattle.readers.specs.declared.header.UnitHeader.{UnitHeader}
 use Rattle.marking.specs.Analysis.{Sections, EntryRow, Analysed, analysed, refused as notAnalysed, headerAnalysed, analysisOf}
 use Rattle.marking.proofs.EachRow.{items-whole}
 use Rattle.rewriting.specs.Rewriting.{Room, unitOf, Unit as Unit′, Lists, noLists, listsOf, refusalFrom, unitBytes, Rewrite, Collected, untouched, rewritten, refused, listsFit, orRefused, rewriteOf, marksCollected, rowsCollected, analysedCollected, declaredCollected, headerCollected, collectOf}
-use Rattle.rewriting.proofs.write_pass.HeaderAgain.{HeaderLaw, header-laws}
+use Rattle.readers.proofs.HeaderLaws.{HeaderLaw, header-laws}
 use Rattle.rewriting.proofs.whole.AcceptedUnits.{Accepted}
 use mathlib.Core.Option.{Option, none, some}
 use native.Mathlib.Omega.{arith}
@@ -18,7 +19,8 @@ use lib.Dec.{leb, eqb}
 use mir.Facts.{eqb-yes, eqb-no}
 use Rattle.readers.specs.Choice.{pick}
 use Rattle.readers.proofs.Choice.{pick-either}
-use Rattle.readers.specs.Header.{headerOf}
+use Rattle.readers.specs.Header.{lengthSize, headerOf}
+use Rattle.rewriting.proofs.write_pass.HeaderEmits.{length-wide}
 use Rattle.readers.specs.declared.header.HeaderRead.{HeaderRead}
 use Rattle.readers.specs.declared.header.HeaderRead.the-variants.{Unit as Header′, Empty, Refused}
 use Rattle.marking.specs.Below.{count}
@@ -34,8 +36,13 @@ module _ (x : Sections) (room : Room) (section : List ℕ) (h : UnitHeader) (ds 
   accepted-whole = items-whole x section (room .tables) h ds rows (a .header) (a .declared) (a .analysis)
 
   -- its header, and how its rows stand
-  pub accepted-header : HeaderLaw (take (h .end) section) h
-  accepted-header = header-laws section h (a .header)
+  pub accepted-header : HeaderLaw (x .setting .«big_endian») (take (h .end) section) h
+  accepted-header = header-laws (x .setting .«big_endian») section h (a .header)
+
+  -- the number of the length is no wider than the length field
+  pub accepted-wide : h .encoding .«offset_size» ≤ lengthSize (h .encoding)
+  accepted-wide =
+      length-wide (h .encoding .«offset_size») (inl (accepted-header .known .offset-is))
 
 -- ---- at most as many are kept as there are
 
@@ -150,19 +157,19 @@ module _ (x : Sections) (room : Room) (typeUnits : Bool) (section : List ℕ) wh
   rows-told h ds [] a = (λ n. absurd (omega arith), λ z. (a .analysis, refl))
   rows-told h ds (r ∷ rows) a = marks-told h ds (r ∷ rows) a (omega (arith, marks-each (r ∷ rows)))
 
-  analysed-told : (h : UnitHeader) (ds : List Placed) → headerOf section ≡ Header′ h → abbreviationsOf (x .abbreviations) (h .abbreviations) ≡ some ds
+  analysed-told : (h : UnitHeader) (ds : List Placed) → headerOf (x .setting .«big_endian») section ≡ Header′ h → abbreviationsOf (x .abbreviations) (h .abbreviations) ≡ some ds
       → (o : Analysed) → analysisOf x section (room .tables) ≡ o → Told (analysedCollected x room typeUnits (unitOf h section ds) o)
   unfolding analysedCollected Told
   analysed-told h ds q d (analysed rows) r = rows-told h ds rows (record { header = q; declared = d; analysis = r })
   analysed-told h ds q d (notAnalysed n) r = tt
 
-  declared-told : (h : UnitHeader) → headerOf section ≡ Header′ h → (o : Option (List Placed)) → abbreviationsOf (x .abbreviations) (h .abbreviations) ≡ o
+  declared-told : (h : UnitHeader) → headerOf (x .setting .«big_endian») section ≡ Header′ h → (o : Option (List Placed)) → abbreviationsOf (x .abbreviations) (h .abbreviations) ≡ o
       → Told (declaredCollected x room typeUnits section h o)
   unfolding declaredCollected Told
   declared-told h q none d = tt
   declared-told h q (some ds) d = analysed-told h ds q d (analysisOf x section (room .tables)) refl
 
-  header-told : (o : HeaderRead) → headerOf section ≡ o → Told (headerCollected x room typeUnits section o)
+  header-told : (o : HeaderRead) → headerOf (x .setting .«big_endian») section ≡ o → Told (headerCollected x room typeUnits section o)
   unfolding headerCollected Told analysisOf headerAnalysed
   header-told Empty q = (λ n. absurd (omega arith), λ z. (ap (headerAnalysed x section (room .tables)) q, refl))
   header-told (Refused n) q = tt
@@ -170,7 +177,7 @@ module _ (x : Sections) (room : Room) (typeUnits : Bool) (section : List ℕ) wh
 
   told : Told (collectOf x room typeUnits section)
   unfolding collectOf
-  told = header-told (headerOf section) refl
+  told = header-told (headerOf (x .setting .«big_endian») section) refl
 
   -- "An accepted unit is rewritten exactly when it has a dead entry."
   pub was-rewritten : (w : Rewrite) → collectOf x room typeUnits section ≡ rewritten w → WasRewritten w

@@ -13,7 +13,7 @@ use Rattle.readers.specs.Choice.{pick}
 use Rattle.readers.proofs.Choice.{pick-either}
 use Rattle.readers.specs.Numbers.{fixedBytes}
 use Rattle.readers.specs.Abbreviations.{Placed, declaredIn, abbreviationsOf}
-use Rattle.readers.specs.Header.{headerOf}
+use Rattle.readers.specs.Header.{lengthSize, headerOf, withEnd}
 use Rattle.readers.specs.Stream.{Item, Items}
 use Rattle.readers.specs.declared.header.UnitHeader.{UnitHeader}
 use Rattle.readers.specs.declared.header.HeaderRead.the-variants.{Unit as Header′}
@@ -30,7 +30,8 @@ use Rattle.laws.specs.LeftOut.{survivorsIn, leftFrom}
 use Rattle.laws.specs.inner.Moved.{movedFrom}
 use Rattle.laws.specs.Ancestors.{ancestorsFrom}
 use Rattle.laws.specs.inner.Ancestors.{keptAncestors, AllMapTo}
-use Rattle.rewriting.specs.Rewriting.{Unit as Unit′, itemsIn, Lists, indicesFrom, listOf, listsOf, listAt, bytesFrom, unitBytes, Room, Rewrite, untouched, rewritten, collectOf, withEnd, unitOf}
+use Rattle.rewriting.specs.Emission.{headerBytes}
+use Rattle.rewriting.specs.Rewriting.{Unit as Unit′, itemsIn, Lists, indicesFrom, listOf, listsOf, listAt, bytesFrom, unitBytes, Room, Rewrite, untouched, rewritten, collectOf, unitOf}
 use Rattle.rewriting.proofs.list_pass.Sorted.{sorted-ascending, sorted-member}
 use Rattle.laws.proofs.again.Ranks.{rank-inside, rank-place, Ranked}
 use Rattle.laws.proofs.again.Maps.{places-length, kept-sized, news-ascending}
@@ -39,10 +40,10 @@ use Rattle.laws.proofs.again.Sizes.{kept-and-left, items-sized}
 use Rattle.rewriting.proofs.kept_pass.ItemDepths.{Every, Readable}
 use Rattle.laws.proofs.again.ReadsAgain.{withBytes}
 use Rattle.laws.proofs.again.UnitAgain.{ReadAgain, unit-again}
-use Rattle.rewriting.proofs.write_pass.HeaderAgain.{HeaderLaw}
+use Rattle.readers.proofs.HeaderLaws.{HeaderLaw}
 use Rattle.marking.proofs.UnitMarkings.{marks-each}
 use Rattle.rewriting.proofs.whole.AcceptedUnits.{Accepted}
-use Rattle.laws.proofs.again.Accepted.{accepted-whole, accepted-header, WasRewritten, WasUntouched, was-rewritten, was-untouched, was-empty}
+use Rattle.laws.proofs.again.Accepted.{accepted-whole, accepted-header, accepted-wide, WasRewritten, WasUntouched, was-rewritten, was-untouched, was-empty}
 use Rattle.laws.proofs.survivors.ClosedMarks.{accepted-kept, accepted-count, accepted-marks, accepted-closed}
 use Rattle.rewriting.proofs.kept_pass.ReadableItems.{accepted-readable}
 use Rattle.laws.proofs.again.AncestorsAgain.{ancestors-again}
@@ -117,7 +118,7 @@ module _ (x : Sections) (room : Room) (typeUnits : Bool) (section : List ℕ) (w
   pub accepted : Accepted x room section (it .header) (it .declared) (it .rows)
   accepted = it .accepted
 
-  header-law : HeaderLaw (unit .bytes) (it .header)
+  header-law : HeaderLaw (x .setting .«big_endian») (unit .bytes) (it .header)
   header-law = accepted-header x room section (it .header) (it .declared) (it .rows) accepted
 
   -- "The kept count is the number of survivors."
@@ -140,7 +141,8 @@ module _ (x : Sections) (room : Room) (typeUnits : Bool) (section : List ℕ) (w
   pub again-law : ReadAgain x unit (w .lists) (w .map) kept (w .output)
   again-law =
       subst (ReadAgain x unit (w .lists) (w .map) kept) (sym (it .output-is))
-      (unit-again x unit (w .lists) (w .map) (omega (arith, header-law .twelve)) (header-law .inside) marks
+      (unit-again x unit (w .lists) (w .map) (accepted-wide x room section (it .header) (it .declared) (it .rows) accepted)
+      (omega (arith, header-law .after)) (header-law .inside) marks
       (accepted-closed x room section (it .header) (it .declared) (it .rows) accepted)
       (accepted-readable x room section (it .header) (it .declared) (it .rows) accepted marks)
       (it .none-refused))
@@ -161,22 +163,33 @@ module _ (x : Sections) (room : Room) (typeUnits : Bool) (section : List ℕ) (w
       (accepted-whole x room section (it .header) (it .declared) (it .rows) accepted) (header-law .inside))
       ∙ ap (λ (n : ℕ). n + sizeFrom (leftFrom marks 0 [] (itemsIn x unit))) (sym (again-law .size))
 
-  header-again : headerOf (w .output) ≡ Header′ (withEnd (it .header) (length (w .output)))
-  unfolding unitBytes
-  header-again =
-      header-law .again (w .output) (bytesFrom x unit (w .lists) (w .map) kept)
-      (it .output-is
-      ∙ append-assoc (fixedBytes (it .header .encoding .«big_endian») 4 (start + sizeFrom kept - 4)) (drop 4 (take start (unit .bytes))) (bytesFrom x unit (w .lists) (w .map) kept)
-      ∙ ap₂ (λ (b : Bool) (n : ℕ). fixedBytes b 4 n ++ (drop 4 (take start (unit .bytes)) ++ bytesFrom x unit (w .lists) (w .map) kept))
-      (header-law .little) (let q : start + sizeFrom kept - 4 ≡ length (w .output) - 4 = omega (arith, again-law .size) in q))
-      (omega (arith, bytes-law, header-law .short))
+  -- how many bytes an offset has, and how many the length field
+  abbrev offset : ℕ
+  offset = it .header .encoding .«offset_size»
 
-  same-header : (h : UnitHeader) → headerOf section ≡ Header′ h → it .header ≡ h
+  abbrev front : ℕ
+  front = lengthSize (it .header .encoding)
+
+  header-again : headerOf (x .setting .«big_endian») (w .output) ≡ Header′ (withEnd (it .header) (length (w .output)))
+  unfolding unitBytes headerBytes
+  header-again =
+      let a : List ℕ = take (front - offset) (unit .bytes) in
+      let f : ℕ → List ℕ = (λ n. fixedBytes (it .header .encoding .«big_endian») offset n) in
+      let m : List ℕ = drop front (take start (unit .bytes)) in
+      let b : List ℕ = bytesFrom x unit (w .lists) (w .map) kept in
+      header-law .again (w .output) b (omega (arith, bytes-law))
+      (it .output-is
+      ∙ append-assoc (a ++ f (start + sizeFrom kept - front)) m b
+      ∙ append-assoc a (f (start + sizeFrom kept - front)) (m ++ b)
+      ∙ ap₂ (λ (o : Bool) (n : ℕ). a ++ (fixedBytes o offset n ++ (m ++ b)))
+      (header-law .known .order-is) (let q : start + sizeFrom kept - front ≡ length (w .output) - front = omega (arith, again-law .size) in q))
+
+  same-header : (h : UnitHeader) → headerOf (x .setting .«big_endian») section ≡ Header′ h → it .header ≡ h
   same-header h q = let z : Header′ (it .header) ≡ Header′ h = sym (accepted .header) ∙ q in cc
 
   -- what holds of the header, the declarations and the rows above holds of any that are read
   pub of-read : (P : UnitHeader → List Placed → List EntryRow → Type 0) → P (it .header) (it .declared) (it .rows)
-      → (h : UnitHeader) (ds : List Placed) (rows : List EntryRow) → headerOf section ≡ Header′ h
+      → (h : UnitHeader) (ds : List Placed) (rows : List EntryRow) → headerOf (x .setting .«big_endian») section ≡ Header′ h
       → abbreviationsOf (x .abbreviations) (h .abbreviations) ≡ some ds → analysisOf x section (room .tables) ≡ analysed rows → P h ds rows
   of-read P p h ds rows q d a =
       let f : it .header ≡ h = same-header h q in
@@ -187,8 +200,8 @@ module _ (x : Sections) (room : Room) (typeUnits : Bool) (section : List ℕ) (w
       subst (λ (g : UnitHeader). P g ds rows) f (subst (λ (l : List Placed). P (it .header) l rows) e (subst (P (it .header) (it .declared)) r p))
 
   -- its header is the old one, but for where the unit ends
-  pub again-header : (h : UnitHeader) → headerOf section ≡ Header′ h → headerOf (w .output) ≡ Header′ (withEnd h (length (w .output)))
-  again-header h q = subst (λ (g : UnitHeader). headerOf (w .output) ≡ Header′ (withEnd g (length (w .output)))) (same-header h q) header-again
+  pub again-header : (h : UnitHeader) → headerOf (x .setting .«big_endian») section ≡ Header′ h → headerOf (x .setting .«big_endian») (w .output) ≡ Header′ (withEnd h (length (w .output)))
+  again-header h q = subst (λ (g : UnitHeader). headerOf (x .setting .«big_endian») (w .output) ≡ Header′ (withEnd g (length (w .output)))) (same-header h q) header-again
 
   -- ---- the map
 

@@ -6,6 +6,7 @@ use mathlib.Core.List.{List, [], _++_, map}
 use native.Mathlib.Omega.{arith}
 use lib.ListN.{length, take, drop, length-append, length-drop}
 use lib.Seq.{length-take-le}
+use Rattle.readers.specs.Header.{lengthSize}
 use Rattle.readers.specs.Numbers.{fixedBytes}
 use Rattle.readers.proofs.Numbers.{length-fixed}
 use Rattle.readers.specs.Abbreviations.{declaredIn}
@@ -14,6 +15,7 @@ use Rattle.marking.specs.Analysis.{Sections}
 use Rattle.rewriting.specs.Places.{NestedItem, keptFrom, offsetOf, Place, placesFrom, sizeFrom}
 use Rattle.laws.specs.Moved.{depthsFrom}
 use Rattle.laws.specs.inner.Moved.{movedFrom, ParentsKept}
+use Rattle.rewriting.specs.Emission.{headerBytes}
 use Rattle.rewriting.specs.Rewriting.{Unit as Unit′, itemsIn, Lists, bytesFrom, unitBytes, refusalFrom}
 use Rattle.rewriting.proofs.kept_pass.ItemDepths.{Every, kept-stand, Readable}
 use Rattle.laws.proofs.again.Rereading.{Rewritable, rewritable, length-bytes, reread, moved-places}
@@ -29,28 +31,43 @@ pub record ReadAgain (x : Sections) (u : Unit′) (lists : Lists) (places : List
   pub offsets : map offsetOf (movedFrom (u .header .first .0) kept) ≡ map (λ (p : Place). p .new) (placesFrom (u .header .first .0) kept)
   pub depths : depthsFrom 0 [] (movedFrom (u .header .first .0) kept) ≡ map (λ (p : Place). p .depth) (placesFrom (u .header .first .0) kept)
 
-module _ (x : Sections) (u : Unit′) (lists : Lists) (places : List Place) (lo : 4 ≤ u .header .first .0) (hi : u .header .first .0 ≤ length (u .bytes)) where
+module _ (x : Sections) (u : Unit′) (lists : Lists) (places : List Place)
+    (wide : u .header .encoding .«offset_size» ≤ lengthSize (u .header .encoding))
+    (lo : lengthSize (u .header .encoding) ≤ u .header .first .0) (hi : u .header .first .0 ≤ length (u .bytes)) where
   abbrev first : ℕ
   first = u .header .first .0
 
   module _ (kept : List NestedItem) (h : Every (Rewritable x u lists places) kept) where
-    -- the header
+    abbrev offset : ℕ
+    offset = u .header .encoding .«offset_size»
+
+    -- the header: what stands before the length, the length, and the rest
+    abbrev before : List ℕ
+    before = take (lengthSize (u .header .encoding) - offset) (u .bytes)
+
+    abbrev number : List ℕ
+    number = fixedBytes (u .header .encoding .«big_endian») offset (first + sizeFrom kept - lengthSize (u .header .encoding))
+
+    abbrev rest : List ℕ
+    rest = drop (lengthSize (u .header .encoding)) (take first (u .bytes))
+
     abbrev front : List ℕ
-    front = fixedBytes (u .header .encoding .«big_endian») 4 (first + sizeFrom kept - 4) ++ drop 4 (take first (u .bytes))
+    front = before ++ number ++ rest
 
     length-front : length front ≡ first
     length-front =
-        let a : List ℕ = fixedBytes (u .header .encoding .«big_endian») 4 (first + sizeFrom kept - 4) in
         omega (
           arith,
-          length-append a (drop 4 (take first (u .bytes))),
-          length-fixed (u .header .encoding .«big_endian») 4 (first + sizeFrom kept - 4),
-          length-drop 4 (take first (u .bytes)),
+          length-append (before ++ number) rest,
+          length-append before number,
+          length-take-le (lengthSize (u .header .encoding) - offset) (u .bytes) (omega arith),
+          length-fixed (u .header .encoding .«big_endian») offset (first + sizeFrom kept - lengthSize (u .header .encoding)),
+          length-drop (lengthSize (u .header .encoding)) (take first (u .bytes)),
           length-take-le first (u .bytes) hi,
         )
 
     unit-is : unitBytes x u lists places kept ≡ front ++ bytesFrom x u lists places kept
-    unfolding unitBytes
+    unfolding unitBytes headerBytes
     unit-is = refl
 
     pub unit-size : length (unitBytes x u lists places kept) ≡ first + sizeFrom kept

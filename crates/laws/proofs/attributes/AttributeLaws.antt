@@ -237,7 +237,7 @@ module _ (x : Sections) (room : Room) (typeUnits : Bool) (section : List ℕ) (w
 
   -- "Read again, a rewritten unit is the old tree less its dead entries, with order, nesting and, as document 01 has it, values kept.": the attributes of the m-th kept item, an entry, by the
   -- public reader of attributes at its new place
-  pub attributes-law : (h : UnitHeader) (ds : List Placed) (rows : List EntryRow) → headerOf section ≡ Header′ h
+  pub attributes-law : (h : UnitHeader) (ds : List Placed) (rows : List EntryRow) → headerOf (x .setting .«big_endian») section ≡ Header′ h
       → abbreviationsOf (x .abbreviations) (h .abbreviations) ≡ some ds → analysisOf x section (room .tables) ≡ analysed rows
       → (m : ℕ) (s : NestedItem) (y : Entry) → Nth s m (survivorsIn x (unitOf h section ds) rows) → s .item ≡ entry y
       → EntryAgain (w .lists) (w .map) (h .encoding) x (unitOf h section ds .bytes) (w .output) (itemsIn x (thinnedOf h (w .output) ds)) m s y

@@ -374,7 +374,7 @@ module _ (x : Sections) (room : Room) (typeUnits : Bool) (section : List ℕ) (w
       }
 
   -- THE NUMBERS OF ATTRIBUTES, BY FORM: of the m-th kept item, an entry
-  pub form-law : (h : UnitHeader) (ds : List Placed) (rows : List EntryRow) → headerOf section ≡ Header′ h
+  pub form-law : (h : UnitHeader) (ds : List Placed) (rows : List EntryRow) → headerOf (x .setting .«big_endian») section ≡ Header′ h
       → abbreviationsOf (x .abbreviations) (h .abbreviations) ≡ some ds → analysisOf x section (room .tables) ≡ analysed rows
       → (m : ℕ) (s : NestedItem) (y : Entry) → Nth s m (survivorsIn x (unitOf h section ds) rows) → s .item ≡ entry y
       → EntryByForm x (unitOf h section ds) (thinnedOf h (w .output) ds) (w .lists) (w .map) (survivorsIn x (unitOf h section ds) rows) m s y

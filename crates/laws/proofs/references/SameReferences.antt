@@ -160,7 +160,7 @@ module _ (x : Sections) (section : List ℕ) (room : Rooms) (rows : List EntryRo
   not-analysed : (n : ℕ) → notAnalysed n ≡ analysed rows → ⊥
   not-analysed n q = let z : _≡_ {A = ℕ} 0 1 = cc in omega arith
 
-  by-declared : analysisOf x section room ≡ analysed rows → (h : UnitHeader) → headerOf section ≡ Header′ h
+  by-declared : analysisOf x section room ≡ analysed rows → (h : UnitHeader) → headerOf (x .setting .«big_endian») section ≡ Header′ h
       → (o : Option (List Placed)) → abbreviationsOf (x .abbreviations) (h .abbreviations) ≡ o
       → UnitReferences x section rows
   unfolding analysisOf headerAnalysed unitAnalysed onDeclared
@@ -180,8 +180,8 @@ module _ (x : Sections) (section : List ℕ) (room : Rooms) (rows : List EntryRo
         each = each-references x tablesOnly section h ds rows a;
       }
 
-  by-header : analysisOf x section room ≡ analysed rows → (o : HeaderRead) → headerOf section ≡ o
-      → ((headerOf section ≡ Empty) × (rows ≡ [])) ⊎ UnitReferences x section rows
+  by-header : analysisOf x section room ≡ analysed rows → (o : HeaderRead) → headerOf (x .setting .«big_endian») section ≡ o
+      → ((headerOf (x .setting .«big_endian») section ≡ Empty) × (rows ≡ [])) ⊎ UnitReferences x section rows
   unfolding analysisOf headerAnalysed
   by-header q Empty p = let z : analysed [] ≡ analysed rows = sym (ap (headerAnalysed x section room) p) ∙ q in inl (p, cc)
   by-header q (Refused n) p = absurd (not-analysed n (sym (ap (headerAnalysed x section room) p) ∙ q))
@@ -189,5 +189,5 @@ module _ (x : Sections) (section : List ℕ) (room : Rooms) (rows : List EntryRo
 
   -- THE LAW: where a unit is analysed, what keeps entries and what is patched are the same references; an empty section has no rows
   pub analysed-references : analysisOf x section room ≡ analysed rows
-      → ((headerOf section ≡ Empty) × (rows ≡ [])) ⊎ UnitReferences x section rows
-  analysed-references q = by-header q (headerOf section) refl
+      → ((headerOf (x .setting .«big_endian») section ≡ Empty) × (rows ≡ [])) ⊎ UnitReferences x section rows
+  analysed-references q = by-header q (headerOf (x .setting .«big_endian») section) refl

@@ -403,7 +403,7 @@ module _ (x : Sections) (section : List ℕ) (room : Rooms) (rows : List EntryRo
   not-analysed : (n : ℕ) → notAnalysed n ≡ analysed rows → ⊥
   not-analysed n q = let z : _≡_ {A = ℕ} 0 1 = cc in omega arith
 
-  by-declared : analysisOf x section room ≡ analysed rows → (h : UnitHeader) → headerOf section ≡ Header′ h
+  by-declared : analysisOf x section room ≡ analysed rows → (h : UnitHeader) → headerOf (x .setting .«big_endian») section ≡ Header′ h
       → (o : Option (List Placed)) → abbreviationsOf (x .abbreviations) (h .abbreviations) ≡ o
       → UnitRoles x section
   unfolding analysisOf headerAnalysed unitAnalysed onDeclared
@@ -415,13 +415,13 @@ module _ (x : Sections) (section : List ℕ) (room : Rooms) (rows : List EntryRo
   by-declared q h p (some ds) d =
       accepted-roles x tablesOnly section h ds rows (record { header = p; declared = d; analysis = q })
 
-  by-header : analysisOf x section room ≡ analysed rows → (o : HeaderRead) → headerOf section ≡ o
-      → (headerOf section ≡ Empty) ⊎ UnitRoles x section
+  by-header : analysisOf x section room ≡ analysed rows → (o : HeaderRead) → headerOf (x .setting .«big_endian») section ≡ o
+      → (headerOf (x .setting .«big_endian») section ≡ Empty) ⊎ UnitRoles x section
   unfolding analysisOf headerAnalysed
   by-header q Empty p = inl p
   by-header q (Refused n) p = absurd (not-analysed n (sym (ap (headerAnalysed x section room) p) ∙ q))
   by-header q (Header′ h) p = inr (by-declared q h p (abbreviationsOf (x .abbreviations) (h .abbreviations)) refl)
 
   -- THE LAW: where a unit is analysed, what is patched by roles is what its attributes hold by names and forms
-  pub analysed-roles : analysisOf x section room ≡ analysed rows → (headerOf section ≡ Empty) ⊎ UnitRoles x section
-  analysed-roles q = by-header q (headerOf section) refl
+  pub analysed-roles : analysisOf x section room ≡ analysed rows → (headerOf (x .setting .«big_endian») section ≡ Empty) ⊎ UnitRoles x section
+  analysed-roles q = by-header q (headerOf (x .setting .«big_endian») section) refl

@@ -160,7 +160,7 @@ module _ (x : Sections) (room : Room) (typeUnits : Bool) (section : List ℕ) wh
   abbrev asRead : UnitHeader → List Placed → Unit′
   asRead h ds = record { header = h; bytes = take (h .end) section; declared = ds }
 
-  module _ (h : UnitHeader) (header : headerOf section ≡ Header′ h) where
+  module _ (h : UnitHeader) (header : headerOf (x .setting .«big_endian») section ≡ Header′ h) where
     rows-staged : (ds : List Placed) → abbreviationsOf (x .abbreviations) (h .abbreviations) ≡ some ds → (rows : List EntryRow) → analysisOf x section (room .tables) ≡ analysed rows
         → Staged (rowsCollected x room typeUnits (asRead h ds) rows)
     unfolding rowsCollected
@@ -178,16 +178,16 @@ module _ (x : Sections) (room : Room) (typeUnits : Bool) (section : List ℕ) wh
     declared-staged none d = staged-refused 3 (at-abbreviations header d)
     declared-staged (some ds) d = analysed-staged ds d (analysisOf x section (room .tables)) refl
 
-  header-staged : (o : HeaderRead) → headerOf section ≡ o → Staged (headerCollected x room typeUnits section o)
+  header-staged : (o : HeaderRead) → headerOf (x .setting .«big_endian») section ≡ o → Staged (headerCollected x room typeUnits section o)
   unfolding headerCollected
   header-staged Empty q = staged-untouched _ _
-  header-staged (Refused n) q = staged-refused n (at-header q (header-refusal section n q))
+  header-staged (Refused n) q = staged-refused n (at-header q (header-refusal (x .setting .«big_endian») section n q))
   header-staged (Header′ h) q = declared-staged h q (abbreviationsOf (x .abbreviations) (h .abbreviations)) refl
 
   -- THE refusals of collect, by where they come from
   pub refusal-law : (n : ℕ) → collectOf x room typeUnits section ≡ refused n → RefusedAt x room typeUnits section n
   unfolding collectOf Staged
-  refusal-law n q = subst Staged q (header-staged (headerOf section) refl)
+  refusal-law n q = subst Staged q (header-staged (headerOf (x .setting .«big_endian») section) refl)
 
   not-so : (b : Bool) → b ≡ false → T (not b)
   not-so true q = absurd (false≢true (sym q))

@@ -166,7 +166,7 @@ declared-entries x section room h (some es) ds q =
     (take (h .end) section) room startOf _ _)
 
 pub entries-refusal : (x : Sections) (section : List ℕ) (room : Rooms) (h : UnitHeader) (ds : List Placed) (n : ℕ)
-    → headerOf section ≡ Unit′ h → abbreviationsOf (x .abbreviations) (h .abbreviations) ≡ some ds → analysisOf x section room ≡ notAnalysed n → EntriesRefusal n
+    → headerOf (x .setting .«big_endian») section ≡ Unit′ h → abbreviationsOf (x .abbreviations) (h .abbreviations) ≡ some ds → analysisOf x section room ≡ notAnalysed n → EntriesRefusal n
 unfolding analysisOf headerAnalysed unitAnalysed
 entries-refusal x section room h ds n q d a =
     analysed-of entriesNumbers _ n (declared-entries x section room h (abbreviationsOf (x .abbreviations) (h .abbreviations)) ds d)

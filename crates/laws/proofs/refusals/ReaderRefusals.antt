@@ -1,19 +1,17 @@
 -- "A refusal carries a number of document 01": the header's is 1 or 2, that of the references of an expression 2, 5, 7 or 11. Assumes nothing.
 use mathlib.Core.Path.{_≡_, sym, _∙_, subst}
-use Prim.Native.Nat.{ℕ, _-_, _/_}
+use Prim.Native.Nat.{ℕ, _/_}
 use mathlib.Core.Bool.{Bool, true, false, not}
 use mathlib.Core.List.{List, [], _∷_}
 use mathlib.Core.Logic.{_⊎_, inl, inr, ⊎-elim}
-use lib.ListN.{length}
 use lib.Dec.{T, eqb, leb}
 use mir.Facts.{eqb-yes, yes-eqb}
 use Rattle.readers.specs.Choice.{_and_, _or_}
 use Rattle.readers.proofs.Choice.{pick-either, and-both}
-use Rattle.readers.specs.Header.{present, right, encodingOf, headerMade, headerFields, headerOf}
+use Rattle.readers.specs.Header.{encodingOf, headerOf}
+use Rattle.readers.proofs.HeaderLaws.{header-cases}
 use Rattle.readers.specs.References.{walkOf, walkAnswer, referencesAnswer}
 use Rattle.laws.specs.RefusalNumbers.{OneOf, HeaderRefusal, ReferencesRefusal}
-use Rattle.readers.specs.declared.cursor.Number.{Number}
-use Rattle.readers.specs.declared.cursor.Number.the-variants.{Value, Unreadable}
 use Rattle.readers.specs.declared.header.HeaderRead.{HeaderRead}
 use Rattle.readers.specs.declared.header.HeaderRead.the-variants.{Unit as Unit′, Empty, Refused}
 use Rattle.readers.specs.declared.expressions.Walk.{Walk}
@@ -98,36 +96,13 @@ two-numbered : HeaderNumbered (Refused 2)
 unfolding HeaderNumbered isOneOf _or_
 two-numbered = one-of _ 2 tt
 
-present-numbered : (v : Number) (k : ℕ → HeaderRead) → ((n : ℕ) → HeaderNumbered (k n)) → HeaderNumbered (present v k)
-unfolding present
-present-numbered (Value v c) k h = h v
-present-numbered Unreadable k h = one-numbered
-
-right-numbered : (b : Bool) (h : HeaderRead) → HeaderNumbered h → HeaderNumbered (right b h)
-unfolding right
-right-numbered b h q = pick-either HeaderNumbered b h (Refused 2) (λ _. q) (λ _. two-numbered)
-
-made-numbered : (u : List ℕ) (t a o f : ℕ) → HeaderNumbered (headerMade u t a o f)
-unfolding headerMade HeaderNumbered
-made-numbered u t a o f = tt
-
-fields-numbered : (u : List ℕ) → HeaderNumbered (headerFields u)
-unfolding headerFields
-fields-numbered u =
-    present-numbered _ _ (λ v. right-numbered _ _ (present-numbered _ _ (λ t. right-numbered _ _
-    (present-numbered _ _ (λ a. right-numbered _ _ (present-numbered _ _ (λ o.
-    pick-either HeaderNumbered (eqb t 1) _ _ (λ _. made-numbered u t a o 12) (λ _. present-numbered _ _ (λ _. made-numbered u t a o 20)))))))))
-
-pub header-numbered : (s : List ℕ) → HeaderNumbered (headerOf s)
-unfolding headerOf HeaderNumbered
-header-numbered s =
-    pick-either HeaderNumbered (eqb (length s) 0) Empty _ (λ _. tt)
-    (λ _. present-numbered _ _ (λ n. pick-either HeaderNumbered (leb 0xfffffff0 n) (Refused 2) _ (λ _. two-numbered)
-    (λ _. pick-either HeaderNumbered (leb n (length s - 4)) _ (Refused 1) (λ _. fields-numbered _) (λ _. one-numbered))))
-
-pub header-refusal : (s : List ℕ) (n : ℕ) → headerOf s ≡ Refused n → HeaderRefusal n
+pub header-numbered : (big : Bool) (s : List ℕ) → HeaderNumbered (headerOf big s)
 unfolding HeaderNumbered
-header-refusal s n q = subst HeaderNumbered q (header-numbered s)
+header-numbered big s = header-cases big s HeaderNumbered (λ _. tt) one-numbered two-numbered (λ h l. tt)
+
+pub header-refusal : (big : Bool) (s : List ℕ) (n : ℕ) → headerOf big s ≡ Refused n → HeaderRefusal n
+unfolding HeaderNumbered
+header-refusal big s n q = subst HeaderNumbered q (header-numbered big s)
 
 -- ---- the references of an expression: 2, 5, 7 or 11
 
@@ -141,9 +116,10 @@ walk-numbered room NoWalk = one-of _ 5 tt
 walk-numbered room (Walked n true) = one-of _ 7 tt
 walk-numbered room (Walked n false) = pick-either ReferencesNumbered (leb n room) (Count n) (Refused′ 11) (λ _. tt) (λ _. one-of _ 11 tt)
 
-pub references-refusal : (n numbers : ℕ) (s : List ℕ) (k : ℕ) → referencesAnswer n numbers s ≡ Refused′ k → ReferencesRefusal k
+pub references-refusal : (a : ℕ) (big : Bool) (numbers : ℕ) (s : List ℕ) (k : ℕ) → referencesAnswer a big numbers s ≡ Refused′ k
+    → ReferencesRefusal k
 unfolding referencesAnswer ReferencesNumbered isOneOf _or_
-references-refusal n numbers s k q =
+references-refusal a big numbers s k q =
     subst ReferencesNumbered q
-    (pick-either ReferencesNumbered (eqb n 4 or eqb n 8) (walkAnswer (numbers / 3) (walkOf (encodingOf n) s)) (Refused′ 2)
-    (λ _. walk-numbered (numbers / 3) (walkOf (encodingOf n) s)) (λ _. one-of _ 2 tt))
+    (pick-either ReferencesNumbered (eqb a 4 or eqb a 8) (walkAnswer (numbers / 3) (walkOf (encodingOf big 5 4 a) s)) (Refused′ 2)
+    (λ _. walk-numbered (numbers / 3) (walkOf (encodingOf big 5 4 a) s)) (λ _. one-of _ 2 tt))

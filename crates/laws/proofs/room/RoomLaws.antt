@@ -99,7 +99,7 @@ unfolding rowsCollected
 rows-marked x lent typeUnits u [] h = absurd (omega arith)
 rows-marked x lent typeUnits u (r ∷ rows) h = refl
 
-module _ (x : Sections) (typeUnits : Bool) (section : List ℕ) (h : UnitHeader) (ds : List Placed) (header : headerOf section ≡ Header′ h)
+module _ (x : Sections) (typeUnits : Bool) (section : List ℕ) (h : UnitHeader) (ds : List Placed) (header : headerOf (x .setting .«big_endian») section ≡ Header′ h)
     (declared : abbreviationsOf (x .abbreviations) (h .abbreviations) ≡ some ds) (rows : List EntryRow) (some-row : 0 < length rows) (tables : TableLaw x section rows) where
   abbrev unit : Unit′
   unit = unitOf h section ds
@@ -214,7 +214,7 @@ module _ (x : Sections) (typeUnits : Bool) (section : List ℕ) (h : UnitHeader)
 -- ---- a unit without entries
 
 module _ (x : Sections) (typeUnits : Bool) (section : List ℕ) (lent : Room) where
-  declared-empty : (h : UnitHeader) (o : Option (List Placed)) → abbreviationsOf (x .abbreviations) (h .abbreviations) ≡ o → headerOf section ≡ Header′ h
+  declared-empty : (h : UnitHeader) (o : Option (List Placed)) → abbreviationsOf (x .abbreviations) (h .abbreviations) ≡ o → headerOf (x .setting .«big_endian») section ≡ Header′ h
       → analysisOf x section (lent .tables) ≡ analysed [] → declaredCollected x lent typeUnits section h o ≡ untouched 0 noLists
   unfolding declaredCollected analysedCollected rowsCollected analysisOf headerAnalysed unitAnalysed onDeclared
   declared-empty h none d q a =
@@ -222,7 +222,7 @@ module _ (x : Sections) (typeUnits : Bool) (section : List ℕ) (lent : Room) wh
       let z : _≡_ {A = ℕ} 0 1 = cc in absurd (omega arith)
   declared-empty h (some ds) d q a = ap (analysedCollected x lent typeUnits (unitOf h section ds)) a
 
-  header-empty : (o : HeaderRead) → headerOf section ≡ o → analysisOf x section (lent .tables) ≡ analysed [] → headerCollected x lent typeUnits section o ≡ untouched 0 noLists
+  header-empty : (o : HeaderRead) → headerOf (x .setting .«big_endian») section ≡ o → analysisOf x section (lent .tables) ≡ analysed [] → headerCollected x lent typeUnits section o ≡ untouched 0 noLists
   unfolding headerCollected analysisOf headerAnalysed
   header-empty Empty q a = refl
   header-empty (Refused n) q a =
@@ -232,7 +232,7 @@ module _ (x : Sections) (typeUnits : Bool) (section : List ℕ) (lent : Room) wh
 
   collected-empty : analysisOf x section (lent .tables) ≡ analysed [] → collectOf x lent typeUnits section ≡ untouched 0 noLists
   unfolding collectOf
-  collected-empty a = header-empty (headerOf section) refl a
+  collected-empty a = header-empty (headerOf (x .setting .«big_endian») section) refl a
 
 no-names : (n m : ℕ) → m < length (namesIn (take n [])) → ⊥
 unfolding namesIn
@@ -529,16 +529,16 @@ module _ (x : Sections) (lent : Room) (typeUnits : Bool) (section : List ℕ) wh
   declared-roomy h none w = one-of roomyNumbers 3 tt
   declared-roomy h (some ds) w = analysed-roomy (unitOf h section ds) w (analysisOf x section (lent .tables)) refl
 
-  header-roomy : (o : HeaderRead) → headerOf section ≡ o → Within (headerRoom x section o) lent → Roomy (headerCollected x lent typeUnits section o)
+  header-roomy : (o : HeaderRead) → headerOf (x .setting .«big_endian») section ≡ o → Within (headerRoom x section o) lent → Roomy (headerCollected x lent typeUnits section o)
   unfolding headerCollected headerRoom Roomy areOf isOneOf _or_ _and_
   header-roomy Empty q w = tt
-  header-roomy (Refused n) q w = wider (1 ∷ 2 ∷ []) roomyNumbers n tt (header-refusal section n q)
+  header-roomy (Refused n) q w = wider (1 ∷ 2 ∷ []) roomyNumbers n tt (header-refusal (x .setting .«big_endian») section n q)
   header-roomy (Header′ h) q w = declared-roomy h (abbreviationsOf (x .abbreviations) (h .abbreviations)) w
 
   -- "with enough room 10 to 14 never come"
   pub enough-law : Within (enoughRoom x section) lent → (n : ℕ) → collectOf x lent typeUnits section ≡ refused n → RoomyRefusal n
   unfolding collectOf enoughRoom Roomy
-  enough-law w n q = subst Roomy q (header-roomy (headerOf section) refl w)
+  enough-law w n q = subst Roomy q (header-roomy (headerOf (x .setting .«big_endian») section) refl w)
 
 -- ---- every room: an accepted answer stays, or something is too short
 

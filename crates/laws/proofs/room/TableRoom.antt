@@ -205,7 +205,7 @@ module _ (x : Sections) (w r : Rooms) where
 
   rooms-told : (section : List ℕ) (rows : List EntryRow) → analysisOf x section w ≡ analysed rows → Told 0 0 rows r (analysisOf x section r)
   unfolding analysisOf
-  rooms-told section rows q = gives-of _ _ rows (header-told section (headerOf section)) q
+  rooms-told section rows q = gives-of _ _ rows (header-told section (headerOf (x .setting .«big_endian») section)) q
 
 -- THE law of lent tables
 pub table-law : (x : Sections) (w : Rooms) (section : List ℕ) (rows : List EntryRow) → analysisOf x section w ≡ analysed rows → TableLaw x section rows
@@ -274,4 +274,4 @@ module _ (x : Sections) (section : List ℕ) (room : Rooms) where
 
   pub enough-tables : TablesWithin (enoughTables x section) room → (n : ℕ) → analysisOf x section room ≡ refused n → InputRefusal n
   unfolding analysisOf enoughTables
-  enough-tables t n q = analysed-of inputNumbers (analysisOf x section room) n (header-input (headerOf section) (header-numbered section) t) q
+  enough-tables t n q = analysed-of inputNumbers (analysisOf x section room) n (header-input (headerOf (x .setting .«big_endian») section) (header-numbered (x .setting .«big_endian») section) t) q

@@ -1,30 +1,24 @@
 -- THE LAW OF DEMAND 3 about the survivors of a unit, whatever becomes of it: marked, rewritten, left untouched, or refused
 -- after its analysis. Assumes nothing but that the unit is analysed.
 use mathlib.Core.Path.{_≡_, refl, ap, ap₂, sym, _∙_, subst}
-use Prim.Native.Nat.{ℕ, suc, _+_, _-_, _<_}
+use Prim.Native.Nat.{ℕ, suc, _<_}
 use native.Mathlib.Omega.{arith}
-use mathlib.Core.Bool.{Bool, true, false}
+use mathlib.Core.Bool.{Bool, true}
 use mathlib.Core.List.{List, [], _∷_}
 use mathlib.Core.Option.{Option, none, some}
 use mathlib.Core.Logic.{_⊎_, inl, inr, ⊎-elim}
 use lib.ListN.{length, getD, take}
-use lib.Dec.{eqb, leb}
-use mir.Facts.{eqb-yes}
-use Rattle.readers.specs.Choice.{_or_}
-use Rattle.readers.proofs.Choice.{pick-either}
-use Rattle.readers.specs.Cursors.{fixedAt}
 use Rattle.readers.specs.Abbreviations.{Placed, abbreviationsOf}
 use Rattle.readers.specs.Nesting.{opened, closed}
 use Rattle.readers.specs.Stream.{Item, entry, terminator}
-use Rattle.readers.specs.Header.{present, right, headerMade, headerFields, headerOf}
+use Rattle.readers.specs.Header.{headerOf}
 use Rattle.readers.specs.declared.cursor.Encoding.{Encoding}
 use Rattle.readers.specs.declared.entries.Entry.{Entry}
-use Rattle.readers.specs.declared.cursor.Number.{Number as Number′}
-use Rattle.readers.specs.declared.cursor.Number.the-variants.{Value, Unreadable}
 use Rattle.readers.specs.declared.header.UnitHeader.{UnitHeader}
 use Rattle.readers.specs.declared.header.HeaderRead.{HeaderRead}
 use Rattle.readers.specs.declared.header.HeaderRead.the-variants.{Unit as Unit′, Empty, Refused}
 use Rattle.readers.proofs.Headers.{header-empty}
+use Rattle.readers.proofs.HeaderLaws.{header-cases, header-laws}
 use Rattle.marking.specs.Below.{Number}
 use Rattle.marking.specs.Graph.{noParent, wellFormed}
 use Rattle.marking.specs.Survivors.{Survivor}
@@ -51,47 +45,16 @@ use Rattle.marking.proofs.UnitMarkings.{graph-size, marks-each}
 
 -- ---- only an empty section has no header
 
-unfoldable Headed : HeaderRead → Type 0
-Headed Empty = ⊥
-Headed (Refused n) = Unit {0}
-Headed (Unit′ h) = Unit {0}
+unfoldable NotEmpty : HeaderRead → Type 0
+NotEmpty Empty = ⊥
+NotEmpty (Refused n) = Unit {0}
+NotEmpty (Unit′ h) = Unit {0}
 
-headed-present : (n : Number′) (k : ℕ → HeaderRead) → ((v : ℕ) → Headed (k v)) → Headed (present n k)
-unfolding present Headed
-headed-present (Value v c) k h = h v
-headed-present Unreadable k h = tt
-
-headed-right : (b : Bool) (r : HeaderRead) → Headed r → Headed (right b r)
-unfolding right Headed
-headed-right b r h = pick-either Headed b r (Refused 2) (λ _. h) (λ _. tt)
-
-headed-made : (u : List ℕ) (t a b first : ℕ) → Headed (headerMade u t a b first)
-unfolding headerMade Headed
-headed-made u t a b first = tt
-
-headed-fields : (u : List ℕ) → Headed (headerFields u)
-unfolding headerFields
-headed-fields u =
-    headed-present (fixedAt false 2 u 4) _ (λ version. headed-right (eqb version 5) _
-    (headed-present (fixedAt false 1 u 6) _ (λ unitType. headed-right (eqb unitType 1 or eqb unitType 5) _
-    (headed-present (fixedAt false 1 u 7) _ (λ addressSize. headed-right (eqb addressSize 4 or eqb addressSize 8) _
-    (headed-present (fixedAt false 4 u 8) _ (λ abbreviations.
-    pick-either Headed (eqb unitType 1) _ _
-    (λ _. headed-made u unitType addressSize abbreviations 12)
-    (λ _. headed-present (fixedAt false 8 u 12) _ (λ _. headed-made u unitType addressSize abbreviations 20)))))))))
-
-header-headed : (b : ℕ) (s : List ℕ) → Headed (headerOf (b ∷ s))
-unfolding headerOf Headed
-header-headed b s =
-    pick-either Headed (eqb (length (b ∷ s)) 0) _ _ (λ t. let z : length (b ∷ s) ≡ 0 = eqb-yes {a = length (b ∷ s)} {b = 0} t in absurd (omega arith)) (λ _.
-    headed-present (fixedAt false 4 (b ∷ s) 0) _ (λ n.
-    pick-either Headed (leb 0xfffffff0 n) _ _ (λ _. tt) (λ _.
-    pick-either Headed (leb n (length (b ∷ s) - 4)) _ _ (λ _. headed-fields (take (4 + n) (b ∷ s))) (λ _. tt))))
-
-empty-section : (s : List ℕ) → headerOf s ≡ Empty → s ≡ []
-unfolding Headed
-empty-section [] q = refl
-empty-section (b ∷ s) q = absurd (subst Headed q (header-headed b s))
+empty-section : (big : Bool) (s : List ℕ) → headerOf big s ≡ Empty → s ≡ []
+unfolding NotEmpty
+empty-section big [] q = refl
+empty-section big (b ∷ s) q =
+    absurd (subst NotEmpty q (header-cases big (b ∷ s) NotEmpty (λ z. absurd (omega (arith, z))) tt tt (λ h l. tt)))
 
 -- ---- of a unit that is analysed
 
@@ -124,13 +87,13 @@ module _ (x : Sections) (section : List ℕ) (room : Rooms) (rows : List EntryRo
 
   -- ---- the unit
 
-  undeclared : (h : UnitHeader) → headerOf section ≡ Unit′ h → abbreviationsOf (x .abbreviations) (h .abbreviations) ≡ none → ⊥
+  undeclared : (h : UnitHeader) → headerOf (x .setting .«big_endian») section ≡ Unit′ h → abbreviationsOf (x .abbreviations) (h .abbreviations) ≡ none → ⊥
   unfolding analysisOf headerAnalysed unitAnalysed onDeclared
   undeclared h q d =
       let p = sym (ap (headerAnalysed x section room) q) ∙ analysis in
       let z : _≡_ {A = ℕ} 0 1 = cc in omega arith
 
-  declared-unit : (h : UnitHeader) → headerOf section ≡ Unit′ h
+  declared-unit : (h : UnitHeader) → headerOf (x .setting .«big_endian») section ≡ Unit′ h
       → (o : Option (List Placed)) → abbreviationsOf (x .abbreviations) (h .abbreviations) ≡ o → FirstUnit x section rows
   declared-unit h q none d = absurd (undeclared h q d)
   declared-unit h q (some ds) d =
@@ -138,21 +101,22 @@ module _ (x : Sections) (section : List ℕ) (room : Rooms) (rows : List EntryRo
         header = h;
         declared = ds;
         header-is = q;
+        known = header-laws (x .setting .«big_endian») section h q .known;
         declared-is = d;
         whole = items-whole x section room h ds rows q d analysis;
         each = items-rows x section room h ds rows q d analysis;
       }
 
-  header-unit : (o : HeaderRead) → headerOf section ≡ o → headerAnalysed x section room o ≡ analysed rows
+  header-unit : (o : HeaderRead) → headerOf (x .setting .«big_endian») section ≡ o → headerAnalysed x section room o ≡ analysed rows
       → ((section ≡ []) × (rows ≡ [])) ⊎ FirstUnit x section rows
   unfolding headerAnalysed
-  header-unit Empty q a = inl (empty-section section q, (let z : rows ≡ [] = cc in z))
+  header-unit Empty q a = inl (empty-section (x .setting .«big_endian») section q, (let z : rows ≡ [] = cc in z))
   header-unit (Refused n) q a = let z : _≡_ {A = ℕ} 0 1 = cc in absurd (omega arith)
   header-unit (Unit′ h) q a = inr (declared-unit h q (abbreviationsOf (x .abbreviations) (h .abbreviations)) refl)
 
   first-unit : ((section ≡ []) × (rows ≡ [])) ⊎ FirstUnit x section rows
   unfolding analysisOf
-  first-unit = header-unit (headerOf section) refl analysis
+  first-unit = header-unit (headerOf (x .setting .«big_endian») section) refl analysis
 
   few-rows : length rows < noParent
   few-rows =
@@ -161,7 +125,7 @@ module _ (x : Sections) (section : List ℕ) (room : Rooms) (rows : List EntryRo
       (λ (u : FirstUnit x section rows).
       let l : UnitRows (take (u .header .end) section) room (u .header .first .0) rows =
       own-rows x section room (u .header) (u .declared) rows (u .header-is) (u .declared-is) analysis in
-      omega (arith, l .few, small-unit section (u .header) (u .header-is)))
+      omega (arith, l .few, small-unit (x .setting .«big_endian») section (u .header) (u .header-is)))
       first-unit
 
   -- THE survivors of a unit
@@ -235,8 +199,8 @@ module _ (x : Sections) (section : List ℕ) (a b : List EntryRow) where
 
   no-first : section ≡ [] → (rows : List EntryRow) → FirstUnit x section rows → ⊥
   no-first s rows u =
-      let p : headerOf section ≡ Empty = header-empty section (ap length s) in
-      let q : headerOf section ≡ Unit′ (u .header) = u .header-is in
+      let p : headerOf (x .setting .«big_endian») section ≡ Empty = header-empty (x .setting .«big_endian») section (ap length s) in
+      let q : headerOf (x .setting .«big_endian») section ≡ Unit′ (u .header) = u .header-is in
       let z : _≡_ {A = ℕ} 0 1 = cc in omega arith
 
   -- what is promised of the rows is so of no others: no parent, list base or reference can be another one, and none can be missing

@@ -114,7 +114,7 @@ module _ {I : Type 0} (table : I → List ℕ) where
     items-by e unit room p (entry y ∷ is) whole =
         pick-of Q (ltb (p .count) (room .entries)) _ _
         (a .of-verdict _
-        (root-by v e (x .ranges) (x .rangesBase) (baseOf e x unit «DW_AT_rnglists_base» (p .rnglistsBase) y) unit (tagOf y)
+        (root-by v e (x .ranges) (x .setting .«ranges_base») (baseOf e x unit «DW_AT_rnglists_base» (p .rnglistsBase) y) unit (tagOf y)
         (valuesOfEntry e x unit y)) _
         (λ root r. found-by (namesOf e x unit (baseOf e x unit «DW_AT_loclists_base» (p .loclistsBase) y) y) (attributes-numbered e _ _) _
         (λ names. pick-of Q (leb (p .references + length names) (room .references)) _ _
@@ -140,4 +140,4 @@ module _ {I : Type 0} (table : I → List ℕ) where
 
       pub analysis-by : (section : List ℕ) (room : Rooms) → Q (λ i. analysisOf (withTable x (table i)) section room)
       unfolding analysisOf
-      analysis-by section room = header-by section room (headerOf section) (header-numbered section)
+      analysis-by section room = header-by section room (headerOf (x .setting .«big_endian») section) (header-numbered (x .setting .«big_endian») section)

@@ -120,7 +120,7 @@ module _ (x : Sections) (section : List ℕ) (room : Rooms) where
 
 module _ (x : Sections) (room : Room) (typeUnits : Bool) (section : List ℕ) where
   module _ (n : ℕ) (q : analysisOf x section (room .tables) ≡ notAnalysed n) where
-    by-declared : (h : UnitHeader) → headerOf section ≡ Header′ h → (o : Option (List Placed))
+    by-declared : (h : UnitHeader) → headerOf (x .setting .«big_endian») section ≡ Header′ h → (o : Option (List Placed))
         → abbreviationsOf (x .abbreviations) (h .abbreviations) ≡ o → declaredCollected x room typeUnits section h o ≡ refused n
     unfolding declaredCollected analysedCollected analysisOf headerAnalysed unitAnalysed onDeclared
     by-declared h e (some ds) d = ap (analysedCollected x room typeUnits (unitOf h section ds)) q
@@ -128,7 +128,7 @@ module _ (x : Sections) (room : Room) (typeUnits : Bool) (section : List ℕ) wh
         let three : headerAnalysed x section (room .tables) (Header′ h) ≡ notAnalysed 3 = rw d in
         ap refused (same-refusal 3 n (sym (ap (headerAnalysed x section (room .tables)) e ∙ three) ∙ q))
 
-    by-header : (h : HeaderRead) → headerOf section ≡ h → headerCollected x room typeUnits section h ≡ refused n
+    by-header : (h : HeaderRead) → headerOf (x .setting .«big_endian») section ≡ h → headerCollected x room typeUnits section h ≡ refused n
     unfolding headerCollected analysisOf headerAnalysed
     by-header Empty e =
         let r : analysed [] ≡ notAnalysed n = sym (ap (headerAnalysed x section (room .tables)) e) ∙ q in
@@ -139,7 +139,7 @@ module _ (x : Sections) (room : Room) (typeUnits : Bool) (section : List ℕ) wh
     -- an analysis that is refused is collect's refusal
     analysis-refused : collectOf x room typeUnits section ≡ refused n
     unfolding collectOf
-    analysis-refused = by-header (headerOf section) refl
+    analysis-refused = by-header (headerOf (x .setting .«big_endian») section) refl
 
   at-table : (n : ℕ) → OneOf tableNumbers n → StageOf x room typeUnits section n → analysisOf x section (room .tables) ≡ notAnalysed n
   unfolding isOneOf areApart _or_ _and_

@@ -109,4 +109,4 @@ module _ (x : Sections) (a b : List ℕ) (room : Room) (typeUnits : Bool) (secti
 
     pub same-collected : collectOf (withTable x a) room typeUnits section ≡ collectOf (withTable x b) room typeUnits section
     unfolding collectOf
-    same-collected = same-headers (headerOf section)
+    same-collected = same-headers (headerOf (x .setting .«big_endian») section)

@@ -47,7 +47,7 @@ use Rattle.laws.proofs.again.Sizes.{items-inside}
 use Rattle.rewriting.proofs.list_pass.Tables.{Small, length-run, run-at}
 use Rattle.rewriting.proofs.map_pass.Places.{nowhere, length-columns, old-held, new-held, depth-held}
 use Rattle.rewriting.proofs.map_pass.Exact.{are-take, are-drop, tokenOk, LayoutOk, Right, Rights, AllRights, Exactly, ExactReader, RunExact, read-exact, inExpression, expression-exactly}
-use Rattle.rewriting.proofs.write_pass.HeaderAgain.{HeaderLaw}
+use Rattle.readers.proofs.HeaderLaws.{HeaderLaw}
 use Rattle.rewriting.proofs.whole.AcceptedUnits.{Accepted}
 use Rattle.laws.specs.LeftOut.{survivorsIn}
 use Rattle.laws.proofs.again.Accepted.{accepted-header, WasRewritten}
@@ -368,7 +368,7 @@ module _ (x : Sections) (room : Room) (typeUnits : Bool) (section : List ℕ) wh
 
   roomed : Roomed (collectOf x room typeUnits section)
   unfolding collectOf
-  roomed = header-roomed (headerOf section)
+  roomed = header-roomed (headerOf (x .setting .«big_endian») section)
 
   rewritten-fit : (w : Rewrite) → collectOf x room typeUnits section ≡ rewritten w → T (listsFit room (w .lists))
   unfolding Roomed
@@ -435,7 +435,7 @@ module _ (x : Sections) (room : Room) (typeUnits : Bool) (section : List ℕ) (w
       let l : 0 < length (o .rows) = omega (arith, o .dead, marks-each (o .rows)) in
       marks-held x room typeUnits section w u (marksIn (o .rows)) ks (sym (collect-is x room typeUnits section (o .header) (o .declared) (o .rows) (o .accepted) l) ∙ answer)
 
-  header-is : HeaderLaw (u .bytes) (o .header)
+  header-is : HeaderLaw (x .setting .«big_endian») (u .bytes) (o .header)
   header-is = accepted-header x room section (o .header) (o .declared) (o .rows) (o .accepted)
 
   kept-below : (s : NestedItem) → Member s ks → (offsetOf (s .item) < length (u .bytes)) × (s .depth ≤ offsetOf (s .item)) × (0 < sizeOf (s .item))
@@ -455,7 +455,7 @@ module _ (x : Sections) (room : Room) (typeUnits : Bool) (section : List ℕ) (w
       let r0 : p .old < length (u .bytes) = r .0 in
       let r1 : p .depth ≤ p .old = r .1 in
       let r2 : p .new < n + sizeFrom ks = r .2 in
-      let z : length (u .bytes) < 0xfffffff4 = header-is .short in
+      let z : length (u .bytes) < 0xfffffff4 = header-is .below in
       let y : length (w .output) ≡ n + sizeFrom ks = again-law x room typeUnits section w answer .size in
       let v : length (w .output) ≤ length (u .bytes) = omega (arith, bytes-law x room typeUnits section w answer) in
       (omega arith, omega arith, omega arith)

@@ -25,7 +25,7 @@ use Rattle.laws.specs.inner.Moved.{movedFrom}
 use Rattle.rewriting.specs.Rewriting.{Unit as Unit′, unitOf, itemsIn, readsOr, readsAt, Lists, listAt, newValue, isSome, refusalFrom, Room, Rewrite, untouched, rewritten, collectOf}
 use Rattle.laws.specs.Thinned.{Pairwise, Beside, LandsOn, FirstFrom, Becomes, PieceAgain, ReadAgain, readAt, SideBySide, IndexKept, IndexList, thinnedOf, Thinned, UntouchedLists, Untouched}
 use Rattle.laws.specs.SameReferences.{UnitReferences}
-use Rattle.rewriting.proofs.write_pass.HeaderAgain.{HeaderLaw}
+use Rattle.readers.proofs.HeaderLaws.{HeaderLaw}
 use Rattle.laws.proofs.survivors.UnitLaws.{unit-survivors}
 use Rattle.marking.proofs.UnitMarkings.{marks-each}
 use Rattle.laws.proofs.survivors.ClosedMarks.{accepted-kept}
@@ -314,7 +314,7 @@ module _ (x : Sections) (room : Room) (typeUnits : Bool) (section : List ℕ) (w
   lists-law : (k : ℕ) → k < 3 → (xs : List ℕ) → listAt (w .lists) k ≡ some xs → IndexList x was items k xs
   lists-law k h xs q = index-list x was items (readable-law x room typeUnits section w answer) k xs (list-law x room typeUnits section w answer k h xs q)
 
-  header-law : HeaderLaw (was .bytes) (it x room typeUnits section w answer .header)
+  header-law : HeaderLaw (x .setting .«big_endian») (was .bytes) (it x room typeUnits section w answer .header)
   header-law = accepted-header x room section (it x room typeUnits section w answer .header) (it x room typeUnits section w answer .declared) (it x room typeUnits section w answer .rows) (it x room typeUnits section w answer .accepted)
 
   same-references : UnitReferences x section (it x room typeUnits section w answer .rows)

@@ -14,7 +14,7 @@ use Rattle.readers.specs.Header.{headerOf}
 use Rattle.readers.specs.declared.header.HeaderRead.the-variants.{Unit as Header′}
 
 pub record Accepted (x : Sections) (room : Room) (section : List ℕ) (h : UnitHeader) (ds : List Placed) (rows : List EntryRow) : Type 0 where
-  pub header : headerOf section ≡ Header′ h
+  pub header : headerOf (x .setting .«big_endian») section ≡ Header′ h
   pub declared : abbreviationsOf (x .abbreviations) (h .abbreviations) ≡ some ds
   pub analysis : analysisOf x section (room .tables) ≡ analysed rows
 

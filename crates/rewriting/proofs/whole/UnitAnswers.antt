@@ -1,6 +1,7 @@
 -- The unit of marked tables: what its parts ask for holds, and what they answer is the answer for it. Assumes nothing.
 use mathlib.Core.Path.{_≡_, refl, ap, sym, _∙_, subst}
-use Prim.Native.Nat.{ℕ, zero, suc, _-_, _^_, _≤_, _<_}
+use Prim.Native.Nat.{ℕ, zero, suc, _+_, _-_, _^_, _≤_, _<_}
+use mathlib.Core.Logic.{inl}
 use native.Mathlib.Omega.{arith}
 use mathlib.Core.Bool.{Bool, true, false, false≢true}
 use mathlib.Core.List.{List, [], _∷_, _++_}
@@ -36,7 +37,8 @@ use Rattle.rewriting.specs.declared.collect.Listed.{Listed}
 use Rattle.rewriting.specs.declared.collect.Listed.the-variants.{Made, Short}
 use Rattle.rewriting.specs.declared.collect.Collected.{Collected as Answer}
 use Rattle.rewriting.specs.declared.collect.Collected.the-variants.{Untouched, Refused}
-use Rattle.rewriting.proofs.write_pass.HeaderAgain.{HeaderLaw, header-laws}
+use Rattle.readers.specs.Header.{lengthSize}
+use Rattle.readers.proofs.HeaderLaws.{HeaderLaw, header-laws}
 use Rattle.rewriting.proofs.whole.AcceptedUnits.{Accepted}
 use Rattle.rewriting.proofs.kept_pass.ReadableItems.{accepted-readable}
 use Rattle.rewriting.proofs.kept_pass.ParentsOf.{parents-held, parents-of}
@@ -96,8 +98,8 @@ module _ (x : Sections) (tables : Rooms) (section : List ℕ) (h : UnitHeader) (
   abbrev how : Reading
   how = reading (h .abbreviations) (h .encoding)
 
-  law : HeaderLaw (take (h .end) section) h
-  law = header-laws section h (w .header-is)
+  law : HeaderLaw (x .setting .«big_endian») (take (h .end) section) h
+  law = header-laws (x .setting .«big_endian») section h (w .header-is)
 
   read-as : ReadAs x own how s unit
   read-as =
@@ -134,7 +136,7 @@ module _ (x : Sections) (tables : Rooms) (section : List ℕ) (h : UnitHeader) (
   length-unit = ap length is
 
   below : length unit < 2 ^ 32
-  below = let l : length (take (h .end) section) < 0xfffffff4 = law .short in let z : length unit < 2 ^ 32 = omega (arith, length-unit) in z
+  below = let l : length (take (h .end) section) < 0xfffffff4 = law .below in let z : length unit < 2 ^ 32 = omega (arith, length-unit) in z
 
   -- the column of ends has room for all entries
   entries-fit : entryCount (itemsBy how s index unit (h .first .0)) ≤ length ends
@@ -160,9 +162,11 @@ module _ (x : Sections) (tables : Rooms) (section : List ℕ) (h : UnitHeader) (
   unit-writable map ranges locations strings out b =
       record {
         first-is = refl;
-        twelve = law .twelve;
+        after = law .after;
         inside = let l : h .first .0 ≤ length (take (h .end) section) = law .inside in omega (arith, length-unit);
-        little = law .little;
+        wide = inl (law .known .offset-is);
+        short =
+            subst (λ (n : ℕ). n < lengthSize (h .encoding) + 256 ^ h .encoding .«offset_size») (sym length-unit) (law .short);
         places-are = refl;
         bytes-are = refl;
         map-blank = b .map-blank;

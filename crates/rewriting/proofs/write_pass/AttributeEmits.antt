@@ -35,9 +35,9 @@ use Rattle.rewriting.proofs.write_pass.ValueForms.{onlyAbsolute, expres
 use Rattle.rewriting.proofs.write_pass.ValueParts.{Value, value-of}
 use Rattle.rewriting.proofs.write_pass.ValueEmits.{expression-emits, reference-emits, sibling-emits, index-emits, copied-emits}
 
-module _ (e : Encoding) (unit : List ℕ) (values name declared : ℕ) (value : Attribute) (b : T (areBytes unit)) (l : e .«big_endian» ≡ false) (i : values ≤ length unit)
+module _ (e : Encoding) (unit : List ℕ) (values name declared : ℕ) (value : Attribute) (b : T (areBytes unit)) (i : values ≤ length unit)
     (attribute : attributeAt e unit values name declared ≡ Attribute′ value) (rs : List Read) (rest : List ℕ)
-    (deep : readIn false (expressionIn e) (attributeLayout e name declared) (drop values unit) ≡ some (rs, rest))
+    (deep : readIn (e .«big_endian») (expressionIn e) (attributeLayout e name declared) (drop values unit) ≡ some (rs, rest))
     (out : List ℕ) (at to : ℕ) (out₁ : List ℕ)
     (first : values ≤ value .field .start → value .field .start ≤ length unit → EmitsAt 0 (between unit values (value .field .start)) out at (To to) out₁)
     (lists : Lists) (map : List Place) (depth : ℕ) where
@@ -45,46 +45,46 @@ module _ (e : Encoding) (unit : List ℕ) (values name declared : ℕ) (value : 
   w = value-of e unit values name declared value i attribute rs rest deep
 
   abbrev Whole : Emitted → List ℕ → Type 0
-  Whole r out₂ = EmitsAt (readsRefusal lists map depth rs) (writeAll false (patchAll (newValue lists map depth) rs)) out at r out₂
+  Whole r out₂ = EmitsAt (readsRefusal lists map depth rs) (writeAll (e .«big_endian») (patchAll (newValue lists map depth) rs)) out at r out₂
 
   pub attribute-expression : value .form ≡ 0x18 → (part : List ℕ) → part ≡ partOf unit (value .field) → (r : Emitted) (out₂ : List ℕ)
-      → ((pieces : List Piece) → expressionIn e part ≡ some pieces → EmitsAt (piecesRefusal lists map depth pieces) (bytesOf false (patchPieces (newValue lists map depth) pieces)) out₁ to r out₂)
+      → ((pieces : List Piece) → expressionIn e part ≡ some pieces → EmitsAt (piecesRefusal lists map depth pieces) (bytesOf (e .«big_endian») (patchPieces (newValue lists map depth) pieces)) out₁ to r out₂)
       → Whole r out₂
   attribute-expression x part p r out₂ h =
-      expression-emits e unit values name value rs w l b out at to out₁ first lists map depth (expression-form e name (value .form) x) part p r out₂ h
+      expression-emits e unit values name value rs w b out at to out₁ first lists map depth (expression-form e name (value .form) x) part p r out₂ h
 
   module _ (leb′ : Bool) (p : leb′ ≡ lebForm (value .form)) (n : ℕ) (q : n ≡ value .field .end - value .field .start) (r : Emitted) (out₂ : List ℕ) where
     abbrev Offsets : Mapped → Type 0
-    Offsets new = (o : Option ℕ) (v : ℕ) → new ≡ asMapped o → Wide leb′ n → EmitsAt (offsetRefusal (encodedBy leb′ n) v o) (numberBytes false (encodedBy leb′ n) (orSelf v o)) out₁ to r out₂
+    Offsets new = (o : Option ℕ) (v : ℕ) → new ≡ asMapped o → Wide leb′ n → EmitsAt (offsetRefusal (encodedBy leb′ n) v o) (numberBytes (e .«big_endian») (encodedBy leb′ n) (orSelf v o)) out₁ to r out₂
 
     pub attribute-sibling : 0x11 ≤ value .form → value .form ≤ 0x15 → name ≡ 0x01 → (new : Mapped) → new ≡ asMapped (siblingOf map depth (value .field .value)) → Offsets new → Whole r out₂
     attribute-sibling lo hi k new x h =
-        sibling-emits e unit values name value rs w l b out at to out₁ first lists map depth (own e name) (reference-form e name (value .form) lo hi) leb′ p n q
+        sibling-emits e unit values name value rs w b out at to out₁ first lists map depth (own e name) (reference-form e name (value .form) lo hi) leb′ p n q
         (pick-yes _ _ _ (yes-eqb {a = name} {b = 0x01} k)) r out₂ new x h
 
     pub attribute-reference : 0x11 ≤ value .form → value .form ≤ 0x15 → (name ≡ 0x01 → ⊥) → (new : Mapped) → new ≡ asMapped (newOf map (value .field .value)) → Offsets new → Whole r out₂
     attribute-reference lo hi k new x h =
-        reference-emits e unit values name value rs w l b out at to out₁ first lists map depth (own e name) (reference-form e name (value .form) lo hi) leb′ p n q
+        reference-emits e unit values name value rs w b out at to out₁ first lists map depth (own e name) (reference-form e name (value .form) lo hi) leb′ p n q
         (pick-no _ _ _ (no-eqb {a = name} {b = 0x01} k)) r out₂ new x h
 
     module _ (v : ℕ) (list : List ℕ) (count : ListCount) (is : (o : Option (List ℕ)) → Lent o list count → v ≡ rankOr o (value .field .value)) (kind : ℕ) (k : kind ≡ listForm (value .form))
-        (h : Wide leb′ n → EmitsAt (numberRefusal (encodedBy leb′ n) v) (numberBytes false (encodedBy leb′ n) v) out₁ to r out₂) where
+        (h : Wide leb′ n → EmitsAt (numberRefusal (encodedBy leb′ n) v) (numberBytes (e .«big_endian») (encodedBy leb′ n) v) out₁ to r out₂) where
       pub attribute-ranges : kind ≡ 0 → Lent (lists .ranges) list count → Whole r out₂
       unfolding listAt pick
       attribute-ranges z lent =
-          index-emits e unit values name value rs w l b out at to out₁ first lists map depth (index 0) (ranges-form e name (value .form) (sym k ∙ z)) leb′ p n q
+          index-emits e unit values name value rs w b out at to out₁ first lists map depth (index 0) (ranges-form e name (value .form) (sym k ∙ z)) leb′ p n q
           0 refl v (is (lists .ranges) lent) r out₂ h
 
       pub attribute-locations : kind ≡ 1 → Lent (lists .locations) list count → Whole r out₂
       unfolding listAt pick
       attribute-locations z lent =
-          index-emits e unit values name value rs w l b out at to out₁ first lists map depth (index 1) (locations-form e name (value .form) (sym k ∙ z)) leb′ p n q
+          index-emits e unit values name value rs w b out at to out₁ first lists map depth (index 1) (locations-form e name (value .form) (sym k ∙ z)) leb′ p n q
           1 refl v (is (lists .locations) lent) r out₂ h
 
       pub attribute-strings : kind ≡ 2 → Lent (lists .strings) list count → Whole r out₂
       unfolding listAt pick
       attribute-strings z lent =
-          index-emits e unit values name value rs w l b out at to out₁ first lists map depth (index 2) (strings-form e name (value .form) (sym k ∙ z)) leb′ p n q
+          index-emits e unit values name value rs w b out at to out₁ first lists map depth (index 2) (strings-form e name (value .form) (sym k ∙ z)) leb′ p n q
           2 refl v (is (lists .strings) lent) r out₂ h
 
   pub attribute-copied : (value .form ≡ 0x18 → ⊥) → (leb 0x11 (value .form) and leb (value .form) 0x15) ≡ false → (kind : ℕ) → kind ≡ listForm (value .form)
@@ -92,7 +92,7 @@ module _ (e : Encoding) (unit : List ℕ) (values name declared : ℕ) (value : 
       → (value .field .start ≤ value .field .end → value .field .end ≤ length unit → EmitsAt 0 (between unit (value .field .start) (value .field .end)) out₁ to (To to₂) out₂)
       → Whole (To to₂) out₂
   attribute-copied x y kind k n0 n1 n2 to₂ out₂ h =
-      copied-emits e unit values name value rs w l b out at to out₁ first lists map depth
+      copied-emits e unit values name value rs w b out at to out₁ first lists map depth
       (token-ok onlyAbsolute e (useOf name (value .form)) (formToken (value .form)) (copied-use e name (value .form) x y (λ z. n0 (k ∙ z)) (λ z. n1 (k ∙ z)) (λ z. n2 (k ∙ z))))
       (copied-plain e name (value .form) x y (λ z. n0 (k ∙ z)) (λ z. n1 (k ∙ z)) (λ z. n2 (k ∙ z)))
       to₂ out₂ h

@@ -61,7 +61,7 @@ put-put out a b at h =
     ∙ ap (λ x. p ++ x) (sym (append-assoc a b _))
 
 -- a part from `at` on that begins with bytes, home again
-put-home : (out w bytes : List ℕ) (at : ℕ) → w ≡ bytes ++ drop (length bytes) (take (length out - at) (drop at out))
+pub put-home : (out w bytes : List ℕ) (at : ℕ) → w ≡ bytes ++ drop (length bytes) (take (length out - at) (drop at out))
     → take at out ++ (w ++ drop (length out - at) (drop at out)) ≡ put out at bytes
 unfolding put
 put-home out w bytes at h =
@@ -72,7 +72,7 @@ put-home out w bytes at h =
     ∙ ap (λ x. take at out ++ (bytes ++ drop (length bytes) x)) (take-all (length out - at) (drop at out) (omega arith))
     ∙ ap (λ x. take at out ++ (bytes ++ x)) (drop-drop (length bytes) at out)
 
-part-length : (out : List ℕ) (at : ℕ) → length (take (length out - at) (drop at out)) ≡ length out - at
+pub part-length : (out : List ℕ) (at : ℕ) → length (take (length out - at) (drop at out)) ≡ length out - at
 part-length out at = length-take-le (length out - at) (drop at out) (omega (arith, length-drop at out))
 
 -- ---- one after the other
@@ -349,7 +349,7 @@ unfolding Wide width encodedBy
 wide-width true w h = suc-pred w (h .0)
 wide-width false w h = refl
 
-and-true : (a b : Bool) → T a → (a and b) ≡ b
+pub and-true : (a b : Bool) → T a → (a and b) ≡ b
 unfolding _and_
 and-true true b t = refl
 and-true false b t = absurd t
@@ -379,17 +379,17 @@ unfolding numberFits pick
 fits-room true w v n h = fit-room v w n h
 fits-room false w v n h = bytes-room v w n h
 
-module _ (value w : ℕ) (leb′ : Bool) (out : List ℕ) where
+module _ (value w : ℕ) (leb′ big : Bool) (out : List ℕ) where
   abbrev code : Encoded
   code = encodedBy leb′ w
 
   abbrev the-bytes : List ℕ
-  the-bytes = numberBytes false code value
+  the-bytes = numberBytes big code value
 
   the-length : Wide leb′ w → length the-bytes ≡ w
-  the-length h = length-number false code value ∙ wide-width leb′ w h
+  the-length h = length-number big code value ∙ wide-width leb′ w h
 
-  module _ (l : value < 2 ^ 64) (x : List ℕ) (s : length x ≡ length out) (r : Bool) (did : Put (numberFits leb′ value w (length out)) (numberBytes false code value) w out (unfit leb′ w out) r x) where
+  module _ (l : value < 2 ^ 64) (x : List ℕ) (s : length x ≡ length out) (r : Bool) (did : Put (numberFits leb′ value w (length out)) (numberBytes big code value) w out (unfit leb′ w out) r x) where
     answered : Wide leb′ w → w ≤ length out → r ≡ fits code value
     answered h g = did .told ∙ fits-by leb′ w value (length out) h g ∙ sym (fits-coded leb′ w value h l)
 
@@ -430,19 +430,19 @@ unfolding asMapped
 mapped-none none h = refl
 mapped-none (some n) h = let z : _≡_ {A = ℕ} 0 1 = cc in absurd (omega arith)
 
-module _ (new : Mapped) (w : ℕ) (leb′ : Bool) (out : List ℕ) where
+module _ (new : Mapped) (w : ℕ) (leb′ big : Bool) (out : List ℕ) where
   pub offset-some : (value : UnitOffset) → new ≡ Mapped′ value → (r : Emitted) (out′ : List ℕ)
-      → (Wide leb′ w → Emits (numberRefusal (encodedBy leb′ w) (value .0)) (numberBytes false (encodedBy leb′ w) (value .0)) out r out′)
-      → (o : Option ℕ) (v : ℕ) → new ≡ asMapped o → Wide leb′ w → Emits (offsetRefusal (encodedBy leb′ w) v o) (numberBytes false (encodedBy leb′ w) (orSelf v o)) out r out′
+      → (Wide leb′ w → Emits (numberRefusal (encodedBy leb′ w) (value .0)) (numberBytes big (encodedBy leb′ w) (value .0)) out r out′)
+      → (o : Option ℕ) (v : ℕ) → new ≡ asMapped o → Wide leb′ w → Emits (offsetRefusal (encodedBy leb′ w) v o) (numberBytes big (encodedBy leb′ w) (orSelf v o)) out r out′
   unfolding offsetRefusal orSelf isSome pick
   offset-some value q r out′ f o v p h =
-      subst (λ z. Emits (offsetRefusal (encodedBy leb′ w) v z) (numberBytes false (encodedBy leb′ w) (orSelf v z)) out r out′) (sym (mapped-some o value (sym q ∙ p))) (f h)
+      subst (λ z. Emits (offsetRefusal (encodedBy leb′ w) v z) (numberBytes big (encodedBy leb′ w) (orSelf v z)) out r out′) (sym (mapped-some o value (sym q ∙ p))) (f h)
 
   pub offset-none : new ≡ Nothing
-      → (o : Option ℕ) (v : ℕ) → new ≡ asMapped o → Wide leb′ w → Emits (offsetRefusal (encodedBy leb′ w) v o) (numberBytes false (encodedBy leb′ w) (orSelf v o)) out (Refused 8) out
+      → (o : Option ℕ) (v : ℕ) → new ≡ asMapped o → Wide leb′ w → Emits (offsetRefusal (encodedBy leb′ w) v o) (numberBytes big (encodedBy leb′ w) (orSelf v o)) out (Refused 8) out
   unfolding offsetRefusal orSelf isSome pick
   offset-none q o v p h =
-      subst (λ z. Emits (offsetRefusal (encodedBy leb′ w) v z) (numberBytes false (encodedBy leb′ w) (orSelf v z)) out (Refused 8) out) (sym (mapped-none o (sym q ∙ p)))
+      subst (λ z. Emits (offsetRefusal (encodedBy leb′ w) v z) (numberBytes big (encodedBy leb′ w) (orSelf v z)) out (Refused 8) out) (sym (mapped-none o (sym q ∙ p)))
       (record { size = refl; fine = λ _ z. absurd (let q : _≡_ {A = ℕ} 8 0 = z in omega arith); no = λ _ _. refl })
 
 -- ---- indices

@@ -70,23 +70,23 @@ module _ (big : Bool) (ex : ExpressionReader) (s : List ℕ) where
       (λ r q h. all-bind (λ _. Unit {0}) Headed (readIn big ex (k (r .0 .seen)) (r .1)) _ (all-triv _)
       (λ r′ q′ _. all-some Headed (record { code = r .0; others = r′ .0; wide = h .0; fits = h .1 .0; is = refl; pieces = h .1 .1 })))
 
-module _ (e : Encoding) (l : e .«big_endian» ≡ false) (abbreviations : List ℕ) (look : ℕ → DeclarationFound) (unit : List ℕ) (start end : ℕ)
+module _ (e : Encoding) (abbreviations : List ℕ) (look : ℕ → DeclarationFound) (unit : List ℕ) (start end : ℕ)
     (step : stepAt e abbreviations look unit start ≡ Terminator (cursor end)) (rs : List Read) (rest : List ℕ)
-    (deep : readIn false (expressionIn e) (entryLayout e abbreviations look) (drop start unit) ≡ some (rs, rest)) where
-  ordered : readIn (e .«big_endian») (expressionIn e) (entryLayout e abbreviations look) (drop start unit) ≡ some (rs, rest)
-  ordered = ap (λ z. readIn z (expressionIn e) (entryLayout e abbreviations look) (drop start unit)) l ∙ deep
+    (deep : readIn (e .«big_endian») (expressionIn e) (entryLayout e abbreviations look) (drop start unit) ≡ some (rs, rest)) where
+  abbrev big : Bool
+  big = e .«big_endian»
 
   sort : TerminatorRead e abbreviations look rs
   sort =
       ⊎-elim
       (λ t. t)
-      (λ y. let z : Entry′ _ ≡ Terminator (cursor end) = sym (deep-entry e abbreviations look (expressionIn e) (expression-law e) unit start rs rest ordered y) ∙ step in
+      (λ y. let z : Entry′ _ ≡ Terminator (cursor end) = sym (deep-entry e abbreviations look (expressionIn e) (expression-law e) unit start rs rest deep y) ∙ step in
       let n : _≡_ {A = ℕ} 0 1 = cc in absurd (omega arith))
-      (deep-kind e abbreviations look (expressionIn e) (expression-law e) unit start rs rest ordered)
+      (deep-kind e abbreviations look (expressionIn e) (expression-law e) unit start rs rest deep)
 
-  head : Headed false (expressionIn e) (drop start unit) (rs, rest)
+  head : Headed big (expressionIn e) (drop start unit) (rs, rest)
   unfolding entryLayout
-  head = all-of (Headed false (expressionIn e) (drop start unit)) (headed false (expressionIn e) (drop start unit) _) deep
+  head = all-of (Headed big (expressionIn e) (drop start unit)) (headed big (expressionIn e) (drop start unit) _) deep
 
   abbrev its-bytes : List ℕ
   its-bytes = take (head .wide) (drop start unit)
@@ -97,22 +97,22 @@ module _ (e : Encoding) (l : e .«big_endian» ≡ false) (abbreviations : List 
       let o : head .others ≡ [] = cc in
       head .is ∙ ap (λ (q : List Read). head .code ∷ q) o
 
-  terminator-patched : (f : Patch) → writeAll false (patchAll f rs) ≡ its-bytes
+  terminator-patched : (f : Patch) → writeAll big (patchAll f rs) ≡ its-bytes
   unfolding writeAll patchAll
-  terminator-patched f = ap (λ z. writeAll false (patchAll f z)) alone ∙ copied-written f (head .code) its-bytes (head .pieces) [] ∙ append-nil its-bytes
+  terminator-patched f = ap (λ z. writeAll big (patchAll f z)) alone ∙ copied-written big f (head .code) its-bytes (head .pieces) [] ∙ append-nil its-bytes
 
-  terminator-written : writeAll false rs ≡ its-bytes
+  terminator-written : writeAll big rs ≡ its-bytes
   unfolding writeAll bytesOf pieceBytes
   terminator-written =
-      ap (writeAll false) alone ∙ append-nil (bytesOf false (head .code .pieces)) ∙ ap (λ (q : List Piece). bytesOf false q) (head .pieces) ∙ append-nil its-bytes
+      ap (writeAll big) alone ∙ append-nil (bytesOf big (head .code .pieces)) ∙ ap (λ (q : List Piece). bytesOf big q) (head .pieces) ∙ append-nil its-bytes
 
   terminator-end : end ≡ start + head .wide
   terminator-end =
-      let n : ℕ = start + length (writeAll (e .«big_endian») rs) in
+      let n : ℕ = start + length (writeAll big rs) in
       let z : Terminator (cursor end) ≡ Terminator (cursor n) =
-      sym step ∙ deep-terminator e abbreviations look (expressionIn e) (expression-law e) unit start rs rest ordered sort in
+      sym step ∙ deep-terminator e abbreviations look (expressionIn e) (expression-law e) unit start rs rest deep sort in
       let w : cursor end ≡ cursor n = cc in
-      ap (λ (c : Cursor). c .at) w ∙ ap (λ (b : Bool). start + length (writeAll b rs)) l ∙ ap (λ (q : List ℕ). start + length q) terminator-written
+      ap (λ (c : Cursor). c .at) w ∙ ap (λ (q : List ℕ). start + length q) terminator-written
       ∙ ap (λ (m : ℕ). start + m) (length-take-le (head .wide) (drop start unit) (head .fits))
 
   terminator-refusal : (lists : Lists) (ps : List Place) (depth : ℕ) → readsRefusal lists ps depth rs ≡ 0
@@ -121,7 +121,7 @@ module _ (e : Encoding) (l : e .«big_endian» ≡ false) (abbreviations : List 
 
   -- its bytes are those of the unit, and nothing is refused
   pub terminator-emits : (lists : Lists) (ps : List Place) (depth : ℕ) (out : List ℕ) (at : ℕ) (a : Emitted) (out₁ : List ℕ) → EmitsAt 0 (between unit start end) out at a out₁
-      → EmitsAt (readsRefusal lists ps depth rs) (writeAll false (patchAll (newValue lists ps depth) rs)) out at a out₁
+      → EmitsAt (readsRefusal lists ps depth rs) (writeAll big (patchAll (newValue lists ps depth) rs)) out at a out₁
   terminator-emits lists ps depth out at a out₁ h =
       emits-as (sym (terminator-refusal lists ps depth))
       (ap (between unit start) terminator-end ∙ between-from unit start (head .wide) ∙ sym (terminator-patched (newValue lists ps depth))) h
@@ -149,7 +149,7 @@ module _ (r : Reading) (s table unit parents ends marks : List ℕ) (first : ℕ
       pub deep : AllRead x u (keptAt items parents ends marks t stack)
       pub onward : (z : Emitted) (out′ : List ℕ) → From (keptAt items parents ends marks t stack) out to z out′ → Whole out₀ z out′
 
-    module _ (p : PassInput x u r s table unit parents ends marks first) (l : r .encoding .«big_endian» ≡ false) where
+    module _ (p : PassInput x u r s table unit parents ends marks first) where
       pub writing-start : first ≡ u .header .first .0 → (out₀ : List ℕ) (n : Nesting) → n ≡ nestingOf [] → Writing out₀ (stand first 0 n) out₀ 0
       unfolding openKept
       writing-start q out₀ n m =
@@ -186,10 +186,9 @@ module _ (r : Reading) (s table unit parents ends marks : List ℕ) (first : ℕ
           unfolding readsAt readsOr
           reads-are = ap (readsOr x u) (read-here .0 .is)
 
-          deep-here : readIn false (expressionIn (r .encoding)) (entryLayout (r .encoding) s (declaredIn (u .declared))) (drop (y .start .0) unit) ≡ some (reads, read-here .0 .run .1)
+          deep-here : readIn (r .encoding .«big_endian») (expressionIn (r .encoding)) (entryLayout (r .encoding) s (declaredIn (u .declared))) (drop (y .start .0) unit) ≡ some (reads, read-here .0 .run .1)
           deep-here =
-              ap (λ (b : Bool). readIn b (expressionIn (r .encoding)) (entryLayout (r .encoding) s (declaredIn (u .declared))) (drop (y .start .0) unit)) (sym l)
-              ∙ ap (λ (e : Encoding). readIn (e .«big_endian») (expressionIn e) (entryLayout e s (declaredIn (u .declared))) (drop (y .start .0) unit)) (sym (p .read .encoding-is))
+              ap (λ (e : Encoding). readIn (e .«big_endian») (expressionIn e) (entryLayout e s (declaredIn (u .declared))) (drop (y .start .0) unit)) (sym (p .read .encoding-is))
               ∙ ap (λ (z : List ℕ). readIn (u .header .encoding .«big_endian») (expressionIn (u .header .encoding)) (entryLayout (u .header .encoding) z (declaredIn (u .declared))) (drop (y .start .0) unit)) (sym (p .read .abbreviations-are))
               ∙ ap₂ (λ (n : ℕ) (z : List ℕ). readIn (u .header .encoding .«big_endian») (expressionIn (u .header .encoding)) (entryLayout (u .header .encoding) (x .abbreviations) (declaredIn (u .declared))) (drop n z))
               (sym (shown-offset y (next .standing .item) (next .shows))) (sym (p .read .bytes-are))
@@ -200,23 +199,22 @@ module _ (r : Reading) (s table unit parents ends marks : List ℕ) (first : ℕ
 
           -- the emission of this item alone
           abbrev Here : Emitted → List ℕ → Type 0
-          Here b out₁ = EmitsAt (readsRefusal lists ps (y .depth) reads) (writeAll false (patchAll (newValue lists ps (y .depth)) reads)) out to b out₁
+          Here b out₁ = EmitsAt (readsRefusal lists ps (y .depth) reads) (writeAll (r .encoding .«big_endian») (patchAll (newValue lists ps (y .depth)) reads)) out to b out₁
 
           together : (z : Emitted) (out′ : List ℕ)
               → EmitsAt (orNext (readsRefusal lists ps (y .depth) reads) (refusalFrom x u lists ps others))
-              (writeAll false (patchAll (newValue lists ps (y .depth)) reads) ++ bytesFrom x u lists ps others) out to z out′
+              (writeAll (r .encoding .«big_endian») (patchAll (newValue lists ps (y .depth)) reads) ++ bytesFrom x u lists ps others) out to z out′
               → Whole out₀ z out′
           unfolding refusalFrom bytesFrom
           together z out′ k =
               let rest : ℕ = refusalFrom x u lists ps others in
               let tail : List ℕ = bytesFrom x u lists ps others in
-              let little : u .header .encoding .«big_endian» ≡ false = ap (λ (e : Encoding). e .«big_endian») (p .read .encoding-is) ∙ l in
               g .onward z out′
               (subst (λ (kept : List NestedItem). From kept out to z out′) (sym (next .whole))
               (emits-as
               (ap₂ (λ (d : ℕ) (zs : List Read). orNext (readsRefusal lists ps d zs) rest) (next .deep) (sym reads-are))
-              (ap₂ (λ (d : ℕ) (zs : List Read). writeAll false (patchAll (newValue lists ps d) zs) ++ tail) (next .deep) (sym reads-are)
-              ∙ ap (λ (b : Bool). writeAll b (patchAll (newValue lists ps (next .standing .depth)) (readsAt x u (offsetOf (next .standing .item)))) ++ tail) (sym little))
+              (ap₂ (λ (d : ℕ) (zs : List Read). writeAll (r .encoding .«big_endian») (patchAll (newValue lists ps d) zs) ++ tail) (next .deep) (sym reads-are)
+              ∙ ap (λ (e : Encoding). writeAll (e .«big_endian») (patchAll (newValue lists ps (next .standing .depth)) (readsAt x u (offsetOf (next .standing .item)))) ++ tail) (sym (p .read .encoding-is)))
               k))
 
           module _ (b : Emitted) (out₁ : List ℕ) (f : Here b out₁) where
@@ -239,8 +237,8 @@ module _ (r : Reading) (s table unit parents ends marks : List ℕ) (first : ℕ
           -- an entry
           module _ (i : y .«is_entry» ≡ true) (b : Emitted) (out₁ : List ℕ)
               (f : (look′ : ℕ → DeclarationFound) (z : Entry) (rs : List Read) (rest : List ℕ) → stepAt (r .encoding) s look′ unit (y .start .0) ≡ Entry′ z → y .specs ≡ z .declaration .attributes → y .values ≡ z .values
-              → readIn false (expressionIn (r .encoding)) (entryLayout (r .encoding) s look′) (drop (y .start .0) unit) ≡ some (rs, rest)
-              → EmitsAt (readsRefusal lists ps (y .depth) rs) (writeAll false (patchAll (newValue lists ps (y .depth)) rs)) out to b out₁) where
+              → readIn (r .encoding .«big_endian») (expressionIn (r .encoding)) (entryLayout (r .encoding) s look′) (drop (y .start .0) unit) ≡ some (rs, rest)
+              → EmitsAt (readsRefusal lists ps (y .depth) rs) (writeAll (r .encoding .«big_endian») (patchAll (newValue lists ps (y .depth)) rs)) out to b out₁) where
             entry-here : Here b out₁
             entry-here =
                 let w = next-entry (r .encoding) s look unit parents ends marks t (g .stack) y next i in
@@ -260,6 +258,6 @@ module _ (r : Reading) (s table unit parents ends marks : List ℕ) (first : ℕ
               let d = next-forward items parents ends marks unit t o a y q in
               let d1 : y .start .0 < y .end .at = d .1 in
               on-here (To to₁) out₁
-              (terminator-emits (r .encoding) l s (declaredIn (u .declared)) unit (y .start .0) (y .end .at) (step-here (Terminator (cursor (y .end .at))) (w .here)) reads (read-here .0 .run .1) deep-here
+              (terminator-emits (r .encoding) s (declaredIn (u .declared)) unit (y .start .0) (y .end .at) (step-here (Terminator (cursor (y .end .at))) (w .here)) reads (read-here .0 .run .1) deep-here
               lists ps (y .depth) out to (To to₁) out₁ (f (omega arith) (d .2)))
               to₁ refl

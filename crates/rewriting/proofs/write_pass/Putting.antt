@@ -198,13 +198,19 @@ module _ (value width n : ℕ) where
   unfolding bytesFit
   bytes-room e = leb-true width n (true-first _ _ (true-second (leb width 8) _ e))
 
-  pub bytes-large : ltb value (256 ^ width) ≡ false → bytesFit value width n ≡ false
+  pub bytes-low : bytesFit value width n ≡ true → value < 256 ^ width
   unfolding bytesFit
-  bytes-large e = and-second (leb width 8) _ (and-second (leb width n) _ e)
+  bytes-low e = ltb-true value (256 ^ width) (true-second (leb width n) _ (true-second (leb width 8) _ e))
 
-  pub bytes-fit : width ≤ 8 → width ≤ n → ltb value (256 ^ width) ≡ true → bytesFit value width n ≡ true
+  pub bytes-rest : width ≤ 8 → width ≤ n → bytesFit value width n ≡ ltb value (256 ^ width)
   unfolding bytesFit _and_
-  bytes-fit t h e = rw (le-leb width 8 t, le-leb width n h, e)
+  bytes-rest t h = rw (le-leb width 8 t, le-leb width n h)
+
+-- in any part that has room for it
+pub bytes-else : (value width n m : ℕ) → width ≤ m → bytesFit value width n ≡ true → bytesFit value width m ≡ true
+unfolding bytesFit
+bytes-else value width n m h e =
+    ap (λ b. leb width 8 and b and ltb value (256 ^ width)) (le-leb width m h ∙ sym (le-leb width n (bytes-room value width n e))) ∙ e
 
 -- ---- a ULEB128 number
 
@@ -296,6 +302,14 @@ fixing-done value width out₀ rest i out h p =
     putting-done (fixedBytes false width value) out₀ out i width (length-fixed false width value)
     (subst (λ n. Putting (fixedBytes false width value) out₀ (littleBytes n rest) out i) e (p .putting))
 
+-- ---- a number in its order
+
+pub fixed-written : (value width : ℕ) (big order : Bool) (out after : List ℕ) → big ≡ order → bytesFit value width (length out) ≡ true
+    → after ≡ fixedBytes order width value ++ drop width out
+    → Put (bytesFit value width (length out)) (fixedBytes big width value) width out out true after
+fixed-written value width big order out after e fit h =
+    accepted _ _ _ _ _ _ fit (h ∙ ap (λ b. fixedBytes b width value ++ drop width out) (sym e))
+
 -- ---- a big-endian number in the middle of a table, from its last byte on
 
 pub record Backing (value at width : ℕ) (s₀ s : List ℕ) (rest i : ℕ) : Type 0 where
@@ -365,6 +379,15 @@ pub put-room : (value at width : ℕ) (s after : List ℕ) → after ≡ putIn s
 unfolding putIn pick
 put-room value at width s after q h =
     q ∙ ap (λ b. pick b (put s at (fixedBytes true width value)) s) (le-leb (at + length (fixedBytes true width value)) (length s) (omega (arith, length-fixed true width value)))
+
+-- at the start of a part
+pub put-first : (value width : ℕ) (s after : List ℕ) → after ≡ putIn s 0 (fixedBytes true width value) → width ≤ length s
+    → after ≡ fixedBytes true width value ++ drop width s
+unfolding put
+put-first value width s after q h =
+    put-room value 0 width s after q (omega arith)
+    ∙ ap (λ n. fixedBytes true width value ++ drop n s)
+    (let e : 0 + length (fixedBytes true width value) ≡ width = omega (arith, length-fixed true width value) in e)
 
 -- ---- a big-endian number that is read
 
@@ -458,10 +481,10 @@ module _ (value width : ℕ) (answer : Padded) (x : List ℕ) (told : answer ≡
 pub taken-length : (out : List ℕ) (width : ℕ) → width ≤ length out → width ≡ length (take width out)
 taken-length out width h = sym (length-take-le width out h)
 
-module _ (leb′ : Bool) (value width : ℕ) (out : List ℕ) where
+module _ (leb′ big : Bool) (value width : ℕ) (out : List ℕ) where
   -- a part that is too short
   pub number-beyond : leb′ ≡ true → length out < width
-      → Put (numberFits leb′ value width (length out)) (numberBytes false (encodedBy leb′ width) value) width out (unfit leb′ width out) false out
+      → Put (numberFits leb′ value width (length out)) (numberBytes big (encodedBy leb′ width) value) width out (unfit leb′ width out) false out
   unfolding numberFits unfit pick _and_
   number-beyond e h =
       let w : leb width (length out) ≡ false = lt-leb width (length out) h in
@@ -476,14 +499,14 @@ module _ (leb′ : Bool) (value width : ℕ) (out : List ℕ) where
     left′ : x ≡ paddedOut value width width
     left′ = left ∙ ap (paddedOut value width) same
 
-    pub number-written : answer ≡ Written → Put (numberFits leb′ value width (length out)) (numberBytes false (encodedBy leb′ width) value) width out (unfit leb′ width out) true after
+    pub number-written : answer ≡ Written → Put (numberFits leb′ value width (length out)) (numberBytes big (encodedBy leb′ width) value) width out (unfit leb′ width out) true after
     unfolding numberFits numberBytes encodedBy pick
     number-written t =
         let g : groupsFit value width (length out) ≡ true = sym (groups-room value width (length out) h) ∙ padded-fit value width answer x told′ left′ t in
         let a : after ≡ padded (width - 1) value ++ drop width out = home ∙ ap (λ l. l ++ drop width out) (padded-whole value width answer x told′ left′ t) in
         record { told = rw e (sym g); left = rw e (rw g a) }
 
-    pub number-zeros : (k : ℕ) → answer ≡ Refused k → Put (numberFits leb′ value width (length out)) (numberBytes false (encodedBy leb′ width) value) width out (unfit leb′ width out) false after
+    pub number-zeros : (k : ℕ) → answer ≡ Refused k → Put (numberFits leb′ value width (length out)) (numberBytes big (encodedBy leb′ width) value) width out (unfit leb′ width out) false after
     unfolding numberFits unfit pick _and_
     number-zeros k t =
         let w : leb width (length out) ≡ true = le-leb width (length out) h in
@@ -491,8 +514,8 @@ module _ (leb′ : Bool) (value width : ℕ) (out : List ℕ) where
         let a : after ≡ zeros width ++ drop width out = home ∙ ap (λ l. l ++ drop width out) (padded-zeros value width answer x told′ left′ k t) in
         record { told = rw e (sym g); left = rw e (rw g (rw w a)) }
 
-  pub number-fixed : leb′ ≡ false → (r : Bool) (after : List ℕ) → Put (bytesFit value width (length out)) (fixedBytes false width value) width out out r after
-      → Put (numberFits leb′ value width (length out)) (numberBytes false (encodedBy leb′ width) value) width out (unfit leb′ width out) r after
+  pub number-fixed : leb′ ≡ false → (r : Bool) (after : List ℕ) → Put (bytesFit value width (length out)) (fixedBytes big width value) width out out r after
+      → Put (numberFits leb′ value width (length out)) (numberBytes big (encodedBy leb′ width) value) width out (unfit leb′ width out) r after
   unfolding numberFits unfit numberBytes encodedBy pick _and_
   number-fixed e r after p = rw e p
 

@@ -2,19 +2,17 @@
 use mathlib.Core.Path.{_≡_, refl, ap, ap₂, sym, _∙_, subst}
 use Prim.Native.Nat.{ℕ, _+_, _-_, _*_, _/_, _^_, _≤_, _<_}
 use native.Mathlib.Omega.{arith}
-use mathlib.Core.Bool.{Bool, true, false}
+use mathlib.Core.Bool.{true}
 use mathlib.Core.List.{List, [], _∷_, _++_, append-assoc}
 use mathlib.Core.Option.{Option, none, some}
 use mathlib.Core.Logic.{⊎-elim}
-use lib.ListN.{length, take, drop, length-append, length-drop}
-use lib.Seq.{length-take-le, take-at, drop-append-add}
+use lib.ListN.{length, take, drop, length-append}
+use lib.Seq.{take-at, drop-append-add}
 use lib.Dec.{eqb, leb}
 use mir.Facts.{eqb-yes, eqb-no}
 use borrow.Author.Tests.{le-leb, lt-leb, eq-eqb, ne-eqb}
 use Rattle.readers.specs.Choice.{pick, zeros, put}
 use Rattle.readers.proofs.Choice.{either}
-use Rattle.readers.specs.Numbers.{fixedBytes}
-use Rattle.readers.proofs.Numbers.{length-fixed}
 use Rattle.readers.specs.Layout.{Read, writeAll, Patch, patchAll}
 use Rattle.readers.specs.Expression.{expressionIn}
 use Rattle.readers.proofs.Expression.{expression-law}
@@ -32,6 +30,8 @@ use Rattle.rewriting.specs.inner.Bounds.{Bounds}
 use Rattle.rewriting.specs.inner.IndexLists.{ReadDeep, AllRead, PassInput}
 use Rattle.rewriting.specs.inner.Measures.{Measures}
 use Rattle.rewriting.specs.inner.MapFilled.{Fills}
+use Rattle.readers.specs.Header.{lengthBytes}
+use Rattle.rewriting.specs.Emission.{headerBytes, headerFits}
 use Rattle.rewriting.specs.inner.Emission.{Lent, ListsLent}
 use Rattle.rewriting.specs.Outputs.{listCount, answerFor, mapFor, outputFor}
 use Rattle.rewriting.specs.inner.Leaving.{Accepts, Writable, WriteAnswer}
@@ -46,6 +46,7 @@ use Rattle.rewriting.specs.declared.collect.Collected.the-variants.{Rewr
 use Rattle.rewriting.proofs.write_pass.Emissions.{EmitsAt}
 use Rattle.rewriting.proofs.kept_pass.DeepReads.{like-width, like-patched, deep-ends}
 use Rattle.rewriting.proofs.kept_pass.ItemDepths.{Every, every-kept, Stands, items-stand, StandsThere, deepAt, size-of}
+use Rattle.rewriting.proofs.write_pass.HeaderEmits.{length-wide, length-header, header-fits}
 use Rattle.rewriting.proofs.write_pass.Putting.{drop-zeros}
 use Rattle.rewriting.proofs.list_pass.Tables.{length-run}
 use Rattle.rewriting.proofs.map_pass.Places.{length-columns}
@@ -186,9 +187,9 @@ module _ (r : Reading) (s table unit parents ends marks : List ℕ) (first entri
     module _ (few : z .places ≤ length map′ / 12) (less : z .bytes ≤ length out) (out₁ out₂ : List ℕ)
         (bounds : List ℕ) (bounded : (ps : List Place) → MapHeld ps map′ → z .places ≡ length ps → Bounds ps bounds)
         (same : length out₁ ≡ length out)
-        (at : ℕ) (headed : 4 ≤ first → first ≤ length unit → first ≤ length out → 4 ≤ z .bytes → z .bytes - 4 < 2 ^ 32 → (at ≡ first) × (out₁ ≡ put out 0 (fixedBytes false 4 (z .bytes - 4) ++ drop 4 (take first unit))))
+        (at : ℕ) (headed : headerFits (r .encoding) unit first (z .bytes) out ≡ true → (at ≡ first) × (out₁ ≡ put out 0 (headerBytes (r .encoding) unit first (z .bytes))))
         (emitted : Emitted)
-        (emits : (x : Sections) (u : Unit′) (lists : Lists) (ps : List Place) → PassInput x u r s table unit parents ends marks first → first ≡ u .header .first .0 → r .encoding .«big_endian» ≡ false
+        (emits : (x : Sections) (u : Unit′) (lists : Lists) (ps : List Place) → PassInput x u r s table unit parents ends marks first → first ≡ u .header .first .0
         → MapHeld ps map′ → z .places ≡ length ps → Bounds ps bounds → ListsLent lists rl rc ll lc sl sc
         → EmitsAt (refusalFrom x u lists ps (keptFrom marks 0 [] (itemsIn x u))) (bytesFrom x u lists ps (keptFrom marks 0 [] (itemsIn x u))) out₁ at emitted out₂) where
       abbrev ps : List Place
@@ -198,7 +199,7 @@ module _ (r : Reading) (s table unit parents ends marks : List ℕ) (first entri
       body = bytesFrom x u lists ps items
 
       abbrev front : List ℕ
-      front = fixedBytes false 4 (z .bytes - 4) ++ drop 4 (take first unit)
+      front = headerBytes (r .encoding) unit first (z .bytes)
 
       room-map : 12 * length items ≤ length map
       room-map = omega (arith, places-are, as-long)
@@ -209,21 +210,35 @@ module _ (r : Reading) (s table unit parents ends marks : List ℕ) (first entri
       places : z .places ≡ length ps
       places = places-are ∙ sym (length-places first items)
 
-      header-there : (at ≡ first) × (out₁ ≡ put out 0 front)
-      header-there =
-          let t : 12 ≤ first = w .twelve in
+      abbrev width : ℕ
+      width = r .encoding .«offset_size»
+
+      same-width : u .header .encoding .«offset_size» ≡ width
+      same-width = ap (λ (y : Encoding). y .«offset_size») (p .read .encoding-is)
+
+      narrow : width ≤ lengthBytes width
+      narrow = subst (λ (n : ℕ). n ≤ lengthBytes n) same-width (length-wide (u .header .encoding .«offset_size») (w .wide))
+
+      behind : lengthBytes width ≤ first
+      behind = let a : lengthBytes width + 7 ≤ first = subst (λ (n : ℕ). lengthBytes n + 7 ≤ first) same-width (w .after) in omega arith
+
+      fits : headerFits (r .encoding) unit first (z .bytes) out ≡ true
+      fits =
           let a : first + z .places ≤ z .bytes = m .room in
           let b : z .bytes ≤ length unit = m .inside (w .inside) in
-          let c : length unit < 2 ^ 32 = p .small in
-          headed (omega arith) (w .inside) (omega arith) (omega arith) (omega arith)
+          let c : length unit < lengthBytes width + 256 ^ width = subst (λ (n : ℕ). length unit < lengthBytes n + 256 ^ n) same-width (w .short) in
+          let d : lengthBytes width ≤ first = behind in
+          header-fits (r .encoding) unit first (z .bytes) out behind (w .inside) (omega arith) (omega arith) narrow (omega arith)
+
+      header-there : (at ≡ first) × (out₁ ≡ put out 0 front)
+      header-there = headed fits
 
       it : EmitsAt (refusalFrom x u lists ps items) body out₁ first emitted out₂
       it =
           subst (λ (is : List Item). EmitsAt (refusalFrom x u lists ps (keptFrom marks 0 [] is)) (bytesFrom x u lists ps (keptFrom marks 0 [] is)) out₁ first emitted out₂)
           (sym (items-here true r s table unit parents ends marks first x u p (w .first-is)))
           (subst (λ (n : ℕ). EmitsAt (refusalFrom x u lists ps (keptFrom marks 0 [] (itemsIn x u))) (bytesFrom x u lists ps (keptFrom marks 0 [] (itemsIn x u))) out₁ n emitted out₂) (header-there .0)
-          (emits x u lists ps p (w .first-is) (sym (ap (λ (y : Encoding). y .«big_endian») (p .read .encoding-is)) ∙ w .little)
-          held places (bounded ps held places) l))
+          (emits x u lists ps p (w .first-is) held places (bounded ps held places) l))
 
       stand : Every (StandsThere x u) items
       unfolding itemsIn
@@ -260,19 +275,15 @@ module _ (r : Reading) (s table unit parents ends marks : List ℕ) (first entri
 
       -- written
       length-front : length front ≡ first
-      length-front =
-          let a : length (take first unit) ≡ first = length-take-le first unit (w .inside) in
-          let t : 12 ≤ first = w .twelve in
-          length-append (fixedBytes false 4 (z .bytes - 4)) (drop 4 (take first unit))
-          ∙ (let q : length (fixedBytes false 4 (z .bytes - 4)) + length (drop 4 (take first unit)) ≡ first = omega (arith, length-fixed false 4 (z .bytes - 4), length-drop 4 (take first unit)) in q)
+      length-front = length-header (r .encoding) unit first (z .bytes) behind (w .inside) narrow
 
       unit-bytes-are : unitBytes x u lists ps items ≡ front ++ body
-      unfolding unitBytes
+      unfolding unitBytes headerBytes
       unit-bytes-are =
-          ap (λ (b : Bool). (fixedBytes b 4 (u .header .first .0 + sizeFrom items - 4) ++ drop 4 (take (u .header .first .0) (u .bytes))) ++ body) (w .little)
-          ∙ ap (λ (f : ℕ). (fixedBytes false 4 (f + sizeFrom items - 4) ++ drop 4 (take f (u .bytes))) ++ body) (sym (w .first-is))
-          ∙ ap (λ (n : ℕ). (fixedBytes false 4 (n - 4) ++ drop 4 (take first (u .bytes))) ++ body) (sym bytes-are)
-          ∙ ap (λ (b : List ℕ). (fixedBytes false 4 (z .bytes - 4) ++ drop 4 (take first b)) ++ body) (p .read .bytes-are)
+          ap (λ (y : Encoding). headerBytes y (u .bytes) (u .header .first .0) (u .header .first .0 + sizeFrom items) ++ body) (p .read .encoding-is)
+          ∙ ap (λ (f : ℕ). headerBytes (r .encoding) (u .bytes) f (f + sizeFrom items) ++ body) (sym (w .first-is))
+          ∙ ap (λ (n : ℕ). headerBytes (r .encoding) (u .bytes) first n ++ body) (sym bytes-are)
+          ∙ ap (λ (b : List ℕ). headerBytes (r .encoding) b first (z .bytes) ++ body) (p .read .bytes-are)
 
       map-there : map′ ≡ mapBytes ps ++ zeros (length map - length (mapBytes ps))
       unfolding mapBytes
@@ -319,9 +330,9 @@ module _ (r : Reading) (s table unit parents ends marks : List ℕ) (first entri
   module _ (few : z .places ≤ length map′ / 12) (less : z .bytes ≤ length out) (out₁ out₂ : List ℕ)
       (bounds : List ℕ) (bounded : (ps : List Place) → MapHeld ps map′ → z .places ≡ length ps → Bounds ps bounds)
       (same : length out₁ ≡ length out)
-      (at : ℕ) (headed : 4 ≤ first → first ≤ length unit → first ≤ length out → 4 ≤ z .bytes → z .bytes - 4 < 2 ^ 32 → (at ≡ first) × (out₁ ≡ put out 0 (fixedBytes false 4 (z .bytes - 4) ++ drop 4 (take first unit))))
+      (at : ℕ) (headed : headerFits (r .encoding) unit first (z .bytes) out ≡ true → (at ≡ first) × (out₁ ≡ put out 0 (headerBytes (r .encoding) unit first (z .bytes))))
       (emitted : Emitted)
-      (emits : (x : Sections) (u : Unit′) (lists : Lists) (ps : List Place) → PassInput x u r s table unit parents ends marks first → first ≡ u .header .first .0 → r .encoding .«big_endian» ≡ false
+      (emits : (x : Sections) (u : Unit′) (lists : Lists) (ps : List Place) → PassInput x u r s table unit parents ends marks first → first ≡ u .header .first .0
       → MapHeld ps map′ → z .places ≡ length ps → Bounds ps bounds → ListsLent lists rl rc ll lc sl sc
       → EmitsAt (refusalFrom x u lists ps (keptFrom marks 0 [] (itemsIn x u))) (bytesFrom x u lists ps (keptFrom marks 0 [] (itemsIn x u))) out₁ at emitted out₂) where
     pub unit-written : (to : ℕ) → emitted ≡ To to → Goal (Rewritten (record { entries = entries; kept = kept; places = z .places; bytes = z .bytes; ranges = rc; locations = lc; strings = sc })) out₂

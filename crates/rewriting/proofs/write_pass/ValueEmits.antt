@@ -13,7 +13,7 @@ use mir.Facts.{leb-yes, yes-leb}
 use Rattle.readers.specs.Choice.{pick, bind}
 use Rattle.readers.proofs.Choice.{check-yes, bind-at, All, all-some, all-of, all-check, all-bind, all-both, all-triv}
 use Rattle.readers.specs.Numbers.{Groups, uleb}
-use Rattle.readers.specs.Layout.{Kind, Encoded, infixed, inleb, width, Role, reference, typeReference, sibling, index, absolute, Token, link, expression, Piece, verbatim, patchable, Read, ReadOf, ReadFound, asBytes, numberIn, asLink, asExpression, tokenIn, numberBytes, bytesOf, pieceBytes, writeAll, patchPiece, patchPieces, patchAll, Fit}
+use Rattle.readers.specs.Layout.{Kind, Encoded, infixed, inleb, width, Role, reference, typeReference, sibling, index, absolute, link, expression, Piece, verbatim, patchable, Read, ReadOf, ReadFound, asBytes, numberIn, asLink, asExpression, tokenIn, numberBytes, bytesOf, pieceBytes, writeAll, patchPiece, patchPieces, patchAll, Fit}
 use Rattle.readers.proofs.LayoutLaws.{kindOf, NumberLaw, number-law, LebLaw, uleb-law, length-number}
 use Rattle.readers.specs.Expression.{expressionIn}
 use Rattle.readers.specs.References.{encodedBy}
@@ -54,15 +54,15 @@ module _ (lists : Lists) (map : List Place) (depth : ℕ) where
   index-refusal e k v = refl
 
   -- pieces that stay
-  stay-bytes : (ps : List Piece) → Rights onlyAbsolute ps → bytesOf false (patchPieces (newValue lists map depth) ps) ≡ bytesOf false ps
+  stay-bytes : (big : Bool) (ps : List Piece) → Rights onlyAbsolute ps → bytesOf big (patchPieces (newValue lists map depth) ps) ≡ bytesOf big ps
   unfolding bytesOf patchPieces patchPiece pieceBytes Rights Right onlyAbsolute newValue
-  stay-bytes [] h = refl
-  stay-bytes (verbatim l ∷ ps) h = ap (λ x. l ++ x) (stay-bytes ps (h .1))
-  stay-bytes (patchable e reference v ∷ ps) h = absurd (h .0 .1)
-  stay-bytes (patchable e typeReference v ∷ ps) h = absurd (h .0 .1)
-  stay-bytes (patchable e sibling v ∷ ps) h = absurd (h .0 .1)
-  stay-bytes (patchable e (index k) v ∷ ps) h = absurd (h .0 .1)
-  stay-bytes (patchable e absolute v ∷ ps) h = ap (λ x. numberBytes false e v ++ x) (stay-bytes ps (h .1))
+  stay-bytes big [] h = refl
+  stay-bytes big (verbatim l ∷ ps) h = ap (λ x. l ++ x) (stay-bytes big ps (h .1))
+  stay-bytes big (patchable e reference v ∷ ps) h = absurd (h .0 .1)
+  stay-bytes big (patchable e typeReference v ∷ ps) h = absurd (h .0 .1)
+  stay-bytes big (patchable e sibling v ∷ ps) h = absurd (h .0 .1)
+  stay-bytes big (patchable e (index k) v ∷ ps) h = absurd (h .0 .1)
+  stay-bytes big (patchable e absolute v ∷ ps) h = ap (λ x. numberBytes big e v ++ x) (stay-bytes big ps (h .1))
 
   copied-stays : (l : List ℕ) → pieceRefusal lists map depth (verbatim l) ≡ 0
   unfolding pieceRefusal
@@ -100,11 +100,11 @@ record LinkRead (kind : Kind) (role : Role) (r : ReadOf) : Type 0 where
   pub fit : Fit code number
   pub is : r .0 ≡ record { seen = 0; start = 0; pieces = patchable code role number ∷ [] }
 
-link-read : (e : Encoding) (kind : Kind) (role : Role) (s : List ℕ) → T (areBytes s) → All (LinkRead kind role) (tokenIn false (expressionIn e) (link kind role) s)
+link-read : (e : Encoding) (kind : Kind) (role : Role) (s : List ℕ) → T (areBytes s) → All (LinkRead kind role) (tokenIn (e .«big_endian») (expressionIn e) (link kind role) s)
 unfolding tokenIn asLink
 link-read e kind role s h =
-    all-bind (λ (t : ReadFound). NumberLaw false kind s t × ((numberBytes false (t .0) (t .1) ++ t .2 ≡ s) × Fit (t .0) (t .1))) _ (numberIn false kind s) _
-    (all-both _ _ _ (number-law false kind s) (number-exact false onlyAbsolute kind s h))
+    all-bind (λ (t : ReadFound). NumberLaw (e .«big_endian») kind s t × ((numberBytes (e .«big_endian») (t .0) (t .1) ++ t .2 ≡ s) × Fit (t .0) (t .1))) _ (numberIn (e .«big_endian») kind s) _
+    (all-both _ _ _ (number-law (e .«big_endian») kind s) (number-exact (e .«big_endian») onlyAbsolute kind s h))
     (λ t q p. all-some (LinkRead kind role) (record { code = t .0; number = t .1; sort = p .0 .0; fit = p .1 .1; is = refl }))
 
 record ExpressionRead (e : Encoding) (s : List ℕ) (r : ReadOf) : Type 0 where
@@ -116,7 +116,7 @@ record ExpressionRead (e : Encoding) (s : List ℕ) (r : ReadOf) : Type 0 where
   pub inner : expressionIn e (take (t .1) (t .2)) ≡ some pieces
   pub is : r .0 ≡ record { seen = 0; start = suc (t .0); pieces = verbatim (take (suc (t .0)) s) ∷ pieces }
 
-expression-read : (e : Encoding) (s : List ℕ) → All (ExpressionRead e s) (tokenIn false (expressionIn e) expression s)
+expression-read : (e : Encoding) (s : List ℕ) → All (ExpressionRead e s) (tokenIn (e .«big_endian») (expressionIn e) expression s)
 unfolding tokenIn asExpression
 expression-read e s =
     all-bind (LebLaw uleb s) _ (uleb s) _ (uleb-law s)
@@ -124,18 +124,21 @@ expression-read e s =
     all-bind _ (ExpressionRead e s) (expressionIn e (take (t .1) (t .2))) _ (all-triv _)
     (λ ps k _. all-some (ExpressionRead e s) (record { t = t; there = q; law = law; fits-in = leb-yes u; pieces = ps; inner = k; is = refl }))))
 
-as-bytes-exact : (ok : Role → Bool) → ExactReader false ok asBytes
+as-bytes-exact : (big : Bool) (ok : Role → Bool) → ExactReader big ok asBytes
 unfolding asBytes bytesOf pieceBytes Rights Right
-as-bytes-exact ok s h = all-some (Exactly false ok s) (append-nil s, (tt, tt))
+as-bytes-exact big ok s h = all-some (Exactly big ok s) (append-nil s, (tt, tt))
 
-field-is : (o : ℕ) (r : ReadOf) (f : Field) → asField false o (some r) ≡ Field′ f → fieldOf false o (r .0) ≡ f
+field-is : (big : Bool) (o : ℕ) (r : ReadOf) (f : Field) → asField big o (some r) ≡ Field′ f → fieldOf big o (r .0) ≡ f
 unfolding asField
-field-is o r f h = cc
+field-is big o r f h = cc
 
 -- ---- a value
 
 module _ (e : Encoding) (unit : List ℕ) (values name : ℕ) (value : Attribute) (rs : List Read) (w : Value e unit values name value rs)
-    (l : e .«big_endian» ≡ false) (b : T (areBytes unit)) where
+    (b : T (areBytes unit)) where
+  abbrev big : Bool
+  big = e .«big_endian»
+
   abbrev f : ℕ
   f = value .form
 
@@ -145,12 +148,12 @@ module _ (e : Encoding) (unit : List ℕ) (values name : ℕ) (value : Attribute
   known : valueToken e (w .indirect) name f ≡ formIs e name f
   known = token-known e name (w .indirect) f there (w .v, w .rest) (w .deep)
 
-  deeply : tokenIn false (expressionIn e) (formIs e name f) there ≡ some (w .v, w .rest)
-  deeply = ap (λ g. tokenIn false (expressionIn e) g there) (sym known) ∙ w .deep
+  deeply : tokenIn big (expressionIn e) (formIs e name f) there ≡ some (w .v, w .rest)
+  deeply = ap (λ g. tokenIn big (expressionIn e) g there) (sym known) ∙ w .deep
 
-  shallowly : asField false (w .o) (tokenIn false asBytes (formIs e name f) there) ≡ Field′ (value .field)
+  shallowly : asField big (w .o) (tokenIn big asBytes (formIs e name f) there) ≡ Field′ (value .field)
   unfolding tokenAt
-  shallowly = ap₂ (λ (g : Token) (z : Bool). asField z (w .o) (tokenIn z asBytes g there)) (sym known) (sym l) ∙ w .shallow
+  shallowly = ap (λ g. asField big (w .o) (tokenIn big asBytes g there)) (sym known) ∙ w .shallow
 
   within : Inside unit (w .o) (value .field)
   within = token-inside e unit (w .o) (value .field) _ (w .shallow)
@@ -165,20 +168,20 @@ module _ (e : Encoding) (unit : List ℕ) (values name : ℕ) (value : Attribute
   end-inside = omega (arith, w .inside, within .within)
 
   -- the field of a token that is no expression
-  plain-field : isExpression (formIs e name f) ≡ false → fieldOf false (w .o) (w .v) ≡ value .field
+  plain-field : isExpression (formIs e name f) ≡ false → fieldOf big (w .o) (w .v) ≡ value .field
   plain-field p =
-      field-is (w .o) (w .v, w .rest) (value .field)
-      (ap (asField false (w .o)) (sym deeply ∙ plain-token false (expressionIn e) asBytes (formIs e name f) there p) ∙ shallowly)
+      field-is big (w .o) (w .v, w .rest) (value .field)
+      (ap (asField big (w .o)) (sym deeply ∙ plain-token big (expressionIn e) asBytes (formIs e name f) there p) ∙ shallowly)
 
   module _ (out : List ℕ) (at to : ℕ) (out₁ : List ℕ)
       (first : values ≤ value .field .start → value .field .start ≤ length unit → EmitsAt 0 (between unit values (value .field .start)) out at (To to) out₁)
       (lists : Lists) (map : List Place) (depth : ℕ) where
     abbrev Whole : Emitted → List ℕ → Type 0
-    Whole r out₂ = EmitsAt (readsRefusal lists map depth rs) (writeAll false (patchAll (newValue lists map depth) rs)) out at r out₂
+    Whole r out₂ = EmitsAt (readsRefusal lists map depth rs) (writeAll big (patchAll (newValue lists map depth) rs)) out at r out₂
 
     -- what stands before the payload, and then the rest
     after-start : (n : ℕ) (bytes : List ℕ) (r : Emitted) (out₂ : List ℕ) → n ≡ piecesRefusal lists map depth (w .v .pieces)
-        → between unit values (value .field .start) ++ bytes ≡ between unit values (w .o) ++ bytesOf false (patchPieces (newValue lists map depth) (w .v .pieces))
+        → between unit values (value .field .start) ++ bytes ≡ between unit values (w .o) ++ bytesOf big (patchPieces (newValue lists map depth) (w .v .pieces))
         → EmitsAt n bytes out₁ to r out₂ → Whole r out₂
     after-start n bytes r out₂ p q h =
         emits-as (next-zero n ∙ p ∙ sym (w .refused lists map depth)) (q ∙ sym (w .written (newValue lists map depth)))
@@ -188,7 +191,7 @@ module _ (e : Encoding) (unit : List ℕ) (values name : ℕ) (value : Attribute
 
     module _ (x : formIs e name f ≡ expression) where
       read-of : ExpressionRead e there (w .v, w .rest)
-      read-of = all-of (ExpressionRead e there) (expression-read e there) (ap (λ g. tokenIn false (expressionIn e) g there) (sym x) ∙ deeply)
+      read-of = all-of (ExpressionRead e there) (expression-read e there) (ap (λ g. tokenIn big (expressionIn e) g there) (sym x) ∙ deeply)
 
       abbrev k : ℕ
       k = suc (read-of .t .0)
@@ -199,14 +202,14 @@ module _ (e : Encoding) (unit : List ℕ) (values name : ℕ) (value : Attribute
       abbrev bytes-read : Read
       bytes-read = record { seen = 0; start = k; pieces = verbatim (take k there) ∷ verbatim (take m (read-of .t .2)) ∷ [] }
 
-      as-bytes-read : tokenIn false asBytes expression there ≡ some (bytes-read, drop m (read-of .t .2))
+      as-bytes-read : tokenIn big asBytes expression there ≡ some (bytes-read, drop m (read-of .t .2))
       unfolding tokenIn asExpression asBytes bind
       as-bytes-read = bind-at _ (read-of .there) ∙ check-yes _ _ (yes-leb {a = m} {b = length (read-of .t .2)} (read-of .fits-in))
 
-      the-field : fieldOf false (w .o) bytes-read ≡ value .field
+      the-field : fieldOf big (w .o) bytes-read ≡ value .field
       the-field =
-          field-is (w .o) (bytes-read, drop m (read-of .t .2)) (value .field)
-          (ap (asField false (w .o)) (sym as-bytes-read ∙ ap (λ g. tokenIn false asBytes g there) (sym x)) ∙ shallowly)
+          field-is big (w .o) (bytes-read, drop m (read-of .t .2)) (value .field)
+          (ap (asField big (w .o)) (sym as-bytes-read ∙ ap (λ g. tokenIn big asBytes g there) (sym x)) ∙ shallowly)
 
       starts : value .field .start ≡ w .o + k
       unfolding fieldOf
@@ -232,17 +235,17 @@ module _ (e : Encoding) (unit : List ℕ) (values name : ℕ) (value : Attribute
       its-pieces = ap (λ (y : Read). y .pieces) (read-of .is)
 
       pub expression-emits : (part : List ℕ) → part ≡ partOf unit (value .field) → (r : Emitted) (out₂ : List ℕ)
-          → ((pieces : List Piece) → expressionIn e part ≡ some pieces → EmitsAt (piecesRefusal lists map depth pieces) (bytesOf false (patchPieces (newValue lists map depth) pieces)) out₁ to r out₂)
+          → ((pieces : List Piece) → expressionIn e part ≡ some pieces → EmitsAt (piecesRefusal lists map depth pieces) (bytesOf big (patchPieces (newValue lists map depth) pieces)) out₁ to r out₂)
           → Whole r out₂
       unfolding bytesOf pieceBytes patchPieces patchPiece
       expression-emits part p r out₂ h =
-          let tail : List ℕ = bytesOf false (patchPieces (newValue lists map depth) (read-of .pieces)) in
+          let tail : List ℕ = bytesOf big (patchPieces (newValue lists map depth) (read-of .pieces)) in
           after-start (piecesRefusal lists map depth (read-of .pieces)) tail r out₂
           (sym (ap (piecesRefusal lists map depth) its-pieces ∙ first-copied lists map depth (take k there) (read-of .pieces)))
           (ap (λ o. between unit values o ++ tail) starts
           ∙ ap (λ y. y ++ tail) (sym (between-join unit values (w .o) (w .o + k) (w .after) (omega arith)) ∙ ap (λ y. between unit values (w .o) ++ y) (between-from unit (w .o) k))
           ∙ append-assoc (between unit values (w .o)) (take k there) tail
-          ∙ ap (λ ps. between unit values (w .o) ++ bytesOf false (patchPieces (newValue lists map depth) ps)) (sym its-pieces))
+          ∙ ap (λ ps. between unit values (w .o) ++ bytesOf big (patchPieces (newValue lists map depth) ps)) (sym its-pieces))
           (h (read-of .pieces) (ap (expressionIn e) (p ∙ the-part) ∙ read-of .inner))
 
     -- ---- a number that becomes another
@@ -251,7 +254,7 @@ module _ (e : Encoding) (unit : List ℕ) (values name : ℕ) (value : Attribute
       link-of : LinkRead (lf .kind) role (w .v, w .rest)
       link-of =
           all-of (LinkRead (lf .kind) role) (link-read e (lf .kind) role there (are-drop (w .o) unit b))
-          (ap (λ g. tokenIn false (expressionIn e) g there) (sym (lf .token)) ∙ deeply)
+          (ap (λ g. tokenIn big (expressionIn e) g there) (sym (lf .token)) ∙ deeply)
 
       abbrev code : Encoded
       code = link-of .code
@@ -266,8 +269,8 @@ module _ (e : Encoding) (unit : List ℕ) (values name : ℕ) (value : Attribute
       unfolding isExpression
       link-plain = ap isExpression (lf .token)
 
-      link-field : fieldOf false (w .o) the-read ≡ value .field
-      link-field = ap (fieldOf false (w .o)) (sym (link-of .is)) ∙ plain-field link-plain
+      link-field : fieldOf big (w .o) the-read ≡ value .field
+      link-field = ap (fieldOf big (w .o)) (sym (link-of .is)) ∙ plain-field link-plain
 
       link-value : value .field .value ≡ the-number
       unfolding fieldOf linkedValue
@@ -281,7 +284,7 @@ module _ (e : Encoding) (unit : List ℕ) (values name : ℕ) (value : Attribute
       unfolding fieldOf size bytesOf pieceBytes
       link-end =
           ap (λ (y : Field). y .end) (sym link-field)
-          ∙ ap (λ n. w .o + n) (ap length (append-nil (numberBytes false code the-number)) ∙ length-number false code the-number)
+          ∙ ap (λ n. w .o + n) (ap length (append-nil (numberBytes big code the-number)) ∙ length-number big code the-number)
 
       module _ (leb′ : Bool) (p : leb′ ≡ lebForm f) (n : ℕ) (q : n ≡ value .field .end - value .field .start) where
         n-is : n ≡ width code
@@ -295,38 +298,38 @@ module _ (e : Encoding) (unit : List ℕ) (values name : ℕ) (value : Attribute
             wide-of leb′ n (subst Sound (sym code-is) (fit-sound code the-number (link-of .fit))) (ap width code-is ∙ sym n-is)
 
         link-emits : (z : ℕ) (v : ℕ) → z ≡ pieceRefusal lists map depth (patchable code role the-number) → v ≡ newValue lists map depth role the-number
-            → (r : Emitted) (out₂ : List ℕ) → EmitsAt z (numberBytes false code v) out₁ to r out₂ → Whole r out₂
+            → (r : Emitted) (out₂ : List ℕ) → EmitsAt z (numberBytes big code v) out₁ to r out₂ → Whole r out₂
         unfolding bytesOf pieceBytes patchPieces patchPiece
         link-emits z v y x r out₂ h =
             let ps : w .v .pieces ≡ patchable code role the-number ∷ [] = ap (λ (y : Read). y .pieces) (link-of .is) in
-            after-start z (numberBytes false code v) r out₂
+            after-start z (numberBytes big code v) r out₂
             (y ∙ sym (ap (piecesRefusal lists map depth) ps ∙ one-link lists map depth code role the-number))
-            (ap (λ o. between unit values o ++ numberBytes false code v) link-start
-            ∙ ap (λ y. between unit values (w .o) ++ y) (ap (numberBytes false code) x ∙ sym (append-nil (numberBytes false code (newValue lists map depth role the-number))))
-            ∙ ap (λ y. between unit values (w .o) ++ bytesOf false (patchPieces (newValue lists map depth) y)) (sym ps))
+            (ap (λ o. between unit values o ++ numberBytes big code v) link-start
+            ∙ ap (λ y. between unit values (w .o) ++ y) (ap (numberBytes big code) x ∙ sym (append-nil (numberBytes big code (newValue lists map depth role the-number))))
+            ∙ ap (λ y. between unit values (w .o) ++ bytesOf big (patchPieces (newValue lists map depth) y)) (sym ps))
             h
 
         abbrev Offset : Option ℕ → Emitted → List ℕ → Type 0
-        Offset o r out₂ = EmitsAt (offsetRefusal (encodedBy leb′ n) (value .field .value) o) (numberBytes false (encodedBy leb′ n) (orSelf (value .field .value) o)) out₁ to r out₂
+        Offset o r out₂ = EmitsAt (offsetRefusal (encodedBy leb′ n) (value .field .value) o) (numberBytes big (encodedBy leb′ n) (orSelf (value .field .value) o)) out₁ to r out₂
 
         offset-emits : (o : ℕ → Option ℕ) → ((v : ℕ) → pieceRefusal lists map depth (patchable code role v) ≡ offsetRefusal code v (o v)) → ((v : ℕ) → newValue lists map depth role v ≡ orSelf v (o v))
             → (r : Emitted) (out₂ : List ℕ) → Offset (o (value .field .value)) r out₂ → Whole r out₂
         offset-emits o y x r out₂ h =
             link-emits (offsetRefusal code the-number (o the-number)) (orSelf the-number (o the-number)) (sym (y the-number)) (sym (x the-number)) r out₂
-            (emits-as (ap₂ (λ (c : Encoded) (v : ℕ). offsetRefusal c v (o v)) code-is link-value) (ap₂ (λ (c : Encoded) (v : ℕ). numberBytes false c (orSelf v (o v))) code-is link-value) h)
+            (emits-as (ap₂ (λ (c : Encoded) (v : ℕ). offsetRefusal c v (o v)) code-is link-value) (ap₂ (λ (c : Encoded) (v : ℕ). numberBytes big c (orSelf v (o v))) code-is link-value) h)
 
         pub index-emits : (k : ℕ) → role ≡ index k → (v : ℕ) → v ≡ rankOr (listAt lists k) (value .field .value) → (r : Emitted) (out₂ : List ℕ)
-            → (Wide leb′ n → EmitsAt (numberRefusal (encodedBy leb′ n) v) (numberBytes false (encodedBy leb′ n) v) out₁ to r out₂) → Whole r out₂
+            → (Wide leb′ n → EmitsAt (numberRefusal (encodedBy leb′ n) v) (numberBytes big (encodedBy leb′ n) v) out₁ to r out₂) → Whole r out₂
         unfolding newValue
         index-emits k y v x r out₂ h =
             let is : v ≡ rankOr (listAt lists k) the-number = x ∙ ap (rankOr (listAt lists k)) link-value in
             link-emits (numberRefusal code v) v
             (ap (numberRefusal code) is ∙ sym (ap (λ z. pieceRefusal lists map depth (patchable code z the-number)) y ∙ index-refusal lists map depth code k the-number))
             (is ∙ ap (λ z. newValue lists map depth z the-number) (sym y)) r out₂
-            (emits-as (ap (λ c. numberRefusal c v) code-is) (ap (λ c. numberBytes false c v) code-is) (h link-wide))
+            (emits-as (ap (λ c. numberRefusal c v) code-is) (ap (λ c. numberBytes big c v) code-is) (h link-wide))
 
         pub reference-emits : role ≡ reference → (r : Emitted) (out₂ : List ℕ) (new : Mapped) → new ≡ asMapped (newOf map (value .field .value))
-            → ((o : Option ℕ) (v : ℕ) → new ≡ asMapped o → Wide leb′ n → EmitsAt (offsetRefusal (encodedBy leb′ n) v o) (numberBytes false (encodedBy leb′ n) (orSelf v o)) out₁ to r out₂)
+            → ((o : Option ℕ) (v : ℕ) → new ≡ asMapped o → Wide leb′ n → EmitsAt (offsetRefusal (encodedBy leb′ n) v o) (numberBytes big (encodedBy leb′ n) (orSelf v o)) out₁ to r out₂)
             → Whole r out₂
         unfolding newValue
         reference-emits y r out₂ new x h =
@@ -334,7 +337,7 @@ module _ (e : Encoding) (unit : List ℕ) (values name : ℕ) (value : Attribute
             (h (newOf map (value .field .value)) (value .field .value) x link-wide)
 
         pub sibling-emits : role ≡ sibling → (r : Emitted) (out₂ : List ℕ) (new : Mapped) → new ≡ asMapped (siblingOf map depth (value .field .value))
-            → ((o : Option ℕ) (v : ℕ) → new ≡ asMapped o → Wide leb′ n → EmitsAt (offsetRefusal (encodedBy leb′ n) v o) (numberBytes false (encodedBy leb′ n) (orSelf v o)) out₁ to r out₂)
+            → ((o : Option ℕ) (v : ℕ) → new ≡ asMapped o → Wide leb′ n → EmitsAt (offsetRefusal (encodedBy leb′ n) v o) (numberBytes big (encodedBy leb′ n) (orSelf v o)) out₁ to r out₂)
             → Whole r out₂
         unfolding newValue
         sibling-emits y r out₂ new x h =
@@ -344,20 +347,20 @@ module _ (e : Encoding) (unit : List ℕ) (values name : ℕ) (value : Attribute
     -- ---- what is verbatim
 
     module _ (u : T (tokenOk onlyAbsolute (formIs e name f))) (p : isExpression (formIs e name f) ≡ false) where
-      exactly : TokenExact false onlyAbsolute there (w .v, w .rest)
+      exactly : TokenExact big onlyAbsolute there (w .v, w .rest)
       exactly =
-          all-of (TokenExact false onlyAbsolute there) (token-exact false onlyAbsolute asBytes (as-bytes-exact onlyAbsolute) (formIs e name f) u there (are-drop (w .o) unit b))
-          (plain-token false asBytes (expressionIn e) (formIs e name f) there p ∙ deeply)
+          all-of (TokenExact big onlyAbsolute there) (token-exact big onlyAbsolute asBytes (as-bytes-exact big onlyAbsolute) (formIs e name f) u there (are-drop (w .o) unit b))
+          (plain-token big asBytes (expressionIn e) (formIs e name f) there p ∙ deeply)
 
-      copied-end : value .field .end ≡ w .o + length (bytesOf false (w .v .pieces))
+      copied-end : value .field .end ≡ w .o + length (bytesOf big (w .v .pieces))
       unfolding fieldOf size
       copied-end = ap (λ (y : Field). y .end) (sym (plain-field p))
 
-      copied-bytes : bytesOf false (w .v .pieces) ≡ between unit (w .o) (value .field .end)
+      copied-bytes : bytesOf big (w .v .pieces) ≡ between unit (w .o) (value .field .end)
       copied-bytes =
-          sym (take-at (bytesOf false (w .v .pieces)) (w .rest) (length (bytesOf false (w .v .pieces))) refl)
-          ∙ ap (take (length (bytesOf false (w .v .pieces)))) (exactly .0)
-          ∙ sym (between-from unit (w .o) (length (bytesOf false (w .v .pieces))))
+          sym (take-at (bytesOf big (w .v .pieces)) (w .rest) (length (bytesOf big (w .v .pieces))) refl)
+          ∙ ap (take (length (bytesOf big (w .v .pieces)))) (exactly .0)
+          ∙ sym (between-from unit (w .o) (length (bytesOf big (w .v .pieces))))
           ∙ ap (between unit (w .o)) (sym copied-end)
 
       pub copied-emits : (to₂ : ℕ) (out₂ : List ℕ)
@@ -370,5 +373,5 @@ module _ (e : Encoding) (unit : List ℕ) (values name : ℕ) (value : Attribute
           (sym (stay-refusal lists map depth (w .v .pieces) (exactly .1)))
           (between-join unit values s z start-after (within .forward)
           ∙ sym (between-join unit values (w .o) z (w .after) (omega (arith, within .after, within .forward)))
-          ∙ ap (λ y. between unit values (w .o) ++ y) (sym (stay-bytes lists map depth (w .v .pieces) (exactly .1) ∙ copied-bytes)))
+          ∙ ap (λ y. between unit values (w .o) ++ y) (sym (stay-bytes lists map depth big (w .v .pieces) (exactly .1) ∙ copied-bytes)))
           (h (within .forward) end-inside)

@@ -60,15 +60,15 @@ module _ (lists : Lists) (map : List Place) (depth : ℕ) where
   unfolding readsRefusal piecesRefusal pieceRefusal orNext pick
   copied-refusal f l h rs = ap (λ ps. orNext (piecesRefusal lists map depth ps) (readsRefusal lists map depth rs)) h
 
-pub one-written : (f : Patch) (v : Read) → writeAll false (patchAll f (v ∷ [])) ≡ bytesOf false (patchPieces f (v .pieces))
+pub one-written : (big : Bool) (f : Patch) (v : Read) → writeAll big (patchAll f (v ∷ [])) ≡ bytesOf big (patchPieces f (v .pieces))
 unfolding writeAll patchAll patchRead
-one-written f v = append-nil (bytesOf false (patchPieces f (v .pieces)))
+one-written big f v = append-nil (bytesOf big (patchPieces f (v .pieces)))
 
-pub copied-written : (f : Patch) (c : Read) (l : List ℕ) → c .pieces ≡ verbatim l ∷ [] → (rs : List Read)
-    → writeAll false (patchAll f (c ∷ rs)) ≡ l ++ writeAll false (patchAll f rs)
+pub copied-written : (big : Bool) (f : Patch) (c : Read) (l : List ℕ) → c .pieces ≡ verbatim l ∷ [] → (rs : List Read)
+    → writeAll big (patchAll f (c ∷ rs)) ≡ l ++ writeAll big (patchAll f rs)
 unfolding writeAll patchAll patchRead bytesOf pieceBytes patchPieces patchPiece
-copied-written f c l h rs =
-    ap (λ ps. bytesOf false (patchPieces f ps) ++ writeAll false (patchAll f rs)) h ∙ ap (λ x. x ++ writeAll false (patchAll f rs)) (append-nil l)
+copied-written big f c l h rs =
+    ap (λ ps. bytesOf big (patchPieces f ps) ++ writeAll big (patchAll f rs)) h ∙ ap (λ x. x ++ writeAll big (patchAll f rs)) (append-nil l)
 
 -- ---- values
 
@@ -87,20 +87,23 @@ pub record Value (e : Encoding) (unit : List ℕ) (values name : ℕ) (value : A
   pub rest : List ℕ
   pub after : values ≤ o
   pub inside : o ≤ length unit
-  pub written : (f : Patch) → writeAll false (patchAll f rs) ≡ between unit values o ++ bytesOf false (patchPieces f (v .pieces))
+  pub written : (f : Patch) → writeAll (e .«big_endian») (patchAll f rs) ≡ between unit values o ++ bytesOf (e .«big_endian») (patchPieces f (v .pieces))
   pub refused : (lists : Lists) (map : List Place) (depth : ℕ) → readsRefusal lists map depth rs ≡ piecesRefusal lists map depth (v .pieces)
-  pub deep : tokenIn false (expressionIn e) (valueToken e indirect name (value .form)) (drop o unit) ≡ some (v, rest)
+  pub deep : tokenIn (e .«big_endian») (expressionIn e) (valueToken e indirect name (value .form)) (drop o unit) ≡ some (v, rest)
   pub shallow : tokenAt e unit o (valueToken e indirect name (value .form)) ≡ Field′ (value .field)
 
 module _ (e : Encoding) (unit : List ℕ) (values name declared : ℕ) (value : Attribute) (i : values ≤ length unit)
     (attribute : attributeAt e unit values name declared ≡ Attribute′ value) where
+  abbrev big : Bool
+  big = e .«big_endian»
+
   abbrev ex : ExpressionReader
   ex = expressionIn e
 
   abbrev Shape : RunOf → Type 0
   Shape r = Value e unit values name value (r .0)
 
-  direct-value : (declared ≡ 0x16 → ⊥) → (r : ReadOf) → tokenIn false ex (valueToken e false name declared) (drop values unit) ≡ some r
+  direct-value : (declared ≡ 0x16 → ⊥) → (r : ReadOf) → tokenIn big ex (valueToken e false name declared) (drop values unit) ≡ some r
       → Value e unit values name value (r .0 ∷ [])
   direct-value d r q =
       let g : (tokenAt e unit values (valueToken e false name declared) ≡ Field′ (value .field)) × (declared ≡ value .form) =
@@ -112,20 +115,20 @@ module _ (e : Encoding) (unit : List ℕ) (values name declared : ℕ) (value : 
         rest = r .1;
         after = omega arith;
         inside = i;
-        written = λ f. one-written f (r .0) ∙ ap (λ x. x ++ bytesOf false (patchPieces f (r .0 .pieces))) (sym (between-none unit values));
+        written = λ f. one-written big f (r .0) ∙ ap (λ x. x ++ bytesOf big (patchPieces f (r .0 .pieces))) (sym (between-none unit values));
         refused = λ lists map depth. one-refusal lists map depth (r .0);
-        deep = ap (λ n. tokenIn false ex (valueToken e false name n) (drop values unit)) (sym (g .1)) ∙ q;
+        deep = ap (λ n. tokenIn big ex (valueToken e false name n) (drop values unit)) (sym (g .1)) ∙ q;
         shallow = ap (λ n. tokenAt e unit values (valueToken e false name n)) (sym (g .1)) ∙ g .0;
       }
 
-  direct-all : (declared ≡ 0x16 → ⊥) → All Shape (readIn false ex (field (valueToken e false name declared) (λ _. done)) (drop values unit))
+  direct-all : (declared ≡ 0x16 → ⊥) → All Shape (readIn big ex (field (valueToken e false name declared) (λ _. done)) (drop values unit))
   unfolding readIn bind before
   direct-all d =
-      all-bind _ Shape (tokenIn false ex (valueToken e false name declared) (drop values unit)) _ (all-triv _)
+      all-bind _ Shape (tokenIn big ex (valueToken e false name declared) (drop values unit)) _ (all-triv _)
       (λ r q _. all-some Shape (direct-value d r q))
 
   indirect-value : declared ≡ 0x16 → (t : ℕ × ℕ) → formsIn (drop values unit) ≡ some t → FormsLaw (drop values unit) t → (r : ReadOf)
-      → tokenIn false ex (valueToken e true name (t .1)) (drop (t .0) (drop values unit)) ≡ some r
+      → tokenIn big ex (valueToken e true name (t .1)) (drop (t .0) (drop values unit)) ≡ some r
       → Value e unit values name value (copy (t .1) 0 (t .0) (drop values unit) .0 ∷ r .0 ∷ [])
   unfolding formsAt asFormNumber behindForms copy
   indirect-value d t k law r q =
@@ -141,45 +144,45 @@ module _ (e : Encoding) (unit : List ℕ) (values name declared : ℕ) (value : 
         after = omega arith;
         inside = omega (arith, length-drop values unit);
         written = λ f.
-            copied-written f (copy (t .1) 0 (t .0) (drop values unit) .0) (take (t .0) (drop values unit)) refl (r .0 ∷ [])
-            ∙ ap₂ (λ (x y : List ℕ). x ++ y) (sym (between-from unit values (t .0))) (one-written f (r .0));
+            copied-written big f (copy (t .1) 0 (t .0) (drop values unit) .0) (take (t .0) (drop values unit)) refl (r .0 ∷ [])
+            ∙ ap₂ (λ (x y : List ℕ). x ++ y) (sym (between-from unit values (t .0))) (one-written big f (r .0));
         refused = λ lists map depth.
             copied-refusal lists map depth (copy (t .1) 0 (t .0) (drop values unit) .0) (take (t .0) (drop values unit)) refl (r .0 ∷ []) ∙ one-refusal lists map depth (r .0);
         deep =
-            ap₂ (λ (n : ℕ) (x : List ℕ). tokenIn false ex (valueToken e true name n) x) (sym (g .1)) (sym (drop-drop (t .0) values unit)) ∙ q;
+            ap₂ (λ (n : ℕ) (x : List ℕ). tokenIn big ex (valueToken e true name n) x) (sym (g .1)) (sym (drop-drop (t .0) values unit)) ∙ q;
         shallow = ap (λ n. tokenAt e unit (values + t .0) (valueToken e true name n)) (sym (g .1)) ∙ g .0;
       }
 
-  indirect-all : declared ≡ 0x16 → All Shape (readIn false ex (field forms (λ g. field (valueToken e true name g) (λ _. done))) (drop values unit))
+  indirect-all : declared ≡ 0x16 → All Shape (readIn big ex (field forms (λ g. field (valueToken e true name g) (λ _. done))) (drop values unit))
   unfolding readIn tokenIn bind before asForms copy
   indirect-all d =
       all-bind (λ (r : ReadOf). (t : ℕ × ℕ) × ((formsIn (drop values unit) ≡ some t) × FormsLaw (drop values unit) t × (r ≡ copy (t .1) 0 (t .0) (drop values unit)))) Shape
       (bind (formsIn (drop values unit)) (asForms (drop values unit))) _
       (all-bind (FormsLaw (drop values unit)) _ (formsIn (drop values unit)) _ (forms-law (drop values unit)) (λ t k law. all-some _ (t, (k, law, refl))))
       (λ f q h.
-      all-bind _ Shape (readIn false ex (field (valueToken e true name (f .0 .seen)) (λ _. done)) (f .1)) _
-      (all-bind (λ _. Unit {0}) (λ (z : RunOf). (r : ReadOf) × ((tokenIn false ex (valueToken e true name (f .0 .seen)) (f .1) ≡ some r) × (z .0 ≡ r .0 ∷ [])))
-      (tokenIn false ex (valueToken e true name (f .0 .seen)) (f .1)) _ (all-triv _) (λ r k _. all-some _ (r, (k, refl))))
+      all-bind _ Shape (readIn big ex (field (valueToken e true name (f .0 .seen)) (λ _. done)) (f .1)) _
+      (all-bind (λ _. Unit {0}) (λ (z : RunOf). (r : ReadOf) × ((tokenIn big ex (valueToken e true name (f .0 .seen)) (f .1) ≡ some r) × (z .0 ≡ r .0 ∷ [])))
+      (tokenIn big ex (valueToken e true name (f .0 .seen)) (f .1)) _ (all-triv _) (λ r k _. all-some _ (r, (k, refl))))
       (λ z k y. all-some Shape
       (subst (λ (l : List Read). Value e unit values name value (f .0 ∷ l)) (sym (y .1 .1))
       (subst (λ (g : ReadOf). Value e unit values name value (g .0 ∷ y .0 .0 ∷ [])) (sym (h .1 .2))
-      (indirect-value d (h .0) (h .1 .0) (h .1 .1) (y .0) (subst (λ (g : ReadOf). tokenIn false ex (valueToken e true name (g .0 .seen)) (g .1) ≡ some (y .0)) (h .1 .2) (y .1 .0)))))))
+      (indirect-value d (h .0) (h .1 .0) (h .1 .1) (y .0) (subst (λ (g : ReadOf). tokenIn big ex (valueToken e true name (g .0 .seen)) (g .1) ≡ some (y .0)) (h .1 .2) (y .1 .0)))))))
 
-  pub value-of : (rs : List Read) (rest : List ℕ) → readIn false ex (attributeLayout e name declared) (drop values unit) ≡ some (rs, rest) → Value e unit values name value rs
+  pub value-of : (rs : List Read) (rest : List ℕ) → readIn big ex (attributeLayout e name declared) (drop values unit) ≡ some (rs, rest) → Value e unit values name value rs
   unfolding attributeLayout
   value-of rs rest q =
       ⊎-elim
-      (λ t. all-of Shape (indirect-all (eqb-yes {a = declared} {b = 0x16} t)) (ap (λ g. readIn false ex g (drop values unit)) (sym (pick-yes _ _ _ t)) ∙ q))
-      (λ t. all-of Shape (direct-all (eqb-no {a = declared} {b = 0x16} t)) (ap (λ g. readIn false ex g (drop values unit)) (sym (pick-no _ _ _ t)) ∙ q))
+      (λ t. all-of Shape (indirect-all (eqb-yes {a = declared} {b = 0x16} t)) (ap (λ g. readIn big ex g (drop values unit)) (sym (pick-yes _ _ _ t)) ∙ q))
+      (λ t. all-of Shape (direct-all (eqb-no {a = declared} {b = 0x16} t)) (ap (λ g. readIn big ex g (drop values unit)) (sym (pick-no _ _ _ t)) ∙ q))
       (either (eqb declared 0x16))
 
 -- what can be read is by the token of its form
-pub token-known : (e : Encoding) (name : ℕ) (indirect : Bool) (f : ℕ) (s : List ℕ) (r : ReadOf) → tokenIn false (expressionIn e) (valueToken e indirect name f) s ≡ some r
+pub token-known : (e : Encoding) (name : ℕ) (indirect : Bool) (f : ℕ) (s : List ℕ) (r : ReadOf) → tokenIn (e .«big_endian») (expressionIn e) (valueToken e indirect name f) s ≡ some r
     → valueToken e indirect name f ≡ formIs e name f
 unfolding valueToken tokenIn
 token-known e name indirect f s r q =
     ⊎-elim
-    (λ t. let z : none ≡ some r = ap (λ g. tokenIn false (expressionIn e) g s) (sym (pick-yes _ _ _ t)) ∙ q in
+    (λ t. let z : none ≡ some r = ap (λ g. tokenIn (e .«big_endian») (expressionIn e) g s) (sym (pick-yes _ _ _ t)) ∙ q in
     let y : _≡_ {A = ℕ} 0 1 = cc in absurd (omega arith))
     (λ t. pick-no _ _ _ t)
     (either ((eqb name 0x01 and eqb f 0x18) or (indirect and eqb f 0x21)))

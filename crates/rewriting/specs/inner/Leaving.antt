@@ -1,14 +1,15 @@
 -- What the parts of collect answer, and what they leave in the lent slices: after a refusal nothing is said of these.
 use mathlib.Core.Path.{_≡_}
-use Prim.Native.Nat.{ℕ, _/_, _≤_}
+use Prim.Native.Nat.{ℕ, _+_, _/_, _^_, _≤_, _<_}
 use mathlib.Core.Bool.{Bool, true, false}
 use mathlib.Core.List.{List, []}
+use mathlib.Core.Logic.{_⊎_}
 use mathlib.Core.Option.{some}
 use lib.ListN.{length}
 use lib.Dec.{eqb}
 use Rattle.readers.specs.Choice.{pick, zeros}
 use Rattle.readers.specs.Abbreviations.{Placed, abbreviationsOf, indexOf}
-use Rattle.readers.specs.Header.{headerOf}
+use Rattle.readers.specs.Header.{lengthSize, headerOf}
 use Rattle.readers.specs.declared.header.UnitHeader.{UnitHeader}
 use Rattle.readers.specs.declared.header.HeaderRead.{HeaderRead}
 use Rattle.readers.specs.declared.header.HeaderRead.the-variants.{Unit as Header′, Empty, Refused as NoHeader}
@@ -69,8 +70,8 @@ taskOf o (Marked entries kept) = pick (eqb entries 0) (Done (answerFor (untouche
 pub record MarkedTables (x : Sections) (tables : Rooms) (section : List ℕ) (task : Task)
     (abbreviations index parents ends marks : List ℕ) : Type 0 where
   pub abbreviations-are : x .abbreviations ≡ abbreviations
-  pub task-is : task ≡ taskOf (headerOf section) (unitMarks (analysisOf x section tables))
-  pub index-is : index ≡ indexAfter (x .abbreviations) (headerOf section) (length index)
+  pub task-is : task ≡ taskOf (headerOf (x .setting .«big_endian») section) (unitMarks (analysisOf x section tables))
+  pub index-is : index ≡ indexAfter (x .abbreviations) (headerOf (x .setting .«big_endian») section) (length index)
   pub parents-are : parents ≡ column parentsIn (length parents) (analysisOf x section tables)
   pub marks-are : marks ≡ column marksIn (length marks) (analysisOf x section tables)
   pub ends-room : tables .entries ≤ length ends
@@ -81,7 +82,7 @@ pub record MarkedTables (x : Sections) (tables : Rooms) (section : List ℕ) (ta
 pub record Tabled (x : Sections) (tables : Rooms) (section : List ℕ) (h : UnitHeader) (ds : List Placed) (rows : List EntryRow)
     (abbreviations index parents ends marks : List ℕ) (entries kept : ℕ) : Type 0 where
   pub abbreviations-are : x .abbreviations ≡ abbreviations
-  pub header-is : headerOf section ≡ Header′ h
+  pub header-is : headerOf (x .setting .«big_endian») section ≡ Header′ h
   pub declared-are : abbreviationsOf (x .abbreviations) (h .abbreviations) ≡ some ds
   pub analysis-is : analysisOf x section tables ≡ analysed rows
   pub index-is : index ≡ indexOf (x .abbreviations) (h .abbreviations) (length index)
@@ -120,13 +121,15 @@ pub record ListsAnswer (l : Lists) (ranges locations strings : ℕ) (r : Listed)
 
 -- ---- its map and output
 
--- what writing asks for besides a pass and the lists: the first entry inside the unit, little-endian numbers, the room that
--- there is, nothing written yet
+-- what writing asks for besides a pass and the lists: the first entry inside the unit, the header's other fields between
+-- its length and it; the width of a length, and a unit no longer than that can say; the room that there is, nothing
+-- written yet
 pub record Writable (u : Unit′) (room : Room) (unit : List ℕ) (first : ℕ) (map out : List ℕ) : Type 0 where
   pub first-is : first ≡ u .header .first .0
-  pub twelve : 12 ≤ first
+  pub after : lengthSize (u .header .encoding) + 7 ≤ first
   pub inside : first ≤ length unit
-  pub little : u .header .encoding .«big_endian» ≡ false
+  pub wide : (u .header .encoding .«offset_size» ≡ 4) ⊎ (u .header .encoding .«offset_size» ≡ 8)
+  pub short : length unit < lengthSize (u .header .encoding) + 256 ^ u .header .encoding .«offset_size»
   pub places-are : room .places ≡ length map / 12
   pub bytes-are : room .bytes ≡ length out
   pub map-blank : map ≡ zeros (length map)

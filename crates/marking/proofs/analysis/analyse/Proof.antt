@@ -65,7 +65,7 @@ analyse-unit-requires c κs =
     let s = start (found-unit c) in
     let f =
     found-by _ _ _ _ _ _ (sym (header-read (found-unit c) .unit-header .ensures)) (found-unit c .find-unit .ensures) in
-    unit-ready _ _ _ _ _
+    unit-ready _ _ _ _ _ _
     (length (s .args .offsets .now)) (length (s .args .parents .now)) (length (s .args .roots .now))
     (length (s .args .reference-ends .now)) (length (s .args .targets .now)) _ _ _ _ _
     (sym (found-header c .h .given .1) ∙ f .0) (f .1) (record { rows = entries-room c .entry-room .ensures; names = references-room c .least-of .ensures })

@@ -11,7 +11,7 @@ use Rattle.marking.proofs.analysis.analyse_unit.Tie as tie
 abbrev of : tie.Start → List ℕ → Analysed
 of s unit =
     unitAnalysed (s .args .h .encoding)
-    (sections (s .args .abbreviations .now) (s .args .locations .now) (s .args .ranges .now) (s .args .addresses .now) (s .args .ranges-base))
+    (sections (s .args .abbreviations .now) (s .args .locations .now) (s .args .ranges .now) (s .args .addresses .now) (s .args .setting))
     unit (rooms (s .args .entry-room) (s .args .reference-room)) (s .args .h .abbreviations) (s .args .h .first .0)
 
 unit-part-requires : tie.Need-unit-part-requires

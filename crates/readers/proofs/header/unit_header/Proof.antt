@@ -9,7 +9,7 @@ use Rattle.readers.proofs.header.unit_header.Statement.{statement}
 use Rattle.readers.proofs.header.unit_header.Tie as tie
 
 returns : tie.Need-returns
-returns c = sym (header-empty _ (c .if1 .taken))
+returns c = sym (header-empty _ _ (c .if1 .taken))
 
 fixed-requires : tie.Need-fixed-requires
 fixed-requires c κs = search needs
@@ -21,11 +21,11 @@ enum-told : tie.Need-enum-told
 enum-told c = search needs
 
 returns-2 : tie.Need-returns-2
-returns-2 c = sym (length-none _ (c .before .before .before .if1 .left) (sym (c .before .before .fixed .ensures) ∙ c .enum-told .given .1))
+returns-2 c = sym (length-none _ _ (c .before .before .before .if1 .left) (sym (c .before .before .fixed .ensures) ∙ c .enum-told .given .1))
 
 returns-3 : tie.Need-returns-3
 returns-3 c =
-    sym (length-other _ (c .before .before .before .before .before .if1 .left) _ _
+    sym (length-other _ _ (c .before .before .before .before .before .if1 .left) _ _
     (sym (c .before .before .before .before .fixed .ensures) ∙ c .before .before .length .given .1)
     (c .if2 .taken))
 
@@ -34,7 +34,7 @@ left-requires c κs = search needs
 
 returns-4 : tie.Need-returns-4
 returns-4 c =
-    sym (length-over _ (c .before .before .before .before .before .before .before .if1 .left) _ _
+    sym (length-over _ _ (c .before .before .before .before .before .before .before .if1 .left) _ _
     (sym (c .before .before .before .before .before .before .fixed .ensures) ∙ c .before .before .before .before .length .given .1)
     (c .before .before .if2 .left) (omega arith))
 
@@ -55,7 +55,7 @@ header-fields-requires c κs = search needs
 returns-5 : tie.Need-returns-5
 returns-5 c =
     c .header-fields .ensures
-    ∙ sym (length-there _ (c .before .before .before .before .before .before .before .before .before .if1 .left) _ _
+    ∙ sym (length-there _ _ (c .before .before .before .before .before .before .before .before .before .if1 .left) _ _
     (sym (c .before .before .before .before .before .before .before .before .fixed .ensures) ∙ c .before .before .before .before .before .before .length .given .1)
     (c .before .before .before .before .if2 .left) (omega arith))
 

@@ -50,7 +50,7 @@ returns c =
     let c12 = c10 .before .before in
     let c21 = c12 .before .before .before .before .before .before .before .before .before in
     let c22 = c21 .before in
-    (within-after _ _ _ (copied-within _ _ _ _ (c10 .emit-bytes .ensures .0) (c10 .emit-bytes .ensures .1)) _ _ (c .before .before .before .emit-expression .ensures .0) _ (c .after .ensures), λ lists ps rs rest l m n w lent i a d. emits-after (c .after .ensures) (attribute-expression _ _ _ _ _ _ (are-bytes (c22 .args .unit .now) (c21 .shared-slice-known .given)) l i a rs rest d _ _ _ _ (λ _ _. copied-front _ _ _ _ (c10 .emit-bytes .ensures .0) (c10 .emit-bytes .ensures .1) _ (c12 .bytes-between .ensures)) lists ps _ (c6 .if1 .taken) _ (c .before .before .before .before .before .expression .ensures) _ _ (λ pieces q. emits-on _ _ _ (copied-within _ _ _ _ (c10 .emit-bytes .ensures .0) (c10 .emit-bytes .ensures .1)) (c .before .before .before .emit-expression .ensures .1 lists ps _ pieces l m n q))))
+    (within-after _ _ _ (copied-within _ _ _ _ (c10 .emit-bytes .ensures .0) (c10 .emit-bytes .ensures .1)) _ _ (c .before .before .before .emit-expression .ensures .0) _ (c .after .ensures), λ lists ps rs rest m n w lent i a d. emits-after (c .after .ensures) (attribute-expression _ _ _ _ _ _ (are-bytes (c22 .args .unit .now) (c21 .shared-slice-known .given)) i a rs rest d _ _ _ _ (λ _ _. copied-front _ _ _ _ (c10 .emit-bytes .ensures .0) (c10 .emit-bytes .ensures .1) _ (c12 .bytes-between .ensures)) lists ps _ (c6 .if1 .taken) _ (c .before .before .before .before .before .expression .ensures) _ _ (λ pieces q. emits-on _ _ _ (copied-within _ _ _ _ (c10 .emit-bytes .ensures .0) (c10 .emit-bytes .ensures .1)) (c .before .before .before .emit-expression .ensures .1 lists ps _ pieces m n q))))
 
 sibling-offset-requires : tie.Need-sibling-offset-requires
 sibling-offset-requires c κs = search needs
@@ -89,7 +89,7 @@ returns-2 c =
     let c17 = c15 .before .before in
     let c26 = c17 .before .before .before .before .before .before .before .before .before in
     let c27 = c26 .before in
-    (within-after _ _ _ (copied-within _ _ _ _ (c15 .emit-bytes .ensures .0) (c15 .emit-bytes .ensures .1)) _ _ (c .before .before .before .emit-offset .ensures .0) _ (c .after2 .ensures), λ lists ps rs rest l m n w lent i a d. emits-after (c .after2 .ensures) (attribute-sibling _ _ _ _ _ _ (are-bytes (c27 .args .unit .now) (c26 .shared-slice-known .given)) l i a rs rest d _ _ _ _ (λ _ _. copied-front _ _ _ _ (c15 .emit-bytes .ensures .0) (c15 .emit-bytes .ensures .1) _ (c17 .bytes-between .ensures)) lists ps _ _ (c12 .is-leb .ensures) _ (c .before .before .before .before .before .width .ensures) _ _ (c10 .if2 .taken) (c9 .if3 .taken) (c7 .if4 .taken) _ (c6 .sibling-offset .ensures ps m n w) (λ o v x y. emits-on _ _ _ (copied-within _ _ _ _ (c15 .emit-bytes .ensures .0) (c15 .emit-bytes .ensures .1)) (c .before .before .before .emit-offset .ensures .1 o v x y))))
+    (within-after _ _ _ (copied-within _ _ _ _ (c15 .emit-bytes .ensures .0) (c15 .emit-bytes .ensures .1)) _ _ (c .before .before .before .emit-offset .ensures .0) _ (c .after2 .ensures), λ lists ps rs rest m n w lent i a d. emits-after (c .after2 .ensures) (attribute-sibling _ _ _ _ _ _ (are-bytes (c27 .args .unit .now) (c26 .shared-slice-known .given)) i a rs rest d _ _ _ _ (λ _ _. copied-front _ _ _ _ (c15 .emit-bytes .ensures .0) (c15 .emit-bytes .ensures .1) _ (c17 .bytes-between .ensures)) lists ps _ _ (c12 .is-leb .ensures) _ (c .before .before .before .before .before .width .ensures) _ _ (c10 .if2 .taken) (c9 .if3 .taken) (c7 .if4 .taken) _ (c6 .sibling-offset .ensures ps m n w) (λ o v x y. emits-on _ _ _ (copied-within _ _ _ _ (c15 .emit-bytes .ensures .0) (c15 .emit-bytes .ensures .1)) (c .before .before .before .emit-offset .ensures .1 o v x y))))
 
 new-offset-requires : tie.Need-new-offset-requires
 new-offset-requires c κs = search needs
@@ -128,7 +128,7 @@ returns-3 c =
     let c17 = c15 .before .before in
     let c26 = c17 .before .before .before .before .before .before .before .before .before in
     let c27 = c26 .before in
-    (within-after _ _ _ (copied-within _ _ _ _ (c15 .emit-bytes .ensures .0) (c15 .emit-bytes .ensures .1)) _ _ (c .before .before .before .emit-offset2 .ensures .0) _ (c .after3 .ensures), λ lists ps rs rest l m n w lent i a d. emits-after (c .after3 .ensures) (attribute-reference _ _ _ _ _ _ (are-bytes (c27 .args .unit .now) (c26 .shared-slice-known .given)) l i a rs rest d _ _ _ _ (λ _ _. copied-front _ _ _ _ (c15 .emit-bytes .ensures .0) (c15 .emit-bytes .ensures .1) _ (c17 .bytes-between .ensures)) lists ps _ _ (c12 .is-leb .ensures) _ (c .before .before .before .before .before .width2 .ensures) _ _ (c10 .if2 .taken) (c9 .if3 .taken) (c7 .if4 .left) _ (c6 .new-offset .ensures ∙ looked-held ps _ _ _ m n) (λ o v x y. emits-on _ _ _ (copied-within _ _ _ _ (c15 .emit-bytes .ensures .0) (c15 .emit-bytes .ensures .1)) (c .before .before .before .emit-offset2 .ensures .1 o v x y))))
+    (within-after _ _ _ (copied-within _ _ _ _ (c15 .emit-bytes .ensures .0) (c15 .emit-bytes .ensures .1)) _ _ (c .before .before .before .emit-offset2 .ensures .0) _ (c .after3 .ensures), λ lists ps rs rest m n w lent i a d. emits-after (c .after3 .ensures) (attribute-reference _ _ _ _ _ _ (are-bytes (c27 .args .unit .now) (c26 .shared-slice-known .given)) i a rs rest d _ _ _ _ (λ _ _. copied-front _ _ _ _ (c15 .emit-bytes .ensures .0) (c15 .emit-bytes .ensures .1) _ (c17 .bytes-between .ensures)) lists ps _ _ (c12 .is-leb .ensures) _ (c .before .before .before .before .before .width2 .ensures) _ _ (c10 .if2 .taken) (c9 .if3 .taken) (c7 .if4 .left) _ (c6 .new-offset .ensures ∙ looked-held ps _ _ _ m n) (λ o v x y. emits-on _ _ _ (copied-within _ _ _ _ (c15 .emit-bytes .ensures .0) (c15 .emit-bytes .ensures .1)) (c .before .before .before .emit-offset2 .ensures .1 o v x y))))
 
 list-of-requires : tie.Need-list-of-requires
 list-of-requires c κs = search needs
@@ -169,7 +169,7 @@ returns-4 c =
     let c16 = c14 .before .before in
     let c25 = c16 .before .before .before .before .before .before .before .before .before in
     let c26 = c25 .before in
-    (within-after _ _ _ (copied-within _ _ _ _ (c14 .emit-bytes .ensures .0) (c14 .emit-bytes .ensures .1)) _ _ (c .before .before .before .emit-number .ensures .0) _ (c .after4 .ensures), λ lists ps rs rest l m n w lent i a d. emits-after (c .after4 .ensures) (attribute-ranges _ _ _ _ _ _ (are-bytes (c26 .args .unit .now) (c25 .shared-slice-known .given)) l i a rs rest d _ _ _ _ (λ _ _. copied-front _ _ _ _ (c14 .emit-bytes .ensures .0) (c14 .emit-bytes .ensures .1) _ (c16 .bytes-between .ensures)) lists ps _ _ (c11 .is-leb .ensures) _ (c .before .before .before .before .before .width3 .ensures) _ _ _ _ _ (c6 .new-index .ensures) _ (c8 .list-of .ensures) (λ y. emits-on _ _ _ (copied-within _ _ _ _ (c14 .emit-bytes .ensures .0) (c14 .emit-bytes .ensures .1)) (c .before .before .before .emit-number .ensures .1 y)) (c7 .if5 .taken) (lent .those-ranges)))
+    (within-after _ _ _ (copied-within _ _ _ _ (c14 .emit-bytes .ensures .0) (c14 .emit-bytes .ensures .1)) _ _ (c .before .before .before .emit-number .ensures .0) _ (c .after4 .ensures), λ lists ps rs rest m n w lent i a d. emits-after (c .after4 .ensures) (attribute-ranges _ _ _ _ _ _ (are-bytes (c26 .args .unit .now) (c25 .shared-slice-known .given)) i a rs rest d _ _ _ _ (λ _ _. copied-front _ _ _ _ (c14 .emit-bytes .ensures .0) (c14 .emit-bytes .ensures .1) _ (c16 .bytes-between .ensures)) lists ps _ _ (c11 .is-leb .ensures) _ (c .before .before .before .before .before .width3 .ensures) _ _ _ _ _ (c6 .new-index .ensures) _ (c8 .list-of .ensures) (λ y. emits-on _ _ _ (copied-within _ _ _ _ (c14 .emit-bytes .ensures .0) (c14 .emit-bytes .ensures .1)) (c .before .before .before .emit-number .ensures .1 y)) (c7 .if5 .taken) (lent .those-ranges)))
 
 new-index-requires-2 : tie.Need-new-index-requires-2
 new-index-requires-2 c κs = search needs
@@ -207,7 +207,7 @@ returns-5 c =
     let c17 = c15 .before .before in
     let c26 = c17 .before .before .before .before .before .before .before .before .before in
     let c27 = c26 .before in
-    (within-after _ _ _ (copied-within _ _ _ _ (c15 .emit-bytes .ensures .0) (c15 .emit-bytes .ensures .1)) _ _ (c .before .before .before .emit-number2 .ensures .0) _ (c .after5 .ensures), λ lists ps rs rest l m n w lent i a d. emits-after (c .after5 .ensures) (attribute-locations _ _ _ _ _ _ (are-bytes (c27 .args .unit .now) (c26 .shared-slice-known .given)) l i a rs rest d _ _ _ _ (λ _ _. copied-front _ _ _ _ (c15 .emit-bytes .ensures .0) (c15 .emit-bytes .ensures .1) _ (c17 .bytes-between .ensures)) lists ps _ _ (c12 .is-leb .ensures) _ (c .before .before .before .before .before .width4 .ensures) _ _ _ _ _ (c6 .new-index2 .ensures) _ (c9 .list-of .ensures) (λ y. emits-on _ _ _ (copied-within _ _ _ _ (c15 .emit-bytes .ensures .0) (c15 .emit-bytes .ensures .1)) (c .before .before .before .emit-number2 .ensures .1 y)) (c7 .if6 .taken) (lent .those-locations)))
+    (within-after _ _ _ (copied-within _ _ _ _ (c15 .emit-bytes .ensures .0) (c15 .emit-bytes .ensures .1)) _ _ (c .before .before .before .emit-number2 .ensures .0) _ (c .after5 .ensures), λ lists ps rs rest m n w lent i a d. emits-after (c .after5 .ensures) (attribute-locations _ _ _ _ _ _ (are-bytes (c27 .args .unit .now) (c26 .shared-slice-known .given)) i a rs rest d _ _ _ _ (λ _ _. copied-front _ _ _ _ (c15 .emit-bytes .ensures .0) (c15 .emit-bytes .ensures .1) _ (c17 .bytes-between .ensures)) lists ps _ _ (c12 .is-leb .ensures) _ (c .before .before .before .before .before .width4 .ensures) _ _ _ _ _ (c6 .new-index2 .ensures) _ (c9 .list-of .ensures) (λ y. emits-on _ _ _ (copied-within _ _ _ _ (c15 .emit-bytes .ensures .0) (c15 .emit-bytes .ensures .1)) (c .before .before .before .emit-number2 .ensures .1 y)) (c7 .if6 .taken) (lent .those-locations)))
 
 new-index-requires-3 : tie.Need-new-index-requires-3
 new-index-requires-3 c κs = search needs
@@ -245,7 +245,7 @@ returns-6 c =
     let c18 = c16 .before .before in
     let c27 = c18 .before .before .before .before .before .before .before .before .before in
     let c28 = c27 .before in
-    (within-after _ _ _ (copied-within _ _ _ _ (c16 .emit-bytes .ensures .0) (c16 .emit-bytes .ensures .1)) _ _ (c .before .before .before .emit-number3 .ensures .0) _ (c .after6 .ensures), λ lists ps rs rest l m n w lent i a d. emits-after (c .after6 .ensures) (attribute-strings _ _ _ _ _ _ (are-bytes (c28 .args .unit .now) (c27 .shared-slice-known .given)) l i a rs rest d _ _ _ _ (λ _ _. copied-front _ _ _ _ (c16 .emit-bytes .ensures .0) (c16 .emit-bytes .ensures .1) _ (c18 .bytes-between .ensures)) lists ps _ _ (c13 .is-leb .ensures) _ (c .before .before .before .before .before .width5 .ensures) _ _ _ _ _ (c6 .new-index3 .ensures) _ (c10 .list-of .ensures) (λ y. emits-on _ _ _ (copied-within _ _ _ _ (c16 .emit-bytes .ensures .0) (c16 .emit-bytes .ensures .1)) (c .before .before .before .emit-number3 .ensures .1 y)) (c7 .if7 .taken) (lent .those-strings)))
+    (within-after _ _ _ (copied-within _ _ _ _ (c16 .emit-bytes .ensures .0) (c16 .emit-bytes .ensures .1)) _ _ (c .before .before .before .emit-number3 .ensures .0) _ (c .after6 .ensures), λ lists ps rs rest m n w lent i a d. emits-after (c .after6 .ensures) (attribute-strings _ _ _ _ _ _ (are-bytes (c28 .args .unit .now) (c27 .shared-slice-known .given)) i a rs rest d _ _ _ _ (λ _ _. copied-front _ _ _ _ (c16 .emit-bytes .ensures .0) (c16 .emit-bytes .ensures .1) _ (c18 .bytes-between .ensures)) lists ps _ _ (c13 .is-leb .ensures) _ (c .before .before .before .before .before .width5 .ensures) _ _ _ _ _ (c6 .new-index3 .ensures) _ (c10 .list-of .ensures) (λ y. emits-on _ _ _ (copied-within _ _ _ _ (c16 .emit-bytes .ensures .0) (c16 .emit-bytes .ensures .1)) (c .before .before .before .emit-number3 .ensures .1 y)) (c7 .if7 .taken) (lent .those-strings)))
 
 bytes-between-requires-2 : tie.Need-bytes-between-requires-2
 bytes-between-requires-2 c κs = search needs
@@ -284,7 +284,7 @@ returns-7 c =
     let c16 = c14 .before .before in
     let c25 = c16 .before .before .before .before .before .before .before .before .before in
     let c26 = c25 .before in
-    (within-on _ _ _ (copied-within _ _ _ _ (c14 .emit-bytes .ensures .0) (c14 .emit-bytes .ensures .1)) _ _ (copied-within _ _ _ _ (c .before .before .emit-bytes2 .ensures .0) (c .before .before .emit-bytes2 .ensures .1)) _ refl, λ lists ps rs rest l m n w lent i a d. from-start (attribute-copied _ _ _ _ _ _ (are-bytes (c26 .args .unit .now) (c25 .shared-slice-known .given)) l i a rs rest d _ _ _ _ (λ _ _. copied-front _ _ _ _ (c14 .emit-bytes .ensures .0) (c14 .emit-bytes .ensures .1) _ (c16 .bytes-between .ensures)) lists ps _ (c10 .if1 .left) (⊎-elim (λ w. form-above _ (w .1 .left)) (λ w. form-below _ (w .left)) (c9 .if2 .came)) _ (c8 .list-of .ensures) (c7 .if5 .left) (c6 .if6 .left) (c .before .before .before .before .before .if7 .left) _ _ (λ _ _. copied-on _ _ _ (copied-within _ _ _ _ (c14 .emit-bytes .ensures .0) (c14 .emit-bytes .ensures .1)) _ _ _ (c .before .before .emit-bytes2 .ensures .0) (c .before .before .emit-bytes2 .ensures .1) _ (c .before .before .before .before .bytes-between2 .ensures))))
+    (within-on _ _ _ (copied-within _ _ _ _ (c14 .emit-bytes .ensures .0) (c14 .emit-bytes .ensures .1)) _ _ (copied-within _ _ _ _ (c .before .before .emit-bytes2 .ensures .0) (c .before .before .emit-bytes2 .ensures .1)) _ refl, λ lists ps rs rest m n w lent i a d. from-start (attribute-copied _ _ _ _ _ _ (are-bytes (c26 .args .unit .now) (c25 .shared-slice-known .given)) i a rs rest d _ _ _ _ (λ _ _. copied-front _ _ _ _ (c14 .emit-bytes .ensures .0) (c14 .emit-bytes .ensures .1) _ (c16 .bytes-between .ensures)) lists ps _ (c10 .if1 .left) (⊎-elim (λ w. form-above _ (w .1 .left)) (λ w. form-below _ (w .left)) (c9 .if2 .came)) _ (c8 .list-of .ensures) (c7 .if5 .left) (c6 .if6 .left) (c .before .before .before .before .before .if7 .left) _ _ (λ _ _. copied-on _ _ _ (copied-within _ _ _ _ (c14 .emit-bytes .ensures .0) (c14 .emit-bytes .ensures .1)) _ _ _ (c .before .before .emit-bytes2 .ensures .0) (c .before .before .emit-bytes2 .ensures .1) _ (c .before .before .before .before .bytes-between2 .ensures))))
 
 pub emit-attribute-spec : {M : Type 1} → statement M
 emit-attribute-spec =

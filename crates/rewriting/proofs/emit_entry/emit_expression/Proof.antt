@@ -1,7 +1,6 @@
 -- `emit_expression`: the invariant is that the answer from here on is that of the whole. Assumes nothing.
 use mathlib.Core.Path.{_≡_, refl, _∙_}
 use Prim.Native.Nat.{ℕ, _-_, _≤_}
-use mathlib.Core.Bool.{false}
 use mathlib.Core.List.{List}
 use mathlib.Core.Option.{some}
 use lib.ListN.{length}
@@ -26,14 +25,14 @@ use Rattle.rewriting.proofs.emit_entry.emit_expression.Tie as tie
 abbrev Inv-loop : tie.InvT-loop
 Inv-loop s e map places out₀ from₀ copied₀ to₀ out from copied to =
     Within out₀ (To to) out × (copied ≤ from .at) × (from .at ≤ length s)
-    × ((lists : Lists) (ps : List Place) (depth : ℕ) (pieces : List Piece) → e .«big_endian» ≡ false → MapHeld ps map → places ≡ length ps → expressionIn e s ≡ some pieces
+    × ((lists : Lists) (ps : List Place) (depth : ℕ) (pieces : List Piece) → MapHeld ps map → places ≡ length ps → expressionIn e s ≡ some pieces
     → Going lists ps depth pieces e s out₀ 0 out (from .at) copied to)
 
 abbrev μ-loop : tie.MeasureT-loop
 μ-loop s e map places out₀ from₀ copied₀ to₀ out from copied to = length s - from .at
 
 loop-holds : tie.Need-loop-holds Inv-loop μ-loop
-loop-holds c = (within-start _, omega arith, omega arith, λ lists ps depth pieces l h p q. going-start lists ps depth pieces _ _ _ _ (are-bytes (c .before .before .before .args .s .now) (c .before .before .shared-slice-known .given)) l q)
+loop-holds c = (within-start _, omega arith, omega arith, λ lists ps depth pieces h p q. going-start lists ps depth pieces _ _ _ _ (are-bytes (c .before .before .before .args .s .now) (c .before .before .shared-slice-known .given)) q)
 
 next-reference-requires : tie.Need-next-reference-requires Inv-loop μ-loop
 next-reference-requires c κs = search needs
@@ -78,7 +77,7 @@ returns : tie.Need-returns Inv-loop μ-loop
 returns c =
     let c7 = c .before .before .before .before .before .before .before in
     let c8 = c7 .before in
-    (within-on _ _ _ (c8 .loop .inv .0) _ _ (copied-within _ _ _ _ (c .before .before .emit-bytes .ensures .0) (c .before .before .emit-bytes .ensures .1)) _ refl, λ lists ps depth pieces l h p q. from-start (going-end lists ps depth pieces _ _ _ _ _ _ _ _ (c8 .loop .inv .3 lists ps depth pieces l h p q) _ (c7 .next-reference .ensures) (c .before .before .before .before .before .enum-told .given .1) _ _ (λ _ _. copied-on _ _ _ (c8 .loop .inv .0) _ _ _ (c .before .before .emit-bytes .ensures .0) (c .before .before .emit-bytes .ensures .1) _ (between-whole _ _ _))))
+    (within-on _ _ _ (c8 .loop .inv .0) _ _ (copied-within _ _ _ _ (c .before .before .emit-bytes .ensures .0) (c .before .before .emit-bytes .ensures .1)) _ refl, λ lists ps depth pieces h p q. from-start (going-end lists ps depth pieces _ _ _ _ _ _ _ _ (c8 .loop .inv .3 lists ps depth pieces h p q) _ (c7 .next-reference .ensures) (c .before .before .before .before .before .enum-told .given .1) _ _ (λ _ _. copied-on _ _ _ (c8 .loop .inv .0) _ _ _ (c .before .before .emit-bytes .ensures .0) (c .before .before .emit-bytes .ensures .1) _ (between-whole _ _ _))))
 
 sub-emit-bytes-3 : tie.Need-sub-emit-bytes-3 Inv-loop μ-loop
 sub-emit-bytes-3 c = omega (arith, c .before .before .before .before .before .before .loop .inv .1, (next-placed _ _ _ _ (c .before .before .before .before .before .next-reference .ensures) _ (c .before .before .before .r .given .1)) .0, (next-placed _ _ _ _ (c .before .before .before .before .before .next-reference .ensures) _ (c .before .before .before .r .given .1)) .1, (next-placed _ _ _ _ (c .before .before .before .before .before .next-reference .ensures) _ (c .before .before .before .r .given .1)) .2)
@@ -148,7 +147,7 @@ returns-2 c =
     let c16 = c10 .before .before .before .before .before .before in
     let c18 = c16 .before .before in
     let c19 = c18 .before in
-    (within-stop _ _ _ (within-on _ _ _ (c19 .loop .inv .0) _ _ (copied-within _ _ _ _ (c10 .emit-bytes2 .ensures .0) (c10 .emit-bytes2 .ensures .1)) _ refl) _ _ (c .before .before .before .before .before .emit-offset .ensures .0) _, λ lists ps depth pieces l h p q. from-start (going-refused lists ps depth pieces _ _ _ _ _ _ _ _ (c19 .loop .inv .3 lists ps depth pieces l h p q) _ (c18 .next-reference .ensures) _ (c16 .r .given .1) _ _ (λ _ _. copied-on _ _ _ (c19 .loop .inv .0) _ _ _ (c10 .emit-bytes2 .ensures .0) (c10 .emit-bytes2 .ensures .1) _ (between-whole _ _ _)) _ (c7 .new-offset .ensures ∙ looked-held ps _ _ _ h p) _ _ (λ o v m w. emits-on _ _ _ (within-on _ _ _ (c19 .loop .inv .0) _ _ (copied-within _ _ _ _ (c10 .emit-bytes2 .ensures .0) (c10 .emit-bytes2 .ensures .1)) _ refl) (c .before .before .before .before .before .emit-offset .ensures .1 o v m w)) _ (onward-no _ _ _ (c .before .n2 .given .1))))
+    (within-stop _ _ _ (within-on _ _ _ (c19 .loop .inv .0) _ _ (copied-within _ _ _ _ (c10 .emit-bytes2 .ensures .0) (c10 .emit-bytes2 .ensures .1)) _ refl) _ _ (c .before .before .before .before .before .emit-offset .ensures .0) _, λ lists ps depth pieces h p q. from-start (going-refused lists ps depth pieces _ _ _ _ _ _ _ _ (c19 .loop .inv .3 lists ps depth pieces h p q) _ (c18 .next-reference .ensures) _ (c16 .r .given .1) _ _ (λ _ _. copied-on _ _ _ (c19 .loop .inv .0) _ _ _ (c10 .emit-bytes2 .ensures .0) (c10 .emit-bytes2 .ensures .1) _ (between-whole _ _ _)) _ (c7 .new-offset .ensures ∙ looked-held ps _ _ _ h p) _ _ (λ o v m w. emits-on _ _ _ (within-on _ _ _ (c19 .loop .inv .0) _ _ (copied-within _ _ _ _ (c10 .emit-bytes2 .ensures .0) (c10 .emit-bytes2 .ensures .1)) _ refl) (c .before .before .before .before .before .emit-offset .ensures .1 o v m w)) _ (onward-no _ _ _ (c .before .n2 .given .1))))
 
 add-copied : tie.Need-add-copied Inv-loop μ-loop
 add-copied c =
@@ -168,7 +167,7 @@ loop-again c =
     let c17 = c11 .before .before .before .before .before .before in
     let c19 = c17 .before .before in
     let c20 = c19 .before in
-    (within-on _ _ _ (within-on _ _ _ (c20 .loop .inv .0) _ _ (copied-within _ _ _ _ (c11 .emit-bytes2 .ensures .0) (c11 .emit-bytes2 .ensures .1)) _ refl) _ _ (c6 .emit-offset .ensures .0) _ (c .before .before .n .given .1), (next-placed _ _ _ _ (c19 .next-reference .ensures) _ (c17 .r .given .1)) .1, (next-placed _ _ _ _ (c19 .next-reference .ensures) _ (c17 .r .given .1)) .2, λ lists ps depth pieces l h p q. going-on lists ps depth pieces _ _ _ _ _ _ _ _ (c20 .loop .inv .3 lists ps depth pieces l h p q) _ (c19 .next-reference .ensures) _ (c17 .r .given .1) _ _ (λ _ _. copied-on _ _ _ (c20 .loop .inv .0) _ _ _ (c11 .emit-bytes2 .ensures .0) (c11 .emit-bytes2 .ensures .1) _ (between-whole _ _ _)) _ (c8 .new-offset .ensures ∙ looked-held ps _ _ _ h p) _ _ (λ o v m w. emits-on _ _ _ (within-on _ _ _ (c20 .loop .inv .0) _ _ (copied-within _ _ _ _ (c11 .emit-bytes2 .ensures .0) (c11 .emit-bytes2 .ensures .1)) _ refl) (c6 .emit-offset .ensures .1 o v m w)) _ (onward-to _ _ _ (c .before .before .n .given .1)) _ (λ _. refl))
+    (within-on _ _ _ (within-on _ _ _ (c20 .loop .inv .0) _ _ (copied-within _ _ _ _ (c11 .emit-bytes2 .ensures .0) (c11 .emit-bytes2 .ensures .1)) _ refl) _ _ (c6 .emit-offset .ensures .0) _ (c .before .before .n .given .1), (next-placed _ _ _ _ (c19 .next-reference .ensures) _ (c17 .r .given .1)) .1, (next-placed _ _ _ _ (c19 .next-reference .ensures) _ (c17 .r .given .1)) .2, λ lists ps depth pieces h p q. going-on lists ps depth pieces _ _ _ _ _ _ _ _ (c20 .loop .inv .3 lists ps depth pieces h p q) _ (c19 .next-reference .ensures) _ (c17 .r .given .1) _ _ (λ _ _. copied-on _ _ _ (c20 .loop .inv .0) _ _ _ (c11 .emit-bytes2 .ensures .0) (c11 .emit-bytes2 .ensures .1) _ (between-whole _ _ _)) _ (c8 .new-offset .ensures ∙ looked-held ps _ _ _ h p) _ _ (λ o v m w. emits-on _ _ _ (within-on _ _ _ (c20 .loop .inv .0) _ _ (copied-within _ _ _ _ (c11 .emit-bytes2 .ensures .0) (c11 .emit-bytes2 .ensures .1)) _ refl) (c6 .emit-offset .ensures .1 o v m w)) _ (onward-to _ _ _ (c .before .before .n .given .1)) _ (λ _. refl))
 
 pub emit-expression-spec : {M : Type 1} → statement M
 emit-expression-spec =

@@ -18,10 +18,10 @@ same-length : tie.Need-same-length
 same-length c = search needs
 
 returns : tie.Need-returns
-returns c = (c .before .before .emit-number .ensures .0, offset-some _ _ _ _ _ (c .before .before .before .before .before .new .given .1) _ _ (c .before .before .emit-number .ensures .1))
+returns c = (c .before .before .emit-number .ensures .0, offset-some _ _ _ _ _ _ (c .before .before .before .before .before .new .given .1) _ _ (c .before .before .emit-number .ensures .1))
 
 returns-2 : tie.Need-returns-2
-returns-2 c = (within-no _ _ _ refl, offset-none _ _ _ _ (c .enum-told .given .1))
+returns-2 c = (within-no _ _ _ refl, offset-none _ _ _ _ _ (c .enum-told .given .1))
 
 pub emit-offset-spec : {M : Type 1} → statement M
 emit-offset-spec =

@@ -1,7 +1,6 @@
 -- `emit_dies`: what is said of the items from here on is said of all. Assumes nothing.
 use mathlib.Core.Path.{_≡_, refl}
 use Prim.Native.Nat.{_-_}
-use mathlib.Core.Bool.{false}
 use mathlib.Core.List.{List}
 use lib.ListN.{length}
 use native.Mathlib.Omega.{arith}
@@ -23,7 +22,7 @@ use Rattle.rewriting.proofs.emit_unit.emit_dies.Tie as tie
 abbrev Inv-loop : tie.InvT-loop
 Inv-loop unit abbreviations r index parents ends marks map places bounds ranges ranges-count locations locations-count strings strings-count out₀ s₀ to₀ out s to =
     Within out₀ (To to) out
-    × ((x : Sections) (u : Unit′) (lists : Lists) (ps : List Place) → PassInput x u r abbreviations index unit parents ends marks (s₀ .at .at) → s₀ .at .at ≡ u .header .first .0 → r .encoding .«big_endian» ≡ false
+    × ((x : Sections) (u : Unit′) (lists : Lists) (ps : List Place) → PassInput x u r abbreviations index unit parents ends marks (s₀ .at .at) → s₀ .at .at ≡ u .header .first .0
     → MapHeld ps map → places ≡ length ps → Bounds ps bounds → ListsLent lists ranges ranges-count locations locations-count strings strings-count
     → Writing r abbreviations index unit parents ends marks (s₀ .at .at) x u lists ps out₀ s out to)
 
@@ -34,7 +33,7 @@ outside-requires : tie.Need-outside-requires Inv-loop μ-loop
 outside-requires c κs = search needs
 
 loop-holds : tie.Need-loop-holds Inv-loop μ-loop
-loop-holds c = (within-start _, λ x u lists ps p q l h k b g. writing-start _ _ _ _ _ _ _ _ x u lists ps p l q _ _ (c .outside .ensures))
+loop-holds c = (within-start _, λ x u lists ps p q h k b g. writing-start _ _ _ _ _ _ _ _ x u lists ps p q _ _ (c .outside .ensures))
 
 next-kept-requires : tie.Need-next-kept-requires Inv-loop μ-loop
 next-kept-requires c κs = search needs
@@ -49,7 +48,7 @@ same-length : tie.Need-same-length Inv-loop μ-loop
 same-length c = c .before .before .before .loop .inv .0 .size
 
 returns : tie.Need-returns Inv-loop μ-loop
-returns c = (c .before .before .before .loop .inv .0, λ x u lists ps p q l h k b g. from-start (writing-end _ _ _ _ _ _ _ _ x u lists ps p l _ _ _ _ (c .before .before .before .loop .inv .1 x u lists ps p q l h k b g) _ (c .before .before .next-kept .ensures) (c .enum-told .given .1)))
+returns c = (c .before .before .before .loop .inv .0, λ x u lists ps p q h k b g. from-start (writing-end _ _ _ _ _ _ _ _ x u lists ps p _ _ _ _ (c .before .before .before .loop .inv .1 x u lists ps p q h k b g) _ (c .before .before .next-kept .ensures) (c .enum-told .given .1)))
 
 sub-emit-entry : tie.Need-sub-emit-entry Inv-loop μ-loop
 sub-emit-entry c = omega (arith, inside _ _ _ (c .before .before .before .before .before .before .before .before .loop .inv .0))
@@ -81,7 +80,7 @@ loop-again c =
     let c12 = c7 .before .before .before .before .before in
     let c14 = c12 .before .before in
     let c15 = c14 .before in
-    (within-on _ _ _ (c15 .loop .inv .0) _ _ (c .before .before .before .before .before .emit-entry .ensures .0) _ (c .before .n .given .1), λ x u lists ps p q l h k b g. writing-entry _ _ _ _ _ _ _ _ x u lists ps p l _ _ _ _ (c15 .loop .inv .1 x u lists ps p q l h k b g) _ (c14 .next-kept .ensures) (c12 .x .given .0 .0) (c12 .x .given .1) (c7 .if1 .taken) _ _ (λ look z rs rest s t v d. emits-on _ _ _ (c15 .loop .inv .0) (c .before .before .before .before .before .emit-entry .ensures .1 lists ps look z rs rest l h k b g s t v d)) _ (onward-to _ _ _ (c .before .n .given .1)))
+    (within-on _ _ _ (c15 .loop .inv .0) _ _ (c .before .before .before .before .before .emit-entry .ensures .0) _ (c .before .n .given .1), λ x u lists ps p q h k b g. writing-entry _ _ _ _ _ _ _ _ x u lists ps p _ _ _ _ (c15 .loop .inv .1 x u lists ps p q h k b g) _ (c14 .next-kept .ensures) (c12 .x .given .0 .0) (c12 .x .given .1) (c7 .if1 .taken) _ _ (λ look z rs rest s t v d. emits-on _ _ _ (c15 .loop .inv .0) (c .before .before .before .before .before .emit-entry .ensures .1 lists ps look z rs rest h k b g s t v d)) _ (onward-to _ _ _ (c .before .n .given .1)))
 
 enum-known-n-2 : tie.Need-enum-known-n-2 Inv-loop μ-loop
 enum-known-n-2 c = search needs
@@ -95,7 +94,7 @@ returns-2 c =
     let c12 = c7 .before .before .before .before .before in
     let c14 = c12 .before .before in
     let c15 = c14 .before in
-    (within-stop _ _ _ (c15 .loop .inv .0) _ _ (c .before .before .before .before .before .emit-entry .ensures .0) _, λ x u lists ps p q l h k b g. from-start (writing-refused _ _ _ _ _ _ _ _ x u lists ps p l _ _ _ _ (c15 .loop .inv .1 x u lists ps p q l h k b g) _ (c14 .next-kept .ensures) (c12 .x .given .0 .0) (c12 .x .given .1) (c7 .if1 .taken) _ _ (λ look z rs rest s t v d. emits-on _ _ _ (c15 .loop .inv .0) (c .before .before .before .before .before .emit-entry .ensures .1 lists ps look z rs rest l h k b g s t v d)) _ (onward-no _ _ _ (c .before .n2 .given .1))))
+    (within-stop _ _ _ (c15 .loop .inv .0) _ _ (c .before .before .before .before .before .emit-entry .ensures .0) _, λ x u lists ps p q h k b g. from-start (writing-refused _ _ _ _ _ _ _ _ x u lists ps p _ _ _ _ (c15 .loop .inv .1 x u lists ps p q h k b g) _ (c14 .next-kept .ensures) (c12 .x .given .0 .0) (c12 .x .given .1) (c7 .if1 .taken) _ _ (λ look z rs rest s t v d. emits-on _ _ _ (c15 .loop .inv .0) (c .before .before .before .before .before .emit-entry .ensures .1 lists ps look z rs rest h k b g s t v d)) _ (onward-no _ _ _ (c .before .n2 .given .1))))
 
 bytes-between-requires : tie.Need-bytes-between-requires Inv-loop μ-loop
 bytes-between-requires c κs = search needs
@@ -126,7 +125,7 @@ loop-again-2 c =
     let c10 = c .before .before .before .before .before .before .before .before .before .before in
     let c12 = c10 .before .before in
     let c13 = c12 .before in
-    (within-on _ _ _ (c13 .loop .inv .0) _ _ (copied-within _ _ _ _ (c .before .before .emit-bytes .ensures .0) (c .before .before .emit-bytes .ensures .1)) _ refl, λ x u lists ps p q l h k b g. writing-terminator _ _ _ _ _ _ _ _ x u lists ps p l _ _ _ _ (c13 .loop .inv .1 x u lists ps p q l h k b g) _ (c12 .next-kept .ensures) (c10 .x .given .0 .0) (c10 .x .given .1) (c .before .before .before .before .before .if1 .left) _ _ (λ _ _. copied-on _ _ _ (c13 .loop .inv .0) _ _ _ (c .before .before .emit-bytes .ensures .0) (c .before .before .emit-bytes .ensures .1) _ (c .before .before .before .before .bytes-between .ensures)))
+    (within-on _ _ _ (c13 .loop .inv .0) _ _ (copied-within _ _ _ _ (c .before .before .emit-bytes .ensures .0) (c .before .before .emit-bytes .ensures .1)) _ refl, λ x u lists ps p q h k b g. writing-terminator _ _ _ _ _ _ _ _ x u lists ps p _ _ _ _ (c13 .loop .inv .1 x u lists ps p q h k b g) _ (c12 .next-kept .ensures) (c10 .x .given .0 .0) (c10 .x .given .1) (c .before .before .before .before .before .if1 .left) _ _ (λ _ _. copied-on _ _ _ (c13 .loop .inv .0) _ _ _ (c .before .before .emit-bytes .ensures .0) (c .before .before .emit-bytes .ensures .1) _ (c .before .before .before .before .bytes-between .ensures)))
 
 pub emit-dies-spec : {M : Type 1} → statement M
 emit-dies-spec =

@@ -1,71 +1,53 @@
--- `put_fixed` meets its contract.
+-- `put_fixed` meets its contract: one order or the other, where the number fits.
 use mathlib.Core.Path.{sym, _∙_}
+use mathlib.Core.Bool.{true, false}
 use borrow.Author.Tests.{not-true, not-false}
-use Prim.Native.Nat.{_-_}
-use native.Mathlib.Omega.{arith}
 use borrow.Author.Needs.{needs}
-use Rattle.rewriting.proofs.write_pass.Putting.{refused, accepted, bytes-over, bytes-beyond, bytes-large, bytes-fit, Fixing, fixing-start, fixing-more, fixing-done}
+use Rattle.rewriting.proofs.write_pass.Putting.{refused, bytes-room, put-first, fixed-written}
 use Rattle.rewriting.proofs.numbers.put_fixed.Statement.{statement}
 use Rattle.rewriting.proofs.numbers.put_fixed.Tie as tie
 
-abbrev Inv-loop : tie.InvT-loop
-Inv-loop value width out₀ rest₀ i₀ out rest i = Fixing value width out₀ rest i out
+bytes-fit-requires : tie.Need-bytes-fit-requires
+bytes-fit-requires c κs = search needs
 
-abbrev μ-loop : tie.MeasureT-loop
-μ-loop value width out₀ rest₀ i₀ out rest i = width - i
+returns : tie.Need-returns
+returns c = refused _ _ _ _ _ (sym (c .before .bytes-fit .ensures) ∙ not-true _ (c .if1 .taken))
 
-returns : tie.Need-returns Inv-loop μ-loop
-returns c = refused _ _ _ _ _ (bytes-over _ _ _ (c .if1 .taken))
+put-big-endian-requires : tie.Need-put-big-endian-requires
+put-big-endian-requires c κs = search needs
 
-returns-2 : tie.Need-returns-2 Inv-loop μ-loop
-returns-2 c = refused _ _ _ _ _ (bytes-beyond _ _ _ (c .if2 .taken))
+same-length : tie.Need-same-length
+same-length c = search needs
 
-fits-requires : tie.Need-fits-requires Inv-loop μ-loop
-fits-requires c κs = search needs
+returns-2 : tie.Need-returns-2
+returns-2 c =
+    let c4 = c .before .before .before .before in
+    let fit = sym (c4 .before .before .bytes-fit .ensures) ∙ not-false _ (c4 .before .if1 .left) in
+    fixed-written _ _ _ true _ _ (c4 .if2 .taken) fit (put-first _ _ _ _ (c .before .before .put-big-endian .ensures) (bytes-room _ _ _ fit))
 
-returns-3 : tie.Need-returns-3 Inv-loop μ-loop
-returns-3 c = refused _ _ _ _ _ (bytes-large _ _ _ (sym (c .before .fits2 .ensures) ∙ not-true _ (c .if3 .taken)))
+put-little-endian-requires : tie.Need-put-little-endian-requires
+put-little-endian-requires c κs =
+    let c2 = c .before .before in
+    bytes-room _ _ _ (sym (c2 .before .bytes-fit .ensures) ∙ not-false _ (c2 .if1 .left))
 
-loop-holds : tie.Need-loop-holds Inv-loop μ-loop
-loop-holds c = fixing-start _ _ _
+same-length-2 : tie.Need-same-length-2
+same-length-2 c = search needs
 
-cast-out : tie.Need-cast-out Inv-loop μ-loop
-cast-out c = omega arith
-
-slice-write-out : tie.Need-slice-write-out Inv-loop μ-loop
-slice-write-out c = omega arith
-
-add-i : tie.Need-add-i Inv-loop μ-loop
-add-i c = omega arith
-
-loop-less : tie.Need-loop-less Inv-loop μ-loop
-loop-less c = omega arith
-
-loop-again : tie.Need-loop-again Inv-loop μ-loop
-loop-again c = fixing-more _ _ _ _ _ _ (omega arith) (omega arith) (c .before .loop .inv)
-
-same-length : tie.Need-same-length Inv-loop μ-loop
-same-length c = c .before .loop .inv .putting .same
-
-returns-4 : tie.Need-returns-4 Inv-loop μ-loop
-returns-4 c =
-    accepted _ _ _ _ _ _ (bytes-fit _ _ _ (omega arith) (omega arith) (sym (c .before .before .before .fits2 .ensures) ∙ not-false _ (c .before .before .if3 .left))) (fixing-done _ _ _ _ _ _ (omega arith) (c .before .loop .inv))
+returns-3 : tie.Need-returns-3
+returns-3 c =
+    let c4 = c .before .before .before .before in
+    let fit = sym (c4 .before .before .bytes-fit .ensures) ∙ not-false _ (c4 .before .if1 .left) in
+    fixed-written _ _ _ false _ _ (c4 .if2 .left) fit (c .before .before .put-little-endian .ensures)
 
 pub put-fixed-spec : {M : Type 1} → statement M
 put-fixed-spec =
     tie.close
     (tie.spec
-    Inv-loop
-    μ-loop
+    bytes-fit-requires
     returns
-    returns-2
-    fits-requires
-    returns-3
-    loop-holds
-    cast-out
-    slice-write-out
-    add-i
-    loop-less
-    loop-again
+    put-big-endian-requires
     same-length
-    returns-4)
+    returns-2
+    put-little-endian-requires
+    same-length-2
+    returns-3)

@@ -6,7 +6,7 @@ use Rattle.rewriting.proofs.numbers.put_number.Statement.{statement}
 use Rattle.rewriting.proofs.numbers.put_number.Tie as tie
 
 returns : tie.Need-returns
-returns c = number-beyond _ _ _ _ (c .before .if1 .taken) (c .if2 .taken)
+returns c = number-beyond _ _ _ _ _ (c .before .if1 .taken) (c .if2 .taken)
 
 slice-relend-prefix-write-uleb128-padded : tie.Need-slice-relend-prefix-write-uleb128-padded
 slice-relend-prefix-write-uleb128-padded c = search needs
@@ -24,7 +24,7 @@ same-length : tie.Need-same-length
 same-length c = search needs
 
 returns-2 : tie.Need-returns-2
-returns-2 c = number-written _ _ _ _ (c .before .before .before .before .before .before .before .if1 .taken) (c .before .before .before .before .before .before .if2 .left) _ (sym (taken-length _ _ (c .before .before .before .before .before .before .if2 .left))) _ _ (c .before .before .before .before .write-uleb128-padded .ensures .0) (c .before .before .before .before .write-uleb128-padded .ensures .1) _ refl (c .enum-told .given .1)
+returns-2 c = number-written _ _ _ _ _ (c .before .before .before .before .before .before .before .if1 .taken) (c .before .before .before .before .before .before .if2 .left) _ (sym (taken-length _ _ (c .before .before .before .before .before .before .if2 .left))) _ _ (c .before .before .before .before .write-uleb128-padded .ensures .0) (c .before .before .before .before .write-uleb128-padded .ensures .1) _ refl (c .enum-told .given .1)
 
 enum-told-2 : tie.Need-enum-told-2
 enum-told-2 c = search needs
@@ -33,7 +33,7 @@ same-length-2 : tie.Need-same-length-2
 same-length-2 c = search needs
 
 returns-3 : tie.Need-returns-3
-returns-3 c = number-zeros _ _ _ _ (c .before .before .before .before .before .before .before .if1 .taken) (c .before .before .before .before .before .before .if2 .left) _ (sym (taken-length _ _ (c .before .before .before .before .before .before .if2 .left))) _ _ (c .before .before .before .before .write-uleb128-padded .ensures .0) (c .before .before .before .before .write-uleb128-padded .ensures .1) _ refl _ (c .enum-told2 .given .1)
+returns-3 c = number-zeros _ _ _ _ _ (c .before .before .before .before .before .before .before .if1 .taken) (c .before .before .before .before .before .before .if2 .left) _ (sym (taken-length _ _ (c .before .before .before .before .before .before .if2 .left))) _ _ (c .before .before .before .before .write-uleb128-padded .ensures .0) (c .before .before .before .before .write-uleb128-padded .ensures .1) _ refl _ (c .enum-told2 .given .1)
 
 put-fixed-requires : tie.Need-put-fixed-requires
 put-fixed-requires c κs = search needs
@@ -42,7 +42,7 @@ same-length-3 : tie.Need-same-length-3
 same-length-3 c = search needs
 
 returns-4 : tie.Need-returns-4
-returns-4 c = number-fixed _ _ _ _ (c .before .before .before .before .if1 .left) _ _ (c .before .before .put-fixed .ensures)
+returns-4 c = number-fixed _ _ _ _ _ (c .before .before .before .before .if1 .left) _ _ (c .before .before .put-fixed .ensures)
 
 pub put-number-spec : {M : Type 1} → statement M
 put-number-spec =

@@ -1,0 +1,38 @@
+-- The byte order of a unit (document 02, Point 12): it is the one that was told, and told the other one the unit is refused.
+-- Assumes nothing but that the header is read.
+use mathlib.Core.Path.{_≡_, ap}
+use Prim.Native.Nat.{ℕ}
+use mathlib.Core.Logic.{_⊎_, inl, inr, ⊎-elim}
+use mathlib.Core.Bool.{Bool}
+use mathlib.Core.List.{List}
+use Rattle.readers.specs.Header.{headerOf, Known}
+use Rattle.readers.specs.declared.header.UnitHeader.{UnitHeader}
+use Rattle.readers.specs.declared.header.HeaderRead.the-variants.{Unit as Header′}
+use Rattle.readers.proofs.HeaderLaws.{header-laws, told-wrongly}
+use Rattle.marking.specs.Analysis.{Sections, Rooms, refused as notAnalysed, headerAnalysed, analysisOf}
+use Rattle.rewriting.specs.Rewriting.{Room, refused, headerCollected, collectOf}
+use Rattle.laws.specs.ByteOrders.{otherOrder}
+
+module _ (x : Sections) (section : List ℕ) (h : UnitHeader) (header : headerOf (x .setting .«big_endian») section ≡ Header′ h) where
+  -- the encoding of a unit that is read: the domain of document 01, in the byte order that was told
+  pub known-law : Known (x .setting .«big_endian») (h .encoding)
+  known-law = header-laws (x .setting .«big_endian») section h header .known
+
+  -- told the other order, the same section is refused as 1 or 2, whatever is lent: no section is read in both orders
+  pub wrong-order-analysis : (room : Rooms)
+      → (analysisOf (otherOrder x) section room ≡ notAnalysed 1) ⊎ (analysisOf (otherOrder x) section room ≡ notAnalysed 2)
+  unfolding analysisOf headerAnalysed
+  wrong-order-analysis room =
+      ⊎-elim
+      (λ q. inl (ap (headerAnalysed (otherOrder x) section room) q))
+      (λ q. inr (ap (headerAnalysed (otherOrder x) section room) q))
+      (told-wrongly (x .setting .«big_endian») section h header)
+
+  pub wrong-order-law : (room : Room) (typeUnits : Bool)
+      → (collectOf (otherOrder x) room typeUnits section ≡ refused 1) ⊎ (collectOf (otherOrder x) room typeUnits section ≡ refused 2)
+  unfolding collectOf headerCollected
+  wrong-order-law room typeUnits =
+      ⊎-elim
+      (λ q. inl (ap (headerCollected (otherOrder x) room typeUnits section) q))
+      (λ q. inr (ap (headerCollected (otherOrder x) room typeUnits section) q))
+      (told-wrongly (x .setting .«big_endian») section h header)
