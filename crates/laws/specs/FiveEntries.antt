@@ -76,8 +76,8 @@ abbrev pub P1toP10 : Type 0
 P1toP10 =
     (five (1 ∷ 0 ∷ []) ≡ p1)
     × (five (0 ∷ 0 ∷ []) ≡ rewrite5 1 (place 12 12 0 ∷ place 21 13 1 ∷ []) (header5 0x0a ++ 0x01 ∷ 0x00 ∷ []))
-    × (five (0 ∷ 1 ∷ [])
-    ≡ rewrite5 3 (place 12 12 0 ∷ place 16 13 1 ∷ place 18 14 1 ∷ place 21 17 1 ∷ []) (header5 0x0e ++ 0x01 ∷ 0x03 ∷ 0x02 ∷ 0x01 ∷ 0x0d ∷ 0x00 ∷ []))
+    × (five (0 ∷ 1 ∷ []) ≡ rewrite5 3 (place 12 12 0 ∷ place 16 13 1 ∷ place 18 14 1 ∷ place 21 17 1 ∷ [])
+    (header5 0x0e ++ 0x01 ∷ 0x03 ∷ 0x02 ∷ 0x01 ∷ 0x0d ∷ 0x00 ∷ []))
     × (five (1 ∷ 1 ∷ []) ≡ untouched 5 none3)
     × (five (2 ∷ 0 ∷ []) ≡ refused 6)
     × (five (1 ∷ []) ≡ refused 17)
@@ -112,6 +112,10 @@ pub record P1In (e : Encoding) : Type 0 where
       ≡ rewrite5 3 (place 12 12 0 ∷ place 13 13 1 ∷ place 20 19 1 ∷ place 27 20 1 ∷ [])
       (unitIn e (0x01 ∷ (refers e 0 19 ++ (0x03 ∷ 0x00 ∷ []))))
 
+-- what follows the length in a big-endian header of the 64-bit format
+abbrev pub rest64 : List ℕ
+rest64 = 0 ∷ 0x05 ∷ 0x01 ∷ 0x08 ∷ 0 ∷ 0 ∷ 0 ∷ 0 ∷ 0 ∷ 0 ∷ 0 ∷ 9 ∷ []
+
 -- the five-entry unit's bytes in both orders; a header of the 64-bit format, which is not read yet, written for a unit of
 -- 0x20 bytes: what stands before the number of its length stays
 abbrev pub BytesIn : Type 0
@@ -120,5 +124,5 @@ BytesIn =
     × (unitIn (encodingOf true 5 4 8) body5
     ≡ 0 ∷ 0 ∷ 0 ∷ 0x12 ∷ 0 ∷ 0x05 ∷ 0x01 ∷ 0x08 ∷ 0 ∷ 0 ∷ 0 ∷ 0 ∷ body5)
     × (headerBytes (encodingOf true 5 8 8)
-    (0xff ∷ 0xff ∷ 0xff ∷ 0xff ∷ 1 ∷ 2 ∷ 3 ∷ 4 ∷ 5 ∷ 6 ∷ 7 ∷ 8 ∷ 0 ∷ 5 ∷ 1 ∷ 8 ∷ 0 ∷ 0 ∷ 0 ∷ 0 ∷ 0 ∷ 0 ∷ 0 ∷ 9 ∷ []) 24 0x20
-    ≡ 0xff ∷ 0xff ∷ 0xff ∷ 0xff ∷ 0 ∷ 0 ∷ 0 ∷ 0 ∷ 0 ∷ 0 ∷ 0 ∷ 0x14 ∷ 0 ∷ 5 ∷ 1 ∷ 8 ∷ 0 ∷ 0 ∷ 0 ∷ 0 ∷ 0 ∷ 0 ∷ 0 ∷ 9 ∷ [])
+    (0xff ∷ 0xff ∷ 0xff ∷ 0xff ∷ 1 ∷ 2 ∷ 3 ∷ 4 ∷ 5 ∷ 6 ∷ 7 ∷ 8 ∷ rest64) 24 0x20
+    ≡ 0xff ∷ 0xff ∷ 0xff ∷ 0xff ∷ 0 ∷ 0 ∷ 0 ∷ 0 ∷ 0 ∷ 0 ∷ 0 ∷ 0x14 ∷ rest64)

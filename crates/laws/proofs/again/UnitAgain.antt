@@ -4,11 +4,8 @@ use Prim.Native.Nat.{ℕ, _+_, _-_, _≤_}
 use mathlib.Core.Bool.{true}
 use mathlib.Core.List.{List, [], _++_, map}
 use native.Mathlib.Omega.{arith}
-use lib.ListN.{length, take, drop, length-append, length-drop}
-use lib.Seq.{length-take-le}
+use lib.ListN.{length, length-append}
 use Rattle.readers.specs.Header.{lengthSize}
-use Rattle.readers.specs.Numbers.{fixedBytes}
-use Rattle.readers.proofs.Numbers.{length-fixed}
 use Rattle.readers.specs.Abbreviations.{declaredIn}
 use Rattle.readers.specs.Stream.{itemsFrom}
 use Rattle.marking.specs.Analysis.{Sections}
@@ -17,6 +14,7 @@ use Rattle.laws.specs.Moved.{depthsFrom}
 use Rattle.laws.specs.inner.Moved.{movedFrom, ParentsKept}
 use Rattle.rewriting.specs.Emission.{headerBytes}
 use Rattle.rewriting.specs.Rewriting.{Unit as Unit′, itemsIn, Lists, bytesFrom, unitBytes, refusalFrom}
+use Rattle.rewriting.proofs.write_pass.HeaderEmits.{length-header}
 use Rattle.rewriting.proofs.kept_pass.ItemDepths.{Every, kept-stand, Readable}
 use Rattle.laws.proofs.again.Rereading.{Rewritable, rewritable, length-bytes, reread, moved-places}
 use Rattle.laws.proofs.again.ReadsAgain.{PatchedFrom, reads-again}
@@ -38,36 +36,15 @@ module _ (x : Sections) (u : Unit′) (lists : Lists) (places : List Place)
   first = u .header .first .0
 
   module _ (kept : List NestedItem) (h : Every (Rewritable x u lists places) kept) where
-    abbrev offset : ℕ
-    offset = u .header .encoding .«offset_size»
-
-    -- the header: what stands before the length, the length, and the rest
-    abbrev before : List ℕ
-    before = take (lengthSize (u .header .encoding) - offset) (u .bytes)
-
-    abbrev number : List ℕ
-    number = fixedBytes (u .header .encoding .«big_endian») offset (first + sizeFrom kept - lengthSize (u .header .encoding))
-
-    abbrev rest : List ℕ
-    rest = drop (lengthSize (u .header .encoding)) (take first (u .bytes))
-
+    -- the header
     abbrev front : List ℕ
-    front = before ++ number ++ rest
+    front = headerBytes (u .header .encoding) (u .bytes) first (first + sizeFrom kept)
 
     length-front : length front ≡ first
-    length-front =
-        omega (
-          arith,
-          length-append (before ++ number) rest,
-          length-append before number,
-          length-take-le (lengthSize (u .header .encoding) - offset) (u .bytes) (omega arith),
-          length-fixed (u .header .encoding .«big_endian») offset (first + sizeFrom kept - lengthSize (u .header .encoding)),
-          length-drop (lengthSize (u .header .encoding)) (take first (u .bytes)),
-          length-take-le first (u .bytes) hi,
-        )
+    length-front = length-header (u .header .encoding) (u .bytes) first (first + sizeFrom kept) lo hi wide
 
     unit-is : unitBytes x u lists places kept ≡ front ++ bytesFrom x u lists places kept
-    unfolding unitBytes headerBytes
+    unfolding unitBytes
     unit-is = refl
 
     pub unit-size : length (unitBytes x u lists places kept) ≡ first + sizeFrom kept

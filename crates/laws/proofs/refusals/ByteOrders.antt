@@ -1,13 +1,14 @@
--- The byte order of a unit (document 02, Point 12): it is the one that was told, and told the other one the unit is refused.
--- Assumes nothing but that the header is read.
+-- The byte order of a unit (document 02, Point 12): it is the one that was told, and told the other one the unit is
+-- refused. Assumes nothing but that the header is read.
 use mathlib.Core.Path.{_≡_, ap}
 use Prim.Native.Nat.{ℕ}
 use mathlib.Core.Logic.{_⊎_, inl, inr, ⊎-elim}
-use mathlib.Core.Bool.{Bool}
+use mathlib.Core.Bool.{Bool, not}
 use mathlib.Core.List.{List}
 use Rattle.readers.specs.Header.{headerOf, Known}
 use Rattle.readers.specs.declared.header.UnitHeader.{UnitHeader}
-use Rattle.readers.specs.declared.header.HeaderRead.the-variants.{Unit as Header′}
+use Rattle.readers.specs.declared.header.HeaderRead.{HeaderRead}
+use Rattle.readers.specs.declared.header.HeaderRead.the-variants.{Unit as Header′, Refused}
 use Rattle.readers.proofs.HeaderLaws.{header-laws, told-wrongly}
 use Rattle.marking.specs.Analysis.{Sections, Rooms, refused as notAnalysed, headerAnalysed, analysisOf}
 use Rattle.rewriting.specs.Rewriting.{Room, refused, headerCollected, collectOf}
@@ -18,21 +19,19 @@ module _ (x : Sections) (section : List ℕ) (h : UnitHeader) (header : headerOf
   pub known-law : Known (x .setting .«big_endian») (h .encoding)
   known-law = header-laws (x .setting .«big_endian») section h header .known
 
-  -- told the other order, the same section is refused as 1 or 2, whatever is lent: no section is read in both orders
+  -- told the other order, what goes by the header goes by 1, or by 2
+  by-refusal : {A : Type 0} (f : HeaderRead → A)
+      → (f (headerOf (not (x .setting .«big_endian»)) section) ≡ f (Refused 1))
+      ⊎ (f (headerOf (not (x .setting .«big_endian»)) section) ≡ f (Refused 2))
+  by-refusal f = ⊎-elim (λ q. inl (ap f q)) (λ q. inr (ap f q)) (told-wrongly (x .setting .«big_endian») section h header)
+
+  -- so the same section is refused with 1 or 2, whatever is lent: no section is read in both orders
   pub wrong-order-analysis : (room : Rooms)
       → (analysisOf (otherOrder x) section room ≡ notAnalysed 1) ⊎ (analysisOf (otherOrder x) section room ≡ notAnalysed 2)
   unfolding analysisOf headerAnalysed
-  wrong-order-analysis room =
-      ⊎-elim
-      (λ q. inl (ap (headerAnalysed (otherOrder x) section room) q))
-      (λ q. inr (ap (headerAnalysed (otherOrder x) section room) q))
-      (told-wrongly (x .setting .«big_endian») section h header)
+  wrong-order-analysis room = by-refusal (headerAnalysed (otherOrder x) section room)
 
   pub wrong-order-law : (room : Room) (typeUnits : Bool)
       → (collectOf (otherOrder x) room typeUnits section ≡ refused 1) ⊎ (collectOf (otherOrder x) room typeUnits section ≡ refused 2)
   unfolding collectOf headerCollected
-  wrong-order-law room typeUnits =
-      ⊎-elim
-      (λ q. inl (ap (headerCollected (otherOrder x) room typeUnits section) q))
-      (λ q. inr (ap (headerCollected (otherOrder x) room typeUnits section) q))
-      (told-wrongly (x .setting .«big_endian») section h header)
+  wrong-order-law room typeUnits = by-refusal (headerCollected (otherOrder x) room typeUnits section)

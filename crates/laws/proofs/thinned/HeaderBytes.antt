@@ -15,6 +15,7 @@ use Rattle.marking.specs.Analysis.{Sections}
 use Rattle.rewriting.specs.Places.{sizeFrom}
 use Rattle.rewriting.specs.Emission.{headerBytes}
 use Rattle.rewriting.specs.Rewriting.{Unit as Unit′, Room, Rewrite, rewritten, collectOf, bytesFrom, unitBytes}
+use Rattle.rewriting.proofs.write_pass.HeaderEmits.{length-header}
 use Rattle.laws.specs.HeaderBytes.{HeaderBytes}
 use Rattle.readers.proofs.HeaderLaws.{HeaderLaw}
 use Rattle.laws.proofs.again.Accepted.{accepted-header, accepted-wide}
@@ -102,15 +103,10 @@ module _ (x : Sections) (room : Room) (typeUnits : Bool) (section : List ℕ) (w
       ∙ ap (λ (k : ℕ). take (front - offset) (u .bytes) ++ fixedBytes (h .encoding .«big_endian») offset (k - front)) (sym size-is)
 
   pub header-size : length header-part ≡ n
+  unfolding headerBytes
   header-size =
-      omega (
-        arith,
-        length-append field middle,
-        field-size,
-        length-drop front (take n (u .bytes)),
-        length-take-le n (u .bytes) (law .inside),
-        law .after,
-      )
+      length-header (h .encoding) (u .bytes) n (n + sizeFrom (kept x room typeUnits section w answer))
+      (omega (arith, law .after)) (law .inside) wide
 
   others-are : drop front (take n (w .output)) ≡ middle
   others-are =
