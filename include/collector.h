@@ -5,7 +5,7 @@
  * What is written may overlap nothing else that is lent.
  *
  * Read, and the same after the call
- *   section        the unit's section; its first unit is taken
+ *   section        the unit's section; its first unit is taken, of the 32-bit or the 64-bit format, as its length says
  *   abbreviations, locations, ranges    the sections of abbreviations, location lists and range lists, relocated
  *   addresses      a byte an index: 0 dead, 1 live; none lent (length 0): every index is live
  *   ranges_base    added to a ranges attribute in sec_offset
@@ -14,14 +14,15 @@
  *                  other number: big-endian. Never guessed: a unit told wrongly is refused with 1 or 2
  *
  * Written, whatever it held before; zeros wherever the answer is not, all zeros after a refusal
- *   map            12 bytes a place: old offset, new offset, depth, four big-endian bytes each, ascending
+ *   map            24 bytes a place: old offset, new offset, depth, eight big-endian bytes each, ascending
  *   range_list, location_list, string_list    8 big-endian bytes a number, ascending without repeats
- *   out            the new unit, in the old one's byte order
+ *   out            the new unit, in the old one's format and byte order
  *   counts         COLLECTOR_COUNTS bytes: see below
- * Numbers of map, lists and counts are big-endian for every unit. Bytes short of a whole place or number count for
- * nothing and end as zeros. Enough for every unit: as many bytes of out as the section has; 12 bytes of map for each
- * byte of the section (at most two places an entry); 8 bytes of a list for each index of its kind. A call writes every
- * byte of what it is lent here, and of the host's tables: time goes by the lengths that are lent too.
+ * Numbers of map, lists and counts are big-endian, and as wide as said here, for every unit of either format. Bytes
+ * short of a whole place or number count for nothing and end as zeros. Enough for every unit: as many bytes of out as
+ * the section has; 24 bytes of map for each byte of the section (at most two places an entry); 8 bytes of a list for
+ * each index of its kind. A call writes every byte of what it is lent here, and of the host's tables: time goes by the
+ * lengths that are lent too.
  *
  * The answer is a refusal's number, 1 to 14 or 17, or one of the numbers below. Of an accepted answer `counts` holds
  * seven numbers of eight big-endian bytes: entries, kept entries, map places, bytes of the new unit (these two 0 where
@@ -29,17 +30,18 @@
  * absent list counts 0); then zeros. Where `counts` is shorter than COLLECTOR_COUNTS the answer tells so, and `counts`
  * is zeros; all else is as it would be.
  *
- * Stack: collector_collect takes 211 KiB, most of it its tables; collector_collect_lent some KiB; and both 208 bytes
+ * Stack: collector_collect takes 284 KiB, most of it its tables; collector_collect_lent some KiB; and both 208 bytes
  * more for each level of DW_OP_entry_value operations that stand one in the other. A level takes at least two bytes of
- * the unit or of a location list, so 104 bytes of stack for each byte of the longer of these two sections, and 256
+ * the unit or of a location list, so 104 bytes of stack for each byte of the longer of these two sections, and 320
  * KiB, are enough for every input. Nothing else is recursive, and no memory is taken from anywhere else. The archive
  * has no data that is written, so threads may call at the same time, each with slices of its own to be written.
  *
- * Refusals: 1 header cut short, 2 a header value outside the domain, 3 abbreviations, 4 unreadable entry, 5 unreadable
- * list or expression, 6 the address table has a byte above 1 at an index that is asked, 7 a section-absolute reference,
- * 8 a reference whose target is not kept, 9 a value that does not fit its width, 10 more entries than the tables hold,
- * 11 more references, 12 an index list too short, 13 the map too short, 14 the output too short, 17 the address table,
- * which is not empty, ends before an index that is asked (at 6's place: the first of the two that is met).
+ * Refusals: 1 header cut short, or a length past the section, 2 a header value outside the domain (a length of
+ * 0xfffffff0 to 0xfffffffe is one), 3 abbreviations, 4 unreadable entry, 5 unreadable list or expression, 6 the address
+ * table has a byte above 1 at an index that is asked, 7 a section-absolute reference, 8 a reference whose target is not
+ * kept, 9 a value that does not fit its width, 10 more entries than the tables hold, 11 more references, 12 an index
+ * list too short, 13 the map too short, 14 the output too short, 17 the address table, which is not empty, ends before
+ * an index that is asked (at 6's place: the first of the two that is met).
  */
 #ifndef COLLECTOR_H
 #define COLLECTOR_H
@@ -86,12 +88,12 @@ uint64_t collector_collect_lent(
     uint64_t ranges_base, uint64_t type_units, uint64_t big_endian,
     uint64_t *index, size_t index_length,
     uint64_t *offsets, size_t offsets_length,
-    uint32_t *parents, size_t parents_length,
+    uint64_t *parents, size_t parents_length,
     uint8_t *roots, size_t roots_length,
     uint64_t *ends, size_t ends_length,
     uint8_t *marks, size_t marks_length,
     uint64_t *targets, size_t targets_length,
-    uint32_t *pairs, size_t pairs_length,
+    uint64_t *pairs, size_t pairs_length,
     uint32_t *work, size_t work_length,
     uint8_t *map, size_t map_length,
     uint8_t *range_list, size_t range_list_length,

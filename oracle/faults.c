@@ -5,8 +5,8 @@
 #include <string.h>
 
 #define SECTIONS const uint8_t *s, size_t sn, const uint8_t *a, size_t an, const uint8_t *l, size_t ln, const uint8_t *r, size_t rn, const uint8_t *t, size_t tn, uint64_t base, uint64_t units, uint64_t big
-#define TABLES uint64_t *index, size_t in, uint64_t *offsets, size_t on, uint32_t *parents, size_t pn, uint8_t *roots, size_t ron, uint64_t *ends, size_t en, uint8_t *marks, size_t mn, \
-    uint64_t *targets, size_t tgn, uint32_t *pairs, size_t prn, uint32_t *work, size_t wn
+#define TABLES uint64_t *index, size_t in, uint64_t *offsets, size_t on, uint64_t *parents, size_t pn, uint8_t *roots, size_t ron, uint64_t *ends, size_t en, uint8_t *marks, size_t mn, \
+    uint64_t *targets, size_t tgn, uint64_t *pairs, size_t prn, uint32_t *work, size_t wn
 #define RESULTS uint8_t *map, size_t mapn, uint8_t *rl, size_t rln, uint8_t *ll, size_t lln, uint8_t *sl, size_t sln, uint8_t *out, size_t outn, uint8_t *counts, size_t cn
 
 uint64_t port_collect(SECTIONS, RESULTS);
@@ -18,24 +18,50 @@ static int fault(void)
     return f == NULL ? 0 : atoi(f);
 }
 
-static size_t count(const uint8_t *counts, int which)
+/* A number of so many big-endian bytes. */
+static size_t number(const uint8_t *at, int width)
 {
     size_t n = 0;
-    for (int i = 0; i < 8; i++)
-        n = n << 8 | counts[8 * which + i];
+    for (int i = 0; i < width; i++)
+        n = n << 8 | at[i];
     return n;
 }
 
-static size_t four(const uint8_t *at)
+static size_t count(const uint8_t *counts, int which)
 {
-    return (size_t)at[0] << 24 | at[1] << 16 | at[2] << 8 | at[3];
+    return number(counts + 8 * which, 8);
 }
 
-/* Four bytes in the other order. */
-static void turn(uint8_t *at)
+/* Whether the unit is of the 64-bit format, and how many bytes an offset has in it and stand before the version. */
+static int wide(const uint8_t *s, size_t sn)
 {
-    uint8_t held[4] = {at[3], at[2], at[1], at[0]};
-    memcpy(at, held, 4);
+    return sn >= 4 && number(s, 4) == 0xffffffff;
+}
+
+static size_t word(const uint8_t *s, size_t sn)
+{
+    return wide(s, sn) ? 8 : 4;
+}
+
+static size_t version(const uint8_t *s, size_t sn)
+{
+    return wide(s, sn) ? 12 : 4;
+}
+
+/* A field in the other order. */
+static void turn(uint8_t *at, size_t width)
+{
+    for (size_t i = 0; i < width / 2; i++) {
+        uint8_t held = at[i];
+        at[i] = at[width - 1 - i];
+        at[width - 1 - i] = held;
+    }
+}
+
+/* The high word of a field of eight bytes. */
+static uint8_t *high(uint8_t *at, uint64_t big)
+{
+    return big ? at : at + 4;
 }
 
 static uint64_t spoilt(uint64_t answer, SECTIONS, RESULTS)
@@ -50,11 +76,11 @@ static uint64_t spoilt(uint64_t answer, SECTIONS, RESULTS)
         break;
     case 2: /* a depth */
         if (answer == 257)
-            map[12 * count(counts, 2) - 1] ^= 1;
+            map[24 * count(counts, 2) - 1] ^= 1;
         break;
     case 3: /* a new offset */
         if (answer == 257)
-            map[12 * count(counts, 2) - 5] ^= 1;
+            map[24 * count(counts, 2) - 9] ^= 1;
         break;
     case 4: /* the count of the kept */
         if (counted)
@@ -102,12 +128,12 @@ static uint64_t spoilt(uint64_t answer, SECTIONS, RESULTS)
         break;
     case 32: /* the new length in the other byte order */
         if (answer == 257 && big)
-            turn(out);
+            turn(out + version(s, sn) - word(s, sn), word(s, sn));
         break;
     case 33: /* a field of two bytes in the other byte order, where one is written anew */
         for (size_t i = 0; answer == 257 && big && i + 1 < count(counts, 2); i++) {
-            const uint8_t *place = map + 12 * i;
-            size_t old = four(place), new = four(place + 4), width = four(place + 16) - new;
+            const uint8_t *place = map + 24 * i;
+            size_t old = number(place, 8), new = number(place + 8, 8), width = number(place + 32, 8) - new;
             for (size_t k = 1; k < width; k++)
                 if (s[old + k] != out[new + k] && s[old + k - 1] == 0 && out[new + k - 1] == 0) {
                     out[new + k - 1] = out[new + k];
@@ -115,6 +141,18 @@ static uint64_t spoilt(uint64_t answer, SECTIONS, RESULTS)
                     return answer;
                 }
         }
+        break;
+    case 38: /* the 64-bit format is not read */
+        return wide(s, sn) ? 2 : answer;
+    case 39: /* the escape alone is 2 */
+        return wide(s, sn) && sn < 12 ? 2 : answer;
+    case 40: /* the new length is the size less 4 in either format */
+        if (answer == 257 && wide(s, sn))
+            out[big ? 11 : 4] += 8;
+        break;
+    case 41: /* a map's numbers are cut to four bytes and the rest is what was lent; here the high byte of an old offset */
+        if (answer == 257)
+            map[0] = 1;
         break;
     case 25: /* 6 and 17 */
         return answer == 17 ? 6 : answer;
@@ -162,31 +200,83 @@ static int guessed(uint64_t answer)
     return fault() == 34 && (answer == 1 || answer == 2);
 }
 
-/* A section that the port is lent in place of this one: with this fault, so many fields of four bytes from a place on are
- * in the other byte order than the unit. */
-static const uint8_t *turned(int number, const uint8_t *s, size_t n, size_t from, size_t fields, uint64_t big)
+/* Room for sections that the port is lent in place of those that it should be. */
+static uint8_t *copy(int which, const uint8_t *s, size_t n)
 {
-    static _Thread_local uint8_t held[1 << 17];
-    if (fault() != number || !big || n > sizeof held)
-        return s;
-    memcpy(held, s, n);
-    for (; fields > 0 && from + 4 <= n; fields--, from += 4)
-        turn(held + from);
-    return held;
+    static _Thread_local uint8_t held[3][1 << 17];
+    if (n + 8 > sizeof held[which])
+        return NULL;
+    memcpy(held[which], s, n);
+    return held[which];
 }
 
 /* How many offsets a list section has, one at least. */
-static size_t offsets_of(const uint8_t *s, size_t n)
+static size_t offsets_of(const uint8_t *s, size_t n, size_t table, uint64_t big)
 {
-    return n < 16 ? 0 : four(s + 8) > 0 ? four(s + 8) : 1;
+    uint8_t held[4];
+    if (n < table)
+        return 0;
+    memcpy(held, s + table - 4, 4);
+    if (!big)
+        turn(held, 4);
+    size_t found = number(held, 4);
+    return found > 0 && found < n ? found : 1;
+}
+
+/* A list section. Its offsets are in the other byte order than the unit; or without their high word; or its table is
+ * sought where that of the 32-bit format stands, which is as if eight bytes more came before it. */
+static const uint8_t *lists(int which, int order, int cut, int base, const uint8_t *s, size_t *n, size_t wide_unit, uint64_t big)
+{
+    size_t width = wide_unit ? 8 : 4, table = wide_unit ? 20 : 12, fields = offsets_of(s, *n, table, big);
+    int f = fault();
+    uint8_t *held = (f == order && big) || ((f == cut || f == base) && wide_unit) ? copy(which, s, *n) : NULL;
+    if (held == NULL)
+        return s;
+    if (f == base) {
+        memmove(held + 8, held, *n);
+        *n += 8;
+        return held;
+    }
+    for (size_t at = table; fields > 0 && at + width <= *n; fields--, at += width)
+        if (f == order)
+            turn(held + at, width);
+        else
+            memset(high(held + at, big), 0, 4);
+    return held;
+}
+
+/* The unit's section: the abbreviations' offset in the other byte order; it, or the length, without its high word. */
+static const uint8_t *unit(const uint8_t *s, size_t n, uint64_t big)
+{
+    size_t at = version(s, n) + 4;
+    int f = fault();
+    int turned = f == 37 && big, cut = (f == 42 || f == 43) && wide(s, n);
+    uint8_t *held = (turned || cut) && at + word(s, n) <= n ? copy(2, s, n) : NULL;
+    if (held == NULL)
+        return s;
+    if (turned)
+        turn(held + at, word(s, n));
+    else
+        memset(high(held + (f == 42 ? at : 4), big), 0, 4);
+    return held;
 }
 
 #define TOLD \
     t = table(t, &tn); \
-    r = turned(35, r, rn, 12, offsets_of(r, rn), big);  /* the offsets of range lists */ \
-    l = turned(36, l, ln, 12, offsets_of(l, ln), big);  /* of location lists */ \
-    s = turned(37, s, sn, 8, 1, big);                   /* that of the abbreviations */ \
+    r = lists(0, 35, 44, 46, r, &rn, wide(s, sn), big); /* range lists */ \
+    l = lists(1, 36, 45, 47, l, &ln, wide(s, sn), big); /* location lists */ \
+    s = unit(s, sn, big); \
     big = told(big)
+
+/* A map in place of the one that is lent, twice as long: a place is taken to have 12 bytes where its room is asked for. */
+static uint8_t *longer(uint8_t *map, size_t *n)
+{
+    static _Thread_local uint8_t held[1 << 20];
+    if (fault() != 48 || *n > sizeof held / 2)
+        return map;
+    *n *= 2;
+    return held;
+}
 
 uint64_t collector_collect(SECTIONS, RESULTS)
 {
@@ -195,9 +285,16 @@ uint64_t collector_collect(SECTIONS, RESULTS)
         units = 0;
     if (fault() == 19) /* the ranges base is not looked at */
         base = 0;
+    uint8_t *lent = map;
+    size_t lentn = mapn;
+    map = longer(map, &mapn);
     uint64_t answer = port_collect(s, sn, a, an, l, ln, r, rn, t, tn, base, units, big, map, mapn, rl, rln, ll, lln, sl, sln, out, outn, counts, cn);
     if (guessed(answer))
         answer = port_collect(s, sn, a, an, l, ln, r, rn, t, tn, base, units, !big, map, mapn, rl, rln, ll, lln, sl, sln, out, outn, counts, cn);
+    if (map != lent)
+        memcpy(lent, map, lentn);
+    map = lent;
+    mapn = lentn;
     return spoilt(answer, s, sn, a, an, l, ln, r, rn, t, tn, base, units, big, map, mapn, rl, rln, ll, lln, sl, sln, out, outn, counts, cn);
 }
 

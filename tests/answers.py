@@ -6,7 +6,7 @@ refusal. With `check` nothing is written, and the files are compared with what w
 oracle/keep makes the cases. Each stands once: in crates/test_collect/data, of its family where the original's answer
 tells the marks too, in dangling.bundles where it is a refusal by 8; and in oracle/kept where the port is not held to
 it: cases with a listed difference, and headers that are refused (the original's errors don't tell 1 from 2). Names of
-big-endian cases end with -big."""
+big-endian cases end with -big, before which those of the 64-bit format have -64."""
 import os
 import sys
 
@@ -14,10 +14,12 @@ from units import CRATES, TESTS, Part, bundles, placed, read, with_parts, write
 
 KEPT = os.path.join(TESTS, '..', 'oracle', 'kept')
 DATA = os.path.join(CRATES, 'test_collect', 'data')
-BIG = '-big'
-OF_ONE_ORDER = ('small bytes valid lists expressions trees deep refused damaged listed headers declarations numbers operations kinds '
-                'siblings sums no-table failures tables').split()
-FAMILIES = OF_ONE_ORDER + [family + BIG for family in OF_ONE_ORDER]
+BIG, WIDE = '-big', '-64'
+SUFFIXES = ('', WIDE, BIG, WIDE + BIG)  # little-endian ones first
+NAMES = ('small bytes valid lists expressions trees deep refused damaged listed headers declarations numbers operations kinds '
+         'siblings sums no-table failures tables').split()
+# No unit of a compiler is of the 64-bit format, so far.
+FAMILIES = [name + suffix for suffix in SUFFIXES for name in NAMES if WIDE not in suffix or name != 'tables']
 ERRORS = {'ParseUnitAbbreviations': 3, 'ParseUnit': 4, 'Read': 5, 'Address': 6, 'AddressPastEnd': 17,
           'UnexpectedSectionAbsoluteReference': 7, 'MalformedDebugInfo': 8}
 FIELDS = ('entries', 'kept', 'map', 'ranges', 'locations', 'strings', 'bytes')
@@ -26,6 +28,11 @@ FIELDS = ('entries', 'kept', 'map', 'ranges', 'locations', 'strings', 'bytes')
 def is_big(name):
     """Whether a family, or a file of bundles, is big-endian."""
     return name.split('.')[0].endswith(BIG)
+
+
+def split(family):
+    """Its name, and the suffix that says byte order and format."""
+    return next((name, family[len(name):]) for name in NAMES if family[len(name):] in SUFFIXES and family.startswith(name))
 
 
 def answer(line):
@@ -57,7 +64,7 @@ def place(family, line):
     if answer(line) is None:
         return os.path.join(KEPT, family + '.bundles')
     if answer(line) == 'refused 8\n':
-        family = 'dangling' + BIG * is_big(family)
+        family = 'dangling' + split(family)[1]
     return os.path.join(DATA, family + '.bundles')
 
 
@@ -67,8 +74,8 @@ def lines(family):
 
 def kept():
     """The cases of the crate with the original's lines, by file, in order."""
-    out = {os.path.join(DATA, family + '.bundles'): [] for family in OF_ONE_ORDER + ['dangling']}
-    out.update({path.replace('.bundles', BIG + '.bundles'): [] for path in list(out)})
+    held = [name for suffix in SUFFIXES for name in [f for f in FAMILIES if split(f)[1] == suffix] + ['dangling' + suffix]]
+    out = {os.path.join(DATA, name + '.bundles'): [] for name in held}
     for family in FAMILIES:
         for line in lines(family):
             if answer(line) is not None:

@@ -8,7 +8,7 @@ standard error."""
 import os
 import sys
 
-from units import bundle, need_module
+from units import ESCAPE, bundle, need_module
 
 need_module('elftools', 'python3-pyelftools')
 from elftools.elf.elffile import ELFFile
@@ -30,7 +30,14 @@ def sections(elf, suffix):
     return [elf.get_section_by_name('.debug_' + n + suffix) for n in ('info', 'abbrev', 'loclists', 'rnglists')]
 
 
+def is_wide(section):
+    """Whether its first length is of the 64-bit format."""
+    return section[:4] == ESCAPE
+
+
 def first_unit(info, order):
+    if is_wide(info):
+        return info[:12 + int.from_bytes(info[4:12], order)]
     return info[:4 + int.from_bytes(info[:4], order)]
 
 
@@ -41,7 +48,7 @@ def parts(path):
         order = 'little' if elf.little_endian else 'big'
         width = elf.elfclass // 8
         table = elf.get_section_by_name('.debug_addr')
-        count = max(0, table.data_size - 8) // width if table else 0
+        count = max(0, table.data_size - (16 if is_wide(table.data()) else 8)) // width if table else 0
         if os.path.exists(dwo):
             with open(dwo, 'rb') as g:
                 data = [s.data() if s else b'' for s in sections(ELFFile(g), '.dwo')]
@@ -63,7 +70,7 @@ def main():
     if len(sys.argv) != 3:
         sys.exit(__doc__)
     held = parts(sys.argv[1])
-    if held[0][6:7] not in (b'\x01', b'\x05'):
+    if held[0][14 if is_wide(held[0]) else 6:][:1] not in (b'\x01', b'\x05'):
         sys.exit('%s: no unit of type 1 or 5 comes first' % sys.argv[1])
     made = bundle(held)
     if len(made) > MOST:

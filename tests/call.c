@@ -5,17 +5,25 @@
  * call --nested N [big-endian] : a unit whose one expression has N entry values, one in the other, with a reference to
  * the terminator in the innermost, and a dead entry: what stack it takes is seen with `ulimit -s`.
  * call --rules : checks of the calls themselves: counts without room, flags, lengths that are no whole places, an
- * address table of length 0, the two ways in which one can fail, the byte order.
+ * address table of length 0, the two ways in which one can fail, the byte order, both formats.
+ * call --above : units whose old offsets are above 4 GiB, then other sections that are read above 4 GiB; they take no
+ * memory, but time under valgrind.
+ * call --above FILE [big-endian] : one whose new offsets are too; its output, of so many bytes, is the file.
  * Every slice, but for the sections of the checks of a length of 0, is a block of memory of its own, exactly as long as
  * it is lent and full of 0xa5 before the call, so that valgrind sees a byte read or written outside; sections are
  * compared with a copy after the call, and every byte past the answer must be 0. */
+#define _GNU_SOURCE
+#include <fcntl.h>
 #include <stdio.h>
 #include <stdlib.h>
 #include <string.h>
+#include <sys/mman.h>
+#include <time.h>
+#include <unistd.h>
 
 #include "collector.h"
 
-enum { SECTIONS = 5, LENT = 6 };
+enum { SECTIONS = 5, LENT = 6, PLACE = 24 };
 enum { MAP, RANGES, LOCATIONS, STRINGS, OUT, COUNTS };
 
 struct bytes {
@@ -112,7 +120,7 @@ static void check_zeros(uint64_t answer, const struct bytes *lent)
     }
     if (answer != COLLECTOR_UNTOUCHED && answer != COLLECTOR_REWRITTEN)
         fail("an answer that is none");
-    zeros(lent[MAP], 12 * count(lent, 2), "bytes past the map");
+    zeros(lent[MAP], PLACE * count(lent, 2), "bytes past the map");
     zeros(lent[OUT], count(lent, 3), "bytes past the output");
     for (int i = 0; i < 3; i++) {
         zeros(lent[RANGES + i], 8 * count(lent, 4 + i), "bytes past a list");
@@ -147,8 +155,9 @@ static void print_answer(uint64_t answer, const struct bytes *lent)
     if (count(lent, 2) == 0)
         printf("-");
     for (uint64_t i = 0; i < count(lent, 2); i++) {
-        const uint8_t *at = lent[MAP].at + 12 * i;
-        printf("%s%llu>%llu@%llu", i == 0 ? "" : ",", (unsigned long long)big(at, 4), (unsigned long long)big(at + 4, 4), (unsigned long long)big(at + 8, 4));
+        const uint8_t *at = lent[MAP].at + PLACE * i;
+        printf("%s%llu>%llu@%llu", i == 0 ? "" : ",", (unsigned long long)big(at, 8),
+               (unsigned long long)big(at + 8, 8), (unsigned long long)big(at + 16, 8));
     }
     print_list("ranges", lent, 0);
     print_list("locations", lent, 1);
@@ -196,7 +205,7 @@ static void run_bundle(struct bytes bundle, uint64_t big_endian)
 {
     struct bytes sections[SECTIONS], lent[LENT];
     sections_of(bundle, sections);
-    lend(lent, 12 * 4096, 8 * 8192, 65536, COLLECTOR_COUNTS + 5);
+    lend(lent, PLACE * 4096, 8 * 8192, 65536, COLLECTOR_COUNTS + 5);
     uint64_t answer = call(sections, 0, 0, big_endian, lent);
     check_zeros(answer, lent);
     print_answer(answer, lent);
@@ -289,7 +298,7 @@ static uint64_t call_lent(
     const struct bytes *s, uint64_t ranges_base, uint64_t type_units, uint64_t big_endian, const size_t *elements,
     struct bytes *lent)
 {
-    static const size_t width[TABLES] = {8, 8, 4, 1, 8, 1, 8, 4};
+    static const size_t width[TABLES] = {8, 8, 8, 1, 8, 1, 8, 8};
     struct bytes table[TABLES + 1];
     for (int i = 0; i < TABLES; i++)
         table[i] = block(width[i] * elements[i]);
@@ -298,9 +307,9 @@ static uint64_t call_lent(
         s[0].at, s[0].length, s[1].at, s[1].length, s[2].at, s[2].length, s[3].at, s[3].length, s[4].at, s[4].length,
         ranges_base, type_units, big_endian,
         (uint64_t *)table[INDEX].at, table[INDEX].length / 8, (uint64_t *)table[OFFSETS].at, table[OFFSETS].length / 8,
-        (uint32_t *)table[PARENTS].at, table[PARENTS].length / 4, table[ROOTS].at, table[ROOTS].length,
+        (uint64_t *)table[PARENTS].at, table[PARENTS].length / 8, table[ROOTS].at, table[ROOTS].length,
         (uint64_t *)table[ENDS].at, table[ENDS].length / 8, table[MARKS].at, table[MARKS].length,
-        (uint64_t *)table[TARGETS].at, table[TARGETS].length / 8, (uint32_t *)table[PAIRS].at, table[PAIRS].length / 4,
+        (uint64_t *)table[TARGETS].at, table[TARGETS].length / 8, (uint64_t *)table[PAIRS].at, table[PAIRS].length / 8,
         (uint32_t *)table[TABLES].at, WORK,
         lent[MAP].at, lent[MAP].length, lent[RANGES].at, lent[RANGES].length, lent[LOCATIONS].at, lent[LOCATIONS].length,
         lent[STRINGS].at, lent[STRINGS].length, lent[OUT].at, lent[OUT].length, lent[COUNTS].at, lent[COUNTS].length);
@@ -315,7 +324,7 @@ static uint64_t call_lent(
 static void run_case(const uint8_t *settings, struct bytes bundle)
 {
     static const size_t most[TABLES] = {1024, 2048, 2048, 2048, 2048, 2048, 8192, 16384};
-    static const size_t most_bytes[] = {49152, 65536, 65536, 65536, 65536};
+    static const size_t most_bytes[] = {98304, 65536, 65536, 65536, 65536};
     struct bytes s[SECTIONS], lent[LENT];
     size_t elements[TABLES];
     sections_of(bundle, s);
@@ -398,12 +407,12 @@ static void check_failures(void)
     };
     struct bytes lent[LENT];
     for (size_t i = 0; i < sizeof tables / sizeof *tables; i++) {
-        lend(lent, 120, 80, 20, COLLECTOR_COUNTS);
+        lend(lent, 5 * PLACE, 80, 20, COLLECTOR_COUNTS);
         expect(five_by(tables[i].bytes, tables[i].length, 0, lent), tables[i].answer, "an address table");
         give_back(lent);
         struct bytes own = copy((struct bytes){tables[i].bytes, tables[i].length});
         struct bytes sections[SECTIONS] = FIVE(own.at, own.length);
-        lend(lent, 120, 80, 20, COLLECTOR_COUNTS);
+        lend(lent, 5 * PLACE, 80, 20, COLLECTOR_COUNTS);
         expect(call_lent(sections, 0, 0, 0, room, lent), tables[i].answer, "an address table, with lent tables");
         give_back(lent);
         free(own.at);
@@ -411,12 +420,32 @@ static void check_failures(void)
 }
 
 /* What it becomes with the addresses 1 0: the map, which is big-endian for either order, and the unit. */
-static const uint8_t map[] = {
-    0, 0, 0, 12, 0, 0, 0, 12, 0, 0, 0, 0, 0, 0, 0, 13, 0, 0, 0, 13, 0, 0, 0, 1,
-    0, 0, 0, 17, 0, 0, 0, 16, 0, 0, 0, 1, 0, 0, 0, 21, 0, 0, 0, 17, 0, 0, 0, 1,
+static const uint8_t map[4 * PLACE] = {
+    [7] = 12, [15] = 12, [23] = 0,
+    [31] = 13, [39] = 13, [47] = 1,
+    [55] = 17, [63] = 16, [71] = 1,
+    [79] = 21, [87] = 17, [95] = 1,
 };
 static const uint8_t thin[] = {0x0e, 0, 0, 0, 5, 0, 1, 8, 0, 0, 0, 0, 0x01, 0x02, 0x00, 0x10, 0x03, 0x00};
 static const uint8_t thin_big[] = {0, 0, 0, 0x0e, 0, 5, 1, 8, 0, 0, 0, 0, 0x01, 0x02, 0x00, 0x10, 0x03, 0x00};
+
+/* A number in so many bytes, in a byte order. */
+static void put(uint8_t *at, uint64_t n, int width, int is_big)
+{
+    for (int i = 0; i < width; i++)
+        at[is_big ? width - 1 - i : i] = (uint8_t)(n >> (8 * i));
+}
+
+/* A header of the 64-bit format with this length, 24 bytes. */
+static void wide_header(uint8_t *at, uint64_t length, int is_big)
+{
+    memset(at, 0, 24);
+    put(at, 0xffffffff, 4, is_big);
+    put(at + 4, length, 8, is_big);
+    put(at + 12, 5, 2, is_big);
+    at[14] = 1;
+    at[15] = 8;
+}
 
 /* Either call. */
 static uint64_t either(int lent_tables, struct bytes *sections, uint64_t big_endian, struct bytes *lent)
@@ -439,16 +468,40 @@ static void check_order(void)
             struct bytes sections[SECTIONS] = FIVE(one_dead, 2);
             if (orders[i] != 0)
                 sections[0] = (struct bytes){unit_big, sizeof unit_big};
-            lend(lent, 48, 0, 18, COLLECTOR_COUNTS);
+            lend(lent, 4 * PLACE, 0, 18, COLLECTOR_COUNTS);
             expect(either(lent_tables, sections, orders[i], lent), COLLECTOR_REWRITTEN, "a byte order");
-            expect((uint64_t)memcmp(lent[MAP].at, map, 48), 0, "map of a byte order");
+            expect((uint64_t)memcmp(lent[MAP].at, map, sizeof map), 0, "map of a byte order");
             expect((uint64_t)memcmp(lent[OUT].at, orders[i] == 0 ? thin : thin_big, 18), 0, "output of a byte order");
             for (int j = 0; j < 7; j++)
                 expect(count(lent, j), counts[j], "count of a byte order");
             give_back(lent);
             sections[0] = orders[i] == 0 ? (struct bytes){unit_big, sizeof unit_big} : (struct bytes){unit, sizeof unit};
-            lend(lent, 60, 16, 22, COLLECTOR_COUNTS);
+            lend(lent, 5 * PLACE, 16, 22, COLLECTOR_COUNTS);
             expect(either(lent_tables, sections, orders[i], lent), 1, "a unit told wrongly");
+            give_back(lent);
+        }
+
+    /* the same in the 64-bit format */
+    for (int is_big = 0; is_big < 2; is_big++)
+        for (int lent_tables = 0; lent_tables < 2; lent_tables++) {
+            uint8_t wide[34], thinned[30];
+            wide_header(wide, 22, is_big);
+            memcpy(wide + 24, (const uint8_t[]){0x01, 0x02, 0x00, 29, 0x03, 0x03, 0x02, 0x01, 28, 0x00}, 10);
+            wide_header(thinned, 18, is_big);
+            memcpy(thinned + 24, (const uint8_t[]){0x01, 0x02, 0x00, 28, 0x03, 0x00}, 6);
+            struct bytes sections[SECTIONS] = FIVE(one_dead, 2);
+            sections[0] = (struct bytes){wide, sizeof wide};
+            lend(lent, 4 * PLACE, 0, sizeof thinned, COLLECTOR_COUNTS);
+            expect(either(lent_tables, sections, (uint64_t)is_big, lent), COLLECTOR_REWRITTEN, "the 64-bit format");
+            expect((uint64_t)memcmp(lent[OUT].at, thinned, sizeof thinned), 0, "output of the 64-bit format");
+            for (int i = 0; i < 4; i++) {
+                static const uint64_t places[4][3] = {{24, 24, 0}, {25, 25, 1}, {29, 28, 1}, {33, 29, 1}};
+                for (int j = 0; j < 3; j++)
+                    expect(big(lent[MAP].at + PLACE * i + 8 * j, 8), places[i][j], "map of the 64-bit format");
+            }
+            give_back(lent);
+            lend(lent, 4 * PLACE, 0, sizeof thinned, COLLECTOR_COUNTS);
+            expect(either(lent_tables, sections, (uint64_t)!is_big, lent), 1, "the 64-bit format told wrongly");
             give_back(lent);
         }
 
@@ -462,20 +515,13 @@ static void check_order(void)
         section.at[12] = 0x03;
         for (int told = 0; told < 2; told++)
             for (int lent_tables = 0; lent_tables < 2; lent_tables++) {
-                lend(lent, 60, 16, 22, COLLECTOR_COUNTS);
+                lend(lent, 5 * PLACE, 16, 22, COLLECTOR_COUNTS);
                 uint64_t answer = either(lent_tables, sections, (uint64_t)told, lent);
                 expect(answer, told == is_big ? COLLECTOR_UNTOUCHED : 2, "a unit whose length both orders read");
                 give_back(lent);
             }
     }
     free(section.at);
-}
-
-/* A number in so many bytes, in a byte order. */
-static void put(uint8_t *at, uint64_t n, int width, int is_big)
-{
-    for (int i = 0; i < width; i++)
-        at[is_big ? width - 1 - i : i] = (uint8_t)(n >> (8 * i));
 }
 
 /* A sibling of two bytes: 65,535 fits, 65,536 is 9, in either order. Its number lies inside its owner, so the place
@@ -500,7 +546,7 @@ static void check_wide(void)
             put(section.at + 17, place - 21, 4, is_big);
             section.at[place] = 3;
             struct bytes sections[SECTIONS] = {section, {declarations, sizeof declarations}, {nothing, 0}, {nothing, 0}, {nothing, 0}};
-            lend(lent, 60, 0, place + 1, COLLECTOR_COUNTS);
+            lend(lent, 5 * PLACE, 0, place + 1, COLLECTOR_COUNTS);
             uint64_t answer = either(0, sections, (uint64_t)is_big, lent);
             expect(answer, place == 65535 ? COLLECTOR_REWRITTEN : 9, "a sibling of two bytes");
             if (answer == COLLECTOR_REWRITTEN) {
@@ -516,13 +562,357 @@ static void check_wide(void)
         }
 }
 
+/* ---- offsets above 4 GiB */
+
+static size_t put_uleb(uint8_t *at, uint64_t n)
+{
+    size_t i = 0;
+    do {
+        at[i] = (uint8_t)(n & 0x7f) | (n > 0x7f ? 0x80 : 0);
+        n >>= 7;
+        i++;
+    } while (n > 0);
+    return i;
+}
+
+/* 1 names an entry by ref8, 2 has a block, 3 names one by ref8 and has a sibling in ref8, 4 names one by ref_udata,
+ * 5 has nothing, 6 names two by ref8. */
+static uint8_t above_declarations[] = {
+    1, 0x11, 1, 0x49, 0x14, 0, 0, 2, 0x24, 0, 0x03, 0x09, 0, 0, 3, 0x24, 0, 0x49, 0x14, 0x01, 0x14, 0, 0,
+    4, 0x24, 0, 0x49, 0x15, 0, 0, 5, 0x24, 0, 0, 0, 6, 0x11, 1, 0x49, 0x14, 0x49, 0x14, 0, 0, 0,
+};
+enum { BEHIND = 25 }; /* bytes of what stands behind the block */
+#define ABOVE(unit, length) \
+    {{unit, length}, {above_declarations, sizeof above_declarations}, {nothing, 0}, {nothing, 0}, {nothing, 0}}
+
+/* So many bytes of zeros, which take no memory until they are touched. */
+static uint8_t *sparse(size_t length)
+{
+    void *at = mmap(NULL, length, PROT_READ | PROT_WRITE, MAP_PRIVATE | MAP_ANONYMOUS | MAP_NORESERVE, -1, 0);
+    if (at == MAP_FAILED)
+        fail("no address space");
+    return at;
+}
+
+/* Behind the block, at a place of the unit: entry 3, which names 4 and has a sibling; and 4, which names 3. What
+ * follows is left as it is: entry 5, which is dead and 3's sibling, in the old unit, and the terminator. */
+static void put_behind(uint8_t *at, uint64_t place, uint64_t sibling, int is_big)
+{
+    at[0] = 3;
+    put(at + 1, place + 17, 8, is_big);
+    put(at + 9, sibling, 8, is_big);
+    at[17] = 4;
+    if (put_uleb(at + 18, place) != 5)
+        fail("a place of five bytes");
+}
+
+/* A unit whose dead entry is a block of about 2^32 bytes, and live ones behind it, through both calls: old offsets
+ * above 2^32, new ones that are small. */
+static void check_above(void)
+{
+    static const uint64_t behind[] = {((uint64_t)1 << 32) - BEHIND, ((uint64_t)1 << 32) - 17, ((uint64_t)1 << 32) - 1,
+                                      (uint64_t)1 << 32, ((uint64_t)1 << 32) + 139, ((uint64_t)1 << 33) + 12};
+    struct bytes lent[LENT];
+    for (size_t i = 0; i < 2 * sizeof behind / sizeof *behind; i++) {
+        int is_big = i % 2;
+        uint64_t place = behind[i / 2], length = place + BEHIND;
+        uint8_t *section = sparse(length);
+        wide_header(section, length - 12, is_big);
+        section[24] = 1;
+        put(section + 25, place, 8, is_big);
+        section[33] = 2;
+        if (put_uleb(section + 34, place - 39) != 5)
+            fail("a length of five bytes");
+        put_behind(section + place, place, place + 23, is_big);
+        section[place + 23] = 5;
+        if (mprotect(section, length, PROT_READ) != 0)
+            fail("a section that can't be protected");
+
+        /* 24 the first, 33 entry 3, 50 entry 4, 56 the terminator */
+        uint8_t thinned[57];
+        wide_header(thinned, sizeof thinned - 12, is_big);
+        thinned[24] = 1;
+        put(thinned + 25, 33, 8, is_big);
+        thinned[33] = 3;
+        put(thinned + 34, 50, 8, is_big);
+        put(thinned + 42, 56, 8, is_big);
+        memcpy(thinned + 50, (const uint8_t[]){4, 0xa1, 0x80, 0x80, 0x80, 0x00, 0}, 7);
+        const uint64_t places[4][3] = {{24, 24, 0}, {place, 33, 1}, {place + 17, 50, 1}, {place + 24, 56, 1}};
+
+        struct bytes s[SECTIONS] = ABOVE(section, length);
+        for (int lent_tables = 0; lent_tables < 2; lent_tables++) {
+            static const size_t few[TABLES] = {6, 5, 5, 5, 5, 5, 3, 6};
+            lend(lent, 4 * PLACE, 0, sizeof thinned, COLLECTOR_COUNTS);
+            uint64_t order = (uint64_t)is_big;
+            uint64_t answer = lent_tables ? call_lent(s, 0, 0, order, few, lent) : call_on(s, 0, 0, order, lent);
+            check_zeros(answer, lent);
+            expect(answer, COLLECTOR_REWRITTEN, "a unit above 4 GiB");
+            expect((uint64_t)memcmp(lent[OUT].at, thinned, sizeof thinned), 0, "output of a unit above 4 GiB");
+            for (int j = 0; j < 12; j++)
+                expect(big(lent[MAP].at + 8 * j, 8), places[j / 3][j % 3], "map of a unit above 4 GiB");
+            give_back(lent);
+        }
+        munmap(section, length);
+    }
+    printf("offsets above 4 GiB, as they should be\n");
+}
+
+/* The same with the block kept and a dead entry of one byte before it, so that all else moves down by one. */
+static void above(const char *path, int is_big)
+{
+    uint64_t place = ((uint64_t)1 << 32) + 146, length = place + BEHIND;
+    uint8_t *section = sparse(length);
+    wide_header(section, length - 12, is_big);
+    section[24] = 6;
+    put(section + 25, 42, 8, is_big);
+    put(section + 33, place, 8, is_big);
+    section[41] = 5;
+    section[42] = 2;
+    if (put_uleb(section + 43, place - 48) != 5)
+        fail("a length of five bytes");
+    section[48] = 0x5a;
+    section[place - 1] = 0xa5;
+    put_behind(section + place, place, place + 23, is_big);
+    section[place + 23] = 5;
+
+    uint64_t size = length - 2;
+    int file = open(path, O_RDWR | O_CREAT | O_TRUNC, 0600);
+    if (file < 0 || ftruncate(file, (off_t)size) != 0)
+        fail("no file for the output");
+    uint8_t *out = mmap(NULL, size, PROT_READ | PROT_WRITE, MAP_SHARED, file, 0);
+    if (out == MAP_FAILED)
+        fail("no address space");
+    struct bytes lent[LENT];
+    lend(lent, 5 * PLACE, 0, 0, COLLECTOR_COUNTS);
+    free(lent[OUT].at);
+    lent[OUT] = (struct bytes){out, size};
+    struct bytes s[SECTIONS] = ABOVE(section, length);
+    struct timespec began, ended;
+    clock_gettime(CLOCK_MONOTONIC, &began);
+    uint64_t answer = call_on(s, 0, 0, (uint64_t)is_big, lent);
+    clock_gettime(CLOCK_MONOTONIC, &ended);
+    expect(answer, COLLECTOR_REWRITTEN, "new offsets above 4 GiB");
+    expect(count(lent, 3), size, "the size of the output");
+    const uint64_t places[5][3] = {
+        {24, 24, 0}, {42, 41, 1}, {place, place - 1, 1}, {place + 17, place + 16, 1}, {place + 24, place + 22, 1}};
+    for (int i = 0; i < 15; i++)
+        expect(big(lent[MAP].at + 8 * i, 8), places[i / 3][i % 3], "map of new offsets above 4 GiB");
+    uint8_t first[41], last[24] = {0};
+    wide_header(first, size - 12, is_big);
+    first[24] = 6;
+    put(first + 25, 41, 8, is_big);
+    put(first + 33, place - 1, 8, is_big);
+    expect((uint64_t)memcmp(out, first, sizeof first), 0, "the header and the first entry");
+    expect((uint64_t)memcmp(out + 41, section + 42, 7), 0, "the block's start");
+    expect(out[place - 2], 0xa5, "the block's end");
+    put_behind(last, place - 1, place + 22, is_big);
+    expect((uint64_t)memcmp(out + place - 1, last, sizeof last), 0, "what stands behind the block");
+    for (uint64_t i = 48; i < place - 2; i += 4093)
+        expect(out[i], 0, "the block");
+    double seconds = (double)(ended.tv_sec - began.tv_sec) + (double)(ended.tv_nsec - began.tv_nsec) / 1e9;
+    printf("%llu bytes from %llu, %.1f s; the first new offset above 2^32: %llu, from %llu\n", (unsigned long long)size,
+           (unsigned long long)length, seconds, (unsigned long long)(place - 1), (unsigned long long)place);
+    munmap(out, size);
+    close(file);
+    lent[OUT] = block(0);
+    give_back(lent);
+    munmap(section, length);
+}
+
+/* ---- other sections above 4 GiB: what stands at a place with a high word, and another answer at its low word */
+
+enum { AT_LOCATION = 0x02, AT_RANGES = 0x55, SEC_OFFSET = 0x17, LOCLISTX = 0x22, RNGLISTX = 0x23 };
+#define HIGH ((uint64_t)1 << 32)
+
+/* A list, and how a unit leads to it: its attribute, whose value is an offset or an index; the unit's own list base,
+ * where it is not 0; the offset in the table, where it is by an index; the ranges base that is lent. */
+struct far {
+    const char *what;
+    uint8_t name, form;
+    uint64_t value, base, offset, lent_base;
+};
+
+static const struct far far_lists[] = {
+    {"offset in a table of ranges", AT_RANGES, RNGLISTX, 0, 0, HIGH + 50, 0},
+    {"offset in a table of locations", AT_LOCATION, LOCLISTX, 0, 0, HIGH + 50, 0},
+    {"offset in a table of ranges, by its sum", AT_RANGES, RNGLISTX, 0, 0, HIGH - 10, 0},
+    {"offset in a table of locations, by its sum", AT_LOCATION, LOCLISTX, 0, 0, HIGH - 10, 0},
+    {"base of range lists", AT_RANGES, RNGLISTX, 0, HIGH + 100, 50, 0},
+    {"base of location lists", AT_LOCATION, LOCLISTX, 0, HIGH + 100, 50, 0},
+    {"index of 30 bits of a range list", AT_RANGES, RNGLISTX, HIGH / 8 + 3, 0, 50, 0},
+    {"index of 30 bits of a location list", AT_LOCATION, LOCLISTX, HIGH / 8 + 3, 0, 50, 0},
+    {"index of 33 bits of a range list", AT_RANGES, RNGLISTX, HIGH + 3, 0, 50, 0},
+    {"index of 33 bits of a location list", AT_LOCATION, LOCLISTX, HIGH + 3, 0, 50, 0},
+    {"offset of ranges", AT_RANGES, SEC_OFFSET, HIGH + 50, 0, 0, 20},
+    {"lent base of ranges", AT_RANGES, SEC_OFFSET, 50, 0, 0, HIGH + 20},
+    {"offset of ranges, by its sum", AT_RANGES, SEC_OFFSET, HIGH - 10, 0, 0, 80},
+    {"offset of locations", AT_LOCATION, SEC_OFFSET, HIGH + 50, 0, 0, 0},
+};
+
+/* Through both calls: of the unit's children the one at this offset is kept, none where it is 0; and of the lists of
+ * ranges (0) and locations (1) this one holds the index, none where it is -1. */
+static void far_calls(
+    const struct bytes *s, uint64_t lent_base, int is_big, uint64_t kept, int list, uint64_t index, const char *what)
+{
+    uint64_t places[] = {24, s[0].length - 1, 0};
+    if (kept != 0)
+        memcpy(places + 1, (const uint64_t[]){kept, s[0].length - 1}, 16);
+    for (int lent_tables = 0; lent_tables < 2; lent_tables++) {
+        struct bytes lent[LENT];
+        lend(lent, 3 * PLACE, 8, s[0].length, COLLECTOR_COUNTS);
+        uint64_t order = (uint64_t)is_big;
+        uint64_t answer =
+            lent_tables ? call_lent(s, lent_base, 0, order, room, lent) : call_on(s, lent_base, 0, order, lent);
+        check_zeros(answer, lent);
+        expect(answer, COLLECTOR_REWRITTEN, what);
+        expect(count(lent, 1), kept != 0 ? 2 : 1, what);
+        for (int i = 0; i < 3; i++)
+            expect(big(lent[MAP].at + PLACE * i, 8), places[i], what);
+        for (int i = 0; i < 2; i++) {
+            expect(count(lent, 4 + i), i == list, what);
+            expect(big(lent[RANGES + i].at, 8), i == list ? index : 0, what);
+        }
+        give_back(lent);
+    }
+}
+
+/* Abbreviations at 2^32 + 100 and at 100: by the one the first entry names its first child, by the other none. `which`
+ * stands at 2^32 + 100. */
+static void far_abbreviations(int which, int is_big)
+{
+    static const uint8_t forms[] = {0x11, 0x0b}; /* ref1, data1 */
+    static const uint8_t declarations[] = {1, 0x11, 1, 0x49, 0, 0, 0, 2, 0x24, 0, 0, 0, 0};
+    uint8_t wide[29];
+    wide_header(wide, sizeof wide - 12, is_big);
+    put(wide + 16, HIGH + 100, 8, is_big);
+    memcpy(wide + 24, (const uint8_t[]){1, 26, 2, 2, 0}, 5);
+    struct bytes section = {sparse(HIGH + 200), HIGH + 200};
+    for (int i = 0; i < 2; i++) {
+        uint8_t *at = section.at + (i == which ? HIGH + 100 : 100);
+        memcpy(at, declarations, sizeof declarations);
+        at[4] = forms[i];
+    }
+    if (mprotect(section.at, section.length, PROT_READ) != 0)
+        fail("a section that can't be protected");
+    struct bytes s[SECTIONS] = {{wide, sizeof wide}, section, {nothing, 0}, {nothing, 0}, {nothing, 0}};
+    far_calls(s, 0, is_big, which == 0 ? 26 : 0, -1, 0, "offset of abbreviations, above 4 GiB");
+    munmap(section.at, section.length);
+}
+
+/* 1 the unit, 2 a function, 3 another entry. A location is the unit's, ranges are the function's. */
+static size_t far_declarations(uint8_t *at, const struct far *f)
+{
+    size_t n = 0;
+    memcpy(at, (const uint8_t[]){1, 0x11, 1}, 3);
+    n += 3;
+    if (f->base != 0) {
+        n += put_uleb(at + n, f->name == AT_LOCATION ? 0x8c : 0x74);
+        at[n++] = SEC_OFFSET;
+    }
+    for (int i = 0; i < 2; i++) {
+        if (f->name == (i == 0 ? AT_LOCATION : AT_RANGES)) {
+            at[n++] = f->name;
+            at[n++] = f->form;
+        }
+        memcpy(at + n, i == 0 ? (const uint8_t[]){0, 0, 2, 0x2e, 0} : (const uint8_t[]){0, 0, 3, 0x24, 0}, 5);
+        n += 5;
+    }
+    memcpy(at + n, (const uint8_t[]){0, 0, 0}, 3);
+    return n + 3;
+}
+
+/* The unit; where its function stands. The other entry and the terminator are its last two bytes. */
+static size_t far_unit(uint8_t *at, const struct far *f, int is_big, uint64_t *function)
+{
+    uint8_t value[10];
+    size_t width = 8, n = 24;
+    if (f->form == SEC_OFFSET)
+        put(value, f->value, 8, is_big);
+    else
+        width = put_uleb(value, f->value);
+    at[n++] = 1;
+    if (f->base != 0) {
+        put(at + n, f->base, 8, is_big);
+        n += 8;
+    }
+    for (int i = 0; i < 2; i++) {
+        if (f->name == (i == 0 ? AT_LOCATION : AT_RANGES)) {
+            memcpy(at + n, value, width);
+            n += width;
+        }
+        if (i == 0)
+            *function = n;
+        at[n++] = (uint8_t)(2 + i);
+    }
+    at[n++] = 0;
+    wide_header(at, n - 12, is_big);
+    return n;
+}
+
+/* A list: ranges that are live, or, as the other, none; a location that names an entry by call4. */
+static void put_list(uint8_t *at, const struct far *f, int other, uint64_t entry, int is_big)
+{
+    memset(at, 0, 8);
+    if (f->name == AT_LOCATION) {
+        memcpy(at, (const uint8_t[]){5, 5, 0x99}, 3);
+        put(at + 3, entry, 4, is_big);
+    } else if (!other) {
+        memcpy(at, (const uint8_t[]){4, 0, 1}, 3);
+    }
+}
+
+/* `which` of the two lists stands where the attribute leads, the other wherever it leads without a high word: of the
+ * list's place; or of the table's, as its low word has an offset of 16 more. */
+static void far_list(const struct far *f, int which, int is_big)
+{
+    uint8_t declarations[32], wide[64];
+    uint64_t entries[2];
+    struct bytes s[SECTIONS] = {{wide, 0}, {declarations, 0}, {nothing, 0}, {nothing, 0}, {nothing, 0}};
+    s[0].length = far_unit(wide, f, is_big, entries);
+    s[1].length = far_declarations(declarations, f);
+    entries[1] = s[0].length - 2;
+
+    int by_index = f->form != SEC_OFFSET;
+    uint64_t base = f->base != 0 ? f->base : 20, place = base + 8 * f->value;
+    uint64_t list = by_index ? base + f->offset : f->lent_base + f->value, astray = list + 16;
+    uint64_t length = (by_index && place > list ? place : list) + 64;
+    uint8_t *section = sparse(length);
+    const uint64_t decoys[] = {(uint32_t)list, astray, (uint32_t)astray};
+    for (int i = 0; i < 3; i++)
+        put_list(section + decoys[i], f, !which, entries[!which], is_big);
+    put_list(section + list, f, which, entries[which], is_big);
+    if (by_index) {
+        put(section + (uint32_t)place, f->offset + 16, 8, is_big);
+        put(section + place, f->offset, 8, is_big);
+    }
+    if (mprotect(section, length, PROT_READ) != 0)
+        fail("a section that can't be protected");
+
+    int location = f->name == AT_LOCATION;
+    uint64_t kept = location || which == 0 ? entries[which] : 0;
+    s[location ? 2 : 3] = (struct bytes){section, length};
+    far_calls(s, f->lent_base, is_big, kept, by_index && kept != 0 ? location : -1, f->value, f->what);
+    munmap(section, length);
+}
+
+/* Each in both orders, and with the two answers changing places: what loses a high word gives the other one. */
+static void check_far(void)
+{
+    for (int i = 0; i < 4; i++) {
+        far_abbreviations(i / 2, i % 2);
+        for (size_t j = 0; j < sizeof far_lists / sizeof *far_lists; j++)
+            far_list(far_lists + j, i / 2, i % 2);
+    }
+    printf("sections above 4 GiB, as they should be\n");
+}
+
 static void check_rules(void)
 {
     struct bytes lent[LENT];
     /* exactly full, and what is in the counts */
-    lend(lent, 48, 0, 18, COLLECTOR_COUNTS);
+    lend(lent, 4 * PLACE, 0, 18, COLLECTOR_COUNTS);
     expect(five(one_dead, 0, lent), COLLECTOR_REWRITTEN, "exactly full");
-    expect((uint64_t)memcmp(lent[MAP].at, map, 48), 0, "map");
+    expect((uint64_t)memcmp(lent[MAP].at, map, sizeof map), 0, "map");
     expect((uint64_t)memcmp(lent[OUT].at, thin, 18), 0, "output");
     static const uint64_t counts[] = {5, 3, 4, 18, 0, 0, 0};
     for (int i = 0; i < 7; i++)
@@ -533,9 +923,9 @@ static void check_rules(void)
 
     /* counts: every length below the whole tells so, and loses nothing else */
     for (size_t n = 0; n < COLLECTOR_COUNTS; n++) {
-        lend(lent, 48, 0, 18, n);
+        lend(lent, 4 * PLACE, 0, 18, n);
         expect(five(one_dead, 0, lent), COLLECTOR_REWRITTEN_UNCOUNTED, "counts without room");
-        expect((uint64_t)memcmp(lent[MAP].at, map, 48), 0, "map without counts");
+        expect((uint64_t)memcmp(lent[MAP].at, map, sizeof map), 0, "map without counts");
         expect((uint64_t)memcmp(lent[OUT].at, thin, 18), 0, "output without counts");
         expect(five(none_dead, 0, lent), COLLECTOR_UNTOUCHED_UNCOUNTED, "counts without room, untouched");
         zeros(lent[MAP], 0, "map of an untouched unit");
@@ -546,20 +936,20 @@ static void check_rules(void)
     }
 
     /* bytes short of a whole place count for nothing; one more than whole ends as zero (check_zeros) */
-    lend(lent, 47, 7, 18, COLLECTOR_COUNTS);
+    lend(lent, 4 * PLACE - 1, 7, 18, COLLECTOR_COUNTS);
     expect(five(one_dead, 0, lent), 13, "a map one byte short");
     give_back(lent);
-    lend(lent, 59, 7, 18, COLLECTOR_COUNTS + 1);
-    expect(five(one_dead, 0, lent), COLLECTOR_REWRITTEN, "a map of eleven bytes more");
+    lend(lent, 5 * PLACE - 1, 7, 18, COLLECTOR_COUNTS + 1);
+    expect(five(one_dead, 0, lent), COLLECTOR_REWRITTEN, "a map one byte short of a place more");
     give_back(lent);
-    lend(lent, 48, 0, 17, COLLECTOR_COUNTS);
+    lend(lent, 4 * PLACE, 0, 17, COLLECTOR_COUNTS);
     expect(five(one_dead, 0, lent), 14, "an output one byte short");
     give_back(lent);
 
     /* any number but 0 is a yes */
     static const uint64_t flags[] = {1, 2, 256, (uint64_t)1 << 32, UINT64_MAX};
     for (size_t i = 0; i < sizeof flags / sizeof *flags; i++) {
-        lend(lent, 48, 0, 18, COLLECTOR_COUNTS);
+        lend(lent, 4 * PLACE, 0, 18, COLLECTOR_COUNTS);
         expect(five(one_dead, flags[i], lent), COLLECTOR_REWRITTEN, "type units");
         for (int j = 0; j < 3; j++)
             expect(lent[COUNTS].at[56 + j], 0, "an absent list");
@@ -572,7 +962,7 @@ static void check_rules(void)
     uint8_t *const shown[] = {all_dead, wrong, none_dead, (uint8_t *)1, (uint8_t *)UINTPTR_MAX};
     for (size_t i = 0; i < sizeof shown / sizeof *shown; i++) {
         five_of[4] = (struct bytes){shown[i], 0};
-        lend(lent, 48, 8, 18, COLLECTOR_COUNTS);
+        lend(lent, 4 * PLACE, 8, 18, COLLECTOR_COUNTS);
         uint64_t answer = call_on(five_of, 0, 0, 0, lent);
         check_zeros(answer, lent);
         expect(answer, COLLECTOR_UNTOUCHED, "no address table");
@@ -583,7 +973,7 @@ static void check_rules(void)
             expect(lent[COUNTS].at[56 + j], 1, "a present list with no address table");
         give_back(lent);
     }
-    lend(lent, 48, 8, 18, COLLECTOR_COUNTS);
+    lend(lent, 4 * PLACE, 8, 18, COLLECTOR_COUNTS);
     expect(five(all_dead, 0, lent), COLLECTOR_REWRITTEN, "an address table of length 2");
     expect(count(lent, 1), 1, "kept of all dead");
     give_back(lent);
@@ -594,17 +984,6 @@ static void check_rules(void)
 }
 
 /* ---- entry values, one in the other */
-
-static size_t put_uleb(uint8_t *at, uint64_t n)
-{
-    size_t i = 0;
-    do {
-        at[i] = (uint8_t)(n & 0x7f) | (n > 0x7f ? 0x80 : 0);
-        n >>= 7;
-        i++;
-    } while (n > 0);
-    return i;
-}
 
 static uint64_t nested(size_t levels, int is_big)
 {
@@ -635,7 +1014,7 @@ static uint64_t nested(size_t levels, int is_big)
     put(section.at + at - 6, at - 1, 4, is_big);
     struct bytes sections[SECTIONS] = {{section.at, at}, {declarations, sizeof declarations}, {nothing, 0}, {nothing, 0}, {nothing, 0}};
     struct bytes lent[LENT];
-    lend(lent, 12 * 4, 0, at - 1, COLLECTOR_COUNTS);
+    lend(lent, 4 * PLACE, 0, at - 1, COLLECTOR_COUNTS);
     uint64_t answer = call(sections, 0, 0, (uint64_t)is_big, lent);
     check_zeros(answer, lent);
     uint8_t reference[4];
@@ -656,6 +1035,15 @@ int main(int argc, char **argv)
     }
     if (argc >= 3 && strcmp(argv[1], "--nested") == 0) {
         expect(nested(strtoull(argv[2], NULL, 10), argc > 3), COLLECTOR_REWRITTEN, "nested entry values");
+        return 0;
+    }
+    if (argc >= 2 && strcmp(argv[1], "--above") == 0) {
+        if (argc == 2) {
+            check_above();
+            check_far();
+        } else {
+            above(argv[2], argc > 3);
+        }
         return 0;
     }
     if (argc == 2 && strcmp(argv[1], "--rules") == 0) {

@@ -10,19 +10,23 @@ is about.
 A case is sixteen numbers of eight bytes, big-endian (how much is lent of the index of the declarations, of the columns
 offsets, parents, roots, ends, marks, targets, pairs, of map, three lists and output; the ranges base; type units; the
 unit's byte order, 0 little-endian), then a bundle. What is not said is lent with something to spare, so that zeros
-after the answer are seen. Each case stands in both byte orders, in a file for each, with the same number."""
+after the answer are seen. Each case stands in both byte orders, with the same number, and in both formats (wide.py),
+in a file for each."""
 import sys
 from functools import partial
 
 import failures
-from units import (A5, BIG, CUT, DANGLING, FAR, FIVE, HEADERS, LARGEST, ORDERS, T, Part, asking, bundle_of, counted, entry_values, far, field, header, octets,
-                   unit, with_parts, write)
+from units import (A5, BIG, CUT, CUT64, DANGLING, ESCAPE, FAR, FIVE, FIVE64, FORMATS, HEADERS, LARGEST, ORDERS, T, T64,
+                   Part, asking, bundle, bundle_of, counted, entry_values, far, field,
+                   header, octets, unit, with_parts, write)
+from wide import OneFormat, Wide
 
 SETTINGS = ('index', 'offsets', 'parents', 'roots', 'ends', 'marks', 'targets', 'pairs', 'map', 'ranges', 'locations', 'strings', 'output', 'base',
             'type_units', 'big_endian')
 ENTRY_COLUMNS = ('offsets', 'parents', 'roots', 'ends', 'marks')
 LISTS = ('ranges', 'locations', 'strings')
-cases = {big: [] for big in ORDERS}  # by the order that is told
+PLACE = 24  # bytes of a place of the map
+cases = {(wide, big): [] for wide in FORMATS for big in ORDERS}  # by the format, and the order that is told
 
 
 # ---- answers
@@ -47,27 +51,57 @@ def numbers(text, width):
     return b''.join(int(w).to_bytes(width, 'big') for w in text.replace('>', ' ').replace('@', ' ').split())
 
 
-def case(why, of_unit, table, answer, locations='', ranges='', addresses='', tail='', lend=None, wrong=False, told=1):
+def kind_of(of_unit):
+    """What a unit has for a header."""
+    kind = of_unit.partition(' ')[0] if isinstance(of_unit, str) else 'H'
+    return kind if kind in HEADERS else 'W' if kind == ESCAPE.hex() else 'H'
+
+
+def case(why, of_unit, table, answer, locations='', ranges='', addresses='', tail='', lend=None, wrong=False, told=1,
+         both=True):
     """lend: settings that matter, by name; `entries` and `references` for a whole table. wrong: the unit is of the
-    order that is not told. told: the number that says big-endian."""
+    order that is not told. told: the number that says big-endian. A unit `W ..` is of the 64-bit format alone; both
+    says whether another stands in both."""
+    kind, lend = kind_of(of_unit), dict(lend or {})
+    alone = kind.startswith('W')
     for big in ORDERS:
         data = bundle_of(of_unit, table, locations, ranges, addresses, tail, big != wrong)
-        settings, lines = lent_and_left(why, of_unit, answer, dict(lend or {}), big)
-        settings['big_endian'] = told * big
-        cases[big].append((why, b''.join(settings[k].to_bytes(8, 'big') for k in SETTINGS) + data, lines))
+        out, places = b'', numbers('' if 'refused' in answer else answer['places'], 8)
+        if answer.get('unit') is not None:
+            out = header(octets(answer['unit'], big), kind, big)
+        add(why, alone, big, told, data, lent_and_left(why, answer, lend, places, out, len(unit(of_unit))))
+        if not both or alone:
+            continue
+        try:
+            made = Wide(of_unit, table, locations, ranges, lend.get('base', 0), big != wrong, tail)
+            lent, longer = dict(lend), 12
+            if 'refused' not in answer:
+                new, to = made.written(answer['unit'], kind) if out else (b'', None)
+                rows = [place.replace('>', ' ').replace('@', ' ').split() for place in answer['places'].split()]
+                rows = ['%d %d %s' % (made.places(int(row[0])), to(int(row[1])), row[2]) for row in rows]
+                places = numbers(' '.join(rows), 8)
+                out, longer = new, len(new) - len(out)
+        except OneFormat:
+            continue
+        if lent.get('output'):
+            lent['output'] += longer
+        wide = bundle([made.unit, made.table, made.locations, made.ranges, octets(addresses)])
+        if wide != data:
+            add(why, True, big, told, wide, lent_and_left(why, answer, lent, places, out, len(made.unit)))
 
 
-def lent_and_left(why, of_unit, answer, lend, big):
-    """The settings of a case, and what it must print."""
-    kind = of_unit.partition(' ')[0] if isinstance(of_unit, str) else 'H'
+def add(why, wide, big, told, data, lent_and_lines):
+    settings, lines = lent_and_lines
+    settings['big_endian'] = told * big
+    cases[wide, big].append((why, b''.join(settings[k].to_bytes(8, 'big') for k in SETTINGS) + data, lines))
+
+
+def lent_and_left(why, answer, lend, places, out, length):
+    """The settings of a case, and what it must print: its map and its new unit, if it has them; the unit's length."""
     refused = 'refused' in answer
     lists = {k: b'' if refused or answer[k] == 'absent' else numbers(answer[k], 8) for k in LISTS}
-    places = b'' if refused else numbers(answer['places'], 4)
-    out = b''
-    if not refused and answer['unit'] is not None:
-        out = header(octets(answer['unit'], big), kind if kind in HEADERS else 'H', big)
     given = {'index': 16, 'targets': 8, 'pairs': 16, 'base': 0, 'type_units': 0,
-             'map': 101 if refused else len(places) + 5, 'output': len(unit(of_unit) if refused else out) + 3}
+             'map': 4 * PLACE + 5 if refused else len(places) + 5, 'output': (length if refused else len(out)) + 3}
     given.update({c: 8 if refused else answer['entries'] + 1 for c in ENTRY_COLUMNS})
     given.update({k: len(lists[k]) + 11 for k in LISTS})
     if 'entries' in lend:
@@ -81,7 +115,8 @@ def lent_and_left(why, of_unit, answer, lend, big):
     else:
         counts = ['absent' if answer[k] == 'absent' else str(len(answer[k].split())) for k in LISTS]
         lines = ['%s entries %d kept %d places %d bytes %d ranges %s locations %s strings %s' %
-                 ('untouched' if answer['unit'] is None else 'rewritten', answer['entries'], answer['kept'], len(places) // 12, len(out), *counts)]
+                 ('untouched' if answer['unit'] is None else 'rewritten', answer['entries'], answer['kept'],
+                 len(places) // PLACE, len(out), *counts)]
     for name, data in (('map', places), ('ranges', lists['ranges']), ('locations', lists['locations']), ('strings', lists['strings']), ('output', out)):
         assert len(data) <= given[name], why
         lines.append('%s %s' % (name, (data + bytes(given[name] - len(data))).hex() or '-'))
@@ -115,17 +150,20 @@ case('11: one between two trees', 'H 03 00 03', A5, rewritten(2, 1, '12>12@0', '
 case('11: one behind a closed tree', 'H 01 00 00 03', A5, rewritten(2, 1, '12>12@0 13>13@1', '01 00'))
 case('11: terminators and no entry', 'H 00 00', A5, NOTHING)
 case('16: an offset at the section\'s end is an empty list', 'H 01 02 00 00', R, rewritten(2, 1, '12>12@0 15>13@1', '01 00'), ranges=T)
-case('16: past it is live', 'H 01 02 00 00', R, untouched(2, '0'), ranges='00' * 12 + ' 4:5')
+case('16: past it is live', 'H 01 02 00 00', R, untouched(2, '0'), ranges='z t:5')
 case('16: so is a table place that is cut', 'H 01 02 00 00', R, untouched(2, '0'), ranges=CUT)
 case('16: locations at the end', 'H 01 00 02 00', L, rewritten(2, 1, '12>12@0 15>14@1', '01 00 00', locations='0'), locations=T)
-case('16: locations past it', 'H 01 00 02 00', L, no(5), locations='00' * 12 + ' 4:5')
+case('16: locations past it', 'H 01 00 02 00', L, no(5), locations='z t:5')
 case('16: a table place of locations that is cut', 'H 01 00 02 00', L, no(5), locations=CUT)
 case('17: an index whose place is above 64 bits', 'H 01 02 %s 00' % BIG, R, untouched(2, str(2 ** 62)), ranges=T)
 case('17: of locations', 'H 01 %s 02 00' % BIG, L, no(5), locations=T)
 case('17, 51: ranges base plus offset above 64 bits', 'H 01 02 4:1 00', O, untouched(2, 'absent'), ranges='ffff00', lend={'base': 2 ** 64 - 1})
-case('25: a dangling reference in a location list is no 8', 'H 01 00 02', M, rewritten(2, 1, '12>12@0', '01 00', locations='0'), locations=T + '050398 2:63 00')
-case('25, 57: one that names an entry keeps it', 'H 01 00 02', M, untouched(2, locations='0'), locations=T + '050398 2:e 00')
-case('25: and the list is not rewritten', 'H 01 00 02 02', M, rewritten(3, 2, '12>12@0 15>14@0', '01 00 02', locations='0'), locations=T + '050398 2:f 00')
+case('25: a dangling reference in a location list is no 8', 'H 01 00 02', M, rewritten(2, 1, '12>12@0', '01 00',
+     locations='0'), locations=T + '050398 2@63 00')
+case('25, 57: one that names an entry keeps it', 'H 01 00 02', M, untouched(2, locations='0'),
+     locations=T + '050398 2@e 00')
+case('25: and the list is not rewritten', 'H 01 00 02 02', M, rewritten(3, 2, '12>12@0 15>14@0', '01 00 02',
+     locations='0'), locations=T + '050398 2@f 00')
 case('26: call2 with 0 dangles', 'H 01 03 98 2:0 02', X, no(8))
 case('26: call4 with 0', 'H 01 05 9900000000 02', X, no(8))
 case('26: GNU_parameter_ref with 0', 'H 01 05 fa00000000 02', X, no(8))
@@ -179,7 +217,7 @@ case('33: rnglistx and loclistx under another name', 'H 01 09 07 02', '1 11 40/2
 case('34: ranges in sec_offset, of a dead entry', 'H 01 07 02 00000000', '1 11 55/23; 2 24 55/17', rewritten(2, 1, '12>12@0', '01 07', 'absent'))
 case('34: of a kept entry', 'H 01 00000000 07 02', '1 11 55/17 55/23; 2 24', rewritten(2, 1, '12>12@0', '01 00000000 07', 'absent'))
 case('34: location in sec_offset', 'H 01 01 02 00000000', '1 11 02/22; 2 24 02/17', rewritten(2, 1, '12>12@0', '01 01', locations='absent'),
-     locations='00' * 12 + ' 4:8 4:8')
+     locations='z t:8 t:8')
 case('34: a declaration that no entry uses', 'H 01 07 02', '1 11 55/23; 2 24; 3 24 55/17', rewritten(2, 1, '12>12@0', '01 00', '7'))
 case('34: the other lists stay', 'H 01 05 07 09 02 00000000', '1 11 03/1a 55/23 40/22; 2 24 55/17', rewritten(2, 1, '12>12@0', '01 00 07 00', 'absent', '9', '5'))
 case('34: data4 makes no list absent', 'H 01 07 02 00000000 00', '1 11 children 55/23; 2 24 55/06', rewritten(2, 1, '12>12@0 19>14@1', '01 00 00', '7'))
@@ -200,9 +238,9 @@ case('36: 11 before 10 of the next', 'H 01 0c 01 0c', '1 24 49/11', no(11), lend
 case('36: 10 before 11 of the same', 'H 01 0c 01 0c', '1 24 49/11', no(10), lend={'references': 1, 'entries': 1})
 case('36: terminators need no room', 'H 01 00 00', A5, untouched(1), lend={'entries': 1})
 case('37: 13 before 8', 'H 01 63 02', G, no(13), lend={'map': 0})
-case('37: 13 before 14', 'H 01 63 02', G, no(13), lend={'map': 11, 'output': 0})
+case('37: 13 before 14', 'H 01 63 02', G, no(13), lend={'map': PLACE - 1, 'output': 0})
 case('37: 14 before 8', 'H 01 63 02', G, no(14), lend={'output': 13})
-case('37: 8', 'H 01 63 02', G, no(8), lend={'map': 12, 'output': 14})
+case('37: 8', 'H 01 63 02', G, no(8), lend={'map': PLACE, 'output': 14})
 case('37: none of them where nothing is dead', 'H 01 63', G, untouched(1), lend={'map': 0, 'output': 0})
 case('38: sec_offset behind indirect is read as one', 'H 01 02 17 00000000 00', '1 11 children; 2 2e 55/16', rewritten(2, 1, '12>12@0 19>13@1', '01 00'), ranges='00')
 case('38: and makes no list absent', 'H 01 07 02 17 00000000 00', '1 11 children 55/23; 2 2e 55/16', rewritten(2, 1, '12>12@0 20>14@1', '01 00 00', '7'), ranges='00')
@@ -225,8 +263,8 @@ case('43: one byte of ref_udata, 127', long_owner('14', 110), NINE % '15', rewri
 case('43: one byte of ref_udata, 128', long_owner('14', 111), NINE % '15', no(9))
 case('43: two bytes of ref_udata, 128', long_owner('9400', 110), NINE % '15', rewritten(3, 2, '12>12@0 14>14@1 129>128@1', long_owner('8001', 110, '00')))
 case('43: behind indirect', long_owner('1114', 250), NINE % '16', no(9))
-case('37: 14 before 9', long_owner('14', 239), NINE % '11', no(14), lend={'map': 36, 'output': 256})
-case('37: 9', long_owner('14', 239), NINE % '11', no(9), lend={'map': 36, 'output': 257})
+case('37: 14 before 9', long_owner('14', 239), NINE % '11', no(14), lend={'map': 3 * PLACE, 'output': 256})
+case('37: 9', long_owner('14', 239), NINE % '11', no(9), lend={'map': 3 * PLACE, 'output': 257})
 case('37: 9 before a later 8', 'H 01 10 2:10e 02 14 fa %s 03 04 63 00' % ZEROS,
      '1 11 children 49/11 49/12; 2 24 01/11 03/0a; 3 24; 4 24 49/11', no(9))
 case('37: 8 before a later 9', 'H 01 63 0f 02 14 fa %s 03 00' % ZEROS, '1 11 children 49/11 49/11; 2 24 01/11 03/0a; 3 24', no(8))
@@ -263,8 +301,10 @@ case('53: bytes after the first unit', 'H 01 0f 02 02', G, rewritten(3, 2, '12>1
 case('53: they are none of its entries', 'H 01 0c', G, untouched(1), tail='02 02')
 case('53: nor named', 'H 01 0f 02', G, no(8), tail='02')
 case('55: 12 where the other lists were long enough', 'H 01 07 09 05 02', '1 11 55/23 40/22 03/1a; 2 24', no(12), lend={'ranges': 16, 'locations': 16, 'strings': 7})
-case('55: an untouched answer has its lists, no map and no output', 'H 01 07 09 05', '1 11 55/23 40/22 03/1a', untouched(1, '7', '9', '5'), lend={'map': 30, 'output': 20})
-case('55: 8 leaves no list', 'H 01 07 63 02', '1 11 03/1a 49/11; 2 24', no(8), lend={'strings': 8, 'map': 24, 'output': 24})
+case('55: an untouched answer has its lists, no map and no output', 'H 01 07 09 05', '1 11 55/23 40/22 03/1a',
+     untouched(1, '7', '9', '5'), lend={'map': 2 * PLACE + 6, 'output': 20})
+case('55: 8 leaves no list', 'H 01 07 63 02', '1 11 03/1a 49/11; 2 24', no(8), lend={'strings': 8, 'map': 2 * PLACE,
+     'output': 24})
 case('56: two siblings in one entry', 'H 01 0f 03 02 14 2:14 03 03 00', '1 11 children 49/11; 2 24 01/11 01/12; 3 24',
      rewritten(5, 2, '12>12@0 15>14@1 21>18@1', '01 0e 02 12 2:12 00'))
 case('56: any of several ranges in sec_offset', 'H 01 07 02 07 00000000', '1 11 55/23; 2 24 55/23 55/17', rewritten(2, 1, '12>12@0', '01 07', 'absent'))
@@ -390,21 +430,21 @@ for index, number in failures.FAILING:
         case('5.2: %d before %s' % (number, later), of_unit % index, table, no(number), addresses='0002', lend=lend)
 
 # ---- lent lengths: the five-entry unit has 5 entries, 2 references, 4 places and 18 bytes
-FULL = {'entries': 5, 'references': 2, 'map': 48, 'output': 18, 'ranges': 0, 'locations': 0, 'strings': 0}
+FULL = {'entries': 5, 'references': 2, 'map': 4 * PLACE, 'output': 18, 'ranges': 0, 'locations': 0, 'strings': 0}
 case('every length exactly full', FIVE, A5, ONE, addresses='0100', lend=FULL)
 case('entries one short', FIVE, A5, no(10), addresses='0100', lend=dict(FULL, entries=4))
 case('no entries', FIVE, A5, no(10), addresses='0100', lend=dict(FULL, entries=0))
 case('references one short', FIVE, A5, no(11), addresses='0100', lend=dict(FULL, references=1))
 case('no references', FIVE, A5, no(11), addresses='0100', lend=dict(FULL, references=0))
-case('47: map one byte short', FIVE, A5, no(13), addresses='0100', lend=dict(FULL, map=47))
-case('47: map one place short', FIVE, A5, no(13), addresses='0100', lend=dict(FULL, map=36))
+case('47, 6.7: map one byte short', FIVE, A5, no(13), addresses='0100', lend=dict(FULL, map=4 * PLACE - 1))
+case('47: map one place short', FIVE, A5, no(13), addresses='0100', lend=dict(FULL, map=3 * PLACE))
 case('no map', FIVE, A5, no(13), addresses='0100', lend=dict(FULL, map=0))
-case('47: map one byte more', FIVE, A5, ONE, addresses='0100', lend=dict(FULL, map=49))
-case('47: map one byte short of a place more', FIVE, A5, ONE, addresses='0100', lend=dict(FULL, map=59))
+case('47: map one byte more', FIVE, A5, ONE, addresses='0100', lend=dict(FULL, map=4 * PLACE + 1))
+case('47, 6.7: map one byte short of a place more', FIVE, A5, ONE, addresses='0100', lend=dict(FULL, map=5 * PLACE - 1))
 case('47: output one byte short', FIVE, A5, no(14), addresses='0100', lend=dict(FULL, output=17))
 case('no output', FIVE, A5, no(14), addresses='0100', lend=dict(FULL, output=0))
 case('47: output one byte more', FIVE, A5, ONE, addresses='0100', lend=dict(FULL, output=19))
-case('13 before 14', FIVE, A5, no(13), addresses='0100', lend=dict(FULL, map=47, output=17))
+case('13 before 14', FIVE, A5, no(13), addresses='0100', lend=dict(FULL, map=4 * PLACE - 1, output=17))
 case('6 before 13', FIVE, A5, no(6), addresses='0002', lend=dict(FULL, map=0, output=0))
 case('5.2: 17 before 13', FIVE, A5, no(17), addresses='01', lend=dict(FULL, map=0, output=0))
 case('no index of the declarations', FIVE, A5, ONE, addresses='0100', lend=dict(FULL, index=0))
@@ -418,7 +458,7 @@ case('59: the column pairs is one number short', FIVE, A5, no(11), addresses='01
 case('59: the column pairs has an odd number', FIVE, A5, ONE, addresses='0100', lend=dict(FULL, pairs=5))
 case('repeats and dangling references count', 'H 01 63 63 0c', '1 24 49/11 49/11 49/11', untouched(1), lend={'references': 3})
 case('one short for them', 'H 01 63 63 0c', '1 24 49/11 49/11 49/11', no(11), lend={'references': 2})
-case('those of a location list count', 'H 01 00 02', M, no(11), locations=T + '050398 2:63 00', lend={'references': 0})
+case('those of a location list count', 'H 01 00 02', M, no(11), locations=T + '050398 2@63 00', lend={'references': 0})
 case('those of nested entry values count', 'H 01 05 a303 98 2:c', X, no(11), lend={'references': 0})
 case('those of dead entries count', 'H 01 02 63 00', '1 11 children; 2 24 49/11', no(11), lend={'references': 0})
 case('call2 with 0 counts', 'H 01 03 98 2:0', X, no(11), lend={'references': 0})
@@ -429,7 +469,7 @@ case('a sibling does not', 'H 01 63', '1 24 01/11', untouched(1), lend={'referen
 TWO = '1 11 55/23 55/23 40/22 40/22 03/1a 03/1a; 3 24'
 NUMBERS = 'H 01 07 03 04 02 09 01 03'
 RANKED = rewritten(2, 1, '12>12@0', '01 01 00 01 00 01 00', '3 7', '2 4', '1 9')
-EXACT = {'ranges': 16, 'locations': 16, 'strings': 16, 'map': 12, 'output': 19}
+EXACT = {'ranges': 16, 'locations': 16, 'strings': 16, 'map': PLACE, 'output': 19}
 case('lists exactly full', NUMBERS, TWO, RANKED, lend=EXACT)
 for which in LISTS:
     for size in (15, 8, 0):
@@ -438,7 +478,7 @@ for which in LISTS:
     case('12: %s, where nothing is dead' % which, NUMBERS[:-3], TWO, no(12), lend=dict(EXACT, **{which: 15}))
 case('no list', NUMBERS, TWO, no(12), lend=dict(EXACT, ranges=0, locations=0, strings=0))
 case('12 before 13 and 14', NUMBERS, TWO, no(12), lend=dict(EXACT, strings=15, map=0, output=0))
-case('13 then', NUMBERS, TWO, no(13), lend=dict(EXACT, map=11, output=0))
+case('13 then', NUMBERS, TWO, no(13), lend=dict(EXACT, map=PLACE - 1, output=0))
 case('14 then', NUMBERS, TWO, no(14), lend=dict(EXACT, output=18))
 case('12 before 8', 'H 01 05 63 02', '1 11 03/1a 49/11; 2 24', no(12), lend={'strings': 7})
 case('lists exactly full, where nothing is dead', NUMBERS[:-3], TWO, untouched(1, '3 7', '2 4', '1 9'), lend=dict(EXACT, map=0, output=0))
@@ -504,8 +544,8 @@ case('12.3: its length alone', TURNED % '4:12', A5, no(1), addresses='0100', wro
 case('12.3: a length of 0xfffffff0', '4:fffffff0 2:5 01 08 4:0', A5, no(2))
 case('12.3: the same, told wrongly', '4:fffffff0 2:5 01 08 4:0', A5, no(1), wrong=True)
 case('12.3: a length of 0xf0ffffff', '4:f0ffffff 2:5 01 08 4:0', A5, no(1))
-case('12.3: the same, told wrongly', '4:f0ffffff 2:5 01 08 4:0', A5, no(2), wrong=True)
-case('12.3: a length of all ones, told wrongly', 'ffffffff', A5, no(2), wrong=True)
+case('12.3: the same, told wrongly', '4:f0ffffff 2:5 01 08 4:0', A5, no(2), wrong=True, both=False)
+case('12.3, 6.1: a length of all ones, told wrongly', 'ffffffff', A5, no(1), wrong=True)
 case('12.3: an empty section, told wrongly', '', A5, NOTHING, wrong=True)
 case('12.3: a unit with no entries, told wrongly', 'H', A5, no(1), wrong=True)
 case('12.1: strx3', 'H 01 3:9 3:3 02', '1 11 03/27 1b/27; 2 24', rewritten(2, 1, '12>12@0', '01 3:1 3:0', strings='3 9'))
@@ -555,18 +595,120 @@ for kind, size in (('H', 8), ('H4', 4)):
         second('12: low_pc, a direct address%s' % number, kind + ' 01 02%s00' % number, P % '01', False)
         for entry in ('05%s 040001', '06%s' + number, '07%s 01'):
             second('12: range list kind %s,%s' % (entry[:2], number), kind + ' 01 02 00 00', R, False, ranges=T + entry % number + '00')
-second('12: a list by its offset', 'H 01 02 00 00', R, True, ranges='00' * 12 + ' 4:104 ' + 'ff' * 256 + '00')
-second('12: by the second of two', 'H 01 02 01 00', R, True, ranges='00' * 12 + ' 4:9 4:8 00 ff')
+second('12: a list by its offset', 'H 01 02 00 00', R, True, ranges='z t:104 ' + 'ff' * 256 + '00')
+second('12: by the second of two', 'H 01 02 01 00', R, True, ranges='z t:9 t:8 00 ff')
 case('12: a base of its own', 'H 01 4:104 02 00 00', '1 11 children 74/17; 2 2e 55/23', rewritten(2, 1, '12>12@0 19>17@1', '01 4:104 00'),
-     ranges='ff' * 260 + ' 4:4 00')
+     ranges='ff' * 260 + ' t:4 00')
 case('12: ranges in sec_offset', 'H 01 02 4:102 00', O, rewritten(2, 1, '12>12@0 18>13@1', '01 00', 'absent'), ranges='ff' * 258 + '00')
 case('12: with a ranges base', 'H 01 02 4:102 00', O, rewritten(2, 1, '12>12@0 18>13@1', '01 00', 'absent'), ranges='ff' * 514 + '00', lend={'base': 256})
-case('12: a list of locations by its offset', 'H 01 00 02', M, untouched(2, locations='0'), locations='00' * 12 + ' 4:104 ' + 'ff' * 256 + '05 03 98 2:e 00')
-case('12: with a base of its own', 'H 01 4:104 00 02', '1 11 8c/17 02/22; 2 24', untouched(2, locations='0'), locations='ff' * 260 + ' 4:4 05 05 99 4:12 00')
-case('12: a location in sec_offset', 'H 01 4:102 02', '1 24 02/17; 2 24', untouched(2, locations='absent'), locations='ff' * 258 + '05 05 fa 4:11 00')
+case('12: a list of locations by its offset', 'H 01 00 02', M, untouched(2, locations='0'),
+     locations='z t:104 ' + 'ff' * 256 + '05 03 98 2@e 00')
+case('12: with a base of its own', 'H 01 4:104 00 02', '1 11 8c/17 02/22; 2 24', untouched(2, locations='0'),
+     locations='ff' * 260 + ' t:4 05 05 99 4@12 00')
+case('12: a location in sec_offset', 'H 01 4:102 02', '1 24 02/17; 2 24', untouched(2, locations='absent'),
+     locations='ff' * 258 + '05 05 fa 4@11 00')
 case('12: ranks of lists are ULEB128', 'H 01 8904 8304 02', '1 11 40/23 40/22; 2 24', rewritten(2, 1, '12>12@0', '01 8000 8000', '521', '515'))
 case('12: ref_addr', 'H 01 4:c 02', '1 24 49/10; 2 24', no(7))
 case('12: call_ref', 'H 01 05 9a 4:13 02', X, no(7))
+
+# ---- document 02, point 6: all cases stand in both formats. Here are those of the 64-bit one alone: what is as wide as
+# an offset, and what is not
+case('6.7: the map of a 32-bit unit', FIVE, A5, ONE, addresses='0100', lend=dict(FULL, map=5 * PLACE - 1, ranges=8,
+     locations=8, strings=8), both=False)
+case('6.7: one of 95 bytes', FIVE, A5, no(13), addresses='0100', lend=dict(FULL, map=95, ranges=8, locations=8,
+     strings=8), both=False)
+LITTLE = {'map': 1, 'output': 1, 'ranges': 1, 'locations': 1, 'strings': 1}
+LENGTH = 'ffffffff %s 2:5 01 08 8:0 01 02001d 03 03 02011c 00'
+case('6.1: the escape alone', 'ffffffff', A5, no(1))
+case('6.1: seven bytes of a length', 'ffffffff 00000000000000', A5, no(1))
+case('6.1: a length past the section, before the version', 'ffffffff 8:d 2:3 01 08 8:0', A5, no(1))
+case('6.1: the version then', 'ffffffff 8:c 2:3 01 08 8:0', A5, no(2))
+case('6.1: a length whose sum with 12 is above 64 bits', LENGTH % '8:fffffffffffffff8', A5, no(1))
+for length in ('fffffffffffffff4', 'fffffffffffffff3', 'ffffffffffffffff', '8000000000000000', '7ffffffffffffff3',
+    '100000016', '17'):
+    case('6.1: a length of 0x%s' % length, LENGTH % ('8:' + length), A5, no(1), addresses='0100')
+case('6.1: the length that is right', LENGTH % '8:16', A5, rewritten(5, 3, '24>24@0 25>25@1 29>28@1 33>29@1',
+     '01 02001c 03 00'), addresses='0100', lend={'output': 30})
+for length in range(0xfffffff0, 0xffffffff):
+    case('6.1: a reserved length', '4:%x 8:16 2:5 01 08 8:0 01 02001d 03 03 02011c 00' % length, A5, no(2), lend=LITTLE)
+    case('6.1: and nothing behind it', '4:%x' % length, A5, no(2), lend=LITTLE)
+for whole in (FIVE, FIVE64, 'H5 03', 'W5 03'):
+    for n in range(1, len(unit(whole))):
+        case('6.1: %d bytes of %s' % (n, whole), 'cut %d %s' % (n, whole), A5, no(1), addresses='0100', lend=LITTLE)
+BY_LENGTH = [no(1)] * 8 + [NOTHING, untouched(1), no(4), no(4), untouched(2), no(8)]
+BY_LENGTH += [rewritten(4, 3, '12>12@0 13>13@1 17>16@1', '01 020010 03'), no(4), no(4)]
+BY_LENGTH += [rewritten(5, 3, '12>12@0 13>13@1 17>16@1', '01 020010 03'), ONE, no(1)]
+for n, answer in enumerate(BY_LENGTH):
+    case('6.2: a unit by a length of %d' % n, '4:%x 2:5 01 08 4:0 01 020011 03 03 020110 00' % n, A5, answer,
+         addresses='0100')
+case('6.2: a small unit of the 64-bit format', 'W', A5, NOTHING)
+case('6: an abbreviation offset of 2^32', 'ffffffff 8:16 2:5 01 08 8:100000000 01 02001d 03 03 02011c 00', A5, no(3))
+case('6.3: a list offset that wraps', 'W 01 02 00 00', R, untouched(2, '0'),
+     ranges='00' * 20 + ' 8:ffffffffffffffec 00')
+case('6.3: of locations', 'W 01 00 02', M, no(5), locations='00' * 20 + ' 8:ffffffffffffffec')
+case('6.3: an index of 2^61', 'W 01 02 808080808080808020 00', R, untouched(2, str(2 ** 61)), ranges=T64 + '00')
+case('6.3: of locations', 'W 01 808080808080808020 02', M, no(5), locations=T64 + '00')
+case('6.3: ranges base plus offset above 64 bits', 'W 01 02 8:ffffffffffffffff 00', O, untouched(2, 'absent'),
+     ranges='00', lend={'base': 1})
+case('6.4: a location in data8', 'W 01 8:9', '1 34 02/07', untouched(1))
+case('6.4: in data4', 'W 01 4:9', '1 34 02/06', untouched(1))
+case('6.4: ranges in data8', 'W 01 02 8:0 00', '1 11 children; 2 2e 55/07', untouched(2))
+case('6.4: in data4', 'W 01 02 4:0 00', '1 11 children; 2 2e 55/06', untouched(2))
+case('6.4: a base in data8', 'W 01 8:1 02 00 00', '1 11 children 74/07; 2 2e 55/23', rewritten(2, 1, '24>24@0 35>33@1',
+     '01 8:1 00'), ranges=T64 + '00')
+WIDE_FORMS = '01 8:102030405060708 8:1112131415161718 8:2122232425262728 8:3132333435363738 4:41424344 8:5152535455'
+case('6.5: strp, line_strp, strp_sup, sec_offset; ref_sup4, ref_sup8', 'W %s 02' % WIDE_FORMS,
+     '1 24 03/0e 03/1f 03/1d 10/17 3a/1c 3a/24; 2 24',
+     rewritten(2, 1, '24>24@0', WIDE_FORMS))
+case('6.5: ref_addr', 'W 01 8:18 02', '1 24 49/10; 2 24', no(7))
+case('6.5: a sibling in ref_addr', 'W 01 8:18 02', '1 24 01/10; 2 24', rewritten(2, 1, '24>24@0', '01 8:18'))
+for form in ('0e', '10', '17', '1d', '1f'):
+    case('6.5: form %s of four bytes' % form, 'W 01 4:0', '1 24 03/' + form, no(4))
+case('6.5: ref_sup4 of four bytes', 'W 01 4:0', '1 24 3a/1c', untouched(1))
+case('6.5: GNU_parameter_ref', 'W 01 05 fa 4:18 02', '1 24 40/18; 2 24', rewritten(2, 1, '24>24@0', '01 05 fa 4:18'))
+case('6.5: call4, GNU_parameter_ref and ref4', 'W 01 0a 99 4:29 fa 4:29 4:29 02 02 00',
+     '1 24 children 40/18 49/13; 2 24',
+     rewritten(3, 2, '24>24@0 41>40@1 42>41@1', '01 0a 99 4:28 fa 4:28 4:28 02 00'))
+for code, more in (('9a', ''), ('a0', '00'), ('f2', '7f'), ('fd', '')):
+    size = 9 + len(more) // 2
+    case('6.5: an offset in operation %s' % code, 'W 01 %02x %s 8:0 %s 02' % (size, code, more), X, no(7))
+    case('6.5: and of four bytes', 'W 01 %02x %s 4:0 %s 02' % (size - 4, code, more), X, no(5))
+    case('6.5: in an entry value', 'W 01 %02x a3 %02x %s 8:0 %s 02' % (size + 2, size, code, more), X, no(7))
+    case('6.5: in a location list', 'W 01 00 02', M, no(7), locations=T64 + '05 %02x %s 8:0 %s 00' % (size, code, more))
+case('6.9: the table of lists as the unit has it', 'W 01 02 00 00', R, rewritten(2, 1, '24>24@0 27>25@1', '01 00'),
+     ranges=T64 + '00')
+case('6.9: and not as their header says', 'W 01 02 00 00', R, untouched(2, '0'),
+     ranges='0d000000 0500 08 00 01000000 04000000 00')
+case('6.9: nor those of a 32-bit unit', 'H 01 02 00 00', R, untouched(2, '0'),
+     ranges='ffffffff' + '11' * 16 + ' 8:8 00', both=False)
+case('6.9: a table place that is cut', 'W 01 02 00 00', R, untouched(2, '0'), ranges=CUT64)
+case('6: an offset in a table with a high word', 'W 01 02 00 00', R, untouched(2, '0'),
+     ranges='00' * 20 + ' 8:100000008 00')
+OWN = '1 11 children 74/17; 2 2e 55/23'
+case('6.11: a base of its own', 'W 01 8:4 02 00 00', OWN, rewritten(2, 1, '24>24@0 35>33@1', '01 8:4 00'),
+     ranges='ffffffff 8:8 00')
+case('6.11: with a high word', 'W 01 8:100000004 02 00 00', OWN, untouched(2, '0'), ranges='ffffffff 8:8 00')
+case('6.11: of locations', 'W 01 8:4 00 02', '1 11 8c/17 02/22; 2 24', untouched(2, locations='0'),
+     locations='ffffffff 8:8 05 03 98 2:22 00')
+case('6.11: with a high word', 'W 01 8:100000004 00 02', '1 11 8c/17 02/22; 2 24', no(5),
+     locations='ffffffff 8:8 05 03 98 2:22 00')
+case('6.11: in four bytes it is none', 'W 01 4:4 02 00 00', OWN, no(4), ranges='ffffffff 8:8 00')
+case('6: ranges in sec_offset', 'W 01 02 8:0 00', O, rewritten(2, 1, '24>24@0 34>25@1', '01 00', 'absent'), ranges='00')
+case('6: with a high word', 'W 01 02 8:100000000 00', O, untouched(2, 'absent'), ranges='00')
+case('6: a location in sec_offset with a high word', 'W 01 8:100000000 02', '1 24 02/17; 2 24', no(5), locations='00')
+case('6: ref8 with a high word', 'W 01 8:100000022 02 02', '1 24 49/14; 2 24', no(8))
+case('6: ref8', 'W 01 8:22 02 02', '1 24 49/14; 2 24', rewritten(3, 2, '24>24@0 34>33@0', '01 8:21 02'))
+case('6: ref_udata with a high word', 'W 01 9e8080808001 02 02', '1 24 49/15; 2 24', no(8))
+case('6: a sibling with a high word is searched for', 'W 01 1a 02 8:100000023 03 00',
+     '1 24 children 49/11; 2 24 01/14; 3 24', no(8))
+case('6: ref1 that has no room for its new place', 'W 01 1a 02 20 e3 %s 03 00' % ('00' * 227), NINE % '11', no(9))
+case('6: and that has', 'W 01 1a 02 20 e2 %s 03 00' % ('00' * 226), NINE % '11', rewritten(3, 2,
+     '24>24@0 26>26@1 256>255@1', '01 1a 02 ff e2 %s 00' % ('00' * 226)))
+case('6: one byte of ref_udata, 127', 'W 01 1a 02 20 62 %s 03 00' % ('00' * 98), NINE % '15',
+     rewritten(3, 2, '24>24@0 26>26@1 128>127@1', '01 1a 02 7f 62 %s 00' % ('00' * 98)))
+case('6: 128', 'W 01 1a 02 20 63 %s 03 00' % ('00' * 99), NINE % '15', no(9))
+case('6: what is behind the first unit', FIVE64, A5, rewritten(5, 3, '24>24@0 25>25@1 29>28@1 33>29@1',
+     '01 02001c 03 00'), addresses='0100', tail='ffffffff 00')
 
 # ---- 50, and document 02's 3.1: padded numbers, in the order of crates/test_collect/src/main.rt: value, width, length, bytes or none where refused (15)
 PADDED = [(0, 1, 1, '00'), (16, 2, 3, '900000'), (127, 1, 3, '7f0000'), (128, 1, 3, None), (128, 2, 3, '800100'), (0, 0, 3, None), (0, 4, 3, None), (0, 3, 3, '808000'),
@@ -598,26 +740,32 @@ FIRST = bundle_of(FIVE, A5, addresses='0100')
 FIRST_THINNED = 'entries 5 kept 3\n12 R 12\n13 L 13\n16 D -\n17 L 16\n18 D -\n'
 
 
-def ordered_cases(big, before):
-    """What stands in both byte orders."""
+def ordered_cases(big, before, wide=False):
+    """What stands in both byte orders and both formats."""
     def five(**sections):
-        return bundle_of(FIVE, A5, big=big, **sections)
+        return bundle_of(FIVE64 if wide else FIVE, A5, big=big, **sections)
 
-    all_live = 'entries 5 kept 5\n12 R 12\n13 L 13\n16 L 16\n17 L 17\n18 L 18\n'
-    held = [('P4', five(addresses='0101'), all_live),
+    def other(body, declared):
+        return bundle_of('%s %s' % ('W' if wide else 'H', body), declared, big=big)
+
+    first = 24 if wide else 12
+    rows = ['%d %s %d\n' % (first + n, 'R' if n == 0 else 'L', first + n) for n in (0, 1, 4, 5, 6)]
+    live = 'entries 5 kept 5\n' + ''.join(rows)
+    held = [('P4', five(addresses='0101'), live),
             ('P5', five(addresses='0200'), 'refused 6\n'),
             ('P6', five(addresses='01'), 'refused 17\n'),
-            ('no-table', five(), all_live),
-            ('only-terminators', bundle_of('H 0000', A5, big=big), 'entries 0 kept 0\n'),
-            ('dangling', bundle_of('H 01 63 02', G, big=big), 'refused 8\n'),
-            ('named-first', bundle_of('H 01 0c 02', G, big=big), 'entries 2 kept 1\n12 L 12\n14 D -\n')]
+            ('no-table', five(), live),
+            ('only-terminators', other('0000', A5), 'entries 0 kept 0\n'),
+            ('dangling', other('01 63 02', G), 'refused 8\n'),
+            ('named-first', other('01 %02x 02' % first, G),
+             'entries 2 kept 1\n%d L %d\n%d D -\n' % (first, first, first + 2))]
     return [(before + name, data, lines) for name, data, lines in held]
 
 
 def thin_cases():
     room = 65536 - len(bundle_of(FIVE, A5))
     deep, _, dead = nested_unit(17000)
-    return ordered_cases(False, '') + [
+    return ordered_cases(False, '') + ordered_cases(False, '64-', True) + [
         ('left-over', (len(FIRST) - 3).to_bytes(4, 'big') + FIRST[4:] + b'\0', 'bundle\n'),
         ('65536', bundle_of(FIVE, A5, addresses=b'\1\0' + bytes(room - 2)), FIRST_THINNED),
         ('65537', bundle_of(FIVE, A5, addresses=b'\1\0' + bytes(room - 1)), 'bundle\n'),
@@ -625,19 +773,21 @@ def thin_cases():
 
 
 def big_thin_cases():
-    return ordered_cases(True, 'big-') + [
+    return ordered_cases(True, 'big-') + ordered_cases(True, '64-big-', True) + [
         ('big-far', bundle_of('H ' + far(302) + ' 02' * 8, FAR, big=True),
          'entries 9 kept 8\n12 R 12\n301 D -\n' + ''.join('%d L %d\n' % (n, n - 1) for n in range(302, 309)))]
 
 
-FILES = ((False, 'points.cases'), (True, 'points-big.cases'))
+FILES = {key: 'points%s%s.cases' % ('-64' * key[0], '-big' * key[1]) for key in cases}
 
 
 def files():
-    held = [Part('cases made by hand', 'cases', [name for _, name in FILES],
-                 ''.join('== %s\n' % name + ''.join('-- %d\n%s' % (n + 1, lines) for n, (_, _, lines) in enumerate(cases[big]))
-                         for big, name in FILES))]
-    made = {'test_collect/data/' + name: b''.join(data for _, data, _ in cases[big]) for big, name in FILES}
+    def lines_of(held):
+        return ''.join('-- %d\n%s' % (n, lines) for n, (_, _, lines) in enumerate(held, 1))
+
+    held = [Part('cases made by hand', 'cases', list(FILES.values()),
+                 ''.join('== %s\n' % name + lines_of(cases[key]) for key, name in FILES.items()))]
+    made = {'test_collect/data/' + name: b''.join(data for _, data, _ in cases[key]) for key, name in FILES.items()}
     for heading, thin, big in (('bundles through thin', thin_cases(), False), ('big-endian bundles through thin', big_thin_cases(), True)):
         lines = ''.join('== %s.bundle\n%s' % (name, lines) for name, _, lines in thin)
         held.append(Part(heading, 'thin', [name + '.bundle' for name, _, _ in thin], lines, big))
@@ -649,10 +799,14 @@ def files():
 
 if __name__ == '__main__':
     if sys.argv[1:] == ['names']:
-        for n, (why, _, _) in enumerate(cases[False]):
-            print('%d %s' % (n + 1, why))
+        for wide in FORMATS:
+            print('== of the %d-bit format' % (64 if wide else 32))
+            for n, (why, _, _) in enumerate(cases[wide, False]):
+                print('%d %s' % (n + 1, why))
         sys.exit(0)
     wrong = write(files(), sys.argv[1:] == ['check'])
-    print('collect: %d cases in each byte order, %d padded numbers; thin: %d files, %d of them big-endian' %
-          (len(cases[False]), len(PADDED), len(thin_cases() + big_thin_cases()), len(big_thin_cases())))
+    print('collect: in each byte order %d cases of the 32-bit format and %d of the 64-bit one, %d padded numbers; '
+          'thin: %d files, %d of them big-endian' %
+          (*(len(cases[wide, False]) for wide in FORMATS), len(PADDED), len(thin_cases() + big_thin_cases()),
+          len(big_thin_cases())))
     sys.exit(wrong > 0)

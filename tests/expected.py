@@ -3,8 +3,9 @@
 pyelftools reads it. With --big-endian their units are big-endian, else little-endian.
 
 pyelftools has the parsers of abbreviations, entries, forms, expressions and list entries. It knows no DW_FORM_strx and no data16,
-reads strx4 in eight bytes, skips no dwo_id, and has no parser for some operations: these are added below. A unit that it can't
-read is left out and named on standard error, where the counts of what was read follow."""
+reads strx4 in eight bytes and GNU_parameter_ref in as many as an offset, skips no dwo_id, and has no parser for some
+operations: these are added below. A unit that it can't read is left out and named on standard error, where the counts
+of what was read follow."""
 import sys
 from collections import Counter
 from io import BytesIO
@@ -100,6 +101,7 @@ def expression_parser(structs):
     add('GNU_reinterpret', uleb)
     add('xderef_type', structs.Dwarf_uint8(''), uleb)
     add('GNU_variable_value', structs.Dwarf_offset(''))
+    add('GNU_parameter_ref', structs.Dwarf_uint32(''))
     return parser
 
 
@@ -107,11 +109,13 @@ class Reader:
     def __init__(self, parts, big):
         self.data = parts
         self.order = 'big' if big else 'little'
-        self.info = dwarf_info(parts[:4], parts[0][7], big)
+        wide = parts[0][:4] == units.ESCAPE
+        self.offset_size = 8 if wide else 4
+        self.info = dwarf_info(parts[:4], parts[0][15 if wide else 7], big)
         self.unit = unit_of(self.info)
         self.structs = self.unit.structs
         self.parser = expression_parser(self.structs)
-        self.bases = {'loclists': 12, 'rnglists': 12}
+        self.bases = dict.fromkeys(('loclists', 'rnglists'), 20 if wide else 12)
         self.lines = []
 
     def say(self, text, *values):
@@ -203,10 +207,10 @@ class Reader:
 
     def list_of(self, kind, index):
         data, base = self.data[2 if kind == 'loclists' else 3], self.bases[kind]
-        place = base + 4 * index
-        if place + 4 > len(data):
+        place = base + self.offset_size * index
+        if place + self.offset_size > len(data):
             return None
-        return base + int.from_bytes(data[place:place + 4], self.order)
+        return base + int.from_bytes(data[place:place + self.offset_size], self.order)
 
     # ---- entries
 
@@ -285,6 +289,7 @@ def main():
             print('left out %s: %s %s' % (path, type(why).__name__, why), file=sys.stderr)
             continue
         counts['units'] += 1
+        counts['units of the 64-bit format'] += parts[0][:4] == units.ESCAPE
         print('== ' + path)
         print('\n'.join(lines))
     for name in sorted(k for k in counts if not k.startswith(('form ', 'code '))):

@@ -37,9 +37,9 @@ ASKERS += [('a location with ' + name, '34 02/18', 2 ** 64 - 1, partial(in_locat
 
 def lists(*texts):
     """A section of range lists."""
-    out, at = '00' * 12, 4 * len(texts)
+    out, at = 'z', 4 * len(texts)
     for text in texts:
-        out += ' 4:%x ' % at
+        out += ' t:%x ' % at
         at += len(octets(text))
     return out + ''.join(texts)
 

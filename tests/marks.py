@@ -3,21 +3,36 @@
 crates/marks too.
 
 Each case has the point that it is about (one with a dot is document 02's), its bytes (units.py has the notation) and
-the marks that the specification gives, never from a run. It stands in both byte orders, with the same marks. With
-`check` nothing is written, and the files are compared with what would be."""
+the marks that the specification gives, never from a run. It stands in both byte orders, with the same marks, and in
+both formats, with the marks of the same entries (wide.py). With `check` nothing is written, and the files are compared
+with what would be."""
 import sys
 
 import failures
-from units import A5, BIG, CUT, DANGLING, FAR, FIVE, LARGEST, ORDERS, T, Part, asking, bundle_of, far, placed, with_parts, write
+from units import (A5, BIG, CUT, DANGLING, ESCAPE, FAR, FIVE, FIVE64, FORMATS, LARGEST, ORDERS, T, T64, Part, asking,
+                   bundle, bundle_of, far, octets, placed, with_parts,
+                   write)
+from wide import OneFormat, Wide
 
-points = {big: [] for big in ORDERS}  # by the order that is told
+points = {(wide, big): [] for wide in FORMATS for big in ORDERS}  # by the format, and the order that is told
 
 
-def case(why, of_unit, table, expected, locations='', ranges='', addresses='', wrong=False):
-    """expected: marks as `12R 13L`, or `refused N`. wrong: the unit is of the order that is not told."""
+def case(why, of_unit, table, expected, locations='', ranges='', addresses='', wrong=False, both=True):
+    """expected: marks as `12R 13L`, or `refused N`. wrong: the unit is of the order that is not told. A unit `W ..` is
+    of the 64-bit format alone; both says whether another stands in both."""
+    alone = isinstance(of_unit, str) and of_unit.startswith(('W', ESCAPE.hex()))
     for big in ORDERS:
         data = bundle_of(of_unit, table, locations, ranges, addresses, big=big != wrong)
-        points[big].append((why, data, letters(expected)))
+        points[alone, big].append((why, data, letters(expected)))
+        if both and not alone:
+            try:
+                made = Wide(of_unit, table, locations, ranges, big=big != wrong)
+            except OneFormat:
+                continue
+            held = bundle([made.unit, made.table, made.locations, made.ranges, octets(addresses)])
+            if held != data:
+                marks = expected if expected.startswith('refused') else made.marks(expected)
+                points[True, big].append((why, held, letters(marks)))
 
 
 def letters(expected):
@@ -53,10 +68,10 @@ case('14: a nested entry value is stepped over', 'H 01 02 05 a301ff a102 00', V,
 case('14: its indexes are not asked', 'H 01 02 04 a302 a101 00', V, '12R 13D', addresses='0001')
 case('15: an entry is read whole before it is judged', 'H 01 02 00 00', R, 'refused 5', ranges=T + '0200', addresses='02')
 case('16: the section\'s end is an empty list', 'H 01 02 00 00', R, '12R 13D', ranges=T)
-case('16: past it is live', 'H 01 02 00 00', R, '12R 13L', ranges='00' * 12 + ' 4:5')
+case('16: past it is live', 'H 01 02 00 00', R, '12R 13L', ranges='z t:5')
 case('16: so is a table place that is cut', 'H 01 02 00 00', R, '12R 13L', ranges=CUT)
 case('16: locations at the end', 'H 01 00 02 00', L, '12R 14D', locations=T)
-case('16: locations past it', 'H 01 00 02 00', L, 'refused 5', locations='00' * 12 + ' 4:5')
+case('16: locations past it', 'H 01 00 02 00', L, 'refused 5', locations='z t:5')
 case('16: a table place of locations that is cut', 'H 01 00 02 00', L, 'refused 5', locations=CUT)
 case('17: an index whose place is above 64 bits', 'H 01 02 %s 00' % BIG, R, '12R 13L', ranges=T)
 case('17: of locations', 'H 01 %s 02 00' % BIG, L, 'refused 5', locations=T)
@@ -72,16 +87,21 @@ for entries in ('0101', '0102'):
          ranges=entries, addresses='0002')
 case('20: its end entry is dead', 'H 01 02 00000000 00', '1 11 children; 2 2e 55/17', '12R 13D', ranges='00')
 case('20: base_address only is skipped', 'H 01 02 00000000 00', '1 11 children; 2 2e 55/17', '12R 13D', ranges='05' + '11' * 8 + '00')
-case('21: of two bases the last', 'H 01 4:0 4:4 02 00 00', '1 11 children 74/17 74/17; 2 2e 55/23', '12R 21D', ranges='ffffffff 4:4 00')
+case('21: of two bases the last', 'H 01 4:0 4:4 02 00 00', '1 11 children 74/17 74/17; 2 2e 55/23', '12R 21D',
+     ranges='ffffffff t:4 00')
 case('21: a nested unit entry counts, from itself on', 'H 01 02 00 03 4:4 02 00 00', '1 11 children; 2 2e 55/23; 3 11 74/17', '12R 13D 15D 20L',
-     ranges='4:0 4:4 040102 00 4:4')
-case('21: only a compile unit\'s own', 'H 01 4:4 02 00 00', '1 24 children 74/17; 2 2e 55/23', '12R 17D', ranges='4:0 4:4 04010200 00000000 0000')
+     ranges='4:0 t:4 04010200 |ffffffff t:4')
+case('21: only a compile unit\'s own', 'H 01 4:4 02 00 00', '1 24 children 74/17; 2 2e 55/23', '12R 17D',
+     ranges='4:0 t:4 04010200 |ffffffff t:0 0000')
 case('22: low_pc in a reference form', 'H 01 02 0c 00', '1 11 children; 2 2e 11/11', '12L 13L')
 case('23: the root test before the references', 'H 01 02 00000000 00 00', '1 11 children; 2 2e 49/10 55/23', 'refused 5', ranges=T + 'ff')
-case('24: an expression before the next list entry', 'H 01 00 02 00', L, 'refused 7', locations=T + '05059a00000000ff')
-case('25: a dangling reference in a location list', 'H 01 00 02', '1 24 02/22; 2 24', '12R 14D', locations=T + '050398 2:63 00')
-case('57: one that names an entry', 'H 01 00 02', '1 24 02/22; 2 24', '12R 14L', locations=T + '050398 2:e 00')
-case('a list under another name counts for nothing', 'H 01 00 02', '1 24 40/22; 2 24', '12R 14D', locations=T + '050398 2:e 00')
+case('24: an expression before the next list entry', 'H 01 00 02 00', L, 'refused 7',
+     locations=T + '05 05|09 9a o:0 ff')
+case('25: a dangling reference in a location list', 'H 01 00 02', '1 24 02/22; 2 24', '12R 14D',
+     locations=T + '050398 2@63 00')
+case('57: one that names an entry', 'H 01 00 02', '1 24 02/22; 2 24', '12R 14L', locations=T + '050398 2@e 00')
+case('a list under another name counts for nothing', 'H 01 00 02', '1 24 40/22; 2 24', '12R 14D',
+     locations=T + '050398 2@e 00')
 case('26: call2 with 0 dangles', 'H 01 03 98 2:0 02', X, '12R 17D')
 case('26: convert with 0 is no reference', 'H 01 02 a800 02', X, '12R 16D')
 case('26: so with a padded 0', 'H 01 03 a88000 02', X, '12R 17D')
@@ -215,8 +235,8 @@ case('12.3: its length alone', TURNED % '4:12', A5, 'refused 1', addresses='0100
 case('12.3: a length of 0xfffffff0', '4:fffffff0 2:5 01 08 4:0', A5, 'refused 2')
 case('12.3: the same, told wrongly', '4:fffffff0 2:5 01 08 4:0', A5, 'refused 1', wrong=True)
 case('12.3: a length of 0xf0ffffff', '4:f0ffffff 2:5 01 08 4:0', A5, 'refused 1')
-case('12.3: the same, told wrongly', '4:f0ffffff 2:5 01 08 4:0', A5, 'refused 2', wrong=True)
-case('12.3: a length of all ones, told wrongly', 'ffffffff', A5, 'refused 2', wrong=True)
+case('12.3: the same, told wrongly', '4:f0ffffff 2:5 01 08 4:0', A5, 'refused 2', wrong=True, both=False)
+case('12.3, 6.1: a length of all ones, told wrongly', 'ffffffff', A5, 'refused 1', wrong=True)
 case('12.3: an empty section, told wrongly', '', A5, '', wrong=True)
 case('12.3: a unit with no entries, told wrongly', 'H', A5, 'refused 1', wrong=True)
 case('12: unit type 5', 'H5 01 020019 03 03 020118 00', A5, '20R 21L 24D 25L 26D', addresses='0100')
@@ -236,17 +256,22 @@ for kind, size in (('H', 8), ('H4', 4)):
         case('12: low_pc, a direct address%s' % number, kind + ' 01 02%s00' % number, P % '01', '12R 13L')
         for entry in ('05%s 040001', '06%s' + number, '07%s 01'):
             case('12: range list kind %s,%s' % (entry[:2], number), kind + ' 01 02 00 00', R, '12R 13L', ranges=T + entry % number + '00')
-case('12: a list by its offset', 'H 01 02 00 00', R, '12R 13D', ranges='00' * 12 + ' 4:104 ' + 'ff' * 256 + '00')
-case('12: by the second of two', 'H 01 02 01 00', R, '12R 13D', ranges='00' * 12 + ' 4:9 4:8 00 ff')
-case('12: by the first', 'H 01 02 00 00', R, 'refused 5', ranges='00' * 12 + ' 4:9 4:8 00 ff')
-case('12: a base of its own', 'H 01 4:104 02 00 00', '1 11 children 74/17; 2 2e 55/23', '12R 17D', ranges='ff' * 260 + ' 4:4 00')
+case('12: a list by its offset', 'H 01 02 00 00', R, '12R 13D', ranges='z t:104 ' + 'ff' * 256 + '00')
+case('12: by the second of two', 'H 01 02 01 00', R, '12R 13D', ranges='z t:9 t:8 00 ff')
+case('12: by the first', 'H 01 02 00 00', R, 'refused 5', ranges='z t:9 t:8 00 ff')
+case('12: a base of its own', 'H 01 4:104 02 00 00', '1 11 children 74/17; 2 2e 55/23', '12R 17D',
+     ranges='ff' * 260 + ' t:4 00')
 case('12: ranges in sec_offset', 'H 01 02 4:102 00', '1 11 children; 2 2e 55/17', '12R 13D', ranges='ff' * 258 + '00')
-case('12: a list of locations by its offset', 'H 01 00 02', '1 24 02/22; 2 24', '12R 14L', locations='00' * 12 + ' 4:104 ' + 'ff' * 256 + '05 03 98 2:e 00')
-case('12: with a base of its own', 'H 01 4:104 00 02', '1 11 8c/17 02/22; 2 24', '12R 18L', locations='ff' * 260 + ' 4:4 05 05 99 4:12 00')
-case('12: a location in sec_offset', 'H 01 4:102 02', '1 24 02/17; 2 24', '12R 17L', locations='ff' * 258 + '05 05 fa 4:11 00')
+case('12: a list of locations by its offset', 'H 01 00 02', '1 24 02/22; 2 24', '12R 14L',
+     locations='z t:104 ' + 'ff' * 256 + '05 03 98 2@e 00')
+case('12: with a base of its own', 'H 01 4:104 00 02', '1 11 8c/17 02/22; 2 24', '12R 18L',
+     locations='ff' * 260 + ' t:4 05 05 99 4@12 00')
+case('12: a location in sec_offset', 'H 01 4:102 02', '1 24 02/17; 2 24', '12R 17L',
+     locations='ff' * 258 + '05 05 fa 4@11 00')
 case('12: every kind of location list entry with addresses', 'H 01 00 02 02', '1 24 02/22; 2 24', '12R 14L 15L',
-     locations=T + '06 8:1 07 8:1 8:2 03 98 2:e 08 8:1 05 03 98 2:f 00')
-case('12: and of four bytes', 'H4 01 00 02 02', '1 24 02/22; 2 24', '12R 14L 15L', locations=T + '06 4:1 07 4:1 4:2 03 98 2:e 08 4:1 05 03 98 2:f 00')
+     locations=T + '06 8:1 07 8:1 8:2 03 98 2@e 08 8:1 05 03 98 2@f 00')
+case('12: and of four bytes', 'H4 01 00 02 02', '1 24 02/22; 2 24', '12R 14L 15L',
+     locations=T + '06 4:1 07 4:1 4:2 03 98 2@e 08 4:1 05 03 98 2@f 00')
 for form in ('10', '20'):
     answer = {'10': 'refused 7', '20': '12R %dD' % (13 + 8)}[form]
     case('12: form %s' % form, 'H 01 %s 02' % {'10': '4:c', '20': '8:c'}[form], '1 24 49/%s; 2 24' % form, answer)
@@ -254,15 +279,53 @@ for code in ('9a 4:11', 'a0 4:11 00', 'f2 4:11 00', 'fd 4:11'):
     case('12: a section-absolute operand', 'H 01 %02x %s 02' % (6 if code.endswith('00') else 5, code), X, 'refused 7')
 
 
+# ---- document 02, point 6: all cases stand in both formats. Here are those of the 64-bit one alone: what is as wide as
+# an offset, and what is not
+case('6.1: the escape alone', 'ffffffff', A5, 'refused 1')
+case('6.1: seven bytes of a length', 'ffffffff 00000000000000', A5, 'refused 1')
+case('6.1: a length past the section, before the version', 'ffffffff 8:d 2:3 01 08 8:0', A5, 'refused 1')
+case('6.1: a length whose sum with 12 is above 64 bits',
+     'ffffffff 8:fffffffffffffff8 2:5 01 08 8:0 01 02001d 03 03 02011c 00', A5, 'refused 1')
+case('6.1: a reserved length', '4:fffffffe 8:16 2:5 01 08 8:0 01 02001d 03 03 02011c 00', A5, 'refused 2')
+case('6.2: a small unit of the 64-bit format', 'W', A5, '')
+case('6.2: the five-entry unit', FIVE64, A5, '24R 25L 28D 29L 30D', addresses='0100')
+case('6: unit type 5', 'W5 01 020025 03 03 020124 00', A5, '32R 33L 36D 37L 38D', addresses='0100')
+case('6: an abbreviation offset of 2^32', 'ffffffff 8:d 2:5 01 08 8:100000000 03', A5, 'refused 3')
+OLDER, OWN, LIST = '1 11 children; 2 2e 55/17', '1 11 children 74/17; 2 2e 55/23', '1 24 02/22; 2 24'
+case('6.3: a list offset that wraps', 'W 01 02 00 00', R, '24R 25L', ranges='00' * 20 + ' 8:ffffffffffffffec 00')
+case('6.3: of locations', 'W 01 00 02', LIST, 'refused 5', locations='00' * 20 + ' 8:ffffffffffffffec')
+case('6.3: an index of 2^61', 'W 01 02 808080808080808020 00', R, '24R 25L', ranges=T64 + '00')
+case('6.4: a location in data8', 'W 01 8:9', '1 34 02/07', '24R')
+case('6.4: ranges in data8', 'W 01 02 8:0 00', '1 11 children; 2 2e 55/07', '24R 25L')
+case('6.4: ranges in data4', 'W 01 02 4:0 00', '1 11 children; 2 2e 55/06', '24R 25L')
+case('6.5: GNU_parameter_ref', 'W 01 05 fa 4:1f 02', X, '24R 31L')
+for code, more in (('9a', ''), ('a0', '00'), ('f2', '7f'), ('fd', '')):
+    case('6.5: an offset in operation %s' % code, 'W 01 %02x %s 8:0 %s 02' % (9 + len(more) // 2, code, more), X,
+         'refused 7')
+    case('6.5: of four bytes', 'W 01 %02x %s 4:0 %s 02' % (5 + len(more) // 2, code, more), X, 'refused 5')
+case('6.5: ref_addr', 'W 01 8:0', '1 24 49/10', 'refused 7')
+case('6.5: ref_addr of four bytes', 'W 01 4:0', '1 24 49/10', 'refused 4')
+case('6.5: ref_sup4 keeps its width', 'W 01 4:0', '1 24 3a/1c', '24R')
+case('6: an offset in a table with a high word', 'W 01 02 00 00', R, '24R 25L', ranges='00' * 20 + ' 8:100000008 00')
+case('6.11: a base of its own', 'W 01 8:4 02 00 00', OWN, '24R 33D', ranges='ffffffff 8:8 00')
+case('6.11: with a high word', 'W 01 8:100000004 02 00 00', OWN, '24R 33L', ranges='ffffffff 8:8 00')
+case('6: ranges in sec_offset with a high word', 'W 01 02 8:100000000 00', OLDER, '24R 25L', ranges='00')
+case('6: ref8 with a high word', 'W 01 8:100000021 02', '1 24 49/14; 2 24', '24R 33D')
+case('6: ref8', 'W 01 8:21 02', '1 24 49/14; 2 24', '24R 33L')
+
+
 def main():
-    _, data, lines = points[False][0]
+    _, data, lines = points[False, False][0]
     made, held = {'marks/stdin': data, 'marks/stdout': lines.encode()}, []
-    for big, heading, name in ((False, 'units made by hand', 'points.bundles'), (True, 'big-endian units made by hand', 'points-big.bundles')):
-        held.append(Part(heading, 'marks', [name], placed(name, [(data, lines) for _, data, lines in points[big]]), big))
-        made['test_marks/data/' + name] = b''.join(data for _, data, _ in points[big])
+    for (wide, big), cases in points.items():
+        name = 'points%s%s.bundles' % ('-64' * wide, '-big' * big)
+        heading = '%sunits made by hand%s' % ('big-endian ' * big, ', 64-bit format' * wide)
+        held.append(Part(heading, 'marks', [name], placed(name, [(data, lines) for _, data, lines in cases]), big))
+        made['test_marks/data/' + name] = b''.join(data for _, data, _ in cases)
     made.update(with_parts('test_marks', held))
     wrong = write(made, sys.argv[1:] == ['check'])
-    print('marks: %d points in each byte order' % len(points[False]))
+    print('marks: in each byte order %d points of the 32-bit format, %d of the 64-bit one' %
+          tuple(len(points[wide, False]) for wide in FORMATS))
     sys.exit(wrong > 0)
 
 

@@ -7,13 +7,24 @@ specification and from DWARF 5, never from a run; some also the lines that thin 
 written, and the files are compared with what would be.
 
 units.py has the notation. Expected lines stand with `|` between them; `unit N` stands for the header line of a unit `H`
-that ends at N. A case whose bytes follow a byte order stands in both, with the same lines: in big-endian its name has
-`big-` before it."""
+that ends at N, `wide N` for that of a unit `W`. A case whose bytes follow a byte order stands in both,
+    with the same lines: in big-endian its name has
+`big-` before it. Cases of headers, of what is as wide as an offset,
+    and of lists stand in both formats (wide.py): in the
+64-bit one their names have `64-` before them."""
+import re
 import sys
 from functools import partial
 
-from units import A5, BIG, CUT, FAR, FIVE, ORDERS, T, Part, bundle_of, counted, entry_values, far, octets, ordered, uleb, with_parts, write
+from units import (A5, BIG, CUT, FAR, FIVE, FIVE64, ORDERS, T, T64, Part, bundle, bundle_of, counted, entry_values, far,
+                   octets, ordered, uleb, unit,
+                   with_parts, write)
+from wide import OneFormat, Wide
 
+IN_BOTH = re.compile(
+    'five-entries|header-|p04|form-(01|0e|10|1[3-5]|1[78]|1[cdf]|24)(-cut|-32)?$|indirect-(0e|10|17|1[cdf])$|p01|'
+    'p1[5-7]|p2[1345]|p30|p34|p38|p4[024]|location|range|sec-offset|absolute|operations$|operations-32|p12-|unit-end|'
+    'string-end|references-2049-absolute')
 cases = {big: [] for big in ORDERS}  # by the order that is told
 thinned = {big: [] for big in ORDERS}
 
@@ -27,6 +38,8 @@ def lines(text):
     for line in text.split('|'):
         if line.startswith('unit ') and len(line.split()) == 2:
             line = 'unit type 1 address_size 8 abbreviations 0 first 12 end ' + line.split()[1]
+        elif line.startswith('wide '):
+            line = 'unit type 1 address_size 8 abbreviations 0 first 24 end ' + line.split()[1]
         out.append(line)
     return out
 
@@ -41,6 +54,7 @@ def raw(name, point, data, expected, thin=None, big=False):
 def case(name, point, of_unit, table, expected, locations='', ranges='', addresses='', thin=None):
     """A bundle by its parts."""
     raw(name, point, bundle_of(of_unit, table, locations, ranges, addresses), expected, thin)
+    widened(name, point, of_unit, table, expected, locations, ranges, addresses)
     if any(ordered(part) for part in (of_unit, locations, ranges)):
         turned(name, point, of_unit, table, expected, locations, ranges, addresses)
 
@@ -48,6 +62,20 @@ def case(name, point, of_unit, table, expected, locations='', ranges='', address
 def turned(name, point, of_unit, table, expected, locations='', ranges='', addresses='', thin=None):
     """The same in big-endian."""
     raw('big-' + name, point, bundle_of(of_unit, table, locations, ranges, addresses, big=True), expected, thin, True)
+    widened(name, point, of_unit, table, expected, locations, ranges, addresses, True)
+
+
+def widened(name, point, of_unit, table, expected, locations='', ranges='', addresses='', big=False):
+    """The same in the 64-bit format, where that is another."""
+    if not IN_BOTH.match(name):
+        return
+    try:
+        made = Wide(of_unit, table, locations, ranges, big=big)
+        data = bundle([made.unit, made.table, made.locations, made.ranges, octets(addresses)])
+        if made.unit != unit(of_unit, big):
+            raw('64-' + 'big-' * big + name, point, data, '|'.join(made.printed(lines(expected))), big=big)
+    except OneFormat:
+        pass
 
 
 def again(name, point, expected, big, thin=None):
@@ -128,7 +156,6 @@ raw('bundle-65537', 'one more than the largest', bundle_of(FIVE, A5, addresses=b
 header('header-empty', 'an empty section', '', 'empty', thin='entries 0 kept 0')
 header('header-3-bytes', 'a cut length', '120000', 'refused 1')
 header('header-fffffff0', '5: a length of 0xfffffff0, and nothing behind it', '4:fffffff0', 'refused 2')
-header('header-ffffffff', '5: the 64-bit format', 'ffffffff 0000000000000000', 'refused 2')
 header('header-ffffffef', '5: the largest length reaches past the section', '4:ffffffef 2:5', 'refused 1')
 header('header-past-wrong-version', '5: past the section, before the version is looked at', '4:3 2:4', 'refused 1')
 header('header-one-too-far', 'a length that is one too large', '4:9 2:5 01 08 4:0', 'refused 1')
@@ -312,13 +339,13 @@ single('p01-ranges', '1: ranges in data4 name no list', '55/06', '00000000', 'va
 single('p01-location', '1: nor does a location', '02/06', '4:1', 'value 1')
 range_list('p15', '15: startx_endx whose end is cut', T + '02 00', 'list at 16|list refused 5')
 range_list('p16-at-end', '16: an offset of the section\'s length is an empty list', T, 'list at 16|end')
-range_list('p16-past', '16: one more is not resolved', '00' * 12 + ' 4:5', 'list unresolved')
+range_list('p16-past', '16: one more is not resolved', 'z t:5', 'list unresolved')
 range_list('p16-cut', '16: a table place of three bytes', CUT, 'list unresolved')
 location_list('p16-locations-at-end', '16: the same for locations', T, 'list at 16|end')
-location_list('p16-locations-past', '16', '00' * 12 + ' 4:5', 'list unresolved')
+location_list('p16-locations-past', '16', 'z t:5', 'list unresolved')
 location_list('p16-locations-cut', '16', CUT, 'list unresolved')
-range_list('p16-before', '16: an offset of 0 is the table itself', '00' * 12 + ' 4:0', 'list at 12|end')
-range_list('p16-largest', '16: the largest offset', '00' * 12 + ' 4:ffffffff', 'list unresolved')
+range_list('p16-before', '16: an offset of 0 is the table itself', 'z t:0', 'list at 12|end')
+range_list('p16-largest', '16: the largest offset', 'z t:ffffffff', 'list unresolved')
 for form, what in (('23', 'ranges'), ('22', 'locations')):
     at, index, decimal = ('55' if form == '23' else '02'), BIG, 2 ** 62
     case('p17-' + what, '17: index 2^62, times four above 64 bits', 'H 01' + index, '1 24 %s/%s' % (at, form),
@@ -327,12 +354,13 @@ for form, what in (('23', 'ranges'), ('22', 'locations')):
          '1 11 %s/17 %s/%s' % ('74' if form == '23' else '8c', at, form),
          'unit 27|entry 12 depth 0 code 1 tag 17| attribute %d form 23 value 4294967295| attribute %d form %d value 18446744073709551615|'
          '  list unresolved' % (116 if form == '23' else 140, int(at, 16), int(form, 16)), locations=T, ranges=T)
-location_list('p24', '24: entry by entry', T + '05 05 9a00000000 ff', 'list at 16|kind 5 0 0 bytes 18 to 23|expression refused 7|list refused 5')
+location_list('p24', '24: entry by entry', T + '05 05|09 9a o:0 ff',
+    'list at 16|kind 5 0 0 bytes 18 to 23|expression refused 7|list refused 5')
 case('p38', '38: sec_offset under indirect', 'H 01 17 00000000', '1 2e 55/16',
      'unit 18|entry 12 depth 0 code 1 tag 46| attribute 85 form 23 value 0|  list at 0|  end', ranges='00')
 case('location-sec-offset', 'a location\'s sec_offset is from the section\'s start', 'H 01 4:2', '1 34 02/17',
      'unit 17|entry 12 depth 0 code 1 tag 52| attribute 2 form 23 value 2|  list at 2|  kind 5 0 0 bytes 4 to 7|  reference at 1 to 12 width 2|  end',
-     locations='ffff 05 03 98 2:c 00')
+     locations='ffff 05 03 98 2@c 00')
 case('location-sec-offset-past', 'and past its end is not resolved', 'H 01 4:4', '1 34 02/17',
      'unit 17|entry 12 depth 0 code 1 tag 52| attribute 2 form 23 value 4|  list unresolved', locations='050196')
 case('sec-offset-other', 'a sec_offset of another attribute names no list', 'H 01 00000000', '1 11 10/17',
@@ -342,11 +370,11 @@ case('p21-bases', '21: the last base in an entry counts, for the whole entry and
      'unit 28|entry 12 depth 0 code 2 tag 36| attribute 85 form 35 value 0|  list unresolved|'
      'entry 14 depth 0 code 1 tag 17 children| attribute 85 form 35 value 0|  list at 8|  kind 4 1 2|  end| attribute 2 form 34 value 0|  list at 16|  end|'
      ' attribute 116 form 23 value 0| attribute 116 form 23 value 4|entry 25 depth 1 code 2 tag 36| attribute 85 form 35 value 0|  list at 8|  kind 4 1 2|  end|'
-     'terminator 27 depth 1', locations=T, ranges='ffffffff 4:4 04 01 02 00')
+     'terminator 27 depth 1', locations=T, ranges='ffffffff t:4 04 01 02 00')
 case('p21-indirect', '21: a base in sec_offset under indirect counts; a base of another tag does not',
      'H 02 00000000 01 17 4:4 00 03', '1 11 8c/16 02/22; 2 24 8c/17; 3 24',
      'unit 25|entry 12 depth 0 code 2 tag 36| attribute 140 form 23 value 0|entry 17 depth 0 code 1 tag 17| attribute 140 form 23 value 4|'
-     ' attribute 2 form 34 value 0|  list at 8|  end|entry 24 depth 0 code 3 tag 36', locations='ffffffff 4:4 00')
+     ' attribute 2 form 34 value 0|  list at 8|  end|entry 24 depth 0 code 3 tag 36', locations='ffffffff t:4 00')
 case('p30', '30: a base in data4 does not count', 'H 01 00000000 00', '1 11 74/06 55/23',
      'unit 18|entry 12 depth 0 code 1 tag 17| attribute 116 form 6 value 0| attribute 85 form 35 value 0|  list at 16|  end', ranges=T)
 range_list('range-kinds', 'every kind of range list entry',
@@ -360,8 +388,8 @@ range_list('range-kind-8', 'an unknown kind', T + '04 00 00 08 00 00', 'list at 
 for text in ('01', '02 80', '03 00', '04 00 80', '05 00000000000000', '06 0000000000000000 00000000000000', '07 0000000000000000'):
     range_list('range-cut-' + text[:2], 'a list that breaks off inside an entry', T + text, 'list at 16|list refused 5')
 location_list('location-kinds', 'every kind of location list entry',
-              T + '01 05 02 8001 07 01 96 03 01 8000 03 98 2:c 04 10 20 00 05 02 a80c 06 8:8000000000000001'
-              ' 07 8:2 8:3 05 99 4:d 08 8:4 ff01 8100 96 00 ff',
+              T + '01 05 02 8001 07 01 96 03 01 8000 03 98 2@c 04 10 20 00 05 02 a8 1@c 06 8:8000000000000001'
+              ' 07 8:2 8:3 05 99 4@d 08 8:4 ff01 8100 96 00 ff',
               'list at 16|kind 1 5 0|kind 2 128 7 bytes 23 to 24|kind 3 1 0 bytes 29 to 32|reference at 1 to 12 width 2|kind 4 16 32 bytes 36 to 36|'
               'kind 5 0 0 bytes 38 to 40|reference at 1 to 12 width 1|kind 6 9223372036854775809 0|kind 7 2 3 bytes 67 to 72|'
               'reference at 1 to 13 width 4|kind 8 4 255 bytes 85 to 86|end')
@@ -477,6 +505,8 @@ def operations(name, size):
         body = b''.join(b'\1' + counted(expression(big)) for expression in held)
         data = bundle_of('%s %s' % ({8: 'H', 4: 'H4'}[size], body.hex()), '1 24 02/18', big=big)
         raw('big-' * big + name, 'every operation', data, '|'.join([head] + out), big=big)
+        widened(name, 'every operation', '%s %s' % ({8: 'H', 4: 'H4'}[size], body.hex()), '1 24 02/18',
+        '|'.join([head] + out), big=big)
 
 
 def every_unknown():
@@ -524,7 +554,7 @@ case('p23', '23: ref_addr before a broken range list', 'H 01 02 00000000 00 00',
      CHILD % (20, 46) + ' attribute 73 form 16 value 0| attribute 85 form 35 value 0|  list at 16|  list refused 5|terminator 19 depth 1', ranges=T + 'ff')
 case('p25', '25: a dangling reference in a location list', 'H 01 00 02', '1 24 02/22; 2 24',
      'unit 15|' + ENTRY + '| attribute 2 form 34 value 0|  list at 16|  kind 5 0 0 bytes 18 to 21|  reference at 1 to 99 width 2|  end|'
-     'entry 14 depth 0 code 2 tag 36', locations=T + '05 03 98 2:63 00')
+     'entry 14 depth 0 code 2 tag 36', locations=T + '05 03 98 2@63 00')
 case('p32', '32: siblings', 'H 01 0e 02 10 03 00 03 00', '1 24 children 01/11; 2 24 children 01/11; 3 24',
      'unit 20|entry 12 depth 0 code 1 tag 36 children| attribute 1 form 17 value 14|entry 14 depth 1 code 2 tag 36 children| attribute 1 form 17 value 16|'
      'entry 16 depth 2 code 3 tag 36|terminator 17 depth 2|entry 18 depth 1 code 3 tag 36|terminator 19 depth 1')
@@ -551,7 +581,7 @@ again('big-five-entries', '0.4, 12.3: a big-endian unit, told wrongly', 'refused
 again('five-entries', '12.3: a little-endian unit, told wrongly', 'refused 1', True, 'refused 1')
 again('big-header-fffffff0', '12.3: a length of 0xfffffff0, told wrongly', 'refused 1', False)
 again('header-fffffff0', '12.3', 'refused 1', True)
-again('header-ffffffff', '12.3: a length of all ones', 'refused 2', True)
+again('64-header-0', '12.3, 6.1: the 64-bit format, and a length of 0', 'refused 1', True)
 again('header-empty', 'an empty section', 'empty', True)
 case('p12-version', '12.3: the version alone is of the other order', '4:12 2:500 01 08 4:0 01 020011 03 03 020110 00', A5, 'refused 2')
 case('p12-type-5', '12: unit type 5 keeps its id as it is', '4:11 2:5 05 04 4:0 1122334455667788 03', A5,
@@ -577,12 +607,96 @@ case('p12-far', '12: references of each width', 'H ' + far(301) + ' 02' * 8, FAR
      ' attribute 3 form 3 bytes 45 to 301|' + '|'.join('entry %d depth 0 code 2 tag 36' % n for n in range(301, 309)))
 expression('p12-nested', '12: operands in entry values', 'a3 0d 99 4:1020304 f3 06 fa 4:5060708 96',
            'reference at 3 to 16909060 width 4|  reference at 10 to 84281096 width 4')
-range_list('p12-range-offset', '12: a list by its offset', '00' * 12 + ' 4:104 ' + 'ff' * 256 + '00', 'list at 272|end')
-location_list('p12-location-offset', '12: a list by its offset', '00' * 12 + ' 4:104 ' + 'ff' * 256 + '05 03 98 2:102 00',
+range_list('p12-range-offset', '12: a list by its offset', 'z t:104 ' + 'ff' * 256 + '00', 'list at 272|end')
+location_list('p12-location-offset', '12: a list by its offset', 'z t:104 ' + 'ff' * 256 + '05 03 98 2@102 00',
               'list at 272|kind 5 0 0 bytes 274 to 277|reference at 1 to 258 width 2|end')
 case('p12-second-offset', '12: the second of two lists', 'H 01 01', '1 24 55/23',
      'unit 14|' + ENTRY + '| attribute 85 form 35 value 1|  list at 276|  kind 6 16909060 84281096|  end',
-     ranges='00' * 12 + ' 4:0 4:108 ' + 'ff' * 256 + '06 8:1020304 8:5060708 00')
+     ranges='z t:0 t:108 ' + 'ff' * 256 + '06 8:1020304 8:5060708 00')
+
+
+# ---- document 02, point 6: the 64-bit format
+case('64-five-entries', '0.4: P1 in the 64-bit format', FIVE64, A5,
+     'wide 34|entry 24 depth 0 code 1 tag 17 children|entry 25 depth 1 code 2 tag 46| attribute 17 form 27 value 0|'
+     ' attribute 73 form 17 value 29|entry 28 depth 1 code 3 tag 36|entry 29 depth 1 code 3 tag 36|'
+     'entry 30 depth 1 code 2 tag 46| attribute 17 form 27 value 1| attribute 73 form 17 value 28|'
+     'terminator 33 depth 1', addresses='01 00',
+     thin='entries 5 kept 3|24 R 24|25 L 25|28 D -|29 L 28|30 D -')
+thinned[True].append(('64-big-five-entries', printed('64-big-five-entries', ['entries 5 kept 3', '24 R 24', '25 L 25',
+    '28 D -', '29 L 28', '30 D -'])))
+again('64-five-entries', '12.3: told wrongly', 'refused 1', True, 'refused 1')
+again('64-big-five-entries', '12.3: told wrongly', 'refused 1', False, 'refused 1')
+header('escape', '6.1: the escape alone', 'ffffffff', 'refused 1')
+header('escape-cut', '6.1: seven bytes of a length', 'ffffffff 00000000000000', 'refused 1')
+header('escape-past', '6.1: a length past the section, before the version', 'ffffffff 8:d 2:3 01 08 8:0', 'refused 1')
+header('escape-version', '6.1: the version then', 'ffffffff 8:c 2:3 01 08 8:0', 'refused 2')
+header('escape-sum', '6.1: a length whose sum with 12 is above 64 bits', 'ffffffff 8:fffffffffffffff8 2:5 01 08 8:0',
+    'refused 1')
+header('escape-high-word', '6.1: a length with a high word', 'ffffffff 8:10000000c 2:5 01 08 8:0', 'refused 1')
+for length in (0xfffffff1, 0xfffffffe):
+    header('header-%x' % length, '6.1: a reserved length', '4:%x 8:c 2:5 01 08 8:0' % length, 'refused 2')
+header('wide-abbreviations', '6.5: an abbreviation offset with a high word', 'ffffffff 8:d 2:5 01 08 8:100000000 03',
+    'refused 3')
+WIDE_ENTRY = 'entry 24 depth 0 code 1 tag 36'
+for form in ('0e', '10', '17', '1d', '1f'):
+    case('wide-form-' + form, '6.5: form 0x%s' % form, 'W 01 8:8182838485868788', '1 24 03/' + form,
+         'wide 33|%s| attribute 3 form %d value %d' % (WIDE_ENTRY, int(form, 16), 0x8182838485868788))
+    case('wide-form-%s-four' % form, '6.5: and of four bytes', 'W 01 4:81828384', '1 24 03/' + form,
+         'wide 29|refused 4')
+case('wide-form-1c', '6.5: ref_sup4 keeps its width', 'W 01 4:81828384', '1 24 03/1c',
+     'wide 29|%s| attribute 3 form 28 value %d' % (WIDE_ENTRY, 0x81828384))
+for name, pair in (('ranges', '55/07'), ('location', '02/07')):
+    case('wide-data8-' + name, '6.4: %s in data8' % name, 'W 01 8:0', '1 24 ' + pair,
+         'wide 33|%s| attribute %d form 7 value 0' % (WIDE_ENTRY, int(pair[:2], 16)))
+UNRESOLVED = 'wide %d|entry 24 depth 0 code 1 tag %d|%s|  list unresolved'
+for name, at, base, form in (('ranges', '55', '74', '23'), ('locations', '02', '8c', '22')):
+    value = ' attribute %d form %d value %%d' % (int(at, 16), int(form, 16))
+    lists = {'wraps': '00' * 20 + ' 8:ffffffffffffffec 00', 'high-word': '00' * 20 + ' 8:100000008 00'}
+    for why, section in lists.items():
+        case('wide-%s-%s' % (name, why), '6.3: an offset of a list', 'W 01 00', '1 24 %s/%s' % (at, form),
+             UNRESOLVED % (26, 36, value % 0), **{name: section})
+    case('wide-%s-index' % name, '6.3: an index of 2^61', 'W 01 808080808080808020', '1 24 %s/%s' % (at, form),
+         UNRESOLVED % (34, 36, value % 2 ** 61),
+         **{name: T64})
+    case('wide-%s-base' % name, '6.11: a base with a high word', 'W 01 8:100000004 00', '1 11 %s/17 %s/%s' % (base, at,
+         form),
+         UNRESOLVED % (34, 17, ' attribute %d form 23 value %d|' % (int(base, 16),
+         2 ** 32 + 4) + value % 0), **{name: 'ffffffff 8:8 00'})
+    case('wide-%s-sec-offset' % name, '6: an offset with a high word', 'W 01 8:100000000', '1 24 %s/17' % at,
+         UNRESOLVED % (33, 36, ' attribute %d form 23 value %d' % (int(at, 16), 2 ** 32)), **{name: '00'})
+for code, tail in (('9a', ''), ('a0', '00'), ('f2', '7f'), ('fd', '')):
+    size = 9 + len(tail) // 2
+    for why, number, width, refused in (('', '8:100000018', size, 7), ('-four', '4:18', size - 4, 5)):
+        case('wide-absolute-%s%s' % (code, why), '6.5: an offset in an expression', 'W 01 %02x %s %s %s' % (width, code,
+             number, tail), '1 24 02/18',
+             'wide %d|%s| attribute 2 form 24 bytes 26 to %d|  expression refused %d' % (26 + width, WIDE_ENTRY,
+             26 + width, refused))
+case('wide-call4', '6.5: call4 and GNU_parameter_ref keep their width', 'W 01 0d 99 4:18 fa 4:18 98 2:18', '1 24 02/18',
+     'wide 39|%s| attribute 2 form 24 bytes 26 to 39|  reference at 1 to 24 width 4|  reference at 6 to 24 width 4|'
+     '  reference at 11 to 24 width 2' % WIDE_ENTRY)
+
+# 6.8: references of an expression by the sizes that are told, in the order of crates/test_readers/src/main.rt
+SIZES = (0, 1, 2, 3, 4, 5, 7, 8, 9, 16, 255)
+
+
+def told_lines():
+    out = []
+
+    def told(size, width, what, answer, big=False):
+        answer = answer if size in (4, 8) and width in (4, 8) else 'refused 2'
+        out.append('%d and %d of %s%s: %s\n' % (size, width, what, ', big-endian' * big, answer))
+
+    for n in SIZES:
+        for size, width in ((8, n), (4, n), (n, 8)):
+            told(size, width, 'nothing', 'references 0')
+    told(3, 3, 'no operation', 'refused 5')
+    for big in ORDERS:
+        for size in (4, 8):
+            for width in (4, 8):
+                told(size, width, 'call_ref in nine bytes', {4: 'refused 5', 8: 'refused 7'}[width], big)
+                told(size, width, 'call_ref in five bytes', {4: 'refused 7', 8: 'refused 5'}[width], big)
+                told(size, width, 'an address of eight bytes', {4: 'refused 5', 8: 'references 1'}[size], big)
+    return ''.join(out)
 
 
 def main():
@@ -594,13 +708,16 @@ def main():
         made.update({'test_readers/data/%s.bundle' % name: data for name, _, data, _ in cases[big] if data is not None})
     for big, heading in ((False, 'some of them through thin'), (True, 'some of them through thin, big-endian')):
         held.append(Part(heading, 'thin', [n + '.bundle' for n, _ in thinned[big]], ''.join(text for _, text in thinned[big]), big))
+    held.append(Part('references of an expression, by the sizes told', None, [], told_lines()))
     made.update(with_parts('test_readers', held))
     # the program that reads one bundle: it has the five-entry unit, in big-endian
     made.update({'dump/args': b'--big-endian\n', 'dump/stdin': bundle_of(FIVE, A5, addresses='01 00', big=True),
                  'dump/stdout': ''.join(line + '\n' for line in lines(FIVE_LINES)).encode()})
     wrong = write(made, sys.argv[1:] == ['check'])
     through = len(thinned[False] + thinned[True])
-    print('points: %d cases in little-endian, %d in big-endian, %d through thin' % (len(cases[False]), len(cases[True]), through))
+    wide = sum(name.startswith('64-') for held in cases.values() for name, _, _, _ in held)
+    print('points: %d cases in little-endian, %d in big-endian, %d of them of the 64-bit format, %d through thin' %
+          (len(cases[False]), len(cases[True]), wide, through))
     sys.exit(wrong > 0)
 
 

@@ -3,9 +3,16 @@
 Bytes are hexadecimal text, or bytes as they stand. In text `W:N` is a field that follows the unit's byte order: the
 number N, hexadecimal, in W bytes. What depends on the order in another way is a function of it (True is big-endian).
 `H ..` is a unit by the bytes behind its header, which gets the right length: `H` has type 1 and address size 8, `H4`
-address size 4, `H5` type 5, `HA` abbreviations from 0x102 on. Abbreviations are `code tag children name/form ..`, with `;` between them;
-`name/form/bytes` has implicit_const's value. A5 are those of the five-entry unit. T is a list section of 12 zeros and
-a table of one offset, 4; its list follows. CUT is T without its last byte."""
+address size 4, `H5` type 5, `HA` abbreviations from 0x102 on; `W`, `W4`, `W5`, `WA` are the same in the 64-bit format.
+Abbreviations are `code tag children name/form ..`, with `;` between them; `name/form/bytes` has implicit_const's value.
+A5 are those of the five-entry unit.
+
+A section of lists is for both formats, and wide.py makes it for the 64-bit one: `z` is its header, zeros; `t:N` an
+offset in its table,
+    by where the list stands in the 32-bit format (`t-:N` one that lacks its last byte); `o:N` any field
+as wide as an offset; `W@N` a number of W bytes that names the place N of the unit; `A|B` the bytes A in the 32-bit
+format, B in the 64-bit one. T is such a header and a table of one offset; its list follows. CUT is T without its last
+byte; T64 and CUT64 are these of the 64-bit format."""
 import importlib.util
 import os
 import subprocess
@@ -15,12 +22,19 @@ TESTS = os.path.dirname(os.path.abspath(__file__))
 CRATES = os.path.join(TESTS, '..', 'crates')
 A5 = '01 11 01 00 00 02 2e 00 11 1b 49 11 00 00 03 24 00 00 00 00'
 FIVE = 'H 01 020011 03 03 020110 00'
-T = '00' * 12 + ' 4:4 '
-CUT = '00' * 12 + '040000'
+FIVE64 = 'W 01 02001d 03 03 02011c 00'
+T = 'z t:4 '
+CUT = 'z t-:4'
+T64 = '00' * 20 + ' 8:8 '
+CUT64 = '00' * 20 + '08000000000000'
 BIG = '808080808080808040'  # 2^62
 LARGEST = 'ffffffffffffffffff01'  # 2^64 - 1
 HEADERS = {'H': '2:5 01 08 4:0', 'H4': '2:5 01 04 4:0', 'H5': '2:5 05 08 4:0 1122334455667788', 'HA': '2:5 01 08 4:102'}
+HEADERS.update({kind.replace('H', 'W'): text.replace('4:', '8:') for kind, text in HEADERS.items()})
+ESCAPE = b'\xff' * 4  # before a length of the 64-bit format
 ORDERS = (False, True)  # little-endian, big-endian
+FORMATS = (False, True)  # 32-bit, 64-bit
+BOTH = '|'  # between the bytes of both formats
 
 
 def need(*packages):
@@ -48,16 +62,27 @@ def octets(text, big=False):
         return text
     if callable(text):
         return text(big)
-    out = b''
-    for word in text.split():
-        width, colon, number = word.partition(':')
-        out += field(int(width), int(number, 16), big) if colon else bytes.fromhex(word)
-    return out
+    return b''.join(octets_of(word, big) for word in tokens(text))
+
+
+def tokens(text):
+    return text.replace('@ ', '@').split()
+
+
+def octets_of(word, big):
+    width, colon, number = word.replace('@', ':').partition(':')
+    if word == 'z':
+        return bytes(12)
+    if width in ('t', 'o'):
+        return field(4, int(number, 16), big)
+    if width == 't-':
+        return field(4, int(number, 16), big)[:-1]
+    return field(int(width), int(number, 16), big) if colon else bytes.fromhex(word.partition(BOTH)[0])
 
 
 def ordered(text):
     """Whether there are fields in it, beside those of a header."""
-    return callable(text) or isinstance(text, str) and ':' in text
+    return callable(text) or isinstance(text, str) and bool(set(text) & set(':@'))
 
 
 def uleb(n):
@@ -97,14 +122,18 @@ def table(text):
 
 def header(body, kind='H', big=False):
     rest = octets(HEADERS[kind], big) + body
-    return field(4, len(rest), big) + rest
+    return (ESCAPE + field(8, len(rest), big) if kind.startswith('W') else field(4, len(rest), big)) + rest
 
 
 def unit(text, big=False):
-    """A unit by `H ..`; its bytes behind H as bytes, or as a function; any other text as it stands."""
+    """A unit by `H ..`; its bytes behind H as bytes, or as a function; `cut N ..` the first N bytes of one; any other
+    text as it stands."""
     if not isinstance(text, str):
         return header(octets(text, big), 'H', big)
     kind, _, body = text.partition(' ')
+    if kind == 'cut':
+        size, _, whole = body.partition(' ')
+        return unit(whole, big)[:int(size)]
     return header(octets(body, big), kind, big) if kind in HEADERS else octets(text, big)
 
 

@@ -1,7 +1,7 @@
-//! Makes cases, the same for the same seed. README.md names the families. A number of a fixed width is written by the case's byte order, and of two
-//! orders the same dice make the same case.
+//! Makes cases, the same for the same seed. README.md names the families. A number of a fixed width is written by the case's byte order, and an offset
+//! is as wide as its format has it; of two orders the same dice make the same case.
 
-use crate::order::{fit, fixed, fixed_bytes, order, Order};
+use crate::order::{fixed, Layout};
 use std::collections::BTreeSet;
 
 /// Families that are made of nothing given, in the order of README.md.
@@ -153,15 +153,15 @@ fn resolve(target: Target, places: &Places) -> u64 {
     }
 }
 
-fn render(order: Order, pieces: &[Piece], places: &Places, out: &mut Vec<u8>) {
+fn render(layout: Layout, pieces: &[Piece], places: &Places, out: &mut Vec<u8>) {
     for piece in pieces {
         match piece {
             Piece::Bytes(bytes) => out.extend(bytes),
-            Piece::Fixed(target, width) => out.extend(fixed_bytes(order, resolve(*target, places), *width)),
+            Piece::Fixed(target, width) => out.extend(layout.bytes(resolve(*target, places), *width)),
             Piece::Uleb(target, more) => out.extend(uleb(resolve(*target, places), *more)),
             Piece::Counted(inner, more) => {
                 let mut held = Vec::new();
-                render(order, inner, places, &mut held);
+                render(layout, inner, places, &mut held);
                 out.extend(uleb(held.len() as u64, *more));
                 out.extend(held);
             }
@@ -213,7 +213,7 @@ impl Style {
 
 struct Maker<'a> {
     dice: &'a mut Dice,
-    order: Order,
+    layout: Layout,
     style: Style,
     address_size: usize,
     /// Indices that the address table has.
@@ -249,14 +249,19 @@ impl Maker<'_> {
     }
 
     fn fixed(&self, n: u64, width: usize) -> Vec<u8> {
-        fixed_bytes(self.order, n, width)
+        self.layout.bytes(n, width)
+    }
+
+    /// An offset's number: in the 64-bit format mostly, but not always, one that four bytes hold.
+    fn offset(&mut self, n: u64) -> u64 {
+        if self.layout.wide && self.dice.rare(8) { n | high(self.dice) } else { n }
     }
 
     fn target(&mut self) -> Target {
         if self.fault(8) || self.dangling && self.dice.rare(4) {
             return match self.dice.below(3) {
                 0 => Target::Number(self.dice.number()),
-                1 => Target::Number(12 + self.dice.below(64) as u64),
+                1 => Target::Number((self.layout.first() + self.dice.below(64)) as u64),
                 _ => Target::Item(self.dice.below(self.entries.len())),
             };
         }
@@ -268,10 +273,10 @@ impl Maker<'_> {
         }
     }
 
-    /// An index into a table of lists: in it, seldom not. Four times an index stays below 2^64, but where differences are wanted.
+    /// An index into a table of lists: in it, seldom not. Four, or eight, times an index stays below 2^64, but where differences are wanted.
     fn index(&mut self, count: usize, seldom: usize) -> u64 {
         if self.style.far && self.dice.rare(4) {
-            let near = u64::MAX >> 2;
+            let near = u64::MAX >> if self.layout.wide { 3 } else { 2 };
             return near.wrapping_add(self.dice.below(8) as u64).wrapping_sub(self.dice.of(&[1, 3, 4, 40]));
         }
         if self.dice.rare(seldom) {
@@ -335,7 +340,8 @@ impl Maker<'_> {
             0x03 => bytes(self.address()),
             0x08 | 0x09 | 0x15 | 0x94 | 0x95 => bytes(self.dice.bytes(1)),
             0x0a | 0x0b | 0x28 | 0x2f => bytes(self.dice.bytes(2)),
-            0x0c | 0x0d | 0x9a | 0xfd => bytes(self.dice.bytes(4)),
+            0x0c | 0x0d => bytes(self.dice.bytes(4)),
+            0x9a | 0xfd => bytes(self.dice.bytes(self.layout.word())),
             0x0e | 0x0f => bytes(self.dice.bytes(8)),
             0x10 | 0x23 | 0xa2 | 0xfc => bytes(uleb(n, more)),
             0x93 => bytes(uleb(if listed { n } else { n >> 3 }, more)),
@@ -355,7 +361,7 @@ impl Maker<'_> {
                 bytes(self.dice.bytes(held));
             }
             0xa0 | 0xf2 => {
-                bytes(self.dice.bytes(4));
+                bytes(self.dice.bytes(self.layout.word()));
                 bytes(sleb(n as i64));
             }
             0xa1 | 0xfb => bytes(uleb(self.address_index(), more)),
@@ -413,8 +419,11 @@ impl Maker<'_> {
     fn attribute(&mut self, tag: u16) -> (u16, u16) {
         let style = self.style;
         let listed = style.listed;
-        let location = |d: &mut Dice| if listed && d.rare(8) { 0x06 } else { d.of(&[0x18, 0x18, 0x18, 0x22, 0x22, 0x17, 0x0a, 0x16]) };
-        let ranges = |d: &mut Dice| if listed && d.rare(8) { 0x06 } else { d.of(&[0x23, 0x23, 0x23, 0x17, 0x16, 0x0b]) };
+        // What the original takes for an offset, or, in the 64-bit format, perhaps what it takes for one in the other.
+        let wide = self.layout.wide;
+        let data = move |d: &mut Dice| if wide { d.of(&[0x06, 0x07, 0x07]) } else { 0x06 };
+        let location = |d: &mut Dice| if listed && d.rare(8) { data(d) } else { d.of(&[0x18, 0x18, 0x18, 0x22, 0x22, 0x17, 0x0a, 0x16]) };
+        let ranges = |d: &mut Dice| if listed && d.rare(8) { data(d) } else { d.of(&[0x23, 0x23, 0x23, 0x17, 0x16, 0x0b]) };
         let d = &mut *self.dice;
         let kind = if style.asks() && !d.rare(4) {
             match tag {
@@ -469,7 +478,10 @@ impl Maker<'_> {
             }
             0x0b | 0x0c => out.push(Piece::Bytes(vec![n as u8])),
             0x05 => out.push(Piece::Bytes(self.dice.bytes(2))),
-            0x06 | 0x0e | 0x10 | 0x1c | 0x1d | 0x1f | 0x1f20 | 0x1f21 => out.push(Piece::Bytes(self.fixed(n, 4))),
+            0x06 | 0x1c => out.push(Piece::Bytes(self.fixed(n, 4))),
+            0x0e | 0x10 | 0x1d | 0x1f | 0x1f20 | 0x1f21 => out.push(Piece::Bytes(self.layout.offset(n))),
+            // Where the original takes it for an offset, one that may be right.
+            0x07 if self.layout.wide && matches!(spec.name, 0x02 | 0x55) => out.push(Piece::Bytes(self.fixed(n, 8))),
             0x07 | 0x20 | 0x24 => out.push(Piece::Bytes(self.dice.bytes(8))),
             0x1e => out.push(Piece::Bytes(self.dice.bytes(16))),
             0x08 => {
@@ -518,12 +530,12 @@ impl Maker<'_> {
             }
             0x17 => {
                 let target = match spec.name {
-                    0x74 | 0x8c => Target::Number(12),
+                    0x74 | 0x8c => Target::Number(self.offset(self.layout.table() as u64)),
                     0x55 if !self.dice.rare(20) => Target::Ranges(self.dice.below(self.ranges)),
                     0x02 if !self.dice.rare(40) => Target::Locations(self.dice.below(self.locations)),
                     _ => Target::Number(self.dice.number()),
                 };
-                out.push(Piece::Fixed(target, 4));
+                out.push(Piece::Fixed(target, self.layout.word()));
             }
             0x18 => {
                 let mut inner = self.expression(0);
@@ -619,23 +631,33 @@ impl Maker<'_> {
     }
 }
 
-/// A list section: header, table of offsets from behind the header, lists.
-fn list_section(dice: &mut Dice, order: Order, address_size: usize, lists: &[Vec<u8>], places: &mut Vec<usize>) -> Vec<u8> {
+/// A high word that is not 0: the sign's bit, the lowest, all of them.
+fn high(dice: &mut Dice) -> u64 {
+    dice.of(&[1 << 63, 1 << 32, 0xffff_ffff << 32, 1 << 40, 0x7fff_ffff << 32])
+}
+
+/// A list section: header, table of offsets from behind the header, lists. Where the lists are far, an offset of eight bytes may have a high
+/// word, or name, by its sum with the base above 64 bits, a place in the section.
+fn list_section(dice: &mut Dice, layout: Layout, address_size: usize, far: bool, lists: &[Vec<u8>], places: &mut Vec<usize>) -> Vec<u8> {
     let mut body: Vec<u8> = Vec::new();
     let mut table: Vec<u8> = Vec::new();
     for list in lists {
         let past = if dice.rare(100) { dice.below(3) } else { 0 };
-        table.extend(fixed_bytes(order, (4 * lists.len() + body.len() + past) as u64, 4));
-        places.push(12 + 4 * lists.len() + body.len());
+        let mut offset = (layout.word() * lists.len() + body.len() + past) as u64;
+        if far && layout.wide && dice.rare(4) {
+            offset = if dice.rare(2) { offset | high(dice) } else { (dice.below(24) as u64).wrapping_sub(layout.table() as u64) };
+        }
+        table.extend(layout.offset(offset));
+        places.push(layout.table() + layout.word() * lists.len() + body.len());
         body.extend(list);
     }
-    let mut out = vec![0; 4];
-    out.extend(fixed_bytes(order, 5, 2));
+    let mut out = vec![0; layout.version()];
+    out.extend(layout.bytes(5, 2));
     out.extend([address_size as u8, 0]);
-    out.extend(fixed_bytes(order, lists.len() as u64, 4));
+    out.extend(layout.bytes(lists.len() as u64, 4));
     out.extend(table);
     out.extend(body);
-    fit(order, &mut out);
+    layout.fit(&mut out);
     out
 }
 
@@ -700,14 +722,14 @@ fn shape(dice: &mut Dice, style: Style, abbreviations: &[Abbreviation], size: us
     shape
 }
 
-fn structured(dice: &mut Dice, order: Order, style: Style) -> Parts {
+fn structured(dice: &mut Dice, layout: Layout, style: Style) -> Parts {
     let address_size = if dice.rare(4) { 4 } else { 8 };
     let addresses = if style.no_table { 0 } else { dice.of(&[1, 2, 3, 6, 140]) };
     let dangling = dice.rare(12);
     let wild = style.trees || dice.rare(6);
     let mut maker = Maker {
         dice,
-        order,
+        layout,
         style,
         address_size,
         addresses,
@@ -774,7 +796,7 @@ fn structured(dice: &mut Dice, order: Order, style: Style) -> Parts {
     let dice = maker.dice;
 
     let split = dice.rare(3);
-    let first = if split { 20 } else { 12 };
+    let first = layout.first() + if split { 8 } else { 0 };
     let mut places = Places { items: vec![first; items.len()], ..Places::default() };
     let mut body = Vec::new();
     for _ in 0..12 {
@@ -782,7 +804,7 @@ fn structured(dice: &mut Dice, order: Order, style: Style) -> Parts {
         let mut now = Vec::new();
         for pieces in &items {
             now.push(first + body.len());
-            render(order, pieces, &places, &mut body);
+            render(layout, pieces, &places, &mut body);
         }
         if now == places.items {
             break;
@@ -795,25 +817,25 @@ fn structured(dice: &mut Dice, order: Order, style: Style) -> Parts {
         .iter()
         .map(|pieces| {
             let mut out = Vec::new();
-            render(order, pieces, &places, &mut out);
+            render(layout, pieces, &places, &mut out);
             out
         })
         .collect();
-    let location_lists = list_section(dice, order, address_size, &located, &mut places.locations);
-    let range_lists = list_section(dice, order, address_size, &lists, &mut places.ranges);
+    let location_lists = list_section(dice, layout, address_size, style.far, &located, &mut places.locations);
+    let range_lists = list_section(dice, layout, address_size, style.far, &lists, &mut places.ranges);
     body.clear();
     for pieces in &items {
-        render(order, pieces, &places, &mut body);
+        render(layout, pieces, &places, &mut body);
     }
 
     let before = if dice.rare(10) { dice.below(5) } else { 0 };
-    let mut unit = vec![0; 4];
-    unit.extend(fixed_bytes(order, 5, 2));
+    let mut unit = vec![0; layout.version()];
+    unit.extend(layout.bytes(5, 2));
     unit.extend([if split { 5 } else { 1 }, address_size as u8]);
-    unit.extend(fixed_bytes(order, before as u64, 4));
-    unit.extend(dice.bytes(first - 12));
+    unit.extend(layout.offset(before as u64));
+    unit.extend(dice.bytes(first - layout.first()));
     unit.extend(body);
-    fit(order, &mut unit);
+    layout.fit(&mut unit);
     if dice.rare(10) {
         let more = dice.below(20);
         unit.extend(dice.bytes(more));
@@ -869,7 +891,7 @@ fn cut(table: &mut Vec<u8>, keep: usize) {
 }
 
 /// One to three changes anywhere.
-fn damage(dice: &mut Dice, order: Order, parts: &mut Parts) {
+fn damage(dice: &mut Dice, layout: Layout, parts: &mut Parts) {
     for _ in 0..dice.of(&[1, 1, 1, 2, 3]) {
         let which = dice.of(&[0, 0, 0, 0, 1, 1, 2, 3, 4]);
         let part = &mut parts[which];
@@ -879,7 +901,8 @@ fn damage(dice: &mut Dice, order: Order, parts: &mut Parts) {
             continue;
         }
         // Behind the header mostly: what stands there is seldom met otherwise.
-        let place = if which == 0 && length > 12 && !dice.rare(6) { 12 + dice.below(length - 12) } else { dice.below(length) };
+        let first = layout.first();
+        let place = if which == 0 && length > first && !dice.rare(6) { first + dice.below(length - first) } else { dice.below(length) };
         match dice.below(7) {
             0 | 1 => part[place] ^= 1 << dice.below(8),
             2 => part[place] = dice.next() as u8,
@@ -895,30 +918,36 @@ fn damage(dice: &mut Dice, order: Order, parts: &mut Parts) {
         }
     }
     // The length field fits again, mostly.
-    if parts[0].len() >= 4 && !dice.rare(6) {
-        fit(order, &mut parts[0]);
+    if parts[0].len() >= layout.version() && !dice.rare(6) {
+        layout.fit(&mut parts[0]);
     }
 }
 
 /// A unit with one fault of a chosen kind: 1 and 2 in the header, 3 in the abbreviations, 4 to 8 as the refusals.
-fn refused(dice: &mut Dice, order: Order) -> Parts {
+fn refused(dice: &mut Dice, layout: Layout) -> Parts {
     let fault = 1 + dice.below(8) as u8;
     let style = Style { fault, lists: fault == 5 && dice.rare(2), expressions: fault >= 5 && dice.rare(2), ..Style::default() };
-    let mut parts = structured(dice, order, style);
+    let mut parts = structured(dice, layout, style);
+    let (version, abbreviations) = (layout.version(), layout.abbreviations());
     match fault {
         1 => {
-            let keep = dice.below(parts[0].len().min(24));
+            let keep = dice.below(parts[0].len().min(12 + layout.first()));
             parts[0].truncate(keep);
-            if keep >= 4 && dice.rare(2) {
-                fit(order, &mut parts[0]);
+            if keep >= version && dice.rare(2) {
+                layout.fit(&mut parts[0]);
             }
         }
         2 => match dice.below(4) {
-            0 => parts[0][..4].copy_from_slice(&fixed_bytes(order, 0xffff_fff0 + dice.below(16) as u64, 4)),
-            1 => parts[0][4..6].copy_from_slice(&fixed_bytes(order, dice.of(&[0, 1, 2, 3, 4, 6]), 2)),
-            2 => parts[0][6] = dice.of(&[0, 2, 3, 4, 6, 7]),
-            _ => parts[0][7] = dice.of(&[0, 1, 2, 3, 16]),
+            0 => parts[0][..4].copy_from_slice(&layout.bytes(0xffff_fff0 + dice.below(16) as u64, 4)),
+            1 => parts[0][version..version + 2].copy_from_slice(&layout.bytes(dice.of(&[0, 1, 2, 3, 4, 6]), 2)),
+            2 => parts[0][version + 2] = dice.of(&[0, 2, 3, 4, 6, 7]),
+            _ => parts[0][version + 3] = dice.of(&[0, 1, 2, 3, 16]),
         },
+        // The right offset but for its high word.
+        3 if layout.wide && dice.rare(4) => {
+            let offset = fixed(layout.order, &parts[0][abbreviations..layout.first()]) | high(dice);
+            parts[0][abbreviations..layout.first()].copy_from_slice(&layout.offset(offset));
+        }
         3 => match dice.below(3) {
             0 => {
                 let keep = dice.below(parts[1].len());
@@ -936,9 +965,9 @@ fn refused(dice: &mut Dice, order: Order) -> Parts {
             }
         },
         4 if dice.rare(2) => {
-            let keep = 12 + dice.below(parts[0].len() - 11);
+            let keep = layout.first() + dice.below(parts[0].len() + 1 - layout.first());
             parts[0].truncate(keep);
-            fit(order, &mut parts[0]);
+            layout.fit(&mut parts[0]);
         }
         6 => match dice.below(3) {
             0 => {
@@ -958,12 +987,13 @@ fn refused(dice: &mut Dice, order: Order) -> Parts {
 
 const A5: [u8; 20] = [1, 0x11, 1, 0, 0, 2, 0x2e, 0, 0x11, 0x1b, 0x49, 0x11, 0, 0, 3, 0x24, 0, 0, 0, 0];
 
-fn of_body(order: Order, body: &[u8], table: &[u8]) -> Parts {
-    let mut unit = vec![0; 4];
-    unit.extend(fixed_bytes(order, 5, 2));
-    unit.extend([1, 8, 0, 0, 0, 0]);
+fn of_body(layout: Layout, body: &[u8], table: &[u8]) -> Parts {
+    let mut unit = vec![0; layout.version()];
+    unit.extend(layout.bytes(5, 2));
+    unit.extend([1, 8]);
+    unit.extend(layout.offset(0));
     unit.extend(body);
-    fit(order, &mut unit);
+    layout.fit(&mut unit);
     [unit, A5.to_vec(), vec![], vec![], table.to_vec()]
 }
 
@@ -985,7 +1015,7 @@ impl Small {
     }
 
     /// The case at hand; then the next one.
-    fn case(&mut self, order: Order) -> Parts {
+    fn case(&mut self, layout: Layout) -> Parts {
         let mut body = Vec::new();
         let mut references = self.references.iter();
         for &kind in &self.kinds {
@@ -993,10 +1023,10 @@ impl Small {
                 0 => body.push(0),
                 1 => body.push(1),
                 2 => body.push(3),
-                _ => body.extend([2, kind - 3, 11 + *references.next().unwrap() as u8]),
+                _ => body.extend([2, kind - 3, (layout.first() - 1 + *references.next().unwrap()) as u8]),
             }
         }
-        let parts = of_body(order, &body, &[self.table & 1, self.table >> 1]);
+        let parts = of_body(layout, &body, &[self.table & 1, self.table >> 1]);
         self.step();
         parts
     }
@@ -1031,39 +1061,40 @@ impl Small {
 }
 
 /// Bodies of any bytes that mean something over the five-entry unit's abbreviations.
-fn bytes(dice: &mut Dice, order: Order) -> Parts {
+fn bytes(dice: &mut Dice, layout: Layout) -> Parts {
     let length = dice.below(14);
     let body: Vec<u8> = (0..length)
         .map(|_| match dice.below(8) {
             0 => dice.next() as u8,
-            1 | 2 => 12 + dice.below(16) as u8,
+            1 | 2 => (layout.first() + dice.below(16)) as u8,
             _ => dice.below(4) as u8,
         })
         .collect();
     let count = dice.below(4);
     let table = address_table(dice, count);
-    of_body(order, &body, &table)
+    of_body(layout, &body, &table)
 }
 
 /// Trees and entry values, one in the other, many levels deep.
-fn deep(dice: &mut Dice, order: Order) -> Parts {
+fn deep(dice: &mut Dice, layout: Layout) -> Parts {
     let levels = dice.of(&[50, 300, 1000]);
     if dice.rare(2) {
         let mut body = vec![1; levels];
-        let last = 12 + levels as u8;
-        body.extend([2, 0, dice.of(&[12, 13, last])]);
+        let first = layout.first();
+        body.extend([2, 0, dice.of(&[first, first + 1, first + levels]) as u8]);
         body.extend(vec![3; dice.below(3)]);
         body.extend(vec![0; levels - dice.of(&[0, 0, 1])]);
         let table = address_table(dice, 1);
-        return of_body(order, &body, &table);
+        return of_body(layout, &body, &table);
     }
-    let (two, four) = (fixed_bytes(order, 12, 2), fixed_bytes(order, 14, 4));
+    let first = layout.first() as u8;
+    let (two, four) = (layout.bytes(first.into(), 2), layout.bytes(u64::from(first) + 2, 4));
     let mut expression = match dice.below(6) {
         0 => [&[0x98], &two[..]].concat(),
         1 => [&[0x99], &four[..]].concat(),
-        2 => vec![0xa8, 12],
+        2 => vec![0xa8, first],
         3 => vec![0xff],
-        4 => vec![0x9a, 0, 0, 0, 0],
+        4 => [&[0x9a], &layout.offset(0)[..]].concat(),
         _ => vec![],
     };
     for _ in 0..levels {
@@ -1076,29 +1107,35 @@ fn deep(dice: &mut Dice, order: Order) -> Parts {
     body.extend(uleb(expression.len() as u64, 0));
     body.extend(expression);
     body.extend([2, 2, 0]);
-    let mut parts = of_body(order, &body, &[1]);
+    let mut parts = of_body(layout, &body, &[1]);
     parts[1] = vec![1, 0x11, 1, 0x40, 0x18, 0, 0, 2, 0x24, 0, 0, 0, 0];
     parts
 }
 
-/// Headers: every field right or wrong, at every width, of every version that the original knows, cut anywhere.
-fn headers(dice: &mut Dice, order: Order) -> Parts {
-    let mut parts = if dice.rare(2) { of_body(order, &[1, 3, 2, 0, 13, 0], &[1]) } else { structured(dice, order, Style::default()) };
-    let size = if parts[0][6] == 5 { 20 } else { 12 };
+/// Headers: every field right or wrong, of every version that the original knows, cut anywhere.
+fn headers(dice: &mut Dice, layout: Layout) -> Parts {
+    let first = layout.first() as u8;
+    let mut parts =
+        if dice.rare(2) { of_body(layout, &[1, 3, 2, 0, first + 1, 0], &[1]) } else { structured(dice, layout, Style::default()) };
+    let version_at = layout.version();
+    let size = layout.first() + if parts[0][version_at + 2] == 5 { 8 } else { 0 };
     let body = parts[0][size..].to_vec();
-    let offset = fixed(order, &parts[0][8..12]);
+    let mut offset = fixed(layout.order, &parts[0][layout.abbreviations()..layout.first()]);
     let version = if dice.rare(3) { dice.of(&[0, 1, 2, 3, 4, 6, 0x105, 0xffff]) } else { dice.of(&[5, 5, 5, 4]) };
     let kind = if dice.rare(2) { dice.of(&[0, 2, 3, 4, 6, 7, 0x80, 0xff]) } else { dice.of(&[1, 5]) };
-    let address_size = if dice.rare(4) { dice.of(&[0, 1, 2, 3, 16, 255]) } else { parts[0][7] };
-    let wide = dice.rare(8);
-    let mut fields = fixed_bytes(order, version, 2);
-    let offset = fixed_bytes(order, offset, if wide { 8 } else { 4 });
+    let address_size = if dice.rare(4) { dice.of(&[0, 1, 2, 3, 16, 255]) } else { parts[0][version_at + 3] };
+    // Far behind the abbreviations; in the 64-bit format by the high word alone.
+    if dice.rare(8) {
+        offset |= if layout.wide { high(dice) } else { 1 << 31 };
+    }
+    let mut fields = layout.bytes(version, 2);
+    let offset = layout.offset(offset);
     if version >= 5 {
         fields.extend([kind, address_size]);
         fields.extend(offset);
         // A type's signature and its offset, or an identity.
         let more = match kind {
-            2 | 6 => if wide { 16 } else { 12 },
+            2 | 6 => 8 + layout.word(),
             4 | 5 => 8,
             _ => 0,
         };
@@ -1109,17 +1146,29 @@ fn headers(dice: &mut Dice, order: Order) -> Parts {
     }
     fields.extend(body);
     let mut length = fields.len() as u64;
+    let mut escape = 0xffff_ffff;
     match dice.below(6) {
         0 => length = dice.below(fields.len() + 2) as u64,
-        1 => length = dice.below(24) as u64,
-        2 if dice.rare(4) => length = 0xffff_fff0 + dice.below(16) as u64,
+        1 => length = dice.below(12 + layout.first()) as u64,
+        2 if dice.rare(4) => {
+            let reserved = 0xffff_fff0 + dice.below(16) as u64;
+            match dice.below(if layout.wide { 4 } else { 1 }) {
+                // In front, in either format.
+                0 if layout.wide => escape = reserved,
+                0 => length = reserved,
+                // Right but for the high word; about 2^64, so that the sum with 12 is above it or not.
+                1 => length |= high(dice),
+                2 => length = u64::MAX - dice.below(16) as u64,
+                _ => length = dice.of(&[reserved, 1 << 32, 1 << 63, u64::MAX >> 1]),
+            }
+        }
         _ => {}
     }
-    let mut unit = if wide { vec![0xff; 4] } else { vec![] };
-    unit.extend(fixed_bytes(order, length, if wide { 8 } else { 4 }));
+    let mut unit = if layout.wide { layout.bytes(escape, 4) } else { vec![] };
+    unit.extend(layout.offset(length));
     unit.extend(fields);
     if dice.rare(5) {
-        let keep = dice.below(unit.len().min(26));
+        let keep = dice.below(unit.len().min(14 + layout.first()));
         unit.truncate(keep);
     }
     parts[0] = unit;
@@ -1127,7 +1176,7 @@ fn headers(dice: &mut Dice, order: Order) -> Parts {
 }
 
 /// Siblings whose first target dies, so that a later place is searched for: one that fits the width, or lies just behind what fits.
-fn siblings(dice: &mut Dice, order: Order) -> Parts {
+fn siblings(dice: &mut Dice, layout: Layout) -> Parts {
     let form = dice.of(&[0x11, 0x11, 0x11, 0x12, 0x13, 0x14, 0x15, 0x15, 0x15, 0x18]);
     let width = match form {
         0x18 => 2,
@@ -1146,32 +1195,33 @@ fn siblings(dice: &mut Dice, order: Order) -> Parts {
     };
     // The owner; a kept parent with the dead target and a live child of `held` bytes; then what is found, no deeper than the owner.
     let early = dice.rare(5);
-    let first = 12 + 1 + usize::from(early) + width;
+    let named = layout.first() as u8;
+    let first = layout.first() + 1 + usize::from(early) + width;
     let dead = first + 1;
     let found = most + 1 + dice.below(5) - dice.below(6);
     let held = found.saturating_sub(first + 6);
     let target = if dice.rare(8) { dead + 1 } else { dead };
     let mut body = vec![1];
     if early {
-        body.push(dice.of(&[12, 99]));
+        body.push(dice.of(&[named, 99]));
     }
     body.extend(match form {
         0x18 => vec![1, dice.of(&[0x96, 0xff])],
         0x15 => uleb(target as u64, width - 1),
-        _ => fixed_bytes(order, target as u64, width),
+        _ => layout.bytes(target as u64, width),
     });
     body.extend([3, 2, 4]);
-    body.extend(fixed_bytes(order, held as u64, 2));
+    body.extend(layout.bytes(held as u64, 2));
     body.extend(vec![0; held + 1]);
     body.push(0);
     if dice.rare(4) {
-        body.extend([5, dice.of(&[12, 99])]);
+        body.extend([5, dice.of(&[named, 99])]);
     }
     if !dice.rare(6) {
         body.extend([6, 0]);
     }
     body.push(0);
-    let mut parts = of_body(order, &body, &FAILS);
+    let mut parts = of_body(layout, &body, &FAILS);
     parts[1] = vec![1, 0x24, 0];
     if early {
         parts[1].extend([0x49, 0x11]);
@@ -1184,26 +1234,27 @@ fn siblings(dice: &mut Dice, order: Order) -> Parts {
 }
 
 /// About as many entries as the C call's own table holds, or about as many references.
-fn many(dice: &mut Dice, order: Order) -> Parts {
+fn many(dice: &mut Dice, layout: Layout) -> Parts {
     let count = dice.of(&[2030, 2045, 2046, 2046, 2047, 2047, 2048, 2060]);
     let references = dice.of(&[0, 1, 3, 4, 4, 4, 5]);
     let live = dice.of(&[2, 40, 1000]);
-    let named = if dice.rare(8) { 12 } else { 13 };
+    let first = layout.first() as u64;
+    let named = if dice.rare(8) { first } else { first + 1 };
     let mut body = vec![1];
     for _ in 0..count {
         body.push(if dice.rare(live) { 3 } else { 2 });
-        body.extend(fixed_bytes(order, named, 2).repeat(references));
+        body.extend(layout.bytes(named, 2).repeat(references));
     }
     // One more entry, with the references that are missing, or one more or less.
     let missing = 8190usize.saturating_sub(count * references) + dice.below(5);
     if missing < 200 {
-        let expression = [&[0x98], &fixed_bytes(order, 13, 2)[..]].concat().repeat(missing);
+        let expression = [&[0x98], &layout.bytes(first + 1, 2)[..]].concat().repeat(missing);
         let place = if dice.rare(2) { 1 } else { body.len() };
         let held = [vec![4], uleb(expression.len() as u64, 0), expression].concat();
         body.splice(place..place, held);
     }
     body.push(0);
-    let mut parts = of_body(order, &body, &FAILS);
+    let mut parts = of_body(layout, &body, &FAILS);
     parts[1] = vec![1, 0x11, 1, 0, 0];
     for (code, tag, more) in [(2, 0x24, &[][..]), (3, 0x2e, &[0x11, 0x19])] {
         parts[1].extend([code, tag, 0]);
@@ -1216,12 +1267,13 @@ fn many(dice: &mut Dice, order: Order) -> Parts {
 }
 
 /// A number that is short, or long in one of the ways that matter: padded, just within 64 bits, just above, unfinished or too long.
-fn edge(dice: &mut Dice) -> Vec<u8> {
+fn edge(dice: &mut Dice, layout: Layout) -> Vec<u8> {
+    let first = layout.first();
     if dice.rare(3) {
-        return vec![dice.below(20) as u8];
+        return vec![dice.below(first + 8) as u8];
     }
     let width = dice.of(&[1, 2, 2, 3, 3, 4, 5, 8, 9, 9, 10, 10, 10, 11]);
-    let low = dice.of(&[0x80, 0x80, 0x80, 0xff, 0x81, 0x8c, 0x8d]);
+    let low = dice.of(&[0x80, 0x80, 0x80, 0xff, 0x81, 0x80 | first as u8, 0x81 | first as u8]);
     let middle = if low == 0xff { 0xff } else { 0x80 };
     let mut out = vec![middle; width];
     out[0] = low;
@@ -1230,30 +1282,30 @@ fn edge(dice: &mut Dice) -> Vec<u8> {
 }
 
 /// A unit of three entries: the second's abbreviation has this tag and these attributes, and this is its value.
-fn of_value(order: Order, tag: u8, specs: &[u8], value: &[u8]) -> Parts {
-    let mut parts = of_body(order, &[&[1, 2], value, &[3, 0]].concat(), &[1, 0]);
+fn of_value(layout: Layout, tag: u8, specs: &[u8], value: &[u8]) -> Parts {
+    let mut parts = of_body(layout, &[&[1, 2], value, &[3, 0]].concat(), &[1, 0]);
     parts[1] = [&[1, 0x11, 1, 0, 0, 2, tag, 0], specs, &[0, 0, 3, 0x24, 0, 0, 0, 0]].concat();
     parts
 }
 
 /// A list section with one list.
-fn one_list(order: Order, held: &[u8]) -> Vec<u8> {
-    [&[0; 12][..], &fixed_bytes(order, 4, 4), held].concat()
+fn one_list(layout: Layout, held: &[u8]) -> Vec<u8> {
+    [&vec![0; layout.table()], &layout.offset(layout.word() as u64)[..], held].concat()
 }
 
 /// Numbers at the edges of what can be read, in every place that has one.
-fn numbers(dice: &mut Dice, order: Order) -> Parts {
-    let mut number = edge(dice);
-    let second = edge(dice);
+fn numbers(dice: &mut Dice, layout: Layout) -> Parts {
+    let mut number = edge(dice, layout);
+    let second = edge(dice, layout);
     let more = dice.below(4);
     let after = dice.bytes(more);
     let tag = dice.of(&[0x24, 0x2e, 0x34]);
     match dice.below(8) {
         // the code of an entry, or a terminator
         0 => {
-            let mut parts = of_value(order, tag, &[], &[]);
-            parts[0].splice(13..14, number);
-            fit(order, &mut parts[0]);
+            let mut parts = of_value(layout, tag, &[], &[]);
+            parts[0].splice(layout.first() + 1..layout.first() + 2, number);
+            layout.fit(&mut parts[0]);
             parts
         }
         // a value, or the length of one
@@ -1263,9 +1315,9 @@ fn numbers(dice: &mut Dice, order: Order) -> Parts {
             if matches!(form, 0x09 | 0x18) {
                 number.extend(after);
             }
-            let mut parts = of_value(order, tag, &[name, form], &number);
-            parts[2] = one_list(order, &[0]);
-            parts[3] = one_list(order, &[0]);
+            let mut parts = of_value(layout, tag, &[name, form], &number);
+            parts[2] = one_list(layout, &[0]);
+            parts[3] = one_list(layout, &[0]);
             parts
         }
         // the number of a form, and a value of it
@@ -1276,50 +1328,51 @@ fn numbers(dice: &mut Dice, order: Order) -> Parts {
             if dice.rare(3) {
                 value = number;
             }
-            value.extend(dice.of(&[&[0x0c][..], &[0, 0, 0, 0], &[0x0b, 1], &[0x8b, 0, 1], &[0x8b, 0x80, 0, 1], &[0x8b, 0x80, 0x80, 0, 1]]));
-            of_value(order, tag, &[dice.of(&[0x01, 0x02, 0x49, 0x55, 0x03]), 0x16], &value)
+            let (first, zeros) = ([layout.first() as u8], layout.offset(0));
+            value.extend(dice.of(&[&first[..], &zeros, &[0x0b, 1], &[0x8b, 0, 1], &[0x8b, 0x80, 0, 1], &[0x8b, 0x80, 0x80, 0, 1]]));
+            of_value(layout, tag, &[dice.of(&[0x01, 0x02, 0x49, 0x55, 0x03]), 0x16], &value)
         }
         // an operand, also in an entry value
         4 | 5 => {
             let code = dice.of(&[0x10, 0x11, 0x23, 0x70, 0x8f, 0x90, 0x91, 0x92, 0x93, 0x9d, 0x9e, 0xa0, 0xa1, 0xa2, 0xa3, 0xa4, 0xa5, 0xa6, 0xa8, 0xfb, 0xfc]);
-            let fixed: &[u8] = match code {
-                0xa0 => &[0, 0, 0, 0],
-                0xa6 => &[4],
-                _ => &[],
+            let fixed = match code {
+                0xa0 => layout.offset(0),
+                0xa6 => vec![4],
+                _ => vec![],
             };
-            let mut expression = [&[code], fixed, &number, &second, &after].concat();
+            let mut expression = [&[code], &fixed[..], &number, &second, &after].concat();
             if dice.rare(4) {
                 expression = [&[0xa3], &uleb(expression.len() as u64, 0)[..], &expression].concat();
             }
             let name = dice.of(&[0x02, 0x40]);
             if dice.rare(3) {
-                let mut parts = of_value(order, tag, &[name, 0x22], &[0]);
-                parts[2] = one_list(order, &[&[5], &uleb(expression.len() as u64, 0)[..], &expression, &[0]].concat());
+                let mut parts = of_value(layout, tag, &[name, 0x22], &[0]);
+                parts[2] = one_list(layout, &[&[5], &uleb(expression.len() as u64, 0)[..], &expression, &[0]].concat());
                 return parts;
             }
-            of_value(order, tag, &[name, 0x18], &[&uleb(expression.len() as u64, 0)[..], &expression].concat())
+            of_value(layout, tag, &[name, 0x18], &[&uleb(expression.len() as u64, 0)[..], &expression].concat())
         }
         // lists
         6 => {
-            let mut parts = of_value(order, 0x2e, &[0x55, 0x23], &[0]);
-            parts[3] = one_list(order, &[&[dice.of(&[1, 2, 3, 4])], &number[..], &second, &[0]].concat());
+            let mut parts = of_value(layout, 0x2e, &[0x55, 0x23], &[0]);
+            parts[3] = one_list(layout, &[&[dice.of(&[1, 2, 3, 4])], &number[..], &second, &[0]].concat());
             parts
         }
         _ => {
-            let mut parts = of_value(order, tag, &[0x02, 0x22], &[0]);
-            parts[2] = one_list(order, &[&[dice.of(&[1, 2, 3, 4, 5])], &number[..], &second, &[1, 0x96, 0]].concat());
+            let mut parts = of_value(layout, tag, &[0x02, 0x22], &[0]);
+            parts[2] = one_list(layout, &[&[dice.of(&[1, 2, 3, 4, 5])], &number[..], &second, &[1, 0x96, 0]].concat());
             parts
         }
     }
 }
 
 /// Tables of abbreviations, every number of them at its edges.
-fn declarations(dice: &mut Dice, order: Order) -> Parts {
+fn declarations(dice: &mut Dice, layout: Layout) -> Parts {
     let seldom = dice.of(&[6, 20, 60]);
     let number = |dice: &mut Dice, usual: u64| {
         if dice.rare(seldom) {
             match dice.below(3) {
-                0 => edge(dice),
+                0 => edge(dice, layout),
                 1 => {
                     let n = dice.of(&[0, 1, 0x7f, 0x80, 0x3fff, 0x4000, 0xffff, 0x1_0000]);
                     uleb(n, dice.below(3))
@@ -1342,7 +1395,7 @@ fn declarations(dice: &mut Dice, order: Order) -> Parts {
             table.extend(number(dice, 0x03));
             table.extend(number(dice, form));
             if form == 0x21 {
-                table.extend(if dice.rare(2) { edge(dice) } else { vec![dice.next() as u8 & 0x7f] });
+                table.extend(if dice.rare(2) { edge(dice, layout) } else { vec![dice.next() as u8 & 0x7f] });
             }
         }
         table.extend(number(dice, 0));
@@ -1352,59 +1405,64 @@ fn declarations(dice: &mut Dice, order: Order) -> Parts {
         table.extend(number(dice, 0));
     }
     let body = [&[1, 0, 0][..], &[1], &[2, 0], &[], &[0]][dice.below(5)].to_vec();
-    let mut parts = of_body(order, &body, &FAILS);
+    let mut parts = of_body(layout, &body, &FAILS);
     if dice.rare(8) {
-        let offset = fixed_bytes(order, dice.below(table.len() + 3) as u64, 4);
-        parts[0][8..12].copy_from_slice(&offset);
+        let mut offset = dice.below(table.len() + 3) as u64;
+        if layout.wide && dice.rare(3) {
+            offset |= high(dice);
+        }
+        parts[0][layout.abbreviations()..layout.first()].copy_from_slice(&layout.offset(offset));
     }
     parts[1] = table;
     parts
 }
 
-/// Expressions of operations of any code, with operands of any bytes: mostly 0x30, an operation of its own, and as an offset that of the last entry.
-fn operations(dice: &mut Dice, order: Order) -> Parts {
+/// Expressions of operations of any code, with operands of any bytes: mostly 0x30 (0x3c in the 64-bit format), an operation of its own, and as an
+/// offset that of the last entry.
+fn operations(dice: &mut Dice, layout: Layout) -> Parts {
+    let last = layout.first() as u8 + 36;
     let mut expression = Vec::new();
     for _ in 0..dice.of(&[1, 1, 1, 2, 3]) {
         expression.push(dice.next() as u8);
-        for _ in 0..dice.below(10) {
+        for _ in 0..dice.below(6 + layout.word()) {
             expression.push(match dice.below(12) {
                 0 => dice.next() as u8,
-                1 => dice.of(&[0, 1, 2, 4, 12, 13, 0xb0]),
-                _ => 0x30,
+                1 => dice.of(&[0, 1, 2, 4, last - 36, last - 35, 0x80 | last]),
+                _ => last,
             });
         }
     }
     if dice.rare(4) {
         let code = dice.next() as u8;
-        let mut operand = fixed_bytes(order, 0x30, match code { 0x98 => 2, 0x99 | 0xfa => 4, _ => 1 });
-        operand.resize(4, 0);
-        expression = [&[code], &operand[..], &[0x30]].concat();
-        let keep = 1 + dice.below(6);
+        let mut operand = layout.bytes(last.into(), match code { 0x98 => 2, 0x99 | 0xfa => 4, _ => 1 });
+        operand.resize(layout.word(), 0);
+        expression = [&[code], &operand[..], &[last]].concat();
+        let keep = 1 + dice.below(2 + layout.word());
         expression.truncate(keep);
     }
     let held = [&uleb(expression.len() as u64, 0)[..], &expression].concat();
     let tag = dice.of(&[0x34, 0x2e, 0x2e, 0x24]);
     let name = dice.of(&[0x02, 0x40]);
     let in_list = dice.rare(3);
-    // The first entry, a dead one, the one that holds the expression and fills up to 0x30, the last.
+    // The first entry, a dead one, the one that holds the expression and fills up to that place, the last.
     let value = if in_list { vec![0] } else { held.clone() };
     let fill = 32usize.saturating_sub(value.len());
     let body = [&[1, 3, 2], &value[..], &[fill as u8], &vec![0; fill], &[3, 0]].concat();
     let count = dice.below(60);
     let table = address_table(dice, count);
-    let mut parts = of_body(order, &body, &table);
+    let mut parts = of_body(layout, &body, &table);
     let specs: &[u8] = if in_list { &[0x02, 0x22, 0x03, 0x0a] } else { &[name, 0x18, 0x03, 0x0a] };
     let root: &[u8] = if dice.rare(4) { &[] } else { &[0x11, 0x19] };
     parts[1] = [&[1, 0x11, 1, 0, 0, 2, tag, 0], specs, root, &[0, 0, 3, 0x24, 0, 0, 0, 0]].concat();
-    parts[2] = one_list(order, &[&[5], &held[..], &[0]].concat());
+    parts[2] = one_list(layout, &[&[5], &held[..], &[0]].concat());
     if dice.rare(4) {
-        parts[0][7] = 4;
+        parts[0][layout.version() + 3] = 4;
     }
     parts
 }
 
 /// Lists of entries of any kind, with operands of any bytes.
-fn kinds(dice: &mut Dice, order: Order) -> Parts {
+fn kinds(dice: &mut Dice, layout: Layout) -> Parts {
     let mut list = Vec::new();
     for _ in 0..dice.of(&[0, 1, 1, 2, 3]) {
         list.push(if dice.rare(12) { dice.next() as u8 } else { dice.below(10) as u8 });
@@ -1416,10 +1474,11 @@ fn kinds(dice: &mut Dice, order: Order) -> Parts {
     let ranges = dice.rare(2);
     let (name, index, tag) = if ranges { (0x55, 0x23, 0x2e) } else { (0x02, 0x22, dice.of(&[0x34, 0x2e, 0x24])) };
     let at_offset = dice.rare(3);
-    let mut parts = if at_offset { of_value(order, tag, &[name, 0x17], &fixed_bytes(order, 16, 4)) } else { of_value(order, tag, &[name, index], &[0]) };
-    parts[if ranges { 3 } else { 2 }] = one_list(order, &list);
+    let place = layout.offset((layout.table() + layout.word()) as u64);
+    let mut parts = if at_offset { of_value(layout, tag, &[name, 0x17], &place) } else { of_value(layout, tag, &[name, index], &[0]) };
+    parts[if ranges { 3 } else { 2 }] = one_list(layout, &list);
     if dice.rare(4) {
-        parts[0][7] = 4;
+        parts[0][layout.version() + 3] = 4;
     }
     let count = dice.below(5);
     parts[4] = address_table(dice, count);
@@ -1444,60 +1503,60 @@ fn varied(dice: &mut Dice, parts: &mut Parts) {
 pub struct Cases<'a> {
     family: &'a str,
     seed: u64,
-    order: Order,
+    layout: Layout,
     given: &'a [Parts],
     small: Small,
 }
 
 impl<'a> Cases<'a> {
-    /// None where there is no such family, or nothing given for one that needs it. What is given has this byte order.
-    pub fn new(family: &'a str, seed: u64, big_endian: bool, given: &'a [Parts]) -> Option<Self> {
+    /// None where there is no such family, or nothing given for one that needs it. What is given has this byte order and this format.
+    pub fn new(family: &'a str, seed: u64, layout: Layout, given: &'a [Parts]) -> Option<Self> {
         let known = FAMILIES.contains(&family) || OF_FILES.contains(&family) && !given.is_empty();
-        known.then(|| Cases { family, seed, order: order(big_endian), given, small: Small::new() })
+        known.then(|| Cases { family, seed, layout, given, small: Small::new() })
     }
 
     /// Case `i`, the same however many are made. Of `small` they have to be taken in order, from 0 on.
     pub fn case(&mut self, i: usize) -> Parts {
         let dice = &mut Dice(self.seed.wrapping_mul(0x2545_f491_4f6c_dd1d).wrapping_add(i as u64) << 8);
         dice.next();
-        let (order, style) = (self.order, Style::default());
+        let (layout, style) = (self.layout, Style::default());
         match self.family {
-            "small" => self.small.case(order),
-            "bytes" => bytes(dice, order),
-            "valid" => structured(dice, order, style),
-            "lists" => structured(dice, order, Style { lists: true, ..style }),
-            "expressions" => structured(dice, order, Style { expressions: true, ..style }),
-            "trees" => structured(dice, order, Style { trees: true, ..style }),
+            "small" => self.small.case(layout),
+            "bytes" => bytes(dice, layout),
+            "valid" => structured(dice, layout, style),
+            "lists" => structured(dice, layout, Style { lists: true, ..style }),
+            "expressions" => structured(dice, layout, Style { expressions: true, ..style }),
+            "trees" => structured(dice, layout, Style { trees: true, ..style }),
             "listed" => {
                 let style = Style { listed: true, trees: dice.rare(3), lists: dice.rare(3), ..style };
-                structured(dice, order, style)
+                structured(dice, layout, style)
             }
-            "deep" => deep(dice, order),
-            "refused" => refused(dice, order),
-            "sums" => structured(dice, order, Style { lists: true, far: true, ..style }),
+            "deep" => deep(dice, layout),
+            "refused" => refused(dice, layout),
+            "sums" => structured(dice, layout, Style { lists: true, far: true, ..style }),
             "no-table" | "failures" => {
                 let fault = dice.of(&[0, 0, 0, 0, 0, 0, 0, 0, 4, 5, 7, 8]);
                 let no_table = self.family == "no-table";
-                structured(dice, order, Style { no_table, failures: !no_table, fault, ..style })
+                structured(dice, layout, Style { no_table, failures: !no_table, fault, ..style })
             }
-            "headers" => headers(dice, order),
-            "declarations" => declarations(dice, order),
-            "numbers" => numbers(dice, order),
-            "operations" => operations(dice, order),
-            "kinds" => kinds(dice, order),
-            "siblings" => siblings(dice, order),
-            "many" => many(dice, order),
+            "headers" => headers(dice, layout),
+            "declarations" => declarations(dice, layout),
+            "numbers" => numbers(dice, layout),
+            "operations" => operations(dice, layout),
+            "kinds" => kinds(dice, layout),
+            "siblings" => siblings(dice, layout),
+            "many" => many(dice, layout),
             "damaged" => {
                 let style = Style { lists: dice.rare(4), expressions: dice.rare(4), trees: dice.rare(4), ..style };
-                let mut parts = structured(dice, order, style);
-                damage(dice, order, &mut parts);
+                let mut parts = structured(dice, layout, style);
+                damage(dice, layout, &mut parts);
                 parts
             }
             _ => {
                 let mut parts = self.given[i % self.given.len()].clone();
                 varied(dice, &mut parts);
                 if self.family == "damaged-files" {
-                    damage(dice, order, &mut parts);
+                    damage(dice, layout, &mut parts);
                 }
                 parts
             }

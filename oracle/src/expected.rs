@@ -4,7 +4,7 @@
 
 use crate::judge::{self, Answer, Judged, List, Outcome, Setting};
 use crate::listed::{self, padded, Case, Change};
-use crate::order::{fit, fixed, fixed_bytes, Order};
+use crate::order::{fixed, fixed_bytes, Layout, Order};
 use crate::unit::{self, header, uleb, Attribute, Unit};
 use std::collections::{BTreeMap, BTreeSet, HashMap};
 
@@ -121,7 +121,7 @@ fn lists(unit: &Unit, bytes: &[u8], kept: &dyn Fn(usize) -> bool, type_units: bo
     for item in unit.items.iter().filter(|i| kept(i.start)) {
         for a in item.entry.iter().flat_map(|e| &e.attributes) {
             if let Some(list) = list_of(a.form).and_then(|i| lists[i].as_mut()) {
-                list.insert(index_of(a.form, &bytes[a.at..a.end], unit.order));
+                list.insert(index_of(a.form, &bytes[a.at..a.end], unit.layout.order));
             }
         }
     }
@@ -132,7 +132,7 @@ type Map = BTreeMap<u64, (usize, usize)>;
 
 /// The new value of an attribute of an entry at this depth, as wide as the old one.
 fn emitted(unit: &Unit, a: &Attribute, value: &[u8], depth: usize, map: &Map, lists: &[List; 3]) -> Result<Vec<u8>, u8> {
-    let (width, order) = (value.len(), unit.order);
+    let (width, order) = (value.len(), unit.layout.order);
     if let 0x11..=0x15 = a.form {
         let old = if a.form == 0x15 { uleb(value).map_or(0, |v| v.0) } else { fixed(order, value) };
         let mapped = map.get(&old);
@@ -147,7 +147,7 @@ fn emitted(unit: &Unit, a: &Attribute, value: &[u8], depth: usize, map: &Map, li
     if a.form == 0x18 {
         let mut out = value.to_vec();
         let start = uleb(value).map_or(0, |v| v.1);
-        for (place, old, width, is_uleb) in judge::references(&value[start..], unit.encoding.address_size, order).unwrap_or_default() {
+        for (place, old, width, is_uleb) in judge::references(&value[start..], unit.encoding, order).unwrap_or_default() {
             let new = map.get(&old).ok_or(8)?.0 as u64;
             let bytes = if is_uleb { padded(new, width) } else { fixed_bytes(order, new, width) };
             out[start + place..start + place + width].copy_from_slice(&bytes);
@@ -214,7 +214,7 @@ fn plan(unit: &Unit, bytes: &[u8], marks: &[(usize, char)], type_units: bool) ->
         }
         out.extend(&bytes[at..item.end]);
     }
-    fit(unit.order, &mut out);
+    unit.layout.fit(&mut out);
     plan.output = Ok(out);
     plan
 }
@@ -232,18 +232,21 @@ pub fn expect(parts: [&[u8]; 5], setting: Setting, judged: &Judged) -> Expected 
 
     // The original's reading, changed until it reads as the port does.
     let mut rules = BTreeSet::new();
-    let mut changed: Option<([Vec<u8>; 5], Setting, Judged)> = None;
+    let mut changed: Option<([Vec<u8>; 5], Judged)> = None;
     loop {
-        let (now, with, seen): ([&[u8]; 5], _, _) = match &changed {
-            None => (parts, setting, judged),
-            Some((p, s, j)) => ([&p[0], &p[1], &p[2], &p[3], &p[4]], *s, j),
+        let (now, seen): ([&[u8]; 5], _) = match &changed {
+            None => (parts, judged),
+            Some((p, j)) => ([&p[0], &p[1], &p[2], &p[3], &p[4]], j),
         };
         let unit = match unit::read(now, order, seen.met) {
             Ok(Some(unit)) => unit,
-            Ok(None) => Unit { order, encoding: gimli::Encoding { format: gimli::Format::Dwarf32, version: 5, address_size: 8 }, first: 0, items: vec![] },
+            Ok(None) => {
+                let encoding = gimli::Encoding { format: gimli::Format::Dwarf32, version: 5, address_size: 8 };
+                Unit { layout: Layout { order, wide: false }, encoding, first: 0, items: vec![] }
+            }
             Err(_) => return refused(if let Outcome::Error(Some(n), _) = seen.outcome { n } else { 0 }, rules),
         };
-        let case = Case { parts: now, setting: with, met: seen.met, marks: &seen.marks };
+        let case = Case { parts: now, setting, met: seen.met, marks: &seen.marks };
         let changes = listed::reading(&case, &unit);
         rules.extend(listed::writing(&case, &unit));
         rules.extend(changes.iter().map(|c| c.0));
@@ -255,15 +258,12 @@ pub fn expect(parts: [&[u8]; 5], setting: Setting, judged: &Judged) -> Expected 
             };
             return Expected { met: seen.met, references: seen.references.clone(), read, rules };
         }
-        let (mut next, mut base) = (now.map(<[u8]>::to_vec), with);
-        for change in changes.into_iter().flat_map(|c| c.1) {
-            match change {
-                Change::Byte(part, place, byte) => next[part][place] = byte,
-                Change::Base(n) => base.ranges_base = n,
-            }
+        let mut next = now.map(<[u8]>::to_vec);
+        for Change(part, place, byte) in changes.into_iter().flat_map(|c| c.1) {
+            next[part][place] = byte;
         }
-        assert!(base.ranges_base != with.ranges_base || next != now, "the changes change nothing");
-        let again = judge::judge([&next[0], &next[1], &next[2], &next[3], &next[4]], base);
-        changed = Some((next, base, again));
+        assert!(next != now, "the changes change nothing");
+        let again = judge::judge([&next[0], &next[1], &next[2], &next[3], &next[4]], setting);
+        changed = Some((next, again));
     }
 }

@@ -1,7 +1,7 @@
 //! Units that grow: families of one shape each, of any size. What bench measures; README.md of bench/ names them.
 
 use crate::cases::{Dice, Parts};
-use crate::order::{fit, fixed_bytes, Order};
+use crate::order::Layout;
 
 /// The families, and what their size counts.
 pub const FAMILIES: [(&str, &str); 22] = [
@@ -28,8 +28,6 @@ pub const FAMILIES: [(&str, &str); 22] = [
     ("siblings-far", "entries"),
     ("attributes", "attributes of four entries"),
 ];
-
-const HEADER: usize = 12;
 
 /// Codes of `table`.
 const ROOT: u8 = 1;
@@ -93,21 +91,21 @@ fn table() -> Vec<u8> {
     t
 }
 
-/// A unit in the making: the bytes behind the header, and the byte order.
-struct Unit(Vec<u8>, Order);
+/// A unit in the making: the bytes behind the header, and its byte order and format.
+struct Unit(Vec<u8>, Layout);
 
 impl Unit {
-    fn new(order: Order) -> Self {
-        Unit(vec![ROOT], order)
+    fn new(layout: Layout) -> Self {
+        Unit(vec![ROOT], layout)
     }
 
     fn four(&mut self, n: usize) {
-        self.0.extend(fixed_bytes(self.1, n as u64, 4));
+        self.0.extend(self.1.bytes(n as u64, 4));
     }
 
     /// Where the next item stands.
     fn place(&self) -> usize {
-        HEADER + self.0.len()
+        self.1.first() + self.0.len()
     }
 
     fn reference(&mut self, code: u8, to: usize) {
@@ -135,11 +133,12 @@ impl Unit {
     /// The bundle's parts; the address table has a dead and a live index.
     fn parts(mut self, table: Vec<u8>, locations: Vec<u8>, ranges: Vec<u8>) -> Parts {
         self.end();
-        let mut section = vec![0; 4];
-        section.extend(fixed_bytes(self.1, 5, 2));
-        section.extend([1, 8, 0, 0, 0, 0]);
+        let mut section = vec![0; self.1.version()];
+        section.extend(self.1.bytes(5, 2));
+        section.extend([1, 8]);
+        section.extend(self.1.offset(0));
         section.extend(self.0);
-        fit(self.1, &mut section);
+        self.1.fit(&mut section);
         [section, table, locations, ranges, vec![0, 1]]
     }
 
@@ -149,8 +148,8 @@ impl Unit {
 }
 
 /// Four entries a step: a type, a name for it, a function of that type, a type that nobody names. Every second function is live.
-fn wide(order: Order, n: usize, dead: bool) -> Parts {
-    let mut u = Unit::new(order);
+fn wide(layout: Layout, n: usize, dead: bool) -> Parts {
+    let mut u = Unit::new(layout);
     for i in 0..n / 4 {
         let base = u.place();
         u.base();
@@ -166,8 +165,8 @@ fn wide(order: Order, n: usize, dead: bool) -> Parts {
 }
 
 /// Each level holds a dead entry and the next level; the innermost a live function.
-fn deep(order: Order, n: usize) -> Parts {
-    let mut u = Unit::new(order);
+fn deep(layout: Layout, n: usize) -> Parts {
+    let mut u = Unit::new(layout);
     for _ in 0..n / 2 {
         u.0.push(STRUCTURE);
         u.base();
@@ -180,8 +179,8 @@ fn deep(order: Order, n: usize) -> Parts {
 }
 
 /// Names of names, a dead entry behind each; the live function names the chain's start.
-fn chain(order: Order, n: usize, forward: bool) -> Parts {
-    let mut u = Unit::new(order);
+fn chain(layout: Layout, n: usize, forward: bool) -> Parts {
+    let mut u = Unit::new(layout);
     if forward {
         u.function(true, u.place() + 6);
     }
@@ -204,9 +203,9 @@ fn chain(order: Order, n: usize, forward: bool) -> Parts {
 }
 
 /// Structures of two entries each, one of them dead. A structure is kept for its kept entry, and names the kept entry of the next one.
-fn alternating(order: Order, n: usize, forward: bool) -> Parts {
+fn alternating(layout: Layout, n: usize, forward: bool) -> Parts {
     let steps = n / 3;
-    let mut u = Unit::new(order);
+    let mut u = Unit::new(layout);
     for i in 0..steps {
         let here = u.place();
         let first = if forward { i == 0 } else { i == steps - 1 };
@@ -225,8 +224,8 @@ fn alternating(order: Order, n: usize, forward: bool) -> Parts {
 }
 
 /// Each entry names any other; one in sixteen is a live function, one in sixteen a dead one.
-fn random(order: Order, n: usize) -> Parts {
-    let mut u = Unit::new(order);
+fn random(layout: Layout, n: usize) -> Parts {
+    let mut u = Unit::new(layout);
     let first = u.place();
     let place = |i: usize| first + i / 16 * 82 + if i % 16 == 0 { 0 } else if i % 16 < 9 { 6 + (i % 16 - 1) * 5 } else { 12 + (i % 16 - 2) * 5 };
     let mut dice = Dice(1);
@@ -244,7 +243,7 @@ fn random(order: Order, n: usize) -> Parts {
 }
 
 /// Half as many declarations as entries; each entry has any of them.
-fn codes(order: Order, n: usize, kind: &str) -> Parts {
+fn codes(layout: Layout, n: usize, kind: &str) -> Parts {
     let number = |i: usize| match kind {
         "codes-above-index" => (1 << 40) + i as u64,
         _ => 2 + i as u64,
@@ -257,7 +256,7 @@ fn codes(order: Order, n: usize, kind: &str) -> Parts {
         declare(&mut t, number(i), 0x2e, false, &[(0x11, 0x29)]);
     }
     t.push(0);
-    let mut u = Unit::new(order);
+    let mut u = Unit::new(layout);
     let mut dice = Dice(1);
     for i in 0..n {
         uleb(&mut u.0, number(dice.below(count)));
@@ -267,7 +266,7 @@ fn codes(order: Order, n: usize, kind: &str) -> Parts {
 }
 
 /// Functions of a string each, every second one live.
-fn strings(order: Order, n: usize, shuffled: bool) -> Parts {
+fn strings(layout: Layout, n: usize, shuffled: bool) -> Parts {
     let mut numbers: Vec<usize> = (0..n).collect();
     if shuffled {
         let mut dice = Dice(1);
@@ -275,7 +274,7 @@ fn strings(order: Order, n: usize, shuffled: bool) -> Parts {
             numbers.swap(i, dice.below(i + 1));
         }
     }
-    let mut u = Unit::new(order);
+    let mut u = Unit::new(layout);
     for (i, number) in numbers.iter().enumerate() {
         u.0.extend([NAMED, (i % 2) as u8]);
         u.four(*number);
@@ -290,8 +289,8 @@ fn variable(u: &mut Unit, expression: &[u8]) {
 }
 
 /// A live variable's expression that names so many types, among fifty, each in an entry of its own; and fifty dead ones.
-fn expression(order: Order, n: usize) -> Parts {
-    let mut u = Unit::new(order);
+fn expression(layout: Layout, n: usize) -> Parts {
+    let mut u = Unit::new(layout);
     let first = u.place();
     for _ in 0..100 {
         u.base();
@@ -306,8 +305,8 @@ fn expression(order: Order, n: usize) -> Parts {
 }
 
 /// A live variable's expression with entry values one in the other; the innermost names a type.
-fn nested(order: Order, n: usize) -> Parts {
-    let mut u = Unit::new(order);
+fn nested(layout: Layout, n: usize) -> Parts {
+    let mut u = Unit::new(layout);
     let named = u.place();
     u.base();
     u.base();
@@ -329,8 +328,8 @@ fn nested(order: Order, n: usize) -> Parts {
 }
 
 /// The same number of entry values, one level deep.
-fn beside(order: Order, n: usize) -> Parts {
-    let mut u = Unit::new(order);
+fn beside(layout: Layout, n: usize) -> Parts {
+    let mut u = Unit::new(layout);
     let named = u.place();
     u.base();
     u.base();
@@ -343,20 +342,20 @@ fn beside(order: Order, n: usize) -> Parts {
 }
 
 /// A list section's header, of as many lists as bytes of its table; lists follow.
-fn lists(order: Order, starts: &[usize]) -> Vec<u8> {
-    let mut out = vec![0; 12];
+fn lists(layout: Layout, starts: &[usize]) -> Vec<u8> {
+    let mut out = vec![0; layout.table()];
     for start in starts {
-        out.extend(fixed_bytes(order, (start + 4 * starts.len()) as u64, 4));
+        out.extend(layout.offset((start + layout.word() * starts.len()) as u64));
     }
     out
 }
 
 /// A function whose ranges are all dead but the last.
-fn range_list(order: Order, n: usize) -> Parts {
-    let mut u = Unit::new(order);
+fn range_list(layout: Layout, n: usize) -> Parts {
+    let mut u = Unit::new(layout);
     u.base();
     u.0.extend([RANGED, 0]);
-    let mut ranges = lists(order, &[0]);
+    let mut ranges = lists(layout, &[0]);
     for _ in 1..n {
         ranges.extend([3, 0, 16]);
     }
@@ -365,13 +364,13 @@ fn range_list(order: Order, n: usize) -> Parts {
 }
 
 /// A live function with one location list whose every place names a type.
-fn location_list(order: Order, n: usize) -> Parts {
-    let mut u = Unit::new(order);
+fn location_list(layout: Layout, n: usize) -> Parts {
+    let mut u = Unit::new(layout);
     let named = u.place() as u8;
     u.base();
     u.base();
     u.0.extend([LOCATED, 1, 0]);
-    let mut locations = lists(order, &[0]);
+    let mut locations = lists(layout, &[0]);
     for _ in 0..n {
         locations.extend([3, 0, 16, 2, 0xa8, named]);
     }
@@ -380,8 +379,8 @@ fn location_list(order: Order, n: usize) -> Parts {
 }
 
 /// Functions, each with a range list and a location list of its own of three places; every second one live.
-fn many_lists(order: Order, n: usize) -> Parts {
-    let mut u = Unit::new(order);
+fn many_lists(layout: Layout, n: usize) -> Parts {
+    let mut u = Unit::new(layout);
     let named = u.place() as u8;
     u.base();
     for i in 0..n {
@@ -389,8 +388,8 @@ fn many_lists(order: Order, n: usize) -> Parts {
         uleb(&mut u.0, i as u64);
         uleb(&mut u.0, i as u64);
     }
-    let mut ranges = lists(order, &(0..n).map(|i| 10 * i).collect::<Vec<_>>());
-    let mut locations = lists(order, &(0..n).map(|i| 19 * i).collect::<Vec<_>>());
+    let mut ranges = lists(layout, &(0..n).map(|i| 10 * i).collect::<Vec<_>>());
+    let mut locations = lists(layout, &(0..n).map(|i| 19 * i).collect::<Vec<_>>());
     for i in 0..n {
         ranges.extend([3, 0, 16, 3, 0, 16, 3, (i % 2) as u8, 16, 0]);
         locations.extend([3, 0, 16, 2, 0xa8, named, 3, 0, 16, 2, 0x91, 8, 3, 0, 16, 2, 0x91, 16, 0]);
@@ -399,8 +398,8 @@ fn many_lists(order: Order, n: usize) -> Parts {
 }
 
 /// Functions with a sibling each, the entry behind; every second one live, so half of the kept siblings name a dead one.
-fn siblings_near(order: Order, n: usize) -> Parts {
-    let mut u = Unit::new(order);
+fn siblings_near(layout: Layout, n: usize) -> Parts {
+    let mut u = Unit::new(layout);
     for i in 0..n {
         u.reference(BESIDE, u.place() + 6);
         u.0.push(u8::from(i % 4 < 2));
@@ -409,8 +408,8 @@ fn siblings_near(order: Order, n: usize) -> Parts {
 }
 
 /// Live functions whose sibling is one dead entry; behind it as many live ones, one level deeper.
-fn siblings_far(order: Order, n: usize) -> Parts {
-    let mut u = Unit::new(order);
+fn siblings_far(layout: Layout, n: usize) -> Parts {
+    let mut u = Unit::new(layout);
     let dead = u.place() + 6 * (n / 2) + 1;
     for _ in 0..n / 2 {
         u.reference(BESIDE, dead);
@@ -426,14 +425,14 @@ fn siblings_far(order: Order, n: usize) -> Parts {
 }
 
 /// Four entries of so many attributes together, names that nobody asks for; two dead, two in a live function.
-fn attributes(order: Order, n: usize) -> Parts {
+fn attributes(layout: Layout, n: usize) -> Parts {
     let mut t = Vec::new();
     declare(&mut t, 1, 0x11, true, &[]);
     let all: Vec<(u8, u8)> = (0..n / 4).map(|i| (0x0b, [0x0b, 0x05, 0x0f, 0x0d][i % 4])).collect();
     declare(&mut t, 2, 0x24, false, &all);
     declare(&mut t, 3, 0x2e, true, &[(0x11, 0x29)]);
     t.push(0);
-    let mut u = Unit::new(order);
+    let mut u = Unit::new(layout);
     let entry = |u: &mut Unit| {
         u.0.push(2);
         for (_, form) in &all {
@@ -450,28 +449,28 @@ fn attributes(order: Order, n: usize) -> Parts {
 }
 
 /// The unit of this family and size; none where there is no such family.
-pub fn unit(family: &str, size: usize, order: Order) -> Option<Parts> {
+pub fn unit(family: &str, size: usize, layout: Layout) -> Option<Parts> {
     Some(match family {
-        "wide" => wide(order, size, true),
-        "wide-untouched" => wide(order, size, false),
-        "deep" => deep(order, size),
-        "chain-forward" => chain(order, size, true),
-        "chain-backward" => chain(order, size, false),
-        "alternating-forward" => alternating(order, size, true),
-        "alternating-backward" => alternating(order, size, false),
-        "references-random" => random(order, size),
-        "codes-in-order" | "codes-out-of-order" | "codes-above-index" => codes(order, size, family),
-        "strings-in-order" => strings(order, size, false),
-        "strings-shuffled" => strings(order, size, true),
-        "expression" => expression(order, size),
-        "entry-values" => nested(order, size),
-        "entry-values-wide" => beside(order, size),
-        "range-list" => range_list(order, size),
-        "location-list" => location_list(order, size),
-        "lists-many" => many_lists(order, size),
-        "siblings-near" => siblings_near(order, size),
-        "siblings-far" => siblings_far(order, size),
-        "attributes" => attributes(order, size),
+        "wide" => wide(layout, size, true),
+        "wide-untouched" => wide(layout, size, false),
+        "deep" => deep(layout, size),
+        "chain-forward" => chain(layout, size, true),
+        "chain-backward" => chain(layout, size, false),
+        "alternating-forward" => alternating(layout, size, true),
+        "alternating-backward" => alternating(layout, size, false),
+        "references-random" => random(layout, size),
+        "codes-in-order" | "codes-out-of-order" | "codes-above-index" => codes(layout, size, family),
+        "strings-in-order" => strings(layout, size, false),
+        "strings-shuffled" => strings(layout, size, true),
+        "expression" => expression(layout, size),
+        "entry-values" => nested(layout, size),
+        "entry-values-wide" => beside(layout, size),
+        "range-list" => range_list(layout, size),
+        "location-list" => location_list(layout, size),
+        "lists-many" => many_lists(layout, size),
+        "siblings-near" => siblings_near(layout, size),
+        "siblings-far" => siblings_far(layout, size),
+        "attributes" => attributes(layout, size),
         _ => return None,
     })
 }

@@ -220,8 +220,8 @@ pub fn judge(parts: [&[u8]; 5], setting: Setting) -> Judged {
 }
 
 /// `walk_expression` alone: place, old offset and width of each reference in the order of the walk, and whether it is a ULEB128.
-pub fn references(bytes: &[u8], address_size: u8, order: Order) -> Result<Vec<(usize, u64, usize, bool)>, String> {
-    probe::references(bytes, address_size, order).map_err(|e| e.to_string())
+pub fn references(bytes: &[u8], encoding: gimli::Encoding, order: Order) -> Result<Vec<(usize, u64, usize, bool)>, String> {
+    probe::references(bytes, encoding, order).map_err(|e| e.to_string())
 }
 
 /// `write_uleb128_padded` alone.

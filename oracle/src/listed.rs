@@ -2,7 +2,7 @@
 //! changed so that the original reads what the port reads.
 
 use crate::judge::Setting;
-use crate::order;
+use crate::order::{self, Layout};
 use crate::unit::{self, uleb, Slice, Unit};
 use gimli::{EndianSlice, Operation, Reader};
 use std::collections::{BTreeMap, BTreeSet, HashMap};
@@ -16,12 +16,23 @@ pub struct Case<'a> {
     pub marks: &'a [(usize, char)],
 }
 
-/// What makes the original read as the port does. No width changes.
-pub(crate) enum Change {
-    /// A byte of a part: part, place, byte.
-    Byte(usize, usize, u8),
-    /// The ranges base.
-    Base(usize),
+/// What makes the original read as the port does, a byte of a part: part, place, byte. No width changes.
+pub(crate) struct Change(pub(crate) usize, pub(crate) usize, pub(crate) u8);
+
+/// Bytes from a place of a part on.
+fn changes(part: usize, place: usize, bytes: Vec<u8>) -> Vec<Change> {
+    bytes.into_iter().enumerate().map(|(i, byte)| Change(part, place + i, byte)).collect()
+}
+
+/// Whether the original's sums wrap for an index into the table of a list section: the index times the width of an offset, or the offset that
+/// stands there with the base.
+fn wraps(section: &[u8], layout: Layout, base: u64, index: u64) -> bool {
+    let word = layout.word();
+    // The base is stepped over by itself, so nothing is read where it is behind the end.
+    let Some(table) = usize::try_from(base).ok().and_then(|base| section.get(base..)) else { return false };
+    let Some(place) = index.checked_mul(word as u64) else { return true };
+    let Some(offset) = usize::try_from(place).ok().and_then(|place| table.get(place..)?.get(..word)) else { return false };
+    order::fixed(layout.order, offset).checked_add(base).is_none()
 }
 
 fn natural(mut n: u64) -> usize {
@@ -59,12 +70,15 @@ fn odd_operation(expression: Slice<'_>, encoding: gimli::Encoding) -> Option<(us
 pub(crate) fn reading(case: &Case<'_>, unit: &Unit) -> Vec<(&'static str, Vec<Change>)> {
     let bytes = case.parts[0];
     let encoding = unit.encoding;
-    let reader = |part| EndianSlice::new(part, unit.order);
-    let fixed = |bytes: &[u8]| order::fixed(unit.order, bytes);
+    let layout = unit.layout;
+    let reader = |part| EndianSlice::new(part, layout.order);
+    let fixed = |bytes: &[u8]| order::fixed(layout.order, bytes);
     let section = reader(case.parts[2]);
     let lists = gimli::LocationLists::new(gimli::DebugLoc::from(reader(&[][..])), gimli::DebugLocLists::from(section));
     let mut found = Vec::new();
-    let (mut range_base, mut location_base) = (12u64, 12u64);
+    // The form that the original takes for an offset, data as wide as one.
+    let (data, rule) = if layout.wide { (0x07, "data8") } else { (0x06, "data4") };
+    let (mut range_base, mut location_base) = (layout.table() as u64, layout.table() as u64);
     for item in &unit.items {
         let Some(entry) = &item.entry else { continue };
         for a in entry.attributes.iter().filter(|a| entry.tag == 0x11 && a.form == 0x17) {
@@ -81,38 +95,42 @@ pub(crate) fn reading(case: &Case<'_>, unit: &Unit) -> Vec<(&'static str, Vec<Ch
                 let (part, place) = match a.number {
                     Some(place) => (0, place),
                     None => {
-                        let from = fixed(&bytes[8..12]) as usize;
+                        let from = fixed(&bytes[layout.abbreviations()..layout.first()]) as usize;
                         (1, unit::form_places(case.parts[1], from, entry.code).map_or(0, |p| p[i]))
                     }
                 };
-                vec![Change::Byte(part, place, case.parts[part][place] & 0x80 | low)]
+                vec![Change(part, place, case.parts[part][place] & 0x80 | low)]
             };
-            let past = |base: u64| uleb(value).is_some_and(|(i, _)| u128::from(base) + 4 * u128::from(i) > u64::MAX.into());
-            // An index that is as far out, without a sum above 64 bits.
-            let smaller = || {
-                let index = uleb(value).map_or(0, |v| v.0) >> 3;
-                padded(index, value.len()).into_iter().enumerate().map(|(i, b)| Change::Byte(0, a.at + i, b)).collect()
+            let index = uleb(value).map_or(0, |v| v.0);
+            // An index of the same width that is behind the table's section, without a sum above 64 bits; where there is none, an offset in the table.
+            let out = |part: usize, base: u64| {
+                let far = if value.len() < 9 { (1 << (7 * value.len())) - 1 } else { 1 << 59 };
+                match base + far * layout.word() as u64 >= case.parts[part].len() as u64 {
+                    true => changes(0, a.at, padded(far, value.len())),
+                    false => changes(part, (base + index * layout.word() as u64) as usize, layout.offset(u64::MAX >> 1)),
+                }
             };
             let mut list = None;
             match (a.form, a.name) {
                 (0x1f01 | 0x1f20 | 0x1f21, _) => found.push(("form", form(0x7f))),
                 (0x18, 0x01) => found.push(("sibling-exprloc", form(0x02))),
-                (0x06, 0x02) => found.push(("data4", form(0x0e))),
-                (0x06, 0x55) if entry.tag == 0x2e => found.push(("data4", form(0x0e))),
-                (0x23, 0x55) if entry.tag == 0x2e && past(range_base) => found.push(("sum", smaller())),
-                (0x22, 0x02) if past(location_base) => found.push(("sum", smaller())),
+                (f, 0x02) if f == data => found.push((rule, form(0x0e))),
+                (f, 0x55) if f == data && entry.tag == 0x2e => found.push((rule, form(0x0e))),
+                (0x23, 0x55) if entry.tag == 0x2e && wraps(case.parts[3], layout, range_base, index) => found.push(("sum", out(3, range_base))),
+                (0x22, 0x02) if wraps(case.parts[2], layout, location_base, index) => found.push(("sum", out(2, location_base))),
                 (0x17, 0x55) if entry.tag == 0x2e && fixed(value).checked_add(case.setting.ranges_base as u64).is_none() => {
-                    found.push(("sum", vec![Change::Base(1 << 63)]))
+                    let far = if case.setting.ranges_base >> 63 == 0 { u64::MAX >> 1 } else { 0 };
+                    found.push(("sum", changes(0, a.at, layout.offset(far))))
                 }
                 (0x18, _) => {
                     let skip = uleb(value).map_or(0, |v| v.1);
                     if let Some((place, code)) = odd_operation(reader(&value[skip..]), encoding) {
-                        found.push(("operation", vec![Change::Byte(0, a.at + skip + place, code)]));
+                        found.push(("operation", vec![Change(0, a.at + skip + place, code)]));
                     }
                 }
                 (0x17, 0x02) => list = Some(fixed(value) as usize),
                 (0x22, 0x02) => {
-                    let index = gimli::DebugLocListsIndex(uleb(value).map_or(0, |v| v.0) as usize);
+                    let index = gimli::DebugLocListsIndex(index as usize);
                     let base = gimli::DebugLocListsBase(location_base as usize);
                     list = lists.get_offset(encoding, base, index).ok().map(|o| o.0);
                 }
@@ -127,7 +145,7 @@ pub(crate) fn reading(case: &Case<'_>, unit: &Unit) -> Vec<(&'static str, Vec<Ch
                     BaseAddressx { .. } | BaseAddress { .. } => continue,
                 };
                 if let Some((place, code)) = odd_operation(expression, encoding) {
-                    found.push(("operation", vec![Change::Byte(2, expression.offset_from(section) + place, code)]));
+                    found.push(("operation", vec![Change(2, expression.offset_from(section) + place, code)]));
                 }
             }
         }
@@ -153,7 +171,7 @@ pub(crate) fn writing(case: &Case<'_>, unit: &Unit) -> BTreeSet<&'static str> {
     if !marks.values().any(|m| *m == 'D') {
         return rules;
     }
-    let fixed = |bytes: &[u8]| order::fixed(unit.order, bytes);
+    let fixed = |bytes: &[u8]| order::fixed(unit.layout.order, bytes);
     let kept = |item: &unit::Item| marks.get(&item.start).is_some_and(|m| *m != 'D');
     let mut map: BTreeMap<usize, (usize, usize)> = BTreeMap::new();
     let mut open: Vec<bool> = Vec::new();

@@ -6,7 +6,7 @@ use std::io::{self, BufRead, BufReader, BufWriter, Read, Write};
 use std::panic::{self, AssertUnwindSafe};
 
 const USAGE: &str = "usage: oracle [--type-units] [--ranges-base N] [--big-endian] [--more] [BUNDLE ..]
-       oracle [--big-endian] --expression ADDRESS_SIZE HEX | --padded VALUE WIDTH | --tombstone ADDRESS ADDRESS_SIZE
+       oracle [--big-endian] --expression ADDRESS_SIZE OFFSET_SIZE HEX | --padded VALUE WIDTH | --tombstone ADDRESS ADDRESS_SIZE
 Without a file: bundles one after another from standard input.";
 
 /// The five sections of a bundle whose first length has been taken off, or none for a wrong layout.
@@ -107,11 +107,16 @@ fn single(args: &[String]) -> Option<String> {
         [first, rest @ ..] if first == "--big-endian" => (true, rest),
         _ => (false, args),
     };
-    let [what, first, second] = args else { return None };
-    Some(match what.as_str() {
-        "--expression" => {
-            let (size, bytes) = (number(first)? as u8, unhex(second)?);
-            caught(|| match judge::references(&bytes, size, order::order(big_endian)) {
+    if let [what, address_size, offset_size, bytes] = args {
+        let format = match number(offset_size)? {
+            4 => gimli::Format::Dwarf32,
+            8 => gimli::Format::Dwarf64,
+            _ => return None,
+        };
+        let encoding = gimli::Encoding { format, version: 5, address_size: number(address_size)? as u8 };
+        let bytes = unhex(bytes)?;
+        return (what == "--expression").then(|| {
+            caught(|| match judge::references(&bytes, encoding, order::order(big_endian)) {
                 Err(e) => format!("error {e}"),
                 Ok(found) => {
                     let shown: Vec<String> =
@@ -119,7 +124,10 @@ fn single(args: &[String]) -> Option<String> {
                     format!("references {} {}", found.len(), or_dash(shown.join(",")))
                 }
             })
-        }
+        });
+    }
+    let [what, first, second] = args else { return None };
+    Some(match what.as_str() {
         "--padded" => {
             let (value, width) = (number(first)?, number(second)? as usize);
             caught(|| match judge::padded(value, width) {

@@ -55,8 +55,7 @@ pub(super) fn marks(dies: &[DieRecord], places: &HashMap<gimli::UnitOffset, usiz
 }
 
 /// `walk_expression` alone: place, old offset and width of each reference, in the order of the walk, and whether it is a ULEB128.
-pub(crate) fn references(bytes: &[u8], address_size: u8, order: RunTimeEndian) -> Result<Vec<(usize, u64, usize, bool)>> {
-    let encoding = gimli::Encoding { format: gimli::Format::Dwarf32, version: 5, address_size };
+pub(crate) fn references(bytes: &[u8], encoding: gimli::Encoding, order: RunTimeEndian) -> Result<Vec<(usize, u64, usize, bool)>> {
     let expression = gimli::EndianSlice::new(bytes, order);
     let mut found: Vec<ExprRef> = Vec::new();
     let mut absolute = false;

@@ -1,6 +1,6 @@
 //! A unit as a list of its items, read by gimli: what the rules of `listed` and the answers of `expected` are told from.
 
-use crate::order::{fixed, Order};
+use crate::order::{fixed, Layout, Order, ESCAPE};
 use gimli::{EndianSlice, Reader};
 
 pub(crate) type Slice<'a> = EndianSlice<'a, Order>;
@@ -33,7 +33,7 @@ pub(crate) struct Item {
 
 /// The first unit of a section, up to the last entry that was met.
 pub(crate) struct Unit {
-    pub(crate) order: Order,
+    pub(crate) layout: Layout,
     pub(crate) encoding: gimli::Encoding,
     /// Where the first item starts.
     pub(crate) first: usize,
@@ -42,14 +42,22 @@ pub(crate) struct Unit {
 
 /// The specification's number for the header, 0 where it is fine.
 pub fn header(section: &[u8], order: Order) -> u8 {
-    let Some((length, rest)) = section.split_first_chunk::<4>() else { return 1 };
-    let length = fixed(order, length);
-    if length >= 0xffff_fff0 {
-        return 2;
+    let Some((front, rest)) = section.split_first_chunk::<4>() else { return 1 };
+    let (length, rest) = match fixed(order, front) {
+        _ if *front == ESCAPE => match rest.split_first_chunk::<8>() {
+            Some((length, rest)) => (fixed(order, length), rest),
+            None => return 1,
+        },
+        0xffff_fff0.. => return 2,
+        length => (length, rest),
+    };
+    if length > rest.len() as u64 {
+        return 1;
     }
-    let Some(unit) = rest.get(..length as usize) else { return 1 };
+    let unit = &rest[..length as usize];
+    let end = 4 + Layout::of(order, section).word();
     let fields: [(usize, &dyn Fn(&[u8]) -> bool); 4] =
-        [(2, &|u| fixed(order, &u[..2]) == 5), (3, &|u| matches!(u[2], 1 | 5)), (4, &|u| matches!(u[3], 4 | 8)), (8, &|_| true)];
+        [(2, &|u| fixed(order, &u[..2]) == 5), (3, &|u| matches!(u[2], 1 | 5)), (4, &|u| matches!(u[3], 4 | 8)), (end, &|_| true)];
     for (need, right) in fields {
         if unit.len() < need {
             return 1;
@@ -58,7 +66,7 @@ pub fn header(section: &[u8], order: Order) -> u8 {
             return 2;
         }
     }
-    u8::from(unit[2] == 5 && unit.len() < 16)
+    u8::from(unit[2] == 5 && unit.len() < end + 8)
 }
 
 /// The same in either byte order.
@@ -86,7 +94,9 @@ pub(crate) fn read(parts: [&[u8]; 5], order: Order, met: usize) -> gimli::Result
     let section = gimli::DebugInfo::from(reader(0));
     let Some(header) = section.units().next()? else { return Ok(None) };
     let table = header.abbreviations(&gimli::DebugAbbrev::from(reader(1)))?;
-    let mut unit = Unit { order, encoding: header.encoding(), first: header.size_of_header(), items: Vec::new() };
+    let encoding = header.encoding();
+    let layout = Layout { order, wide: encoding.format == gimli::Format::Dwarf64 };
+    let mut unit = Unit { layout, encoding, first: header.size_of_header(), items: Vec::new() };
     let mut left = met;
     let mut entries = header.entries_raw(&table, None)?;
     while !entries.is_empty() {

@@ -21,12 +21,12 @@ pub extern "C" fn collector_collect_lent(
     big_endian: u64,
     index: &mut [u64],
     offsets: &mut [u64],
-    parents: &mut [u32],
+    parents: &mut [u64],
     roots: &mut [u8],
     ends: &mut [u64],
     marks: &mut [u8],
     targets: &mut [u64],
-    pairs: &mut [u32],
+    pairs: &mut [u64],
     work: &mut [u32],
     map: &mut [u8],
     range_list: &mut [u8],
@@ -124,12 +124,12 @@ pub extern "C" fn collector_collect(
 {
     let mut index = [0u64; 1024];
     let mut offsets = [0u64; 2048];
-    let mut parents = [0u32; 2048];
+    let mut parents = [0u64; 2048];
     let mut roots = [0u8; 2048];
     let mut ends = [0u64; 2048];
     let mut marks = [0u8; 2048];
     let mut targets = [0u64; 8192];
-    let mut pairs = [0u32; 16384];
+    let mut pairs = [0u64; 16384];
     let mut work = [0u32; 4096];
     collector_collect_lent(
         section,

@@ -9,3 +9,4 @@ pub mod NewValues
 pub mod Accepting
 pub mod CallRefusals
 pub mod ByteOrders
+pub mod Formats

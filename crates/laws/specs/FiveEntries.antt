@@ -4,32 +4,31 @@ use mathlib.Core.Path.{_≡_}
 use mathlib.Core.List.{List, [], _∷_, _++_}
 use mathlib.Core.Bool.{Bool, true, false}
 use mathlib.Core.Option.{some}
-use Prim.Native.Nat.{ℕ, _+_}
+use Prim.Native.Nat.{ℕ, _+_, _-_}
 use lib.ListN.{length}
 use Rattle.readers.specs.Numbers.{fixedBytes}
-use Rattle.readers.specs.Codes.{«DW_FORM_ref1», «DW_FORM_ref4»}
-use Rattle.readers.specs.Header.{encodingOf}
+use Rattle.readers.specs.Codes.{«DW_FORM_strp», «DW_FORM_ref1», «DW_FORM_ref4», «DW_FORM_ref8»}
+use Rattle.readers.specs.Header.{lengthSize, encodingOf}
 use Rattle.readers.specs.declared.cursor.Encoding.{Encoding}
 use Rattle.marking.specs.Analysis.{sections, rooms}
 use Rattle.marking.specs.declared.setting.Setting.{Setting}
 use Rattle.rewriting.specs.Places.{Place}
 use Rattle.marking.specs.Addresses.{isTombstone}
-use Rattle.rewriting.specs.Emission.{headerBytes}
 use Rattle.rewriting.specs.Written.{paddedAnswer, paddedOut}
 use Rattle.rewriting.specs.declared.numbers.Padded.the-variants.{Written, Refused as Padded′}
 use Rattle.rewriting.specs.Rewriting.{collectOf, Collected, Room, Lists, noLists, untouched, rewritten, refused}
 
--- its abbreviations, by the form of its references
-abbrev pub declaring : ℕ → List ℕ
-declaring form =
+-- its abbreviations, by the form of its references and the attributes of its base types
+abbrev pub declaring : ℕ → List ℕ → List ℕ
+declaring form specs =
     0x01 ∷ 0x11 ∷ 0x01 ∷ 0 ∷ 0
     ∷ 0x02 ∷ 0x2e ∷ 0 ∷ 0x11 ∷ 0x1b ∷ 0x49 ∷ form ∷ 0 ∷ 0
-    ∷ 0x03 ∷ 0x24 ∷ 0 ∷ 0 ∷ 0
-    ∷ 0 ∷ []
+    ∷ 0x03 ∷ 0x24 ∷ 0 ∷ (specs ++ (0 ∷ 0
+    ∷ 0 ∷ []))
 
 -- 01 11 01 00 00 02 2e 00 11 1b 49 11 00 00 03 24 00 00 00 00
 abbrev pub abbreviations5 : List ℕ
-abbreviations5 = declaring «DW_FORM_ref1»
+abbreviations5 = declaring «DW_FORM_ref1» []
 
 -- what follows the header; of P1's answer, too
 abbrev pub body5 : List ℕ
@@ -90,39 +89,80 @@ P1toP10 =
 
 -- ---- P1 by an encoding
 
+-- unit_length (7.4): a number as wide as an offset; 0xffffffff stands before it in the 64-bit format
+abbrev pub lengthIn : Encoding → ℕ → List ℕ
+lengthIn e n =
+    fixedBytes (e .«big_endian») (lengthSize e - e .«offset_size») 0xffffffff
+    ++ fixedBytes (e .«big_endian») (e .«offset_size») n
+
 -- a unit of unit type 1 with a body (7.5.1.1)
 abbrev pub unitIn : Encoding → List ℕ → List ℕ
 unitIn e body =
-    fixedBytes (e .«big_endian») (e .«offset_size») (4 + e .«offset_size» + length body)
+    lengthIn e (4 + e .«offset_size» + length body)
     ++ (fixedBytes (e .«big_endian») 2 (e .version)
     ++ (0x01 ∷ e .«address_size» ∷ (fixedBytes (e .«big_endian») (e .«offset_size») 0 ++ body)))
+
+-- where its first entry starts
+abbrev pub firstIn : Encoding → ℕ
+firstIn e = lengthSize e + 4 + e .«offset_size»
 
 abbrev pub fiveIn : Encoding → List ℕ → List ℕ → List ℕ → Collected
 fiveIn e abbreviations body table = collectOf (sections abbreviations [] [] table (told (e .«big_endian»))) room5 false (unitIn e body)
 
--- an entry that refers to a place in DW_FORM_ref4
-abbrev pub refers : Encoding → ℕ → ℕ → List ℕ
-refers e index to = 0x02 ∷ index ∷ fixedBytes (e .«big_endian») 4 to
+-- a subprogram, by its address index, that refers to a place in so many bytes
+module _ (e : Encoding) (width : ℕ) where
+  abbrev pub subprogram : ℕ → ℕ → List ℕ
+  subprogram index to = 0x02 ∷ index ∷ fixedBytes (e .«big_endian») width to
+
+-- P1 where a subprogram has n bytes and a base type has k: five entries from `first` on; the first subprogram refers to
+-- the second base type, the second to the first
+module _ (first n k : ℕ) where
+  abbrev pub entriesAt : (ℕ → ℕ → List ℕ) → List ℕ → List ℕ
+  entriesAt sub base =
+      0x01 ∷ (sub 0 (first + 1 + n + k) ++ (base ++ (base ++ (sub 1 (first + 1 + n) ++ (0x00 ∷ [])))))
+
+  -- what is left: the first subprogram and what it refers to
+  abbrev pub leftAt : (ℕ → ℕ → List ℕ) → List ℕ → List ℕ
+  leftAt sub base = 0x01 ∷ (sub 0 (first + 1 + n) ++ (base ++ (0x00 ∷ [])))
+
+  abbrev pub placesAt : List Place
+  placesAt =
+      place first first 0 ∷ place (first + 1) (first + 1) 1 ∷ place (first + 1 + n + k) (first + 1 + n) 1
+      ∷ place (first + 1 + n + k + k + n) (first + 1 + n + k) 1 ∷ []
+
+-- P1 with references of a form, which takes so many bytes, and base types that are declared and written so
+abbrev pub P1By : Encoding → ℕ → ℕ → List ℕ → List ℕ → Type 0
+P1By e form width specs base =
+    let first = firstIn e in
+    let n = 2 + width in
+    let k = length base in
+    fiveIn e (declaring form specs) (entriesAt first n k (subprogram e width) base) (1 ∷ 0 ∷ [])
+    ≡ rewrite5 3 (placesAt first n k) (unitIn e (leftAt first n k (subprogram e width) base))
 
 pub record P1In (e : Encoding) : Type 0 where
-  -- its references are of one byte
-  pub narrow : fiveIn e abbreviations5 body5 (1 ∷ 0 ∷ []) ≡ rewrite5 3 places1 (unitIn e body1)
-  -- of four, in the byte order of the unit: the one that is written is, too
-  pub wide : fiveIn e (declaring «DW_FORM_ref4») (0x01 ∷ (refers e 0 20 ++ (0x03 ∷ 0x03 ∷ (refers e 1 19 ++ (0x00 ∷ []))))) (1 ∷ 0 ∷ [])
-      ≡ rewrite5 3 (place 12 12 0 ∷ place 13 13 1 ∷ place 20 19 1 ∷ place 27 20 1 ∷ [])
-      (unitIn e (0x01 ∷ (refers e 0 19 ++ (0x03 ∷ 0x00 ∷ []))))
+  -- references of one byte, of four and of eight: the one that is written is as wide, and in the unit's byte order
+  pub one : P1By e «DW_FORM_ref1» 1 [] (0x03 ∷ [])
+  pub four : P1By e «DW_FORM_ref4» 4 [] (0x03 ∷ [])
+  pub eight : P1By e «DW_FORM_ref8» 8 [] (0x03 ∷ [])
+  -- each base type has a name in DW_FORM_strp, as wide as an offset
+  pub named : P1By e «DW_FORM_ref1» 1 (0x03 ∷ «DW_FORM_strp» ∷ []) (0x03 ∷ fixedBytes (e .«big_endian») (e .«offset_size») 7)
 
--- what follows the length in a big-endian header of the 64-bit format
-abbrev pub rest64 : List ℕ
-rest64 = 0 ∷ 0x05 ∷ 0x01 ∷ 0x08 ∷ 0 ∷ 0 ∷ 0 ∷ 0 ∷ 0 ∷ 0 ∷ 0 ∷ 9 ∷ []
-
--- the five-entry unit's bytes in both orders; a header of the 64-bit format, which is not read yet, written for a unit of
--- 0x20 bytes: what stands before the number of its length stays
+-- the bytes of the five-entry unit as document 01 has it, big-endian, and big-endian in the 64-bit format; what is left
+-- of it
 abbrev pub BytesIn : Type 0
 BytesIn =
     (unitIn (encodingOf false 5 4 8) body5 ≡ unit5)
+    × (entriesAt 12 3 1 (subprogram (encodingOf false 5 4 8) 1) (0x03 ∷ []) ≡ body5)
+    × (leftAt 12 3 1 (subprogram (encodingOf false 5 4 8) 1) (0x03 ∷ []) ≡ body1)
+    × (placesAt 12 3 1 ≡ places1)
     × (unitIn (encodingOf true 5 4 8) body5
     ≡ 0 ∷ 0 ∷ 0 ∷ 0x12 ∷ 0 ∷ 0x05 ∷ 0x01 ∷ 0x08 ∷ 0 ∷ 0 ∷ 0 ∷ 0 ∷ body5)
-    × (headerBytes (encodingOf true 5 8 8)
-    (0xff ∷ 0xff ∷ 0xff ∷ 0xff ∷ 1 ∷ 2 ∷ 3 ∷ 4 ∷ 5 ∷ 6 ∷ 7 ∷ 8 ∷ rest64) 24 0x20
-    ≡ 0xff ∷ 0xff ∷ 0xff ∷ 0xff ∷ 0 ∷ 0 ∷ 0 ∷ 0 ∷ 0 ∷ 0 ∷ 0 ∷ 0x14 ∷ rest64)
+    × (unitIn (encodingOf true 5 8 8) (entriesAt 24 3 1 (subprogram (encodingOf true 5 8 8) 1) (0x03 ∷ []))
+    ≡ 0xff ∷ 0xff ∷ 0xff ∷ 0xff ∷ 0 ∷ 0 ∷ 0 ∷ 0 ∷ 0 ∷ 0 ∷ 0 ∷ 0x16 ∷ 0 ∷ 0x05 ∷ 0x01 ∷ 0x08
+    ∷ 0 ∷ 0 ∷ 0 ∷ 0 ∷ 0 ∷ 0 ∷ 0 ∷ 0
+    ∷ 0x01 ∷ 0x02 ∷ 0x00 ∷ 0x1d ∷ 0x03 ∷ 0x03 ∷ 0x02 ∷ 0x01 ∷ 0x1c ∷ 0x00 ∷ [])
+    × (placesAt 24 3 1 ≡ place 24 24 0 ∷ place 25 25 1 ∷ place 29 28 1 ∷ place 33 29 1 ∷ [])
+    × (unitIn (encodingOf true 5 8 8) (leftAt 24 3 1 (subprogram (encodingOf true 5 8 8) 1) (0x03 ∷ []))
+    ≡ 0xff ∷ 0xff ∷ 0xff ∷ 0xff ∷ 0 ∷ 0 ∷ 0 ∷ 0 ∷ 0 ∷ 0 ∷ 0 ∷ 0x12 ∷ 0 ∷ 0x05 ∷ 0x01 ∷ 0x08
+    ∷ 0 ∷ 0 ∷ 0 ∷ 0 ∷ 0 ∷ 0 ∷ 0 ∷ 0
+    ∷ 0x01 ∷ 0x02 ∷ 0x00 ∷ 0x1c ∷ 0x03 ∷ 0x00 ∷ [])

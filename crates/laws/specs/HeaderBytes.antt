@@ -7,6 +7,8 @@ use lib.ListN.{length, take, drop}
 use Rattle.readers.specs.Codes.{«DW_UT_split_compile»}
 use Rattle.readers.specs.Header.{lengthSize}
 use Rattle.readers.specs.Numbers.{fixedBytes}
+use Rattle.readers.specs.Cursors.{cursor, fixedAt}
+use Rattle.readers.specs.declared.cursor.Number.the-variants.{Value}
 use Rattle.readers.specs.declared.header.UnitHeader.{UnitHeader}
 
 module _ (h : UnitHeader) where
@@ -18,9 +20,10 @@ module _ (h : UnitHeader) where
   l = lengthSize (h .encoding)
 
   pub record HeaderBytes (old new : List ℕ) : Type 0 where
-    -- "The length field is the new size less 4.": a number as wide as an offset, in the unit's byte order, behind what
-    -- stood before it
+    -- "The length field is the new size less 4." and "less 12 in that format": a number as wide as an offset, in the
+    -- unit's byte order, behind what stood before it; it is read so
     pub length-field : take l new ≡ take (l - w) old ++ fixedBytes (h .encoding .«big_endian») w (length new - l)
+    pub length-read : fixedAt (h .encoding .«big_endian») w new (l - w) ≡ Value (length new - l) (cursor l)
     -- version, unit type, address size, abbreviation offset and unit id
     pub others : drop l (take (h .first .0) new) ≡ drop l (take (h .first .0) old)
     -- unit type 0x05: the last eight bytes of the header are the unit id (dwo_id)

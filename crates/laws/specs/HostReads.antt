@@ -1,5 +1,5 @@
--- What a host reads in the slices that it lent (include/collector.h): a map place is three numbers of four big-endian bytes,
--- old offset, new offset and depth; a number of an index list has eight.
+-- What a host reads in the slices that it lent (include/collector.h): numbers of eight big-endian bytes each, three a map
+-- place: old offset, new offset and depth.
 use mathlib.Core.Path.{_≡_}
 use Prim.Native.Nat.{ℕ, _+_, _*_, _-_, _^_, _≤_, _<_}
 use mathlib.Core.List.{List}
@@ -8,33 +8,38 @@ use lib.ListN.{length, take, drop}
 use Rattle.readers.specs.Choice.{zeros}
 use Rattle.rewriting.specs.Places.{Place}
 use Rattle.marking.specs.Members.{Member, Nth}
-use Rattle.rewriting.specs.Written.{numberAt}
+use Rattle.rewriting.specs.Written.{numberSize, placeSize, numberAt}
 use Rattle.rewriting.specs.Rewriting.{Lists, Rewrite, Collected, untouched, rewritten, refused}
 use Rattle.rewriting.specs.Outputs.{mapFor, outputFor, listFor, rangesIn, locationsIn, stringsIn}
 
 -- the k-th place of a map
 unfoldable pub placeAt : List ℕ → ℕ → Place
-placeAt map k = record { old = numberAt 4 map (12 * k); new = numberAt 4 map (12 * k + 4); depth = numberAt 4 map (12 * k + 8) }
+placeAt map k =
+    record {
+      old = numberAt numberSize map (placeSize * k);
+      new = numberAt numberSize map (placeSize * k + numberSize);
+      depth = numberAt numberSize map (placeSize * k + 2 * numberSize);
+    }
 
 -- the k-th number of an index list
 unfoldable pub listNumberAt : List ℕ → ℕ → ℕ
-listNumberAt list k = numberAt 8 list (8 * k)
+listNumberAt list k = numberAt numberSize list (numberSize * k)
 
--- a slice of `size` bytes as a map: the k-th place is read at k, all numbers are below 2^32, and zeros follow the last place
+-- a slice of `size` bytes as a map: the k-th place is read at k, all numbers are below 2^64, and zeros follow the last place
 pub record MapReads (size : ℕ) (places : List Place) (map : List ℕ) : Type 0 where
   pub sized : length map ≡ size
-  pub room : 12 * length places ≤ size
-  pub small : (p : Place) → Member p places → (p .old < 2 ^ 32) × (p .new < 2 ^ 32) × (p .depth < 2 ^ 32)
+  pub room : placeSize * length places ≤ size
+  pub small : (p : Place) → Member p places → (p .old < 2 ^ 64) × (p .new < 2 ^ 64) × (p .depth < 2 ^ 64)
   pub each : (k : ℕ) (p : Place) → Nth p k places → placeAt map k ≡ p
-  pub after : drop (12 * length places) map ≡ zeros (size - 12 * length places)
+  pub after : drop (placeSize * length places) map ≡ zeros (size - placeSize * length places)
 
 -- a slice of `size` bytes as an index list: the k-th number is read at k, all are below 2^64, and zeros follow the last
 pub record ListReads (size : ℕ) (numbers list : List ℕ) : Type 0 where
   pub sized : length list ≡ size
-  pub room : 8 * length numbers ≤ size
+  pub room : numberSize * length numbers ≤ size
   pub small : (v : ℕ) → Member v numbers → v < 2 ^ 64
   pub each : (k v : ℕ) → Nth v k numbers → listNumberAt list k ≡ v
-  pub after : drop (8 * length numbers) list ≡ zeros (size - 8 * length numbers)
+  pub after : drop (numberSize * length numbers) list ≡ zeros (size - numberSize * length numbers)
 
 -- an absent list is zeros
 unfoldable pub PresentReads : ℕ → Option (List ℕ) → List ℕ → Type 0

@@ -23,3 +23,4 @@ pub mod Yields
 pub mod Ancestors
 pub mod AddressTables
 pub mod ByteOrders
+pub mod Formats

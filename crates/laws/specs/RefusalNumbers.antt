@@ -13,7 +13,7 @@ OneOf (m ∷ ms) n = (n ≡ m) ⊎ OneOf ms n
 abbrev pub HeaderRefusal : ℕ → Type 0
 HeaderRefusal n = OneOf (1 ∷ 2 ∷ []) n
 
--- "references of an expression. In this order 2 (address size not 4 or 8), 5, 7, 11"
+-- "references of an expression. In this order 2 (address size not 4 or 8), 5, 7, 11"; 2 for an offset size, too
 abbrev pub ReferencesRefusal : ℕ → Type 0
 ReferencesRefusal n = OneOf (2 ∷ 5 ∷ 7 ∷ 11 ∷ []) n
 

@@ -8,6 +8,7 @@ use mathlib.Core.List.{List, [], _∷_}
 use mathlib.Core.Logic.{_⊎_, _↔_}
 use mathlib.Core.Option.{some}
 use lib.Dec.{eqb}
+use Rattle.readers.specs.Lists.{listBase}
 use Rattle.readers.specs.Abbreviations.{Placed, abbreviationsOf}
 use Rattle.readers.specs.Choice.{pick}
 use Rattle.readers.specs.Codes.{«DW_AT_location», «DW_AT_loclists_base», «DW_AT_sibling», «DW_FORM_exprloc»}
@@ -162,8 +163,8 @@ pub record UnitReferences (x : Sections) (section : List ℕ) (rows : List Entry
   pub declared : List Placed
   pub header-is : headerOf (x .setting .«big_endian») section ≡ Header′ header
   pub declared-is : abbreviationsOf (x .abbreviations) (header .abbreviations) ≡ some declared
-  -- row by row: list bases default to 12
-  pub rows-are : RowsReferences x (unitOf header section declared) 12 (itemsIn x (unitOf header section declared)) rows
+  -- row by row, from the default list base on
+  pub rows-are : RowsReferences x (unitOf header section declared) (listBase (header .encoding)) (itemsIn x (unitOf header section declared)) rows
   -- and of every entry
   pub each : (y : Entry) → Member (entry y) (itemsIn x (unitOf header section declared))
       → RowReferences x (unitOf header section declared) rows y

@@ -8,6 +8,7 @@ use lib.ListN.{length, take}
 use Rattle.readers.specs.Codes.{«DW_AT_loclists_base»}
 use Rattle.readers.specs.Abbreviations.{Placed, declaredIn, abbreviationsOf}
 use Rattle.readers.specs.Header.{headerOf}
+use Rattle.readers.specs.Lists.{listBase}
 use Rattle.readers.specs.Stream.{Item, entry, terminator, itemsFrom, entryCount}
 use Rattle.readers.specs.declared.cursor.Encoding.{Encoding}
 use Rattle.readers.specs.declared.header.HeaderRead.{HeaderRead}
@@ -50,7 +51,7 @@ module _ (e : Encoding) (x : Sections) (unit : List ℕ) where
       foundCount (namesOf e x unit (baseOf e x unit «DW_AT_loclists_base» base y) y) + referenceCount (baseOf e x unit «DW_AT_loclists_base» base y) rest
 
   abbrev pub itemTables : List Item → Rooms
-  itemTables items = rooms (entryCount items) (referenceCount 12 items)
+  itemTables items = rooms (entryCount items) (referenceCount (listBase e) items)
 
   unfoldable pub declaredTables : ℕ → Option (List Placed) → Rooms
   declaredTables first none = rooms 0 0

@@ -8,13 +8,15 @@ use mathlib.Core.Option.{some}
 use mathlib.Core.Logic.{_⊎_, _↔_}
 use lib.ListN.{length, getD, take}
 use lib.Dec.{T}
+use Rattle.readers.specs.Lists.{listBase}
 use Rattle.readers.specs.Abbreviations.{Placed, abbreviationsOf}
 use Rattle.readers.specs.Header.{headerOf, Known}
 use Rattle.readers.specs.declared.header.UnitHeader.{UnitHeader}
 use Rattle.readers.specs.declared.header.HeaderRead.the-variants.{Unit as Unit′}
 use Rattle.marking.specs.Members.{Member, Nth}
 use Rattle.marking.specs.Below.{Number}
-use Rattle.marking.specs.Graph.{Graph, size, noParent, isParent, isRoot, names}
+use Rattle.readers.specs.Nesting.{noParent}
+use Rattle.marking.specs.Graph.{Graph, size, isParent, isRoot, names}
 use Rattle.marking.specs.Survivors.{Survivor, ClosedBy, LeastBy}
 use Rattle.laws.specs.Markings.{run, nothing, MarksSurvivors}
 use Rattle.marking.specs.Marks.{isKept, keptCount}
@@ -60,7 +62,7 @@ LeastRows rows S = LeastBy (length rows) (RootIn rows) (ParentIn rows) (Below ro
 -- ---- what the rows say of the entries
 
 -- the first unit of a section, by the header and the declarations that are found: its items are read to its end, and
--- the rows are those of its entries. At first no entry is open and the list bases are 12. Its encoding is one of those
+-- the rows are those of its entries. At first no entry is open and the list bases are the format's. Its encoding is one of those
 -- that are read, in the byte order that was told.
 pub record FirstUnit (x : Sections) (section : List ℕ) (rows : List EntryRow) : Type 0 where
   pub header : UnitHeader
@@ -69,7 +71,8 @@ pub record FirstUnit (x : Sections) (section : List ℕ) (rows : List EntryRow) 
   pub known : Known (x .setting .«big_endian») (header .encoding)
   pub declared-is : abbreviationsOf (x .abbreviations) (header .abbreviations) ≡ some declared
   pub whole : unitItems x section header declared .1 ≡ true
-  pub each : RowsOf (header .encoding) x (take (header .end) section) 0 [] 12 12 (unitItems x section header declared .0) rows
+  pub each : RowsOf (header .encoding) x (take (header .end) section) 0 [] (listBase (header .encoding)) (listBase (header .encoding))
+      (unitItems x section header declared .0) rows
 
 -- the graph that is marked says what the rows say
 pub record GraphSays (rows : List EntryRow) (g : Graph) : Type 0 where
@@ -87,7 +90,7 @@ pub record SurvivorsOf (x : Sections) (section : List ℕ) (rows : List EntryRow
   pub least : LeastRows rows (Survivor (graphOf rows))
   -- the rows say what the entries do: an empty section has none, else they are those of its first unit
   pub unit : ((section ≡ []) × (rows ≡ [])) ⊎ FirstUnit x section rows
-  -- 0xffffffff, for no parent, is the number of no entry
+  -- what stands for no parent is the number of no entry
   pub few : length rows < noParent
   pub graph : GraphSays rows (graphOf rows)
   -- a mark for each entry: it keeps exactly the survivors, and says which are live, retained or dead

@@ -8,7 +8,8 @@ use lib.ListN.{length, getD, replicate}
 use borrow.Author.Tests.{lt-ltb, le-ltb, eq-eqb, ne-eqb, eqb-true, lt-leb, le-leb, not-true, not-false}
 use Rattle.readers.specs.Choice.{pick, _and_, _or_}
 use Rattle.marking.specs.Below.{every}
-use Rattle.marking.specs.Graph.{Graph, graph, size, noParent, references, parentFits, pairFits, rootFits, wellFormed, takes}
+use Rattle.readers.specs.Nesting.{noParent}
+use Rattle.marking.specs.Graph.{Graph, graph, size, references, parentFits, pairFits, rootFits, wellFormed, takes}
 use Rattle.marking.specs.Marks.{isKept, keptCount, marksOf, endMarks, markAnswer}
 use Rattle.marking.specs.inner.Passes.{sum, Sound, Settled, ParentsFit, PairsFit, endFirst}
 use Rattle.marking.specs.declared.marks.Marked.the-variants.{Kept, Refused}

@@ -242,16 +242,15 @@ unfolding padTo
 padded-take n xs column l e = ap (take n) e ∙ take-at xs (zeros (length column - length xs)) n l
 
 module _ (unit : List ℕ) (room : Rooms) (first : ℕ) (rows : List EntryRow) (u : UnitRows unit room first rows) (offsets ends targets pairs : List ℕ) where
-  pub rows-held : length unit < 2 ^ 32 → offsets ≡ padTo (length offsets) (offsetsIn rows) → ends ≡ padTo (length ends) (endsIn 0 rows)
+  pub rows-held : offsets ≡ padTo (length offsets) (offsetsIn rows) → ends ≡ padTo (length ends) (endsIn 0 rows)
       → targets ≡ padTo (length targets) (namesIn rows) → pairs ≡ zeros (length pairs) → 2 * length (namesIn rows) ≤ length pairs
       → ReferenceColumns rows offsets ends (length rows) targets pairs
-  rows-held small o e t p k =
+  rows-held o e t p k =
       let start : take (length rows) offsets ≡ offsetsIn rows = padded-take (length rows) (offsetsIn rows) offsets (length-offsets rows) o in
       record {
         count = refl;
         searched = record {
           inside = omega (arith, padded-few (offsetsIn rows) offsets o, length-offsets rows);
-          few = omega (arith, u .few);
           ascending =
               subst (Ascending 0) (sym start)
               (offsets-ascend (length unit) 0 0 rows (rowed-from (length unit) 0 first 0 rows (omega arith) (u .rowed)));

@@ -8,6 +8,7 @@ use mathlib.Core.Logic.{inl, inr}
 use lib.ListN.{length, take}
 use lib.Dec.{ltb, leb}
 use Rattle.readers.proofs.Choice.{pick-either}
+use Rattle.readers.specs.Lists.{listBase}
 use Rattle.readers.specs.Nesting.{opened, closed, top}
 use Rattle.readers.specs.Abbreviations.{Placed, abbreviationsOf}
 use Rattle.readers.specs.Header.{headerOf}
@@ -95,21 +96,21 @@ module _ (x : Sections) (section : List ℕ) (room : Rooms) (h : UnitHeader) (ds
   unfolding analysisOf headerAnalysed
   unit-analysed = sym (ap (headerAnalysed x section room) header) ∙ analysis
 
-  items-analysed : analyseItems (h .encoding) x own room startOf (unitItems x section h ds .0) (unitItems x section h ds .1) ≡ analysed rows
+  items-analysed : analyseItems (h .encoding) x own room (startOf (h .encoding)) (unitItems x section h ds .0) (unitItems x section h ds .1) ≡ analysed rows
   unfolding unitAnalysed onDeclared
   items-analysed =
       sym (ap (λ (o : Option (List Placed)). onDeclared o (λ ds.
-      analyseItems (h .encoding) x own room startOf (unitItems x section h ds .0) (unitItems x section h ds .1))) declared) ∙ unit-analysed
+      analyseItems (h .encoding) x own room (startOf (h .encoding)) (unitItems x section h ds .0) (unitItems x section h ds .1))) declared) ∙ unit-analysed
 
-  right : Right (h .encoding) x own (unitItems x section h ds .1) 0 [] 12 12 (unitItems x section h ds .0) rows
-  right = gives-of _ _ rows (follows (h .encoding) x own room startOf _ _) items-analysed
+  right : Right (h .encoding) x own (unitItems x section h ds .1) 0 [] (listBase (h .encoding)) (listBase (h .encoding)) (unitItems x section h ds .0) rows
+  right = gives-of _ _ rows (follows (h .encoding) x own room (startOf (h .encoding)) _ _) items-analysed
 
   -- the items end at the unit's end
   pub items-whole : unitItems x section h ds .1 ≡ true
   items-whole = right .0
 
   -- each row is that of its entry
-  pub items-rows : RowsOf (h .encoding) x own 0 [] 12 12 (unitItems x section h ds .0) rows
+  pub items-rows : RowsOf (h .encoding) x own 0 [] (listBase (h .encoding)) (listBase (h .encoding)) (unitItems x section h ds .0) rows
   items-rows = right .1
 
   -- how the rows stand in it

@@ -4,7 +4,8 @@ use mathlib.Core.List.{List, [], _∷_}
 use Prim.Native.Nat.{ℕ}
 use Rattle.readers.specs.Choice.{pick, _and_, _or_}
 use Rattle.marking.specs.Below.{any, every, tab, count}
-use Rattle.marking.specs.Graph.{Graph, graph, noParent, isParent, isRoot, references, names, parentFits, pairFits}
+use Rattle.readers.specs.Nesting.{noParent}
+use Rattle.marking.specs.Graph.{Graph, graph, isParent, isRoot, references, names, parentFits, pairFits}
 use Rattle.marking.specs.Graph.{rootFits, wellFormed, takes}
 use Rattle.marking.specs.Markings.{climbs, isDescendant, namedBy, isTop, isLive, justified}
 use Rattle.marking.specs.Marks.{has, round, rounds, keptOf, markOf, marksOf, isKept, keptCount, markAnswer}

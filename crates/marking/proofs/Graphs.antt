@@ -10,7 +10,8 @@ use lib.Dec.{ltb, eqb}
 use borrow.Author.Tests.{ltb-true, lt-ltb, eqb-true, eqb-false, eq-eqb, ne-eqb, not-true}
 use Rattle.readers.specs.Choice.{_and_}
 use Rattle.marking.specs.Below.{every}
-use Rattle.marking.specs.Graph.{Graph, size, noParent, isParent, isRoot, names, references, holder, target, parentFits, pairFits, wellFormed}
+use Rattle.readers.specs.Nesting.{noParent}
+use Rattle.marking.specs.Graph.{Graph, size, isParent, isRoot, names, references, holder, target, parentFits, pairFits, wellFormed}
 use Rattle.marking.specs.Survivors.{Descendant, child, deeper}
 use Rattle.marking.proofs.Tests.{and-out, and-in, or-out, any-out, any-in, every-at}
 

@@ -11,7 +11,8 @@ use borrow.Author.Count.{below-more}
 use lib.ListN.{length, getD, set, length-set}
 use lib.Seq.{getD-set-same, getD-set-other}
 use Rattle.readers.specs.Choice.{_or_}
-use Rattle.marking.specs.Graph.{Graph, size, noParent, isRoot, references, holder, parentFits, pairFits}
+use Rattle.readers.specs.Nesting.{noParent}
+use Rattle.marking.specs.Graph.{Graph, size, isRoot, references, holder, parentFits, pairFits}
 use Rattle.marking.specs.Survivors.{Survivor, parent, Live, live-named}
 use Rattle.marking.specs.inner.Passes.{sum, Sound, Pass, WithParents, WithPairs, WithBoth, DownAt, AlongAt, UpAt, Down, Along, Up, Settled, ParentsFit, PairsFit}
 use Rattle.marking.proofs.Tests.{or-inr, every-at}

@@ -11,7 +11,7 @@ use Rattle.readers.specs.Operations.{unreadableRow, rows, rowOf, rowLayout, ope
 use Rattle.readers.specs.Operations.{operation, locationEntries, listRow}
 use Rattle.readers.specs.Expression.{allPieces, andRest, expressionWithin, expressionIn}
 use Rattle.readers.specs.References.{nameIn, namesIn, isAbsolute, anyAbsolute, asWalk, walkOf, namesOr, referencesIn}
-use Rattle.readers.specs.References.{walkAnswer, referencesAnswer, numbersOf, answerTable, referencesTable}
+use Rattle.readers.specs.References.{walkAnswer, sizeKnown, referencesAnswer, numbersOf, answerTable, referencesTable}
 use Rattle.readers.specs.declared.expressions.References.the-variants.{Count, Refused}
 use Rattle.readers.specs.Cursors.{cursor}
 use Rattle.readers.specs.Fields.{linkedValue, size, fieldOf, rowOfReads}
@@ -54,16 +54,20 @@ unfolding listFound locationStep onLocation locationFound partOf walk walkWithin
     unsigned64 fixedValue ordered littleValue width bytesOf pieceBytes numberBytes pick check bind _and_ _or_
 lists = (refl, refl, refl, refl, refl)
 
--- references of an expression: place, offset and width, by the byte order that is told
+-- references of an expression: place, offset and width, by the sizes and the byte order that are told
 calls :
-    (referencesAnswer 8 false 6 (0x98 ∷ 1 ∷ 7 ∷ []) ≡ Count 1)
-    × (referencesTable 8 false 6 (0x98 ∷ 1 ∷ 7 ∷ []) ≡ 1 ∷ 0x0701 ∷ 2 ∷ 0 ∷ 0 ∷ 0 ∷ [])
-    × (referencesAnswer 8 true 6 (0x98 ∷ 1 ∷ 7 ∷ []) ≡ Count 1)
-    × (referencesTable 8 true 6 (0x98 ∷ 1 ∷ 7 ∷ []) ≡ 1 ∷ 0x0107 ∷ 2 ∷ 0 ∷ 0 ∷ 0 ∷ [])
-    × (referencesAnswer 3 true 6 [] ≡ Refused 2)
-unfolding referencesAnswer referencesTable answerTable walkAnswer numbersOf walkOf asWalk referencesIn namesOr namesIn
+    (referencesAnswer 8 4 false 6 (0x98 ∷ 1 ∷ 7 ∷ []) ≡ Count 1)
+    × (referencesTable 8 4 false 6 (0x98 ∷ 1 ∷ 7 ∷ []) ≡ 1 ∷ 0x0701 ∷ 2 ∷ 0 ∷ 0 ∷ 0 ∷ [])
+    × (referencesAnswer 8 4 true 6 (0x98 ∷ 1 ∷ 7 ∷ []) ≡ Count 1)
+    × (referencesTable 8 4 true 6 (0x98 ∷ 1 ∷ 7 ∷ []) ≡ 1 ∷ 0x0107 ∷ 2 ∷ 0 ∷ 0 ∷ 0 ∷ [])
+    × (referencesAnswer 8 4 false 6 (0x9a ∷ 0 ∷ 0 ∷ 0 ∷ 0 ∷ []) ≡ Refused 7)
+    × (referencesAnswer 8 8 false 6 (0x9a ∷ 0 ∷ 0 ∷ 0 ∷ 0 ∷ []) ≡ Refused 5)
+    × (referencesAnswer 3 4 true 6 [] ≡ Refused 2)
+    × (referencesAnswer 4 3 true 6 [] ≡ Refused 2)
+    × (referencesAnswer 3 3 true 6 [] ≡ Refused 2)
+unfolding sizeKnown referencesAnswer referencesTable answerTable walkAnswer numbersOf walkOf asWalk referencesIn namesOr namesIn
     nameIn anyAbsolute isAbsolute expressionIn expressionWithin andRest allPieces encodingOf operation operationRow
     operations rowAmong rowOf rows unreadableRow rowLayout tokenOf numberAs readIn tokenIn numberIn before asNumber
     asBounded asLink asBlock asExpression asLeb copy uleb groups below unsigned64 fixedValue ordered littleValue width
     bytesOf pieceBytes numberBytes pick check bind _and_ _or_
-calls = (refl, refl, refl, refl, refl)
+calls = (refl, refl, refl, refl, refl, refl, refl, refl, refl)

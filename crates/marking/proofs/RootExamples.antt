@@ -22,8 +22,8 @@ use Rattle.readers.specs.Cursors.{asLebNumber, lebAt, fixedAt, asFixed}
 use Rattle.readers.specs.Fields.{linkedValue, size, fieldOf, rowOfReads, partOf}
 use Rattle.readers.specs.Steps.{rowOperation, operationOfReads, asOperation, operationAt, listEntry, rowEntry}
 use Rattle.readers.specs.Steps.{entryOfReads, asListStep, listEntryAt}
-use Rattle.readers.specs.Lists.{listStart, fromBase, listOffset}
-use Rattle.readers.specs.Header.{encodingOf}
+use Rattle.readers.specs.Lists.{listBase, listStart, fromBase, listOffset}
+use Rattle.readers.specs.Header.{lengthBytes, encodingOf}
 use Rattle.readers.specs.declared.cursor.Encoding.{Encoding}
 use Rattle.readers.specs.declared.operations.ListStep.{ListStep}
 use Rattle.readers.specs.declared.operations.ListStep.the-variants.{Entry as Entry′, End as ListEnd, Unreadable as ListUnreadable}
@@ -214,9 +214,13 @@ list-bases :
     × (baseAfter 0x8c 12 0x11 (entryOf little8 (0x74 ∷ 0x17 ∷ 0 ∷ 0 ∷ []) (16 ∷ 0 ∷ 0 ∷ 0 ∷ [])) ≡ 12)
     × (baseAfter 0x74 12 0x2e (entryOf little8 (0x74 ∷ 0x17 ∷ 0 ∷ 0 ∷ []) (16 ∷ 0 ∷ 0 ∷ 0 ∷ [])) ≡ 12)
     × (baseAfter 0x74 12 0x11 (entryOf big8 (0x74 ∷ 0x17 ∷ 0 ∷ 0 ∷ []) (0 ∷ 0 ∷ 1 ∷ 16 ∷ [])) ≡ 0x0110)  -- big-endian
-unfolding baseAfter baseFrom entryOf entryValues valuesOf onAttribute specsFrom specsWithin onSpec specAt implicitSpec
+    -- the 64-bit format: a base as wide as an offset; the default
+    × (baseAfter 0x74 20 0x11 (entryOf (encodingOf false 5 8 8) (0x74 ∷ 0x17 ∷ 0 ∷ 0 ∷ []) (4 ∷ 0 ∷ 0 ∷ 0 ∷ 1 ∷ 0 ∷ 0 ∷ 0 ∷ [])) ≡ 0x100000004)
+    × (listBase little8 ≡ 12)
+    × (listBase (encodingOf false 5 8 8) ≡ 20)
+unfolding listBase lengthBytes baseAfter baseFrom entryOf entryValues valuesOf onAttribute specsFrom specsWithin onSpec specAt implicitSpec
     numberSpec lebAt asLebNumber short within16 attributeAt asAttribute attributeOfReads attributeLayout valueToken
     useOf formToken tokenAmong formTokens encodingOf tokenOf numberAs readIn tokenIn numberIn before asNumber copy
     groups below fixedValue ordered littleValue width size bytesOf pieceBytes fieldOf linkedValue pick check bind _and_
     _or_
-list-bases = (refl, refl, refl, refl, refl)
+list-bases = (refl, refl, refl, refl, refl, refl, refl, refl)

@@ -12,7 +12,7 @@ use lib.Dec.{ltb, leb, eqb}
 use borrow.Author.Tests.{lt-ltb, le-leb, eq-eqb}
 use mir.Facts.{ltb-yes, leb-yes}
 use Rattle.readers.proofs.Choice.{pick-either, All, all-some, all-none, all-pick, all-map}
-use Rattle.readers.specs.Nesting.{opened, closed, top}
+use Rattle.readers.specs.Nesting.{noParent, opened, closed, top}
 use Rattle.readers.specs.Abbreviations.{Placed, declaredIn, abbreviationsOf}
 use Rattle.readers.specs.Entries.{stepAt}
 use Rattle.readers.specs.Header.{headerOf}
@@ -23,7 +23,7 @@ use Rattle.readers.specs.declared.abbreviations.DeclarationFound.{DeclarationFo
 use Rattle.readers.specs.declared.entries.Step.{Step}
 use Rattle.readers.specs.declared.entries.Step.the-variants.{Entry as Entry′, Terminator, End, Unreadable}
 use Rattle.marking.specs.Below.{every}
-use Rattle.marking.specs.Graph.{noParent, references, parentFits, pairFits, rootFits, wellFormed, takes}
+use Rattle.marking.specs.Graph.{references, parentFits, pairFits, rootFits, wellFormed, takes}
 use Rattle.marking.specs.EntryReferences.{ReferencesFound, found, refused as refusedAfter}
 use Rattle.marking.specs.declared.root_test.Verdict.{Verdict}
 use Rattle.marking.specs.declared.root_test.Verdict.the-variants.{Live, Dead, Refused as Failed}
@@ -265,10 +265,10 @@ pub record UnitRows (unit : List ℕ) (room : Rooms) (first : ℕ) (rows : List 
 module _ (e : Encoding) (x : Sections) (unit : List ℕ) (room : Rooms) (from first : ℕ) where
   declared-laws : (o : Option (List Placed))
       → Gives (Laws (length unit) first room 0 0)
-      (onDeclared o (λ ds. analyseItems e x unit room startOf (itemsFrom e (x .abbreviations) (declaredIn ds) unit first .0) (itemsFrom e (x .abbreviations) (declaredIn ds) unit first .1)))
+      (onDeclared o (λ ds. analyseItems e x unit room (startOf e) (itemsFrom e (x .abbreviations) (declaredIn ds) unit first .0) (itemsFrom e (x .abbreviations) (declaredIn ds) unit first .1)))
   unfolding onDeclared Gives Under
   declared-laws none = tt
-  declared-laws (some ds) = items-laws e x unit room (length unit) first startOf _ _ (items-in e (x .abbreviations) (declaredIn ds) unit first) tt
+  declared-laws (some ds) = items-laws e x unit room (length unit) first (startOf e) _ _ (items-in e (x .abbreviations) (declaredIn ds) unit first) tt
 
   pub unit-rows : (rows : List EntryRow) → unitAnalysed e x unit room from first ≡ analysed rows → UnitRows unit room first rows
   unfolding unitAnalysed

@@ -1,6 +1,6 @@
 -- The analysis entry by entry: the rows so far stand in the columns, and the rest is analysed from here on. Assumes nothing.
 use mathlib.Core.Path.{_≡_, refl, ap, ap₂, sym, _∙_, subst}
-use Prim.Native.Nat.{ℕ, suc, _+_, _-_, _≤_, _<_}
+use Prim.Native.Nat.{ℕ, suc, _+_, _*_, _-_, _^_, _≤_, _<_}
 use mathlib.Core.Bool.{Bool, true, false}
 use mathlib.Core.Option.{Option, none, some}
 use mathlib.Core.List.{List, [], _∷_, _++_, append-nil, append-assoc}
@@ -14,7 +14,8 @@ use Rattle.readers.proofs.Choice.{pick-yes, pick-no}
 use Rattle.readers.specs.Abbreviations.{Placed, declaredIn, abbreviationsOf, asChecked, checkedOf, indexOf, findAt}
 use Rattle.readers.specs.Entries.{stepAt}
 use Rattle.readers.specs.inner.Entries.{entryOf, entryTo}
-use Rattle.readers.specs.Nesting.{opened, closed, top, nestingOf, nestingOpened, nestingClosed}
+use Rattle.readers.specs.Lists.{listBase}
+use Rattle.readers.specs.Nesting.{noParent, opened, closed, top, nestingOf, nestingOpened, nestingClosed}
 use Rattle.readers.specs.declared.abbreviations.DeclarationFound.{DeclarationFound}
 use Rattle.readers.specs.declared.abbreviations.Checked.the-variants.{Accepted}
 use Rattle.readers.specs.declared.cursor.Cursor.{Cursor}
@@ -180,12 +181,12 @@ unfolding Below Chain
 chain-stays parents n v [] b h = tt
 chain-stays parents n v (k ∷ stack) b h =
     let l : k < n = b .0 in
-    (getD-set-other parents n k v 4294967295 (λ q. absurd (omega (arith, q))) ∙ h .0, chain-stays parents n v stack (b .1) (h .1))
+    (getD-set-other parents n k v noParent (λ q. absurd (omega (arith, q))) ∙ h .0, chain-stays parents n v stack (b .1) (h .1))
 
 chain-open : (children : Bool) (parents : List ℕ) (n : ℕ) (stack : List ℕ) → n < length parents → Below n stack → Chain parents stack
     → Chain (set parents n (top stack)) (opened children n stack)
 unfolding opened Chain
-chain-open true parents n stack l b h = (getD-set-same parents n (top stack) 4294967295 l, chain-stays parents n (top stack) stack b h)
+chain-open true parents n stack l b h = (getD-set-same parents n (top stack) noParent l, chain-stays parents n (top stack) stack b h)
 chain-open false parents n stack l b h = chain-stays parents n (top stack) stack b h
 
 parent-of : (n : Nesting) (stack : List ℕ) → n ≡ nestingOf stack → n .parent .0 ≡ top stack
@@ -213,7 +214,7 @@ pub record Stage
   pub below : Below count stack
   pub deep : length stack ≤ count
   pub ahead : count ≤ at
-  pub small : length unit < 0xffffffff
+  pub few : room .entries < 2 ^ 60
   pub offsets-room : room .entries ≤ length offsets₀
   pub parents-room : room .entries ≤ length parents₀
   pub roots-room : room .entries ≤ length roots₀
@@ -338,7 +339,7 @@ module _ {e : Encoding} {x : Sections} {unit : List ℕ} {room : Rooms} {look : 
         below = below-close count (h .stack) (h .below);
         deep = omega (arith, length-closed (h .stack));
         ahead = omega (arith, i .0);
-        small = h .small;
+        few = h .few;
         offsets-room = h .offsets-room;
         parents-room = h .parents-room;
         roots-room = h .roots-room;
@@ -347,16 +348,14 @@ module _ {e : Encoding} {x : Sections} {unit : List ℕ} {room : Rooms} {look : 
       }
 
   module _ (y : Entry) (s : Entry′ y ≡ stepAt e (x .abbreviations) look unit at) where
-    -- how far an entry comes, and that its index is small
-    pub stage-ahead : (at < y .next .at) × (y .next .at ≤ length unit) × (count < 0xfffffffe)
+    -- how far an entry comes
+    pub stage-ahead : (at < y .next .at) × (y .next .at ≤ length unit)
     stage-ahead =
         let i : EntryInside unit at y = step-inside e (x .abbreviations) look unit at y (sym s) in
         let a : at < y .values .at = i .coded in
         let b : y .values .at ≤ y .next .at = i .ahead in
         let c : y .next .at ≤ length unit = i .within in
-        let d : count ≤ at = h .ahead in
-        let f : length unit < 0xffffffff = h .small in
-        (omega arith, c, omega arith)
+        (omega arith, c)
 
     pub stage-full : room .entries ≤ count → Ends (Refused′ 10) targets
     stage-full f =
@@ -405,9 +404,7 @@ module _ {e : Encoding} {x : Sections} {unit : List ℕ} {room : Rooms} {look : 
             let re : room .entries ≤ length ends₀ = h .ends-room in
             let sp : length parents ≡ length parents₀ = h .parents-are .size in
             let deep : length (h .stack) ≤ count = h .deep in
-            let a : (at < y .next .at) × (y .next .at ≤ length unit) × (count < 0xfffffffe) = stage-ahead in
-            let a0 : at < y .next .at = a .0 in
-            let a2 : count < 0xfffffffe = a .2 in
+            let a0 : at < y .next .at = stage-ahead .0 in
             let ahead : count ≤ at = h .ahead in
             let sc : suc count ≡ count + 1 = omega arith in
             let goes : fromHere e x unit room look here at at here
@@ -432,12 +429,12 @@ module _ {e : Encoding} {x : Sections} {unit : List ℕ} {room : Rooms} {look : 
               count-is = sym (length-append (h .done) (one ∷ []) ∙ ap (λ (k : ℕ). k + 1) (sym cd));
               to-is = place-is ∙ ap (λ (k : ℕ). k + length names) td ∙ sym (ap length (names-more (h .done) one) ∙ length-append (namesIn (h .done)) names);
               to-most = f;
-              nesting-is = n ∙ ap (nestingOpened (y .declaration .children) count) (h .nesting-is) ∙ opened-is (y .declaration .children) count (h .stack) (omega arith);
+              nesting-is = n ∙ ap (nestingOpened (y .declaration .children) count) (h .nesting-is) ∙ opened-is (y .declaration .children) count (h .stack) (omega (arith, h .deep, h .few));
               chain = rw up (chain-open (y .declaration .children) parents count (h .stack) (omega arith) (h .below) (h .chain));
               below = below-open (y .declaration .children) count (h .stack) (h .below);
               deep = omega (arith, length-opened (y .declaration .children) count (h .stack));
               ahead = omega arith;
-              small = h .small;
+              few = h .few;
               offsets-room = ro;
               parents-room = rp;
               roots-room = rr;
@@ -482,7 +479,7 @@ module _ {e : Encoding} {x : Sections} {unit : List ℕ} {room : Rooms} {look : 
         unfolding entryTo
         entered = sym (ap (entryTo g) there) ∙ s
 
-        pub head-ahead : (at < next .at) × (next .at ≤ length unit) × (count < 0xfffffffe)
+        pub head-ahead : (at < next .at) × (next .at ≤ length unit)
         head-ahead = stage-ahead (entryOf g next) entered
 
         pub head-over : room .references < place → Ends (Refused′ 11) targets′
@@ -502,24 +499,27 @@ module _ (e : Encoding) (x : Sections) (unit : List ℕ) (room : Rooms) (from fi
   look-same ds q i code = sym (ap (λ (l : List ℕ). findAt (x .abbreviations) from l code) i ∙ find-plain (x .abbreviations) from (length index) ds q code)
 
   declared-start : (o : Option (List Placed)) → abbreviationsOf (x .abbreviations) from ≡ o → asChecked o ≡ Accepted → index ≡ indexOf (x .abbreviations) from (length index)
-      → unitAnalysed e x unit room from first ≡ fromHere e x unit room (findAt (x .abbreviations) from index) startOf first first startOf
+      → unitAnalysed e x unit room from first ≡ fromHere e x unit room (findAt (x .abbreviations) from index) (startOf e) first first (startOf e)
   unfolding asChecked unitAnalysed onDeclared
   declared-start none q a i = let z : _≡_ {A = ℕ} 0 1 = cc in absurd (omega arith)
   declared-start (some ds) q a i =
-      ap (λ (o : Option (List Placed)). onDeclared o (λ ds. analyseItems e x unit room startOf (itemsFrom e (x .abbreviations) (declaredIn ds) unit first .0) (itemsFrom e (x .abbreviations) (declaredIn ds) unit first .1))) q
-      ∙ ap (λ (w : Items). analyseItems e x unit room startOf (w .0) (w .1))
+      ap (λ (o : Option (List Placed)). onDeclared o (λ ds. analyseItems e x unit room (startOf e) (itemsFrom e (x .abbreviations) (declaredIn ds) unit first .0) (itemsFrom e (x .abbreviations) (declaredIn ds) unit first .1))) q
+      ∙ ap (λ (w : Items). analyseItems e x unit room (startOf e) (w .0) (w .1))
       (items-look e (x .abbreviations) (declaredIn ds) (findAt (x .abbreviations) from index) (look-same ds q i) unit first)
 
-  pub stage-start : (offsets parents roots ends targets : List ℕ) (nesting : Nesting) → nesting ≡ nestingOf []
+  pub stage-start : (offsets parents roots ends targets : List ℕ) (nesting : Nesting) (rb lb : ℕ) → nesting ≡ nestingOf [] → rb ≡ listBase e → lb ≡ listBase e
+      → length offsets * 8 < 2 ^ 63
       → AnalysisInput (x .abbreviations) index from unit (room .entries) (room .references) offsets parents roots ends targets
       → Stage e x unit room (findAt (x .abbreviations) from index) (unitAnalysed e x unit room from first)
-      offsets parents roots ends targets offsets parents roots ends targets first 0 0 nesting 12 12
+      offsets parents roots ends targets offsets parents roots ends targets first 0 0 nesting rb lb
   unfolding checkedOf ontoAll offsetsIn parentsIn rootsIn namesIn endsIn Chain Below
-  stage-start offsets parents roots ends targets nesting n h =
+  stage-start offsets parents roots ends targets nesting rb lb n r l many h =
       record {
         done = [];
         stack = [];
-        whole-is = declared-start (abbreviationsOf (x .abbreviations) from) refl (h .accepted) (h .indexed);
+        whole-is =
+            declared-start (abbreviationsOf (x .abbreviations) from) refl (h .accepted) (h .indexed)
+            ∙ ap₂ (λ (i j : ℕ). fromHere e x unit room (findAt (x .abbreviations) from index) (startOf e) first first (reached 0 0 [] i j)) (sym r) (sym l);
         offsets-are = filled-none offsets (h .offsets-clear);
         parents-are = filled-none parents (h .parents-clear);
         roots-are = filled-none roots (h .roots-clear);
@@ -533,7 +533,7 @@ module _ (e : Encoding) (x : Sections) (unit : List ℕ) (room : Rooms) (from fi
         below = tt;
         deep = omega arith;
         ahead = omega arith;
-        small = h .small;
+        few = omega (arith, h .offsets-room);
         offsets-room = h .offsets-room;
         parents-room = h .parents-room;
         roots-room = h .roots-room;

@@ -11,7 +11,6 @@ use mir.Facts.{leb-yes, leb-no}
 use Rattle.readers.specs.Choice.{zeros}
 use Rattle.readers.proofs.Choice.{pick-either}
 use Rattle.readers.specs.Header.{headerOf}
-use Rattle.readers.proofs.HeaderLaws.{header-laws}
 use Rattle.readers.specs.Abbreviations.{Placed, abbreviationsOf, asChecked, checkedOf, indexFor, indexOf}
 use Rattle.readers.specs.declared.abbreviations.Checked.{Checked}
 use Rattle.readers.specs.declared.abbreviations.Checked.the-variants.{Accepted, Refused as Undeclared}
@@ -95,11 +94,6 @@ module _ {w w′ : Analysed} {offsets₀ parents₀ roots₀ ends₀ targets₀ 
       ),
     ),
   )
-
--- ---- a unit's end is below 0xffffffff
-
-pub small-unit : (big : Bool) (s : List ℕ) (h : UnitHeader) → headerOf big s ≡ Unit′ h → length (take (h .end) s) < 0xffffffff
-small-unit big s h e = omega (arith, header-laws big s h e .below)
 
 -- ---- rooms
 
@@ -207,7 +201,6 @@ unit-ready big abbreviations index section h k {entries} {references} {n} {m} nf
     record {
       accepted = u .1;
       indexed = j ∙ ap (indexOf abbreviations (h .abbreviations)) (sym (length-index abbreviations (h .abbreviations) k) ∙ sym (ap length j));
-      small = small-unit big section h (u .0);
       offsets-room = omega (arith, least-left (length offsets) (length parents));
       parents-room = omega (arith, least-right (length offsets) (length parents));
       roots-room = omega (arith, least-left (length roots) (length ends));

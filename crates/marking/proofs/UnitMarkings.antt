@@ -23,7 +23,7 @@ use Rattle.marking.specs.declared.units.UnitMarks.the-variants.{Marked, 
 use Rattle.marking.proofs.Letters.{length-marks}
 use Rattle.marking.proofs.Rows.{UnitRows, unit-rows, no-rows, graph-takes, length-parents, length-roots}
 use Rattle.marking.proofs.Columned.{pairs-most, drop-zeros, padded-few, padded-take, rows-held}
-use Rattle.marking.proofs.UnitAnalyses.{small-unit, least-left, zeros-own, Answered}
+use Rattle.marking.proofs.UnitAnalyses.{least-left, zeros-own, Answered}
 
 -- one fact more after nine
 pub with-last : {A B C D E F G H I J : Type 0} → A × (B × (C × (D × (E × (F × (G × (H × I))))))) → J → A × (B × (C × (D × (E × (F × (G × (H × (I × J))))))))
@@ -97,25 +97,23 @@ module _ {offsets parents roots ends : List ℕ} {n : ℕ} {marks targets pairs 
 
 -- ---- the rows of an analysis
 
--- they are those of a unit that is not too long
+-- they are those of a unit
 record Bounded (room : Rooms) (rows : List EntryRow) : Type 0 where
   pub unit : List ℕ
   pub first : ℕ
   pub ruled : UnitRows unit room first rows
-  pub small : length unit < 2 ^ 32
 
 module _ (x : Sections) (section : List ℕ) (room : Rooms) (rows : List EntryRow) where
   header-bounded : (h : HeaderRead) → headerOf (x .setting .«big_endian») section ≡ h → headerAnalysed x section room h ≡ analysed rows → Bounded room rows
   unfolding headerAnalysed
   header-bounded Empty e q =
       let z : [] ≡ rows = cc in
-      record { unit = []; first = 0; ruled = subst (UnitRows [] room 0) z (no-rows x [] room rows); small = omega arith }
+      record { unit = []; first = 0; ruled = subst (UnitRows [] room 0) z (no-rows x [] room rows) }
   header-bounded (Unheaded n) e q = let z : _≡_ {A = ℕ} 0 1 = cc in absurd (omega arith)
   header-bounded (Unit′ h) e q = record {
     unit = take (h .end) section;
     first = h .first .0;
     ruled = unit-rows (h .encoding) x (take (h .end) section) room (h .abbreviations) (h .first .0) rows q;
-    small = omega (arith, small-unit (x .setting .«big_endian») section h e);
   }
 
   bounded : analysisOf x section room ≡ analysed rows → Bounded room rows
@@ -220,7 +218,7 @@ module _ (x : Sections) (section : List ℕ) (nm nq nf np nr ne nt k : ℕ) (ind
         let less : length (namesIn rows) ≤ least (length pairs / 2) nt = b .ruled .references in
         record {
           held =
-              rows-held (b .unit) here (b .first) rows (b .ruled) offsets ends targets pairs (b .small) o e t (zeros-own nq pairs cleared)
+              rows-held (b .unit) here (b .first) rows (b .ruled) offsets ends targets pairs o e t (zeros-own nq pairs cleared)
               (omega (arith, less, least-left (length pairs / 2) nt));
           parented = padded-take (length rows) (parentsIn rows) parents (length-parents rows) p;
           rooted = padded-take (length rows) (rootsIn rows) roots (length-roots rows) r;

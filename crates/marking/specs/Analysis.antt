@@ -10,6 +10,7 @@ use lib.Dec.{ltb, leb}
 use Rattle.readers.specs.Choice.{pick}
 use Rattle.readers.specs.Codes.{«DW_AT_loclists_base», «DW_AT_rnglists_base»}
 use Rattle.readers.specs.Header.{headerOf}
+use Rattle.readers.specs.Lists.{listBase}
 use Rattle.readers.specs.Abbreviations.{Placed, declaredIn, abbreviationsOf}
 use Rattle.readers.specs.Refusals.{refusalOfChecked, refusalOfStep}
 use Rattle.readers.specs.declared.abbreviations.Checked.the-variants.{Refused as Unchecked}
@@ -47,8 +48,7 @@ pub record Rooms : Type 0 where
 abbrev pub rooms : ℕ → ℕ → Rooms
 rooms n m = record { entries = n; references = m }
 
--- what is found of an entry: where it starts, its parent (0xffffffff for none), 1 for a root or 0, and the offsets that
--- it names
+-- what is found of an entry: where it starts, its parent or noParent, 1 for a root or 0, and the offsets that it names
 pub record EntryRow : Type 0 where
   pub offset : ℕ
   pub parent : ℕ
@@ -84,9 +84,8 @@ pub record Reached : Type 0 where
 abbrev pub reached : ℕ → ℕ → List ℕ → ℕ → ℕ → Reached
 reached n m stack rb lb = record { count = n; references = m; stack = stack; rnglistsBase = rb; loclistsBase = lb }
 
--- "List bases default to 12"
-abbrev pub startOf : Reached
-startOf = reached 0 0 [] 12 12
+abbrev pub startOf : Encoding → Reached
+startOf e = reached 0 0 [] (listBase e) (listBase e)
 
 abbrev pub tagOf : Entry → ℕ
 tagOf x = x .declaration .tag
@@ -141,7 +140,7 @@ unitAnalysed e x unit room from first =
     onDeclared (abbreviationsOf (x .abbreviations) from)
     (λ ds.
     let items = itemsFrom e (x .abbreviations) (declaredIn ds) unit first in
-    analyseItems e x unit room startOf (items .0) (items .1))
+    analyseItems e x unit room (startOf e) (items .0) (items .1))
 
 -- an empty section has no entries; 1 and 2 of the header, then 3
 unfoldable pub headerAnalysed : Sections → List ℕ → Rooms → HeaderRead → Analysed

@@ -5,6 +5,7 @@ use mathlib.Core.Bool.{Bool, not}
 use lib.ListN.{length, getD}
 use lib.Dec.{ltb, leb, eqb}
 use Rattle.readers.specs.Choice.{_and_, _or_}
+use Rattle.readers.specs.Nesting.{noParent}
 use Rattle.marking.specs.Below.{any, every}
 
 -- for each entry its parent; the references, two numbers each, the entry that holds it and the entry that it names; for
@@ -19,10 +20,6 @@ graph ps rs os = record { parents = ps; pairs = rs; roots = os }
 
 abbrev pub size : Graph → ℕ
 size g = length (g .parents)
-
--- what stands for the parent of an entry that has none
-abbrev pub noParent : ℕ
-noParent = 0xffffffff
 
 -- p is the parent of i
 unfoldable pub isParent : Graph → ℕ → ℕ → Bool

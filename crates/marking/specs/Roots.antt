@@ -168,7 +168,7 @@ module _ (e : Encoding) (x : Ranges) where
       pick (eqb tag «DW_TAG_subprogram») (orElse (lowPcs e (x .table) attributes) (firstRanges attributes))
       (pick (eqb tag «DW_TAG_variable») (locations e (x .table) unit attributes) isDead)
 
--- ---- list bases: 12, or what a compile unit entry's own attribute in sec_offset says, from that entry on; of several the last counts
+-- ---- list bases: what a compile unit entry's own attribute in sec_offset says, from that entry on; of several the last counts
 
 unfoldable pub baseFrom : ℕ → ℕ → List Valued → ℕ
 baseFrom name base [] = base

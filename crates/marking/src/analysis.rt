@@ -28,10 +28,10 @@ use readers::header::HeaderRead;
 use readers::header::UnitHeader;
 use readers::header::unit_header;
 use readers::header::unit_part;
+use readers::lists::list_base;
 use readers::offsets::EntryIndex;
 use readers::tables::clear;
 use readers::tables::clear_bytes;
-use readers::tables::clear_indexes;
 
 // What is found of an entry: 1 for a root, else 0, the place past its references in the table, and the cursor past it;
 // or the number of a refusal.
@@ -159,7 +159,7 @@ fn analyse_entries(
     entry_room: usize,
     reference_room: usize,
     offsets: &mut [u64],
-    parents: &mut [u32],
+    parents: &mut [u64],
     roots: &mut [u8],
     reference_ends: &mut [u64],
     targets: &mut [u64],
@@ -182,8 +182,8 @@ fn analyse_entries(
     let mut count: usize = 0;
     let mut to: usize = 0;
     let mut nesting = Nesting::outside();
-    let mut rnglists_base: u64 = 12;
-    let mut loclists_base: u64 = 12;
+    let mut rnglists_base = list_base(e);
+    let mut loclists_base = list_base(e);
     loop {
         match c.entry_head(unit, abbreviations, from, index) {
             HeadStep::Entry(x) => {
@@ -244,7 +244,7 @@ fn analyse_entries(
                         roots[count] = root;
                         reference_ends[count] = place as u64;
                         nesting = nesting.after_entry(
-                            EntryIndex(count as u32),
+                            EntryIndex(count as u64),
                             declaration.children,
                         );
                         count += 1;
@@ -295,7 +295,7 @@ fn entry_room(
 // Makes every column zeros.
 pub fn clear_columns(
     offsets: &mut [u64],
-    parents: &mut [u32],
+    parents: &mut [u64],
     roots: &mut [u8],
     reference_ends: &mut [u64],
     targets: &mut [u64],
@@ -309,7 +309,7 @@ pub fn clear_columns(
         ⌝ }
 {
     clear(offsets);
-    clear_indexes(parents);
+    clear(parents);
     clear_bytes(roots);
     clear(reference_ends);
     clear(targets);
@@ -319,7 +319,7 @@ pub fn clear_columns(
 fn clear_refused(
     answer: Analysis,
     offsets: &mut [u64],
-    parents: &mut [u32],
+    parents: &mut [u64],
     roots: &mut [u8],
     reference_ends: &mut [u64],
     targets: &mut [u64],
@@ -361,7 +361,7 @@ fn analyse_unit(
     entry_room: usize,
     reference_room: usize,
     offsets: &mut [u64],
-    parents: &mut [u32],
+    parents: &mut [u64],
     roots: &mut [u8],
     reference_ends: &mut [u64],
     targets: &mut [u64],
@@ -447,7 +447,7 @@ pub fn analyse(
     references: usize,
     index: &mut [u64],
     offsets: &mut [u64],
-    parents: &mut [u32],
+    parents: &mut [u64],
     roots: &mut [u8],
     reference_ends: &mut [u64],
     targets: &mut [u64],

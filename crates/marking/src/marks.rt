@@ -8,17 +8,17 @@ ghost use Rattle.marking.specs.Graph.{graph, parentFits, pairFits, rootF
 ghost use Rattle.marking.specs.Marks.{markAnswer, endMarks, keptCount};
 ghost use Rattle.marking.specs.inner.Passes.{Pass, WithParents, WithPairs, WithBoth, Along, Up, Settled, ParentsFit};
 ghost use Rattle.marking.specs.inner.Passes.{PairsFit, startMark, namesFirst, endFirst};
-use crate::rules::NO_PARENT;
 use crate::rules::along_at;
 use crate::rules::down;
 use crate::rules::up_at;
 use crate::spread::spread;
+use readers::offsets::NO_PARENT;
 use readers::tables::clear_bytes;
 
 // ---- what is taken
 
 // Whether each parent is below its child.
-fn parents_fit(parents: &[u32]) -> bool
+fn parents_fit(parents: &[u64]) -> bool
     ensures { λ r. ⌜ r ≡ every (length (now (parents .entry))) (parentFits (now (parents .entry))) ⌝ }
 {
     let mut i = 0;
@@ -36,7 +36,7 @@ fn parents_fit(parents: &[u32]) -> bool
 }
 
 // Whether each pair stays in the tree of n entries. An odd last number is no pair.
-fn pairs_fit(pairs: &[u32], n: usize) -> bool
+fn pairs_fit(pairs: &[u64], n: usize) -> bool
     ensures { λ r. ⌜ r ≡ every (length (now (pairs .entry)) / 2) (pairFits (now (pairs .entry)) n) ⌝ }
 {
     let count = pairs.len() / 2;
@@ -71,7 +71,7 @@ fn roots_fit(roots: &[u8]) -> bool
 }
 
 // Whether the graph can be marked with n marks.
-fn takes(parents: &[u32], pairs: &[u32], roots: &[u8], n: usize) -> bool
+fn takes(parents: &[u64], pairs: &[u64], roots: &[u8], n: usize) -> bool
     ensures { λ r. ⌜ r ≡ takesOf (graph (now (parents .entry)) (now (pairs .entry)) (now (roots .entry))) n ⌝ }
 {
     if n != parents.len() {
@@ -92,7 +92,7 @@ fn takes(parents: &[u32], pairs: &[u32], roots: &[u8], n: usize) -> bool
 // ---- one pass; each answers whether a mark rose
 
 // Along the references, in their order.
-fn along(pairs: &[u32], marks: &mut [u8]) -> bool
+fn along(pairs: &[u64], marks: &mut [u8]) -> bool
     requires { ⌜ PairsFit (now pairs) (now marks) ⌝ }
     ensures { λ r. ⌜ Pass (WithPairs (now (pairs .entry)))
         (Along (now (pairs .entry)) (now (marks .entry)))
@@ -111,7 +111,7 @@ fn along(pairs: &[u32], marks: &mut [u8]) -> bool
 }
 
 // From child to parent, the last entry first.
-fn up(parents: &[u32], marks: &mut [u8]) -> bool
+fn up(parents: &[u64], marks: &mut [u8]) -> bool
     requires { ⌜ ParentsFit (now parents) (now marks) ⌝ }
     ensures { λ r. ⌜ Pass (WithParents (now (parents .entry)))
         (Up (now (parents .entry)) (now (marks .entry)))
@@ -129,7 +129,7 @@ fn up(parents: &[u32], marks: &mut [u8]) -> bool
 }
 
 // One pass of each kind.
-fn round(parents: &[u32], pairs: &[u32], marks: &mut [u8]) -> bool
+fn round(parents: &[u64], pairs: &[u64], marks: &mut [u8]) -> bool
     requires { ⌜ ParentsFit (now parents) (now marks) ⌝ }
     requires { ⌜ PairsFit (now pairs) (now marks) ⌝ }
     ensures { λ r. ⌜ Pass (WithBoth (now (parents .entry)) (now (pairs .entry)))
@@ -170,7 +170,7 @@ fn start(roots: &[u8], marks: &mut [u8])
 }
 
 // Whether a kept entry's reference names the first entry.
-fn names_first(pairs: &[u32], marks: &[u8]) -> bool
+fn names_first(pairs: &[u64], marks: &[u8]) -> bool
     requires { ⌜ PairsFit (now pairs) (now marks) ⌝ }
     ensures { λ r. ⌜ r ≡ namesFirst (now (pairs .entry)) (now (marks .entry)) ⌝ }
 {
@@ -190,7 +190,7 @@ fn names_first(pairs: &[u32], marks: &[u8]) -> bool
 }
 
 // The first entry is retained unless a kept one's reference names it.
-fn end_first(pairs: &[u32], marks: &mut [u8])
+fn end_first(pairs: &[u64], marks: &mut [u8])
     requires { ⌜ PairsFit (now pairs) (now marks) ⌝ }
     ensures { λ _. ⌜ now (marks .exit) ≡ endFirst (now (pairs .entry)) (now (marks .entry)) ⌝ }
 {
@@ -229,8 +229,8 @@ pub enum Marked {
 // start from marks that are spread already, and where the pairs stand by holder the first one raises none and is the
 // last.
 pub(crate) fn mark_with(
-    parents: &[u32],
-    pairs: &[u32],
+    parents: &[u64],
+    pairs: &[u64],
     roots: &[u8],
     marks: &mut [u8],
     work: &mut [u32],
@@ -254,12 +254,12 @@ pub(crate) fn mark_with(
 
 // Marks each entry 1 dead, 2 retained, 3 live. Pairs are two numbers each, the entry that holds the reference and the
 // one that it names; an odd last number counts for nothing. 16, and zeros, where parents, roots and marks differ in
-// length, a parent is not below its child (0xffffffff is none), a pair leaves the tree or a root is above 1. It needs
+// length, a parent is not below its child (NO_PARENT is none), a pair leaves the tree or a root is above 1. It needs
 // no memory but the marks, and goes by rounds alone: a round looks at each entry twice and at each pair once; the first
 // round that raises no mark is the last. A chain of references is followed in one round where its pairs stand in its
 // order, one link a round where they stand against it. A mark rises at most twice, so n entries take at most 2n + 1
 // rounds. The marks of a unit are made by `mark_with`.
-pub fn mark(parents: &[u32], pairs: &[u32], roots: &[u8], marks: &mut [u8]) -> Marked
+pub fn mark(parents: &[u64], pairs: &[u64], roots: &[u8], marks: &mut [u8]) -> Marked
     ensures { λ r. ⌜ (
         let lent = graph (now (parents .entry)) (now (pairs .entry)) (now (roots .entry)) in
         (r ≡ markAnswer lent (length (now (marks .entry))))

@@ -4,12 +4,10 @@ ghost use Prim.Native.Nat.{_/_, _<_};
 ghost use lib.ListN.{length};
 ghost use Rattle.marking.specs.inner.Passes.{Pass, WithParents, WithPairs, DownAt, AlongAt, UpAt, Down, ParentsFit};
 ghost use Rattle.marking.specs.inner.Passes.{PairsFit};
-
-// What stands for the parent of an entry that has none.
-pub(crate) const NO_PARENT: u32 = 0xffff_ffff;
+use readers::offsets::NO_PARENT;
 
 // Entry i becomes live where its parent is.
-pub(crate) fn down_at(parents: &[u32], marks: &mut [u8], i: usize) -> bool
+pub(crate) fn down_at(parents: &[u64], marks: &mut [u8], i: usize) -> bool
     requires { ⌜ ParentsFit (now parents) (now marks) ⌝ }
     requires { ⌜ i < length (now marks) ⌝ }
     ensures { λ r. ⌜ Pass (WithParents (now (parents .entry)))
@@ -32,7 +30,7 @@ pub(crate) fn down_at(parents: &[u32], marks: &mut [u8], i: usize) -> bool
 }
 
 // What reference j names becomes live where its holder is kept, retained or live.
-pub(crate) fn along_at(pairs: &[u32], marks: &mut [u8], j: usize) -> bool
+pub(crate) fn along_at(pairs: &[u64], marks: &mut [u8], j: usize) -> bool
     requires { ⌜ PairsFit (now pairs) (now marks) ⌝ }
     requires { ⌜ j < length (now pairs) / 2 ⌝ }
     ensures { λ r. ⌜ Pass (WithPairs (now (pairs .entry)))
@@ -52,7 +50,7 @@ pub(crate) fn along_at(pairs: &[u32], marks: &mut [u8], j: usize) -> bool
 }
 
 // The parent of entry i is retained where i is kept.
-pub(crate) fn up_at(parents: &[u32], marks: &mut [u8], i: usize) -> bool
+pub(crate) fn up_at(parents: &[u64], marks: &mut [u8], i: usize) -> bool
     requires { ⌜ ParentsFit (now parents) (now marks) ⌝ }
     requires { ⌜ i < length (now marks) ⌝ }
     ensures { λ r. ⌜ Pass (WithParents (now (parents .entry)))
@@ -75,7 +73,7 @@ pub(crate) fn up_at(parents: &[u32], marks: &mut [u8], i: usize) -> bool
 }
 
 // From parent to child, the first entry first, so that one pass reaches every depth.
-pub(crate) fn down(parents: &[u32], marks: &mut [u8]) -> bool
+pub(crate) fn down(parents: &[u64], marks: &mut [u8]) -> bool
     requires { ⌜ ParentsFit (now parents) (now marks) ⌝ }
     ensures { λ r. ⌜ Pass (WithParents (now (parents .entry)))
         (Down (now (parents .entry)) (now (marks .entry)))

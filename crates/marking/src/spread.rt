@@ -1,6 +1,7 @@
 // The marks of a unit spread by a work list, so that the rounds that follow find nothing to do. What is proved of it is
 // that each mark it raises is justified; that it raises all of them is left to the rounds. So nothing is known of what
 // the work column holds: each number taken from it is tested.
+ghost use mathlib.Core.Path.{_≡_};
 ghost use Prim.Native.Nat.{_/_, _<_, _≤_};
 ghost use lib.ListN.{length};
 ghost use Rattle.marking.specs.inner.Passes.{WithParents, WithBoth, ParentsFit, PairsFit, Spread};
@@ -13,14 +14,19 @@ use readers::offsets::EntryIndex;
 
 // ---- the work column: for each entry the end of its descendants, then a stack of entries; `top` is past the stack
 
-// The index past the last entry of a column of so many; of one that is longer than indexes reach, the last index.
+// The index past the last entry of a column of so many.
 fn past_last(entries: usize) -> EntryIndex
-    ensures { λ r. ⌜ r .0 ≤ entries ⌝ }
+    ensures { λ r. ⌜ r .0 ≡ entries ⌝ }
 {
-    if entries > 0xffff_ffff {
-        return EntryIndex(0xffff_ffff);
+    EntryIndex(entries as u64)
+}
+
+// An index as the work column holds it: of one that it has no room for, the largest number.
+fn stored(i: EntryIndex) -> u32 {
+    if i.0 > 0xffff_ffff {
+        return 0xffff_ffff;
     }
-    EntryIndex(entries as u32)
+    i.0 as u32
 }
 
 // The end of entry k's descendants in a tree that ends at n, past k at least.
@@ -33,7 +39,7 @@ fn end_of(work: &[u32], k: EntryIndex, n: EntryIndex) -> EntryIndex
     if at >= work.len() {
         return EntryIndex(k.0 + 1);
     }
-    let end = work[at];
+    let end = work[at] as u64;
     if end <= k.0 {
         return EntryIndex(k.0 + 1);
     }
@@ -49,27 +55,24 @@ fn raise_end(work: &mut [u32], i: EntryIndex, end: EntryIndex) {
     if at >= work.len() {
         return;
     }
-    if work[at] < end.0 {
-        work[at] = end.0;
+    let past = stored(end);
+    if work[at] < past {
+        work[at] = past;
     }
 }
 
 // Entry i has its end, and its parent ends no sooner.
-fn widen(parents: &[u32], work: &mut [u32], i: EntryIndex)
+fn widen(parents: &[u64], work: &mut [u32], i: EntryIndex)
     requires { ⌜ i .0 < length (now parents) ⌝ }
 {
-    let n = past_last(parents.len());
-    if i.0 >= n.0 {
-        return;
-    }
-    let end = end_of(work, i, n);
+    let end = end_of(work, i, past_last(parents.len()));
     raise_end(work, i, end);
     let at = place(i);
     raise_end(work, EntryIndex(parents[at]), end);
 }
 
 // The ends of all entries' descendants, into a column of zeros, the last entry first.
-fn subtree_ends(parents: &[u32], work: &mut [u32]) {
+fn subtree_ends(parents: &[u64], work: &mut [u32]) {
     let mut i = past_last(parents.len());
     while 0 < i.0 {
         i = EntryIndex(i.0 - 1);
@@ -82,7 +85,7 @@ fn push(work: &mut [u32], top: usize, i: EntryIndex) -> usize {
     if top >= work.len() {
         return top;
     }
-    work[top] = i.0;
+    work[top] = stored(i);
     top + 1
 }
 
@@ -112,7 +115,7 @@ fn push_kept(marks: &[u8], work: &mut [u32]) -> usize {
 
 // Entry k becomes live where its parent is.
 fn reach_child(
-    parents: &[u32],
+    parents: &[u64],
     marks: &mut [u8],
     work: &mut [u32],
     k: EntryIndex,
@@ -131,7 +134,7 @@ fn reach_child(
 }
 
 // The parent of entry i is retained where i is kept.
-fn lift(parents: &[u32], marks: &mut [u8], work: &mut [u32], i: EntryIndex, top: usize) -> usize
+fn lift(parents: &[u64], marks: &mut [u8], work: &mut [u32], i: EntryIndex, top: usize) -> usize
     requires { ⌜ ParentsFit (now parents) (now marks) ⌝ }
     requires { ⌜ i .0 < length (now marks) ⌝ }
     ensures { λ _. ⌜ Spread (WithParents (now (parents .entry))) (now (marks .entry)) (now (marks .exit)) ⌝ }
@@ -144,7 +147,7 @@ fn lift(parents: &[u32], marks: &mut [u8], work: &mut [u32], i: EntryIndex, top:
 }
 
 // The descendants of entry i become live where it is. Those of a live one are live already, and are passed over.
-fn descend(parents: &[u32], marks: &mut [u8], work: &mut [u32], i: EntryIndex, top: usize) -> usize
+fn descend(parents: &[u64], marks: &mut [u8], work: &mut [u32], i: EntryIndex, top: usize) -> usize
     requires { ⌜ ParentsFit (now parents) (now marks) ⌝ }
     ensures { λ _. ⌜ Spread (WithParents (now (parents .entry))) (now (marks .entry)) (now (marks .exit)) ⌝ }
 {
@@ -169,8 +172,8 @@ fn descend(parents: &[u32], marks: &mut [u8], work: &mut [u32], i: EntryIndex, t
 
 // What reference j names becomes live where its holder is kept, and so do its descendants.
 fn follow_at(
-    parents: &[u32],
-    pairs: &[u32],
+    parents: &[u64],
+    pairs: &[u64],
     marks: &mut [u8],
     work: &mut [u32],
     j: usize,
@@ -195,7 +198,7 @@ fn follow_at(
 // ---- the references of an entry
 
 // The first pair of a holder, where pairs stand by holder.
-fn first_pair(pairs: &[u32], holder: EntryIndex) -> usize
+fn first_pair(pairs: &[u64], holder: EntryIndex) -> usize
     ensures { λ r. ⌜ r ≤ length (now (pairs .entry)) / 2 ⌝ }
 {
     let mut low = 0;
@@ -213,8 +216,8 @@ fn first_pair(pairs: &[u32], holder: EntryIndex) -> usize
 
 // All references of a holder.
 fn follow(
-    parents: &[u32],
-    pairs: &[u32],
+    parents: &[u64],
+    pairs: &[u64],
     marks: &mut [u8],
     work: &mut [u32],
     holder: EntryIndex,
@@ -241,7 +244,7 @@ fn follow(
 // ---- the work list
 
 // The entry at a place of the stack: its references and its parent.
-fn visit(parents: &[u32], pairs: &[u32], marks: &mut [u8], work: &mut [u32], top: usize) -> usize
+fn visit(parents: &[u64], pairs: &[u64], marks: &mut [u8], work: &mut [u32], top: usize) -> usize
     requires { ⌜ ParentsFit (now parents) (now marks) ⌝ }
     requires { ⌜ PairsFit (now pairs) (now marks) ⌝ }
     ensures { λ _. ⌜ Spread (WithBoth (now (parents .entry)) (now (pairs .entry)))
@@ -250,7 +253,7 @@ fn visit(parents: &[u32], pairs: &[u32], marks: &mut [u8], work: &mut [u32], top
     if top >= work.len() {
         return top;
     }
-    let i = EntryIndex(work[top]);
+    let i = EntryIndex(work[top] as u64);
     if place(i) >= marks.len() {
         return top;
     }
@@ -259,8 +262,8 @@ fn visit(parents: &[u32], pairs: &[u32], marks: &mut [u8], work: &mut [u32], top
 }
 
 // Entries are taken off the stack until it is empty. Each was put there once, when it was first kept, so as many turns
-// as entries are enough.
-fn visit_all(parents: &[u32], pairs: &[u32], marks: &mut [u8], work: &mut [u32], top: usize)
+// as entries are enough, where the column has room for each index; the rounds do the rest.
+fn visit_all(parents: &[u64], pairs: &[u64], marks: &mut [u8], work: &mut [u32], top: usize)
     requires { ⌜ ParentsFit (now parents) (now marks) ⌝ }
     requires { ⌜ PairsFit (now pairs) (now marks) ⌝ }
     ensures { λ _. ⌜ Spread (WithBoth (now (parents .entry)) (now (pairs .entry)))
@@ -279,7 +282,7 @@ fn visit_all(parents: &[u32], pairs: &[u32], marks: &mut [u8], work: &mut [u32],
 
 // Spreads the marks that `start` left. The work column is lent as zeros; where it has not two places an entry nothing
 // is done.
-pub(crate) fn spread(parents: &[u32], pairs: &[u32], marks: &mut [u8], work: &mut [u32])
+pub(crate) fn spread(parents: &[u64], pairs: &[u64], marks: &mut [u8], work: &mut [u32])
     requires { ⌜ ParentsFit (now parents) (now marks) ⌝ }
     requires { ⌜ PairsFit (now pairs) (now marks) ⌝ }
     ensures { λ _. ⌜ Spread (WithBoth (now (parents .entry)) (now (pairs .entry)))

@@ -18,6 +18,7 @@ use crate::setting::Setting;
 use readers::header::HeaderRead;
 use readers::offsets::EntryIndex;
 use readers::offsets::UnitOffset;
+use readers::tables::clear;
 use readers::tables::clear_bytes;
 use readers::tables::clear_indexes;
 
@@ -50,7 +51,7 @@ fn find_entry(offsets: &[u64], entries: usize, target: UnitOffset) -> EntryFound
         let middle = low + (high - low) / 2;
         let offset = offsets[middle];
         if offset == target.0 {
-            return EntryFound::Entry(EntryIndex(middle as u32));
+            return EntryFound::Entry(EntryIndex(middle as u64));
         }
         if offset < target.0 {
             low = middle + 1;
@@ -69,7 +70,7 @@ fn resolve_entry(
     from: usize,
     to: usize,
     holder: EntryIndex,
-    pairs: &mut [u32],
+    pairs: &mut [u64],
     at: usize,
 ) -> usize
     requires { ⌜ ResolveInput (now offsets) entries (now targets) from to (now pairs) at ⌝ }
@@ -101,7 +102,7 @@ fn resolve(
     reference_ends: &[u64],
     entries: usize,
     targets: &[u64],
-    pairs: &mut [u32],
+    pairs: &mut [u64],
 ) -> usize
     requires { ⌜ Resolvable (now offsets) (now «reference_ends») entries (now targets) (now pairs) ⌝ }
     ensures answer { λ r. ⌜ ((rows : List EntryRow)
@@ -129,13 +130,13 @@ fn resolve(
 // The pairs and the marks of entries whose columns an analysis filled.
 fn mark_rows(
     offsets: &[u64],
-    parents: &[u32],
+    parents: &[u64],
     roots: &[u8],
     reference_ends: &[u64],
     entries: usize,
     marks: &mut [u8],
     targets: &[u64],
-    pairs: &mut [u32],
+    pairs: &mut [u64],
     work: &mut [u32],
 ) -> UnitMarks
     requires { ⌜ Markable (now offsets) (now parents) (now roots) (now «reference_ends») entries (now marks)
@@ -186,12 +187,12 @@ pub fn mark_unit(
     setting: Setting,
     index: &mut [u64],
     offsets: &mut [u64],
-    parents: &mut [u32],
+    parents: &mut [u64],
     roots: &mut [u8],
     reference_ends: &mut [u64],
     marks: &mut [u8],
     targets: &mut [u64],
-    pairs: &mut [u32],
+    pairs: &mut [u64],
     work: &mut [u32],
 ) -> UnitMarking
     ensures { λ r. ⌜ (
@@ -214,7 +215,7 @@ pub fn mark_unit(
         × (now (work .exit) ≡ zeros (length (now (work .entry))))))))))))
         ) ⌝ }
 {
-    clear_indexes(pairs);
+    clear(pairs);
     clear_bytes(marks);
     clear_indexes(work);
     let unit = analyse(

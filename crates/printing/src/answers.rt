@@ -199,14 +199,14 @@ fn unit(
 ) {
     let mut index = [0u64; 1024];
     let mut offsets = [0u64; 2048];
-    let mut parents = [0u32; 2048];
+    let mut parents = [0u64; 2048];
     let mut roots = [0u8; 2048];
     let mut ends = [0u64; 2048];
     let mut marks = [0u8; 2048];
     let mut targets = [0u64; 8192];
-    let mut pairs = [0u32; 16384];
+    let mut pairs = [0u64; 16384];
     let mut work = [0u32; 4096];
-    let mut map = [7u8; 49152];
+    let mut map = [7u8; 98304];
     let mut range_list = [7u8; 65536];
     let mut location_list = [7u8; 65536];
     let mut string_list = [7u8; 65536];

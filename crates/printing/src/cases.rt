@@ -87,12 +87,12 @@ fn collect_bundle(
     s: &[u8],
     index: &mut [u64],
     offsets: &mut [u64],
-    parents: &mut [u32],
+    parents: &mut [u64],
     roots: &mut [u8],
     ends: &mut [u64],
     marks: &mut [u8],
     targets: &mut [u64],
-    pairs: &mut [u32],
+    pairs: &mut [u64],
     map: &mut [u8],
     range_list: &mut [u8],
     location_list: &mut [u8],
@@ -126,18 +126,62 @@ fn collect_bundle(
     )
 }
 
-// Lends the first part of each array.
+// Lends the first part of each array of the answer.
+fn lend_answer(
+    settings: &[u8],
+    s: &[u8],
+    index: &mut [u64],
+    offsets: &mut [u64],
+    parents: &mut [u64],
+    roots: &mut [u8],
+    ends: &mut [u64],
+    marks: &mut [u8],
+    targets: &mut [u64],
+    pairs: &mut [u64],
+    map: &mut [u8],
+    range_list: &mut [u8],
+    location_list: &mut [u8],
+    string_list: &mut [u8],
+    out: &mut [u8],
+    b: Bundle,
+) -> Collected {
+    let of_map = lent(settings, MAP, map.len());
+    let of_range_list = lent(settings, RANGES, range_list.len());
+    let of_location_list = lent(settings, LOCATIONS, location_list.len());
+    let of_string_list = lent(settings, STRINGS, string_list.len());
+    let of_out = lent(settings, OUTPUT, out.len());
+    collect_bundle(
+        settings,
+        s,
+        index,
+        offsets,
+        parents,
+        roots,
+        ends,
+        marks,
+        targets,
+        pairs,
+        &mut map[..of_map],
+        &mut range_list[..of_range_list],
+        &mut location_list[..of_location_list],
+        &mut string_list[..of_string_list],
+        &mut out[..of_out],
+        b,
+    )
+}
+
+// Lends the first part of each table, and of each array of the answer.
 fn lend(
     settings: &[u8],
     s: &[u8],
     index: &mut [u64],
     offsets: &mut [u64],
-    parents: &mut [u32],
+    parents: &mut [u64],
     roots: &mut [u8],
     ends: &mut [u64],
     marks: &mut [u8],
     targets: &mut [u64],
-    pairs: &mut [u32],
+    pairs: &mut [u64],
     map: &mut [u8],
     range_list: &mut [u8],
     location_list: &mut [u8],
@@ -153,12 +197,7 @@ fn lend(
     let of_marks = lent(settings, MARKS, marks.len());
     let of_targets = lent(settings, TARGETS, targets.len());
     let of_pairs = lent(settings, PAIRS, pairs.len());
-    let of_map = lent(settings, MAP, map.len());
-    let of_range_list = lent(settings, RANGES, range_list.len());
-    let of_location_list = lent(settings, LOCATIONS, location_list.len());
-    let of_string_list = lent(settings, STRINGS, string_list.len());
-    let of_out = lent(settings, OUTPUT, out.len());
-    collect_bundle(
+    lend_answer(
         settings,
         s,
         &mut index[..of_index],
@@ -169,11 +208,11 @@ fn lend(
         &mut marks[..of_marks],
         &mut targets[..of_targets],
         &mut pairs[..of_pairs],
-        &mut map[..of_map],
-        &mut range_list[..of_range_list],
-        &mut location_list[..of_location_list],
-        &mut string_list[..of_string_list],
-        &mut out[..of_out],
+        map,
+        range_list,
+        location_list,
+        string_list,
+        out,
         b,
     )
 }
@@ -189,23 +228,6 @@ fn numbers_end(a: &[u64], n: usize) -> bool {
             }
         } else {
             if a[i] != 0xa5a5_a5a5_a5a5_a5a5 {
-                return false;
-            }
-        }
-        i += 1;
-    }
-    true
-}
-
-fn indexes_end(a: &[u32], n: usize) -> bool {
-    let mut i: usize = 0;
-    while i < a.len() {
-        if i < n {
-            if a[i] != 0 {
-                return false;
-            }
-        } else {
-            if a[i] != 0xa5a5_a5a5 {
                 return false;
             }
         }
@@ -235,12 +257,12 @@ fn tables_end(
     settings: &[u8],
     index: &[u64],
     offsets: &[u64],
-    parents: &[u32],
+    parents: &[u64],
     roots: &[u8],
     ends: &[u64],
     marks: &[u8],
     targets: &[u64],
-    pairs: &[u32],
+    pairs: &[u64],
 ) -> bool {
     if !numbers_end(index, lent(settings, INDEX, index.len())) {
         return false;
@@ -248,7 +270,7 @@ fn tables_end(
     if !numbers_end(offsets, lent(settings, OFFSETS, offsets.len())) {
         return false;
     }
-    if !indexes_end(parents, lent(settings, PARENTS, parents.len())) {
+    if !numbers_end(parents, lent(settings, PARENTS, parents.len())) {
         return false;
     }
     if !bytes_end(roots, lent(settings, ROOTS, roots.len())) {
@@ -263,7 +285,7 @@ fn tables_end(
     if !numbers_end(targets, lent(settings, TARGETS, targets.len())) {
         return false;
     }
-    indexes_end(pairs, lent(settings, PAIRS, pairs.len()))
+    numbers_end(pairs, lent(settings, PAIRS, pairs.len()))
 }
 
 // Whether what lies behind the lent part is as it was.
@@ -372,13 +394,13 @@ fn lent_bytes(
 fn unit(settings: &[u8], s: &[u8], b: Bundle) {
     let mut index = [0xa5a5_a5a5_a5a5_a5a5u64; 1024];
     let mut offsets = [0xa5a5_a5a5_a5a5_a5a5u64; 2048];
-    let mut parents = [0xa5a5_a5a5u32; 2048];
+    let mut parents = [0xa5a5_a5a5_a5a5_a5a5u64; 2048];
     let mut roots = [0xa5u8; 2048];
     let mut ends = [0xa5a5_a5a5_a5a5_a5a5u64; 2048];
     let mut marks = [0xa5u8; 2048];
     let mut targets = [0xa5a5_a5a5_a5a5_a5a5u64; 8192];
-    let mut pairs = [0xa5a5_a5a5u32; 16384];
-    let mut map = [0xa5u8; 49152];
+    let mut pairs = [0xa5a5_a5a5_a5a5_a5a5u64; 16384];
+    let mut map = [0xa5u8; 98304];
     let mut range_list = [0xa5u8; 65536];
     let mut location_list = [0xa5u8; 65536];
     let mut string_list = [0xa5u8; 65536];

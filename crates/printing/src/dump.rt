@@ -121,6 +121,7 @@ fn expression(s: &[u8], e: Encoding) {
     match readers::expressions::references_of_expression(
         s,
         e.address_size,
+        e.offset_size,
         e.big_endian,
         &mut table,
     ) {
@@ -471,8 +472,8 @@ fn entries(
             at: first.0 as usize,
         },
         depth: 0,
-        range_base: 12,
-        location_base: 12,
+        range_base: readers::lists::list_base(h.encoding),
+        location_base: readers::lists::list_base(h.encoding),
     };
     let mut turns: usize = 65537;
     while turns > 0 {

@@ -46,11 +46,11 @@ pub fn mark(
     marks: &mut [u8],
 ) -> UnitMarks {
     let mut index = [0u64; 1024];
-    let mut parents = [0u32; 2048];
+    let mut parents = [0u64; 2048];
     let mut roots = [0u8; 2048];
     let mut ends = [0u64; 2048];
     let mut targets = [0u64; 8192];
-    let mut pairs = [0u32; 16384];
+    let mut pairs = [0u64; 16384];
     let mut work = [0u32; 4096];
     let unit = marking::units::mark_unit(
         section,

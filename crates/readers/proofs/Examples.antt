@@ -108,9 +108,20 @@ headers :
     × (headerOf true (0x08 ∷ 0 ∷ 0 ∷ 0 ∷ 5 ∷ 0 ∷ 1 ∷ 8 ∷ 0 ∷ 0 ∷ 0 ∷ 0 ∷ []) ≡ Refused 1)
     × (headerOf true (0 ∷ 0 ∷ 0 ∷ 0 ∷ 5 ∷ 0 ∷ 1 ∷ 8 ∷ 0 ∷ 0 ∷ 0 ∷ 0 ∷ []) ≡ Refused 1)
     × (headerOf false (0 ∷ 0 ∷ 0 ∷ 0x08 ∷ 0 ∷ 5 ∷ 1 ∷ 8 ∷ 0 ∷ 0 ∷ 0 ∷ 0 ∷ []) ≡ Refused 1)
+    -- the 64-bit format: its length cut short, past the section, past 64 bits; a reserved number; headers of 24 and 32 bytes
+    × (headerOf false (0xff ∷ 0xff ∷ 0xff ∷ 0xff ∷ []) ≡ Refused 1)
+    × (headerOf true (0xff ∷ 0xff ∷ 0xff ∷ 0xff ∷ 0 ∷ 0 ∷ 0 ∷ 0 ∷ 0 ∷ 0 ∷ 12 ∷ []) ≡ Refused 1)
+    × (headerOf false (0xff ∷ 0xff ∷ 0xff ∷ 0xff ∷ 13 ∷ 0 ∷ 0 ∷ 0 ∷ 0 ∷ 0 ∷ 0 ∷ 0 ∷ 5 ∷ 0 ∷ 1 ∷ 8 ∷ 0 ∷ 0 ∷ 0 ∷ 0 ∷ 0 ∷ 0 ∷ 0 ∷ 0 ∷ []) ≡ Refused 1)
+    × (headerOf false (0xff ∷ 0xff ∷ 0xff ∷ 0xff ∷ 0xf4 ∷ 0xff ∷ 0xff ∷ 0xff ∷ 0xff ∷ 0xff ∷ 0xff ∷ 0xff ∷ 4 ∷ 0 ∷ []) ≡ Refused 1)
+    × (headerOf false (0xfe ∷ 0xff ∷ 0xff ∷ 0xff ∷ []) ≡ Refused 2)
+    × (headerOf false (0xff ∷ 0xff ∷ 0xff ∷ 0xff ∷ 12 ∷ 0 ∷ 0 ∷ 0 ∷ 0 ∷ 0 ∷ 0 ∷ 0 ∷ 5 ∷ 0 ∷ 1 ∷ 8 ∷ 1 ∷ 0 ∷ 0 ∷ 0 ∷ 0 ∷ 0 ∷ 0 ∷ 2 ∷ [])
+    ≡ Unit′ (record { encoding = encodingOf false 5 8 8; «unit_type» = 1; abbreviations = 0x0200000000000001; first = record { 0 = 24 }; end = 24 }))
+    × (headerOf true (0xff ∷ 0xff ∷ 0xff ∷ 0xff ∷ 0 ∷ 0 ∷ 0 ∷ 0 ∷ 0 ∷ 0 ∷ 0 ∷ 20 ∷ 0 ∷ 5 ∷ 5 ∷ 4 ∷ 0 ∷ 0 ∷ 0 ∷ 0 ∷ 0 ∷ 0 ∷ 1 ∷ 2
+    ∷ 1 ∷ 2 ∷ 3 ∷ 4 ∷ 5 ∷ 6 ∷ 7 ∷ 8 ∷ [])
+    ≡ Unit′ (record { encoding = encodingOf true 5 8 4; «unit_type» = 5; abbreviations = 0x0102; first = record { 0 = 32 }; end = 32 }))
 unfolding headerOf headerIn headerFields lengthBytes present right headerMade encodingOf fixedAt asFixed numberIn width fixedValue
     ordered littleValue pick check _or_
-headers = (refl, refl, refl, refl, refl, refl, refl, refl, refl, refl, refl, refl, refl, refl, refl, refl, refl, refl, refl, refl, refl, refl, refl)
+headers = (refl, refl, refl, refl, refl, refl, refl, refl, refl, refl, refl, refl, refl, refl, refl, refl, refl, refl, refl, refl, refl, refl, refl, refl, refl, refl, refl, refl, refl, refl)
 
 -- ---- the index: declarations with the codes 9, 2 and 5 at 0, 5 and 10 in the order of their codes; zeros where it has no room for them
 

@@ -1,13 +1,13 @@
 -- The header of a unit, field by field: the answer is that of the fields from here on, or a refusal. Assumes nothing.
-use Prim.Native.Nat.{ℕ, _+_, _-_, _≤_, _<_}
+use Prim.Native.Nat.{ℕ, _+_, _-_, _^_, _≤_, _<_}
 use mathlib.Core.Path.{_≡_, refl, ap, sym, _∙_, subst}
 use mathlib.Core.Logic.{_⊎_, ⊎-elim}
 use mathlib.Core.Bool.{Bool, true, false, not}
 use mathlib.Core.List.{List}
 use native.Mathlib.Omega.{arith}
 use lib.ListN.{length, take, getD}
-use lib.Dec.{T, eqb}
-use mir.Facts.{yes-leb, no-leb, yes-eqb, no-eqb}
+use lib.Dec.{T, leb, ltb, eqb}
+use mir.Facts.{yes-leb, no-leb, ltb-no, yes-eqb, no-eqb}
 use Rattle.readers.specs.Choice.{pick, _or_}
 use Rattle.readers.proofs.Choice.{pick-yes, pick-no, pick-either}
 use Rattle.readers.specs.Cursors.{fixedAt}
@@ -165,18 +165,22 @@ bytes-most n w q = subst (λ (k : ℕ). k ≤ 12) (sym q) (pick-either (λ (k : 
 pub four-bytes : lengthBytes 4 ≡ 4
 four-bytes = bytes-other 4 (λ e. absurd (omega (arith, e)))
 
+pub eight-bytes : lengthBytes 8 ≡ 12
+eight-bytes = bytes-eight 8 refl
+
+-- the unit of the n bytes after a length field of k bytes is there, or is not
+module _ (big : Bool) (w : ℕ) (s : List ℕ) (k : ℕ) (is : k ≡ lengthBytes w) (n : ℕ) where
+  pub in-over : length s - k < n → headerIn big w s n ≡ Refused 1
+  unfolding headerIn
+  in-over h = pick-no _ _ _ (no-leb {a = n} {b = length s - lengthBytes w} (subst (λ (l : ℕ). length s - l < n) is h))
+
+  pub in-there : n ≤ length s - k → headerIn big w s n ≡ headerFields big w (take (k + n) s)
+  unfolding headerIn
+  in-there h =
+      pick-yes _ _ _ (yes-leb {a = n} {b = length s - lengthBytes w} (subst (λ (l : ℕ). n ≤ length s - l) is h))
+      ∙ ap (λ (l : ℕ). headerFields big w (take (l + n) s)) (sym is)
+
 module _ (big : Bool) (s : List ℕ) where
-  -- the unit of the n bytes after the length is there, or is not
-  over : (n : ℕ) → length s - 4 < n → headerIn big 4 s n ≡ Refused 1
-  unfolding headerIn
-  over n k = pick-no _ _ _ (no-leb {a = n} {b = length s - lengthBytes 4} (subst (λ (l : ℕ). length s - l < n) (sym four-bytes) k))
-
-  there : (n : ℕ) → n ≤ length s - 4 → headerIn big 4 s n ≡ headerFields big 4 (take (4 + n) s)
-  unfolding headerIn
-  there n k =
-      pick-yes _ _ _ (yes-leb {a = n} {b = length s - lengthBytes 4} (subst (λ (l : ℕ). n ≤ length s - l) (sym four-bytes) k))
-      ∙ ap (λ (l : ℕ). headerFields big 4 (take (l + n) s)) four-bytes
-
   pub header-empty : length s ≡ 0 → headerOf big s ≡ Empty
   unfolding headerOf
   header-empty h = pick-yes _ _ _ (yes-eqb {a = length s} {b = 0} h)
@@ -187,18 +191,28 @@ module _ (big : Bool) (s : List ℕ) where
     length-none e = pick-no _ _ _ (no-eqb {a = length s} {b = 0} some) ∙ absent _ _ e
 
     module _ (n : ℕ) (c : Cursor) (e : fixedAt big 4 s 0 ≡ Value n c) where
-      pub length-other : 0xfffffff0 ≤ n → headerOf big s ≡ Refused 2
+      by-length : headerOf big s ≡ pick (eqb n 0xffffffff) (present (fixedAt big 8 s 4) (λ m. pick (ltb (12 + m) (2 ^ 64)) (headerIn big 8 s m) (Refused 1)))
+          (pick (leb 0xfffffff0 n) (Refused 2) (headerIn big 4 s n))
       unfolding headerOf
-      length-other h =
-          pick-no _ _ _ (no-eqb {a = length s} {b = 0} some) ∙ present-at _ n c _ e ∙ pick-yes _ _ _ (yes-leb {a = 0xfffffff0} {b = n} h)
+      by-length = pick-no _ _ _ (no-eqb {a = length s} {b = 0} some) ∙ present-at _ n c _ e
 
-      short : n < 0xfffffff0 → headerOf big s ≡ headerIn big 4 s n
-      unfolding headerOf
-      short h =
-          pick-no _ _ _ (no-eqb {a = length s} {b = 0} some) ∙ present-at _ n c _ e ∙ pick-no _ _ _ (no-leb {a = 0xfffffff0} {b = n} h)
+      pub length-reserved : (n ≡ 0xffffffff → ⊥) → 0xfffffff0 ≤ n → headerOf big s ≡ Refused 2
+      length-reserved f h = by-length ∙ pick-no _ _ _ (no-eqb {a = n} {b = 0xffffffff} f) ∙ pick-yes _ _ _ (yes-leb {a = 0xfffffff0} {b = n} h)
 
-      pub length-over : n < 0xfffffff0 → length s - 4 < n → headerOf big s ≡ Refused 1
-      length-over h k = short h ∙ over n k
+      pub length-four : n < 0xfffffff0 → headerOf big s ≡ headerIn big 4 s n
+      length-four h =
+          by-length
+          ∙ pick-no _ _ _ (no-eqb {a = n} {b = 0xffffffff} (λ z. absurd (omega arith)))
+          ∙ pick-no _ _ _ (no-leb {a = 0xfffffff0} {b = n} h)
 
-      pub length-there : n < 0xfffffff0 → n ≤ length s - 4 → headerOf big s ≡ headerFields big 4 (take (4 + n) s)
-      length-there h k = short h ∙ there n k
+      module _ (escape : n ≡ 0xffffffff) where
+        pub eight-none : fixedAt big 8 s 4 ≡ Unreadable → headerOf big s ≡ Refused 1
+        eight-none h = by-length ∙ pick-yes _ _ _ (yes-eqb {a = n} {b = 0xffffffff} escape) ∙ absent _ _ h
+
+        -- a section has no 2 ^ 64 bytes
+        pub length-eight : (m : ℕ) (d : Cursor) → fixedAt big 8 s 4 ≡ Value m d → length s < 2 ^ 64 → headerOf big s ≡ headerIn big 8 s m
+        length-eight m d h l =
+            by-length ∙ pick-yes _ _ _ (yes-eqb {a = n} {b = 0xffffffff} escape) ∙ present-at _ m d _ h
+            ∙ pick-either (λ (r : HeaderRead). r ≡ headerIn big 8 s m) (ltb (12 + m) (2 ^ 64)) (headerIn big 8 s m) (Refused 1)
+            (λ _. refl)
+            (λ t. sym (in-over big 8 s 12 (sym eight-bytes) m (let z : 2 ^ 64 ≤ 12 + m = ltb-no {a = 12 + m} {b = 2 ^ 64} t in omega arith)))

@@ -8,7 +8,7 @@ use lib.ListN.{length, getD, List·getD-eq-default}
 use lib.Dec.{T}
 use mir.Facts.{yes-ltb, no-ltb, yes-eqb, no-eqb}
 use Rattle.readers.proofs.Choice.{pick-yes, pick-no}
-use Rattle.readers.specs.Nesting.{opened, closed, top, nestingOf, nestingOpened, nestingClosed}
+use Rattle.readers.specs.Nesting.{noParent, opened, closed, top, nestingOf, nestingOpened, nestingClosed}
 use Rattle.readers.specs.declared.entries.Nesting.{Nesting}
 use Rattle.readers.specs.inner.Nesting.{Chain}
 
@@ -32,7 +32,7 @@ unfolding nestingClosed
 closes-none parents n h = sym (pick-yes _ _ _ (yes-eqb {a = n .depth} {b = 0} h))
 
 pub closes : (parents : List ℕ) (n : Nesting) → (n .depth ≡ 0 → ⊥)
-    → nesting (n .depth - 1) (getD parents (n .parent .0) 4294967295) ≡ nestingClosed parents n
+    → nesting (n .depth - 1) (getD parents (n .parent .0) noParent) ≡ nestingClosed parents n
 unfolding nestingClosed
 closes parents n h = sym (pick-no _ _ _ (no-eqb {a = n .depth} {b = 0} h))
 
@@ -43,11 +43,11 @@ getD-any (x ∷ l) (suc i) a b h = getD-any l i a b (omega arith)
 
 pub closes-known : (parents : List ℕ) (n : Nesting) → (n .depth ≡ 0 → ⊥) → n .parent .0 < length parents
     → nesting (n .depth - 1) (getD parents (n .parent .0) 0) ≡ nestingClosed parents n
-closes-known parents n h l = ap (nesting (n .depth - 1)) (getD-any parents (n .parent .0) 0 4294967295 l) ∙ closes parents n h
+closes-known parents n h l = ap (nesting (n .depth - 1)) (getD-any parents (n .parent .0) 0 noParent l) ∙ closes parents n h
 
 pub closes-unknown : (parents : List ℕ) (n : Nesting) → (n .depth ≡ 0 → ⊥) → length parents ≤ n .parent .0
-    → nesting (n .depth - 1) 4294967295 ≡ nestingClosed parents n
-closes-unknown parents n h l = ap (nesting (n .depth - 1)) (sym (List·getD-eq-default parents 4294967295 l)) ∙ closes parents n h
+    → nesting (n .depth - 1) noParent ≡ nestingClosed parents n
+closes-unknown parents n h l = ap (nesting (n .depth - 1)) (sym (List·getD-eq-default parents noParent l)) ∙ closes parents n h
 
 -- ---- by the definition
 
@@ -66,7 +66,7 @@ closed-is parents (k ∷ stack) h =
     ∙ ap₂ nesting (let e : suc (length stack) - 1 ≡ length stack = omega arith in e) (h .0)
 
 -- a stack whose entries are each other's parents stays so
-pub chain-opened : (parents : List ℕ) (children : Bool) (k : ℕ) (stack : List ℕ) → getD parents k 4294967295 ≡ top stack → Chain parents stack
+pub chain-opened : (parents : List ℕ) (children : Bool) (k : ℕ) (stack : List ℕ) → getD parents k noParent ≡ top stack → Chain parents stack
     → Chain parents (opened children k stack)
 unfolding Chain opened
 chain-opened parents true k stack e h = (e, h)

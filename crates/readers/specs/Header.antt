@@ -1,12 +1,12 @@
 -- The header of the first unit of a section (DWARF 5, 7.5.1.1 and 7.5.1.2; document 01, "Readers" and the order of
 -- refusals 1 and 2).
-use Prim.Native.Nat.{ℕ, _+_, _-_}
+use Prim.Native.Nat.{ℕ, _+_, _-_, _^_}
 use mathlib.Core.Path.{_≡_}
 use mathlib.Core.Logic.{_⊎_}
 use mathlib.Core.Bool.{Bool}
 use mathlib.Core.List.{List}
 use lib.ListN.{length, take}
-use lib.Dec.{leb, eqb}
+use lib.Dec.{leb, ltb, eqb}
 use Rattle.readers.specs.Choice.{pick, _or_}
 use Rattle.readers.specs.Codes.{«DW_UT_compile», «DW_UT_split_compile»}
 use Rattle.readers.specs.Cursors.{fixedAt}
@@ -69,12 +69,15 @@ module _ (big : Bool) (w : ℕ) where
   unfoldable pub headerIn : List ℕ → ℕ → HeaderRead
   headerIn s n = pick (leb n (length s - lengthBytes w)) (headerFields (take (lengthBytes w + n) s)) (Refused 1)
 
--- unit_length (4): 0xfffffff0 and above is no length of the 32-bit format (7.4). The byte order is told (document 02,
--- Point 12: "told by an argument .. and not guessed").
+-- unit_length (7.4): 0xffffffff says the 64-bit format, and eight bytes of length follow, 1 where the unit would end past
+-- 64 bits; 0xfffffff0 to 0xfffffffe are reserved (document 02, Point 6: "Number 2 still stands for" them). The byte order
+-- is told (Point 12: "told by an argument .. and not guessed").
 unfoldable pub headerOf : Bool → List ℕ → HeaderRead
 headerOf big s =
     pick (eqb (length s) 0) Empty
-    (present (fixedAt big 4 s 0) (λ n. pick (leb 0xfffffff0 n) (Refused 2) (headerIn big 4 s n)))
+    (present (fixedAt big 4 s 0) (λ n.
+    pick (eqb n 0xffffffff) (present (fixedAt big 8 s 4) (λ m. pick (ltb (12 + m) (2 ^ 64)) (headerIn big 8 s m) (Refused 1)))
+    (pick (leb 0xfffffff0 n) (Refused 2) (headerIn big 4 s n))))
 
 -- the same header of a unit of another length
 abbrev pub withEnd : UnitHeader → ℕ → UnitHeader
@@ -83,9 +86,9 @@ withEnd h n =
 
 -- ---- the units that are read
 
--- document 01, "Readers", and document 02, Point 12: the byte order is the one that was told
+-- document 01, "Readers", and document 02, Points 6 (either format) and 12 (the byte order is the one that was told)
 pub record Known (big : Bool) (e : Encoding) : Type 0 where
   pub version-is : e .version ≡ 5
-  pub offset-is : e .«offset_size» ≡ 4
+  pub offset-is : (e .«offset_size» ≡ 4) ⊎ (e .«offset_size» ≡ 8)
   pub address-is : (e .«address_size» ≡ 4) ⊎ (e .«address_size» ≡ 8)
   pub order-is : e .«big_endian» ≡ big

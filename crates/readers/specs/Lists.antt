@@ -4,12 +4,18 @@ use mathlib.Core.List.{List}
 use lib.ListN.{length}
 use lib.Dec.{leb}
 use Rattle.readers.specs.Choice.{pick}
+use Rattle.readers.specs.Header.{lengthSize}
 use Rattle.readers.specs.Cursors.{cursor, fixedAt}
 use Rattle.readers.specs.declared.cursor.Encoding.{Encoding}
 use Rattle.readers.specs.declared.cursor.Number.{Number}
 use Rattle.readers.specs.declared.cursor.Number.the-variants.{Value, Unreadable}
 use Rattle.readers.specs.declared.lists.ListOffset.{ListOffset}
 use Rattle.readers.specs.declared.lists.ListOffset.the-variants.{At, Unresolved}
+
+-- "List bases default to 12", and to 20 in the 64-bit format (document 02, Point 6): past the header of a list section,
+-- which has unit_length, version (2), address_size (1), segment_selector_size (1) and offset_entry_count (4)
+unfoldable pub listBase : Encoding → ℕ
+listBase e = lengthSize e + 8
 
 -- an offset of the section; its length is one, past it is none
 unfoldable pub listStart : List ℕ → ℕ → ListOffset

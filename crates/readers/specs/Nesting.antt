@@ -18,9 +18,12 @@ module _ {A : Type 0} where
   closed [] = []
   closed (k ∷ stack) = stack
 
--- 0xffffffff stands for no parent
+-- what stands for no parent (document 02, Point 6: "64-bit from then on, with all ones for no parent")
+abbrev pub noParent : ℕ
+noParent = 0xffffffffffffffff
+
 unfoldable pub top : List ℕ → ℕ
-top [] = 4294967295
+top [] = noParent
 top (k ∷ stack) = k
 
 -- What the code keeps of it: how many are open, and the innermost. The parents of the entries so far are the rest of
@@ -35,4 +38,4 @@ nestingOpened children k n =
 unfoldable pub nestingClosed : List ℕ → Nesting → Nesting
 nestingClosed parents n =
     pick (eqb (n .depth) 0) n
-    (record { depth = n .depth - 1; parent = record { 0 = getD parents (n .parent .0) 4294967295 } })
+    (record { depth = n .depth - 1; parent = record { 0 = getD parents (n .parent .0) noParent } })

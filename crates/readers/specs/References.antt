@@ -5,7 +5,7 @@ use mathlib.Core.List.{List, [], _∷_, _++_}
 use mathlib.Core.Option.{Option, none, some}
 use lib.ListN.{length}
 use lib.Dec.{ltb, leb, eqb}
-use Rattle.readers.specs.Choice.{pick, _or_, zeros}
+use Rattle.readers.specs.Choice.{pick, _or_, _and_, zeros}
 use Rattle.readers.specs.Header.{encodingOf}
 use Rattle.readers.specs.Operations.{row-reference2, row-reference4, row-type, row-bytes1-type, row-type-block1}
 use Rattle.readers.specs.Operations.{row-expression}
@@ -147,10 +147,16 @@ walkAnswer room Unreadable = Refused (refusalOfWalk Unreadable)
 walkAnswer room (Walked n true) = Refused (refusalOfWalk (Walked n true))
 walkAnswer room (Walked n false) = pick (leb n room) (Count n) (Refused 11)
 
--- by the address size, the byte order, and how many numbers the table has
-unfoldable pub referencesAnswer : ℕ → Bool → ℕ → List ℕ → References
-referencesAnswer a big numbers s =
-    pick (eqb a 4 or eqb a 8) (walkAnswer (numbers / 3) (walkOf (encodingOf big 5 4 a) s)) (Refused 2)
+-- the sizes of an address, and of an offset
+unfoldable pub sizeKnown : ℕ → Bool
+sizeKnown n = eqb n 4 or eqb n 8
+
+-- by the size of an address and that of an offset (document 02, Point 6: "4 or 8; any other is 2"), the byte order, and
+-- how many numbers the table has
+unfoldable pub referencesAnswer : ℕ → ℕ → Bool → ℕ → List ℕ → References
+referencesAnswer a w big numbers s =
+    pick (sizeKnown a and sizeKnown w)
+    (walkAnswer (numbers / 3) (walkOf (encodingOf big 5 w a) s)) (Refused 2)
 
 -- three numbers each: the place, the offset, the width in bytes
 unfoldable pub numbersOf : List Named → List ℕ
@@ -170,6 +176,6 @@ unfoldable pub answerTable : ℕ → References → List Named → List ℕ
 answerTable numbers (Count n) rs = numbersOf rs ++ zeros (numbers - 3 * n)
 answerTable numbers (Refused k) rs = zeros numbers
 
-unfoldable pub referencesTable : ℕ → Bool → ℕ → List ℕ → List ℕ
-referencesTable a big numbers s =
-    answerTable numbers (referencesAnswer a big numbers s) (referencesIn (encodingOf big 5 4 a) s)
+unfoldable pub referencesTable : ℕ → ℕ → Bool → ℕ → List ℕ → List ℕ
+referencesTable a w big numbers s =
+    answerTable numbers (referencesAnswer a w big numbers s) (referencesIn (encodingOf big 5 w a) s)

@@ -13,6 +13,7 @@ use crate::cursor::Encoding;
 use crate::cursor::Moved;
 use crate::cursor::Number;
 use crate::offsets::EntryIndex;
+use crate::offsets::NO_PARENT;
 use crate::offsets::UnitOffset;
 
 // An entry: where it starts, its declaration, where the values of its attributes start, and the cursor past it.
@@ -46,7 +47,7 @@ pub enum HeadStep {
     Unreadable,
 }
 
-// How deep the next entry or terminator stands, and the entry whose children are open; 0xffffffff where there is none.
+// How deep the next entry or terminator stands, and the entry whose children are open; NO_PARENT where there is none.
 pub struct Nesting {
     pub depth: u64,
     pub parent: EntryIndex,
@@ -157,7 +158,7 @@ impl Nesting {
     {
         Nesting {
             depth: 0,
-            parent: EntryIndex(0xffff_ffff),
+            parent: EntryIndex(NO_PARENT),
         }
     }
 
@@ -177,7 +178,7 @@ impl Nesting {
     }
 
     // After a terminator: the open entry's own parent is open again. One that closes nothing changes nothing.
-    pub fn after_terminator(self, parents: &[u32]) -> Nesting
+    pub fn after_terminator(self, parents: &[u64]) -> Nesting
         ensures { λ r. ⌜ r ≡ nestingClosed (now (parents .entry)) self ⌝ }
     {
         if self.depth == 0 {
@@ -193,7 +194,7 @@ impl Nesting {
         }
         Nesting {
             depth: self.depth - 1,
-            parent: EntryIndex(0xffff_ffff),
+            parent: EntryIndex(NO_PARENT),
         }
     }
 }

@@ -3,11 +3,11 @@ ghost use mathlib.Core.Path.{_≡_};
 ghost use mathlib.Core.List.{_++_};
 ghost use Prim.Native.Nat.{_*_, _-_};
 ghost use lib.ListN.{length};
-ghost use Rattle.readers.specs.Choice.{_or_};
+ghost use Rattle.readers.specs.Choice.{_and_, _or_};
 ghost use Rattle.readers.specs.Choice.{zeros};
 ghost use Rattle.readers.specs.References.{walkOf, named, namedType, referenceOf, nextReference};
 ghost use Rattle.readers.specs.inner.References.{ownWalk, Room};
-ghost use Rattle.readers.specs.References.{flatFrom, referencesAnswer, referencesTable, numbersOf};
+ghost use Rattle.readers.specs.References.{flatFrom, sizeKnown, referencesAnswer, referencesTable, numbersOf};
 use crate::cursor::Cursor;
 use crate::cursor::Encoding;
 use crate::fields::Field;
@@ -218,29 +218,46 @@ impl Cursor {
     }
 }
 
+// Whether a size is that of an address or of an offset.
+fn size_known(n: u8) -> bool
+    ensures { λ r. ⌜ r ≡ sizeKnown n ⌝ }
+{
+    if n == 4 { true } else { n == 8 }
+}
+
+fn sizes_known(address_size: u8, offset_size: u8) -> bool
+    ensures { λ r. ⌜ r ≡ (sizeKnown «address_size» and sizeKnown «offset_size») ⌝ }
+{
+    if size_known(address_size) {
+        size_known(offset_size)
+    } else {
+        false
+    }
+}
+
 // The references of an expression, in walk order: three numbers each, where its operand stands, the offset that it
-// names, and the operand's width. The byte order is that of the expression's unit. Refused with 2 for an address size
-// other than 4 and 8, 5 for an unreadable expression, 7 for an offset in the section, 11 for a table that is too short.
+// names, and the operand's width. The byte order is that of the expression's unit. Refused with 2 for an address size or
+// an offset size other than 4 and 8, 5 for an unreadable expression, 7 for an offset in the section, 11 for a table that
+// is too short.
 pub fn references_of_expression(
     s: &[u8],
     address_size: u8,
+    offset_size: u8,
     big_endian: bool,
     table: &mut [u64],
 ) -> References
     ensures answer { λ r. ⌜ r
-        ≡ referencesAnswer «address_size» «big_endian» (length (now (table .entry))) (now (s .entry)) ⌝ }
+        ≡ referencesAnswer «address_size» «offset_size» «big_endian» (length (now (table .entry))) (now (s .entry)) ⌝ }
     ensures filled { λ r. ⌜ now (table .exit)
-        ≡ referencesTable «address_size» «big_endian» (length (now (table .entry))) (now (s .entry)) ⌝ }
+        ≡ referencesTable «address_size» «offset_size» «big_endian» (length (now (table .entry))) (now (s .entry)) ⌝ }
 {
     clear(table);
-    if address_size != 4 {
-        if address_size != 8 {
-            return References::Refused(2);
-        }
+    if !sizes_known(address_size, offset_size) {
+        return References::Refused(2);
     }
     let e = Encoding {
         version: 5,
-        offset_size: 4,
+        offset_size,
         address_size,
         big_endian,
     };

@@ -1,8 +1,8 @@
-// The header of a unit (DWARF 5, 7.5.1), within the domain: version 5, 32-bit format, either byte
-// order.
+// The header of a unit (DWARF 5, 7.5.1), within the domain: version 5, both formats, either byte order.
 ghost use mathlib.Core.Path.{_≡_};
-ghost use lib.ListN.{take};
-ghost use Rattle.readers.specs.Header.{lengthBytes, headerFields, headerOf};
+ghost use Prim.Native.Nat.{_≤_};
+ghost use lib.ListN.{length, take};
+ghost use Rattle.readers.specs.Header.{lengthBytes, headerFields, headerIn, headerOf};
 use crate::codes::DW_UT_compile;
 use crate::codes::DW_UT_split_compile;
 use crate::cursor::Cursor;
@@ -28,6 +28,12 @@ pub enum HeaderRead {
     Empty,
     Refused(u8),
 }
+
+// The least number that is no length of the 32-bit format (7.4).
+const FIRST_RESERVED: u64 = 0xffff_fff0;
+
+// What stands for a length of the 64-bit format, whose eight bytes follow (7.4).
+const ESCAPE_64: u64 = 0xffff_ffff;
 
 // How many bytes the length field takes, by the size of an offset.
 pub fn length_bytes(offset_size: u8) -> usize
@@ -100,6 +106,19 @@ fn header_fields(unit: &[u8], offset_size: u8, big_endian: bool) -> HeaderRead
     })
 }
 
+// The header of a unit that is the so many bytes after its length field; all of them must be there.
+fn header_in(section: &[u8], unit_length: u64, offset_size: u8, big_endian: bool) -> HeaderRead
+    requires { ⌜ lengthBytes «offset_size» ≤ length (now section) ⌝ }
+    ensures { λ r. ⌜ r ≡ headerIn «big_endian» «offset_size» (now (section .entry)) «unit_length» ⌝ }
+{
+    let from = length_bytes(offset_size);
+    if unit_length > (left(section, from) as u64) {
+        return HeaderRead::Refused(1);
+    }
+    let end = from + (unit_length as usize);
+    header_fields(&section[..end], offset_size, big_endian)
+}
+
 // The header of the first unit of a section, by the byte order that it is told.
 pub fn unit_header(section: &[u8], big_endian: bool) -> HeaderRead
     ensures { λ r. ⌜ r ≡ headerOf «big_endian» (now (section .entry)) ⌝ }
@@ -110,14 +129,16 @@ pub fn unit_header(section: &[u8], big_endian: bool) -> HeaderRead
     let Number::Value(length, _) = (Cursor { at: 0 }).fixed(section, 4, big_endian) else {
         return HeaderRead::Refused(1);
     };
-    if length >= 0xffff_fff0 {
+    if length == ESCAPE_64 {
+        let Number::Value(wide, _) = (Cursor { at: 4 }).fixed(section, 8, big_endian) else {
+            return HeaderRead::Refused(1);
+        };
+        return header_in(section, wide, 8, big_endian);
+    }
+    if length >= FIRST_RESERVED {
         return HeaderRead::Refused(2);
     }
-    if length > (left(section, 4) as u64) {
-        return HeaderRead::Refused(1);
-    }
-    let end = 4 + (length as usize);
-    header_fields(&section[..end], 4, big_endian)
+    header_in(section, length, 4, big_endian)
 }
 
 // The part of a section that a unit is: nothing of the unit is read past it.

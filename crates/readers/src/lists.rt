@@ -1,9 +1,17 @@
 // Where a range list or a location list starts in its section (DWARF 5, 7.28, 7.29).
 ghost use mathlib.Core.Path.{_≡_};
-ghost use Rattle.readers.specs.Lists.{listOffset, listStart};
+ghost use Rattle.readers.specs.Lists.{listBase, listOffset, listStart};
 use crate::cursor::Cursor;
 use crate::cursor::Encoding;
 use crate::cursor::Number;
+use crate::header::length_bytes;
+
+// The base of a unit whose entries have none of their own: past the header of a list section, in the unit's format.
+pub fn list_base(e: Encoding) -> u64
+    ensures { λ r. ⌜ r ≡ listBase e ⌝ }
+{
+    (length_bytes(e.offset_size) + 8) as u64
+}
 
 pub enum ListOffset {
     At(Cursor),

@@ -4,4 +4,7 @@
 pub struct UnitOffset(pub u64);
 
 // The place of an entry among a unit's entries, counted from 0.
-pub struct EntryIndex(pub u32);
+pub struct EntryIndex(pub u64);
+
+// What stands for the parent of an entry that has none.
+pub const NO_PARENT: u64 = 0xffff_ffff_ffff_ffff;

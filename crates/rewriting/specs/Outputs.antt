@@ -7,7 +7,7 @@ use lib.ListN.{length}
 use Rattle.readers.specs.Choice.{zeros}
 use Rattle.marking.specs.Analysis.{Rooms}
 use Rattle.marking.specs.Columns.{padTo, unitRooms}
-use Rattle.rewriting.specs.Written.{listBytes, mapBytes}
+use Rattle.rewriting.specs.Written.{numberSize, placeSize, listBytes, mapBytes}
 use Rattle.rewriting.specs.Rewriting.{Lists, Room, Collected, untouched, rewritten, refused}
 use Rattle.rewriting.specs.declared.lists.ListCount.{ListCount}
 use Rattle.rewriting.specs.declared.lists.ListCount.the-variants.{Present, Absent}
@@ -15,15 +15,15 @@ use Rattle.rewriting.specs.declared.collect.Counts.{Counts}
 use Rattle.rewriting.specs.declared.collect.Collected.{Collected as Answer}
 use Rattle.rewriting.specs.declared.collect.Collected.the-variants.{Untouched, Rewritten, Refused}
 
--- what there is room for, by the lengths of the slices: 8 bytes a list number, 12 a map place
+-- what there is room for, by the lengths of the slices
 abbrev pub roomBy : Rooms → ℕ → ℕ → ℕ → ℕ → ℕ → Room
 roomBy tables map ranges locations strings out =
     record {
       tables = tables;
-      ranges = ranges / 8;
-      locations = locations / 8;
-      strings = strings / 8;
-      places = map / 12;
+      ranges = ranges / numberSize;
+      locations = locations / numberSize;
+      strings = strings / numberSize;
+      places = map / placeSize;
       bytes = out;
     }
 

@@ -59,33 +59,41 @@ unfoldable pub runBytes : ℕ → List ℕ → List ℕ
 runBytes width [] = []
 runBytes width (x ∷ xs) = fixedBytes true width x ++ runBytes width xs
 
--- ---- index lists: eight bytes each
+-- a number of a list or of the map has eight bytes, a place of the map three numbers (document 01, "collect"; document
+-- 02, Point 6: "The C call's map has eight big-endian bytes a number")
+abbrev pub numberSize : ℕ
+numberSize = 8
+
+abbrev pub placeSize : ℕ
+placeSize = 24
+
+-- ---- index lists
 
 abbrev pub listBytes : List ℕ → List ℕ
-listBytes xs = runBytes 8 xs
+listBytes xs = runBytes numberSize xs
 
 -- what any list has at a place
 abbrev pub listNumber : List ℕ → ℕ → ℕ
-listNumber list i = rowNumber 8 0 8 list i
+listNumber list i = rowNumber numberSize 0 numberSize list i
 
--- ---- the map: old offset, new offset and depth of each place, four bytes each
+-- ---- the map: old offset, new offset and depth of each place, eight bytes each
 
 unfoldable pub columns : List Place → List ℕ
 columns [] = []
 columns (p ∷ ps) = p .old ∷ p .new ∷ p .depth ∷ columns ps
 
 unfoldable pub mapBytes : List Place → List ℕ
-mapBytes ps = runBytes 4 (columns ps)
+mapBytes ps = runBytes numberSize (columns ps)
 
 -- what any map has at a place: old offset, new offset, depth
 abbrev pub oldAt : List ℕ → ℕ → ℕ
-oldAt map i = rowNumber 12 0 4 map i
+oldAt map i = rowNumber placeSize 0 numberSize map i
 
 abbrev pub newAt : List ℕ → ℕ → ℕ
-newAt map i = rowNumber 12 4 4 map i
+newAt map i = rowNumber placeSize numberSize numberSize map i
 
 abbrev pub depthAt : List ℕ → ℕ → ℕ
-depthAt map i = rowNumber 12 8 4 map i
+depthAt map i = rowNumber placeSize (2 * numberSize) numberSize map i
 
 -- where the halving of the places from low to high ends, by what is read at each: at the first that is not below v,
 -- where the numbers ascend; n halvings are enough for n places

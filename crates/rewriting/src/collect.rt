@@ -21,6 +21,7 @@ use crate::indices::sorted_lists;
 use crate::kept_items::Reading;
 use crate::kept_items::fill_ends;
 use crate::lists::ListCount;
+use crate::map::PLACE_SIZE;
 use crate::offset_pass::place_items;
 use crate::siblings::fill_bounds;
 use marking::analysis::clear_columns;
@@ -107,12 +108,12 @@ fn clear_refused(
 fn clear_tables(
     index: &mut [u64],
     offsets: &mut [u64],
-    parents: &mut [u32],
+    parents: &mut [u64],
     roots: &mut [u8],
     ends: &mut [u64],
     marks: &mut [u8],
     targets: &mut [u64],
-    pairs: &mut [u32],
+    pairs: &mut [u64],
     work: &mut [u32],
 )
     ensures index { λ _. ⌜ now (index .exit) ≡ zeros (length (now (index .entry))) ⌝ }
@@ -128,7 +129,7 @@ fn clear_tables(
     clear(index);
     clear_columns(offsets, parents, roots, ends, targets);
     clear_bytes(marks);
-    clear_indexes(pairs);
+    clear(pairs);
     clear_indexes(work);
 }
 
@@ -148,7 +149,7 @@ fn index_lists(
     abbreviations: &[u8],
     r: Reading,
     index: &[u64],
-    parents: &[u32],
+    parents: &[u64],
     ends: &[u64],
     marks: &[u8],
     first: UnitOffset,
@@ -243,7 +244,7 @@ fn write_unit(
     abbreviations: &[u8],
     r: Reading,
     index: &[u64],
-    parents: &[u32],
+    parents: &[u64],
     ends: &[u64],
     marks: &[u8],
     first: UnitOffset,
@@ -281,7 +282,7 @@ fn write_unit(
         first,
         map,
     );
-    if size.places > map.len() / 12 {
+    if size.places > map.len() / PLACE_SIZE {
         return Collected::Refused(13);
     }
     if size.bytes > out.len() {
@@ -330,7 +331,7 @@ fn rewrite_unit(
     h: UnitHeader,
     abbreviations: &[u8],
     index: &[u64],
-    parents: &[u32],
+    parents: &[u64],
     ends: &mut [u64],
     marks: &[u8],
     entries: usize,
@@ -476,7 +477,7 @@ fn collect_marked(
     task: Task,
     abbreviations: &[u8],
     index: &[u64],
-    parents: &[u32],
+    parents: &[u64],
     ends: &mut [u64],
     marks: &[u8],
     type_units: bool,
@@ -539,12 +540,12 @@ fn collect_unit(
     type_units: bool,
     index: &mut [u64],
     offsets: &mut [u64],
-    parents: &mut [u32],
+    parents: &mut [u64],
     roots: &mut [u8],
     ends: &mut [u64],
     marks: &mut [u8],
     targets: &mut [u64],
-    pairs: &mut [u32],
+    pairs: &mut [u64],
     work: &mut [u32],
     map: &mut [u8],
     range_list: &mut [u8],
@@ -602,7 +603,7 @@ fn collect_unit(
     )
 }
 
-// Thins the first unit of a section, which is read with the other sections and the address table. The map has 12 bytes a
+// Thins the first unit of a section, which is read with the other sections and the address table. The map has 24 bytes a
 // place (old offset, new offset, depth), a list 8 bytes a number, all big-endian. Refused with a number of document 01;
 // then map, lists and output are zeros. The tables are scratch, zeros on every answer: the index of the declarations,
 // those of the entries (`offsets`, `parents`, `roots`, `ends`, `marks`) and of the references (`targets`, `pairs`), and the
@@ -618,12 +619,12 @@ pub fn collect(
     type_units: bool,
     index: &mut [u64],
     offsets: &mut [u64],
-    parents: &mut [u32],
+    parents: &mut [u64],
     roots: &mut [u8],
     ends: &mut [u64],
     marks: &mut [u8],
     targets: &mut [u64],
-    pairs: &mut [u32],
+    pairs: &mut [u64],
     work: &mut [u32],
     map: &mut [u8],
     range_list: &mut [u8],

@@ -36,7 +36,7 @@ pub(crate) fn emit_dies(
     abbreviations: &[u8],
     r: Reading,
     index: &[u64],
-    parents: &[u32],
+    parents: &[u64],
     ends: &[u64],
     marks: &[u8],
     first: UnitOffset,

@@ -69,12 +69,12 @@ fn closes_kept(marks: &[u8], nesting: Nesting) -> bool
     is_kept(marks, parent)
 }
 
-// The number of an entry that ends at a place below 4 GiB: twice the place, and one more where it has children.
+// The number of an entry that ends at a place below 2^63: twice the place, and one more where it has children.
 fn end_number(past: Cursor, children: bool) -> u64
-    ensures { λ r. ⌜ (past .at < 2 ^ 32 → r ≡ endNumber (past .at) children) ⌝ }
+    ensures { λ r. ⌜ (past .at < 2 ^ 63 → r ≡ endNumber (past .at) children) ⌝ }
 {
     let end = past.at as u64;
-    if end > 0xffff_ffff {
+    if end > 0x7fff_ffff_ffff_ffff {
         return 0;
     }
     if children {
@@ -105,7 +105,7 @@ pub(crate) fn fill_ends(
 )
     ensures { λ _. ⌜ (
         let items = itemsBy r (now (abbreviations .entry)) (now (index .entry)) (now (unit .entry)) (first .0) in
-        length (now (unit .entry)) < 2 ^ 32 → entryCount items ≤ length (now (ends .entry))
+        entryCount items ≤ length (now (ends .entry))
         → EndsHeld (now (ends .exit)) 0 items
         ) ⌝ }
 {
@@ -116,9 +116,6 @@ pub(crate) fn fill_ends(
     loop {
         match at.step(unit, abbreviations, r.from, index, r.encoding) {
             Step::Entry(x) => {
-                if count.0 == 0xffff_ffff {
-                    return;
-                }
                 let k = place(count);
                 if k >= ends.len() {
                     return;
@@ -144,25 +141,13 @@ pub(crate) fn fill_ends(
     }
 }
 
-// The number of an entry in the column of ends; 0 where there is none.
-fn end_at(ends: &[u64], i: EntryIndex) -> u64
-    ensures { λ r. ⌜ r ≡ getD (now (ends .entry)) (i .0) 0 ⌝ }
-{
-    let k = place(i);
-    if k >= ends.len() {
-        return 0;
-    }
-    ends[k]
-}
-
-// The next kept item, by the column of ends: of a dead entry the code alone is read. A unit below 4 GiB has fewer entries
-// than a u32 can count.
+// The next kept item, by the column of ends: of a dead entry the code alone is read.
 pub(crate) fn next_kept(
     unit: &[u8],
     abbreviations: &[u8],
     r: Reading,
     index: &[u64],
-    parents: &[u32],
+    parents: &[u64],
     ends: &[u64],
     marks: &[u8],
     s: PassPosition,
@@ -200,10 +185,11 @@ pub(crate) fn next_kept(
                 });
             }
         } else {
-            if count.0 == 0xffff_ffff {
+            let k = place(count);
+            if k >= ends.len() {
                 return KeptStep::End;
             }
-            let n = end_at(ends, count);
+            let n = ends[k];
             let end = (n / 2) as usize;
             if end < values.at {
                 return KeptStep::End;

@@ -24,7 +24,7 @@ pub(crate) fn place_items(
     abbreviations: &[u8],
     r: Reading,
     index: &[u64],
-    parents: &[u32],
+    parents: &[u64],
     ends: &[u64],
     marks: &[u8],
     first: UnitOffset,

@@ -1,6 +1,7 @@
 // The marks of small graphs, worked by hand from document 01.
 use libc::STDOUT_FILENO;
 use marking::marks::Marked;
+use readers::offsets::NO_PARENT;
 
 // The letter of a mark: D dead, R retained, L live; 0 where a mark is zero.
 fn letter(mark: u8) {
@@ -21,7 +22,7 @@ fn letters(marks: &[u8]) {
     }
 }
 
-fn case(name: &[u8], parents: &[u32], pairs: &[u32], roots: &[u8], marks: &mut [u8]) {
+fn case(name: &[u8], parents: &[u64], pairs: &[u64], roots: &[u8], marks: &mut [u8]) {
     io::write_all(STDOUT_FILENO, name);
     match marking::marks::mark(parents, pairs, roots, marks) {
         Marked::Kept(n) => {
@@ -39,9 +40,9 @@ fn case(name: &[u8], parents: &[u32], pairs: &[u32], roots: &[u8], marks: &mut [
 
 // The five-entry unit under four address tables.
 fn five() {
-    let none = 0xffff_ffffu32;
+    let none = NO_PARENT;
     let parents = [none, 0, 0, 0, 0];
-    let pairs = [1u32, 3, 4, 2];
+    let pairs = [1u64, 3, 4, 2];
     let mut marks = [9u8; 5];
     case(
         b"five 01 00",
@@ -75,12 +76,12 @@ fn five() {
 
 // The first entry's mark, references of retained entries, and trees that are not one tree.
 fn shapes() {
-    let none = 0xffff_ffffu32;
+    let none = NO_PARENT;
     let mut two = [9u8; 2];
     case(
         b"first is a root",
         &[none, 0],
-        &[0u32; 0],
+        &[0u64; 0],
         &[1, 0],
         &mut two,
     );
@@ -98,7 +99,7 @@ fn shapes() {
         &[0, 0],
         &mut two,
     );
-    case(b"two trees", &[none, none], &[0u32; 0], &[0, 1], &mut two);
+    case(b"two trees", &[none, none], &[0u64; 0], &[0, 1], &mut two);
     let mut four = [9u8; 4];
     case(
         b"a retained entry's reference",
@@ -124,14 +125,14 @@ fn shapes() {
     let mut nothing = [0u8; 0];
     case(
         b"no entries",
-        &[0u32; 0],
-        &[0u32; 0],
+        &[0u64; 0],
+        &[0u64; 0],
         &[0u8; 0],
         &mut nothing,
     );
     case(
         b"no entries, an odd number",
-        &[0u32; 0],
+        &[0u64; 0],
         &[7],
         &[0u8; 0],
         &mut nothing,
@@ -140,19 +141,19 @@ fn shapes() {
 
 // What is refused.
 fn refusals() {
-    let none = 0xffff_ffffu32;
+    let none = NO_PARENT;
     let mut two = [9u8; 2];
     case(
         b"a parent not below its child",
         &[none, 1],
-        &[0u32; 0],
+        &[0u64; 0],
         &[0, 0],
         &mut two,
     );
     case(
         b"a parent that is no entry",
         &[none, 0xffff_fffe],
-        &[0u32; 0],
+        &[0u64; 0],
         &[0, 0],
         &mut two,
     );
@@ -163,8 +164,8 @@ fn refusals() {
         &[0, 0],
         &mut two,
     );
-    case(b"a root of 2", &[none, 0], &[0u32; 0], &[0, 2], &mut two);
-    case(b"roots too few", &[none, 0], &[0u32; 0], &[0], &mut two);
+    case(b"a root of 2", &[none, 0], &[0u64; 0], &[0, 2], &mut two);
+    case(b"roots too few", &[none, 0], &[0u64; 0], &[0], &mut two);
     case(
         b"an odd last number",
         &[none, 0],
@@ -176,17 +177,88 @@ fn refusals() {
     case(
         b"marks too many",
         &[none, 0],
-        &[0u32; 0],
+        &[0u64; 0],
         &[0, 0],
         &mut three,
     );
     let mut nothing = [0u8; 0];
     case(
         b"a pair without entries",
-        &[0u32; 0],
+        &[0u64; 0],
         &[0, 0],
         &[0u8; 0],
         &mut nothing,
+    );
+}
+
+// Indices of 64 bits: all ones are no parent, the largest of 32 bits is an index like any other, and a high word counts.
+fn wide() {
+    let none = 0xffff_ffff_ffff_ffff;
+    let mut one = [9u8; 1];
+    case(b"no parent", &[none], &[0u64; 0], &[0], &mut one);
+    case(
+        b"all ones of 32 bits",
+        &[0xffff_ffff],
+        &[0u64; 0],
+        &[0],
+        &mut one,
+    );
+    let mut two = [9u8; 2];
+    case(
+        b"no parent, and a child",
+        &[none, 0],
+        &[0u64; 0],
+        &[0, 1],
+        &mut two,
+    );
+    case(
+        b"all ones of 32 bits as a parent",
+        &[none, 0xffff_ffff],
+        &[0u64; 0],
+        &[0, 1],
+        &mut two,
+    );
+    case(
+        b"a parent with a high word",
+        &[none, 0x1_0000_0000],
+        &[0u64; 0],
+        &[0, 1],
+        &mut two,
+    );
+    case(
+        b"a parent below no parent",
+        &[none, 0xffff_ffff_ffff_fffe],
+        &[0u64; 0],
+        &[0, 1],
+        &mut two,
+    );
+    case(
+        b"a pair with a high word",
+        &[none, none],
+        &[0, 0x1_0000_0000],
+        &[0, 0],
+        &mut two,
+    );
+    case(
+        b"a pair with a high word first",
+        &[none, none],
+        &[0x1_0000_0000, 1],
+        &[0, 0],
+        &mut two,
+    );
+    case(
+        b"a pair of all ones",
+        &[none, none],
+        &[0, none],
+        &[0, 0],
+        &mut two,
+    );
+    case(
+        b"a pair of all ones of 32 bits",
+        &[none, none],
+        &[0, 0xffff_ffff],
+        &[0, 0],
+        &mut two,
     );
 }
 
@@ -195,4 +267,5 @@ pub fn print() {
     five();
     shapes();
     refusals();
+    wide();
 }

@@ -3,14 +3,15 @@
 use oracle::cases::{unbundle, Parts};
 use oracle::growth::{self, half_live, name, sizes, FAMILIES};
 use oracle::judge::{judge, measured, Judged, Outcome, Setting};
-use oracle::order::order;
+use oracle::order::Layout;
 use std::collections::BTreeSet;
 use std::hint::black_box;
 
-const USAGE: &str = "usage: bench [--big-endian] units BUNDLE ..          each bundle, with about half of its addresses dead
-       bench [--big-endian] families MOST [FAMILY ..] each family, up to this size
-       bench [--big-endian] calls SIZE [BUNDLE ..]    one call of each kind through bench_measured, of the families' units of this size and the bundles: for callgrind
-       bench [--big-endian] repeat SIDE N BUNDLE      N calls of port, own or original";
+const USAGE: &str = "usage: bench [WORDS] units BUNDLE ..          each bundle, with about half of its addresses dead
+       bench [WORDS] families MOST [FAMILY ..] each family, up to this size
+       bench [WORDS] calls SIZE [BUNDLE ..]    one call of each kind through bench_measured, of the families' units of this size and the bundles: for callgrind
+       bench [WORDS] repeat SIDE N BUNDLE      N calls of port, own or original
+WORDS: --big-endian, --64-bit: the families' units are of that byte order and format; bundles have to be of that byte order";
 
 extern "C" {
     fn collector_collect(
@@ -21,8 +22,8 @@ extern "C" {
     fn collector_collect_lent(
         section: *const u8, _: usize, abbreviations: *const u8, _: usize, locations: *const u8, _: usize, ranges: *const u8, _: usize,
         addresses: *const u8, _: usize, ranges_base: u64, type_units: u64, big_endian: u64, index: *mut u64, _: usize, offsets: *mut u64, _: usize,
-        parents: *mut u32, _: usize, roots: *mut u8, _: usize, ends: *mut u64, _: usize, marks: *mut u8, _: usize, targets: *mut u64, _: usize,
-        pairs: *mut u32, _: usize, work: *mut u32, _: usize, map: *mut u8, _: usize, range_list: *mut u8, _: usize,
+        parents: *mut u64, _: usize, roots: *mut u8, _: usize, ends: *mut u64, _: usize, marks: *mut u8, _: usize, targets: *mut u64, _: usize,
+        pairs: *mut u64, _: usize, work: *mut u32, _: usize, map: *mut u8, _: usize, range_list: *mut u8, _: usize,
         location_list: *mut u8, _: usize, string_list: *mut u8, _: usize, out: *mut u8, _: usize, counts: *mut u8, _: usize,
     ) -> u64;
     fn clock_gettime(clock: i32, time: *mut [i64; 2]) -> i32;
@@ -31,6 +32,8 @@ extern "C" {
 /// Entries and references of the C call's own tables, and bytes of the counts.
 const OWN: (usize, usize) = (2048, 8192);
 const COUNTS: usize = 59;
+/// Bytes of a place of the map.
+const PLACE: usize = 24;
 /// A call that would take longer is not made.
 const LONGEST: f64 = 10e9;
 /// A measurement repeats the call until it takes so long.
@@ -131,12 +134,12 @@ fn sizes_of(unit: &Unit) -> gimli::Result<Sizes> {
 struct Lent {
     index: Vec<u64>,
     offsets: Vec<u64>,
-    parents: Vec<u32>,
+    parents: Vec<u64>,
     roots: Vec<u8>,
     ends: Vec<u64>,
     marks: Vec<u8>,
     targets: Vec<u64>,
-    pairs: Vec<u32>,
+    pairs: Vec<u64>,
     work: Vec<u32>,
     map: Vec<u8>,
     lists: [Vec<u8>; 3],
@@ -159,7 +162,7 @@ impl Lent {
             targets: vec![0; references],
             pairs: vec![0; 2 * references],
             work: vec![0; 2 * n],
-            map: vec![0; 12 * sizes.items],
+            map: vec![0; PLACE * sizes.items],
             lists: sizes.lists.map(|l| vec![0; 8 * l]),
             out: vec![0; parts[0].len()],
             counts: vec![0; COUNTS],
@@ -168,8 +171,8 @@ impl Lent {
 
     /// Bytes of the tables, and of what holds the answer.
     fn bytes(&self) -> (usize, usize) {
-        let tables = 8 * (self.index.len() + self.offsets.len() + self.ends.len() + self.targets.len())
-            + 4 * (self.parents.len() + self.pairs.len() + self.work.len())
+        let tables = 8 * (self.index.len() + self.offsets.len() + self.parents.len() + self.ends.len() + self.targets.len() + self.pairs.len())
+            + 4 * self.work.len()
             + self.roots.len()
             + self.marks.len();
         (tables, self.map.len() + self.lists.iter().map(Vec::len).sum::<usize>() + self.out.len() + COUNTS)
@@ -216,8 +219,8 @@ fn same(what: &str, judged: &Outcome, number: u64, lent: &Lent) {
     assert_eq!(number, if bytes.is_empty() { 256 } else { 257 }, "{what}: the port's answer");
     assert!(lent.out[..found[3]] == *bytes, "{what}: the new units differ");
     assert_eq!(found[4..], lists, "{what}: lists");
-    let places: Vec<u8> = answer.map.iter().flat_map(|p| [p.0, p.1, p.2]).flat_map(|n| (n as u32).to_be_bytes()).collect();
-    assert!(lent.map[..12 * found[2]] == places, "{what}: the maps differ");
+    let places: Vec<u8> = answer.map.iter().flat_map(|p| [p.0, p.1, p.2]).flat_map(|n| (n as u64).to_be_bytes()).collect();
+    assert!(lent.map[..PLACE * found[2]] == places, "{what}: the maps differ");
 }
 
 /// What the original finds in a unit: its references, and the answer.
@@ -294,11 +297,11 @@ fn goes_on(before: Option<f64>, now: Option<f64>) -> bool {
 }
 
 /// A family's unit of a size.
-fn grown(what: &str, size: usize, big_endian: bool) -> Unit {
-    Unit::new(growth::unit(what, size, order(big_endian)).expect("a family"), big_endian)
+fn grown(what: &str, size: usize, (big_endian, wide): (bool, bool)) -> Unit {
+    Unit::new(growth::unit(what, size, Layout::new(big_endian, wide)).expect("a family"), big_endian)
 }
 
-fn family(what: &str, most: usize, big_endian: bool) {
+fn family(what: &str, most: usize, of: (bool, bool)) {
     let mut last = Times::default();
     let mut sides = (true, true);
     let mut scale = (0, 1);
@@ -306,7 +309,7 @@ fn family(what: &str, most: usize, big_endian: bool) {
         if !sides.0 && !sides.1 {
             return;
         }
-        let unit = grown(what, size, big_endian);
+        let unit = grown(what, size, of);
         // Without the original to count them, references grow as the size does.
         let scaled = scale.0 * size / scale.1 * 101 / 100 + 300;
         let (times, found) = row("family", what, size, &unit, scaled, sides).expect("an answer");
@@ -358,10 +361,10 @@ fn repeat(side: &str, times: usize, path: &str, big_endian: bool) {
 }
 
 fn run(args: &[String]) -> Option<()> {
-    let (big_endian, args) = match args {
-        [first, rest @ ..] if first == "--big-endian" => (true, rest),
-        _ => (false, args),
-    };
+    let is_word = |a: &&String| a.starts_with("--");
+    let (words, args) = args.split_at(args.iter().take_while(is_word).count());
+    let [big_endian, wide] = ["--big-endian", "--64-bit"].map(|word| words.iter().any(|w| w == word));
+    let of = (big_endian, wide);
     let number = |i: usize| args.get(i).and_then(|n| n.parse::<usize>().ok());
     match args.first()?.as_str() {
         "units" => {
@@ -372,12 +375,12 @@ fn run(args: &[String]) -> Option<()> {
         "families" => {
             let most = number(1)?;
             let named = |f: &str| args.len() == 2 || args[2..].iter().any(|a| a == f);
-            FAMILIES.iter().filter(|f| named(f.0)).for_each(|f| family(f.0, most, big_endian));
+            FAMILIES.iter().filter(|f| named(f.0)).for_each(|f| family(f.0, most, of));
         }
         "calls" => {
             let size = number(1)?;
             if size > 0 {
-                FAMILIES.iter().for_each(|f| calls(f.0, size, &grown(f.0, size, big_endian)));
+                FAMILIES.iter().for_each(|f| calls(f.0, size, &grown(f.0, size, of)));
             }
             args[2..].iter().for_each(|path| calls(&name(path), 0, &read(path, big_endian)));
         }

@@ -1,14 +1,16 @@
 //! Makes cases: bundles one after another on standard output, the same for the same seed. README.md names the families.
 
 use oracle::cases::{bundle, unbundle, Cases};
+use oracle::order::Layout;
 use std::io::{self, BufWriter, Write};
 
-const USAGE: &str = "usage: cases [--seed N] [--count N] [--big-endian] FAMILY [BUNDLE ..]
+const USAGE: &str = "usage: cases [--seed N] [--count N] [--big-endian] [--64-bit] FAMILY [BUNDLE ..]
 Families: small, bytes, valid, lists, expressions, trees, deep, refused, headers, declarations, numbers, operations, kinds, siblings, many,
-damaged, listed, sums, no-table, failures; of given bundles: tables, damaged-files. Little-endian, or big-endian, as given bundles then have to be.";
+damaged, listed, sums, no-table, failures; of given bundles: tables, damaged-files. Little-endian, or big-endian, and of the 32-bit format or of the 64-bit
+one, as given bundles then have to be.";
 
 fn main() -> io::Result<()> {
-    let (mut seed, mut count, mut big_endian) = (1u64, 1000usize, false);
+    let (mut seed, mut count, mut big_endian, mut wide) = (1u64, 1000usize, false, false);
     let mut words = Vec::new();
     let mut args = std::env::args().skip(1);
     let usage = || -> ! {
@@ -21,6 +23,7 @@ fn main() -> io::Result<()> {
             "--seed" => seed = number(),
             "--count" => count = number() as usize,
             "--big-endian" => big_endian = true,
+            "--64-bit" => wide = true,
             _ if arg.starts_with('-') => usage(),
             _ => words.push(arg),
         }
@@ -36,7 +39,7 @@ fn main() -> io::Result<()> {
             }
         }
     }
-    let Some(mut cases) = Cases::new(family, seed, big_endian, &given) else { usage() };
+    let Some(mut cases) = Cases::new(family, seed, Layout::new(big_endian, wide), &given) else { usage() };
     let mut output = BufWriter::new(io::stdout().lock());
     for i in 0..count {
         output.write_all(&bundle(&cases.case(i)))?;

@@ -4,7 +4,7 @@
 use oracle::cases::{bundle, unbundle, Cases, Dice, Parts, FAMILIES, OF_FILES};
 use oracle::expected::{expect, Expected, Plan, Room};
 use oracle::judge::{hex, judge, said, Answer, Outcome, Setting};
-use oracle::order::fit;
+use oracle::order::{order, Layout, Order};
 use oracle::unit::header;
 use std::collections::{BTreeMap, BTreeSet};
 use std::fs;
@@ -13,12 +13,13 @@ use std::panic;
 use std::sync::atomic::{AtomicUsize, Ordering};
 use std::sync::Mutex;
 
-const USAGE: &str = "usage: differ [--seed N] [--count N] [--threads N] [--blocks] [--quiet | --save FOLDER] [--big-endian] [FAMILY .. | --only-files]
-              [-- BUNDLE .. [--big-endian BUNDLE ..]]
+const USAGE: &str = "usage: differ [--seed N] [--count N] [--threads N] [--blocks] [--quiet | --save FOLDER] [--big-endian] [--64-bit]
+              [FAMILY .. | --only-files] [-- BUNDLE .. [--big-endian BUNDLE ..]]
        differ --lines [--type-units] [--ranges-base N] [--big-endian] < BUNDLES
-So many cases of each family in each byte order (of many a fiftieth, of tables and damaged-files a fifth); all families if none is named. --big-endian: no
-little-endian ones; among the bundles: those behind it are big-endian. --blocks: what is lent is a block of memory of its own, nothing around it. --save: where
-cases that differ are left; --quiet: they are only counted. --lines: the port's answer for each of the bundles on standard input.";
+So many cases of each family in each byte order of each format (of many a fiftieth, of tables and damaged-files a fifth); all families if none is
+named. --big-endian: no little-endian ones; among the bundles: those behind it are big-endian. --64-bit: none of the 32-bit format; bundles tell
+theirs. --blocks: what is lent is a block of memory of its own, nothing around it. --save: where cases that differ are left; --quiet: they are only
+counted. --lines: the port's answer for each of the bundles on standard input.";
 
 extern "C" {
     fn collector_collect(
@@ -29,8 +30,8 @@ extern "C" {
     fn collector_collect_lent(
         section: *const u8, _: usize, abbreviations: *const u8, _: usize, locations: *const u8, _: usize, ranges: *const u8, _: usize,
         addresses: *const u8, _: usize, ranges_base: u64, type_units: u64, big_endian: u64, index: *mut u64, _: usize, offsets: *mut u64, _: usize,
-        parents: *mut u32, _: usize, roots: *mut u8, _: usize, ends: *mut u64, _: usize, marks: *mut u8, _: usize, targets: *mut u64, _: usize,
-        pairs: *mut u32, _: usize, work: *mut u32, _: usize, map: *mut u8, _: usize,
+        parents: *mut u64, _: usize, roots: *mut u8, _: usize, ends: *mut u64, _: usize, marks: *mut u8, _: usize, targets: *mut u64, _: usize,
+        pairs: *mut u64, _: usize, work: *mut u32, _: usize, map: *mut u8, _: usize,
         range_list: *mut u8, _: usize, location_list: *mut u8, _: usize, string_list: *mut u8, _: usize, out: *mut u8, _: usize,
         counts: *mut u8, _: usize,
     ) -> u64;
@@ -39,6 +40,8 @@ extern "C" {
 /// Entries and references of the C call's own tables, and bytes of the counts.
 const OWN: (usize, usize) = (2048, 8192);
 const COUNTS: usize = 59;
+/// Bytes of a place of the map.
+const PLACE: usize = 24;
 
 /// Elements that are lent, with others before and behind that stay as they were.
 struct Lent<T> {
@@ -101,7 +104,7 @@ impl Lengths {
             None => OWN,
             Some(t) => (*t[1..6].iter().min().unwrap(), t[6].min(t[7] / 2)),
         };
-        Room { entries, references, map: self.map / 12, lists: self.lists.map(|l| l / 8), output: self.output }
+        Room { entries, references, map: self.map / PLACE, lists: self.lists.map(|l| l / 8), output: self.output }
     }
 }
 
@@ -130,7 +133,7 @@ fn contents(answer: Result<&Plan, u8>, counts: usize) -> Contents {
     let room = counts >= COUNTS;
     Contents {
         number: 256 + u64::from(plan.dead) + if room { 0 } else { 2 },
-        map: plan.map.iter().flat_map(|p| [p.0, p.1, p.2]).flat_map(|n| (n as u32).to_be_bytes()).collect(),
+        map: plan.map.iter().flat_map(|p| [p.0, p.1, p.2]).flat_map(|n| (n as u64).to_be_bytes()).collect(),
         lists: [list(0), list(1), list(2)],
         output: output.clone(),
         counts: if room { held } else { vec![] },
@@ -183,8 +186,8 @@ fn call(parts: &Parts, setting: Setting, lengths: &Lengths, manner: Manner) -> L
         Some(t) => {
             let wide = |n: usize| Lent::new(n, around.div_ceil(8), u64::from_ne_bytes([fill; 8]));
             let half = |n: usize| Lent::new(n, around.div_ceil(4), u32::from_ne_bytes([fill; 4]));
-            let (mut index, mut offsets, mut parents, mut roots, mut ends) = (wide(t[0]), wide(t[1]), half(t[2]), bytes(t[3]), wide(t[4]));
-            let (mut marks, mut targets, mut pairs, mut work) = (bytes(t[5]), wide(t[6]), half(t[7]), half(t[8]));
+            let (mut index, mut offsets, mut parents, mut roots, mut ends) = (wide(t[0]), wide(t[1]), wide(t[2]), bytes(t[3]), wide(t[4]));
+            let (mut marks, mut targets, mut pairs, mut work) = (bytes(t[5]), wide(t[6]), wide(t[7]), half(t[8]));
             let number = lend!(collector_collect_lent, s, [index, offsets, parents, roots, ends, marks, targets, pairs, work]);
             macro_rules! check {
                 ($($t:ident),*) => {
@@ -236,7 +239,7 @@ fn compare(left: &Left, must: &Contents) -> Option<String> {
 fn needs(expected: &Expected) -> (usize, [usize; 3], usize) {
     match &expected.read {
         Err(_) => (0, [0; 3], 0),
-        Ok(p) => (12 * p.map.len(), [0, 1, 2].map(|i: usize| 8 * p.lists[i].as_ref().map_or(0, BTreeSet::len)), p.size),
+        Ok(p) => (PLACE * p.map.len(), [0, 1, 2].map(|i: usize| 8 * p.lists[i].as_ref().map_or(0, BTreeSet::len)), p.size),
     }
 }
 
@@ -244,7 +247,7 @@ fn needs(expected: &Expected) -> (usize, [usize; 3], usize) {
 fn enough(dice: &mut Dice, expected: &Expected) -> Lengths {
     let (map, lists, output) = needs(expected);
     let exact = dice.rare(2);
-    let mut more = |n: usize| if exact { n } else { n + dice.of(&[0, 1, 7, 8, 11, 12, 13, 40]) };
+    let mut more = |n: usize| if exact { n } else { n + dice.of(&[0, 1, 7, 8, 12, 23, 24, 40]) };
     let lengths = Lengths { map: more(map), lists: lists.map(&mut more), output: more(output), counts: COUNTS, tables: None };
     // Tables of the caller's sometimes, and mostly where the call's own would be full.
     let references = expected.references.iter().sum();
@@ -398,15 +401,15 @@ fn told_wrongly(parts: &Parts, with: Setting, seed: u64, blocks: bool) -> Ended 
 }
 
 /// The setting of a case: mostly as the program has it.
-fn setting(dice: &mut Dice, big_endian: bool) -> Setting {
+fn setting(dice: &mut Dice, layout: Layout) -> Setting {
     let ranges_base = match dice.below(24) {
         0 => dice.below(40),
-        1 => 12,
+        1 => layout.table(),
         2 => (dice.next() >> dice.below(64)) as usize,
         3 => usize::MAX - dice.below(40),
         _ => 0,
     };
-    Setting { type_units: dice.rare(8), ranges_base, big_endian }
+    Setting { type_units: dice.rare(8), ranges_base, big_endian: layout.order == Order::Big }
 }
 
 /// An address table, not empty, that fails from some place on: it ends there, or holds bytes above 1.
@@ -430,7 +433,7 @@ fn reduced(parts: &Parts, with: Setting, seed: u64, blocks: bool) -> Parts {
                     let mut shorter = best.clone();
                     shorter[part].drain(at..at + size);
                     let mut fitted = shorter.clone();
-                    fit(with.order(), &mut fitted[0]);
+                    Layout::of(with.order(), &fitted[0]).fit(&mut fitted[0]);
                     tries += 2;
                     if let Some(p) = [fitted, shorter].into_iter().find(|p| one(p, with, seed, blocks).different.is_some()) {
                         best = p;
@@ -524,21 +527,33 @@ struct Options {
     save: String,
 }
 
-/// A family in a byte order.
+/// The byte orders and formats, and their names.
+const LAYOUTS: [(Layout, &str); 4] = [
+    (Layout { order: Order::Little, wide: false }, "32-bit little-endian"),
+    (Layout { order: Order::Big, wide: false }, "32-bit big-endian"),
+    (Layout { order: Order::Little, wide: true }, "64-bit little-endian"),
+    (Layout { order: Order::Big, wide: true }, "64-bit big-endian"),
+];
+
+/// A family in a byte order and a format, of LAYOUTS.
 #[derive(Clone, Copy)]
 struct Group<'a> {
     family: &'a str,
-    big_endian: bool,
+    which: usize,
     given: &'a [Parts],
 }
 
 impl Group<'_> {
+    fn layout(&self) -> Layout {
+        LAYOUTS[self.which].0
+    }
+
     fn cases(&self, seed: u64) -> Option<Cases<'_>> {
-        Cases::new(self.family, seed, self.big_endian, self.given)
+        Cases::new(self.family, seed, self.layout(), self.given)
     }
 
     fn name(&self) -> String {
-        format!("{}{}", self.family, if self.big_endian { " big-endian" } else { "" })
+        format!("{} {}", self.family, LAYOUTS[self.which].1)
     }
 }
 
@@ -566,7 +581,7 @@ fn run_part(group: Group, options: &Options, thread: usize, saved: &Mutex<usize>
         }
         AT[thread].store(i, Ordering::Relaxed);
         let mut dice = Dice(options.seed.wrapping_mul(0x9e37_79b9).wrapping_add(i as u64) << 7 ^ family.len() as u64);
-        let with = setting(&mut dice, group.big_endian);
+        let with = setting(&mut dice, group.layout());
         let seed = dice.next();
         let mut tables = vec![parts[4].clone()];
         if family != "small" {
@@ -595,10 +610,12 @@ fn run_part(group: Group, options: &Options, thread: usize, saved: &Mutex<usize>
             note(&ended, &parts, with);
         }
         if wrongly && !parts[0].is_empty() {
-            if dice.rare(4) && header(&parts[0], with.order()) == 0 {
-                // A length that is the same in both byte orders, so that the version alone tells them apart.
+            let layout = Layout::of(with.order(), &parts[0]);
+            if dice.rare(4) && !layout.wide && header(&parts[0], with.order()) == 0 {
+                // A length that is the same in both byte orders, so that the version alone tells them apart. One of eight bytes that is
+                // the same in both is above 2^32.
                 parts[0].resize(4 + 0x10100, 0);
-                fit(with.order(), &mut parts[0]);
+                layout.fit(&mut parts[0]);
             }
             let ended = told_wrongly(&parts, with, seed, options.blocks);
             tally.add_told(&ended);
@@ -640,8 +657,7 @@ fn row(name: &str, tally: &Tally) -> String {
 
 fn run(groups: &[Group], options: &Options) -> bool {
     let (mut rows, mut empty) = (Vec::new(), Vec::new());
-    // Little-endian, big-endian.
-    let mut orders = [Tally::default(), Tally::default()];
+    let mut tallies: [Tally; 4] = Default::default();
     let saved = Mutex::new(0);
     for group in groups {
         let started = std::time::Instant::now();
@@ -669,10 +685,10 @@ fn run(groups: &[Group], options: &Options) -> bool {
         eprintln!("{} {:?}", row(&name, &tally), started.elapsed());
         rows.push(row(&name, &tally));
         empty.push(format!("{name} {} {}", tally.empty, tally.asked));
-        orders[usize::from(group.big_endian)].merge(&tally);
+        tallies[group.which].merge(&tally);
     }
     let mut total = Tally::default();
-    for (name, tally) in ["little-endian", "big-endian"].iter().zip(&orders) {
+    for ((_, name), tally) in LAYOUTS.iter().zip(&tallies) {
         rows.push(row(&format!("all {name}"), tally));
         total.merge(tally);
     }
@@ -691,7 +707,7 @@ fn run(groups: &[Group], options: &Options) -> bool {
     }
     println!("listed, by rule (several may match a case): {}", by_rule.iter().map(|(r, n)| format!("{r} {n}")).collect::<Vec<_>>().join(", "));
     println!("empty address tables, and those in which an index was asked for: {}, all {} {}", empty.join(", "), total.empty, total.asked);
-    for (name, tally) in ["little-endian", "big-endian"].iter().zip(&orders) {
+    for ((_, name), tally) in LAYOUTS.iter().zip(&tallies) {
         let told = tally.told.iter().map(|(answer, n)| format!("{answer} {n}")).collect::<Vec<_>>().join(", ");
         println!("{name}: {} cases, {} different; and told the other byte order, by answer: {told}", tally.cases, tally.different);
     }
@@ -702,7 +718,7 @@ fn run(groups: &[Group], options: &Options) -> bool {
 /// The port's answer in words, with room for everything.
 fn line(parts: &Parts, with: Setting) -> String {
     let size = parts[0].len() + 1;
-    let lengths = Lengths { map: 12 * size, lists: [8 * size; 3], output: size, counts: COUNTS, tables: None };
+    let lengths = Lengths { map: PLACE * size, lists: [8 * size; 3], output: size, counts: COUNTS, tables: None };
     let left = call(parts, with, &lengths, Manner { around: 16, fill: 0xa5, yes: [1; 2] });
     if let Some(wrong) = left.wrong {
         return format!("wrong: {wrong}");
@@ -718,9 +734,9 @@ fn line(parts: &Parts, with: Setting) -> String {
     };
     let answer = Answer {
         rewritten: (left.number == 257).then(|| left.output.inside()[..count(3)].to_vec()),
-        map: left.map.inside()[..12 * count(2)]
-            .chunks(12)
-            .map(|p| (number(&p[..4]) as usize, number(&p[4..8]) as usize, number(&p[8..]) as usize))
+        map: left.map.inside()[..PLACE * count(2)]
+            .chunks(PLACE)
+            .map(|p| (number(&p[..8]) as usize, number(&p[8..16]) as usize, number(&p[16..]) as usize))
             .collect(),
         lists: [list(0), list(1), list(2)],
     };
@@ -781,8 +797,8 @@ fn main() {
     };
     let mut options = Options { seed: 1, count: 1000, threads: 2, blocks: false, quiet: false, save: "different".to_string() };
     let mut families: Vec<String> = Vec::new();
-    // Little-endian, big-endian.
-    let mut given = [Vec::new(), Vec::new()];
+    let mut given: [Vec<Parts>; 4] = Default::default();
+    let mut only_wide = false;
     let mut big_files = false;
     let (mut files, mut only, mut in_lines) = (false, false, false);
     let mut with = Setting::default();
@@ -792,7 +808,10 @@ fn main() {
         match arg.as_str() {
             "--big-endian" if files => big_files = true,
             _ if files => match fs::read(&arg).ok().and_then(|b| unbundle(&b)) {
-                Some(parts) => given[usize::from(big_files)].push(parts),
+                Some(parts) => {
+                    let layout = Layout::of(order(big_files), &parts[0]);
+                    given.iter_mut().zip(LAYOUTS).filter(|(_, l)| l.0 == layout).for_each(|(g, _)| g.push(parts.clone()))
+                }
                 None => {
                     eprintln!("{arg}: no bundle");
                     std::process::exit(1)
@@ -801,6 +820,7 @@ fn main() {
             "--lines" => in_lines = true,
             "--type-units" => with.type_units = true,
             "--big-endian" => with.big_endian = true,
+            "--64-bit" => only_wide = true,
             "--ranges-base" => with.ranges_base = number() as usize,
             "--seed" => options.seed = number(),
             "--count" => options.count = number() as usize,
@@ -821,11 +841,11 @@ fn main() {
     if families.is_empty() {
         families = FAMILIES.iter().filter(|_| !only).chain(&OF_FILES).map(|f| f.to_string()).collect();
     }
-    let orders = [false, true].into_iter().filter(|big| *big || !with.big_endian);
+    let wanted = |layout: Layout| (layout.wide || !only_wide) && (layout.order == Order::Big || !with.big_endian);
     let mut groups = Vec::new();
     for family in &families {
-        let found = orders.clone().map(|big_endian| Group { family, big_endian, given: &given[usize::from(big_endian)] });
-        groups.extend(found.filter(|g| g.cases(1).is_some()));
+        let found = (0..LAYOUTS.len()).map(|which| Group { family, which, given: &given[which] });
+        groups.extend(found.filter(|g| wanted(g.layout()) && g.cases(1).is_some()));
     }
     if families.iter().any(|f| !FAMILIES.contains(&&f[..]) && !OF_FILES.contains(&&f[..])) || groups.is_empty() {
         usage();

@@ -3,7 +3,7 @@
 use oracle::cases::unbundle;
 use oracle::growth::{half_live, name, unit, FAMILIES};
 use oracle::judge::{measured, Setting};
-use oracle::order::Order;
+use oracle::order;
 use std::alloc::{GlobalAlloc, Layout, System};
 use std::sync::atomic::{AtomicUsize, Ordering::Relaxed};
 
@@ -37,7 +37,7 @@ fn main() {
     };
     let files: Vec<String> = args.collect();
     let run = move || {
-        let families = FAMILIES.iter().map(|f| (f.0.to_string(), size, unit(f.0, size, Order::Little).expect("a family")));
+        let families = FAMILIES.iter().map(|f| (f.0.to_string(), size, unit(f.0, size, order::Layout::new(false, false)).expect("a family")));
         let bundles = files.iter().map(|f| (name(f), 0, half_live(unbundle(&std::fs::read(f).expect(f)).expect(f))));
         for (name, size, parts) in families.chain(bundles) {
             let before = NOW.load(Relaxed);

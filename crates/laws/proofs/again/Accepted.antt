@@ -42,7 +42,7 @@ module _ (x : Sections) (room : Room) (section : List ℕ) (h : UnitHeader) (ds 
   -- the number of the length is no wider than the length field
   pub accepted-wide : h .encoding .«offset_size» ≤ lengthSize (h .encoding)
   accepted-wide =
-      length-wide (h .encoding .«offset_size») (inl (accepted-header .known .offset-is))
+      length-wide (h .encoding .«offset_size») (accepted-header .known .offset-is)
 
 -- ---- at most as many are kept as there are
 

@@ -1,5 +1,5 @@
 -- P1 to P10 of document 01, computed by the definitions alone: the five-entry unit, padded numbers, tombstones; the
--- five-entry unit with no address table (document 02, Point 2), and P1 in each encoding that is read (Point 12).
+-- five-entry unit with no address table (document 02, Point 2), and P1 in each encoding that is read (Points 6 and 12).
 use Prim.Native.Nat.{ℕ}
 use mathlib.Core.Path.{_≡_, refl, ap, sym, _∙_, subst}
 use mathlib.Core.Logic.{⊎-elim}
@@ -23,7 +23,7 @@ use Rattle.readers.specs.References.{nameIn, namesIn, isAbsolute, anyAbsolute, 
 use Rattle.readers.specs.inner.References.{counted, ownWalk}
 use Rattle.readers.specs.Header.{present, right, lengthBytes, encodingOf, headerMade, headerFields, headerIn, headerOf, Known}
 use Rattle.readers.specs.declared.cursor.Encoding.{Encoding}
-use Rattle.readers.specs.Lists.{listStart, fromBase, listOffset}
+use Rattle.readers.specs.Lists.{listBase, listStart, fromBase, listOffset}
 use Rattle.readers.specs.Abbreviations.{numberSpec, implicitSpec, specAt, specTurn, attributesFrom, scannedTo, pastAttributes, numberDeclaration, movedDeclaration, headAt, wholeDeclaration, declarationAt, declarationTurn, declarationsFrom, declaredIn, isFound, distinct, checkDistinct, abbreviationsOf, asChecked, checkedOf, indexed, indexFor, indexOf, searchTurn, foundBy, searchAt, declarationFound, findAt}
 use Rattle.readers.specs.Entries.{attributeOfReads, asAttribute, attributeAt, then, attributesLayout, specsLayout, asPast, valuesAt, foundLayout, entryLayout, entryFound, stepOfReads, asStep, stepAt}
 use Rattle.readers.specs.Nesting.{opened, closed, top, nestingOf, nestingOpened, nestingClosed}
@@ -51,44 +51,56 @@ use Rattle.rewriting.specs.Rewriting.{itemsIn, readsOr, readsAt, indicesFrom, i
 use Rattle.rewriting.specs.Written.{groupsFit, paddedAnswer, paddedOut}
 
 -- all of it computed at once
-computed : P1toP10 × P1In (encodingOf false 5 4 4) × P1In (encodingOf false 5 4 8) × P1In (encodingOf true 5 4 4)
-    × P1In (encodingOf true 5 4 8) × BytesIn
-unfolding groupsFit paddedAnswer paddedOut pick _and_ _or_ check bind All below groups unsigned64 uleb negative signed64 sleb padded littleBytes littleValue ordered fixedBytes fixedValue asBytes width kindOf asLeb stringIn within16 short afterForm formsWithin formsIn copy asNumber asLink asBounded asForms asSigned asString asBlock asExpression before numberIn tokenIn readIn numberBytes pieceBytes bytesOf writeAll patchPiece patchPieces patchRead patchAll FitPiece FitPieces FitAll numberAs tokenOf unreadableRow rows rowOf rowLayout operations rowAmong operationRow operation rangeEntries locationEntries listRow push onTurn scanWithin scan Goes allPieces andRest expressionWithin expressionIn formTokens tokenAmong formToken useOf valueToken attributeLayout asGroups groupsAt asLebNumber lebAt asFixed fixedAt skipAt asMoved stringAt asFormNumber formsAt linkedValue size fieldOf asField rowOfReads asRow tokenAt fieldAt rowAt numberField boundedField blockField numberAt partOf exprlocAt rowOperation operationOfReads asOperation operationAt listEntry rowEntry entryOfReads asListStep listEntryAt nameIn namesIn isAbsolute anyAbsolute asWalk walkOf named namedType referenceOf counted ownWalk yieldTurn operationTurn walkTurn yielded nextReference namesOf flatOperation flatTurn flat flattened flatFrom walkAnswer referencesAnswer numbersOf namesOr referencesIn answerTable referencesTable present right lengthBytes encodingOf headerMade headerFields headerIn headerOf listStart fromBase listOffset numberSpec implicitSpec specAt specTurn attributesFrom scannedTo pastAttributes numberDeclaration movedDeclaration headAt wholeDeclaration declarationAt declarationTurn declarationsFrom declaredIn isFound distinct checkDistinct abbreviationsOf asChecked checkedOf indexed indexFor indexOf searchTurn foundBy searchAt declarationFound findAt attributeOfReads asAttribute attributeAt then attributesLayout specsLayout asPast valuesAt foundLayout entryLayout entryFound stepOfReads asStep stepAt opened closed top nestingOf nestingOpened nestingClosed isTombstone byteLiveness lookupAt onNext walkWithin walk Forward orElse onLookup turnOf rangeEntry rangeStep rangesLive operationStep locationLive olderStep olderLive lowPc onAttribute valuesOf onSpec specsWithin specsFrom entryValues taken takenBy nextAttribute lowPcs locations otherRanges rangesOf firstRanges rootTest baseFrom baseAfter after andThen targets walkFound expressionFound locationFound onLocation locationStep listFound attributeFound attributesFound any every count tab isParent isRoot references names parentFits pairFits rootFits wellFormed takes climbs isDescendant namedBy isTop isLive justified accepts step run nothing has round rounds keptOf markOf marksOf isKept keptCount markAnswer endMarks push′Stream onStep itemsWithin itemsFrom onto onVerdict onFound valuesOfEntry rootOf namesOf′Analysis baseOf analyseItems onDeclared unitAnalysed headerAnalysed analysisOf offsetsIn parentsIn rootsIn namesIn′Columns endsIn padTo column entryFrom pairFor pairsOfEntry pairsFrom pairsIn graphOf marksIn unitMarks asEntry Ascending innermost withIf keptFrom offsetOf sizeOf placesFrom sizeFrom newOf firstFrom orElse′Places siblingOf insert insertAll rankIn indexIn indicesIn readIndices declares rankOr countOf itemsIn readsOr readsAt indicesFrom itemDeclares anyDeclares listOf listsOf orSelf isSome listAt newValue hasPlace fits pieceRefusal orNext piecesRefusal readsRefusal refusalFrom bytesFrom headerBytes unitBytes listsFit orRefused rewriteOf marksCollected rowsCollected analysedCollected declaredCollected headerCollected collectOf
+computed : P1toP10
+    × P1In (encodingOf false 5 4 4) × P1In (encodingOf false 5 4 8) × P1In (encodingOf false 5 8 4) × P1In (encodingOf false 5 8 8)
+    × P1In (encodingOf true 5 4 4) × P1In (encodingOf true 5 4 8) × P1In (encodingOf true 5 8 4) × P1In (encodingOf true 5 8 8)
+    × BytesIn
+unfolding groupsFit paddedAnswer paddedOut pick _and_ _or_ check bind All below groups unsigned64 uleb negative signed64 sleb padded littleBytes littleValue ordered fixedBytes fixedValue asBytes width kindOf asLeb stringIn within16 short afterForm formsWithin formsIn copy asNumber asLink asBounded asForms asSigned asString asBlock asExpression before numberIn tokenIn readIn numberBytes pieceBytes bytesOf writeAll patchPiece patchPieces patchRead patchAll FitPiece FitPieces FitAll numberAs tokenOf unreadableRow rows rowOf rowLayout operations rowAmong operationRow operation rangeEntries locationEntries listRow push onTurn scanWithin scan Goes allPieces andRest expressionWithin expressionIn formTokens tokenAmong formToken useOf valueToken attributeLayout asGroups groupsAt asLebNumber lebAt asFixed fixedAt skipAt asMoved stringAt asFormNumber formsAt linkedValue size fieldOf asField rowOfReads asRow tokenAt fieldAt rowAt numberField boundedField blockField numberAt partOf exprlocAt rowOperation operationOfReads asOperation operationAt listEntry rowEntry entryOfReads asListStep listEntryAt nameIn namesIn isAbsolute anyAbsolute asWalk walkOf named namedType referenceOf counted ownWalk yieldTurn operationTurn walkTurn yielded nextReference namesOf flatOperation flatTurn flat flattened flatFrom walkAnswer referencesAnswer numbersOf namesOr referencesIn answerTable referencesTable present right lengthBytes encodingOf headerMade headerFields headerIn headerOf listBase listStart fromBase listOffset numberSpec implicitSpec specAt specTurn attributesFrom scannedTo pastAttributes numberDeclaration movedDeclaration headAt wholeDeclaration declarationAt declarationTurn declarationsFrom declaredIn isFound distinct checkDistinct abbreviationsOf asChecked checkedOf indexed indexFor indexOf searchTurn foundBy searchAt declarationFound findAt attributeOfReads asAttribute attributeAt then attributesLayout specsLayout asPast valuesAt foundLayout entryLayout entryFound stepOfReads asStep stepAt opened closed top nestingOf nestingOpened nestingClosed isTombstone byteLiveness lookupAt onNext walkWithin walk Forward orElse onLookup turnOf rangeEntry rangeStep rangesLive operationStep locationLive olderStep olderLive lowPc onAttribute valuesOf onSpec specsWithin specsFrom entryValues taken takenBy nextAttribute lowPcs locations otherRanges rangesOf firstRanges rootTest baseFrom baseAfter after andThen targets walkFound expressionFound locationFound onLocation locationStep listFound attributeFound attributesFound any every count tab isParent isRoot references names parentFits pairFits rootFits wellFormed takes climbs isDescendant namedBy isTop isLive justified accepts step run nothing has round rounds keptOf markOf marksOf isKept keptCount markAnswer endMarks push′Stream onStep itemsWithin itemsFrom onto onVerdict onFound valuesOfEntry rootOf namesOf′Analysis baseOf analyseItems onDeclared unitAnalysed headerAnalysed analysisOf offsetsIn parentsIn rootsIn namesIn′Columns endsIn padTo column entryFrom pairFor pairsOfEntry pairsFrom pairsIn graphOf marksIn unitMarks asEntry Ascending innermost withIf keptFrom offsetOf sizeOf placesFrom sizeFrom newOf firstFrom orElse′Places siblingOf insert insertAll rankIn indexIn indicesIn readIndices declares rankOr countOf itemsIn readsOr readsAt indicesFrom itemDeclares anyDeclares listOf listsOf orSelf isSome listAt newValue hasPlace fits pieceRefusal orNext piecesRefusal readsRefusal refusalFrom bytesFrom headerBytes unitBytes listsFit orRefused rewriteOf marksCollected rowsCollected analysedCollected declaredCollected headerCollected collectOf
 computed = (
   (refl, refl, refl, refl, refl, refl, refl, (refl, refl, refl, refl), refl, (refl, refl, refl), refl),
-  record { narrow = refl; wide = refl },
-  record { narrow = refl; wide = refl },
-  record { narrow = refl; wide = refl },
-  record { narrow = refl; wide = refl },
-  (refl, refl, refl),
+  record { one = refl; four = refl; eight = refl; named = refl },
+  record { one = refl; four = refl; eight = refl; named = refl },
+  record { one = refl; four = refl; eight = refl; named = refl },
+  record { one = refl; four = refl; eight = refl; named = refl },
+  record { one = refl; four = refl; eight = refl; named = refl },
+  record { one = refl; four = refl; eight = refl; named = refl },
+  record { one = refl; four = refl; eight = refl; named = refl },
+  record { one = refl; four = refl; eight = refl; named = refl },
+  (refl, refl, refl, refl, refl, refl, refl, refl),
 )
 
 pub p1-to-p10 : P1toP10
 p1-to-p10 = computed .0
 
--- the encodings that are read are these four
-known-is : (big : Bool) (e : Encoding) → Known big e → e ≡ encodingOf big 5 4 (e .«address_size»)
+-- the encodings that are read are these eight
+known-is : (big : Bool) (e : Encoding) → Known big e → e ≡ encodingOf big 5 (e .«offset_size») (e .«address_size»)
 unfolding encodingOf
 known-is big e k =
     ap (λ (v : ℕ). of v (e .«offset_size») (e .«big_endian»)) (k .version-is)
-    ∙ ap (λ (w : ℕ). of 5 w (e .«big_endian»)) (k .offset-is)
-    ∙ ap (λ (b : Bool). of 5 4 b) (k .order-is)
+    ∙ ap (λ (b : Bool). of 5 (e .«offset_size») b) (k .order-is)
   where
     of : ℕ → ℕ → Bool → Encoding
     of v w b = record { version = v; «offset_size» = w; «address_size» = e .«address_size»; «big_endian» = b }
 
-each-order : (big : Bool) → P1In (encodingOf big 5 4 4) × P1In (encodingOf big 5 4 8)
-each-order false = (computed .1, computed .2)
-each-order true = (computed .3, computed .4)
+each-order : (big : Bool) → P1In (encodingOf big 5 4 4) × P1In (encodingOf big 5 4 8) × P1In (encodingOf big 5 8 4) × P1In (encodingOf big 5 8 8)
+each-order false = (computed .1, computed .2, computed .3, computed .4)
+each-order true = (computed .5, computed .6, computed .7, computed .8)
 
--- the bytes of a unit in an encoding, and of a header of the 64-bit format with a new length
+-- the bytes of the five-entry unit in three encodings
 pub bytes-in : BytesIn
-bytes-in = computed .5
+bytes-in = computed .9
 
 pub p1-in-every-encoding : (big : Bool) (e : Encoding) → Known big e → P1In e
 p1-in-every-encoding big e k =
     subst P1In (sym (known-is big e k))
     (⊎-elim
-    (λ q. subst (λ (a : ℕ). P1In (encodingOf big 5 4 a)) (sym q) (each-order big .0))
-    (λ q. subst (λ (a : ℕ). P1In (encodingOf big 5 4 a)) (sym q) (each-order big .1))
-    (k .address-is))
+    (λ f. subst (λ (w : ℕ). P1In (encodingOf big 5 w (e .«address_size»))) (sym f) (by-size 4 (each-order big .0) (each-order big .1)))
+    (λ f. subst (λ (w : ℕ). P1In (encodingOf big 5 w (e .«address_size»))) (sym f) (by-size 8 (each-order big .2) (each-order big .3)))
+    (k .offset-is))
+  where
+    by-size : (w : ℕ) → P1In (encodingOf big 5 w 4) → P1In (encodingOf big 5 w 8) → P1In (encodingOf big 5 w (e .«address_size»))
+    by-size w four eight =
+        ⊎-elim
+        (λ q. subst (λ (a : ℕ). P1In (encodingOf big 5 w a)) (sym q) four)
+        (λ q. subst (λ (a : ℕ). P1In (encodingOf big 5 w a)) (sym q) eight)
+        (k .address-is)

@@ -6,6 +6,7 @@ use mathlib.Core.Option.{Option, none, some}
 use mathlib.Core.Logic.{_⊎_, inl, inr, ⊎-elim, _↔_}
 use native.Mathlib.Omega.{arith}
 use lib.ListN.{take, drop}
+use Rattle.readers.specs.Lists.{listBase}
 use Rattle.readers.specs.Layout.{RunOf, readIn}
 use Rattle.readers.specs.Expression.{expressionIn}
 use Rattle.readers.specs.Entries.{entryLayout, stepAt}
@@ -143,12 +144,12 @@ module _ (x : Sections) (room : Room) (section : List ℕ) (h : UnitHeader) (ds 
   all-stand = items-stand (h .encoding) (x .abbreviations) (declaredIn ds) (take (h .end) section) (h .first .0)
 
   -- row by row
-  pub accepted-references : RowsReferences x unit 12 (itemsIn x unit) rows
-  accepted-references = rows-references x unit 0 [] 12 12 (itemsIn x unit) rows (accepted-follow x room section h ds rows a) all-stand
+  pub accepted-references : RowsReferences x unit (listBase (h .encoding)) (itemsIn x unit) rows
+  accepted-references = rows-references x unit 0 [] (listBase (h .encoding)) (listBase (h .encoding)) (itemsIn x unit) rows (accepted-follow x room section h ds rows a) all-stand
 
   -- of every entry
   pub each-references : (y : Entry) → Member (entry y) (itemsIn x unit) → RowReferences x unit rows y
-  each-references y m = row-references x unit 0 [] 12 12 (itemsIn x unit) rows (accepted-follow x room section h ds rows a) all-stand y m
+  each-references y m = row-references x unit 0 [] (listBase (h .encoding)) (listBase (h .encoding)) (itemsIn x unit) rows (accepted-follow x room section h ds rows a) all-stand y m
 
 -- ---- of every unit that is analysed
 
@@ -166,7 +167,7 @@ module _ (x : Sections) (section : List ℕ) (room : Rooms) (rows : List EntryRo
   unfolding analysisOf headerAnalysed unitAnalysed onDeclared
   by-declared q h p none d =
       absurd (not-analysed 3 (sym (ap (headerAnalysed x section room) p
-      ∙ ap (λ (o : Option (List Placed)). onDeclared o (λ ds. analyseItems (h .encoding) x (take (h .end) section) room startOf
+      ∙ ap (λ (o : Option (List Placed)). onDeclared o (λ ds. analyseItems (h .encoding) x (take (h .end) section) room (startOf (h .encoding))
       (itemsFrom (h .encoding) (x .abbreviations) (declaredIn ds) (take (h .end) section) (h .first .0) .0)
       (itemsFrom (h .encoding) (x .abbreviations) (declaredIn ds) (take (h .end) section) (h .first .0) .1))) d) ∙ q))
   by-declared q h p (some ds) d =

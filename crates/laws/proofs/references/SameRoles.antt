@@ -9,6 +9,7 @@ use native.Mathlib.Omega.{arith}
 use lib.ListN.{take, drop}
 use lib.Dec.{T, eqb, leb}
 use mir.Facts.{eqb-yes, yes-eqb, leb-yes, leb-no, yes-leb}
+use Rattle.readers.specs.Lists.{listBase}
 use Rattle.readers.specs.Choice.{pick, _and_, _or_}
 use Rattle.readers.proofs.Choice.{pick-yes, pick-either, either, and-both, both-and}
 use Rattle.readers.specs.Tokens.{Use, plain, as′}
@@ -387,7 +388,7 @@ module _ (x : Sections) (room : Room) (section : List ℕ) (h : UnitHeader) (ds 
   pub each-roles : (y : Entry) → Member (entry y) (itemsIn x unit) → SameRoles x unit y
   unfolding itemsIn
   each-roles y m =
-      items-roles x unit 0 [] 12 12 (itemsIn x unit) rows (accepted-follow x room section h ds rows a)
+      items-roles x unit 0 [] (listBase (h .encoding)) (listBase (h .encoding)) (itemsIn x unit) rows (accepted-follow x room section h ds rows a)
       (items-stand (h .encoding) (x .abbreviations) (declaredIn ds) (take (h .end) section) (h .first .0)) y m
 
   pub accepted-roles : UnitRoles x section
@@ -409,7 +410,7 @@ module _ (x : Sections) (section : List ℕ) (room : Rooms) (rows : List EntryRo
   unfolding analysisOf headerAnalysed unitAnalysed onDeclared
   by-declared q h p none d =
       absurd (not-analysed 3 (sym (ap (headerAnalysed x section room) p
-      ∙ ap (λ (o : Option (List Placed)). onDeclared o (λ ds. analyseItems (h .encoding) x (take (h .end) section) room startOf
+      ∙ ap (λ (o : Option (List Placed)). onDeclared o (λ ds. analyseItems (h .encoding) x (take (h .end) section) room (startOf (h .encoding))
       (itemsFrom (h .encoding) (x .abbreviations) (declaredIn ds) (take (h .end) section) (h .first .0) .0)
       (itemsFrom (h .encoding) (x .abbreviations) (declaredIn ds) (take (h .end) section) (h .first .0) .1))) d) ∙ q))
   by-declared q h p (some ds) d =

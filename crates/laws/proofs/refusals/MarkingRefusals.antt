@@ -152,7 +152,7 @@ declaredAnalysed x section room h o =
     onDeclared o
     (λ ds.
     let items = itemsFrom (h .encoding) (x .abbreviations) (declaredIn ds) (take (h .end) section) (h .first .0) in
-    analyseItems (h .encoding) x (take (h .end) section) room startOf (items .0) (items .1))
+    analyseItems (h .encoding) x (take (h .end) section) room (startOf (h .encoding)) (items .0) (items .1))
 
 -- where the abbreviations are read too, it is one of the entries
 declared-entries : (x : Sections) (section : List ℕ) (room : Rooms) (h : UnitHeader) (o : Option (List Placed)) (ds : List Placed) → o ≡ some ds
@@ -163,7 +163,7 @@ declared-entries x section room h (some es) ds q =
     settled-of (x .addresses) entriesNumbers (either-failure entriesNumbers (x .addresses) tt) notAnalysed (AnalysedOf entriesNumbers)
     (analysed-fine entriesNumbers) (none-of entriesNumbers) _
     (items-told (settling (x .addresses) entriesNumbers) (λ n o. wider entryNumbersButTable entriesNumbers n tt o) x (h .encoding)
-    (take (h .end) section) room startOf _ _)
+    (take (h .end) section) room (startOf (h .encoding)) _ _)
 
 pub entries-refusal : (x : Sections) (section : List ℕ) (room : Rooms) (h : UnitHeader) (ds : List Placed) (n : ℕ)
     → headerOf (x .setting .«big_endian») section ≡ Unit′ h → abbreviationsOf (x .abbreviations) (h .abbreviations) ≡ some ds → analysisOf x section room ≡ notAnalysed n → EntriesRefusal n

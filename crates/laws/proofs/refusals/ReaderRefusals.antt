@@ -10,7 +10,7 @@ use Rattle.readers.specs.Choice.{_and_, _or_}
 use Rattle.readers.proofs.Choice.{pick-either, and-both}
 use Rattle.readers.specs.Header.{encodingOf, headerOf}
 use Rattle.readers.proofs.HeaderLaws.{header-cases}
-use Rattle.readers.specs.References.{walkOf, walkAnswer, referencesAnswer}
+use Rattle.readers.specs.References.{walkOf, walkAnswer, sizeKnown, referencesAnswer}
 use Rattle.laws.specs.RefusalNumbers.{OneOf, HeaderRefusal, ReferencesRefusal}
 use Rattle.readers.specs.declared.header.HeaderRead.{HeaderRead}
 use Rattle.readers.specs.declared.header.HeaderRead.the-variants.{Unit as Unit′, Empty, Refused}
@@ -116,10 +116,10 @@ walk-numbered room NoWalk = one-of _ 5 tt
 walk-numbered room (Walked n true) = one-of _ 7 tt
 walk-numbered room (Walked n false) = pick-either ReferencesNumbered (leb n room) (Count n) (Refused′ 11) (λ _. tt) (λ _. one-of _ 11 tt)
 
-pub references-refusal : (a : ℕ) (big : Bool) (numbers : ℕ) (s : List ℕ) (k : ℕ) → referencesAnswer a big numbers s ≡ Refused′ k
+pub references-refusal : (a w : ℕ) (big : Bool) (numbers : ℕ) (s : List ℕ) (k : ℕ) → referencesAnswer a w big numbers s ≡ Refused′ k
     → ReferencesRefusal k
 unfolding referencesAnswer ReferencesNumbered isOneOf _or_
-references-refusal a big numbers s k q =
+references-refusal a w big numbers s k q =
     subst ReferencesNumbered q
-    (pick-either ReferencesNumbered (eqb a 4 or eqb a 8) (walkAnswer (numbers / 3) (walkOf (encodingOf big 5 4 a) s)) (Refused′ 2)
-    (λ _. walk-numbered (numbers / 3) (walkOf (encodingOf big 5 4 a) s)) (λ _. one-of _ 2 tt))
+    (pick-either ReferencesNumbered (sizeKnown a and sizeKnown w) (walkAnswer (numbers / 3) (walkOf (encodingOf big 5 w a) s)) (Refused′ 2)
+    (λ _. walk-numbered (numbers / 3) (walkOf (encodingOf big 5 w a) s)) (λ _. one-of _ 2 tt))

@@ -191,11 +191,11 @@ module _ (x : Sections) (w r : Rooms) where
         (λ _. gives-refused P 10)
 
     declared-told : (first : ℕ) (o : Option (List Placed))
-        → Gives (λ rows. Told 0 0 rows r (onDeclared o (λ ds. analyseItems e x unit r startOf (itemsFrom e (x .abbreviations) (declaredIn ds) unit first .0) (itemsFrom e (x .abbreviations) (declaredIn ds) unit first .1))))
-        (onDeclared o (λ ds. analyseItems e x unit w startOf (itemsFrom e (x .abbreviations) (declaredIn ds) unit first .0) (itemsFrom e (x .abbreviations) (declaredIn ds) unit first .1)))
+        → Gives (λ rows. Told 0 0 rows r (onDeclared o (λ ds. analyseItems e x unit r (startOf e) (itemsFrom e (x .abbreviations) (declaredIn ds) unit first .0) (itemsFrom e (x .abbreviations) (declaredIn ds) unit first .1))))
+        (onDeclared o (λ ds. analyseItems e x unit w (startOf e) (itemsFrom e (x .abbreviations) (declaredIn ds) unit first .0) (itemsFrom e (x .abbreviations) (declaredIn ds) unit first .1)))
     unfolding onDeclared
     declared-told first none = gives-refused _ 3
-    declared-told first (some ds) = items-told startOf (itemsFrom e (x .abbreviations) (declaredIn ds) unit first .0) (itemsFrom e (x .abbreviations) (declaredIn ds) unit first .1)
+    declared-told first (some ds) = items-told (startOf e) (itemsFrom e (x .abbreviations) (declaredIn ds) unit first .0) (itemsFrom e (x .abbreviations) (declaredIn ds) unit first .1)
 
   header-told : (section : List ℕ) (o : HeaderRead) → Gives (λ rows. Told 0 0 rows r (headerAnalysed x section r o)) (headerAnalysed x section w o)
   unfolding headerAnalysed unitAnalysed
@@ -264,7 +264,7 @@ module _ (x : Sections) (section : List ℕ) (room : Rooms) where
   unfolding onDeclared declaredTables isOneOf _or_
   declared-input h none t = none-of inputNumbers 3 (one-of inputNumbers 3 tt)
   declared-input h (some ds) t =
-      items-input (h .encoding) x (take (h .end) section) room startOf _ _ (omega (arith, t .entries)) (omega (arith, t .references))
+      items-input (h .encoding) x (take (h .end) section) room (startOf (h .encoding)) _ _ (omega (arith, t .entries)) (omega (arith, t .references))
 
   header-input : (h : HeaderRead) → HeaderNumbered h → TablesWithin (headerTables x section h) room → AnalysedOf inputNumbers (headerAnalysed x section room h)
   unfolding headerAnalysed unitAnalysed headerTables HeaderNumbered isOneOf areOf _or_ _and_

@@ -7,13 +7,14 @@ use mathlib.Core.List.{List, [], _∷_, map}
 use mathlib.Core.Logic.{_↔_}
 use lib.ListN.{length, getD, take}
 use lib.Dec.{T}
-use Rattle.readers.specs.Nesting.{opened, closed, top}
+use Rattle.readers.specs.Lists.{listBase}
+use Rattle.readers.specs.Nesting.{noParent, opened, closed, top}
 use Rattle.readers.specs.Abbreviations.{Placed}
 use Rattle.readers.specs.Stream.{Item, entry, terminator}
 use Rattle.readers.specs.declared.cursor.Encoding.{Encoding}
 use Rattle.readers.specs.declared.header.UnitHeader.{UnitHeader}
 use Rattle.marking.specs.Below.{Number}
-use Rattle.marking.specs.Graph.{Graph, size, noParent, isParent, wellFormed}
+use Rattle.marking.specs.Graph.{Graph, size, isParent, wellFormed}
 use Rattle.marking.specs.Survivors.{Survivor, parent}
 use Rattle.marking.specs.Marks.{marksOf, isKept, keptCount}
 use Rattle.marking.specs.Analysis.{Sections, EntryRow, baseOf}
@@ -133,5 +134,5 @@ module _ (x : Sections) (room : Room) (section : List ℕ) (h : UnitHeader) (ds 
   pub accepted-closed : ParentsKept (marksIn rows) 0 [] (itemsIn x (unitOf h section ds))
   unfolding marksIn graphOf Before
   accepted-closed =
-      closed-from (graphOf rows) (well-formed (graphOf rows) accepted-formed) few-entries (h .encoding) x (take (h .end) section) 0 [] 12 12 (itemsIn x (unitOf h section ds)) rows
+      closed-from (graphOf rows) (well-formed (graphOf rows) accepted-formed) few-entries (h .encoding) x (take (h .end) section) 0 [] (listBase (h .encoding)) (listBase (h .encoding)) (itemsIn x (unitOf h section ds)) rows
       (accepted-follow x room section h ds rows a) tt (omega (arith, accepted-size)) (λ j l. ap (λ (n : ℕ). getD (parentsIn rows) n 0) (let q : 0 + j ≡ j = omega arith in q))

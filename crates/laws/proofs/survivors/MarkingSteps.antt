@@ -8,12 +8,13 @@ use mathlib.Core.Logic.{_⊎_, inl, inr, ⊎-elim, _↔_}
 use lib.ListN.{length, getD, take}
 use lib.Dec.{eqb, ltb}
 use borrow.Author.Tests.{ltb-true, eqb-true, not-true, lt-ltb, eq-eqb}
+use Rattle.readers.specs.Lists.{listBase}
 use Rattle.readers.specs.Choice.{pick, _and_, _or_}
-use Rattle.readers.specs.Nesting.{opened, closed, top}
+use Rattle.readers.specs.Nesting.{noParent, opened, closed, top}
 use Rattle.readers.specs.Stream.{Item, entry, terminator}
 use Rattle.readers.specs.declared.cursor.Encoding.{Encoding}
 use Rattle.marking.specs.Below.{every}
-use Rattle.marking.specs.Graph.{Graph, size, noParent, isParent, references, holder, target, names, parentFits, pairFits}
+use Rattle.marking.specs.Graph.{Graph, size, isParent, references, holder, target, names, parentFits, pairFits}
 use Rattle.marking.specs.Members.{Nth, now, later}
 use Rattle.marking.specs.Survivors.{Descendant, child as child′, deeper as deeper′}
 use Rattle.laws.specs.Markings.{accepts, step}
@@ -148,7 +149,7 @@ module _ (x : Sections) (section : List ℕ) (rows : List EntryRow) (s : Survivo
       (λ (e : (section ≡ []) × (rows ≡ [])). let l : length rows ≡ 0 = ap length (e .1) in absurd (omega (arith, nth-inside (q .row) i rows (q .at))))
       (λ (u : FirstUnit x section rows).
       let l : q .row .parent < 0 + i =
-      row-before (u .header .encoding) x (take (u .header .end) section) 0 [] 12 12 (unitItems x section (u .header) (u .declared) .0) rows tt (u .each)
+      row-before (u .header .encoding) x (take (u .header .end) section) 0 [] (listBase (u .header .encoding)) (listBase (u .header .encoding)) (unitItems x section (u .header) (u .declared) .0) rows tt (u .each)
       i (q .row) (q .at) (λ t. q .some-parent (sym (q .is) ∙ t)) in
       omega (arith, q .is))
       (s .unit)

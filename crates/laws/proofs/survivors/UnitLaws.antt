@@ -8,8 +8,9 @@ use mathlib.Core.List.{List, [], _∷_}
 use mathlib.Core.Option.{Option, none, some}
 use mathlib.Core.Logic.{_⊎_, inl, inr, ⊎-elim}
 use lib.ListN.{length, getD, take}
+use Rattle.readers.specs.Lists.{listBase}
 use Rattle.readers.specs.Abbreviations.{Placed, abbreviationsOf}
-use Rattle.readers.specs.Nesting.{opened, closed}
+use Rattle.readers.specs.Nesting.{noParent, opened, closed}
 use Rattle.readers.specs.Stream.{Item, entry, terminator}
 use Rattle.readers.specs.Header.{headerOf}
 use Rattle.readers.specs.declared.cursor.Encoding.{Encoding}
@@ -18,9 +19,9 @@ use Rattle.readers.specs.declared.header.UnitHeader.{UnitHeader}
 use Rattle.readers.specs.declared.header.HeaderRead.{HeaderRead}
 use Rattle.readers.specs.declared.header.HeaderRead.the-variants.{Unit as Unit′, Empty, Refused}
 use Rattle.readers.proofs.Headers.{header-empty}
-use Rattle.readers.proofs.HeaderLaws.{header-cases, header-laws}
+use Rattle.readers.proofs.HeaderLaws.{HeaderLaw, header-cases, header-laws}
 use Rattle.marking.specs.Below.{Number}
-use Rattle.marking.specs.Graph.{noParent, wellFormed}
+use Rattle.marking.specs.Graph.{wellFormed}
 use Rattle.marking.specs.Survivors.{Survivor}
 use Rattle.marking.specs.Marks.{marksOf, keptCount}
 use Rattle.laws.specs.Marks.{Says}
@@ -36,8 +37,7 @@ use Rattle.marking.specs.declared.units.UnitMarks.the-variants.{Marked}
 use Rattle.marking.proofs.Graphs.{WellFormed, well-formed}
 use Rattle.laws.proofs.survivors.KeptMarks.{marked-kept, kept-marked}
 use Rattle.laws.proofs.survivors.MarkLaws.{taken-law, markings-law, marks-law, kept-count-law}
-use Rattle.marking.proofs.Rows.{UnitRows, analysis-rows, offsets-ascend, graph-takes}
-use Rattle.marking.proofs.UnitAnalyses.{small-unit}
+use Rattle.marking.proofs.Rows.{UnitRows, rows-fit, analysis-rows, offsets-ascend, graph-takes}
 use Rattle.laws.proofs.survivors.GraphLaws.{parent-law, root-law, names-law}
 use Rattle.laws.proofs.survivors.UnitSurvivors.{rows-least}
 use Rattle.marking.proofs.EachRow.{items-whole, items-rows, own-rows}
@@ -125,7 +125,9 @@ module _ (x : Sections) (section : List ℕ) (room : Rooms) (rows : List EntryRo
       (λ (u : FirstUnit x section rows).
       let l : UnitRows (take (u .header .end) section) room (u .header .first .0) rows =
       own-rows x section room (u .header) (u .declared) rows (u .header-is) (u .declared-is) analysis in
-      omega (arith, l .few, small-unit (x .setting .«big_endian») section (u .header) (u .header-is)))
+      let k : HeaderLaw (x .setting .«big_endian») (take (u .header .end) section) (u .header) =
+      header-laws (x .setting .«big_endian») section (u .header) (u .header-is) in
+      omega (arith, k .below, k .after, rows-fit (length (take (u .header .end) section)) (u .header .first .0) 0 rows (l .rowed) (k .inside)))
       first-unit
 
   -- THE survivors of a unit
@@ -185,7 +187,7 @@ module _ (e : Encoding) (x : Sections) (unit : List ℕ) where
 
 module _ (x : Sections) (section : List ℕ) (a b : List EntryRow) where
   abbrev Each : UnitHeader → List Placed → Type 0
-  Each h ds = RowsOf (h .encoding) x (take (h .end) section) 0 [] 12 12 (unitItems x section h ds .0) a
+  Each h ds = RowsOf (h .encoding) x (take (h .end) section) 0 [] (listBase (h .encoding)) (listBase (h .encoding)) (unitItems x section h ds .0) a
 
   same-units : FirstUnit x section a → FirstUnit x section b → a ≡ b
   same-units u v =
@@ -193,7 +195,7 @@ module _ (x : Sections) (section : List ℕ) (a b : List EntryRow) where
       let d : u .declared ≡ v .declared =
       (let z : some (u .declared) ≡ some (v .declared) =
       sym (u .declared-is) ∙ ap (λ (n : UnitHeader). abbreviationsOf (x .abbreviations) (n .abbreviations)) h ∙ v .declared-is in cc) in
-      same-rows (v .header .encoding) x (take (v .header .end) section) 0 [] 12 12 (unitItems x section (v .header) (v .declared) .0) a b
+      same-rows (v .header .encoding) x (take (v .header .end) section) 0 [] (listBase (v .header .encoding)) (listBase (v .header .encoding)) (unitItems x section (v .header) (v .declared) .0) a b
       (subst (λ (n : UnitHeader). Each n (v .declared)) h (subst (Each (u .header)) d (u .each)))
       (v .each)
 

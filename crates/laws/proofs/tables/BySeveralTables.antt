@@ -136,7 +136,7 @@ module _ {I : Type 0} (table : I → List ℕ) where
       header-by section room (Refused n) q = early n (wider (1 ∷ 2 ∷ []) _ n tt q)
       header-by section room (Unit′ h) q =
           declared-by (abbreviationsOf (x .abbreviations) (h .abbreviations)) _
-          (λ ds. items-by (h .encoding) (take (h .end) section) room startOf _ _)
+          (λ ds. items-by (h .encoding) (take (h .end) section) room (startOf (h .encoding)) _ _)
 
       pub analysis-by : (section : List ℕ) (room : Rooms) → Q (λ i. analysisOf (withTable x (table i)) section room)
       unfolding analysisOf

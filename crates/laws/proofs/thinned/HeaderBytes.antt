@@ -3,12 +3,15 @@ use mathlib.Core.Path.{_≡_, ap, sym, _∙_, subst}
 use mathlib.Core.Logic.{⊎-elim}
 use mathlib.Core.Bool.{Bool}
 use mathlib.Core.List.{List, _++_, append-assoc}
-use Prim.Native.Nat.{ℕ, _+_, _-_, _≤_}
+use Prim.Native.Nat.{ℕ, _+_, _-_, _≤_, _<_}
 use native.Mathlib.Omega.{arith}
-use lib.ListN.{length, take, drop, length-append, length-drop}
+use lib.ListN.{length, take, drop, length-append, length-drop, take-append-drop}
 use lib.Seq.{length-take-le, take-at, drop-at, take-add, drop-drop}
-use Rattle.readers.specs.Numbers.{fixedBytes}
-use Rattle.readers.proofs.Numbers.{length-fixed}
+use Rattle.readers.specs.Numbers.{fixedBytes, fixedValue}
+use Rattle.readers.proofs.Numbers.{length-fixed, fixed-value}
+use Rattle.readers.specs.Cursors.{cursor, fixedAt}
+use Rattle.readers.specs.declared.cursor.Number.the-variants.{Value}
+use Rattle.readers.proofs.Widths.{fixed-is}
 use Rattle.readers.specs.Header.{lengthSize}
 use Rattle.readers.specs.declared.header.UnitHeader.{UnitHeader}
 use Rattle.marking.specs.Analysis.{Sections}
@@ -19,7 +22,7 @@ use Rattle.rewriting.proofs.write_pass.HeaderEmits.{length-header}
 use Rattle.laws.specs.HeaderBytes.{HeaderBytes}
 use Rattle.readers.proofs.HeaderLaws.{HeaderLaw}
 use Rattle.laws.proofs.again.Accepted.{accepted-header, accepted-wide}
-use Rattle.laws.proofs.again.CollectLaws.{it, unit, kept, start, again-law}
+use Rattle.laws.proofs.again.CollectLaws.{it, unit, kept, start, again-law, bytes-law}
 
 -- ---- a part of what is taken
 
@@ -102,6 +105,26 @@ module _ (x : Sections) (room : Room) (typeUnits : Bool) (section : List ℕ) (w
       ∙ take-at field (middle ++ entries) front field-size
       ∙ ap (λ (k : ℕ). take (front - offset) (u .bytes) ++ fixedBytes (h .encoding .«big_endian») offset (k - front)) (sym size-is)
 
+  -- the number of the length is read: the size less the length field
+  pub length-law : fixedAt (h .encoding .«big_endian») offset (w .output) (front - offset) ≡ Value (length (w .output) - front) (cursor front)
+  length-law =
+      let a : List ℕ = take (front - offset) (u .bytes) in
+      let m : List ℕ = fixedBytes (h .encoding .«big_endian») offset (length (w .output) - front) in
+      let r : List ℕ = drop front (w .output) in
+      let la : length a ≡ front - offset = length-take-le (front - offset) (u .bytes) (omega (arith, law .after, law .inside)) in
+      let lm : length m ≡ offset = length-fixed (h .encoding .«big_endian») offset (length (w .output) - front) in
+      let few : offset ≤ 8 = ⊎-elim (λ y. omega (arith, y)) (λ y. omega (arith, y)) (law .known .offset-is) in
+      let there : front + 7 ≤ length (w .output) = omega (arith, size-is, law .after) in
+      let less : length (w .output) ≤ length (u .bytes) = omega (arith, bytes-law x room typeUnits section w answer) in
+      let whole : w .output ≡ a ++ (m ++ r) =
+      sym (take-append-drop front (w .output)) ∙ ap (λ (z : List ℕ). z ++ r) length-is ∙ append-assoc a m r in
+      let part : take offset (drop (front - offset) (w .output)) ≡ m =
+      ap (λ (z : List ℕ). take offset (drop (front - offset) z)) whole ∙ ap (take offset) (drop-at a (m ++ r) (front - offset) la) ∙ take-at m r offset lm in
+      fixed-is (h .encoding .«big_endian») offset (w .output) (front - offset) few (omega (arith, wide))
+      ∙ ap (λ (z : ℕ). Value z (cursor (front - offset + offset)))
+      (ap (fixedValue (h .encoding .«big_endian»)) part ∙ fixed-value (h .encoding .«big_endian») offset (length (w .output) - front) (omega (arith, law .short)))
+      ∙ ap (λ (k : ℕ). Value (length (w .output) - front) (cursor k)) (let q : front - offset + offset ≡ front = omega (arith, wide) in q)
+
   pub header-size : length header-part ≡ n
   unfolding headerBytes
   header-size =
@@ -112,11 +135,12 @@ module _ (x : Sections) (room : Room) (typeUnits : Bool) (section : List ℕ) (w
   others-are =
       ap (λ (z : List ℕ). drop front (take n z)) output-is ∙ ap (drop front) (take-at header-part entries n header-size) ∙ drop-at field middle front field-size
 
-  -- "The length field is the new size less 4.", and all else of the header is the old one's, the unit id of unit type 0x05 included
+  -- "The length field is the new size less 4.", or "less 12" in the 64-bit format, and all else of the header is the old one's, the unit id of unit type 0x05 included
   pub header-bytes-law : HeaderBytes h (u .bytes) (w .output)
   header-bytes-law =
       record {
         length-field = length-is;
+        length-read = length-law;
         others = others-are;
         unit-id = (λ t.
             let f : n ≡ front + 4 + offset + 8 = ⊎-elim (λ y. absurd (omega (arith, y .0, t))) (λ y. y .1) (law .headed) in (

@@ -35,7 +35,7 @@ use Rattle.rewriting.specs.Places.{NestedItem, innermost, withIf, keptFrom, off
 use Rattle.rewriting.specs.Indices.{countOf}
 use Rattle.rewriting.specs.Ascending.{Ascending}
 use Rattle.marking.specs.Members.{Member, here, there, Nth, now, later}
-use Rattle.rewriting.specs.Written.{numberAt, runBytes, listBytes, columns, mapBytes}
+use Rattle.rewriting.specs.Written.{numberSize, placeSize, numberAt, runBytes, listBytes, columns, mapBytes}
 use Rattle.rewriting.specs.inner.Written.{place, MapHeld}
 use Rattle.rewriting.specs.Rewriting.{Unit as Unit′, itemsIn, readsOr, readsAt, Lists, noLists, listAt, listsOf, listsFit, Room, Rewrite, Collected, untouched, rewritten, refused, orRefused, rewriteOf, marksCollected, rowsCollected, analysedCollected, declaredCollected, headerCollected, collectOf, unitOf}
 use Rattle.rewriting.specs.Outputs.{roomBy, mapFor, outputFor, listOr, listFor}
@@ -85,33 +85,33 @@ module _ (size : ℕ) (bytes : List ℕ) (n : ℕ) (l : length bytes ≡ n) wher
 
 -- ---- a map
 
-module _ (ps : List Place) (h : (p : Place) → Member p ps → (p .old < 2 ^ 32) × (p .new < 2 ^ 32) × (p .depth < 2 ^ 32)) where
-  length-map : length (mapBytes ps) ≡ 12 * length ps
+module _ (ps : List Place) (h : (p : Place) → Member p ps → (p .old < 2 ^ 64) × (p .new < 2 ^ 64) × (p .depth < 2 ^ 64)) where
+  length-map : length (mapBytes ps) ≡ placeSize * length ps
   unfolding mapBytes
-  length-map = length-run 4 (columns ps) ∙ (let c : length (columns ps) ≡ 3 * length ps = length-columns ps in let g : 4 * length (columns ps) ≡ 12 * length ps = omega arith in g)
+  length-map = length-run numberSize (columns ps) ∙ (let c : length (columns ps) ≡ 3 * length ps = length-columns ps in let g : numberSize * length (columns ps) ≡ placeSize * length ps = omega arith in g)
 
-columns-small : (ps : List Place) → ((p : Place) → Member p ps → (p .old < 2 ^ 32) × (p .new < 2 ^ 32) × (p .depth < 2 ^ 32)) → Small (256 ^ 4) (columns ps)
+columns-small : (ps : List Place) → ((p : Place) → Member p ps → (p .old < 2 ^ 64) × (p .new < 2 ^ 64) × (p .depth < 2 ^ 64)) → Small (256 ^ numberSize) (columns ps)
 unfolding columns
 columns-small [] h v m = absurd (nothing-in v m)
-columns-small (p ∷ ps) h v (here e) = let s : p .old < 2 ^ 32 = h p (here refl) .0 in omega arith
-columns-small (p ∷ ps) h v (there (here e)) = let s : p .new < 2 ^ 32 = h p (here refl) .1 in omega arith
-columns-small (p ∷ ps) h v (there (there (here e))) = let s : p .depth < 2 ^ 32 = h p (here refl) .2 in omega arith
+columns-small (p ∷ ps) h v (here e) = let s : p .old < 2 ^ 64 = h p (here refl) .0 in omega arith
+columns-small (p ∷ ps) h v (there (here e)) = let s : p .new < 2 ^ 64 = h p (here refl) .1 in omega arith
+columns-small (p ∷ ps) h v (there (there (here e))) = let s : p .depth < 2 ^ 64 = h p (here refl) .2 in omega arith
 columns-small (p ∷ ps) h v (there (there (there m))) = columns-small ps (λ q n. h q (there n)) v m
 
-module _ (size : ℕ) (ps : List Place) (r : length ps ≤ size / 12) (asc : Ascending (oldOffsets ps)) (h : (p : Place) → Member p ps → (p .old < 2 ^ 32) × (p .new < 2 ^ 32) × (p .depth < 2 ^ 32)) where
+module _ (size : ℕ) (ps : List Place) (r : length ps ≤ size / placeSize) (asc : Ascending (oldOffsets ps)) (h : (p : Place) → Member p ps → (p .old < 2 ^ 64) × (p .new < 2 ^ 64) × (p .depth < 2 ^ 64)) where
   map-sized : length (padTo size (mapBytes ps)) ≡ size
-  map-sized = padded-size size (mapBytes ps) (12 * length ps) (length-map ps h) (omega arith)
+  map-sized = padded-size size (mapBytes ps) (placeSize * length ps) (length-map ps h) (omega arith)
 
   map-held : MapHeld ps (padTo size (mapBytes ps))
   unfolding padTo mapBytes
   map-held =
       let c : length (columns ps) ≡ 3 * length ps = length-columns ps in
       let s : length (padTo size (mapBytes ps)) ≡ size = map-sized in
-      let l : length (mapBytes ps) ≡ 12 * length ps = length-map ps h in
+      let l : length (mapBytes ps) ≡ placeSize * length ps = length-map ps h in
       record {
         held = record {
-          are = ap (λ (n : ℕ). runBytes 4 (columns ps) ++ zeros n) (let e : size - length (mapBytes ps) ≡ length (padTo size (mapBytes ps)) - 4 * length (columns ps) = omega arith in e);
-          room = (let e : 4 * length (columns ps) ≤ length (padTo size (mapBytes ps)) = omega arith in e);
+          are = ap (λ (n : ℕ). runBytes numberSize (columns ps) ++ zeros n) (let e : size - length (mapBytes ps) ≡ length (padTo size (mapBytes ps)) - numberSize * length (columns ps) = omega arith in e);
+          room = (let e : numberSize * length (columns ps) ≤ length (padTo size (mapBytes ps)) = omega arith in e);
           small = columns-small ps h;
         };
         ascending = asc;
@@ -123,9 +123,9 @@ module _ (size : ℕ) (ps : List Place) (r : length ps ≤ size / 12) (asc : Asc
       let l : k < length ps = nth-inside p k ps m in
       let map : List ℕ = padTo size (mapBytes ps) in
       let g : Place = getD ps k nowhere in
-      ap (λ (z : ℕ). place z (numberAt 4 map (12 * k + 4)) (numberAt 4 map (12 * k + 8))) (old-held ps map map-held k l (numberAt 4 map (12 * k)) (λ _. refl))
-      ∙ ap (λ (z : ℕ). place (g .old) z (numberAt 4 map (12 * k + 8))) (new-held ps map map-held k l (numberAt 4 map (12 * k + 4)) (λ _. refl))
-      ∙ ap (λ (z : ℕ). place (g .old) (g .new) z) (depth-held ps map map-held k l (numberAt 4 map (12 * k + 8)) (λ _. refl))
+      ap (λ (z : ℕ). place z (numberAt numberSize map (placeSize * k + numberSize)) (numberAt numberSize map (placeSize * k + 2 * numberSize))) (old-held ps map map-held k l (numberAt numberSize map (placeSize * k)) (λ _. refl))
+      ∙ ap (λ (z : ℕ). place (g .old) z (numberAt numberSize map (placeSize * k + 2 * numberSize))) (new-held ps map map-held k l (numberAt numberSize map (placeSize * k + numberSize)) (λ _. refl))
+      ∙ ap (λ (z : ℕ). place (g .old) (g .new) z) (depth-held ps map map-held k l (numberAt numberSize map (placeSize * k + 2 * numberSize)) (λ _. refl))
       ∙ nth-is nowhere p k ps m
 
   map-reads : MapReads size ps (padTo size (mapBytes ps))
@@ -135,12 +135,12 @@ module _ (size : ℕ) (ps : List Place) (r : length ps ≤ size / 12) (asc : Asc
         room = omega arith;
         small = h;
         each = place-read;
-        after = padded-after size (mapBytes ps) (12 * length ps) (length-map ps h);
+        after = padded-after size (mapBytes ps) (placeSize * length ps) (length-map ps h);
       }
 
 -- ---- an index list
 
-module _ (size : ℕ) (xs : List ℕ) (r : length xs ≤ size / 8) (h : (v : ℕ) → Member v xs → v < 2 ^ 64) where
+module _ (size : ℕ) (xs : List ℕ) (r : length xs ≤ size / numberSize) (h : (v : ℕ) → Member v xs → v < 2 ^ 64) where
   list-reads : ListReads size xs (padTo size (listBytes xs))
   unfolding listNumberAt padTo
   list-reads =
@@ -154,7 +154,7 @@ module _ (size : ℕ) (xs : List ℕ) (r : length xs ≤ size / 8) (h : (v : ℕ
         after = padded-after size (listBytes xs) (8 * length xs) (length-run 8 xs);
       }
 
-present-reads : (size : ℕ) (o : Option (List ℕ)) → countOf o ≤ size / 8 → ((xs : List ℕ) → o ≡ some xs → (v : ℕ) → Member v xs → v < 2 ^ 64) → PresentReads size o (listOr size o)
+present-reads : (size : ℕ) (o : Option (List ℕ)) → countOf o ≤ size / numberSize → ((xs : List ℕ) → o ≡ some xs → (v : ℕ) → Member v xs → v < 2 ^ 64) → PresentReads size o (listOr size o)
 unfolding PresentReads listOr countOf
 present-reads size none r h = refl
 present-reads size (some xs) r h = list-reads size xs r (h xs refl)
@@ -449,19 +449,19 @@ module _ (x : Sections) (room : Room) (typeUnits : Bool) (section : List ℕ) (w
         b,
       )
 
-  places-small : (p : Place) → Member p (w .map) → (p .old < 2 ^ 32) × (p .new < 2 ^ 32) × (p .depth < 2 ^ 32)
+  places-small : (p : Place) → Member p (w .map) → (p .old < 2 ^ 64) × (p .new < 2 ^ 64) × (p .depth < 2 ^ 64)
   places-small p m =
       let r : (p .old < length (u .bytes)) × (p .depth ≤ p .old) × (p .new < n + sizeFrom ks) = place-below (length (u .bytes)) n ks kept-below p (subst (Member p) (o .map-is) m) in
       let r0 : p .old < length (u .bytes) = r .0 in
       let r1 : p .depth ≤ p .old = r .1 in
       let r2 : p .new < n + sizeFrom ks = r .2 in
-      let z : length (u .bytes) < 0xfffffff4 = header-is .below in
+      let z : length (u .bytes) < 2 ^ 64 = header-is .below in
       let y : length (w .output) ≡ n + sizeFrom ks = again-law x room typeUnits section w answer .size in
       let v : length (w .output) ≤ length (u .bytes) = omega (arith, bytes-law x room typeUnits section w answer) in
       (omega arith, omega arith, omega arith)
 
   -- the map, of a slice of so many bytes
-  pub map-bytes-law : (size : ℕ) → room .places ≡ size / 12 → MapReads size (w .map) (mapFor size (rewritten w))
+  pub map-bytes-law : (size : ℕ) → room .places ≡ size / placeSize → MapReads size (w .map) (mapFor size (rewritten w))
   unfolding mapFor
   map-bytes-law size r =
       map-reads size (w .map) (omega (arith, fitting .0, ap length (o .map-is) ∙ places-length n ks)) (map-law x room typeUnits section w answer .olds) places-small
@@ -477,7 +477,7 @@ module _ (x : Sections) (room : Room) (typeUnits : Bool) (section : List ℕ) (w
       }
 
   -- the list of a kind: ranges 0, locations 1, strings 2
-  pub list-bytes-law : T (areBytes section) → (k size : ℕ) → k < 3 → roomAt room k ≡ size / 8 → PresentReads size (listAt (w .lists) k) (listFor (λ (l : Lists). listAt l k) size (rewritten w))
+  pub list-bytes-law : T (areBytes section) → (k size : ℕ) → k < 3 → roomAt room k ≡ size / numberSize → PresentReads size (listAt (w .lists) k) (listFor (λ (l : Lists). listAt l k) size (rewritten w))
   unfolding listFor
   list-bytes-law b k size h r =
       present-reads size (listAt (w .lists) k) (omega (arith, lists-fit room (w .lists) (rewritten-fit x room typeUnits section w answer) k))
@@ -513,7 +513,7 @@ module _ (x : Sections) (room : Room) (typeUnits : Bool) (section : List ℕ) (l
       let o = whole x room typeUnits section (suc n) l answer z in
       index-small x (unitOf (o .header) section (o .declared)) (are-take (o .header .end) section b) k v _ (whole-list-law x room typeUnits section (suc n) l answer z k h xs q .members v .0 m)
 
-  pub untouched-list-law : (n : ℕ) → collectOf x room typeUnits section ≡ untouched n l → T (areBytes section) → (k size : ℕ) → k < 3 → roomAt room k ≡ size / 8
+  pub untouched-list-law : (n : ℕ) → collectOf x room typeUnits section ≡ untouched n l → T (areBytes section) → (k size : ℕ) → k < 3 → roomAt room k ≡ size / numberSize
       → PresentReads size (listAt l k) (listFor (λ (z : Lists). listAt z k) size (untouched n l))
   unfolding listFor
   untouched-list-law n answer b k size h r =

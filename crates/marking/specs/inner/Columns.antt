@@ -50,7 +50,6 @@ pub record AnalysisInput (abbreviations index : List ℕ) (from : ℕ) (unit : L
     (offsets parents roots ends targets : List ℕ) : Type 0 where
   pub accepted : checkedOf abbreviations from ≡ Accepted
   pub indexed : index ≡ indexOf abbreviations from (length index)
-  pub small : length unit < 0xffffffff
   pub offsets-room : entryRoom ≤ length offsets
   pub parents-room : entryRoom ≤ length parents
   pub roots-room : entryRoom ≤ length roots

@@ -7,7 +7,8 @@ use lib.ListN.{length, getD}
 use lib.Dec.{eqb, leb}
 use Rattle.readers.specs.Choice.{pick, _and_}
 use Rattle.marking.specs.Below.{any, every}
-use Rattle.marking.specs.Graph.{Graph, size, noParent, isRoot, parentFits, pairFits}
+use Rattle.readers.specs.Nesting.{noParent}
+use Rattle.marking.specs.Graph.{Graph, size, isRoot, parentFits, pairFits}
 use Rattle.marking.specs.Survivors.{Survivor, Live}
 
 unfoldable pub sum : List ℕ → ℕ

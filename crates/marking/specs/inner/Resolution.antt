@@ -21,7 +21,6 @@ asEntry (some i) = Entry (record { 0 = i })
 -- the offsets of n entries that can be searched by halves
 pub record Searched (offsets : List ℕ) (n : ℕ) : Type 0 where
   pub inside : n ≤ length offsets
-  pub few : n < 2 ^ 32
   pub ascending : Ascending 0 (take n offsets)
 
 -- the references from one place to another, and room for their pairs

@@ -22,11 +22,11 @@ use Rattle.rewriting.specs.inner.NextKept.{itemsBy}
 use Rattle.rewriting.specs.declared.kept_items.Reading.{Reading}
 use Rattle.rewriting.proofs.kept_pass.KeptSteps.{items-entry, items-terminator, items-end, items-bad}
 
-pub number-yes : (end : ℕ) (children : Bool) → children ≡ true → end < 2 ^ 32 → 2 * end + 1 ≡ endNumber end children
+pub number-yes : (end : ℕ) (children : Bool) → children ≡ true → end < 2 ^ 63 → 2 * end + 1 ≡ endNumber end children
 unfolding endNumber pick
 number-yes end children q h = sym (ap (endNumber end) q)
 
-pub number-no : (end : ℕ) (children : Bool) → children ≡ false → end < 2 ^ 32 → 2 * end ≡ endNumber end children
+pub number-no : (end : ℕ) (children : Bool) → children ≡ false → end < 2 ^ 63 → 2 * end ≡ endNumber end children
 unfolding endNumber pick
 number-no end children q h = sym (ap (endNumber end) q)
 
@@ -57,20 +57,20 @@ module _ (r : Reading) (abbreviations index unit : List ℕ) (first : ℕ) (ends
     pub size : length ends ≡ length ends₀
     pub many : entryCount (items first) ≡ count + entryCount (items at)
     pub passed : count ≤ at
-    pub onward : length unit < 2 ^ 32 → (final : List ℕ) → ((i : ℕ) → i < count → getD final i 0 ≡ getD ends i 0)
+    pub onward : (final : List ℕ) → ((i : ℕ) → i < count → getD final i 0 ≡ getD ends i 0)
         → EndsHeld final count (items at) → EndsHeld final 0 (items first)
 
   abbrev pub Ended : List ℕ → Type 0
-  Ended ends = length unit < 2 ^ 32 → entryCount (items first) ≤ length ends₀ → EndsHeld ends 0 (items first)
+  Ended ends = entryCount (items first) ≤ length ends₀ → EndsHeld ends 0 (items first)
 
   pub ending-start : Ending ends₀ first 0
-  ending-start = record { size = refl; many = (let z : entryCount (items first) ≡ 0 + entryCount (items first) = omega arith in z); passed = omega arith; onward = λ u final a h. h }
+  ending-start = record { size = refl; many = (let z : entryCount (items first) ≡ 0 + entryCount (items first) = omega arith in z); passed = omega arith; onward = λ final a h. h }
 
   module _ (ends : List ℕ) (at count : ℕ) (g : Ending ends at count) (o : Step) (p : o ≡ step at) where
     module _ (final : List ℕ) (z : getD final count 0 ≡ 0) (a : (i : ℕ) → i < count → getD final i 0 ≡ getD ends i 0) where
       last : items at ≡ [] → Ended final
       unfolding EndsHeld
-      last q u _ = g .onward u final a (subst (λ (is : List Item). EndsHeld final count is) (sym q) z)
+      last q _ = g .onward final a (subst (λ (is : List Item). EndsHeld final count is) (sym q) z)
 
       pub ending-end : o ≡ End → Ended final
       ending-end q = last (items-end (r .encoding) abbreviations (findAt abbreviations (r .from) index) unit at (sym p ∙ q))
@@ -90,7 +90,7 @@ module _ (r : Reading) (abbreviations index unit : List ℕ) (first : ℕ) (ends
             size = g .size;
             many = g .many ∙ ap (λ (is : List Item). count + entryCount is) e;
             passed = (let i = terminator-inside (r .encoding) abbreviations (findAt abbreviations (r .from) index) unit at c (sym p ∙ q) in omega (arith, g .passed, i .0));
-            onward = λ u final a h. g .onward u final a (subst (λ (is : List Item). EndsHeld final count is) (sym e) h);
+            onward = λ final a h. g .onward final a (subst (λ (is : List Item). EndsHeld final count is) (sym e) h);
           }
 
     module _ (x : Entry) (q : o ≡ Entry′ x) where
@@ -105,25 +105,21 @@ module _ (r : Reading) (abbreviations index unit : List ℕ) (first : ℕ) (ends
       more = g .many ∙ ap (λ (is : List Item). count + entryCount is) here
 
       pub ending-full : (k : ℕ) → k ≡ count → length ends ≤ k → Ended ends
-      ending-full k e h _ l = absurd (omega (arith, more, g .size))
-
-      -- a unit below 4 GiB has fewer entries than that
-      pub ending-over : count ≡ 4294967295 → Ended ends
-      ending-over h u l = absurd (omega (arith, g .passed, inside .coded, inside .ahead, inside .within))
+      ending-full k e h l = absurd (omega (arith, more, g .size))
 
       pub ending-entry-less : length unit - x .next .at < length unit - at
       ending-entry-less = omega (arith, inside .coded, inside .ahead, inside .within)
 
-      module _ (k : ℕ) (is : k ≡ count) (h : k < length ends) (v : ℕ) (w : x .next .at < 2 ^ 32 → v ≡ endNumber (x .next .at) (x .declaration .children)) where
-        put-onward : length unit < 2 ^ 32 → (final : List ℕ) → ((i : ℕ) → i < count + 1 → getD final i 0 ≡ getD (set ends k v) i 0)
+      module _ (k : ℕ) (is : k ≡ count) (h : k < length ends) (v : ℕ) (short : length unit * 1 < 2 ^ 63) (w : x .next .at < 2 ^ 63 → v ≡ endNumber (x .next .at) (x .declaration .children)) where
+        put-onward : (final : List ℕ) → ((i : ℕ) → i < count + 1 → getD final i 0 ≡ getD (set ends k v) i 0)
             → EndsHeld final (count + 1) (items (x .next .at)) → EndsHeld final 0 (items first)
         unfolding EndsHeld
-        put-onward u final a g′ =
-            let b : x .next .at < 2 ^ 32 = omega (arith, inside .within) in
+        put-onward final a g′ =
+            let b : x .next .at < 2 ^ 63 = omega (arith, inside .within) in
             let f : getD final count 0 ≡ endNumber (x .next .at) (x .declaration .children) =
             a count (omega arith) ∙ ap (λ (n : ℕ). getD (set ends k v) n 0) (sym is) ∙ getD-set-same ends k v 0 h ∙ w b in
             let t : EndsHeld final (suc count) (items (x .next .at)) = subst (λ (n : ℕ). EndsHeld final n (items (x .next .at))) (add-one count) g′ in
-            g .onward u final
+            g .onward final
             (λ i l. a i (omega arith) ∙ getD-set-other ends k i v 0 (λ z. omega arith))
             (subst (λ (is : List Item). EndsHeld final count is) (sym here) (f, t))
 

@@ -41,13 +41,13 @@ module _ (items : ℕ → List Item) (parents ends marks unit : List ℕ) where
     unfolding Forward
     next-forward x q = subst (Forward unit (s .at .at)) q (a .forward)
 
-    pub next-item : (x : KeptItem) → r ≡ Item′ x → (stack : List ℕ) → length unit < 2 ^ 32 → Stood items parents ends s stack → NextItem items parents ends marks s stack x
+    pub next-item : (x : KeptItem) → r ≡ Item′ x → (stack : List ℕ) → Stood items parents ends s stack → NextItem items parents ends marks s stack x
     unfolding Next
-    next-item x q stack u h = subst (Next items parents ends marks s stack) q (a .next stack u h)
+    next-item x q stack h = subst (Next items parents ends marks s stack) q (a .next stack h)
 
-    pub next-end : r ≡ End → (stack : List ℕ) → length unit < 2 ^ 32 → Stood items parents ends s stack → keptAt items parents ends marks s stack ≡ []
+    pub next-end : r ≡ End → (stack : List ℕ) → Stood items parents ends s stack → keptAt items parents ends marks s stack ≡ []
     unfolding Next
-    next-end q stack u h = subst (Next items parents ends marks s stack) q (a .next stack u h)
+    next-end q stack h = subst (Next items parents ends marks s stack) q (a .next stack h)
 
     pub next-less : (x : KeptItem) → r ≡ Item′ x → length unit - x .next .at .at < length unit - s .at .at
     next-less x q =
@@ -81,7 +81,7 @@ module _ (items : ℕ → List Item) (parents ends marks unit : List ℕ) where
     pub room : first + places ≤ bytes
     pub passed : bytes ≤ s .at .at
     pub inside : first ≤ length unit → s .at .at ≤ length unit
-    pub counted : length unit < 2 ^ 32 → ColumnsHeld items parents ends first → Counted first s places bytes
+    pub counted : ColumnsHeld items parents ends first → Counted first s places bytes
 
   pub measuring-start : (first : ℕ) (n : Nesting) → n ≡ nestingOf [] → Measuring first (stand first 0 n) 0 first
   measuring-start first n m =
@@ -89,7 +89,7 @@ module _ (items : ℕ → List Item) (parents ends marks unit : List ℕ) where
         room = omega arith;
         passed = omega arith;
         inside = λ h. h;
-        counted = λ u h.
+        counted = λ h.
             record {
               stack = [];
               stood = stood-start first n m h;
@@ -106,9 +106,9 @@ module _ (items : ℕ → List Item) (parents ends marks unit : List ℕ) where
         record {
           room = m .room;
           inside = λ h. let g : s .at .at ≤ length unit = m .inside h in omega (arith, m .passed);
-          found = λ u h.
-              let d = m .counted u h in
-              let e : keptAt items parents ends marks s (d .stack) ≡ [] = next-end s r a q (d .stack) u (d .stood) in
+          found = λ h.
+              let d = m .counted h in
+              let e : keptAt items parents ends marks s (d .stack) ≡ [] = next-end s r a q (d .stack) (d .stood) in
               let l : length (keptAt items parents ends marks s (d .stack)) ≡ 0 = ap length e in
               let z : sizeFrom (keptAt items parents ends marks s (d .stack)) ≡ 0 = ap sizeFrom e in
               (omega (arith, d .many), omega (arith, d .size));
@@ -135,9 +135,9 @@ module _ (items : ℕ → List Item) (parents ends marks unit : List ℕ) where
             room = omega (arith, m .room);
             passed = omega (arith, m .passed);
             inside = λ h. omega arith;
-            counted = λ u h.
-                let d = m .counted u h in
-                let y = next-item s r a x q (d .stack) u (d .stood) in
+            counted = λ h.
+                let d = m .counted h in
+                let y = next-item s r a x q (d .stack) (d .stood) in
                 let l : length (keptAt items parents ends marks s (d .stack)) ≡ suc (length (keptAt items parents ends marks (x .next) (y .after))) = ap length (y .whole) in
                 let z : sizeFrom (keptAt items parents ends marks s (d .stack)) ≡ sizeOf (y .standing .item) + sizeFrom (keptAt items parents ends marks (x .next) (y .after)) = ap sizeFrom (y .whole) in
                 record {

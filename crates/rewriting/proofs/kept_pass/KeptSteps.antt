@@ -18,7 +18,7 @@ use Rattle.readers.specs.Abbreviations.{pastAttributes, movedDeclaration, whole
 use Rattle.readers.specs.Entries.{valuesAt, stepAt}
 use Rattle.readers.proofs.Lebs.{uleb-inside}
 use Rattle.readers.proofs.Values.{entryStep, foundStep, codeStep, step-by, step-none, step-terminator, step-unknown}
-use Rattle.readers.specs.Nesting.{opened, closed, top, nestingOf, nestingOpened, nestingClosed}
+use Rattle.readers.specs.Nesting.{noParent, opened, closed, top, nestingOf, nestingOpened, nestingClosed}
 use Rattle.readers.proofs.Nesting.{opened-is, closed-is, chain-opened, chain-closed, length-opened, length-closed}
 use Rattle.readers.specs.inner.Nesting.{Chain}
 use Rattle.readers.specs.Stream.{Item, entry, terminator, Items, push, onStep, itemsFrom}
@@ -181,7 +181,7 @@ module _ (e : Encoding) (abbreviations : List ℕ) (look : ℕ → DeclarationFo
     -- ---- after an entry
 
     entry-holds : (t : PassPosition) (stack : List ℕ) (x : Entry) → stepAt e abbreviations look unit (t .at .at) ≡ Entry′ x → Stood items parents ends t stack
-        → (getD parents (t .count .0) 4294967295 ≡ top stack)
+        → (getD parents (t .count .0) noParent ≡ top stack)
         × HoldsFrom parents (t .count .0 + 1) (parentsFrom (t .count .0 + 1) (opened (x .declaration .children) (t .count .0) stack) (items (x .next .at)))
     unfolding parentsFrom HoldsFrom
     entry-holds t stack x q s =
@@ -198,12 +198,12 @@ module _ (e : Encoding) (abbreviations : List ℕ) (look : ℕ → DeclarationFo
     entry-ends t x q h = subst (EndsHeld ends (t .count .0)) (items-entry (t .at .at) x q) h
 
     entry-stood : (t : PassPosition) (stack : List ℕ) (x : Entry) (n : Nesting) → stepAt e abbreviations look unit (t .at .at) ≡ Entry′ x
-        → n ≡ nestingOpened (x .declaration .children) (t .count .0) (t .nesting) → length unit < 2 ^ 32 → Stood items parents ends t stack
+        → n ≡ nestingOpened (x .declaration .children) (t .count .0) (t .nesting) → t .count .0 < 2 ^ 64 - 1 → Stood items parents ends t stack
         → Stood items parents ends (stand (x .next .at) (t .count .0 + 1) n) (opened (x .declaration .children) (t .count .0) stack)
-    entry-stood t stack x n q m u s =
+    entry-stood t stack x n q m few s =
         let i : EntryInside unit (t .at .at) x = step-inside e abbreviations look unit (t .at .at) x q in
         let h = entry-holds t stack x q s in
-        let l : length stack < 2 ^ 64 - 1 = omega (arith, s .counted, s .passed, i .coded, i .ahead, i .within) in
+        let l : length stack < 2 ^ 64 - 1 = omega (arith, s .counted) in
         record {
           nested = m ∙ ap (nestingOpened (x .declaration .children) (t .count .0)) (s .nested) ∙ opened-is (x .declaration .children) (t .count .0) stack l;
           chained = chain-opened parents (x .declaration .children) (t .count .0) stack (h .0) (s .chained);
@@ -265,10 +265,10 @@ module _ (e : Encoding) (abbreviations : List ℕ) (look : ℕ → DeclarationFo
       pub same : keptAt items parents ends marks s stack ≡ keptAt items parents ends marks t now
 
     abbrev pub Walking : PassPosition → PassPosition → Type 0
-    Walking s t = (s .at .at ≤ t .at .at) × ((stack : List ℕ) → length unit < 2 ^ 32 → Stood items parents ends s stack → Walked s stack t)
+    Walking s t = (s .at .at ≤ t .at .at) × ((stack : List ℕ) → Stood items parents ends s stack → Walked s stack t)
 
     pub walking-start : (s : PassPosition) → Walking s s
-    walking-start s = (omega arith, λ stack u h. record { now = stack; stood = h; same = refl })
+    walking-start s = (omega arith, λ stack h. record { now = stack; stood = h; same = refl })
 
     depth-of : (t : PassPosition) (stack : List ℕ) → t .nesting ≡ nestingOf stack → t .nesting .depth ≡ length stack
     unfolding nestingOf
@@ -280,8 +280,8 @@ module _ (e : Encoding) (abbreviations : List ℕ) (look : ℕ → DeclarationFo
       end-end q =
           record {
             forward = tt;
-            next = λ stack u g.
-                let v = w .1 stack u g in
+            next = λ stack g.
+                let v = w .1 stack g in
                 v .same ∙ ap (keptFrom marks (t .count .0) (openKept marks (v .now))) (items-end (t .at .at) q);
           }
 
@@ -290,13 +290,13 @@ module _ (e : Encoding) (abbreviations : List ℕ) (look : ℕ → DeclarationFo
       end-bad q =
           record {
             forward = tt;
-            next = λ stack u g.
-                let v = w .1 stack u g in
+            next = λ stack g.
+                let v = w .1 stack g in
                 v .same ∙ ap (keptFrom marks (t .count .0) (openKept marks (v .now))) (items-bad (t .at .at) q);
           }
 
       module _ (x : Entry) (q : stepAt e abbreviations look unit (t .at .at) ≡ Entry′ x) where
-        module _ (n : Nesting) (m : n ≡ nestingOpened (x .declaration .children) (t .count .0) (t .nesting)) where
+        module _ (n : Nesting) (m : n ≡ nestingOpened (x .declaration .children) (t .count .0) (t .nesting)) (few : t .count .0 < 2 ^ 64 - 1) where
           pub entry-item : isKept marks (t .count .0) ≡ true
               → Answers items parents ends marks unit s (Item′ (record {
                 start = record { 0 = t .at .at };
@@ -312,8 +312,8 @@ module _ (e : Encoding) (abbreviations : List ℕ) (look : ℕ → DeclarationFo
               let i : EntryInside unit (t .at .at) x = step-inside e abbreviations look unit (t .at .at) x q in
               record {
                 forward = (w .0, omega (arith, i .coded, i .ahead), i .within, refl);
-                next = λ stack u g.
-                    let v = w .1 stack u g in
+                next = λ stack g.
+                    let v = w .1 stack g in
                     record {
                       standing = record { item = entry x; depth = length (v .now) };
                       after = opened (x .declaration .children) (t .count .0) (v .now);
@@ -321,7 +321,7 @@ module _ (e : Encoding) (abbreviations : List ℕ) (look : ℕ → DeclarationFo
                       shows = (refl, sym (i .here), refl, refl, refl);
                       deep = depth-of t (v .now) (v .stood .nested);
                       low = omega (arith, depth-of t (v .now) (v .stood .nested), v .stood .counted, v .stood .passed);
-                      stood = entry-stood t (v .now) x n q m u (v .stood);
+                      stood = entry-stood t (v .now) x n q m few (v .stood);
                     };
               }
 
@@ -329,11 +329,11 @@ module _ (e : Encoding) (abbreviations : List ℕ) (look : ℕ → DeclarationFo
           entry-on k =
               let i : EntryInside unit (t .at .at) x = step-inside e abbreviations look unit (t .at .at) x q in (
                 omega (arith, w .0, i .coded, i .ahead),
-                λ stack u g.
-                    let v = w .1 stack u g in
+                λ stack g.
+                    let v = w .1 stack g in
                     record {
                       now = opened (x .declaration .children) (t .count .0) (v .now);
-                      stood = entry-stood t (v .now) x n q m u (v .stood);
+                      stood = entry-stood t (v .now) x n q m few (v .stood);
                       same = v .same ∙ entry-kept t (v .now) x q ∙ with-no _ _ _ k;
                     },
               )
@@ -358,8 +358,8 @@ module _ (e : Encoding) (abbreviations : List ℕ) (look : ℕ → DeclarationFo
               let i = terminator-inside e abbreviations look unit (t .at .at) c q in
               record {
                 forward = (w .0, i .0, i .1, refl);
-                next = λ stack u g.
-                    let v = w .1 stack u g in
+                next = λ stack g.
+                    let v = w .1 stack g in
                     record {
                       standing = record { item = terminator (t .at .at) (c .at); depth = length (v .now) };
                       after = closed (v .now);
@@ -375,8 +375,8 @@ module _ (e : Encoding) (abbreviations : List ℕ) (look : ℕ → DeclarationFo
           terminator-on k =
               let i = terminator-inside e abbreviations look unit (t .at .at) c q in (
                 omega (arith, w .0, i .0),
-                λ stack u g.
-                    let v = w .1 stack u g in
+                λ stack g.
+                    let v = w .1 stack g in
                     record {
                       now = closed (v .now);
                       stood = terminator-stood t (v .now) c n q m (v .stood);
@@ -401,18 +401,24 @@ module _ (e : Encoding) (abbreviations : List ℕ) (look : ℕ → DeclarationFo
             pub stop-unknown : (f : DeclarationFound) → wholeFound abbreviations f ≡ look code → f ≡ Nothing → Answers items parents ends marks unit s End
             stop-unknown f k l = end-bad (sym (step-unknown e abbreviations look unit (t .at .at) h b p code values q z f k l))
 
-            stop-unless : ((x : CodedEntry (t .at .at) code values) (stack : List ℕ) → Stood items parents ends t stack → length unit < 2 ^ 32 → ⊥) → Answers items parents ends marks unit s End
+            stop-unless : ((x : CodedEntry (t .at .at) code values) (stack : List ℕ) → Stood items parents ends t stack → ⊥) → Answers items parents ends marks unit s End
             unfolding Forward
             stop-unless f =
                 record {
                   forward = tt;
-                  next = λ stack u g.
-                      ⊎-elim (λ x. let v = w .1 stack u g in absurd (f x (v .now) (v .stood) u)) (λ k. end-bad k .next stack u g)
+                  next = λ stack g.
+                      ⊎-elim (λ x. let v = w .1 stack g in absurd (f x (v .now) (v .stood))) (λ k. end-bad k .next stack g)
                       (coded (t .at .at) code values h b p q z);
                 }
 
-            pub stop-over : t .count .0 ≡ 4294967295 → Answers items parents ends marks unit s End
-            stop-over l = stop-unless (λ x stack g u. let i = step-inside e abbreviations look unit (t .at .at) (x .of) (x .is) in omega (arith, g .passed, i .coded, i .ahead, i .within))
+            -- the column has a number, not 0, for each entry
+            pub stop-past : (k : ℕ) → k ≡ t .count .0 → length ends ≤ k → Answers items parents ends marks unit s End
+            stop-past k is l = stop-unless (λ x stack g.
+                let i = step-inside e abbreviations look unit (t .at .at) (x .of) (x .is) in
+                let y : x .of .next .at ≡ 0 =
+                sym (half (x .of .next .at) (x .of .declaration .children))
+                ∙ ap (λ (m : ℕ). m / 2) (sym (entry-ends t (x .of) (x .is) (g .ends-hold) .0) ∙ ap (λ (j : ℕ). getD ends j 0) (sym is) ∙ List·getD-eq-default ends 0 l) in
+                omega (arith, i .coded, i .ahead, y))
 
             module _ (n : ℕ) (is : n ≡ getD ends (t .count .0) 0) where
               ends-at : (x : CodedEntry (t .at .at) code values) (stack : List ℕ) → Stood items parents ends t stack → n / 2 ≡ x .of .next .at
@@ -422,13 +428,13 @@ module _ (e : Encoding) (abbreviations : List ℕ) (look : ℕ → DeclarationFo
               opens x stack g = ap (λ (m : ℕ). eqb (m % 2) 1) (is ∙ entry-ends t (x .of) (x .is) (g .ends-hold) .0) ∙ odd (x .of .next .at) (x .of .declaration .children)
 
               pub stop-low : n / 2 < values .at → Answers items parents ends marks unit s End
-              stop-low l = stop-unless (λ x stack g u.
+              stop-low l = stop-unless (λ x stack g.
                   let i = step-inside e abbreviations look unit (t .at .at) (x .of) (x .is) in
                   let k : x .of .values .at ≡ values .at = ap (λ (c : Cursor). c .at) (x .from) in
                   omega (arith, i .ahead, ends-at x stack g))
 
               pub stop-high : length unit < n / 2 → Answers items parents ends marks unit s End
-              stop-high l = stop-unless (λ x stack g u.
+              stop-high l = stop-unless (λ x stack g.
                   let i = step-inside e abbreviations look unit (t .at .at) (x .of) (x .is) in
                   omega (arith, i .within, ends-at x stack g))
 
@@ -448,15 +454,15 @@ module _ (e : Encoding) (abbreviations : List ℕ) (look : ℕ → DeclarationFo
                 pub ends-less : length unit - n / 2 < length unit - t .at .at
                 ends-less = let a : t .at .at < values .at = past-code .0 in omega arith
 
-                module _ (m : Nesting) (o : m ≡ nestingOpened (eqb (n % 2) 1) (t .count .0) (t .nesting)) where
+                module _ (m : Nesting) (o : m ≡ nestingOpened (eqb (n % 2) 1) (t .count .0) (t .nesting)) (few : t .count .0 < 2 ^ 64 - 1) where
                   pub ends-on : isKept marks (t .count .0) ≡ false → Walking s (stand (n / 2) (t .count .0 + 1) m)
                   ends-on k = (
                     let a : t .at .at < values .at = past-code .0 in omega (arith, w .0),
-                    λ stack u g.
-                        let v = w .1 stack u g in
+                    λ stack g.
+                        let v = w .1 stack g in
                         let x : CodedEntry (t .at .at) code values = there (v .now) (v .stood) in
                         subst (λ (end : ℕ). Walked s stack (stand end (t .count .0 + 1) m)) (sym (ends-at x (v .now) (v .stood)))
-                        (entry-on (x .of) (x .is) m (o ∙ ap (λ (c : Bool). nestingOpened c (t .count .0) (t .nesting)) (opens x (v .now) (v .stood))) k .1 stack u g),
+                        (entry-on (x .of) (x .is) m (o ∙ ap (λ (c : Bool). nestingOpened c (t .count .0) (t .nesting)) (opens x (v .now) (v .stood))) few k .1 stack g),
                   )
 
                   pub ends-item : (f : DeclarationFound) → wholeFound abbreviations f ≡ look code → (d : Declaration) → f ≡ Found′ d → isKept marks (t .count .0) ≡ true
@@ -473,8 +479,8 @@ module _ (e : Encoding) (abbreviations : List ℕ) (look : ℕ → DeclarationFo
                   ends-item f k d l y =
                       record {
                         forward = (w .0, (let a : t .at .at < values .at = past-code .0 in omega arith), high, refl);
-                        next = λ stack u g.
-                            let v = w .1 stack u g in
+                        next = λ stack g.
+                            let v = w .1 stack g in
                             let x : CodedEntry (t .at .at) code values = there (v .now) (v .stood) in
                             let same : d ≡ x .of .declaration = whole-same abbreviations d (x .of .declaration) (ap (wholeFound abbreviations) (sym l) ∙ k ∙ x .declared) in
                             subst (λ (end : ℕ). Next items parents ends marks s stack (Item′ (record { start = record { 0 = t .at .at }; end = record { at = end }; depth = t .nesting .depth; «is_entry» = true; specs = d .attributes; values = values; next = stand end (t .count .0 + 1) m })))
@@ -483,5 +489,5 @@ module _ (e : Encoding) (abbreviations : List ℕ) (look : ℕ → DeclarationFo
                             (x .from)
                             (subst (λ (c : Declaration). Next items parents ends marks s stack (Item′ (record { start = record { 0 = t .at .at }; end = x .of .next; depth = t .nesting .depth; «is_entry» = true; specs = c .attributes; values = x .of .values; next = stand (x .of .next .at) (t .count .0 + 1) m })))
                             (sym same)
-                            (entry-item (x .of) (x .is) m (o ∙ ap (λ (c : Bool). nestingOpened c (t .count .0) (t .nesting)) (opens x (v .now) (v .stood))) y .next stack u g)));
+                            (entry-item (x .of) (x .is) m (o ∙ ap (λ (c : Bool). nestingOpened c (t .count .0) (t .nesting)) (opens x (v .now) (v .stood))) few y .next stack g)));
                       }

@@ -9,7 +9,7 @@ use lib.ListN.{length, getD, length-append}
 use lib.Dec.{ltb, leb}
 use Rattle.readers.proofs.Choice.{pick-either}
 use Rattle.readers.specs.Abbreviations.{Placed, declaredIn, abbreviationsOf, indexOf, findAt}
-use Rattle.readers.specs.Nesting.{opened, closed, top}
+use Rattle.readers.specs.Nesting.{noParent, opened, closed, top}
 use Rattle.readers.specs.Stream.{Item, entry, terminator, Items, itemsFrom}
 use Rattle.readers.specs.declared.cursor.Encoding.{Encoding}
 use Rattle.readers.proofs.Declarations.{find-plain}
@@ -94,13 +94,13 @@ pub record UnitRows (e : Encoding) (x : Sections) (unit : List ℕ) (from first 
 module _ (e : Encoding) (x : Sections) (unit : List ℕ) (room : Rooms) (from first : ℕ) where
   by-declared : (o : Option (List Placed)) → abbreviationsOf (x .abbreviations) from ≡ o
       → Rows (UnitRows e x unit from first)
-      (onDeclared o (λ ds. analyseItems e x unit room startOf (itemsFrom e (x .abbreviations) (declaredIn ds) unit first .0) (itemsFrom e (x .abbreviations) (declaredIn ds) unit first .1)))
+      (onDeclared o (λ ds. analyseItems e x unit room (startOf e) (itemsFrom e (x .abbreviations) (declaredIn ds) unit first .0) (itemsFrom e (x .abbreviations) (declaredIn ds) unit first .1)))
   unfolding Rows onDeclared
   by-declared none q = tt
   by-declared (some ds) q =
       let items : Items = itemsFrom e (x .abbreviations) (declaredIn ds) unit first in
-      rows-map (RowsOf 0 [] (items .0)) (UnitRows e x unit from first) (analyseItems e x unit room startOf (items .0) (items .1))
-      (λ rows h. record { declarations = ds; declared = q; are = h }) (rows-of e x unit room startOf (items .0) (items .1))
+      rows-map (RowsOf 0 [] (items .0)) (UnitRows e x unit from first) (analyseItems e x unit room (startOf e) (items .0) (items .1))
+      (λ rows h. record { declarations = ds; declared = q; are = h }) (rows-of e x unit room (startOf e) (items .0) (items .1))
 
   -- THE rows of a unit
   pub unit-rows : (rows : List EntryRow) → unitAnalysed e x unit room from first ≡ analysed rows → UnitRows e x unit from first rows
@@ -137,7 +137,7 @@ holds-after : (before xs after : List ℕ) (column : List ℕ) (k : ℕ) → col
 unfolding HoldsFrom
 holds-after before [] after column k q l = tt
 holds-after before (x ∷ xs) after column k q l = (
-  ap₂ (λ (c : List ℕ) (j : ℕ). getD c j 4294967295) q l ∙ get-after before x (xs ++ after) 4294967295,
+  ap₂ (λ (c : List ℕ) (j : ℕ). getD c j noParent) q l ∙ get-after before x (xs ++ after) noParent,
   holds-after (before ++ (x ∷ [])) xs after column (suc k)
       (q ∙ sym (append-assoc before (x ∷ []) (xs ++ after)))
       (let z : length (before ++ (x ∷ [])) ≡ length before + 1 = length-append before (x ∷ []) in omega arith),

@@ -10,6 +10,7 @@ use lib.ListN.{length, take, drop, length-append}
 use lib.Seq.{length-take-le, drop-drop}
 use lib.Dec.{T, eqb, leb, ltb}
 use mir.Facts.{leb-yes, eqb-yes, eqb-no, no-eqb, yes-eqb}
+use Rattle.readers.specs.Lists.{listBase}
 use Rattle.readers.specs.Choice.{pick, _and_, bind}
 use Rattle.readers.proofs.Choice.{pick-yes, pick-no, pick-either, either, bind-at, bind-bind, check-yes, All, all-some, all-of, all-bind, all-check, all-triv}
 use Rattle.readers.specs.Numbers.{uleb}
@@ -425,7 +426,7 @@ module _ (x : Sections) (room : Room) (section : List ℕ) (h : UnitHeader) (ds 
   accepted-deep : EveryItem (ReadDeep (h .encoding) x (declaredIn ds) (take (h .end) section)) (itemsIn x unit)
   unfolding itemsIn
   accepted-deep =
-      items-deep (h .encoding) x (declaredIn ds) (take (h .end) section) 0 [] 12 12 (itemsIn x unit) rows (accepted-follow x room section h ds rows a)
+      items-deep (h .encoding) x (declaredIn ds) (take (h .end) section) 0 [] (listBase (h .encoding)) (listBase (h .encoding)) (itemsIn x unit) rows (accepted-follow x room section h ds rows a)
       (items-stand (h .encoding) (x .abbreviations) (declaredIn ds) (take (h .end) section) (h .first .0))
 
   -- every item that is kept can be read deep

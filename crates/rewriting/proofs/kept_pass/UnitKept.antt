@@ -12,6 +12,7 @@ use Rattle.readers.proofs.Declarations.{find-plain}
 use Rattle.readers.proofs.Streams.{items-look}
 use Rattle.marking.specs.Analysis.{Sections}
 use Rattle.rewriting.specs.Places.{placesFrom}
+use Rattle.rewriting.specs.Written.{placeSize}
 use Rattle.rewriting.specs.inner.Written.{MapHeld}
 use Rattle.rewriting.specs.Rewriting.{Unit as Unit′}
 use Rattle.rewriting.specs.inner.NextKept.{itemsBy}
@@ -35,11 +36,11 @@ module _ (x : Sections) (u : Unit′) (from n : ℕ) (h : abbreviationsOf (x .ab
 
 -- a map that was filled can be searched
 pub map-held : (r : Reading) (abbreviations index unit parents ends marks : List ℕ) (first : ℕ) (before after : List ℕ)
-    → Fills (itemsBy r abbreviations index unit) unit parents ends marks first before after → length unit < 2 ^ 32 → ColumnsHeld (itemsBy r abbreviations index unit) parents ends first
-    → 12 * length (keptOfUnit (itemsBy r abbreviations index unit) marks first) ≤ length before → before ≡ zeros (length before)
+    → Fills (itemsBy r abbreviations index unit) unit parents ends marks first before after → ColumnsHeld (itemsBy r abbreviations index unit) parents ends first
+    → placeSize * length (keptOfUnit (itemsBy r abbreviations index unit) marks first) ≤ length before → before ≡ zeros (length before)
     → MapHeld (placesFrom first (keptOfUnit (itemsBy r abbreviations index unit) marks first)) after
-map-held r abbreviations index unit parents ends marks first before after f u h m z =
+map-held r abbreviations index unit parents ends marks first before after f h m z =
     record {
-      held = f .holds u h m z;
+      held = f .holds h m z;
       ascending = olds-ascending marks 0 first [] (itemsBy r abbreviations index unit first) (items-ascending (r .encoding) abbreviations (findAt abbreviations (r .from) index) unit first);
     }

@@ -9,7 +9,7 @@ use Rattle.readers.specs.Choice.{zeros}
 use Rattle.rewriting.specs.Ascending.{Ascending}
 use Rattle.marking.specs.Resolution.{Ascending as From}
 use Rattle.rewriting.specs.Places.{Place, oldOffsets}
-use Rattle.rewriting.specs.Written.{runBytes, columns}
+use Rattle.rewriting.specs.Written.{numberSize, runBytes, columns}
 use Rattle.rewriting.specs.inner.Written.{NumbersHeld, ListHeld, MapHeld}
 use Rattle.marking.proofs.Members.{nothing-in}
 
@@ -22,7 +22,4 @@ held-none width n =
 
 pub list-none : (n : ℕ) → ListHeld [] (zeros n)
 unfolding From
-list-none n = record { held = held-none 8 n; ascending = tt }
-
-pub map-held : (ps : List Place) (bytes : List ℕ) → NumbersHeld 4 (columns ps) bytes → Ascending (oldOffsets ps) → MapHeld ps bytes
-map-held ps bytes h f = record { held = h; ascending = f }
+list-none n = record { held = held-none numberSize n; ascending = tt }

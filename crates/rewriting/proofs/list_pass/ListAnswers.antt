@@ -53,11 +53,10 @@ module _ (x : Sections) (u : Unit′) where
         ∙ ap (λ (l : List ℕ). itemsFrom (u .header .encoding) (x .abbreviations) (declaredIn (u .declared)) l first .0) (sym (w .bytes-are))
 
     -- what a pass asks for, of the unit's own items
-    pub passable : (parents ends marks : List ℕ) → length unit < 2 ^ 32 → HoldsFrom parents 0 (parentsFrom 0 [] (itemsIn x u)) → EndsHeld ends 0 (itemsIn x u)
+    pub passable : (parents ends marks : List ℕ) → HoldsFrom parents 0 (parentsFrom 0 [] (itemsIn x u)) → EndsHeld ends 0 (itemsIn x u)
         → Every (Readable x u) (keptFrom marks 0 [] (itemsIn x u)) → PassInput x u r s table unit parents ends marks (u .header .first .0)
-    passable parents ends marks l h k d =
+    passable parents ends marks h k d =
         record {
-          small = l;
           read = w;
           found = f;
           holds = subst (λ (is : List Item). HoldsFrom parents 0 (parentsFrom 0 [] is)) (sym items-are) h;

@@ -13,7 +13,7 @@ use Rattle.readers.proofs.Choice.{either}
 use Rattle.rewriting.specs.Ascending.{Ascending}
 use Rattle.rewriting.specs.Indices.{rankIn}
 use Rattle.rewriting.specs.Places.{Place, newOf, firstFrom, orElse, siblingOf, oldOffsets}
-use Rattle.rewriting.specs.Written.{numberAt}
+use Rattle.rewriting.specs.Written.{numberSize, placeSize, numberAt}
 use Rattle.rewriting.specs.inner.Written.{MapHeld, asMapped}
 use Rattle.rewriting.specs.inner.Bounds.{AsDeep, BoundsFrom, Bounds}
 use Rattle.readers.specs.declared.offsets.UnitOffset.{UnitOffset}
@@ -86,8 +86,8 @@ module _ (map : List ℕ) (places : ℕ) (bounds : List ℕ) (old depth i : ℕ)
             );
       }
 
-  module _ (d : ℕ) (l : i < places) (is-depth : i < length map / 12 → d ≡ numberAt 4 map (12 * i + 8)) where
-    pub seeking-here : (n : UnitOffset) → d ≤ depth → (i < length map / 12 → n .0 ≡ numberAt 4 map (12 * i + 4)) → (ps : List Place) → MapHeld ps map → places ≡ length ps → Bounds ps bounds
+  module _ (d : ℕ) (l : i < places) (is-depth : i < length map / placeSize → d ≡ numberAt numberSize map (placeSize * i + 2 * numberSize)) where
+    pub seeking-here : (n : UnitOffset) → d ≤ depth → (i < length map / placeSize → n .0 ≡ numberAt numberSize map (placeSize * i + numberSize)) → (ps : List Place) → MapHeld ps map → places ≡ length ps → Bounds ps bounds
         → To n ≡ asMapped (siblingOf ps depth old)
     unfolding asMapped
     seeking-here n b f ps h e w =
@@ -120,7 +120,7 @@ pub record Least (map : List ℕ) (places from i least : ℕ) : Type 0 where
 pub least-start : (map : List ℕ) (places from : ℕ) → Least map places from from 4294967295
 least-start map places from = record { fits = omega arith; deep = λ ps h e. record { deep = λ j a b l. absurd (omega arith) } }
 
-pub least-more : (map : List ℕ) (places from i least d r : ℕ) → Least map places from i least → i < places → (i < length map / 12 → d ≡ numberAt 4 map (12 * i + 8)) → r ≤ least → r ≤ d
+pub least-more : (map : List ℕ) (places from i least d r : ℕ) → Least map places from i least → i < places → (i < length map / placeSize → d ≡ numberAt numberSize map (placeSize * i + 2 * numberSize)) → r ≤ least → r ≤ d
     → Least map places from (i + 1) r
 least-more map places from i least d r p l is-depth a b =
     record {

@@ -9,8 +9,9 @@ use Rattle.readers.specs.Nesting.{nestingOf}
 use Rattle.readers.specs.Stream.{Item}
 use Rattle.readers.specs.declared.entries.Nesting.{Nesting}
 use Rattle.rewriting.specs.Places.{NestedItem, Place, sizeOf, placesFrom}
-use Rattle.rewriting.specs.Written.{runBytes, columns, mapBytes}
+use Rattle.rewriting.specs.Written.{numberSize, placeSize, runBytes, columns, mapBytes}
 use Rattle.rewriting.specs.inner.Written.{NumbersHeld, place, withPlace}
+use Rattle.rewriting.proofs.map_pass.Places.{length-columns}
 use Rattle.rewriting.specs.inner.NextKept.{Stood, keptAt, Answers}
 use Rattle.rewriting.specs.inner.Measures.{ColumnsHeld, keptOfUnit}
 use Rattle.rewriting.specs.inner.MapFilled.{Fills}
@@ -24,45 +25,40 @@ use Rattle.rewriting.proofs.kept_pass.KeptPasses.{shown-size, shown-off
 
 -- ---- places and their columns
 
-length-columns : (ps : List Place) → length (columns ps) ≡ 3 * length ps
-unfolding columns
-length-columns [] = refl
-length-columns (p ∷ ps) = let h : length (columns ps) ≡ 3 * length ps = length-columns ps in let g : suc (suc (suc (length (columns ps)))) ≡ 3 * suc (length ps) = omega arith in g
-
 pub length-places : (n : ℕ) (kept : List NestedItem) → length (placesFrom n kept) ≡ length kept
 unfolding placesFrom
 length-places n [] = refl
 length-places n (s ∷ kept) = ap suc (length-places (n + sizeOf (s .item)) kept)
 
-held-none : (bytes : List ℕ) → bytes ≡ zeros (length bytes) → NumbersHeld 4 (columns []) bytes
+held-none : (bytes : List ℕ) → bytes ≡ zeros (length bytes) → NumbersHeld numberSize (columns []) bytes
 unfolding columns runBytes
 held-none bytes h =
     record {
-      are = h ∙ ap zeros (let z : length bytes ≡ length bytes - 4 * 0 = omega arith in z);
-      room = (let z : 4 * 0 ≤ length bytes = omega arith in z);
+      are = h ∙ ap zeros (let z : length bytes ≡ length bytes - numberSize * 0 = omega arith in z);
+      room = (let z : numberSize * 0 ≤ length bytes = omega arith in z);
       small = λ v m. absurd (nothing-in v m);
     }
 
-held-bytes : (ps : List Place) (n : ℕ) (bytes : List ℕ) → NumbersHeld 4 (columns ps) bytes → length ps ≡ n → bytes ≡ mapBytes ps ++ zeros (length bytes - 12 * n)
+held-bytes : (ps : List Place) (n : ℕ) (bytes : List ℕ) → NumbersHeld numberSize (columns ps) bytes → length ps ≡ n → bytes ≡ mapBytes ps ++ zeros (length bytes - placeSize * n)
 unfolding mapBytes
 held-bytes ps n bytes h l =
     let c : length (columns ps) ≡ 3 * length ps = length-columns ps in
-    h .are ∙ ap (λ (k : ℕ). runBytes 4 (columns ps) ++ zeros k) (let z : length bytes - 4 * length (columns ps) ≡ length bytes - 12 * n = omega arith in z)
+    h .are ∙ ap (λ (k : ℕ). runBytes numberSize (columns ps) ++ zeros k) (let z : length bytes - numberSize * length (columns ps) ≡ length bytes - placeSize * n = omega arith in z)
 
 -- ---- the loop
 
 -- what a place more does to a map
 abbrev pub Puts : List ℕ → ℕ → ℕ → ℕ → ℕ → List ℕ → Type 0
 Puts map i old new depth map′ =
-    (ps : List Place) → NumbersHeld 4 (columns ps) map → i ≡ length ps → i < length map / 12 → old < 4294967296 → new < 4294967296 → depth < 4294967296
-    → NumbersHeld 4 (columns (withPlace ps (place old new depth))) map′
+    (ps : List Place) → NumbersHeld numberSize (columns ps) map → i ≡ length ps → i < length map / placeSize
+    → NumbersHeld numberSize (columns (withPlace ps (place old new depth))) map′
 
 module _ (items : ℕ → List Item) (parents ends marks unit : List ℕ) (first : ℕ) (map₀ : List ℕ) where
   pub record Filled (map : List ℕ) (s : PassPosition) (i new : ℕ) : Type 0 where
     pub stack : List ℕ
     pub stood : Stood items parents ends s stack
     pub done : List Place
-    pub held : NumbersHeld 4 (columns done) map
+    pub held : NumbersHeld numberSize (columns done) map
     pub counted : i ≡ length done
     pub many : length (keptOfUnit items marks first) ≡ i + length (keptAt items parents ends marks s stack)
     pub whole : placesFrom first (keptOfUnit items marks first) ≡ done ++ placesFrom new (keptAt items parents ends marks s stack)
@@ -71,7 +67,7 @@ module _ (items : ℕ → List Item) (parents ends marks unit : List ℕ) (first
   pub record Placing (map : List ℕ) (s : PassPosition) (i new : ℕ) : Type 0 where
     pub measuring : Measuring items parents ends marks unit first s i new
     pub same : length map ≡ length map₀
-    pub filled : length unit < 2 ^ 32 → ColumnsHeld items parents ends first → 12 * length (keptOfUnit items marks first) ≤ length map₀ → map₀ ≡ zeros (length map₀)
+    pub filled : ColumnsHeld items parents ends first → placeSize * length (keptOfUnit items marks first) ≤ length map₀ → map₀ ≡ zeros (length map₀)
         → Filled map s i new
 
   pub placing-start : (n : Nesting) → n ≡ nestingOf [] → Placing map₀ (stand first 0 n) 0 first
@@ -79,7 +75,7 @@ module _ (items : ℕ → List Item) (parents ends marks unit : List ℕ) (first
       record {
         measuring = measuring-start items parents ends marks unit first n m;
         same = refl;
-        filled = λ u h r z.
+        filled = λ h r z.
             let k : keptOfUnit items marks first ≡ keptAt items parents ends marks (stand first 0 n) [] = kept-start items parents ends marks unit first n in
             let l : length (keptOfUnit items marks first) ≡ length (keptAt items parents ends marks (stand first 0 n) []) = ap length k in
             record {
@@ -98,23 +94,23 @@ module _ (items : ℕ → List Item) (parents ends marks unit : List ℕ) (first
     placing-size = f .same
 
     module _ (r : KeptStep) (a : Answers items parents ends marks unit s r) where
-      end-held : r ≡ End → length unit < 2 ^ 32 → ColumnsHeld items parents ends first → 12 * length (keptOfUnit items marks first) ≤ length map₀ → map₀ ≡ zeros (length map₀)
-          → NumbersHeld 4 (columns (placesFrom first (keptOfUnit items marks first))) map
+      end-held : r ≡ End → ColumnsHeld items parents ends first → placeSize * length (keptOfUnit items marks first) ≤ length map₀ → map₀ ≡ zeros (length map₀)
+          → NumbersHeld numberSize (columns (placesFrom first (keptOfUnit items marks first))) map
       unfolding placesFrom
-      end-held q u h m z =
-          let d = f .filled u h m z in
-          let e : keptAt items parents ends marks s (d .stack) ≡ [] = next-end items parents ends marks unit s r a q (d .stack) u (d .stood) in
-          subst (λ (ps : List Place). NumbersHeld 4 (columns ps) map)
+      end-held q h m z =
+          let d = f .filled h m z in
+          let e : keptAt items parents ends marks s (d .stack) ≡ [] = next-end items parents ends marks unit s r a q (d .stack) (d .stood) in
+          subst (λ (ps : List Place). NumbersHeld numberSize (columns ps) map)
           (sym (d .whole ∙ ap (λ (k : List NestedItem). d .done ++ placesFrom new k) e ∙ append-nil (d .done)))
           (d .held)
 
       pub placing-end : r ≡ End → Fills items unit parents ends marks first map₀ map
       placing-end q =
           record {
-            holds = λ u h m z. end-held q u h m z;
-            bytes = λ u h m z.
-                held-bytes _ _ map (end-held q u h m z) (length-places first (keptOfUnit items marks first))
-                ∙ ap (λ (n : ℕ). mapBytes (placesFrom first (keptOfUnit items marks first)) ++ zeros (n - 12 * length (keptOfUnit items marks first))) (f .same);
+            holds = λ h m z. end-held q h m z;
+            bytes = λ h m z.
+                held-bytes _ _ map (end-held q h m z) (length-places first (keptOfUnit items marks first))
+                ∙ ap (λ (n : ℕ). mapBytes (placesFrom first (keptOfUnit items marks first)) ++ zeros (n - placeSize * length (keptOfUnit items marks first))) (f .same);
           }
 
       module _ (x : KeptItem) (q : r ≡ Item′ x) where
@@ -129,16 +125,16 @@ module _ (items : ℕ → List Item) (parents ends marks unit : List ℕ) (first
             record {
               measuring = measuring-more items parents ends marks unit first s i new (f .measuring) r a x q;
               same = l ∙ f .same;
-              filled = λ u h m z.
-                  let d = f .filled u h m z in
-                  let y = next-item items parents ends marks unit s r a x q (d .stack) u (d .stood) in
+              filled = λ h m z.
+                  let d = f .filled h m z in
+                  let y = next-item items parents ends marks unit s r a x q (d .stack) (d .stood) in
                   let k : length (keptAt items parents ends marks s (d .stack)) ≡ suc (length (keptAt items parents ends marks (x .next) (y .after))) = ap length (y .whole) in
-                  let w : i < length map / 12 = omega (arith, d .many, f .same) in
+                  let w : i < length map / placeSize = omega (arith, d .many, f .same) in
                   record {
                     stack = y .after;
                     stood = y .stood;
                     done = withPlace (d .done) (place (x .start .0) new (x .depth));
-                    held = p (d .done) (d .held) (d .counted) w (omega arith) (omega (arith, f .measuring .passed)) (omega (arith, y .low));
+                    held = p (d .done) (d .held) (d .counted) w;
                     counted = (let e : length (d .done ++ (place (x .start .0) new (x .depth) ∷ [])) ≡ length (d .done) + 1 = length-append (d .done) (place (x .start .0) new (x .depth) ∷ []) in omega (arith, d .counted));
                     many = omega (arith, d .many);
                     whole =

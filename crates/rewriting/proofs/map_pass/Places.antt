@@ -1,5 +1,5 @@
 -- The map as a table: its columns, what is read at a place, the place of an old offset, and one place more.
-use Prim.Native.Nat.{ℕ, zero, suc, _+_, _*_, _/_, _≤_, _<_}
+use Prim.Native.Nat.{ℕ, zero, suc, _+_, _*_, _^_, _/_, _≤_, _<_}
 use mathlib.Core.Path.{_≡_, refl, ap, sym, _∙_}
 use mathlib.Core.Bool.{true, false}
 use mathlib.Core.List.{List, [], _∷_, _++_}
@@ -19,7 +19,7 @@ use Rattle.readers.proofs.Numbers.{length-fixed}
 use Rattle.marking.specs.Resolution.{Ascending as From}
 use Rattle.rewriting.specs.Indices.{rankIn}
 use Rattle.rewriting.specs.Places.{Place, newOf, firstFrom, orElse, siblingOf, oldOffsets}
-use Rattle.rewriting.specs.Written.{numberAt, columns, oldAt, newAt, depthAt, halved, foundAt, lookedUp}
+use Rattle.rewriting.specs.Written.{numberSize, placeSize, numberAt, columns, oldAt, newAt, depthAt, halved, foundAt, lookedUp}
 use Rattle.rewriting.specs.inner.Written.{NumbersHeld, MapHeld, place, withPlace, asMapped}
 use Rattle.readers.specs.declared.offsets.UnitOffset.{UnitOffset}
 use Rattle.rewriting.specs.declared.map.Mapped.the-variants.{To, Nothing}
@@ -76,30 +76,30 @@ column-depth (p ∷ ps) (suc i) = ap (λ n. getD (p .old ∷ p .new ∷ p .depth
 -- ---- what is read at a place
 
 module _ (map : List ℕ) (i r : ℕ) where
-  pub old-there : r ≡ oldAt map i → i < length map / 12 → r ≡ numberAt 4 map (12 * i)
-  old-there e h = first-there 12 4 map i r e h
+  pub old-there : r ≡ oldAt map i → i < length map / placeSize → r ≡ numberAt numberSize map (placeSize * i)
+  old-there e h = first-there placeSize numberSize map i r e h
 
-  pub new-there : r ≡ newAt map i → i < length map / 12 → r ≡ numberAt 4 map (12 * i + 4)
-  new-there e h = row-there 12 4 4 map i r e h
+  pub new-there : r ≡ newAt map i → i < length map / placeSize → r ≡ numberAt numberSize map (placeSize * i + numberSize)
+  new-there e h = row-there placeSize numberSize numberSize map i r e h
 
-  pub depth-there : r ≡ depthAt map i → i < length map / 12 → r ≡ numberAt 4 map (12 * i + 8)
-  depth-there e h = row-there 12 8 4 map i r e h
+  pub depth-there : r ≡ depthAt map i → i < length map / placeSize → r ≡ numberAt numberSize map (placeSize * i + 2 * numberSize)
+  depth-there e h = row-there placeSize (2 * numberSize) numberSize map i r e h
 
 module _ (ps : List Place) (map : List ℕ) (h : MapHeld ps map) (i : ℕ) (l : i < length ps) where
-  at-column : (k at : ℕ) → k < 3 * length ps → at ≡ 4 * k → numberAt 4 map at ≡ getD (columns ps) k 0
-  at-column k at b e = ap (λ n. numberAt 4 map n) e ∙ held-at 4 (columns ps) map k (h .held) (omega (arith, length-columns ps))
+  at-column : (k at : ℕ) → k < 3 * length ps → at ≡ numberSize * k → numberAt numberSize map at ≡ getD (columns ps) k 0
+  at-column k at b e = ap (λ n. numberAt numberSize map n) e ∙ held-at numberSize (columns ps) map k (h .held) (omega (arith, length-columns ps))
 
-  pub room-at : i < length map / 12
-  room-at = let r : 4 * length (columns ps) ≤ length map = h .held .room in omega (arith, length-columns ps)
+  pub room-at : i < length map / placeSize
+  room-at = let r : numberSize * length (columns ps) ≤ length map = h .held .room in omega (arith, length-columns ps)
 
-  pub old-held : (r : ℕ) → (i < length map / 12 → r ≡ numberAt 4 map (12 * i)) → r ≡ (getD ps i nowhere) .old
-  old-held r f = f room-at ∙ at-column (3 * i) (12 * i) (omega arith) (omega arith) ∙ column-old ps i
+  pub old-held : (r : ℕ) → (i < length map / placeSize → r ≡ numberAt numberSize map (placeSize * i)) → r ≡ (getD ps i nowhere) .old
+  old-held r f = f room-at ∙ at-column (3 * i) (placeSize * i) (omega arith) (omega arith) ∙ column-old ps i
 
-  pub new-held : (r : ℕ) → (i < length map / 12 → r ≡ numberAt 4 map (12 * i + 4)) → r ≡ (getD ps i nowhere) .new
-  new-held r f = f room-at ∙ at-column (suc (3 * i)) (12 * i + 4) (omega arith) (omega arith) ∙ column-new ps i
+  pub new-held : (r : ℕ) → (i < length map / placeSize → r ≡ numberAt numberSize map (placeSize * i + numberSize)) → r ≡ (getD ps i nowhere) .new
+  new-held r f = f room-at ∙ at-column (suc (3 * i)) (placeSize * i + numberSize) (omega arith) (omega arith) ∙ column-new ps i
 
-  pub depth-held : (r : ℕ) → (i < length map / 12 → r ≡ numberAt 4 map (12 * i + 8)) → r ≡ (getD ps i nowhere) .depth
-  depth-held r f = f room-at ∙ at-column (suc (suc (3 * i))) (12 * i + 8) (omega arith) (omega arith) ∙ column-depth ps i
+  pub depth-held : (r : ℕ) → (i < length map / placeSize → r ≡ numberAt numberSize map (placeSize * i + 2 * numberSize)) → r ≡ (getD ps i nowhere) .depth
+  depth-held r f = f room-at ∙ at-column (suc (suc (3 * i))) (placeSize * i + 2 * numberSize) (omega arith) (omega arith) ∙ column-depth ps i
 
 -- ---- the place of an old offset
 
@@ -151,8 +151,8 @@ module _ (ps : List Place) (depth v i : ℕ) (l : i < length ps) where
 -- ---- what the search for an old offset answers
 
 module _ (ps : List Place) (map : List ℕ) (places old i o : ℕ) (h : MapHeld ps map) (e : places ≡ length ps) where
-  module _ (l : i < places) (is-old : i < length map / 12 → o ≡ numberAt 4 map (12 * i)) where
-    pub found-new : (n : ℕ) → o ≡ old → (i < length map / 12 → n ≡ numberAt 4 map (12 * i + 4)) → newOf ps old ≡ some n
+  module _ (l : i < places) (is-old : i < length map / placeSize → o ≡ numberAt numberSize map (placeSize * i)) where
+    pub found-new : (n : ℕ) → o ≡ old → (i < length map / placeSize → n ≡ numberAt numberSize map (placeSize * i + numberSize)) → newOf ps old ≡ some n
     found-new n q f =
         new-from 0 ps old i (h .ascending) (omega arith) (sym (old-held ps map h i (omega arith) o is-old) ∙ q) ∙ ap (λ x. some x) (sym (new-held ps map h i (omega arith) n f))
 
@@ -173,29 +173,29 @@ sibling-to ps depth old n e = rw e
 
 -- ---- one place more
 
-pub place-put : (ps : List Place) (map map₁ map₂ map₃ : List ℕ) (i old new depth : ℕ) → i < length map / 12
-    → (12 * i + 4 ≤ length map → map₁ ≡ put map (12 * i) (fixedBytes true 4 old))
-    → (12 * i + 4 + 4 ≤ length map₁ → map₂ ≡ put map₁ (12 * i + 4) (fixedBytes true 4 new))
-    → (12 * i + 8 + 4 ≤ length map₂ → map₃ ≡ put map₂ (12 * i + 8) (fixedBytes true 4 depth))
-    → NumbersHeld 4 (columns ps) map → i ≡ length ps → old < 4294967296 → new < 4294967296 → depth < 4294967296
-    → NumbersHeld 4 (columns (withPlace ps (place old new depth))) map₃
+pub place-put : (ps : List Place) (map map₁ map₂ map₃ : List ℕ) (i old new depth : ℕ) → i < length map / placeSize
+    → (placeSize * i + numberSize ≤ length map → map₁ ≡ put map (placeSize * i) (fixedBytes true numberSize old))
+    → (placeSize * i + numberSize + numberSize ≤ length map₁ → map₂ ≡ put map₁ (placeSize * i + numberSize) (fixedBytes true numberSize new))
+    → (placeSize * i + 2 * numberSize + numberSize ≤ length map₂ → map₃ ≡ put map₂ (placeSize * i + 2 * numberSize) (fixedBytes true numberSize depth))
+    → NumbersHeld numberSize (columns ps) map → i ≡ length ps → old < 2 ^ 64 → new < 2 ^ 64 → depth < 2 ^ 64
+    → NumbersHeld numberSize (columns (withPlace ps (place old new depth))) map₃
 place-put ps map map₁ map₂ map₃ i old new depth r f g k h e a b d =
     let c : length (columns ps) ≡ 3 * length ps = length-columns ps in
     let xs₁ : List ℕ = columns ps ++ (old ∷ []) in
     let xs₂ : List ℕ = xs₁ ++ (new ∷ []) in
     let c₁ : length xs₁ ≡ length (columns ps) + 1 = length-append (columns ps) (old ∷ []) in
     let c₂ : length xs₂ ≡ length xs₁ + 1 = length-append xs₁ (new ∷ []) in
-    let m₁ : map₁ ≡ put map (4 * length (columns ps)) (fixedBytes true 4 old) = f (omega arith) ∙ ap (λ n. put map n (fixedBytes true 4 old)) (let q : 12 * i ≡ 4 * length (columns ps) = omega arith in q) in
-    let l₁ : length map₁ ≡ length map = ap length m₁ ∙ length-put map (4 * length (columns ps)) (fixedBytes true 4 old) (omega (arith, length-fixed true 4 old)) in
-    let h₁ : NumbersHeld 4 xs₁ map₁ = rw m₁ (held-more 4 (columns ps) map old h (omega arith) a) in
-    let m₂ : map₂ ≡ put map₁ (4 * length xs₁) (fixedBytes true 4 new) = g (omega arith) ∙ ap (λ n. put map₁ n (fixedBytes true 4 new)) (let q : 12 * i + 4 ≡ 4 * length xs₁ = omega arith in q) in
-    let l₂ : length map₂ ≡ length map = ap length m₂ ∙ length-put map₁ (4 * length xs₁) (fixedBytes true 4 new) (omega (arith, length-fixed true 4 new)) ∙ l₁ in
-    let h₂ : NumbersHeld 4 xs₂ map₂ = rw m₂ (held-more 4 xs₁ map₁ new h₁ (omega arith) b) in
-    let m₃ : map₃ ≡ put map₂ (4 * length xs₂) (fixedBytes true 4 depth) = k (omega arith) ∙ ap (λ n. put map₂ n (fixedBytes true 4 depth)) (let q : 12 * i + 8 ≡ 4 * length xs₂ = omega arith in q) in
-    rw (columns-append ps (place old new depth), m₃) (held-more 4 xs₂ map₂ depth h₂ (omega arith) d)
+    let m₁ : map₁ ≡ put map (numberSize * length (columns ps)) (fixedBytes true numberSize old) = f (omega arith) ∙ ap (λ n. put map n (fixedBytes true numberSize old)) (let q : placeSize * i ≡ numberSize * length (columns ps) = omega arith in q) in
+    let l₁ : length map₁ ≡ length map = ap length m₁ ∙ length-put map (numberSize * length (columns ps)) (fixedBytes true numberSize old) (omega (arith, length-fixed true numberSize old)) in
+    let h₁ : NumbersHeld numberSize xs₁ map₁ = rw m₁ (held-more numberSize (columns ps) map old h (omega arith) a) in
+    let m₂ : map₂ ≡ put map₁ (numberSize * length xs₁) (fixedBytes true numberSize new) = g (omega arith) ∙ ap (λ n. put map₁ n (fixedBytes true numberSize new)) (let q : placeSize * i + numberSize ≡ numberSize * length xs₁ = omega arith in q) in
+    let l₂ : length map₂ ≡ length map = ap length m₂ ∙ length-put map₁ (numberSize * length xs₁) (fixedBytes true numberSize new) (omega (arith, length-fixed true numberSize new)) ∙ l₁ in
+    let h₂ : NumbersHeld numberSize xs₂ map₂ = rw m₂ (held-more numberSize xs₁ map₁ new h₁ (omega arith) b) in
+    let m₃ : map₃ ≡ put map₂ (numberSize * length xs₂) (fixedBytes true numberSize depth) = k (omega arith) ∙ ap (λ n. put map₂ n (fixedBytes true numberSize depth)) (let q : placeSize * i + 2 * numberSize ≡ numberSize * length xs₂ = omega arith in q) in
+    rw (columns-append ps (place old new depth), m₃) (held-more numberSize xs₂ map₂ depth h₂ (omega arith) d)
 
 -- what is read in the search for a place
-pub old-read : (map : List ℕ) (i r : ℕ) → (i < length map / 12 → r ≡ numberAt 4 map (12 * i)) → {places : ℕ} (ps : List Place) → MapHeld ps map → places ≡ length (oldOffsets ps)
+pub old-read : (map : List ℕ) (i r : ℕ) → (i < length map / placeSize → r ≡ numberAt numberSize map (placeSize * i)) → {places : ℕ} (ps : List Place) → MapHeld ps map → places ≡ length (oldOffsets ps)
     → i < length (oldOffsets ps) → r ≡ getD (oldOffsets ps) i 0
 old-read map i r f ps h e l = old-held ps map h i (omega (arith, length-olds ps)) r f ∙ sym (old-of ps i)
 
@@ -243,7 +243,7 @@ unfolding lookedUp foundAt asMapped
 looked-held ps map places v h e =
     let i : ℕ = halved places (oldAt map) v 0 places in
     let r : i ≡ rankIn (oldOffsets ps) v = rank-held ps map places v h e in
-    let o : i < length map / 12 → oldAt map i ≡ numberAt 4 map (12 * i) = old-there map i (oldAt map i) refl in
+    let o : i < length map / placeSize → oldAt map i ≡ numberAt numberSize map (placeSize * i) = old-there map i (oldAt map i) refl in
     ⊎-elim
     (λ t. let l : i < places = ltb-yes {a = i} {b = places} t in
     pick-yes _ _ _ t

@@ -3,6 +3,7 @@ use mathlib.Core.Path.{_≡_}
 use Prim.Native.Nat.{ℕ}
 use mathlib.Core.List.{List, []}
 use lib.ListN.{take}
+use Rattle.readers.specs.Lists.{listBase}
 use Rattle.readers.specs.Abbreviations.{Placed, abbreviationsOf}
 use Rattle.readers.specs.declared.header.UnitHeader.{UnitHeader}
 use Rattle.marking.specs.Analysis.{Sections, EntryRow, analysed, analysisOf}
@@ -20,6 +21,6 @@ pub record Accepted (x : Sections) (room : Room) (section : List ℕ) (h : UnitH
 
 module _ (x : Sections) (room : Room) (section : List ℕ) (h : UnitHeader) (ds : List Placed) (rows : List EntryRow) (a : Accepted x room section h ds rows) where
   -- each row is that of its entry
-  pub accepted-follow : RowsOf (h .encoding) x (take (h .end) section) 0 [] 12 12 (itemsIn x (unitOf h section ds)) rows
+  pub accepted-follow : RowsOf (h .encoding) x (take (h .end) section) 0 [] (listBase (h .encoding)) (listBase (h .encoding)) (itemsIn x (unitOf h section ds)) rows
   unfolding itemsIn
   accepted-follow = items-rows x section (room .tables) h ds rows (a .header) (a .declared) (a .analysis)

@@ -136,7 +136,7 @@ module _ (r : Reading) (s table unit : List ℕ) (k : ℕ) where
         unfolding Next indicesFrom
         collect-end q l x u p h =
             let v : Passing x u list₀ t list n = g .1 x u p l in
-            let e : keptAt items parents ends marks t (v .stack) ≡ [] = subst (Next items parents ends marks t (v .stack)) q (a .next (v .stack) (p .small) (v .stood)) in
+            let e : keptAt items parents ends marks t (v .stack) ≡ [] = subst (Next items parents ends marks t (v .stack)) q (a .next (v .stack) (v .stood)) in
             onward-end _ _ _ _ _ _ (v .onward) (ap (indicesFrom x u k) e) [] (gathered-none list₀ h)
 
         module _ (y : KeptItem) (q : o ≡ Item′ y) where
@@ -146,7 +146,7 @@ module _ (r : Reading) (s table unit : List ℕ) (k : ℕ) where
 
             next-item : NextItem items parents ends marks t (now .stack) y
             unfolding Next
-            next-item = subst (Next items parents ends marks t (now .stack)) q (a .next (now .stack) (p .small) (now .stood))
+            next-item = subst (Next items parents ends marks t (now .stack)) q (a .next (now .stack) (now .stood))
 
             deep-here : AllRead x u (next-item .standing ∷ keptAt items parents ends marks (y .next) (next-item .after))
             deep-here = subst (AllRead x u) (next-item .whole) (now .deep)

@@ -135,9 +135,6 @@ module _ (x : Sections) (tables : Rooms) (section : List ℕ) (h : UnitHeader) (
   length-unit : length unit ≡ length (take (h .end) section)
   length-unit = ap length is
 
-  below : length unit < 2 ^ 32
-  below = let l : length (take (h .end) section) < 0xfffffff4 = law .below in let z : length unit < 2 ^ 32 = omega (arith, length-unit) in z
-
   -- the column of ends has room for all entries
   entries-fit : entryCount (itemsBy how s index unit (h .first .0)) ≤ length ends
   unfolding itemsIn
@@ -149,12 +146,12 @@ module _ (x : Sections) (tables : Rooms) (section : List ℕ) (h : UnitHeader) (
       omega (arith, w .ends-room)
 
   abbrev pub FilledBy : List ℕ → Type 0
-  FilledBy ends′ = length unit < 2 ^ 32 → entryCount (itemsBy how s index unit (h .first .0)) ≤ length ends → EndsHeld ends′ 0 (itemsBy how s index unit (h .first .0))
+  FilledBy ends′ = entryCount (itemsBy how s index unit (h .first .0)) ≤ length ends → EndsHeld ends′ 0 (itemsBy how s index unit (h .first .0))
 
   pub unit-passes : (ends′ : List ℕ) → FilledBy ends′ → PassInput x own how s index unit parents ends′ marks (h .first .0)
   unit-passes ends′ fe =
-      passable x own how s index unit read-as found parents ends′ marks below parents-there
-      (subst (EndsHeld ends′ 0) (items-are x own how s index unit read-as found) (fe below entries-fit))
+      passable x own how s index unit read-as found parents ends′ marks parents-there
+      (subst (EndsHeld ends′ 0) (items-are x own how s index unit read-as found) (fe entries-fit))
       (accepted-readable x (roomBy tables 0 0 0 0 0) section h ds rows (accepted (roomBy tables 0 0 0 0 0) refl) marks)
 
   pub unit-writable : (map ranges locations strings out : List ℕ) → Blank map ranges locations strings out
@@ -164,7 +161,7 @@ module _ (x : Sections) (tables : Rooms) (section : List ℕ) (h : UnitHeader) (
         first-is = refl;
         after = law .after;
         inside = let l : h .first .0 ≤ length (take (h .end) section) = law .inside in omega (arith, length-unit);
-        wide = inl (law .known .offset-is);
+        wide = law .known .offset-is;
         short =
             subst (λ (n : ℕ). n < lengthSize (h .encoding) + 256 ^ h .encoding .«offset_size») (sym length-unit) (law .short);
         places-are = refl;
@@ -190,7 +187,7 @@ rewrite-lists x room u entries kept l items f n =
 
 module _ (t : Bool) (section : List ℕ) (h : UnitHeader) (s index parents ends marks : List ℕ) (entries kept : ℕ) (map ranges locations strings out unit : List ℕ) (is : unit ≡ take (h .end) section)
     (ends′ : List ℕ)
-    (fe : length unit < 2 ^ 32 → entryCount (itemsBy (reading (h .abbreviations) (h .encoding)) s index unit (h .first .0)) ≤ length ends → EndsHeld ends′ 0 (itemsBy (reading (h .abbreviations) (h .encoding)) s index unit (h .first .0)))
+    (fe : entryCount (itemsBy (reading (h .abbreviations) (h .encoding)) s index unit (h .first .0)) ≤ length ends → EndsHeld ends′ 0 (itemsBy (reading (h .abbreviations) (h .encoding)) s index unit (h .first .0)))
     (listed : Listed) (ranges′ locations′ strings′ : List ℕ)
     (il : (x : Sections) (u : Unit′) → PassInput x u (reading (h .abbreviations) (h .encoding)) s index unit parents ends′ marks (h .first .0) → h .first .0 ≡ u .header .first .0
     → ranges ≡ zeros (length ranges) → locations ≡ zeros (length locations) → strings ≡ zeros (length strings)

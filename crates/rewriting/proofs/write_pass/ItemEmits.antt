@@ -165,12 +165,12 @@ module _ (r : Reading) (s table unit parents ends marks : List ℕ) (first : ℕ
         pub writing-end : o ≡ End → Whole out₀ (To to) out
         unfolding refusalFrom bytesFrom
         writing-end q =
-            let e : keptAt items parents ends marks t (g .stack) ≡ [] = next-end items parents ends marks unit t o a q (g .stack) (p .small) (g .stood) in
+            let e : keptAt items parents ends marks t (g .stack) ≡ [] = next-end items parents ends marks unit t o a q (g .stack) (g .stood) in
             g .onward (To to) out (subst (λ (kept : List NestedItem). From kept out to (To to) out) (sym e) (emits-none out to))
 
         module _ (y : KeptItem) (q : o ≡ Item′ y) where
           next : NextItem items parents ends marks t (g .stack) y
-          next = next-item items parents ends marks unit t o a y q (g .stack) (p .small) (g .stood)
+          next = next-item items parents ends marks unit t o a y q (g .stack) (g .stood)
 
           abbrev others : List NestedItem
           others = keptAt items parents ends marks (y .next) (next .after)

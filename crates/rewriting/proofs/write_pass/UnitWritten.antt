@@ -24,7 +24,7 @@ use Rattle.marking.specs.Columns.{padTo}
 use Rattle.rewriting.specs.Places.{NestedItem, keptFrom, offsetOf, sizeOf, Place, placesFrom, sizeFrom}
 use Rattle.rewriting.specs.Rewriting.{Unit as Unit′, Lists, Room, Collected, rewritten, refused, itemsIn, readsOr, readsAt, newValue, refusalFrom, bytesFrom, unitBytes, orRefused, rewriteOf}
 use Rattle.rewriting.specs.inner.NextKept.{itemsBy}
-use Rattle.rewriting.specs.Written.{runBytes, columns, mapBytes}
+use Rattle.rewriting.specs.Written.{numberSize, placeSize, runBytes, columns, mapBytes}
 use Rattle.rewriting.specs.inner.Written.{MapHeld}
 use Rattle.rewriting.specs.inner.Bounds.{Bounds}
 use Rattle.rewriting.specs.inner.IndexLists.{ReadDeep, AllRead, PassInput}
@@ -161,10 +161,10 @@ module _ (r : Reading) (s table unit parents ends marks : List ℕ) (first entri
 
   module _ (x : Sections) (u : Unit′) (lists : Lists) (room : Room) (p : PassInput x u r s table unit parents ends marks first) (l : ListsLent lists rl rc ll lc sl sc) (w : Writable u room unit first map out) where
     places-are : z .places ≡ length items
-    places-are = m .found (p .small) (p .holds, p .ends-hold) .0
+    places-are = m .found (p .holds, p .ends-hold) .0
 
     bytes-are : z .bytes ≡ first + sizeFrom items
-    bytes-are = m .found (p .small) (p .holds, p .ends-hold) .1
+    bytes-are = m .found (p .holds, p .ends-hold) .1
 
     -- of the unit's own items
     by-items : (a : Answer) (out′ : List ℕ) → WriteAnswer (rewriteOf x room u entries kept lists items) a (length map) (length out) map′ out′
@@ -173,18 +173,18 @@ module _ (r : Reading) (s table unit parents ends marks : List ℕ) (first entri
         subst (λ (is : List Item). WriteAnswer (rewriteOf x room u entries kept lists (keptFrom marks 0 [] is)) a (length map) (length out) map′ out′)
         (items-here true r s table unit parents ends marks first x u p (w .first-is)) h
 
-    no-map : length map′ / 12 < z .places → WriteAnswer (rewriteOf x room u entries kept lists items) (Refused 13) (length map) (length out) map′ out
+    no-map : length map′ / placeSize < z .places → WriteAnswer (rewriteOf x room u entries kept lists items) (Refused 13) (length map) (length out) map′ out
     no-map k =
         write-refused _ 13 (length map) (length out) map′ out
         (case-map x u lists room entries kept items first (w .first-is) (let q : room .places < length items = omega (arith, w .places-are, places-are, as-long) in q))
 
-    no-out : z .places ≤ length map′ / 12 → length out < z .bytes → WriteAnswer (rewriteOf x room u entries kept lists items) (Refused 14) (length map) (length out) map′ out
+    no-out : z .places ≤ length map′ / placeSize → length out < z .bytes → WriteAnswer (rewriteOf x room u entries kept lists items) (Refused 14) (length map) (length out) map′ out
     no-out k b =
         write-refused _ 14 (length map) (length out) map′ out
         (case-out x u lists room entries kept items first (w .first-is) (let q : length items ≤ room .places = omega (arith, w .places-are, places-are, as-long) in q)
         (let q : room .bytes < first + sizeFrom items = omega (arith, w .bytes-are, bytes-are) in q))
 
-    module _ (few : z .places ≤ length map′ / 12) (less : z .bytes ≤ length out) (out₁ out₂ : List ℕ)
+    module _ (few : z .places ≤ length map′ / placeSize) (less : z .bytes ≤ length out) (out₁ out₂ : List ℕ)
         (bounds : List ℕ) (bounded : (ps : List Place) → MapHeld ps map′ → z .places ≡ length ps → Bounds ps bounds)
         (same : length out₁ ≡ length out)
         (at : ℕ) (headed : headerFits (r .encoding) unit first (z .bytes) out ≡ true → (at ≡ first) × (out₁ ≡ put out 0 (headerBytes (r .encoding) unit first (z .bytes))))
@@ -201,11 +201,11 @@ module _ (r : Reading) (s table unit parents ends marks : List ℕ) (first entri
       abbrev front : List ℕ
       front = headerBytes (r .encoding) unit first (z .bytes)
 
-      room-map : 12 * length items ≤ length map
+      room-map : placeSize * length items ≤ length map
       room-map = omega (arith, places-are, as-long)
 
       held : MapHeld ps map′
-      held = map-held r s table unit parents ends marks first map map′ fills (p .small) (p .holds, p .ends-hold) room-map (w .map-blank)
+      held = map-held r s table unit parents ends marks first map map′ fills (p .holds, p .ends-hold) room-map (w .map-blank)
 
       places : z .places ≡ length ps
       places = places-are ∙ sym (length-places first items)
@@ -288,9 +288,9 @@ module _ (r : Reading) (s table unit parents ends marks : List ℕ) (first entri
       map-there : map′ ≡ mapBytes ps ++ zeros (length map - length (mapBytes ps))
       unfolding mapBytes
       map-there =
-          fills .bytes (p .small) (p .holds, p .ends-hold) room-map (w .map-blank)
+          fills .bytes (p .holds, p .ends-hold) room-map (w .map-blank)
           ∙ ap (λ (n : ℕ). mapBytes ps ++ zeros n)
-          (let q : length map - 12 * length items ≡ length map - length (runBytes 4 (columns ps)) = omega (arith, length-run 4 (columns ps), length-columns ps, length-places first items) in q)
+          (let q : length map - placeSize * length items ≡ length map - length (runBytes numberSize (columns ps)) = omega (arith, length-run numberSize (columns ps), length-columns ps, length-places first items) in q)
 
       is-written : (to : ℕ) → emitted ≡ To to → refusalFrom x u lists ps items ≡ 0
       is-written to q =
@@ -321,13 +321,13 @@ module _ (r : Reading) (s table unit parents ends marks : List ℕ) (first entri
             out-left = λ _. out-is front body out out₁ out₂ first length-front (w .out-blank) (header-there .1) (it .fine room-out n .1) ∙ ap (padTo (length out)) (sym unit-bytes-are) ∙ sym (ap (outputFor (length out)) c);
           }
 
-  pub map-short : length map′ / 12 < z .places → Goal (Refused 13) out
+  pub map-short : length map′ / placeSize < z .places → Goal (Refused 13) out
   map-short k x u lists room p l w = by-items x u lists room p l w (Refused 13) out (no-map x u lists room p l w k)
 
-  pub out-short : z .places ≤ length map′ / 12 → length out < z .bytes → Goal (Refused 14) out
+  pub out-short : z .places ≤ length map′ / placeSize → length out < z .bytes → Goal (Refused 14) out
   out-short k b x u lists room p l w = by-items x u lists room p l w (Refused 14) out (no-out x u lists room p l w k b)
 
-  module _ (few : z .places ≤ length map′ / 12) (less : z .bytes ≤ length out) (out₁ out₂ : List ℕ)
+  module _ (few : z .places ≤ length map′ / placeSize) (less : z .bytes ≤ length out) (out₁ out₂ : List ℕ)
       (bounds : List ℕ) (bounded : (ps : List Place) → MapHeld ps map′ → z .places ≡ length ps → Bounds ps bounds)
       (same : length out₁ ≡ length out)
       (at : ℕ) (headed : headerFits (r .encoding) unit first (z .bytes) out ≡ true → (at ≡ first) × (out₁ ≡ put out 0 (headerBytes (r .encoding) unit first (z .bytes))))

@@ -1,6 +1,6 @@
 -- What the functions of the index lists answer.
 use mathlib.Core.Path.{_≡_}
-use Prim.Native.Nat.{ℕ, _^_, _<_}
+use Prim.Native.Nat.{ℕ}
 use mathlib.Core.Bool.{Bool, false}
 use mathlib.Core.List.{List, [], _∷_, _++_}
 use mathlib.Core.Option.{Option, none, some}
@@ -72,11 +72,9 @@ module _ (x : Sections) (u : Unit′) where
   AllRead [] = Unit {0}
   AllRead (s ∷ rest) = ReadDeep (offsetOf (s .item)) × AllRead rest
 
--- what a pass through the kept items of a unit asks for: a unit below 4 GiB, its parents and ends, each kept item
--- readable
+-- what a pass through the kept items of a unit asks for: its parents and ends, each kept item readable
 pub record PassInput (x : Sections) (u : Unit′) (r : Reading) (abbreviations table unit parents ends marks : List ℕ)
     (first : ℕ) : Type 0 where
-  pub small : length unit < 2 ^ 32
   pub read : ReadAs x u r abbreviations unit
   pub found : TablesFound u r abbreviations table
   pub holds : HoldsFrom parents 0 (parentsFrom 0 [] (itemsBy r abbreviations table unit first))

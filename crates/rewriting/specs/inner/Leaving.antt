@@ -23,6 +23,7 @@ use Rattle.rewriting.specs.Places.{keptFrom}
 use Rattle.rewriting.specs.Rewriting.{Unit as Unit′, itemsIn, Lists, Room, noLists, listsFit, marksCollected}
 use Rattle.rewriting.specs.Rewriting.{Collected, untouched, rewritten, refused}
 use Rattle.rewriting.specs.inner.Emission.{ListsLent}
+use Rattle.rewriting.specs.Written.{placeSize}
 use Rattle.rewriting.specs.Outputs.{roomBy, listCount, answerFor, mapFor, outputFor, listOr, listFor, rangesIn, locationsIn, stringsIn}
 use Rattle.rewriting.specs.declared.collect.Listed.{Listed}
 use Rattle.rewriting.specs.declared.collect.Listed.the-variants.{Made, Short}
@@ -130,7 +131,7 @@ pub record Writable (u : Unit′) (room : Room) (unit : List ℕ) (first : ℕ) 
   pub inside : first ≤ length unit
   pub wide : (u .header .encoding .«offset_size» ≡ 4) ⊎ (u .header .encoding .«offset_size» ≡ 8)
   pub short : length unit < lengthSize (u .header .encoding) + 256 ^ u .header .encoding .«offset_size»
-  pub places-are : room .places ≡ length map / 12
+  pub places-are : room .places ≡ length map / placeSize
   pub bytes-are : room .bytes ≡ length out
   pub map-blank : map ≡ zeros (length map)
   pub out-blank : out ≡ zeros (length out)

@@ -1,5 +1,5 @@
 -- What the passes through the kept items of a unit find: how many there are, and how many bytes they take.
-use Prim.Native.Nat.{ℕ, _+_, _^_, _≤_, _<_}
+use Prim.Native.Nat.{ℕ, _+_, _≤_}
 use mathlib.Core.Path.{_≡_}
 use mathlib.Core.List.{List, []}
 use lib.ListN.{length}
@@ -22,5 +22,5 @@ module _ (items : ℕ → List Item) where
   pub record Measures (unit parents ends marks : List ℕ) (first : ℕ) (z : Size) : Type 0 where
     pub room : first + z .places ≤ z .bytes
     pub inside : first ≤ length unit → z .bytes ≤ length unit
-    pub found : length unit < 2 ^ 32 → ColumnsHeld parents ends first
+    pub found : ColumnsHeld parents ends first
         → (z .places ≡ length (keptOfUnit marks first)) × (z .bytes ≡ first + sizeFrom (keptOfUnit marks first))

@@ -1,5 +1,5 @@
 -- What `next_kept` answers: the next kept item of a unit, and how the pass through the kept items goes on.
-use Prim.Native.Nat.{ℕ, _^_, _≤_, _<_}
+use Prim.Native.Nat.{ℕ, _≤_, _<_}
 use mathlib.Core.Path.{_≡_}
 use mathlib.Core.Bool.{Bool, true, false}
 use mathlib.Core.List.{List, [], _∷_}
@@ -75,7 +75,7 @@ module _ (items : ℕ → List Item) (parents ends : List ℕ) where
     Next s stack (Item′ x) = NextItem s stack x
     Next s stack End = keptAt s stack ≡ []
 
-    -- THE answer, of units below 4 GiB
+    -- THE answer
     pub record Answers (unit : List ℕ) (s : PassPosition) (r : KeptStep) : Type 0 where
       pub forward : Forward unit (s .at .at) r
-      pub next : (stack : List ℕ) → length unit < 2 ^ 32 → Stood s stack → Next s stack r
+      pub next : (stack : List ℕ) → Stood s stack → Next s stack r

@@ -13,7 +13,7 @@ use Rattle.rewriting.specs.Indices.{insert}
 use Rattle.rewriting.specs.Places.{Place, oldOffsets}
 use Rattle.rewriting.specs.declared.map.Mapped.{Mapped}
 use Rattle.rewriting.specs.declared.map.Mapped.the-variants.{To, Nothing}
-use Rattle.rewriting.specs.Written.{columns, groupsFit, runBytes}
+use Rattle.rewriting.specs.Written.{numberSize, placeSize, columns, groupsFit, runBytes}
 
 unfoldable pub bytesFit : ℕ → ℕ → ℕ → Bool
 bytesFit value width n = leb width 8 and leb width n and ltb value (256 ^ width)
@@ -38,20 +38,20 @@ pub record NumbersHeld (width : ℕ) (xs bytes : List ℕ) : Type 0 where
   pub small : (v : ℕ) → Member v xs → v < 256 ^ width
 
 pub record ListHeld (xs bytes : List ℕ) : Type 0 where
-  pub held : NumbersHeld 8 xs bytes
+  pub held : NumbersHeld numberSize xs bytes
   pub ascending : Ascending xs
 
 -- the last number moves down to a place, and those from there on move up
 abbrev pub MovesLast : ℕ → ℕ → List ℕ → List ℕ → Type 0
 MovesLast at count list after =
-    (xs : List ℕ) (v : ℕ) → NumbersHeld 8 (xs ++ (v ∷ [])) list → count ≡ suc (length xs) → at ≤ length xs
-    → NumbersHeld 8 (take at xs ++ (v ∷ drop at xs)) after
+    (xs : List ℕ) (v : ℕ) → NumbersHeld numberSize (xs ++ (v ∷ [])) list → count ≡ suc (length xs) → at ≤ length xs
+    → NumbersHeld numberSize (take at xs ++ (v ∷ drop at xs)) after
 
 -- one number more: how many there are then, and the list, which is as it was where it has no room
 pub record Inserted (xs : List ℕ) (value : ℕ) (list : List ℕ) (count : ℕ) (after : List ℕ) : Type 0 where
   pub counted : count ≡ length (insert value xs)
-  pub holds : length (insert value xs) ≤ length list / 8 → ListHeld (insert value xs) after
-  pub full : length list / 8 < length (insert value xs) → after ≡ list
+  pub holds : length (insert value xs) ≤ length list / numberSize → ListHeld (insert value xs) after
+  pub full : length list / numberSize < length (insert value xs) → after ≡ list
 
 abbrev pub place : ℕ → ℕ → ℕ → Place
 place old new depth = record { old = old; new = new; depth = depth }
@@ -59,15 +59,14 @@ place old new depth = record { old = old; new = new; depth = depth }
 abbrev pub withPlace : List Place → Place → List Place
 withPlace ps p = ps ++ (p ∷ [])
 
--- one place more in a map that has room for it, each of its numbers within four bytes
+-- one place more in a map that has room for it
 abbrev pub WithPlace : ℕ → ℕ → ℕ → ℕ → List ℕ → List ℕ → Type 0
 WithPlace i old new depth map after =
-    (ps : List Place) → NumbersHeld 4 (columns ps) map → i ≡ length ps → i < length map / 12
-    → old < 4294967296 → new < 4294967296 → depth < 4294967296
-    → NumbersHeld 4 (columns (withPlace ps (place old new depth))) after
+    (ps : List Place) → NumbersHeld numberSize (columns ps) map → i ≡ length ps → i < length map / placeSize
+    → NumbersHeld numberSize (columns (withPlace ps (place old new depth))) after
 
 pub record MapHeld (ps : List Place) (bytes : List ℕ) : Type 0 where
-  pub held : NumbersHeld 4 (columns ps) bytes
+  pub held : NumbersHeld numberSize (columns ps) bytes
   pub ascending : Ascending (oldOffsets ps)
 
 unfoldable pub asMapped : Option ℕ → Mapped

@@ -1,6 +1,6 @@
 -- `analyse_entries` writes the rows one after the other, and answers what is analysed from the first entry on. The measure is what is left of the unit. Assumes nothing.
 use mathlib.Core.Path.{refl, ap, sym, _∙_}
-use Prim.Native.Nat.{_-_, _<_}
+use Prim.Native.Nat.{_-_, _^_, _<_}
 use native.Mathlib.Omega.{arith}
 use borrow.Author.Needs.{needs}
 use lib.ListN.{length}
@@ -26,8 +26,17 @@ abbrev μ-loop : tie.MeasureT-loop
 outside-requires : tie.Need-outside-requires Inv-loop μ-loop
 outside-requires c κs = tt
 
+list-base-requires : tie.Need-list-base-requires Inv-loop μ-loop
+list-base-requires c κs = tt
+
+list-base-requires-2 : tie.Need-list-base-requires-2 Inv-loop μ-loop
+list-base-requires-2 c κs = tt
+
 loop-holds : tie.Need-loop-holds Inv-loop μ-loop
-loop-holds c = stage-start _ _ _ _ _ _ _ _ _ _ _ _ _ (c .outside .ensures) (c .before .before .before .before .before .before .before .before .before .before .before .before .pre)
+loop-holds c =
+    stage-start _ _ _ _ _ _ _ _ _ _ _ _ _ _ _ (c .before .before .outside .ensures) (c .before .list-base .ensures) (c .list-base2 .ensures)
+    (c .before .before .before .before .before .before .before .before .before .before .before .before .before .before .good .1 .1 .1 .1 .1 .1 .1 .1 .1 .1 .1 .1 .0 .1)
+    (c .before .before .before .before .before .before .before .before .before .before .before .before .before .before .pre)
 
 entry-head-requires : tie.Need-entry-head-requires Inv-loop μ-loop
 entry-head-requires c κs = tt
@@ -109,10 +118,9 @@ returns-3 : tie.Need-returns-3 Inv-loop μ-loop
 unfolding valuesOfEntry baseOf
 returns-3 c = head-over (c .before .before .before .before .before .before .before .before .before .before .before .before .before .before .before .before .before .before .before .loop .inv) _ _ (head-step _ _ _ _ _ _ (entry-headed _ _ _ _ _ _ _ (c .before .before .before .before .before .before .before .before .before .before .before .before .before .before .before .before .before .before .entry-head .ensures)) _ (c .before .before .before .before .before .before .before .before .before .before .before .before .before .before .before .before .x .given .1) _ refl) (c .before .before .before .before .before .before .before .before .before .before .before .before .before .before .if1 .left) _ _ (c .before .before .before .before .before .before .before .before .before .base-after .ensures) (c .before .before .before .before .before .before .before .before .base-after2 .ensures) _ (c .before .before .before .before .before .before .analyse-entry .ensures .1) _ _ _ (sym (c .before .before .root .given .1) ∙ c .before .before .before .before .before .before .analyse-entry .ensures .0) (c .if2 .taken)
 
--- the index of an entry is small
-few : (c : tie.Else2 Inv-loop μ-loop) → c .before .before .before .before .before .before .before .before .before .before .before .before .before .before .before .before .before .before .before .loop .count < 0xfffffffe
-unfolding valuesOfEntry baseOf
-few c = head-ahead (c .before .before .before .before .before .before .before .before .before .before .before .before .before .before .before .before .before .before .before .loop .inv) _ _ (head-step _ _ _ _ _ _ (entry-headed _ _ _ _ _ _ _ (c .before .before .before .before .before .before .before .before .before .before .before .before .before .before .before .before .before .before .entry-head .ensures)) _ (c .before .before .before .before .before .before .before .before .before .before .before .before .before .before .before .before .x .given .1) _ refl) (c .before .before .before .before .before .before .before .before .before .before .before .before .before .before .if1 .left) _ _ (c .before .before .before .before .before .before .before .before .before .base-after .ensures) (c .before .before .before .before .before .before .before .before .base-after2 .ensures) _ (c .before .before .before .before .before .before .analyse-entry .ensures .1) _ _ _ (sym (c .before .before .root .given .1) ∙ c .before .before .before .before .before .before .analyse-entry .ensures .0) .2
+-- the columns have room for the entry
+few : (c : tie.Else2 Inv-loop μ-loop) → c .before .before .before .before .before .before .before .before .before .before .before .before .before .before .before .before .before .before .before .loop .count < 2 ^ 60
+few c = omega (arith, c .before .before .before .before .before .before .before .before .before .before .before .before .before .before .if1 .left, c .before .before .before .before .before .before .before .before .before .before .before .before .before .before .before .before .before .before .before .loop .inv .few)
 
 mul-offsets : tie.Need-mul-offsets Inv-loop μ-loop
 mul-offsets c = omega (arith, few c)
@@ -135,9 +143,6 @@ mul-reference-ends c = omega (arith, few c)
 slice-write-reference-ends : tie.Need-slice-write-reference-ends Inv-loop μ-loop
 slice-write-reference-ends c = omega (arith, c .before .before .before .before .before .before .before .before .before .before .before .before .before .before .before .before .before .before .before .loop .inv .ends-are .size, c .before .before .before .before .before .before .before .before .before .before .before .before .before .before .before .before .before .before .before .loop .inv .ends-room, c .before .before .before .before .before .before .before .before .before .before .before .before .before .before .if1 .left)
 
-cast-t47 : tie.Need-cast-t47 Inv-loop μ-loop
-cast-t47 c = omega (arith, few c)
-
 after-entry-requires : tie.Need-after-entry-requires Inv-loop μ-loop
 after-entry-requires c κs = tt
 
@@ -159,7 +164,7 @@ after-terminator-requires : tie.Need-after-terminator-requires Inv-loop μ-loop
 after-terminator-requires c κs = tt
 
 loop-less-2 : tie.Need-loop-less-2 Inv-loop μ-loop
-loop-less-2 c = let a = terminator-inside (c .before .before .before .before .before .before .before .before .before .before .before .before .before .before .before .before .before .before .before .args .e) _ _ _ _ _ (sym (headed-terminator (c .before .before .before .before .before .before .before .before .before .before .before .before .before .before .before .before .before .before .before .args .e) _ _ _ _ _ (entry-headed _ _ _ _ _ _ _ (c .before .before .before .before .before .entry-head .ensures)) _ (c .before .before .before .next .given .1))) in omega (arith, a .0, a .1)
+loop-less-2 c = let a = terminator-inside (c .before .before .before .before .before .before .before .before .before .before .before .before .before .before .before .before .before .before .before .before .before .args .e) _ _ _ _ _ (sym (headed-terminator (c .before .before .before .before .before .before .before .before .before .before .before .before .before .before .before .before .before .before .before .before .before .args .e) _ _ _ _ _ (entry-headed _ _ _ _ _ _ _ (c .before .before .before .before .before .entry-head .ensures)) _ (c .before .before .before .next .given .1))) in omega (arith, a .0, a .1)
 
 loop-again-2 : tie.Need-loop-again-2 Inv-loop μ-loop
 loop-again-2 c = stage-terminator (c .before .before .before .before .before .before .loop .inv) _ (headed-terminator _ _ _ _ _ _ (entry-headed _ _ _ _ _ _ _ (c .before .before .before .before .before .entry-head .ensures)) _ (c .before .before .before .next .given .1)) _ (c .after-terminator .ensures)
@@ -213,6 +218,8 @@ analyse-entries-spec =
     Inv-loop
     μ-loop
     outside-requires
+    list-base-requires
+    list-base-requires-2
     loop-holds
     entry-head-requires
     enum-known-x
@@ -247,7 +254,6 @@ analyse-entries-spec =
     slice-write-roots
     mul-reference-ends
     slice-write-reference-ends
-    cast-t47
     after-entry-requires
     add-count
     loop-less

@@ -6,9 +6,6 @@ use Rattle.marking.proofs.analysis.clear_columns.Tie as tie
 clear-requires : tie.Need-clear-requires
 clear-requires c κs = search needs
 
-clear-indexes-requires : tie.Need-clear-indexes-requires
-clear-indexes-requires c κs = search needs
-
 clear-bytes-requires : tie.Need-clear-bytes-requires
 clear-bytes-requires c κs = search needs
 
@@ -17,6 +14,9 @@ clear-requires-2 c κs = search needs
 
 clear-requires-3 : tie.Need-clear-requires-3
 clear-requires-3 c κs = search needs
+
+clear-requires-4 : tie.Need-clear-requires-4
+clear-requires-4 c κs = search needs
 
 same-length : tie.Need-same-length
 same-length c = search needs
@@ -37,12 +37,12 @@ returns : tie.Need-returns
 returns c = (
   c .before .before .before .before .before .before .before .before .before .before .before .before .before .before .before .before .before .before .clear .ensures,
   (
-    c .before .before .before .before .before .before .before .before .before .before .before .before .before .before .clear-indexes .ensures,
+    c .before .before .before .before .before .before .before .before .before .before .before .before .before .before .clear2 .ensures,
     (
       c .before .before .before .before .before .before .before .before .before .before .clear-bytes .ensures,
       (
-        c .before .before .before .before .before .before .clear2 .ensures,
-        c .before .before .clear3 .ensures,
+        c .before .before .before .before .before .before .clear3 .ensures,
+        c .before .before .clear4 .ensures,
       ),
     ),
   ),
@@ -53,10 +53,10 @@ clear-columns-spec =
     tie.close
     (tie.spec
     clear-requires
-    clear-indexes-requires
-    clear-bytes-requires
     clear-requires-2
+    clear-bytes-requires
     clear-requires-3
+    clear-requires-4
     same-length
     same-length-2
     same-length-3

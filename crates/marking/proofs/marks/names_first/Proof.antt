@@ -42,9 +42,6 @@ mul-s-2 c = omega arith
 shared-slice-read-s : tie.Need-shared-slice-read-s Inv-loop μ-loop
 shared-slice-read-s c = omega arith
 
-cast-s : tie.Need-cast-s Inv-loop μ-loop
-cast-s c = omega (arith, c .shared-slice-known2 .given (2 * c .before .before .before .before .loop .j))
-
 shared-slice-read-if2 : tie.Need-shared-slice-read-if2 Inv-loop μ-loop
 shared-slice-read-if2 c =
     let s = c .before .before .before .before .before .before in
@@ -81,7 +78,6 @@ names-first-spec =
     mul-s
     mul-s-2
     shared-slice-read-s
-    cast-s
     shared-slice-read-if2
     returns
     add-j

@@ -28,9 +28,6 @@ mul-s-2 c = omega arith
 shared-slice-read-s : tie.Need-shared-slice-read-s Inv-loop μ-loop
 shared-slice-read-s c = omega arith
 
-cast-s : tie.Need-cast-s Inv-loop μ-loop
-cast-s c = omega (arith, c .shared-slice-known .given (2 * c .before .before .loop .j))
-
 returns : tie.Need-returns Inv-loop μ-loop
 returns c = search (every-fails, holder-bad)
 
@@ -45,9 +42,6 @@ mul-t-2 c = omega arith
 
 shared-slice-read-t : tie.Need-shared-slice-read-t Inv-loop μ-loop
 shared-slice-read-t c = omega arith
-
-cast-t : tie.Need-cast-t Inv-loop μ-loop
-cast-t c = omega (arith, c .shared-slice-known2 .given (2 * c .before .before .before .before .loop .j + 1))
 
 returns-2 : tie.Need-returns-2 Inv-loop μ-loop
 returns-2 c = search (every-fails, target-bad)
@@ -74,13 +68,11 @@ pairs-fit-spec =
     mul-s
     mul-s-2
     shared-slice-read-s
-    cast-s
     returns
     mul-t
     add-t
     mul-t-2
     shared-slice-read-t
-    cast-t
     returns-2
     add-j
     loop-less

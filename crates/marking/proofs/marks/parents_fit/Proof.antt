@@ -28,9 +28,6 @@ mul-p c = search needs
 shared-slice-read-p : tie.Need-shared-slice-read-p Inv-loop μ-loop
 shared-slice-read-p c = search needs
 
-cast-q : tie.Need-cast-q Inv-loop μ-loop
-cast-q c = omega (arith, c .before .shared-slice-known .given (c .before .before .before .loop .i))
-
 returns : tie.Need-returns Inv-loop μ-loop
 returns c = search (every-fails, parent-bad)
 
@@ -55,7 +52,6 @@ parents-fit-spec =
     loop-holds
     mul-p
     shared-slice-read-p
-    cast-q
     returns
     add-i
     loop-less

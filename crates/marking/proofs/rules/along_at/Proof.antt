@@ -15,9 +15,6 @@ mul-s-2 c = search needs
 shared-slice-read-s : tie.Need-shared-slice-read-s
 shared-slice-read-s c = search needs
 
-cast-s : tie.Need-cast-s
-cast-s c = omega (arith, c .shared-slice-known .given (2 * c .before .args .j))
-
 slice-read-if1 : tie.Need-slice-read-if1
 slice-read-if1 c = let s = c .before .before in pair-inside (s .args .pairs .now) (s .args .marks .now) (s .args .j) (s .pre .0) (s .pre .1) .0
 
@@ -35,9 +32,6 @@ mul-t-2 c = search needs
 
 shared-slice-read-t : tie.Need-shared-slice-read-t
 shared-slice-read-t c = search needs
-
-cast-t : tie.Need-cast-t
-cast-t c = omega (arith, c .shared-slice-known2 .given (2 * c .before .before .before .before .args .j + 1))
 
 slice-read-if2 : tie.Need-slice-read-if2
 slice-read-if2 c = let s = c .before .before .before .before .before in pair-inside (s .args .pairs .now) (s .args .marks .now) (s .args .j) (s .pre .0) (s .pre .1) .1
@@ -61,14 +55,12 @@ along-at-spec =
     mul-s
     mul-s-2
     shared-slice-read-s
-    cast-s
     slice-read-if1
     returns
     mul-t
     add-t
     mul-t-2
     shared-slice-read-t
-    cast-t
     slice-read-if2
     returns-2
     slice-write-marks

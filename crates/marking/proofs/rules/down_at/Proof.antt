@@ -14,9 +14,6 @@ shared-slice-read-p c = search needs
 returns : tie.Need-returns
 returns c = search down-none
 
-cast-q : tie.Need-cast-q
-cast-q c = omega (arith, c .before .shared-slice-known .given (c .before .before .args .i))
-
 slice-read-if2 : tie.Need-slice-read-if2
 slice-read-if2 c = search parent-before
 
@@ -45,7 +42,6 @@ down-at-spec =
     mul-p
     shared-slice-read-p
     returns
-    cast-q
     slice-read-if2
     returns-2
     slice-read-if3

@@ -20,9 +20,6 @@ shared-slice-read-p c = search needs
 returns-2 : tie.Need-returns-2
 returns-2 c = search up-none
 
-cast-q : tie.Need-cast-q
-cast-q c = omega (arith, c .before .shared-slice-known .given (c .before .before .before .before .args .i))
-
 slice-read-if3 : tie.Need-slice-read-if3
 slice-read-if3 c = search parent-before
 
@@ -47,7 +44,6 @@ up-at-spec =
     mul-p
     shared-slice-read-p
     returns-2
-    cast-q
     slice-read-if3
     returns-3
     slice-write-marks

@@ -14,6 +14,9 @@ mul-t8 c = search needs
 slice-read-t11 : tie.Need-slice-read-t11
 slice-read-t11 c = search needs
 
+cast-t12 : tie.Need-cast-t12
+cast-t12 c = omega (arith, c .slice-known3 .given (c .before .before .before .before .before .before .args .top))
+
 place-requires : tie.Need-place-requires
 place-requires c κs = search needs
 
@@ -42,6 +45,7 @@ visit-spec =
     returns
     mul-t8
     slice-read-t11
+    cast-t12
     place-requires
     returns-2
     follow-requires

@@ -1,3 +1,5 @@
+-- `find_entry` halves the offsets, which ascend. Assumes nothing.
+use borrow.Author.Needs.{needs}
 use Prim.Native.Nat.{_-_}
 use native.Mathlib.Omega.{arith}
 use Rattle.marking.proofs.Searches.{Halving, halving-start, halving-end, halving-found, halving-up, halving-down}
@@ -17,22 +19,19 @@ sub-middle : tie.Need-sub-middle Inv-loop μ-loop
 sub-middle c = c .before .loop .inv .forward
 
 add-middle : tie.Need-add-middle Inv-loop μ-loop
-add-middle c = omega (arith, c .before .loop .inv .forward, c .before .loop .inv .inside, c .before .loop .inv .searched .few, c .before .loop .inv .searched .inside)
+add-middle c = search needs
 
 mul-offset : tie.Need-mul-offset Inv-loop μ-loop
-mul-offset c = omega (arith, c .before .loop .inv .forward, c .before .loop .inv .inside, c .before .loop .inv .searched .few, c .before .loop .inv .searched .inside)
+mul-offset c = search needs
 
 shared-slice-read-offset : tie.Need-shared-slice-read-offset Inv-loop μ-loop
-shared-slice-read-offset c = omega (arith, c .before .before .loop .inv .forward, c .before .before .loop .inv .inside, c .before .before .loop .inv .searched .few, c .before .before .loop .inv .searched .inside)
-
-cast-t13 : tie.Need-cast-t13 Inv-loop μ-loop
-cast-t13 c = omega (arith, c .before .before .before .before .loop .inv .forward, c .before .before .before .before .loop .inv .inside, c .before .before .before .before .loop .inv .searched .few, c .before .before .before .before .loop .inv .searched .inside)
+shared-slice-read-offset c = search needs
 
 returns : tie.Need-returns Inv-loop μ-loop
 returns c = halving-found _ _ _ _ _ (c .before .before .before .before .loop .inv) _ (omega arith) (omega arith) (c .if1 .taken)
 
 add-low : tie.Need-add-low Inv-loop μ-loop
-add-low c = omega (arith, c .before .before .before .before .before .before .loop .inv .forward, c .before .before .before .before .before .before .loop .inv .inside, c .before .before .before .before .before .before .loop .inv .searched .few, c .before .before .before .before .before .before .loop .inv .searched .inside)
+add-low c = search needs
 
 loop-less : tie.Need-loop-less Inv-loop μ-loop
 loop-less c = omega arith
@@ -60,7 +59,6 @@ find-entry-spec =
     add-middle
     mul-offset
     shared-slice-read-offset
-    cast-t13
     returns
     add-low
     loop-less

@@ -23,26 +23,26 @@ analysis-call c =
     .before .before .before .before .before .before .before .before .before .before
 
 -- and from the analysis back
-abbrev work-cleared : tie.After-analyse → tie.After-clear-indexes2
+abbrev work-cleared : tie.After-analyse → tie.After-clear-indexes
 work-cleared c = c .before .before .before .before .before .before .before .before .before
 
 abbrev marks-cleared : tie.After-analyse → tie.After-clear-bytes
 marks-cleared c = work-cleared c .before .before .before .before
 
-abbrev pairs-cleared : tie.After-analyse → tie.After-clear-indexes
+abbrev pairs-cleared : tie.After-analyse → tie.After-clear
 pairs-cleared c = marks-cleared c .before .before .before .before
 
 abbrev start : tie.After-analyse → tie.Start
 start c = pairs-cleared c .before .before .before .before .before .before .before .before .before .before .before .before .before .before .before .before
 
-clear-indexes-requires : tie.Need-clear-indexes-requires
-clear-indexes-requires c κs = tt
+clear-requires : tie.Need-clear-requires
+clear-requires c κs = tt
 
 clear-bytes-requires : tie.Need-clear-bytes-requires
 clear-bytes-requires c κs = tt
 
-clear-indexes-requires-2 : tie.Need-clear-indexes-requires-2
-clear-indexes-requires-2 c κs = tt
+clear-indexes-requires : tie.Need-clear-indexes-requires
+clear-indexes-requires c κs = tt
 
 analyse-requires : tie.Need-analyse-requires
 analyse-requires c κs = tt
@@ -58,7 +58,7 @@ mark-rows-requires c κs =
     let a = analysis-call c in
     let k = a .analyse .kept .1 .1 .1 .1 .1 .1 .1 .1 .1 in
     unit-markable _ _ (length (start a .args .marks .now)) (length (start a .args .pairs .now)) _ _ _ _ _ _ _ _ _ _ _ _ _ _
-    (marks-cleared a .clear-bytes .ensures) (pairs-cleared a .clear-indexes .ensures)
+    (marks-cleared a .clear-bytes .ensures) (pairs-cleared a .clear .ensures)
     (k .0) (k .1 .0) (k .1 .1 .0) (k .1 .1 .1 .0) (k .1 .1 .1 .1 .0) _ _
     (sym (entries-found c .analysis2 .given .1) ∙ a .analyse .ensures .0 .1, a .analyse .ensures .1)
 
@@ -84,10 +84,10 @@ same-length-7 : tie.Need-same-length-7
 same-length-7 c = search needs
 
 same-length-8 : tie.Need-same-length-8
-same-length-8 c = pairs-cleared (refused-analysis c) .clear-indexes .kept .0
+same-length-8 c = pairs-cleared (refused-analysis c) .clear .kept .0
 
 same-length-9 : tie.Need-same-length-9
-same-length-9 c = work-cleared (refused-analysis c) .clear-indexes2 .kept .0
+same-length-9 c = work-cleared (refused-analysis c) .clear-indexes .kept .0
 
 returns : tie.Need-returns
 returns c =
@@ -95,9 +95,9 @@ returns c =
     let w =
     with-last
     (unit-refused _ _ (length (start a .args .marks .now)) (length (start a .args .pairs .now)) _ _ _ _ _ _ _ _ _ _ _ _ _ _
-    (marks-cleared a .clear-bytes .ensures) (pairs-cleared a .clear-indexes .ensures) _
+    (marks-cleared a .clear-bytes .ensures) (pairs-cleared a .clear .ensures) _
     (sym (c .before .analysis .given .1) ∙ a .analyse .ensures .0 .1, a .analyse .ensures .1))
-    (work-cleared a .clear-indexes2 .ensures) in
+    (work-cleared a .clear-indexes .ensures) in
     ((a .analyse .ensures .0 .0, w .0), w .1)
 
 same-length-10 : tie.Need-same-length-10
@@ -122,10 +122,10 @@ same-length-16 : tie.Need-same-length-16
 same-length-16 c = search needs
 
 same-length-17 : tie.Need-same-length-17
-same-length-17 c = rows-call c .mark-rows .kept .1 .1 .1 .1 .1 .1 .1 .0 ∙ pairs-cleared (analysis-call (rows-call c .before)) .clear-indexes .kept .0
+same-length-17 c = rows-call c .mark-rows .kept .1 .1 .1 .1 .1 .1 .1 .0 ∙ pairs-cleared (analysis-call (rows-call c .before)) .clear .kept .0
 
 same-length-18 : tie.Need-same-length-18
-same-length-18 c = rows-call c .mark-rows .kept .1 .1 .1 .1 .1 .1 .1 .1 .0 ∙ work-cleared (analysis-call (rows-call c .before)) .clear-indexes2 .kept .0
+same-length-18 c = rows-call c .mark-rows .kept .1 .1 .1 .1 .1 .1 .1 .1 .0 ∙ work-cleared (analysis-call (rows-call c .before)) .clear-indexes .kept .0
 
 returns-2 : tie.Need-returns-2
 returns-2 c =
@@ -135,20 +135,20 @@ returns-2 c =
     let w =
     with-last
     (unit-marked _ _ (length (start a .args .marks .now)) (length (start a .args .pairs .now)) _ _ _ _ _ _ _ _ _ _ _ _ _ _
-    (marks-cleared a .clear-bytes .ensures) (pairs-cleared a .clear-indexes .ensures)
+    (marks-cleared a .clear-bytes .ensures) (pairs-cleared a .clear .ensures)
     (k .0) (k .1 .0) (k .1 .1 .0) (k .1 .1 .1 .0) (k .1 .1 .1 .1 .0) _ _
     (sym (entries-found (rows-call c .before) .analysis2 .given .1) ∙ a .analyse .ensures .0 .1, a .analyse .ensures .1)
     _ _ _ (m .0) (m .1 .0) (m .1 .1 .0))
-    (m .1 .1 .1 ∙ ap zeros (work-cleared a .clear-indexes2 .kept .0)) in
+    (m .1 .1 .1 ∙ ap zeros (work-cleared a .clear-indexes .kept .0)) in
     ((a .analyse .ensures .0 .0, w .0), w .1)
 
 pub mark-unit-spec : {M : Type 1} → statement M
 mark-unit-spec =
     tie.close
     (tie.spec
-    clear-indexes-requires
+    clear-requires
     clear-bytes-requires
-    clear-indexes-requires-2
+    clear-indexes-requires
     analyse-requires
     enum-known-analysis
     enum-known-analysis-2

@@ -18,35 +18,29 @@ abbrev μ-loop : tie.MeasureT-loop
 loop-holds : tie.Need-loop-holds Inv-loop μ-loop
 loop-holds c = λ rows h. turning-start _ _ _ _ _ rows h
 
-cast-if1 : tie.Need-cast-if1 Inv-loop μ-loop
-cast-if1 c = search needs
-
-cast-k : tie.Need-cast-k Inv-loop μ-loop
-cast-k c = search needs
-
 mul-to : tie.Need-mul-to Inv-loop μ-loop
-mul-to c = omega (arith, ends-inside _ _ _ _ _ _ (c .before .before .before .before .before .before .before .before .pre .held))
+mul-to c = omega (arith, ends-inside _ _ _ _ _ _ (c .before .before .before .before .before .before .pre .held))
 
 shared-slice-read-to : tie.Need-shared-slice-read-to Inv-loop μ-loop
-shared-slice-read-to c = omega (arith, ends-inside _ _ _ _ _ _ (c .before .before .before .before .before .before .before .before .before .pre .held))
+shared-slice-read-to c = omega (arith, ends-inside _ _ _ _ _ _ (c .before .before .before .before .before .before .before .pre .held))
 
 resolve-entry-requires : tie.Need-resolve-entry-requires Inv-loop μ-loop
-resolve-entry-requires c κs = let k = c .before .before .before .before .before .before .before .before .before .before .pre in turning-ready _ _ _ _ _ _ (k .held) _ _ _ _ (c .before .before .before .before .before .loop .inv (k .rows) (k .held)) (c .before .before .before .if1 .taken)
+resolve-entry-requires c κs = let k = c .before .before .before .before .before .before .before .before .pre in turning-ready _ _ _ _ _ _ (k .held) _ _ _ _ (c .before .before .before .loop .inv (k .rows) (k .held)) (c .before .before .loop-test .taken)
 
-add-t17 : tie.Need-add-t17 Inv-loop μ-loop
-add-t17 c = omega (arith, c .before .before .before .before .before .before .before .before .before .before .before .before .before .before .pre .held .searched .few)
+add-t14 : tie.Need-add-t14 Inv-loop μ-loop
+add-t14 c = search needs
 
 loop-less : tie.Need-loop-less Inv-loop μ-loop
 loop-less c = omega arith
 
 loop-again : tie.Need-loop-again Inv-loop μ-loop
-loop-again c = λ rows h. turning-more _ _ _ _ _ rows h _ _ _ _ (c .before .before .before .before .before .before .before .before .before .loop .inv rows h) (c .before .before .before .before .before .before .before .if1 .taken) _ _ (c .before .before .before .resolve-entry .ensures .0) (c .before .before .before .resolve-entry .ensures .1)
+loop-again c = λ rows h. turning-more _ _ _ _ _ rows h _ _ _ _ (c .before .before .before .before .before .before .before .loop .inv rows h) (c .before .before .before .before .before .before .loop-test .taken) _ _ (c .before .before .before .resolve-entry .ensures .0) (c .before .before .before .resolve-entry .ensures .1)
 
 same-length : tie.Need-same-length Inv-loop μ-loop
-same-length c = let k = c .before .before .before .before .before .before .before .pre in c .before .before .loop .inv (k .rows) (k .held) .size
+same-length c = let k = c .before .before .before .before .before .before .pre in c .before .loop .inv (k .rows) (k .held) .size
 
 returns : tie.Need-returns Inv-loop μ-loop
-returns c = (λ rows h. turning-end _ _ _ _ _ rows h _ _ _ _ (c .before .before .loop .inv rows h) (c .if1 .left) .0, λ rows h. turning-end _ _ _ _ _ rows h _ _ _ _ (c .before .before .loop .inv rows h) (c .if1 .left) .1)
+returns c = (λ rows h. turning-end _ _ _ _ _ rows h _ _ _ _ (c .before .loop .inv rows h) (c .loop-test .left) .0, λ rows h. turning-end _ _ _ _ _ rows h _ _ _ _ (c .before .loop .inv rows h) (c .loop-test .left) .1)
 
 pub resolve-spec : {M : Type 1} → statement M
 resolve-spec =
@@ -55,12 +49,10 @@ resolve-spec =
     Inv-loop
     μ-loop
     loop-holds
-    cast-if1
-    cast-k
     mul-to
     shared-slice-read-to
     resolve-entry-requires
-    add-t17
+    add-t14
     loop-less
     loop-again
     same-length

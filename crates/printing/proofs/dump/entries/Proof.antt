@@ -12,6 +12,12 @@ Inv-loop unit abbreviations locations ranges index h p₀ turns₀ p turns = Uni
 abbrev μ-loop : tie.MeasureT-loop
 μ-loop unit abbreviations locations ranges index h p₀ turns₀ p turns = turns
 
+list-base-requires : tie.Need-list-base-requires Inv-loop μ-loop
+list-base-requires c κs = search needs
+
+list-base-requires-2 : tie.Need-list-base-requires-2 Inv-loop μ-loop
+list-base-requires-2 c κs = search needs
+
 loop-holds : tie.Need-loop-holds Inv-loop μ-loop
 loop-holds c = search needs
 
@@ -39,6 +45,8 @@ entries-spec =
     (tie.spec
     Inv-loop
     μ-loop
+    list-base-requires
+    list-base-requires-2
     loop-holds
     place-step-requires
     returns

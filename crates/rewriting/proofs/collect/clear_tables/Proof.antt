@@ -12,11 +12,11 @@ clear-columns-requires c κs = search needs
 clear-bytes-requires : tie.Need-clear-bytes-requires
 clear-bytes-requires c κs = search needs
 
+clear-requires-2 : tie.Need-clear-requires-2
+clear-requires-2 c κs = search needs
+
 clear-indexes-requires : tie.Need-clear-indexes-requires
 clear-indexes-requires c κs = search needs
-
-clear-indexes-requires-2 : tie.Need-clear-indexes-requires-2
-clear-indexes-requires-2 c κs = search needs
 
 same-length : tie.Need-same-length
 same-length c = search needs
@@ -55,8 +55,8 @@ clear-tables-spec =
     clear-requires
     clear-columns-requires
     clear-bytes-requires
+    clear-requires-2
     clear-indexes-requires
-    clear-indexes-requires-2
     same-length
     same-length-2
     same-length-3

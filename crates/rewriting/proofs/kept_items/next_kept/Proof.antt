@@ -1,12 +1,14 @@
 -- `next_kept`: what is kept from the start on is what is kept from here on. Assumes nothing.
 use mathlib.Core.Path.{sym, _∙_}
 use Prim.Native.Nat.{_-_}
+use native.Mathlib.Omega.{arith}
 use borrow.Author.Needs.{needs}
 use Rattle.readers.proofs.Declarations.{found-at}
 use lib.ListN.{length}
 use Rattle.readers.specs.Abbreviations.{findAt}
 use Rattle.readers.proofs.Values.{step-end}
-use Rattle.rewriting.proofs.kept_pass.KeptSteps.{stand, Walking, walking-start, end-end, stop-none, at-terminator, stop-unknown, stop-over, stop-low, stop-high, ends-less, ends-on, ends-item, terminator-less, terminator-item, terminator-on}
+use Rattle.rewriting.proofs.kept_pass.KeptSteps.{stand, Walking, walking-start, end-end, stop-none, at-terminator, stop-unknown, stop-past, stop-low, stop-high, ends-less, ends-on, ends-item, terminator-less, terminator-item, terminator-on}
+use Rattle.rewriting.proofs.kept_pass.EndsFilled.{end-there}
 use Rattle.rewriting.proofs.kept_items.next_kept.Statement.{statement}
 use Rattle.rewriting.proofs.kept_items.next_kept.Tie as tie
 
@@ -67,35 +69,23 @@ loop-again c =
     let c20 = c10 .before .before .before .before .before .before .before .before .before .before in
     terminator-on _ _ _ _ _ _ _ (c20 .args .s) (stand (c10 .loop .at .at) (c10 .loop .count .0) (c10 .loop .nesting)) (c10 .loop .inv) _ (at-terminator _ _ _ _ _ _ _ (c20 .args .s) (stand (c10 .loop .at .at) (c10 .loop .count .0) (c10 .loop .nesting)) (c10 .loop .inv) (c8 .if1 .left) _ (c7 .uleb .ensures) _ _ (c .before .before .before .before .before .code .given .1) (c .before .before .before .if2 .taken)) _ (c .before .after-terminator .ensures) (sym (c .before .before .closes-kept .ensures) ∙ c .if3 .left)
 
-returns-4 : tie.Need-returns-4 Inv-loop μ-loop
-returns-4 c =
-    let c6 = c .before .before .before .before .before .before in
-    let c7 = c6 .before in
-    let c9 = c7 .before .before in
-    let c19 = c9 .before .before .before .before .before .before .before .before .before .before in
-    stop-over _ _ _ _ _ _ _ (c19 .args .s) (stand (c9 .loop .at .at) (c9 .loop .count .0) (c9 .loop .nesting)) (c9 .loop .inv) (c7 .if1 .left) _ (c6 .uleb .ensures) _ _ (c .before .before .before .before .code .given .1) (c .before .before .if2 .left) (c .if4 .taken)
+place-requires : tie.Need-place-requires Inv-loop μ-loop
+place-requires c κs = search needs
 
-end-at-requires : tie.Need-end-at-requires Inv-loop μ-loop
-end-at-requires c κs = search needs
+returns-4 : tie.Need-returns-4 Inv-loop μ-loop
+returns-4 c = stop-past _ _ _ _ _ _ _ (c .before .before .before .before .before .before .before .before .before .before .before .before .before .before .before .before .before .before .before .args .s) (stand (c .before .before .before .before .before .before .before .before .before .loop .at .at) (c .before .before .before .before .before .before .before .before .before .loop .count .0) (c .before .before .before .before .before .before .before .before .before .loop .nesting)) (c .before .before .before .before .before .before .before .before .before .loop .inv) (c .before .before .before .before .before .before .before .if1 .left) _ (c .before .before .before .before .before .before .uleb .ensures) _ _ (c .before .before .before .before .code .given .1) (c .before .before .if2 .left) _ (c .before .place .ensures) (c .if4 .taken)
+
+mul-n : tie.Need-mul-n Inv-loop μ-loop
+mul-n c = search needs
+
+shared-slice-read-n : tie.Need-shared-slice-read-n Inv-loop μ-loop
+shared-slice-read-n c = search needs
 
 returns-5 : tie.Need-returns-5 Inv-loop μ-loop
-returns-5 c =
-    let c7 = c .before .before .before .before .before .before .before in
-    let c9 = c7 .before .before in
-    let c10 = c9 .before in
-    let c12 = c10 .before .before in
-    let c22 = c12 .before .before .before .before .before .before .before .before .before .before in
-    stop-low _ _ _ _ _ _ _ (c22 .args .s) (stand (c12 .loop .at .at) (c12 .loop .count .0) (c12 .loop .nesting)) (c12 .loop .inv) (c10 .if1 .left) _ (c9 .uleb .ensures) _ _ (c7 .code .given .1) (c .before .before .before .before .before .if2 .left) _ (c .before .before .end-at .ensures) (c .if5 .taken)
+returns-5 c = stop-low _ _ _ _ _ _ _ (c .before .before .before .before .before .before .before .before .before .before .before .before .before .before .before .before .before .before .before .before .before .before .args .s) (stand (c .before .before .before .before .before .before .before .before .before .before .before .before .loop .at .at) (c .before .before .before .before .before .before .before .before .before .before .before .before .loop .count .0) (c .before .before .before .before .before .before .before .before .before .before .before .before .loop .nesting)) (c .before .before .before .before .before .before .before .before .before .before .before .before .loop .inv) (c .before .before .before .before .before .before .before .before .before .before .if1 .left) _ (c .before .before .before .before .before .before .before .before .before .uleb .ensures) _ _ (c .before .before .before .before .before .before .before .code .given .1) (c .before .before .before .before .before .if2 .left) _ (end-there (c .before .before .before .before .before .before .before .before .before .before .before .before .before .before .before .before .before .before .before .before .before .before .args .ends .now) _ _ (c .before .before .before .before .place .ensures)) (c .if5 .taken)
 
 returns-6 : tie.Need-returns-6 Inv-loop μ-loop
-returns-6 c =
-    let c6 = c .before .before .before .before .before .before in
-    let c8 = c6 .before .before in
-    let c10 = c8 .before .before in
-    let c11 = c10 .before in
-    let c13 = c11 .before .before in
-    let c23 = c13 .before .before .before .before .before .before .before .before .before .before in
-    stop-high _ _ _ _ _ _ _ (c23 .args .s) (stand (c13 .loop .at .at) (c13 .loop .count .0) (c13 .loop .nesting)) (c13 .loop .inv) (c11 .if1 .left) _ (c10 .uleb .ensures) _ _ (c8 .code .given .1) (c6 .if2 .left) _ (c .before .before .before .end-at .ensures) (c .if6 .taken)
+returns-6 c = stop-high _ _ _ _ _ _ _ (c .before .before .before .before .before .before .before .before .before .before .before .before .before .before .before .before .before .before .before .before .before .before .before .args .s) (stand (c .before .before .before .before .before .before .before .before .before .before .before .before .before .loop .at .at) (c .before .before .before .before .before .before .before .before .before .before .before .before .before .loop .count .0) (c .before .before .before .before .before .before .before .before .before .before .before .before .before .loop .nesting)) (c .before .before .before .before .before .before .before .before .before .before .before .before .before .loop .inv) (c .before .before .before .before .before .before .before .before .before .before .before .if1 .left) _ (c .before .before .before .before .before .before .before .before .before .before .uleb .ensures) _ _ (c .before .before .before .before .before .before .before .before .code .given .1) (c .before .before .before .before .before .before .if2 .left) _ (end-there (c .before .before .before .before .before .before .before .before .before .before .before .before .before .before .before .before .before .before .before .before .before .before .before .args .ends .now) _ _ (c .before .before .before .before .before .place .ensures)) (c .if6 .taken)
 
 is-kept-requires : tie.Need-is-kept-requires Inv-loop μ-loop
 is-kept-requires c κs = search needs
@@ -103,8 +93,8 @@ is-kept-requires c κs = search needs
 after-entry-requires : tie.Need-after-entry-requires Inv-loop μ-loop
 after-entry-requires c κs = search needs
 
-add-t32 : tie.Need-add-t32 Inv-loop μ-loop
-add-t32 c = search needs
+add-t33 : tie.Need-add-t33 Inv-loop μ-loop
+add-t33 c = omega (arith, c .before .before .before .before .before .before .before .before .place .ensures, c .before .before .before .before .before .before .before .if4 .left, c .before .before .before .before .before .before .before .before .before .before .before .before .before .before .before .before .before .before .before .before .before .before .before .before .before .before .good .1 .1 .1 .1 .1 .0 .0)
 
 find-declaration-requires : tie.Need-find-declaration-requires Inv-loop μ-loop
 find-declaration-requires c κs = search needs
@@ -116,51 +106,16 @@ enum-told-2 : tie.Need-enum-told-2 Inv-loop μ-loop
 enum-told-2 c = search needs
 
 returns-7 : tie.Need-returns-7 Inv-loop μ-loop
-returns-7 c =
-    let c13 = c .before .before .before .before .before .before .before .before .before .before .before .before .before in
-    let c15 = c13 .before .before in
-    let c17 = c15 .before .before in
-    let c18 = c17 .before in
-    let c20 = c18 .before .before in
-    let c30 = c20 .before .before .before .before .before .before .before .before .before .before in
-    stop-unknown _ _ _ _ _ _ _ (c30 .args .s) (stand (c20 .loop .at .at) (c20 .loop .count .0) (c20 .loop .nesting)) (c20 .loop .inv) (c18 .if1 .left) _ (c17 .uleb .ensures) _ _ (c15 .code .given .1) (c13 .if2 .left) _ (found-at _ _ _ _ _ (c .before .before .find-declaration .ensures)) (c .enum-told2 .given .1)
+returns-7 c = stop-unknown _ _ _ _ _ _ _ (c .before .before .before .before .before .before .before .before .before .before .before .before .before .before .before .before .before .before .before .before .before .before .before .before .before .before .before .before .before .before .args .s) (stand (c .before .before .before .before .before .before .before .before .before .before .before .before .before .before .before .before .before .before .before .before .loop .at .at) (c .before .before .before .before .before .before .before .before .before .before .before .before .before .before .before .before .before .before .before .before .loop .count .0) (c .before .before .before .before .before .before .before .before .before .before .before .before .before .before .before .before .before .before .before .before .loop .nesting)) (c .before .before .before .before .before .before .before .before .before .before .before .before .before .before .before .before .before .before .before .before .loop .inv) (c .before .before .before .before .before .before .before .before .before .before .before .before .before .before .before .before .before .before .if1 .left) _ (c .before .before .before .before .before .before .before .before .before .before .before .before .before .before .before .before .before .uleb .ensures) _ _ (c .before .before .before .before .before .before .before .before .before .before .before .before .before .before .before .code .given .1) (c .before .before .before .before .before .before .before .before .before .before .before .before .before .if2 .left) _ (found-at _ _ _ _ _ (c .before .before .find-declaration .ensures)) (c .enum-told2 .given .1)
 
 returns-8 : tie.Need-returns-8 Inv-loop μ-loop
-returns-8 c =
-    let c7 = c .before .before .before .before .before .before .before in
-    let c8 = c7 .before in
-    let c9 = c8 .before in
-    let c10 = c9 .before in
-    let c12 = c10 .before .before in
-    let c15 = c12 .before .before .before in
-    let c17 = c15 .before .before in
-    let c19 = c17 .before .before in
-    let c20 = c19 .before in
-    let c22 = c20 .before .before in
-    let c32 = c22 .before .before .before .before .before .before .before .before .before .before in
-    ends-item _ _ _ _ _ _ _ (c32 .args .s) (stand (c22 .loop .at .at) (c22 .loop .count .0) (c22 .loop .nesting)) (c22 .loop .inv) (c20 .if1 .left) _ (c19 .uleb .ensures) _ _ (c17 .code .given .1) (c15 .if2 .left) _ (c12 .end-at .ensures) (c10 .if5 .left) (c9 .if6 .left) _ (c7 .after-entry .ensures) _ (found-at _ _ _ _ _ (c .before .before .before .before .find-declaration .ensures)) _ (c .before .before .d .given .1) (sym (c8 .is-kept .ensures) ∙ c .before .before .before .before .before .if7 .taken)
+returns-8 c = ends-item _ _ _ _ _ _ _ (c .before .before .before .before .before .before .before .before .before .before .before .before .before .before .before .before .before .before .before .before .before .before .before .before .before .before .before .before .before .before .before .before .args .s) (stand (c .before .before .before .before .before .before .before .before .before .before .before .before .before .before .before .before .before .before .before .before .before .before .loop .at .at) (c .before .before .before .before .before .before .before .before .before .before .before .before .before .before .before .before .before .before .before .before .before .before .loop .count .0) (c .before .before .before .before .before .before .before .before .before .before .before .before .before .before .before .before .before .before .before .before .before .before .loop .nesting)) (c .before .before .before .before .before .before .before .before .before .before .before .before .before .before .before .before .before .before .before .before .before .before .loop .inv) (c .before .before .before .before .before .before .before .before .before .before .before .before .before .before .before .before .before .before .before .before .if1 .left) _ (c .before .before .before .before .before .before .before .before .before .before .before .before .before .before .before .before .before .before .before .uleb .ensures) _ _ (c .before .before .before .before .before .before .before .before .before .before .before .before .before .before .before .before .before .code .given .1) (c .before .before .before .before .before .before .before .before .before .before .before .before .before .before .before .if2 .left) _ (end-there (c .before .before .before .before .before .before .before .before .before .before .before .before .before .before .before .before .before .before .before .before .before .before .before .before .before .before .before .before .before .before .before .before .args .ends .now) _ _ (c .before .before .before .before .before .before .before .before .before .before .before .before .before .before .place .ensures)) (c .before .before .before .before .before .before .before .before .before .before .if5 .left) (c .before .before .before .before .before .before .before .before .before .if6 .left) _ (c .before .before .before .before .before .before .before .after-entry .ensures) (omega (arith, c .before .before .before .before .before .before .before .before .before .before .before .before .before .before .place .ensures, c .before .before .before .before .before .before .before .before .before .before .before .before .before .if4 .left, c .before .before .before .before .before .before .before .before .before .before .before .before .before .before .before .before .before .before .before .before .before .before .before .before .before .before .before .before .before .before .before .before .good .1 .1 .1 .1 .1 .0 .0)) _ (found-at _ _ _ _ _ (c .before .before .before .before .find-declaration .ensures)) _ (c .before .before .d .given .1) (sym (c .before .before .before .before .before .before .before .before .is-kept .ensures) ∙ c .before .before .before .before .before .if7 .taken)
 
 loop-less-2 : tie.Need-loop-less-2 Inv-loop μ-loop
-loop-less-2 c =
-    let c7 = c .before .before .before .before .before .before .before in
-    let c10 = c7 .before .before .before in
-    let c12 = c10 .before .before in
-    let c14 = c12 .before .before in
-    let c15 = c14 .before in
-    let c17 = c15 .before .before in
-    let c27 = c17 .before .before .before .before .before .before .before .before .before .before in
-    ends-less _ _ _ _ _ _ _ (c27 .args .s) (stand (c17 .loop .at .at) (c17 .loop .count .0) (c17 .loop .nesting)) (c17 .loop .inv) (c15 .if1 .left) _ (c14 .uleb .ensures) _ _ (c12 .code .given .1) (c10 .if2 .left) _ (c7 .end-at .ensures) (c .before .before .before .before .before .if5 .left) (c .before .before .before .before .if6 .left)
+loop-less-2 c = ends-less _ _ _ _ _ _ _ (c .before .before .before .before .before .before .before .before .before .before .before .before .before .before .before .before .before .before .before .before .before .before .before .before .before .before .before .args .s) (stand (c .before .before .before .before .before .before .before .before .before .before .before .before .before .before .before .before .before .loop .at .at) (c .before .before .before .before .before .before .before .before .before .before .before .before .before .before .before .before .before .loop .count .0) (c .before .before .before .before .before .before .before .before .before .before .before .before .before .before .before .before .before .loop .nesting)) (c .before .before .before .before .before .before .before .before .before .before .before .before .before .before .before .before .before .loop .inv) (c .before .before .before .before .before .before .before .before .before .before .before .before .before .before .before .if1 .left) _ (c .before .before .before .before .before .before .before .before .before .before .before .before .before .before .uleb .ensures) _ _ (c .before .before .before .before .before .before .before .before .before .before .before .before .code .given .1) (c .before .before .before .before .before .before .before .before .before .before .if2 .left) _ (end-there (c .before .before .before .before .before .before .before .before .before .before .before .before .before .before .before .before .before .before .before .before .before .before .before .before .before .before .before .args .ends .now) _ _ (c .before .before .before .before .before .before .before .before .before .place .ensures)) (c .before .before .before .before .before .if5 .left) (c .before .before .before .before .if6 .left)
 
 loop-again-2 : tie.Need-loop-again-2 Inv-loop μ-loop
-loop-again-2 c =
-    let c7 = c .before .before .before .before .before .before .before in
-    let c10 = c7 .before .before .before in
-    let c12 = c10 .before .before in
-    let c14 = c12 .before .before in
-    let c15 = c14 .before in
-    let c17 = c15 .before .before in
-    let c27 = c17 .before .before .before .before .before .before .before .before .before .before in
-    ends-on _ _ _ _ _ _ _ (c27 .args .s) (stand (c17 .loop .at .at) (c17 .loop .count .0) (c17 .loop .nesting)) (c17 .loop .inv) (c15 .if1 .left) _ (c14 .uleb .ensures) _ _ (c12 .code .given .1) (c10 .if2 .left) _ (c7 .end-at .ensures) (c .before .before .before .before .before .if5 .left) (c .before .before .before .before .if6 .left) _ (c .before .before .after-entry .ensures) (sym (c .before .before .before .is-kept .ensures) ∙ c .if7 .left)
+loop-again-2 c = ends-on _ _ _ _ _ _ _ (c .before .before .before .before .before .before .before .before .before .before .before .before .before .before .before .before .before .before .before .before .before .before .before .before .before .before .before .args .s) (stand (c .before .before .before .before .before .before .before .before .before .before .before .before .before .before .before .before .before .loop .at .at) (c .before .before .before .before .before .before .before .before .before .before .before .before .before .before .before .before .before .loop .count .0) (c .before .before .before .before .before .before .before .before .before .before .before .before .before .before .before .before .before .loop .nesting)) (c .before .before .before .before .before .before .before .before .before .before .before .before .before .before .before .before .before .loop .inv) (c .before .before .before .before .before .before .before .before .before .before .before .before .before .before .before .if1 .left) _ (c .before .before .before .before .before .before .before .before .before .before .before .before .before .before .uleb .ensures) _ _ (c .before .before .before .before .before .before .before .before .before .before .before .before .code .given .1) (c .before .before .before .before .before .before .before .before .before .before .if2 .left) _ (end-there (c .before .before .before .before .before .before .before .before .before .before .before .before .before .before .before .before .before .before .before .before .before .before .before .before .before .before .before .args .ends .now) _ _ (c .before .before .before .before .before .before .before .before .before .place .ensures)) (c .before .before .before .before .before .if5 .left) (c .before .before .before .before .if6 .left) _ (c .before .before .after-entry .ensures) (omega (arith, c .before .before .before .before .before .before .before .before .before .place .ensures, c .before .before .before .before .before .before .before .before .if4 .left, c .before .before .before .before .before .before .before .before .before .before .before .before .before .before .before .before .before .before .before .before .before .before .before .before .before .before .before .good .1 .1 .1 .1 .1 .0 .0)) (sym (c .before .before .before .is-kept .ensures) ∙ c .if7 .left)
 
 pub next-kept-spec : {M : Type 1} → statement M
 next-kept-spec =
@@ -179,13 +134,15 @@ next-kept-spec =
     returns-3
     loop-less
     loop-again
+    place-requires
     returns-4
-    end-at-requires
+    mul-n
+    shared-slice-read-n
     returns-5
     returns-6
     is-kept-requires
     after-entry-requires
-    add-t32
+    add-t33
     find-declaration-requires
     enum-known-d
     enum-told-2

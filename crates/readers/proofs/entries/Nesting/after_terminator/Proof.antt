@@ -1,14 +1,11 @@
 -- `Nesting::after_terminator` meets its contract. Assumes nothing.
-use borrow.Author.Needs.{needs}
 use Rattle.readers.proofs.Nesting.{closes-none, closes-known, closes-unknown}
+use borrow.Author.Needs.{needs}
 use Rattle.readers.proofs.entries.Nesting.after_terminator.Statement.{statement}
 use Rattle.readers.proofs.entries.Nesting.after_terminator.Tie as tie
 
 returns : tie.Need-returns
 returns c = search closes-none
-
-cast-i : tie.Need-cast-i
-cast-i c = search needs
 
 sub-t7 : tie.Need-sub-t7
 sub-t7 c = search needs
@@ -30,5 +27,4 @@ returns-3 c = search closes-unknown
 
 pub after-terminator-spec : {M : Type 1} → statement M
 after-terminator-spec =
-    tie.close
-    (tie.spec returns cast-i sub-t7 mul-t8 shared-slice-read-t10 returns-2 sub-t12 returns-3)
+    tie.close (tie.spec returns sub-t7 mul-t8 shared-slice-read-t10 returns-2 sub-t12 returns-3)
