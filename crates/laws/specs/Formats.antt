@@ -1,7 +1,5 @@
 -- What a section's first bytes say of its first unit (DWARF 5, 7.4; document 02, Point 6), in the byte order that is told.
-use mathlib.Core.Path.{_≡_}
-use Prim.Native.Nat.{ℕ, _-_, _<_}
-use mathlib.Core.Logic.{_⊎_}
+use Prim.Native.Nat.{ℕ, _-_}
 use mathlib.Core.Bool.{Bool}
 use mathlib.Core.List.{List}
 use lib.ListN.{take, drop}
@@ -12,10 +10,6 @@ module _ (big : Bool) (section : List ℕ) where
   -- the first four bytes
   abbrev pub start : ℕ
   start = fixedValue big (take 4 section)
-
-  -- they say that offsets have w bytes: a length of the 32-bit format, or that a length of the 64-bit one follows
-  abbrev pub SaysWidth : ℕ → Type 0
-  SaysWidth w = ((w ≡ 4) × (start < 0xfffffff0)) ⊎ ((w ≡ 8) × (start ≡ 0xffffffff))
 
   -- the length: the number at the end of the length field, as wide as an offset
   abbrev pub lengthSaid : ℕ → ℕ

@@ -62,8 +62,8 @@ LeastRows rows S = LeastBy (length rows) (RootIn rows) (ParentIn rows) (Below ro
 -- ---- what the rows say of the entries
 
 -- the first unit of a section, by the header and the declarations that are found: its items are read to its end, and
--- the rows are those of its entries. At first no entry is open and the list bases are the format's. Its encoding is one of those
--- that are read, in the byte order that was told.
+-- the rows are those of its entries. At first no entry is open and the list bases are the format's. Its encoding is one
+-- of those that are read, in the byte order that was told.
 pub record FirstUnit (x : Sections) (section : List ℕ) (rows : List EntryRow) : Type 0 where
   pub header : UnitHeader
   pub declared : List Placed

@@ -11,7 +11,7 @@ use Rattle.readers.specs.Operations.{unreadableRow, rows, rowOf, rowLayout, ope
 use Rattle.readers.specs.Operations.{operation, locationEntries, listRow}
 use Rattle.readers.specs.Expression.{allPieces, andRest, expressionWithin, expressionIn}
 use Rattle.readers.specs.References.{nameIn, namesIn, isAbsolute, anyAbsolute, asWalk, walkOf, namesOr, referencesIn}
-use Rattle.readers.specs.References.{walkAnswer, sizeKnown, referencesAnswer, numbersOf, answerTable, referencesTable}
+use Rattle.readers.specs.References.{walkAnswer, referencesAnswer, numbersOf, answerTable, referencesTable}
 use Rattle.readers.specs.declared.expressions.References.the-variants.{Count, Refused}
 use Rattle.readers.specs.Cursors.{cursor}
 use Rattle.readers.specs.Fields.{linkedValue, size, fieldOf, rowOfReads}
@@ -65,7 +65,7 @@ calls :
     × (referencesAnswer 3 4 true 6 [] ≡ Refused 2)
     × (referencesAnswer 4 3 true 6 [] ≡ Refused 2)
     × (referencesAnswer 3 3 true 6 [] ≡ Refused 2)
-unfolding sizeKnown referencesAnswer referencesTable answerTable walkAnswer numbersOf walkOf asWalk referencesIn namesOr namesIn
+unfolding referencesAnswer referencesTable answerTable walkAnswer numbersOf walkOf asWalk referencesIn namesOr namesIn
     nameIn anyAbsolute isAbsolute expressionIn expressionWithin andRest allPieces encodingOf operation operationRow
     operations rowAmong rowOf rows unreadableRow rowLayout tokenOf numberAs readIn tokenIn numberIn before asNumber
     asBounded asLink asBlock asExpression asLeb copy uleb groups below unsigned64 fixedValue ordered littleValue width

@@ -126,51 +126,7 @@ fn collect_bundle(
     )
 }
 
-// Lends the first part of each array of the answer.
-fn lend_answer(
-    settings: &[u8],
-    s: &[u8],
-    index: &mut [u64],
-    offsets: &mut [u64],
-    parents: &mut [u64],
-    roots: &mut [u8],
-    ends: &mut [u64],
-    marks: &mut [u8],
-    targets: &mut [u64],
-    pairs: &mut [u64],
-    map: &mut [u8],
-    range_list: &mut [u8],
-    location_list: &mut [u8],
-    string_list: &mut [u8],
-    out: &mut [u8],
-    b: Bundle,
-) -> Collected {
-    let of_map = lent(settings, MAP, map.len());
-    let of_range_list = lent(settings, RANGES, range_list.len());
-    let of_location_list = lent(settings, LOCATIONS, location_list.len());
-    let of_string_list = lent(settings, STRINGS, string_list.len());
-    let of_out = lent(settings, OUTPUT, out.len());
-    collect_bundle(
-        settings,
-        s,
-        index,
-        offsets,
-        parents,
-        roots,
-        ends,
-        marks,
-        targets,
-        pairs,
-        &mut map[..of_map],
-        &mut range_list[..of_range_list],
-        &mut location_list[..of_location_list],
-        &mut string_list[..of_string_list],
-        &mut out[..of_out],
-        b,
-    )
-}
-
-// Lends the first part of each table, and of each array of the answer.
+// Lends the first part of each array.
 fn lend(
     settings: &[u8],
     s: &[u8],
@@ -197,7 +153,12 @@ fn lend(
     let of_marks = lent(settings, MARKS, marks.len());
     let of_targets = lent(settings, TARGETS, targets.len());
     let of_pairs = lent(settings, PAIRS, pairs.len());
-    lend_answer(
+    let of_map = lent(settings, MAP, map.len());
+    let of_range_list = lent(settings, RANGES, range_list.len());
+    let of_location_list = lent(settings, LOCATIONS, location_list.len());
+    let of_string_list = lent(settings, STRINGS, string_list.len());
+    let of_out = lent(settings, OUTPUT, out.len());
+    collect_bundle(
         settings,
         s,
         &mut index[..of_index],
@@ -208,11 +169,11 @@ fn lend(
         &mut marks[..of_marks],
         &mut targets[..of_targets],
         &mut pairs[..of_pairs],
-        map,
-        range_list,
-        location_list,
-        string_list,
-        out,
+        &mut map[..of_map],
+        &mut range_list[..of_range_list],
+        &mut location_list[..of_location_list],
+        &mut string_list[..of_string_list],
+        &mut out[..of_out],
         b,
     )
 }

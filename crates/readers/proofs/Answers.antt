@@ -12,8 +12,8 @@ use Rattle.readers.specs.Choice.{pick, _and_, _or_, zeros}
 use Rattle.readers.proofs.Choice.{pick-yes, pick-no}
 use Rattle.readers.specs.Layout.{Piece}
 use Rattle.readers.specs.Expression.{expressionIn}
-use Rattle.readers.specs.Header.{encodingOf}
-use Rattle.readers.specs.References.{namesIn, asWalk, walkOf, walkAnswer, sizeKnown, referencesAnswer, numbersOf, namesOr, referencesIn, answerTable, referencesTable, flatFrom}
+use Rattle.readers.specs.Header.{sizeKnown, encodingOf}
+use Rattle.readers.specs.References.{namesIn, asWalk, walkOf, walkAnswer, referencesAnswer, numbersOf, namesOr, referencesIn, answerTable, referencesTable, flatFrom}
 use Rattle.readers.specs.inner.References.{Room}
 use Rattle.readers.specs.declared.cursor.Encoding.{Encoding}
 use Rattle.readers.specs.declared.expressions.Walk.{Walk}
@@ -38,11 +38,11 @@ module _ (e : Encoding) (s : List ℕ) (n : ℕ) (b : Bool) where
   walked-flat w = walked-names _ refl w
 
 pub known-4 : (n : ℕ) → n ≡ 4 → true ≡ sizeKnown n
-unfolding sizeKnown _or_
+unfolding _or_
 known-4 n q = subst (λ (m : ℕ). true ≡ sizeKnown m) (sym q) refl
 
 pub known-8 : (n : ℕ) → (n ≡ 4 → ⊥) → eqb n 8 ≡ sizeKnown n
-unfolding sizeKnown _or_
+unfolding _or_
 known-8 n q = by (eqb n 4) (no-eqb {a = n} {b = 4} q)
   where
     by : (x : Bool) → T (not x) → eqb n 8 ≡ (x or eqb n 8)

@@ -18,7 +18,7 @@ use Rattle.readers.specs.Numbers.{littleValue, ordered, fixedBytes, fixe
 use Rattle.readers.proofs.Numbers.{length-fixed, fixed-value}
 use Rattle.readers.proofs.Widths.{fixed-is, fixed-inside}
 use Rattle.readers.proofs.Headers.{present-at, four-bytes, eight-bytes, in-there, length-four, length-eight}
-use Rattle.readers.specs.Header.{present, right, lengthBytes, lengthSize, encodingOf, headerMade, headerFields, headerIn, headerOf, withEnd, Known}
+use Rattle.readers.specs.Header.{present, right, lengthBytes, lengthSize, encodingOf, headerMade, headerFields, headerIn, headerOf, withEnd, SaysWidth, Known}
 use Rattle.readers.specs.declared.cursor.Cursor.{Cursor}
 use Rattle.readers.specs.declared.cursor.Encoding.{Encoding}
 use Rattle.readers.specs.declared.cursor.Number.{Number}
@@ -119,8 +119,7 @@ module _ (big : Bool) (w : ℕ) (u : List ℕ) where
 pub record HeaderLaw (big : Bool) (u : List ℕ) (h : UnitHeader) : Type 0 where
   pub known : Known big (h .encoding)
   -- its first four bytes say the format
-  pub format : ((h .encoding .«offset_size» ≡ 4) × (fixedValue big (take 4 u) < 0xfffffff0))
-      ⊎ ((h .encoding .«offset_size» ≡ 8) × (fixedValue big (take 4 u) ≡ 0xffffffff))
+  pub format : SaysWidth (fixedValue big (take 4 u)) (h .encoding .«offset_size»)
   -- its unit type, and how many bytes it has
   pub headed : let plain = lengthSize (h .encoding) + 4 + h .encoding .«offset_size» in
       ((h .«unit_type» ≡ 1) × (h .first .0 ≡ plain)) ⊎ ((h .«unit_type» ≡ 5) × (h .first .0 ≡ plain + 8))
@@ -259,10 +258,7 @@ module _ (big : Bool) (w : ℕ) (u : List ℕ) (h : UnitHeader) (b : FieldsLaw b
   unfolding encodingOf
   width-is = ap (λ (e : Encoding). e .«offset_size») (b .encoding-is)
 
-  abbrev Format : ℕ → Type 0
-  Format z = ((z ≡ 4) × (fixedValue big (take 4 u) < 0xfffffff0)) ⊎ ((z ≡ 8) × (fixedValue big (take 4 u) ≡ 0xffffffff))
-
-  lawful : (w ≡ 4) ⊎ (w ≡ 8) → Format w → length u < lengthBytes w + 256 ^ w → length u < 2 ^ 64 → Again big u h w (lengthBytes w) → HeaderLaw big u h
+  lawful : (w ≡ 4) ⊎ (w ≡ 8) → SaysWidth (fixedValue big (take 4 u)) w → length u < lengthBytes w + 256 ^ w → length u < 2 ^ 64 → Again big u h w (lengthBytes w) → HeaderLaw big u h
   unfolding encodingOf
   lawful is format under below again =
       let wide : (P : ℕ → Type 0) → P w → P (h .encoding .«offset_size») = (λ P p. subst P (sym width-is) p) in
@@ -273,7 +269,7 @@ module _ (big : Bool) (w : ℕ) (u : List ℕ) (h : UnitHeader) (b : FieldsLaw b
           address-is = b .address-is;
           order-is = ap (λ (e : Encoding). e .«big_endian») (b .encoding-is);
         };
-        format = wide Format format;
+        format = wide (SaysWidth (fixedValue big (take 4 u))) format;
         headed = wide (λ (z : ℕ).
             ((h .«unit_type» ≡ 1) × (h .first .0 ≡ lengthBytes z + 4 + z)) ⊎ ((h .«unit_type» ≡ 5) × (h .first .0 ≡ lengthBytes z + 4 + z + 8))) (b .headed);
         after = wide (λ (z : ℕ). lengthBytes z + 7 ≤ h .first .0)
@@ -299,7 +295,7 @@ module _ (big : Bool) (s : List ℕ) (P : HeaderRead → Type 0) (empty : length
 
   -- a unit of the n bytes after the length field, by what is read again with its header
   in-width : (w : ℕ) → (w ≡ 4) ⊎ (w ≡ 8) → (n : ℕ) → n < 256 ^ w → lengthBytes w + n < 2 ^ 64 → lengthBytes w ≤ length s
-      → ((w ≡ 4) × (fixedValue big (take 4 s) < 0xfffffff0)) ⊎ ((w ≡ 8) × (fixedValue big (take 4 s) ≡ 0xffffffff))
+      → SaysWidth (fixedValue big (take 4 s)) w
       → ((h : UnitHeader) → FieldsLaw big w (take (lengthBytes w + n) s) h → length (take (lengthBytes w + n) s) ≡ lengthBytes w + n
       → Again big (take (lengthBytes w + n) s) h w (lengthBytes w))
       → P (headerIn big w s n)
@@ -314,7 +310,7 @@ module _ (big : Bool) (s : List ℕ) (P : HeaderRead → Type 0) (empty : length
       fields-law big w u (⊎-elim (λ y. omega (arith, y)) (λ y. omega (arith, y)) is) (⊎-elim (λ y. omega (arith, y)) (λ y. omega (arith, y)) is) P one two
       (λ h b. unit h (subst (λ (z : ℕ). HeaderLaw big (take z s) h) (sym (b .end-is ∙ l))
       (lawful big w u h b is
-      (subst (λ (t : List ℕ). ((w ≡ 4) × (fixedValue big t < 0xfffffff0)) ⊎ ((w ≡ 8) × (fixedValue big t ≡ 0xffffffff))) (sym start) format)
+      (subst (λ (t : List ℕ). SaysWidth (fixedValue big t) w) (sym start) format)
       (let z : length u < lengthBytes w + 256 ^ w = omega (arith, l) in z) (let z : length u < 2 ^ 64 = omega (arith, l) in z) (again h b l)))))
       (λ _. one)
 

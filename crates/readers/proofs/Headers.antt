@@ -209,10 +209,14 @@ module _ (big : Bool) (s : List ℕ) where
         pub eight-none : fixedAt big 8 s 4 ≡ Unreadable → headerOf big s ≡ Refused 1
         eight-none h = by-length ∙ pick-yes _ _ _ (yes-eqb {a = n} {b = 0xffffffff} escape) ∙ absent _ _ h
 
+        pub length-said : (m : ℕ) (d : Cursor) → fixedAt big 8 s 4 ≡ Value m d
+            → headerOf big s ≡ pick (ltb (12 + m) (2 ^ 64)) (headerIn big 8 s m) (Refused 1)
+        length-said m d h = by-length ∙ pick-yes _ _ _ (yes-eqb {a = n} {b = 0xffffffff} escape) ∙ present-at _ m d _ h
+
         -- a section has no 2 ^ 64 bytes
         pub length-eight : (m : ℕ) (d : Cursor) → fixedAt big 8 s 4 ≡ Value m d → length s < 2 ^ 64 → headerOf big s ≡ headerIn big 8 s m
         length-eight m d h l =
-            by-length ∙ pick-yes _ _ _ (yes-eqb {a = n} {b = 0xffffffff} escape) ∙ present-at _ m d _ h
+            length-said m d h
             ∙ pick-either (λ (r : HeaderRead). r ≡ headerIn big 8 s m) (ltb (12 + m) (2 ^ 64)) (headerIn big 8 s m) (Refused 1)
             (λ _. refl)
             (λ t. sym (in-over big 8 s 12 (sym eight-bytes) m (let z : 2 ^ 64 ≤ 12 + m = ltb-no {a = 12 + m} {b = 2 ^ 64} t in omega arith)))

@@ -1,6 +1,6 @@
 -- The header of the first unit of a section (DWARF 5, 7.5.1.1 and 7.5.1.2; document 01, "Readers" and the order of
 -- refusals 1 and 2).
-use Prim.Native.Nat.{ℕ, _+_, _-_, _^_}
+use Prim.Native.Nat.{ℕ, _+_, _-_, _^_, _<_}
 use mathlib.Core.Path.{_≡_}
 use mathlib.Core.Logic.{_⊎_}
 use mathlib.Core.Bool.{Bool}
@@ -25,6 +25,10 @@ present Unreadable k = Refused 1
 -- a value within the domain: else 2
 unfoldable pub right : Bool → HeaderRead → HeaderRead
 right b h = pick b h (Refused 2)
+
+-- the sizes of an address, and of an offset
+abbrev pub sizeKnown : ℕ → Bool
+sizeKnown n = eqb n 4 or eqb n 8
 
 -- unit_length (7.4), by the size of an offset: 4 bytes, or in the 64-bit format 0xffffffff and eight more
 unfoldable pub lengthBytes : ℕ → ℕ
@@ -58,7 +62,7 @@ module _ (big : Bool) (w : ℕ) where
       present (fixedAt big 2 u at) (λ version. right (eqb version 5)
       (present (fixedAt big 1 u (at + 2)) (λ unitType.
       right (eqb unitType «DW_UT_compile» or eqb unitType «DW_UT_split_compile»)
-      (present (fixedAt big 1 u (at + 3)) (λ addressSize. right (eqb addressSize 4 or eqb addressSize 8)
+      (present (fixedAt big 1 u (at + 3)) (λ addressSize. right (sizeKnown addressSize)
       (present (fixedAt big w u (at + 4)) (λ abbreviations.
       pick (eqb unitType «DW_UT_compile»)
       (headerMade (encodingOf big 5 w addressSize) u unitType abbreviations (at + 4 + w))
@@ -85,6 +89,11 @@ withEnd h n =
     record { encoding = h .encoding; «unit_type» = h .«unit_type»; abbreviations = h .abbreviations; first = h .first; end = n }
 
 -- ---- the units that are read
+
+-- the number of the first four bytes says that offsets have w bytes: it is a length of the 32-bit format, or a length of
+-- the 64-bit one follows (7.4)
+abbrev pub SaysWidth : ℕ → ℕ → Type 0
+SaysWidth start w = ((w ≡ 4) × (start < 0xfffffff0)) ⊎ ((w ≡ 8) × (start ≡ 0xffffffff))
 
 -- document 01, "Readers", and document 02, Points 6 (either format) and 12 (the byte order is the one that was told)
 pub record Known (big : Bool) (e : Encoding) : Type 0 where

@@ -6,7 +6,7 @@ use mathlib.Core.Option.{Option, none, some}
 use lib.ListN.{length}
 use lib.Dec.{ltb, leb, eqb}
 use Rattle.readers.specs.Choice.{pick, _or_, _and_, zeros}
-use Rattle.readers.specs.Header.{encodingOf}
+use Rattle.readers.specs.Header.{sizeKnown, encodingOf}
 use Rattle.readers.specs.Operations.{row-reference2, row-reference4, row-type, row-bytes1-type, row-type-block1}
 use Rattle.readers.specs.Operations.{row-expression}
 use Rattle.readers.specs.Layout.{Encoded, infixed, inleb, width, reference, typeReference, sibling, index}
@@ -146,10 +146,6 @@ unfoldable pub walkAnswer : ℕ → Walk → References
 walkAnswer room Unreadable = Refused (refusalOfWalk Unreadable)
 walkAnswer room (Walked n true) = Refused (refusalOfWalk (Walked n true))
 walkAnswer room (Walked n false) = pick (leb n room) (Count n) (Refused 11)
-
--- the sizes of an address, and of an offset
-unfoldable pub sizeKnown : ℕ → Bool
-sizeKnown n = eqb n 4 or eqb n 8
 
 -- by the size of an address and that of an offset (document 02, Point 6: "4 or 8; any other is 2"), the byte order, and
 -- how many numbers the table has

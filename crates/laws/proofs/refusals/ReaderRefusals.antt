@@ -8,9 +8,9 @@ use lib.Dec.{T, eqb, leb}
 use mir.Facts.{eqb-yes, yes-eqb}
 use Rattle.readers.specs.Choice.{_and_, _or_}
 use Rattle.readers.proofs.Choice.{pick-either, and-both}
-use Rattle.readers.specs.Header.{encodingOf, headerOf}
+use Rattle.readers.specs.Header.{sizeKnown, encodingOf, headerOf}
 use Rattle.readers.proofs.HeaderLaws.{header-cases}
-use Rattle.readers.specs.References.{walkOf, walkAnswer, sizeKnown, referencesAnswer}
+use Rattle.readers.specs.References.{walkOf, walkAnswer, referencesAnswer}
 use Rattle.laws.specs.RefusalNumbers.{OneOf, HeaderRefusal, ReferencesRefusal}
 use Rattle.readers.specs.declared.header.HeaderRead.{HeaderRead}
 use Rattle.readers.specs.declared.header.HeaderRead.the-variants.{Unit as Unit′, Empty, Refused}
