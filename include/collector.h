@@ -5,10 +5,15 @@
  * What is written may overlap nothing else that is lent.
  *
  * Read, and the same after the call
- *   section        the unit's section; its first unit is taken, of the 32-bit or the 64-bit format, as its length says
- *   abbreviations, locations, ranges    the sections of abbreviations, location lists and range lists, relocated
+ *   section        the unit's section; its first unit is taken, of version 4 or 5 and of the 32-bit or the 64-bit
+ *                  format, as its header says; not one of .debug_types, whose header version 4 does not tell
+ *   abbreviations, locations, ranges    the sections of abbreviations, location lists and range lists, relocated.
+ *                  ranges is .debug_rnglists; locations is .debug_loclists, or .debug_loc.dwo of a version 4 unit
  *   addresses      a byte an index: 0 dead, 1 live; none lent (length 0): every index is live
- *   ranges_base    added to a ranges attribute in sec_offset
+ *   debug_ranges   .debug_ranges, relocated: the pairs of addresses that a version 4 unit's ranges attributes name in
+ *                  sec_offset. Read for such a unit alone, which reads nothing in ranges; empty (length 0, but a
+ *                  pointer that is not null) where there is none, and for a version 5 unit
+ *   ranges_base    added to a ranges attribute in sec_offset: the skeleton's DW_AT_GNU_ranges_base for version 4
  *   type_units     0 no, any other number yes: the index lists are then absent
  *   big_endian     0: the unit's fixed-width fields, those of its lists and expressions too, are little-endian; any
  *                  other number: big-endian. Never guessed: a unit told wrongly is refused with 1 or 2
@@ -67,6 +72,7 @@ uint64_t collector_collect(
     const uint8_t *locations, size_t locations_length,
     const uint8_t *ranges, size_t ranges_length,
     const uint8_t *addresses, size_t addresses_length,
+    const uint8_t *debug_ranges, size_t debug_ranges_length,
     uint64_t ranges_base, uint64_t type_units, uint64_t big_endian,
     uint8_t *map, size_t map_length,
     uint8_t *range_list, size_t range_list_length,
@@ -85,6 +91,7 @@ uint64_t collector_collect_lent(
     const uint8_t *locations, size_t locations_length,
     const uint8_t *ranges, size_t ranges_length,
     const uint8_t *addresses, size_t addresses_length,
+    const uint8_t *debug_ranges, size_t debug_ranges_length,
     uint64_t ranges_base, uint64_t type_units, uint64_t big_endian,
     uint64_t *index, size_t index_length,
     uint64_t *offsets, size_t offsets_length,

@@ -4,7 +4,8 @@
 #include <stdlib.h>
 #include <string.h>
 
-#define SECTIONS const uint8_t *s, size_t sn, const uint8_t *a, size_t an, const uint8_t *l, size_t ln, const uint8_t *r, size_t rn, const uint8_t *t, size_t tn, uint64_t base, uint64_t units, uint64_t big
+#define SECTIONS const uint8_t *s, size_t sn, const uint8_t *a, size_t an, const uint8_t *l, size_t ln, const uint8_t *r, size_t rn, \
+    const uint8_t *t, size_t tn, const uint8_t *g, size_t gn, uint64_t base, uint64_t units, uint64_t big
 #define TABLES uint64_t *index, size_t in, uint64_t *offsets, size_t on, uint64_t *parents, size_t pn, uint8_t *roots, size_t ron, uint64_t *ends, size_t en, uint8_t *marks, size_t mn, \
     uint64_t *targets, size_t tgn, uint64_t *pairs, size_t prn, uint32_t *work, size_t wn
 #define RESULTS uint8_t *map, size_t mapn, uint8_t *rl, size_t rln, uint8_t *ll, size_t lln, uint8_t *sl, size_t sln, uint8_t *out, size_t outn, uint8_t *counts, size_t cn
@@ -48,6 +49,13 @@ static size_t version(const uint8_t *s, size_t sn)
     return wide(s, sn) ? 12 : 4;
 }
 
+/* Whether the unit is of version 4. */
+static int older(const uint8_t *s, size_t sn, uint64_t big)
+{
+    size_t at = version(s, sn);
+    return sn >= at + 2 && s[at + !big] == 0 && s[at + !!big] == 4;
+}
+
 /* A field in the other order. */
 static void turn(uint8_t *at, size_t width)
 {
@@ -68,7 +76,7 @@ static uint64_t spoilt(uint64_t answer, SECTIONS, RESULTS)
 {
     int f = fault();
     int counted = answer == 256 || answer == 257;
-    (void)a, (void)an, (void)l, (void)ln, (void)r, (void)rn, (void)t, (void)tn, (void)base, (void)units, (void)big;
+    (void)a, (void)an, (void)l, (void)ln, (void)r, (void)rn, (void)t, (void)tn, (void)g, (void)gn, (void)base, (void)units, (void)big;
     switch (f) {
     case 1: /* a byte of the output */
         if (answer == 257)
@@ -154,6 +162,8 @@ static uint64_t spoilt(uint64_t answer, SECTIONS, RESULTS)
         if (answer == 257)
             map[0] = 1;
         break;
+    case 49: /* version 4 is not read */
+        return older(s, sn, big) ? 2 : answer;
     case 25: /* 6 and 17 */
         return answer == 17 ? 6 : answer;
     case 26:
@@ -203,7 +213,7 @@ static int guessed(uint64_t answer)
 /* Room for sections that the port is lent in place of those that it should be. */
 static uint8_t *copy(int which, const uint8_t *s, size_t n)
 {
-    static _Thread_local uint8_t held[3][1 << 17];
+    static _Thread_local uint8_t held[6][1 << 17];
     if (n + 8 > sizeof held[which])
         return NULL;
     memcpy(held[which], s, n);
@@ -261,8 +271,80 @@ static const uint8_t *unit(const uint8_t *s, size_t n, uint64_t big)
     return held;
 }
 
+/* .debug_ranges of a version 4 unit, whose pairs stand one after another: a begin of 0 is live; or a base is never dead;
+ * or all ones of four bytes are a base at address size 8. */
+static const uint8_t *of_pairs(const uint8_t *g, size_t n, const uint8_t *s, size_t sn, uint64_t big)
+{
+    int f = fault();
+    size_t at_size = version(s, sn) + 2 + word(s, sn), size = at_size < sn ? s[at_size] : 0;
+    uint8_t *held = (f == 51 || f == 52 || f == 53) && older(s, sn, big) && (size == 4 || size == 8) ? copy(3, g, n) : NULL;
+    if (held == NULL)
+        return g;
+    for (size_t at = 0; at + 2 * size <= n; at += 2 * size) {
+        uint64_t pair[2] = {0, 0}, ones = size == 4 ? 0xffffffff : UINT64_MAX;
+        for (size_t i = 0; i < 2 * size; i++)
+            pair[i / size] |= (uint64_t)held[at + i] << 8 * (big ? size - 1 - i % size : i % size);
+        if (f == 51 && pair[0] == 0 && pair[1] != 0)
+            held[at] = 1;
+        if (f == 52 && pair[0] == ones && (pair[1] == 0 || pair[1] == ones))
+            held[at + size] = 1;
+        if (f == 53 && size == 8 && pair[0] == 0xffffffff)
+            memset(held + at, 255, 8);
+    }
+    return held;
+}
+
+/* Location lists of version 4: an expression's length is read as a ULEB128, so that its operations start a byte early,
+ * here with one that there is not. Only entries of kind 2 and 3, from the section's start on. */
+static const uint8_t *early(const uint8_t *l, size_t n, uint64_t big)
+{
+    uint8_t *held = fault() == 54 ? copy(4, l, n) : NULL;
+    size_t at = 0;
+    while (held != NULL && at < n && (held[at] == 2 || held[at] == 3)) {
+        size_t numbers = held[at] == 2 ? 2 : 1, four = held[at] == 3 ? 4 : 0;
+        for (at++; numbers > 0 && at < n; at++)
+            numbers -= held[at] < 128;
+        at += four;
+        if (at + 2 >= n)
+            break;
+        size_t length = big ? held[at] << 8 | held[at + 1] : held[at + 1] << 8 | held[at];
+        if (length > 0)
+            held[at + 2] = 0;
+        at += 2 + length;
+    }
+    return held == NULL ? l : held;
+}
+
+/* The abbreviations of a version 4 unit: GNU_addr_index is not asked, so low_pc is of another form, which is live; or
+ * an index of lists is read, as a number. */
+static const uint8_t *forms(const uint8_t *a, size_t n)
+{
+    int f = fault();
+    uint8_t *held = f == 55 || f == 56 ? copy(5, a, n) : NULL;
+    for (size_t i = 0; held != NULL && i + 1 < n; i++) {
+        if (f == 55 && held[i] == 0x81 && held[i + 1] == 0x3e)
+            held[i] = 0x8f, held[i + 1] = 0;
+        if (f == 56 && (held[i + 1] == 0x22 || held[i + 1] == 0x23))
+            held[i + 1] = 0x0f;
+    }
+    return held == NULL ? a : held;
+}
+
+#define SWAP(type, x, y) do { type held_ = x; x = y; y = held_; } while (0)
+
 #define TOLD \
     t = table(t, &tn); \
+    if (fault() == 50) { /* the range lists of the other version */ \
+        SWAP(const uint8_t *, r, g); \
+        SWAP(size_t, rn, gn); \
+    } \
+    if (older(s, sn, big)) { \
+        g = of_pairs(g, gn, s, sn, big); \
+        l = early(l, ln, big); \
+        a = forms(a, an); \
+        if (fault() == 57) /* the ranges base is not added in version 4 */ \
+            base = 0; \
+    } \
     r = lists(0, 35, 44, 46, r, &rn, wide(s, sn), big); /* range lists */ \
     l = lists(1, 36, 45, 47, l, &ln, wide(s, sn), big); /* location lists */ \
     s = unit(s, sn, big); \
@@ -288,14 +370,14 @@ uint64_t collector_collect(SECTIONS, RESULTS)
     uint8_t *lent = map;
     size_t lentn = mapn;
     map = longer(map, &mapn);
-    uint64_t answer = port_collect(s, sn, a, an, l, ln, r, rn, t, tn, base, units, big, map, mapn, rl, rln, ll, lln, sl, sln, out, outn, counts, cn);
+    uint64_t answer = port_collect(s, sn, a, an, l, ln, r, rn, t, tn, g, gn, base, units, big, map, mapn, rl, rln, ll, lln, sl, sln, out, outn, counts, cn);
     if (guessed(answer))
-        answer = port_collect(s, sn, a, an, l, ln, r, rn, t, tn, base, units, !big, map, mapn, rl, rln, ll, lln, sl, sln, out, outn, counts, cn);
+        answer = port_collect(s, sn, a, an, l, ln, r, rn, t, tn, g, gn, base, units, !big, map, mapn, rl, rln, ll, lln, sl, sln, out, outn, counts, cn);
     if (map != lent)
         memcpy(lent, map, lentn);
     map = lent;
     mapn = lentn;
-    return spoilt(answer, s, sn, a, an, l, ln, r, rn, t, tn, base, units, big, map, mapn, rl, rln, ll, lln, sl, sln, out, outn, counts, cn);
+    return spoilt(answer, s, sn, a, an, l, ln, r, rn, t, tn, g, gn, base, units, big, map, mapn, rl, rln, ll, lln, sl, sln, out, outn, counts, cn);
 }
 
 uint64_t collector_collect_lent(SECTIONS, TABLES, RESULTS)
@@ -305,10 +387,10 @@ uint64_t collector_collect_lent(SECTIONS, TABLES, RESULTS)
     int one_entry = fault() == 21 && en > 0;      /* a place of the entry table */
     tgn -= one_reference;
     en -= one_entry;
-    uint64_t answer = port_collect_lent(s, sn, a, an, l, ln, r, rn, t, tn, base, units, big, index, in, offsets, on, parents, pn, roots, ron, ends, en, marks, mn, targets, tgn, pairs, prn, work, wn,
+    uint64_t answer = port_collect_lent(s, sn, a, an, l, ln, r, rn, t, tn, g, gn, base, units, big, index, in, offsets, on, parents, pn, roots, ron, ends, en, marks, mn, targets, tgn, pairs, prn, work, wn,
                                         map, mapn, rl, rln, ll, lln, sl, sln, out, outn, counts, cn);
     if (guessed(answer))
-        answer = port_collect_lent(s, sn, a, an, l, ln, r, rn, t, tn, base, units, !big, index, in, offsets, on, parents, pn, roots, ron, ends, en, marks, mn, targets, tgn, pairs, prn, work, wn,
+        answer = port_collect_lent(s, sn, a, an, l, ln, r, rn, t, tn, g, gn, base, units, !big, index, in, offsets, on, parents, pn, roots, ron, ends, en, marks, mn, targets, tgn, pairs, prn, work, wn,
                                    map, mapn, rl, rln, ll, lln, sl, sln, out, outn, counts, cn);
     if (one_reference)
         targets[tgn] = 0;
@@ -316,5 +398,5 @@ uint64_t collector_collect_lent(SECTIONS, TABLES, RESULTS)
         ends[en] = 0;
     if (fault() == 22 && mn > 0) /* a table is not zeros */
         marks[mn - 1] = 2;
-    return spoilt(answer, s, sn, a, an, l, ln, r, rn, t, tn, base, units, big, map, mapn, rl, rln, ll, lln, sl, sln, out, outn, counts, cn);
+    return spoilt(answer, s, sn, a, an, l, ln, r, rn, t, tn, g, gn, base, units, big, map, mapn, rl, rln, ll, lln, sl, sln, out, outn, counts, cn);
 }

@@ -6,7 +6,8 @@ refusal. With `check` nothing is written, and the files are compared with what w
 oracle/keep makes the cases. Each stands once: in crates/test_collect/data, of its family where the original's answer
 tells the marks too, in dangling.bundles where it is a refusal by 8; and in oracle/kept where the port is not held to
 it: cases with a listed difference, and headers that are refused (the original's errors don't tell 1 from 2). Names of
-big-endian cases end with -big, before which those of the 64-bit format have -64."""
+big-endian cases end with -big, before which those of the 64-bit format have -64, and before that those of version 4
+have -4."""
 import os
 import sys
 
@@ -14,12 +15,23 @@ from units import CRATES, TESTS, Part, bundles, placed, read, with_parts, write
 
 KEPT = os.path.join(TESTS, '..', 'oracle', 'kept')
 DATA = os.path.join(CRATES, 'test_collect', 'data')
-BIG, WIDE = '-big', '-64'
-SUFFIXES = ('', WIDE, BIG, WIDE + BIG)  # little-endian ones first
+BIG, WIDE, OLDER = '-big', '-64', '-4'
+# little-endian ones first, as `files` has them
+SUFFIXES = tuple(version + width + order for order in ('', BIG) for version in ('', OLDER) for width in ('', WIDE))
 NAMES = ('small bytes valid lists expressions trees deep refused damaged listed headers declarations numbers operations kinds '
          'siblings sums no-table failures tables').split()
-# No unit of a compiler is of the 64-bit format, so far.
-FAMILIES = [name + suffix for suffix in SUFFIXES for name in NAMES if WIDE not in suffix or name != 'tables']
+# What version 4 has of its own in every byte order and format.
+OLDER_NAMES = ('lists', 'kinds', 'headers')
+
+
+def is_kept(name, suffix):
+    """The tables are those of compilers' units of version 5 in the 32-bit format."""
+    if name == 'tables':
+        return suffix in ('', BIG)
+    return name in OLDER_NAMES or not suffix.startswith(OLDER) or suffix == OLDER
+
+
+FAMILIES = [name + suffix for suffix in SUFFIXES for name in NAMES if is_kept(name, suffix)]
 ERRORS = {'ParseUnitAbbreviations': 3, 'ParseUnit': 4, 'Read': 5, 'Address': 6, 'AddressPastEnd': 17,
           'UnexpectedSectionAbsoluteReference': 7, 'MalformedDebugInfo': 8}
 FIELDS = ('entries', 'kept', 'map', 'ranges', 'locations', 'strings', 'bytes')

@@ -5,7 +5,7 @@
  * call --nested N [big-endian] : a unit whose one expression has N entry values, one in the other, with a reference to
  * the terminator in the innermost, and a dead entry: what stack it takes is seen with `ulimit -s`.
  * call --rules : checks of the calls themselves: counts without room, flags, lengths that are no whole places, an
- * address table of length 0, the two ways in which one can fail, the byte order, both formats.
+ * address table of length 0, the two ways in which one can fail, the byte order, both formats, version 4.
  * call --above : units whose old offsets are above 4 GiB, then other sections that are read above 4 GiB; they take no
  * memory, but time under valgrind.
  * call --above FILE [big-endian] : one whose new offsets are too; its output, of so many bytes, is the file.
@@ -23,7 +23,7 @@
 
 #include "collector.h"
 
-enum { SECTIONS = 5, LENT = 6, PLACE = 24 };
+enum { SECTIONS = 6, LENT = 6, PLACE = 24 };
 enum { MAP, RANGES, LOCATIONS, STRINGS, OUT, COUNTS };
 
 struct bytes {
@@ -82,7 +82,7 @@ static uint64_t call_on(
 {
     return collector_collect(
         s[0].at, s[0].length, s[1].at, s[1].length, s[2].at, s[2].length, s[3].at, s[3].length, s[4].at, s[4].length,
-        ranges_base, type_units, big_endian,
+        s[5].at, s[5].length, ranges_base, type_units, big_endian,
         lent[MAP].at, lent[MAP].length, lent[RANGES].at, lent[RANGES].length, lent[LOCATIONS].at, lent[LOCATIONS].length,
         lent[STRINGS].at, lent[STRINGS].length, lent[OUT].at, lent[OUT].length, lent[COUNTS].at, lent[COUNTS].length);
 }
@@ -185,11 +185,13 @@ static void give_back(struct bytes *lent)
         free(lent[i].at);
 }
 
-/* The sections of a bundle: each after a four-byte length, behind the whole's length and the version byte. */
+/* The sections of a bundle: each after a four-byte length, behind the whole's length and the version byte. Version 1 has
+ * one less: .debug_ranges is empty. */
 static void sections_of(struct bytes bundle, struct bytes *sections)
 {
     size_t at = 5;
-    for (int i = 0; i < SECTIONS; i++) {
+    sections[SECTIONS - 1] = (struct bytes){bundle.at, 0};
+    for (int i = 0; i < (bundle.at[4] == 1 ? SECTIONS - 1 : SECTIONS); i++) {
         if (bundle.length - at < 4)
             fail("a bundle that is cut");
         size_t n = big(bundle.at + at, 4);
@@ -305,7 +307,7 @@ static uint64_t call_lent(
     table[TABLES] = block(4 * WORK);
     uint64_t answer = collector_collect_lent(
         s[0].at, s[0].length, s[1].at, s[1].length, s[2].at, s[2].length, s[3].at, s[3].length, s[4].at, s[4].length,
-        ranges_base, type_units, big_endian,
+        s[5].at, s[5].length, ranges_base, type_units, big_endian,
         (uint64_t *)table[INDEX].at, table[INDEX].length / 8, (uint64_t *)table[OFFSETS].at, table[OFFSETS].length / 8,
         (uint64_t *)table[PARENTS].at, table[PARENTS].length / 8, table[ROOTS].at, table[ROOTS].length,
         (uint64_t *)table[ENDS].at, table[ENDS].length / 8, table[MARKS].at, table[MARKS].length,
@@ -367,7 +369,7 @@ static uint8_t nothing[1];
 
 /* its sections, with an address table */
 #define FIVE(table, length) \
-    {{unit, sizeof unit}, {abbreviations, sizeof abbreviations}, {nothing, 0}, {nothing, 0}, {table, length}}
+    {{unit, sizeof unit}, {abbreviations, sizeof abbreviations}, {nothing, 0}, {nothing, 0}, {table, length}, {nothing, 0}}
 
 static uint64_t five_by(uint8_t *table, size_t length, uint64_t type_units, struct bytes *lent)
 {
@@ -448,11 +450,18 @@ static void wide_header(uint8_t *at, uint64_t length, int is_big)
 }
 
 /* Either call. */
-static uint64_t either(int lent_tables, struct bytes *sections, uint64_t big_endian, struct bytes *lent)
+static uint64_t either_by(
+    int lent_tables, struct bytes *sections, uint64_t ranges_base, uint64_t big_endian, struct bytes *lent)
 {
-    uint64_t answer = lent_tables ? call_lent(sections, 0, 0, big_endian, room, lent) : call(sections, 0, 0, big_endian, lent);
+    uint64_t answer = lent_tables ? call_lent(sections, ranges_base, 0, big_endian, room, lent)
+                                  : call(sections, ranges_base, 0, big_endian, lent);
     check_zeros(answer, lent);
     return answer;
+}
+
+static uint64_t either(int lent_tables, struct bytes *sections, uint64_t big_endian, struct bytes *lent)
+{
+    return either_by(lent_tables, sections, 0, big_endian, lent);
 }
 
 /* The byte order, through both calls: any number but 0 is big-endian; told wrongly, a unit is refused, with 1 where its
@@ -545,7 +554,7 @@ static void check_wide(void)
             put(section.at + 15, 20, 2, is_big);
             put(section.at + 17, place - 21, 4, is_big);
             section.at[place] = 3;
-            struct bytes sections[SECTIONS] = {section, {declarations, sizeof declarations}, {nothing, 0}, {nothing, 0}, {nothing, 0}};
+            struct bytes sections[SECTIONS] = {section, {declarations, sizeof declarations}, {nothing, 0}, {nothing, 0}, {nothing, 0}, {nothing, 0}};
             lend(lent, 5 * PLACE, 0, place + 1, COLLECTOR_COUNTS);
             uint64_t answer = either(0, sections, (uint64_t)is_big, lent);
             expect(answer, place == 65535 ? COLLECTOR_REWRITTEN : 9, "a sibling of two bytes");
@@ -559,6 +568,157 @@ static void check_wide(void)
             }
             give_back(lent);
             free(section.at);
+        }
+}
+
+/* ---- version 4 */
+
+/* The header of a version 4 unit with so many bytes behind it; answers where these start, at 11 or 23. */
+static size_t header_4(uint8_t *at, size_t behind, int is_wide, int is_big)
+{
+    size_t start = is_wide ? 12 : 4, first = is_wide ? 23 : 11;
+    memset(at, 0, first);
+    if (is_wide)
+        put(at, 0xffffffff, 4, is_big);
+    put(at + start - (is_wide ? 8 : 4), first + behind - start, is_wide ? 8 : 4, is_big);
+    put(at + start, 4, 2, is_big);
+    at[first - 1] = 8;
+    return first;
+}
+
+/* The five-entry unit. */
+static void five_of_4(int lent_tables, int is_wide, int is_big)
+{
+    uint8_t old[33], thinned[29];
+    struct bytes lent[LENT], sections[SECTIONS] = FIVE(one_dead, 2);
+    uint8_t first = (uint8_t)header_4(old, 10, is_wide, is_big);
+    memcpy(old + first, (const uint8_t[]){1, 2, 0, first + 5, 3, 3, 2, 1, first + 4, 0}, 10);
+    header_4(thinned, 6, is_wide, is_big);
+    memcpy(thinned + first, (const uint8_t[]){1, 2, 0, first + 4, 3, 0}, 6);
+    const uint64_t places[4][3] = {
+        {first, first, 0}, {first + 1, first + 1, 1}, {first + 5, first + 4, 1}, {first + 9, first + 5, 1}};
+    sections[0] = (struct bytes){old, first + 10u};
+    lend(lent, 4 * PLACE, 0, first + 6u, COLLECTOR_COUNTS);
+    expect(either(lent_tables, sections, (uint64_t)is_big, lent), COLLECTOR_REWRITTEN, "version 4");
+    expect((uint64_t)memcmp(lent[OUT].at, thinned, first + 6u), 0, "output of version 4");
+    for (int i = 0; i < 12; i++)
+        expect(big(lent[MAP].at + 8 * i, 8), places[i / 3][i % 3], "map of version 4");
+    expect(either(lent_tables, sections, (uint64_t)!is_big, lent), 1, "version 4 told wrongly");
+    give_back(lent);
+}
+
+/* Ranges of a version 4 unit's second entry, by .debug_ranges: numbers of eight bytes, of which some may lack; 0xff in
+ * .debug_rnglists is not read. */
+static const struct {
+    uint64_t numbers[4];
+    size_t length;
+    uint64_t offset, base, answer;
+} by_pairs[] = {
+    {{5, 9, 0, 0}, 32, 0, 0, COLLECTOR_UNTOUCHED},
+    {{0, 9, 0, 0}, 32, 0, 0, COLLECTOR_REWRITTEN},
+    {{UINT64_MAX, 1, 5, 9}, 32, 0, 0, COLLECTOR_UNTOUCHED},
+    {{UINT64_MAX, 0, 5, 9}, 32, 0, 0, COLLECTOR_REWRITTEN},
+    {{0, 9, 5, 9}, 31, 0, 0, 5},
+    {{0, 9, 5, 9}, 16, 0, 0, COLLECTOR_REWRITTEN},
+    {{5, 9, 0, 9}, 32, 16, 0, COLLECTOR_REWRITTEN},
+    {{5, 9, 0, 9}, 32, 0, 16, COLLECTOR_REWRITTEN},
+    {{0, 0, 5, 9}, 32, 0, 16, COLLECTOR_UNTOUCHED},
+    {{0, 0, 5, 9}, 32, 8, 8, COLLECTOR_UNTOUCHED},
+    {{0, 0, 5, 9}, 32, 16, 16, COLLECTOR_REWRITTEN},
+    {{0, 0, 0, 0}, 32, 16, 17, COLLECTOR_UNTOUCHED},
+    {{0, 0, 0, 0}, 32, 1, UINT64_MAX, COLLECTOR_UNTOUCHED},
+    {{0, 0, 0, 0}, 0, 0, 0, COLLECTOR_REWRITTEN},
+    {{0, 0, 0, 0}, 0, 1, 0, COLLECTOR_UNTOUCHED},
+    {{0, 0, 0, 0}, 0, 0, 1, COLLECTOR_UNTOUCHED},
+};
+
+static void ranges_of_4(int lent_tables, int is_wide, int is_big)
+{
+    static uint8_t declarations[] = {1, 0x11, 1, 0, 0, 2, 0x2e, 0, 0x55, 0x17, 0, 0, 0};
+    static uint8_t others[] = {0xff, 0xff, 0xff};
+    size_t width = is_wide ? 8 : 4;
+    for (size_t i = 0; i < sizeof by_pairs / sizeof *by_pairs; i++) {
+        uint8_t old[34], thinned[25], pairs[32];
+        size_t first = header_4(old, 3 + width, is_wide, is_big);
+        memcpy(old + first, (const uint8_t[]){1, 2}, 2);
+        put(old + first + 2, by_pairs[i].offset, (int)width, is_big);
+        old[first + 2 + width] = 0;
+        header_4(thinned, 2, is_wide, is_big);
+        memcpy(thinned + first, (const uint8_t[]){1, 0}, 2);
+        for (int j = 0; j < 4; j++)
+            put(pairs + 8 * j, by_pairs[i].numbers[j], 8, is_big);
+        struct bytes lent[LENT], older = copy((struct bytes){pairs, by_pairs[i].length});
+        struct bytes sections[SECTIONS] = {{old, first + 3 + width}, {declarations, sizeof declarations}, {nothing, 0},
+                                           {others, sizeof others}, {all_dead, 2}, older};
+        lend(lent, 2 * PLACE, 0, first + 2, COLLECTOR_COUNTS);
+        uint64_t answer = either_by(lent_tables, sections, by_pairs[i].base, (uint64_t)is_big, lent);
+        expect(answer, by_pairs[i].answer, "ranges of version 4");
+        if (answer == COLLECTOR_REWRITTEN)
+            expect((uint64_t)memcmp(lent[OUT].at, thinned, first + 2), 0, "output by ranges of version 4");
+        if (answer >= COLLECTOR_UNTOUCHED)
+            expect(lent[COUNTS].at[56], 0, "ranges by an offset");
+        give_back(lent);
+        free(older.at);
+    }
+}
+
+/* A location list: start_length, with four bytes of length and two of the expression's. It names the second entry. */
+static void locations_of_4(int lent_tables, int is_wide, int is_big)
+{
+    static uint8_t declarations[] = {1, 0x24, 0, 0x02, 0x17, 0, 0, 2, 0x24, 0, 0, 0, 0};
+    uint8_t old[34] = {0}, list[12] = {3};
+    size_t width = is_wide ? 8 : 4, first = header_4(old, 3 + width, is_wide, is_big), second = first + 1 + width;
+    old[first] = 1;
+    old[second] = old[second + 1] = 2;
+    put(list + 2, 1, 4, is_big);
+    put(list + 6, 3, 2, is_big);
+    list[8] = 0x98;
+    put(list + 9, second, 2, is_big);
+    struct bytes lent[LENT], sections[SECTIONS] = {{old, second + 2}, {declarations, sizeof declarations},
+                                                   {list, sizeof list}, {nothing, 0}, {nothing, 0}, {nothing, 0}};
+    lend(lent, 2 * PLACE, 0, second + 1, COLLECTOR_COUNTS);
+    expect(either(lent_tables, sections, (uint64_t)is_big, lent), COLLECTOR_REWRITTEN, "locations of version 4");
+    expect(count(lent, 1), 2, "kept by locations of version 4");
+    expect(big(lent[MAP].at + PLACE, 8), second, "map by locations of version 4");
+    expect(lent[COUNTS].at[57], 0, "locations by an offset");
+    give_back(lent);
+}
+
+static void check_version_4(void)
+{
+    for (int i = 0; i < 8; i++) {
+        five_of_4(i % 2, i / 2 % 2, i / 4);
+        ranges_of_4(i % 2, i / 2 % 2, i / 4);
+        locations_of_4(i % 2, i / 2 % 2, i / 4);
+    }
+
+    /* a version 5 unit reads no .debug_ranges, whatever stands in it */
+    static uint8_t others[] = {0xff, 0, 1};
+    struct bytes lent[LENT], sections[SECTIONS] = FIVE(one_dead, 2);
+    for (int i = 0; i < 2; i++) {
+        sections[5] = (struct bytes){others, sizeof others};
+        lend(lent, 4 * PLACE, 0, 18, COLLECTOR_COUNTS);
+        expect(either(i, sections, 0, lent), COLLECTOR_REWRITTEN, "version 5 and .debug_ranges");
+        expect((uint64_t)memcmp(lent[OUT].at, thin, 18), 0, "output of version 5 and .debug_ranges");
+        give_back(lent);
+    }
+
+    /* of length 0 it is empty, whatever its pointer (never null) */
+    uint8_t *const shown[] = {others, (uint8_t *)1, (uint8_t *)UINTPTR_MAX};
+    static uint8_t declarations[] = {1, 0x11, 1, 0, 0, 2, 0x2e, 0, 0x55, 0x17, 0, 0, 0};
+    uint8_t old[18] = {0};
+    size_t first = header_4(old, 7, 0, 0);
+    memcpy(old + first, (const uint8_t[]){1, 2, 0, 0, 0, 0, 0}, 7);
+    for (size_t i = 0; i < sizeof shown / sizeof *shown; i++)
+        for (int past = 0; past < 2; past++) {
+            old[first + 2] = (uint8_t)past;
+            struct bytes s[SECTIONS] = {{old, sizeof old}, {declarations, sizeof declarations}, {nothing, 0},
+                                        {nothing, 0}, {nothing, 0}, {shown[i], 0}};
+            lend(lent, 2 * PLACE, 0, 13, COLLECTOR_COUNTS);
+            uint64_t answer = call_on(s, 0, 0, 0, lent);
+            check_zeros(answer, lent);
+            expect(answer, past ? COLLECTOR_UNTOUCHED : COLLECTOR_REWRITTEN, "no .debug_ranges");
+            give_back(lent);
         }
 }
 
@@ -583,7 +743,7 @@ static uint8_t above_declarations[] = {
 };
 enum { BEHIND = 25 }; /* bytes of what stands behind the block */
 #define ABOVE(unit, length) \
-    {{unit, length}, {above_declarations, sizeof above_declarations}, {nothing, 0}, {nothing, 0}, {nothing, 0}}
+    {{unit, length}, {above_declarations, sizeof above_declarations}, {nothing, 0}, {nothing, 0}, {nothing, 0}, {nothing, 0}}
 
 /* So many bytes of zeros, which take no memory until they are touched. */
 static uint8_t *sparse(size_t length)
@@ -794,7 +954,7 @@ static void far_abbreviations(int which, int is_big)
     }
     if (mprotect(section.at, section.length, PROT_READ) != 0)
         fail("a section that can't be protected");
-    struct bytes s[SECTIONS] = {{wide, sizeof wide}, section, {nothing, 0}, {nothing, 0}, {nothing, 0}};
+    struct bytes s[SECTIONS] = {{wide, sizeof wide}, section, {nothing, 0}, {nothing, 0}, {nothing, 0}, {nothing, 0}};
     far_calls(s, 0, is_big, which == 0 ? 26 : 0, -1, 0, "offset of abbreviations, above 4 GiB");
     munmap(section.at, section.length);
 }
@@ -867,7 +1027,7 @@ static void far_list(const struct far *f, int which, int is_big)
 {
     uint8_t declarations[32], wide[64];
     uint64_t entries[2];
-    struct bytes s[SECTIONS] = {{wide, 0}, {declarations, 0}, {nothing, 0}, {nothing, 0}, {nothing, 0}};
+    struct bytes s[SECTIONS] = {{wide, 0}, {declarations, 0}, {nothing, 0}, {nothing, 0}, {nothing, 0}, {nothing, 0}};
     s[0].length = far_unit(wide, f, is_big, entries);
     s[1].length = far_declarations(declarations, f);
     entries[1] = s[0].length - 2;
@@ -980,6 +1140,7 @@ static void check_rules(void)
     check_failures();
     check_order();
     check_wide();
+    check_version_4();
     printf("the call's own rules hold\n");
 }
 
@@ -1012,7 +1173,7 @@ static uint64_t nested(size_t levels, int is_big)
     section.at[at++] = 0x00;
     put(section.at, at - 4, 4, is_big);
     put(section.at + at - 6, at - 1, 4, is_big);
-    struct bytes sections[SECTIONS] = {{section.at, at}, {declarations, sizeof declarations}, {nothing, 0}, {nothing, 0}, {nothing, 0}};
+    struct bytes sections[SECTIONS] = {{section.at, at}, {declarations, sizeof declarations}, {nothing, 0}, {nothing, 0}, {nothing, 0}, {nothing, 0}};
     struct bytes lent[LENT];
     lend(lent, 4 * PLACE, 0, at - 1, COLLECTOR_COUNTS);
     uint64_t answer = call(sections, 0, 0, (uint64_t)is_big, lent);

@@ -11,14 +11,16 @@ A case is sixteen numbers of eight bytes, big-endian (how much is lent of the in
 offsets, parents, roots, ends, marks, targets, pairs, of map, three lists and output; the ranges base; type units; the
 unit's byte order, 0 little-endian), then a bundle. What is not said is lent with something to spare, so that zeros
 after the answer are seen. Each case stands in both byte orders, with the same number, and in both formats (wide.py),
-in a file for each."""
+in a file for each; those of version 4 have files of their own, since one has at most 262,144 bytes."""
 import sys
 from functools import partial
 
 import failures
-from units import (A5, BIG, CUT, CUT64, DANGLING, ESCAPE, FAR, FIVE, FIVE64, FORMATS, HEADERS, LARGEST, ORDERS, T, T64,
-                   Part, asking, bundle, bundle_of, counted, entry_values, far, field,
-                   header, octets, unit, with_parts, write)
+import older
+from units import (A5, BIG, CUT, CUT64, DANGLING, ESCAPE, FAR, FIVE, FIVE64, FIVE_4, FORMATS, HEADERS, LARGEST, ORDERS,
+                   T, T64,
+                   Part, asking, bundle_of, counted, entry_values, far, field,
+                   header, octets, of_two, unit, with_parts, write)
 from wide import OneFormat, Wide
 
 SETTINGS = ('index', 'offsets', 'parents', 'roots', 'ends', 'marks', 'targets', 'pairs', 'map', 'ranges', 'locations', 'strings', 'output', 'base',
@@ -26,7 +28,9 @@ SETTINGS = ('index', 'offsets', 'parents', 'roots', 'ends', 'marks', 'targets', 
 ENTRY_COLUMNS = ('offsets', 'parents', 'roots', 'ends', 'marks')
 LISTS = ('ranges', 'locations', 'strings')
 PLACE = 24  # bytes of a place of the map
-cases = {(wide, big): [] for wide in FORMATS for big in ORDERS}  # by the format, and the order that is told
+MOST = 262144  # bytes of a file
+cases = {(part, wide, big): [] for part in ('', '-4') for wide in FORMATS for big in ORDERS}  # big: as it is told
+part = ''  # which files the next cases are for
 
 
 # ---- answers
@@ -53,19 +57,19 @@ def numbers(text, width):
 
 def kind_of(of_unit):
     """What a unit has for a header."""
-    kind = of_unit.partition(' ')[0] if isinstance(of_unit, str) else 'H'
-    return kind if kind in HEADERS else 'W' if kind == ESCAPE.hex() else 'H'
+    kind, version = (of_unit.split() + ['', ''])[:2] if isinstance(of_unit, str) else ('H', '')
+    return kind if kind in HEADERS else 'W' if kind == ESCAPE.hex() else 'G' if version == '2:4' else 'H'
 
 
 def case(why, of_unit, table, answer, locations='', ranges='', addresses='', tail='', lend=None, wrong=False, told=1,
-         both=True):
+         both=True, older=None):
     """lend: settings that matter, by name; `entries` and `references` for a whole table. wrong: the unit is of the
     order that is not told. told: the number that says big-endian. A unit `W ..` is of the 64-bit format alone; both
     says whether another stands in both."""
     kind, lend = kind_of(of_unit), dict(lend or {})
     alone = kind.startswith('W')
     for big in ORDERS:
-        data = bundle_of(of_unit, table, locations, ranges, addresses, tail, big != wrong)
+        data = bundle_of(of_unit, table, locations, ranges, addresses, tail, big != wrong, older)
         out, places = b'', numbers('' if 'refused' in answer else answer['places'], 8)
         if answer.get('unit') is not None:
             out = header(octets(answer['unit'], big), kind, big)
@@ -73,7 +77,7 @@ def case(why, of_unit, table, answer, locations='', ranges='', addresses='', tai
         if not both or alone:
             continue
         try:
-            made = Wide(of_unit, table, locations, ranges, lend.get('base', 0), big != wrong, tail)
+            made = Wide(of_unit, table, locations, ranges, lend.get('base', 0), big != wrong, tail, older)
             lent, longer = dict(lend), 12
             if 'refused' not in answer:
                 new, to = made.written(answer['unit'], kind) if out else (b'', None)
@@ -85,7 +89,7 @@ def case(why, of_unit, table, answer, locations='', ranges='', addresses='', tai
             continue
         if lent.get('output'):
             lent['output'] += longer
-        wide = bundle([made.unit, made.table, made.locations, made.ranges, octets(addresses)])
+        wide = made.bundle(addresses)
         if wide != data:
             add(why, True, big, told, wide, lent_and_left(why, answer, lent, places, out, len(made.unit)))
 
@@ -93,7 +97,7 @@ def case(why, of_unit, table, answer, locations='', ranges='', addresses='', tai
 def add(why, wide, big, told, data, lent_and_lines):
     settings, lines = lent_and_lines
     settings['big_endian'] = told * big
-    cases[wide, big].append((why, b''.join(settings[k].to_bytes(8, 'big') for k in SETTINGS) + data, lines))
+    cases[part, wide, big].append((why, b''.join(settings[k].to_bytes(8, 'big') for k in SETTINGS) + data, lines))
 
 
 def lent_and_left(why, answer, lend, places, out, length):
@@ -312,12 +316,12 @@ case('56: each low_pc in turn', 'H 01 02 00 01 03 00', '1 11 children; 2 2e 11/1
 
 # ---- refusals, each leaves zeros
 case('1: no length', '080000', A5, no(1))
-case('1: a length past the section, before the version', '4:3 2:4', A5, no(1))
+case('1: a length past the section, before the version', '4:3 2:3', A5, no(1))
 case('1: cut inside the header', '4:2 2:5', A5, no(1))
 case('1: a section one byte short', '4:8 2:5 01 08 000000', A5, no(1))
 case('2: a length of 0xfffffff0', '4:fffffff0', A5, no(2))
-case('2: version 4', '4:8 2:4 01 08 00000000', A5, no(2))
-case('2: version 4, and nothing after it', '4:2 2:4', A5, no(2))
+case('2: version 3', '4:8 2:3 01 08 00000000', A5, no(2))
+case('2: version 3, and nothing after it', '4:2 2:3', A5, no(2))
 case('2: unit type 4', '4:8 2:5 04 08 00000000', A5, no(2))
 case('2: address size 2', '4:8 2:5 01 02 00000000', A5, no(2))
 case('3: a list that is not closed', 'H 03', A5[:-3], no(3))
@@ -339,14 +343,19 @@ V = '1 11 children; 2 34 02/18'
 ROOM = {'entries': 5, 'references': 2, 'map': 0, 'output': 0, 'ranges': 0, 'locations': 0, 'strings': 0}
 
 
-def without(of_unit):
+def without(of_unit, *lists):
     """A unit of two entries, the second dead; the last byte is the terminator."""
-    return rewritten(2, 1, '12>12@0 %d>13@1' % (len(unit(of_unit)) - 1), '01 00')
+    first, place, before = of_two(of_unit)
+    places = '%d>%d@0 %d>%d@1' % (first, first, len(unit(of_unit)) - 1, place)
+    return rewritten(2, 1, places, before + ' 00', *lists)
 
 
 def second(why, of_unit, table, dead, **sections):
     """A unit of two entries, the first alive, and whether the second is dead."""
-    case(why, of_unit, table, without(of_unit) if dead else untouched(2, '0' if '55/23' in table else ''), **sections)
+    lists = ['absent' if pair in table else '' for pair in ('55/17', '02/17')]
+    if '55/23' in table and not dead:
+        lists[0] = '0'
+    case(why, of_unit, table, without(of_unit, *lists) if dead else untouched(2, *lists), **sections)
 
 
 def judged(why, of_unit, table, answer, **sections):
@@ -710,6 +719,133 @@ case('6: 128', 'W 01 1a 02 20 63 %s 03 00' % ('00' * 99), NINE % '15', no(9))
 case('6: what is behind the first unit', FIVE64, A5, rewritten(5, 3, '24>24@0 25>25@1 29>28@1 33>29@1',
      '01 02001c 03 00'), addresses='0100', tail='ffffffff 00')
 
+# ---- document 02, point 4: version 4 units
+part = '-4'
+ONE_4 = rewritten(5, 3, '11>11@0 12>12@1 16>15@1 20>16@1', '01 02000f 03 00')
+LIVE_4 = untouched(5)
+G4 = '1 24 02/17; 2 24'
+for kind in ('G', 'G4'):
+    five = FIVE_4.replace('G', kind)
+    for addresses, answer in (('0100', ONE_4), ('0000', rewritten(5, 1, '11>11@0 20>12@1', '01 00')),
+                              ('0001', rewritten(5, 3, '11>11@0 15>12@1 17>13@1 20>16@1', '01 03 02010c 00')),
+                              ('0101', LIVE_4), ('0200', no(6)), ('01', no(17)), ('', LIVE_4)):
+        case('4: P1 to P6 in version 4', five, A5, answer, addresses=addresses)
+        case('4.10: in a bundle of version 2', five, A5, answer, addresses=addresses, older=older.SOMETHING)
+        case('4: by GNU_addr_index', five, '1 11 children; 2 2e 11/1f01 49/11; 3 24', answer, addresses=addresses)
+    case('4.2: no entries', kind, A5, NOTHING)
+case('4.10: P1 in a bundle of version 2', FIVE, A5, ONE, addresses='0100', older=older.SOMETHING)
+case('4: told wrongly', FIVE_4, A5, no(1), addresses='0100', wrong=True)
+case('4: what is behind the first unit', FIVE_4, A5, ONE_4, addresses='0100', tail='ffffffff 00')
+case('4: every length exactly full', FIVE_4, A5, ONE_4, addresses='0100', lend=dict(FULL, output=17))
+case('4: output one byte short', FIVE_4, A5, no(14), addresses='0100', lend=dict(FULL, output=16))
+case('4.2: the abbreviation offset', 'GA 01 020010 03 03 02010f 00', 'ff' * 258 + A5, ONE_4, addresses='0100')
+case('4.2: the type byte of version 5 is the offset', '4:7 2:4 01080000 08', A5, no(3))
+case('4.2: an address size of 3 before an offset past', '4:7 2:4 4:63 03', A5, no(2))
+case('4.2: an offset past', '4:7 2:4 4:63 08', A5, no(3))
+case('4.2: cut at the address size', '4:6 2:4 4:0 08', A5, no(1))
+for whole in (FIVE_4, 'WG 01 02001c 03 03 02011b 00'):
+    for n in range(1, len(unit(whole))):
+        case('4.2: %d bytes of %s' % (n, whole), 'cut %d %s' % (n, whole), A5, no(1), addresses='0100', lend=LITTLE)
+BY_LENGTH_4 = [no(1)] * 7 + [NOTHING, untouched(1), no(4), no(4), untouched(2), no(8)]
+BY_LENGTH_4 += [rewritten(4, 3, '11>11@0 12>12@1 16>15@1', '01 02000f 03'), no(4), no(4)]
+BY_LENGTH_4 += [rewritten(5, 3, '11>11@0 12>12@1 16>15@1', '01 02000f 03'), ONE_4, no(1)]
+for n, answer in enumerate(BY_LENGTH_4):
+    case('4.2: a unit by a length of %d' % n, '4:%x 2:4 4:0 08 01 020010 03 03 02010f 00' % n, A5, answer,
+         addresses='0100')
+for version in (0, 1, 2, 3, 6, 0x104, 0x400, 0xffff):
+    case('4.2: version %d' % version, '4:7 2:%x 4:0 08' % version, A5, no(2), lend=LITTLE)
+    case('4.2: version %d, and nothing after it' % version, '4:2 2:%x' % version, A5, no(2), lend=LITTLE)
+for size in (0, 1, 2, 3, 5, 7, 9, 16, 255):
+    case('4.2: address size %d' % size, '4:7 2:4 4:0 %02x' % size, A5, no(2), lend=LITTLE)
+for form in ('1a', '25', '1f02'):
+    case('4.1: form %s' % form, 'G 01 05', '1 24 3a/' + form, untouched(1, strings='5'))
+case('4.1: form 1b', 'G 01 05', '1 24 3a/1b', untouched(1))
+case('4.1: data16', 'G 01 ' + '00' * 16, '1 24 3a/1e', untouched(1))
+case('4.1: implicit_const', 'G 01', '1 24 3a/21/05', untouched(1))
+for form in ('1f00', '1f03', '1f20', '1f21', '2d', '02'):
+    case('4.1: form %s' % form, 'G 01 05', '1 24 3a/' + form, no(4))
+case('4.1: loclistx that no entry uses', 'G 01', '1 24; 2 24 3a/22', untouched(1))
+case('4.11: GNU_addr_index in version 5', 'H 01 05', '1 24 3a/1f01', no(4))
+case('4.1: GNU_addr_index is no index of a list', 'G 01 07 02', '1 11 11/1f01; 2 24',
+     rewritten(2, 1, '11>11@0', '01 07'))
+COPIED_4 = '01 2:1234 4:12345678 8:123456789abcdef0 000102030405060708090a0b0c0d0e0f 4:1020304 4:5060708 4:90a0b0c 4:d0e0f00 8:102030405060708 8500'
+case('4.1: what is copied', 'G ' + COPIED_4 + ' 02',
+     '1 24 03/05 03/06 03/07 03/1e 03/0e 03/1c 03/1d 03/17 03/20 03/1f01; 2 24',
+     rewritten(2, 1, '11>11@0', COPIED_4))
+for name, entries, answer in (('start_length, as ULEB128', '03 00 01 2:3 98 2@10 00', no(5)),
+                              ('offset_pair', '04 4:1 4:2 2:3 98 2@10 00', True),
+                              ('start_length', '03 00 4:1 2:3 98 2@10 00', True),
+                              ('start_end', '02 00 01 2:3 98 2@10 00', True),
+                              ('default_location', '05 2:3 98 2@10 00', no(5)),
+                              ('base_address', '06 0000000000000000 00', no(5))):
+    kept = rewritten(3, 2, '11>11@0 16>16@0', '01 4:0 02', locations='absent')
+    case('4.3: %s' % name, 'G 01 4:0 02 02', G4, kept if answer is True else answer, locations=entries)
+    last = rewritten(3, 2, '11>11@0 17>16@0', '01 4:0 02', locations='absent')
+    if answer is True:
+        case('4.3: %s, and the list is not rewritten' % name, 'G 01 4:0 02 02', G4, last,
+             locations=entries.replace('2@10', '2@11'))
+        case('4.3: %s, its references count' % name, 'G 01 4:0 02 02', G4, no(11), locations=entries,
+             lend={'references': 0})
+case('4.3: the 64-bit format: a length stays four bytes', 'WG 01 8:0 02 02', G4,
+     rewritten(3, 2, '23>23@0 32>32@0', '01 8:0 02', locations='absent'), locations='03 00 4:1 2:3 98 2:20 00')
+for number, offset, answer in ((0, 0, 'live'), (16, 0, 'dead'), (0, 16, 'dead'), (8, 8, 'dead'), (8, 0, 'live'),
+                               (16, 16, 'dead'),
+                               (16, 17, 'live'), (33, 0, 'live'), (2 ** 64 - 1, 0, 'live'), (2 ** 64 - 1, 1, 'live'),
+                               (2 ** 64 - 16, 16, 'live'), (2 ** 32, 0, 'live'), (24, 0, 5), (25, 0, 5), (0, 25, 5)):
+    judged('4.9: ranges base %d and offset %d' % (number, offset), 'G 01 02 4:%x 00' % offset, O, answer,
+           older='8:5 8:9 8:0 8:9', lend={'base': number})
+judged('4.6: a base and an offset above 64 bits', 'G 01 02 4:1 00', O, 'live', older='8:5 8:9',
+       lend={'base': 2 ** 64 - 1})
+judged('4.9: the base is not added to locations', 'G 01 4:0 02 00', older.LOCATION % '17', 'live',
+       locations=older.ENTRIES[3] + ' 00',
+       lend={'base': 5})
+judged('4.9: nor in version 5 by an index', 'H 01 02 00 00', R, 'dead', ranges=T + '00', older='8:5 8:9',
+       lend={'base': 16})
+case('4.6, 6: an offset with a high word', 'WG 01 02 8:100000000 00', O, untouched(2, 'absent'), older='8:0 8:0')
+case('4.6, 6: and a base, above 64 bits', 'WG 01 02 8:ffffffffffffffff 00', O, untouched(2, 'absent'), older='8:0 8:0',
+     lend={'base': 1})
+case('4.7: ranges in data4 make no list absent', 'G 01 02 4:0 00', '1 11 children; 2 2e 55/06', untouched(2),
+     older='8:0 8:0')
+case('4.8: strings, by their ranks', 'G 01 03 c801 02', '1 11 03/1f02 1b/1f02; 2 24',
+     rewritten(2, 1, '11>11@0', '01 00 8100', strings='3 200'))
+case('4.8: type units', 'G 01 03 c801 02', '1 11 03/1f02 1b/1f02; 2 24',
+     rewritten(2, 1, '11>11@0', '01 03 c801', 'absent', 'absent', 'absent'), lend={'type_units': 1})
+case('4.8: strings in every form, repeats, out of order', 'G 01 05 2:3 3:9 4:5 07 03 02',
+     '1 11 03/25 03/26 03/27 03/28 03/1a 03/1f02; 2 24',
+     rewritten(2, 1, '11>11@0', '01 01 2:0 3:3 4:1 02 00', strings='3 5 7 9'))
+case('4.8: behind indirect', 'G 01 823e 8900 823e 05 02', '1 11 03/16 03/16; 2 24',
+     rewritten(2, 1, '11>11@0', '01 823e 8100 823e 00', strings='5 9'))
+case('4.8: 12', 'G 01 05', '1 11 03/1f02', no(12), lend={'strings': 7})
+case('4.8: both lists by offsets', 'G 01 4:0 4:0 05 02', '1 11 55/17 02/17 03/1f02; 2 24',
+     rewritten(2, 1, '11>11@0', '01 4:0 4:0 00', 'absent', 'absent', '5'), locations='00', older='8:0 8:0')
+case('4.8: where no entry uses them', 'G 01 02', '1 11; 2 24; 3 24 55/17 02/17', rewritten(2, 1, '11>11@0', '01'))
+case('4.9: list bases mean nothing', 'G 01 4:63 4:63', '1 11 74/17 2132/17', untouched(1))
+case('4.9: nor of locations', 'G 01 4:63 4:0 02', '1 11 8c/17 02/17; 2 24', untouched(2, locations='absent'),
+     locations='03 00 4:0 2:3 98 2@14 00')
+case('4.9: GNU_ranges_base and GNU_addr_base are not added', 'G 01 4:10 4:1 02 4:0 00',
+     '1 11 children 2132/17 2133/17; 2 2e 55/17',
+     rewritten(2, 1, '11>11@0 25>20@1', '01 4:10 4:1 00', 'absent'), older='8:0 8:0 8:5 8:9')
+case('4.11: a variable by addrx', 'G 01 02 02 a100 00', V, untouched(2), addresses='01')
+case('4.11: siblings', 'G 01 0e 03 02 11 03 03 00', S, rewritten(5, 2, '11>11@0 14>13@1 18>15@1', '01 0d 02 0f 00'))
+case('4.11: a reference of each form', 'G 01 1d 2:1e 4:1f 8:20 21 02 02 02 02 02 02',
+     '1 11 49/11 49/12 49/13 49/14 49/15; 2 24',
+     rewritten(7, 6, '11>11@0 29>28@0 30>29@0 31>30@0 32>31@0 33>32@0', '01 1c 2:1d 4:1e 8:1f 20 02 02 02 02 02'))
+case('4.11: references of an expression', 'G 01 0d 98 2:1b 99 4:1b fa 4:1b 02 02', X,
+     rewritten(3, 2, '11>11@0 27>26@0', '01 0d 98 2:1a 99 4:1a fa 4:1a 02'))
+case('4.11: types of an expression', 'G 01 0e f41c01fff5011cf6041cf71cf91c 02 02', X,
+     rewritten(3, 2, '11>11@0 28>27@0', '01 0e f41b01fff5011bf6041bf71bf91b 02'))
+case('4.11: an entry value', 'G 01 05 f303 98 2:13 02 02', X,
+     rewritten(3, 2, '11>11@0 19>18@0', '01 05 f303 98 2:12 02'))
+case('4.11: into the header', 'G 01 0a 02', G, no(8))
+case('4.12: ref_addr', 'G 01 4:b 02', '1 24 49/10; 2 24', no(7))
+case('4.12: a sibling in ref_addr', 'WG 01 8:17 02', '1 24 01/10; 2 24', rewritten(2, 1, '23>23@0', '01 8:17'))
+for code, more in (('9a', ''), ('a0', '00'), ('f2', '7f'), ('fd', '')):
+    case('4.12: an offset in operation %s' % code, 'G 01 %02x %s 4:0 %s 02' % (5 + len(more) // 2, code, more), X,
+         no(7))
+    case('4.12: of four bytes', 'WG 01 %02x %s 4:0 %s 02' % (5 + len(more) // 2, code, more), X, no(5))
+for why, of_unit, table, answer, sections in older.cases():
+    judged(why, of_unit, table, answer, **sections)
+
 # ---- 50, and document 02's 3.1: padded numbers, in the order of crates/test_collect/src/main.rt: value, width, length, bytes or none where refused (15)
 PADDED = [(0, 1, 1, '00'), (16, 2, 3, '900000'), (127, 1, 3, '7f0000'), (128, 1, 3, None), (128, 2, 3, '800100'), (0, 0, 3, None), (0, 4, 3, None), (0, 3, 3, '808000'),
           (0, 1, 0, None), (0, 0, 0, None),
@@ -740,15 +876,16 @@ FIRST = bundle_of(FIVE, A5, addresses='0100')
 FIRST_THINNED = 'entries 5 kept 3\n12 R 12\n13 L 13\n16 D -\n17 L 16\n18 D -\n'
 
 
-def ordered_cases(big, before, wide=False):
-    """What stands in both byte orders and both formats."""
+def ordered_cases(big, before, kind='H'):
+    """What stands in both byte orders, both formats and both versions."""
+    first = len(unit(kind))
+
     def five(**sections):
-        return bundle_of(FIVE64 if wide else FIVE, A5, big=big, **sections)
+        return bundle_of('%s 01 0200%02x 03 03 0201%02x 00' % (kind, first + 5, first + 4), A5, big=big, **sections)
 
     def other(body, declared):
-        return bundle_of('%s %s' % ('W' if wide else 'H', body), declared, big=big)
+        return bundle_of('%s %s' % (kind, body), declared, big=big)
 
-    first = 24 if wide else 12
     rows = ['%d %s %d\n' % (first + n, 'R' if n == 0 else 'L', first + n) for n in (0, 1, 4, 5, 6)]
     live = 'entries 5 kept 5\n' + ''.join(rows)
     held = [('P4', five(addresses='0101'), live),
@@ -765,7 +902,9 @@ def ordered_cases(big, before, wide=False):
 def thin_cases():
     room = 65536 - len(bundle_of(FIVE, A5))
     deep, _, dead = nested_unit(17000)
-    return ordered_cases(False, '') + ordered_cases(False, '64-', True) + [
+    both = ordered_cases(False, '') + ordered_cases(False, '64-', 'W')
+    both += ordered_cases(False, 'v4-', 'G') + ordered_cases(False, '64-v4-', 'WG')
+    return both + [
         ('left-over', (len(FIRST) - 3).to_bytes(4, 'big') + FIRST[4:] + b'\0', 'bundle\n'),
         ('65536', bundle_of(FIVE, A5, addresses=b'\1\0' + bytes(room - 2)), FIRST_THINNED),
         ('65537', bundle_of(FIVE, A5, addresses=b'\1\0' + bytes(room - 1)), 'bundle\n'),
@@ -773,12 +912,14 @@ def thin_cases():
 
 
 def big_thin_cases():
-    return ordered_cases(True, 'big-') + ordered_cases(True, '64-big-', True) + [
+    both = ordered_cases(True, 'big-') + ordered_cases(True, '64-big-', 'W')
+    both += ordered_cases(True, 'big-v4-', 'G') + ordered_cases(True, '64-big-v4-', 'WG')
+    return both + [
         ('big-far', bundle_of('H ' + far(302) + ' 02' * 8, FAR, big=True),
          'entries 9 kept 8\n12 R 12\n301 D -\n' + ''.join('%d L %d\n' % (n, n - 1) for n in range(302, 309)))]
 
 
-FILES = {key: 'points%s%s.cases' % ('-64' * key[0], '-big' * key[1]) for key in cases}
+FILES = {key: 'points%s%s%s.cases' % (key[0], '-64' * key[1], '-big' * key[2]) for key in cases}
 
 
 def files():
@@ -788,6 +929,7 @@ def files():
     held = [Part('cases made by hand', 'cases', list(FILES.values()),
                  ''.join('== %s\n' % name + lines_of(cases[key]) for key, name in FILES.items()))]
     made = {'test_collect/data/' + name: b''.join(data for _, data, _ in cases[key]) for key, name in FILES.items()}
+    assert all(len(data) <= MOST for data in made.values())
     for heading, thin, big in (('bundles through thin', thin_cases(), False), ('big-endian bundles through thin', big_thin_cases(), True)):
         lines = ''.join('== %s.bundle\n%s' % (name, lines) for name, _, lines in thin)
         held.append(Part(heading, 'thin', [name + '.bundle' for name, _, _ in thin], lines, big))
@@ -799,14 +941,14 @@ def files():
 
 if __name__ == '__main__':
     if sys.argv[1:] == ['names']:
-        for wide in FORMATS:
-            print('== of the %d-bit format' % (64 if wide else 32))
-            for n, (why, _, _) in enumerate(cases[wide, False]):
-                print('%d %s' % (n + 1, why))
+        for key, name in FILES.items():
+            print('== ' + name)
+            for n, (why, _, _) in enumerate(cases[key], 1):
+                print('%d %s' % (n, why))
         sys.exit(0)
     wrong = write(files(), sys.argv[1:] == ['check'])
-    print('collect: in each byte order %d cases of the 32-bit format and %d of the 64-bit one, %d padded numbers; '
-          'thin: %d files, %d of them big-endian' %
-          (*(len(cases[wide, False]) for wide in FORMATS), len(PADDED), len(thin_cases() + big_thin_cases()),
-          len(big_thin_cases())))
+    print('collect: in each byte order %d cases of the 32-bit format and %d of the 64-bit one, for version 4 %d and %d; '
+          '%d padded numbers; thin: %d files, %d of them big-endian' %
+          (*(len(cases[of, wide, False]) for of in ('', '-4') for wide in FORMATS), len(PADDED),
+           len(thin_cases() + big_thin_cases()), len(big_thin_cases())))
     sys.exit(wrong > 0)

@@ -2,10 +2,10 @@
 """expected.py [--big-endian] BUNDLE...: what `dump` should print of each bundle, after a line `== BUNDLE`, as Debian's
 pyelftools reads it. With --big-endian their units are big-endian, else little-endian.
 
-pyelftools has the parsers of abbreviations, entries, forms, expressions and list entries. It knows no DW_FORM_strx and no data16,
-reads strx4 in eight bytes and GNU_parameter_ref in as many as an offset, skips no dwo_id, and has no parser for some
-operations: these are added below. A unit that it can't read is left out and named on standard error, where the counts
-of what was read follow."""
+pyelftools has the parsers of abbreviations, entries, forms, expressions and list entries. It knows no DW_FORM_strx, no
+data16, no GNU_addr_index and no GNU_str_index, reads strx4 in eight bytes and GNU_parameter_ref in as many as an offset,
+skips no dwo_id, and has no parser for some operations and for version 4's location lists of split units: these are added
+below. A unit that it can't read is left out and named on standard error, where the counts of what was read follow."""
 import sys
 from collections import Counter
 from io import BytesIO
@@ -78,12 +78,20 @@ def dwarf_info(parts, address_size, big):
                      eh_frame_sec=None, gnu_debugaltlink_sec=None, **words)
 
 
+def unit_type(unit):
+    """Version 4 has compile units alone."""
+    return 1 if unit['version'] == 4 else unit['unit_type']
+
+
 def unit_of(info):
     """The first unit, past the dwo_id of a split unit too."""
     unit = info._parse_CU_at_offset(0)
-    first = unit.cu_die_offset + (8 if unit['unit_type'] == 5 else 0)
+    first = unit.cu_die_offset + (8 if unit_type(unit) == 5 else 0)
     structs = unit.structs
-    structs.Dwarf_dw_form.update(DW_FORM_strx=structs.Dwarf_uleb128(''), DW_FORM_strx4=structs.Dwarf_uint32(''), DW_FORM_data16=Field('', 16))
+    structs.Dwarf_dw_form.update(DW_FORM_strx=structs.Dwarf_uleb128(''), DW_FORM_strx4=structs.Dwarf_uint32(''),
+                                 DW_FORM_data16=Field('', 16),
+                                 DW_FORM_GNU_addr_index=structs.Dwarf_uleb128(''),
+                                 DW_FORM_GNU_str_index=structs.Dwarf_uleb128(''))
     return CompileUnit(unit.header, info, structs, 0, first)
 
 
@@ -111,7 +119,10 @@ class Reader:
         self.order = 'big' if big else 'little'
         wide = parts[0][:4] == units.ESCAPE
         self.offset_size = 8 if wide else 4
-        self.info = dwarf_info(parts[:4], parts[0][15 if wide else 7], big)
+        start = 12 if wide else 4
+        self.version = int.from_bytes(parts[0][start:start + 2], self.order)
+        size_at = start + (2 + self.offset_size if self.version == 4 else 3)
+        self.info = dwarf_info(parts[:4], parts[0][size_at], big)
         self.unit = unit_of(self.info)
         self.structs = self.unit.structs
         self.parser = expression_parser(self.structs)
@@ -176,37 +187,70 @@ class Reader:
 
     def list_at(self, kind, offset):
         counts['lists'] += 1
-        data = self.data[2 if kind == 'loclists' else 3]
+        data = self.section(kind)
         if offset is None or offset > len(data):
             self.say('  list unresolved')
             return
         self.say('  list at %d', offset)
-        parser = (self.structs.Dwarf_loclists_entries if kind == 'loclists' else self.structs.Dwarf_rnglists_entries).subcon
+        read = self.list_entry if self.version == 5 else self.entry_4 if kind == 'loclists' else self.pair_4
         stream = BytesIO(data)
         while offset < len(data):
             stream.seek(offset)
             try:
-                entry = parser.parse_stream(stream)
-            except ConstructError:
+                found = read(kind, stream)
+            except (ConstructError, ELFParseError, KeyError):
                 counts['lists refused 5'] += 1
                 self.say('  list refused 5')
                 return
-            if entry.entry_type.endswith('end_of_list'):
+            if found is None:
                 break
             counts['list entries'] += 1
-            values = ([entry[f] for f in LIST_FIELDS if f in entry] + [0, 0])[:2]
-            end = entry.entry_end_offset
-            line = '  kind %d %d %d' % (data[offset], *values)
-            if 'loc_expr' in entry:
-                self.say('%s bytes %d to %d', line, end - len(entry.loc_expr), end)
-                self.expression(entry.loc_expr)
+            line, expression = found
+            offset = stream.tell()
+            if expression is None:
+                self.say('  %s', line)
             else:
-                self.say('%s', line)
-            offset = end
+                self.say('  %s bytes %d to %d', line, offset - len(expression), offset)
+                self.expression(expression)
         self.say('  end')
 
+    def section(self, kind):
+        """Where lists stand: range lists of version 4 in .debug_ranges, which not every bundle has."""
+        if kind == 'loclists':
+            return self.data[2]
+        return self.data[3] if self.version == 5 else (self.data + [b''])[5]
+
+    # Each reads an entry: its line up to the expression, and that where it has one; nothing at the list's end.
+
+    def list_entry(self, kind, stream):
+        at = stream.tell()
+        parser = (self.structs.Dwarf_loclists_entries if kind == 'loclists' else self.structs.Dwarf_rnglists_entries).subcon
+        entry = parser.parse_stream(stream)
+        if entry.entry_type.endswith('end_of_list'):
+            return None
+        values = ([entry[f] for f in LIST_FIELDS if f in entry] + [0, 0])[:2]
+        stream.seek(entry.entry_end_offset)
+        return 'kind %d %d %d' % (self.section(kind)[at], *values), entry.get('loc_expr')
+
+    def entry_4(self, kind, stream):
+        """Location lists of version 4 in split units, as DebugFission has them."""
+        uleb, four = self.structs.Dwarf_uleb128(''), self.structs.Dwarf_uint32('')
+        code = struct_parse(self.structs.Dwarf_uint8(''), stream)
+        if code == 0:
+            return None
+        fields = {1: [uleb], 2: [uleb, uleb], 3: [uleb, four], 4: [four, four]}[code]
+        values = ([struct_parse(f, stream) for f in fields] + [0])[:2]
+        if code == 1:
+            return 'kind 1 %d 0' % values[0], None
+        length = struct_parse(self.structs.Dwarf_uint16(''), stream)
+        return 'kind %d %d %d' % (code, *values), struct_parse(Field('', length), stream)
+
+    def pair_4(self, kind, stream):
+        begin, end = (struct_parse(self.structs.Dwarf_target_addr(''), stream) for _ in range(2))
+        return ('pair %d %d' % (begin, end), None) if begin or end else None
+
     def list_of(self, kind, index):
-        data, base = self.data[2 if kind == 'loclists' else 3], self.bases[kind]
+        data, base = self.section(kind), self.bases[kind]
         place = base + self.offset_size * index
         if place + self.offset_size > len(data):
             return None
@@ -243,7 +287,7 @@ class Reader:
         declared = self.unit.get_abbrev_table().get_abbrev(die.abbrev_code)['attr_spec']
         if len(values) != len(declared):
             raise LeftOut('an attribute twice in one entry')
-        if die.tag == 'DW_TAG_compile_unit':
+        if die.tag == 'DW_TAG_compile_unit' and self.version == 5:
             for kind in self.bases:
                 a = die.attributes.get('DW_AT_%s_base' % kind)
                 if a and a.form == 'DW_FORM_sec_offset':
@@ -254,8 +298,9 @@ class Reader:
 
     def read(self):
         unit, end = self.unit, self.unit.size
-        self.say('unit type %d address_size %d abbreviations %d first %d end %d', unit['unit_type'], unit['address_size'],
-                 unit['debug_abbrev_offset'], unit.cu_die_offset, end)
+        self.say('version %d unit type %d address_size %d abbreviations %d first %d end %d', self.version,
+                 unit_type(unit),
+                 unit['address_size'], unit['debug_abbrev_offset'], unit.cu_die_offset, end)
         at, depth = unit.cu_die_offset, 0
         while at < end:
             die = Entry(unit, self.info.debug_info_sec.stream, at)
@@ -290,6 +335,7 @@ def main():
             continue
         counts['units'] += 1
         counts['units of the 64-bit format'] += parts[0][:4] == units.ESCAPE
+        counts['units of version 4'] += lines[0].startswith('version 4 ')
         print('== ' + path)
         print('\n'.join(lines))
     for name in sorted(k for k in counts if not k.startswith(('form ', 'code '))):

@@ -9,30 +9,36 @@ with what would be."""
 import sys
 
 import failures
-from units import (A5, BIG, CUT, DANGLING, ESCAPE, FAR, FIVE, FIVE64, FORMATS, LARGEST, ORDERS, T, T64, Part, asking,
-                   bundle, bundle_of, far, octets, placed, with_parts,
-                   write)
+import older
+from units import (A5, BIG, CUT, DANGLING, ESCAPE, FAR, FIVE, FIVE64, FIVE_4, FORMATS, LARGEST, ORDERS, T, T64, Part,
+                   asking, bundle_of, far, of_two, placed, unit, with_parts, write)
 from wide import OneFormat, Wide
 
 points = {(wide, big): [] for wide in FORMATS for big in ORDERS}  # by the format, and the order that is told
 
 
-def case(why, of_unit, table, expected, locations='', ranges='', addresses='', wrong=False, both=True):
+def case(why, of_unit, table, expected, locations='', ranges='', addresses='', wrong=False, both=True, older=None):
     """expected: marks as `12R 13L`, or `refused N`. wrong: the unit is of the order that is not told. A unit `W ..` is
     of the 64-bit format alone; both says whether another stands in both."""
     alone = isinstance(of_unit, str) and of_unit.startswith(('W', ESCAPE.hex()))
     for big in ORDERS:
-        data = bundle_of(of_unit, table, locations, ranges, addresses, big=big != wrong)
+        data = bundle_of(of_unit, table, locations, ranges, addresses, big=big != wrong, older=older)
         points[alone, big].append((why, data, letters(expected)))
         if both and not alone:
             try:
-                made = Wide(of_unit, table, locations, ranges, big=big != wrong)
+                made = Wide(of_unit, table, locations, ranges, big=big != wrong, older=older)
             except OneFormat:
                 continue
-            held = bundle([made.unit, made.table, made.locations, made.ranges, octets(addresses)])
+            held = made.bundle(addresses)
             if held != data:
                 marks = expected if expected.startswith('refused') else made.marks(expected)
                 points[True, big].append((why, held, letters(marks)))
+
+
+def judged(why, of_unit, table, answer, **sections):
+    """answer: of a unit of two entries whether the second is live or dead; or the number of a refusal."""
+    marks = '%dR %d' % of_two(of_unit)[:2] + {'live': 'L', 'dead': 'D'}[answer] if answer in ('live', 'dead') else None
+    case(why, of_unit, table, marks or 'refused %d' % answer, **sections)
 
 
 def letters(expected):
@@ -219,7 +225,7 @@ for addresses, index, expected in (('00', '00', '12R 13D'), ('00', '01', 'refuse
 
 # ---- document 02, point 5: 6 for a byte above 1, 17 for an index past the end of a table that isn't empty
 for why, of_unit, table, answer, sections in failures.cases():
-    case(why, of_unit, table, {'live': '12R 13L', 'dead': '12R 13D'}.get(answer, 'refused %s' % answer), **sections)
+    judged(why, of_unit, table, answer, **sections)
 for n, byte in failures.EVERY:
     places, of_unit, table, ranges, addresses = failures.every(n, byte)
     case('5.3: the last index of %d' % n, of_unit, table, '12R ' + ' '.join('%d%s' % (at, 'DL'[byte]) for at in places),
@@ -312,6 +318,30 @@ case('6.11: with a high word', 'W 01 8:100000004 02 00 00', OWN, '24R 33L', rang
 case('6: ranges in sec_offset with a high word', 'W 01 02 8:100000000 00', OLDER, '24R 25L', ranges='00')
 case('6: ref8 with a high word', 'W 01 8:100000021 02', '1 24 49/14; 2 24', '24R 33D')
 case('6: ref8', 'W 01 8:21 02', '1 24 49/14; 2 24', '24R 33L')
+
+# ---- document 02, point 4: version 4 units
+for kind in ('G', 'G4'):
+    five = FIVE_4.replace('G', kind)
+    for addresses, expected in (('0100', '11R 12L 15D 16L 17D'), ('0000', '11R 12D 15D 16D 17D'),
+                                ('0001', '11R 12D 15L 16D 17L'), ('0101', '11R 12L 15L 16L 17L'), ('0200', 'refused 6'),
+                                ('01', 'refused 17'), ('', '11R 12L 15L 16L 17L')):
+        case('4: P1 to P6 in version 4', five, A5, expected, addresses=addresses)
+        case('4.10: in a bundle of version 2', five, A5, expected, addresses=addresses, older=older.SOMETHING)
+        case('4: by GNU_addr_index', five, '1 11 children; 2 2e 11/1f01 49/11; 3 24', expected, addresses=addresses)
+    case('4.2: no entries', kind, A5, '')
+case('4.10: P1 in a bundle of version 2', FIVE, A5, '12R 13L 16D 17L 18D', addresses='0100', older=older.SOMETHING)
+case('4.2: the abbreviation offset', 'GA 01 020010 03 03 02010f 00', 'ff' * 258 + A5, '11R 12L 15D 16L 17D',
+     addresses='0100')
+case('4: told wrongly', FIVE_4, A5, 'refused 1', addresses='0100', wrong=True)
+for n in range(1, len(unit(FIVE_4))):
+    case('4.2: %d bytes of a unit' % n, 'cut %d %s' % (n, FIVE_4), A5, 'refused 1')
+for version in (0, 1, 2, 3, 6, 0x400, 0xffff):
+    case('4.2: version %d' % version, '4:7 2:%x 4:0 08' % version, A5, 'refused 2')
+for size in (0, 1, 2, 3, 5, 16, 255):
+    case('4.2: address size %d' % size, '4:7 2:4 4:0 %02x' % size, A5, 'refused 2')
+case('4.2: cut at the address size', '4:6 2:4 4:0 08', A5, 'refused 1')
+for why, of_unit, table, answer, sections in older.cases():
+    judged(why, of_unit, table, answer, **sections)
 
 
 def main():

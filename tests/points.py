@@ -7,24 +7,24 @@ specification and from DWARF 5, never from a run; some also the lines that thin 
 written, and the files are compared with what would be.
 
 units.py has the notation. Expected lines stand with `|` between them; `unit N` stands for the header line of a unit `H`
-that ends at N, `wide N` for that of a unit `W`. A case whose bytes follow a byte order stands in both,
-    with the same lines: in big-endian its name has
-`big-` before it. Cases of headers, of what is as wide as an offset,
-    and of lists stand in both formats (wide.py): in the
+that ends at N, `wide N` for that of a unit `W`, `gnu N` for that of a unit `G`; `unit type ..` for a line of version 5.
+A case whose bytes follow a byte order stands in both, with the same lines: in big-endian its name has `big-` before it.
+Cases of headers, of what is as wide as an offset, of lists, and of version 4 stand in both formats (wide.py): in the
 64-bit one their names have `64-` before them."""
 import re
 import sys
 from functools import partial
 
-from units import (A5, BIG, CUT, FAR, FIVE, FIVE64, ORDERS, T, T64, Part, bundle, bundle_of, counted, entry_values, far,
-                   octets, ordered, uleb, unit,
-                   with_parts, write)
+from units import (A5, BIG, CUT, FAR, FIVE, FIVE64, FIVE_4, ORDERS, T, T64, Part, bundle, bundle_of, counted,
+                   entry_values,
+                   far, octets, ordered, parts, uleb, unit, with_parts, write)
 from wide import OneFormat, Wide
 
 IN_BOTH = re.compile(
     'five-entries|header-|p04|form-(01|0e|10|1[3-5]|1[78]|1[cdf]|24)(-cut|-32)?$|indirect-(0e|10|17|1[cdf])$|p01|'
     'p1[5-7]|p2[1345]|p30|p34|p38|p4[024]|location|range|sec-offset|absolute|operations$|operations-32|p12-|unit-end|'
-    'string-end|references-2049-absolute')
+    'string-end|references-2049-absolute|v4-')
+FIRST = {'unit': 12, 'wide': 24, 'gnu': 11}  # where the first entry stands
 cases = {big: [] for big in ORDERS}  # by the order that is told
 thinned = {big: [] for big in ORDERS}
 
@@ -36,11 +36,10 @@ def printed(name, text):
 def lines(text):
     out = []
     for line in text.split('|'):
-        if line.startswith('unit ') and len(line.split()) == 2:
-            line = 'unit type 1 address_size 8 abbreviations 0 first 12 end ' + line.split()[1]
-        elif line.startswith('wide '):
-            line = 'unit type 1 address_size 8 abbreviations 0 first 24 end ' + line.split()[1]
-        out.append(line)
+        kind, _, end = line.partition(' ')
+        if kind in FIRST and ' ' not in end:
+            line = 'unit type 1 address_size 8 abbreviations 0 first %d end %s' % (FIRST[kind], end)
+        out.append('version %d ' % (4 if kind == 'gnu' else 5) + line if line.startswith('unit type ') else line)
     return out
 
 
@@ -51,29 +50,30 @@ def raw(name, point, data, expected, thin=None, big=False):
         thinned[big].append((name, printed(name, thin.split('|'))))
 
 
-def case(name, point, of_unit, table, expected, locations='', ranges='', addresses='', thin=None):
+def case(name, point, of_unit, table, expected, locations='', ranges='', addresses='', thin=None, older=None):
     """A bundle by its parts."""
-    raw(name, point, bundle_of(of_unit, table, locations, ranges, addresses), expected, thin)
-    widened(name, point, of_unit, table, expected, locations, ranges, addresses)
-    if any(ordered(part) for part in (of_unit, locations, ranges)):
-        turned(name, point, of_unit, table, expected, locations, ranges, addresses)
+    raw(name, point, bundle_of(of_unit, table, locations, ranges, addresses, older=older), expected, thin)
+    widened(name, point, of_unit, table, expected, locations, ranges, addresses, older=older)
+    if any(ordered(part) for part in (of_unit, locations, ranges, older)):
+        turned(name, point, of_unit, table, expected, locations, ranges, addresses, older=older)
 
 
-def turned(name, point, of_unit, table, expected, locations='', ranges='', addresses='', thin=None):
+def turned(name, point, of_unit, table, expected, locations='', ranges='', addresses='', thin=None, older=None):
     """The same in big-endian."""
-    raw('big-' + name, point, bundle_of(of_unit, table, locations, ranges, addresses, big=True), expected, thin, True)
-    widened(name, point, of_unit, table, expected, locations, ranges, addresses, True)
+    data = bundle_of(of_unit, table, locations, ranges, addresses, big=True, older=older)
+    raw('big-' + name, point, data, expected, thin, True)
+    widened(name, point, of_unit, table, expected, locations, ranges, addresses, True, older)
 
 
-def widened(name, point, of_unit, table, expected, locations='', ranges='', addresses='', big=False):
+def widened(name, point, of_unit, table, expected, locations='', ranges='', addresses='', big=False, older=None):
     """The same in the 64-bit format, where that is another."""
     if not IN_BOTH.match(name):
         return
     try:
-        made = Wide(of_unit, table, locations, ranges, big=big)
-        data = bundle([made.unit, made.table, made.locations, made.ranges, octets(addresses)])
+        made = Wide(of_unit, table, locations, ranges, big=big, older=older)
         if made.unit != unit(of_unit, big):
-            raw('64-' + 'big-' * big + name, point, data, '|'.join(made.printed(lines(expected))), big=big)
+            raw('64-' + 'big-' * big + name, point, made.bundle(addresses),
+                '|'.join(made.printed(lines(expected))), big=big)
     except OneFormat:
         pass
 
@@ -134,7 +134,7 @@ FIVE_LINES = ('unit 22|entry 12 depth 0 code 1 tag 17 children|entry 13 depth 1 
 FIVE_THINNED = 'entries 5 kept 3|12 R 12|13 L 13|16 D -|17 L 16|18 D -'
 ENTRY = 'entry 12 depth 0 code 1 tag 36'
 
-# ---- bundles: the length of the rest, version 1, five parts, nothing more (65,536 bytes at most)
+# ---- bundles: the length of the rest, version 1 and five parts or 2 and six, nothing more (65,536 bytes at most)
 whole = bundle_of(FIVE, A5, addresses='01 00')
 ROOM = 65536 - len(bundle_of(FIVE, A5))
 raw('five-entries', 'the five-entry unit', whole, FIVE_LINES, FIVE_THINNED)
@@ -142,7 +142,7 @@ raw('bundle-empty', 'no bytes at all', b'', 'bundle', 'bundle')
 raw('bundle-three', 'a cut length', whole[:3], 'bundle', 'bundle')
 raw('bundle-no-version', 'no version byte', octets('00000000'), 'bundle')
 raw('bundle-version-0', 'another version', whole[:4] + b'\0' + whole[5:], 'bundle')
-raw('bundle-version-2', 'another version', whole[:4] + b'\x02' + whole[5:], 'bundle', 'bundle')
+raw('bundle-version-2', 'version 2 with five parts', whole[:4] + b'\x02' + whole[5:], 'bundle', 'bundle')
 raw('bundle-one-more', 'a byte behind the declared length', whole + b'\0', 'bundle', 'bundle')
 raw('bundle-one-less', 'a byte short of the declared length', whole[:-1], 'bundle', 'bundle')
 raw('bundle-left-over', 'a byte behind the last part, within the length', octets('00000043') + whole[4:] + b'\0' * 2, 'bundle')
@@ -157,11 +157,11 @@ header('header-empty', 'an empty section', '', 'empty', thin='entries 0 kept 0')
 header('header-3-bytes', 'a cut length', '120000', 'refused 1')
 header('header-fffffff0', '5: a length of 0xfffffff0, and nothing behind it', '4:fffffff0', 'refused 2')
 header('header-ffffffef', '5: the largest length reaches past the section', '4:ffffffef 2:5', 'refused 1')
-header('header-past-wrong-version', '5: past the section, before the version is looked at', '4:3 2:4', 'refused 1')
+header('header-past-wrong-version', '5: past the section, before the version is looked at', '4:3 2:3', 'refused 1')
 header('header-one-too-far', 'a length that is one too large', '4:9 2:5 01 08 4:0', 'refused 1')
 header('header-0', 'no version', '00000000', 'refused 1')
 header('header-1', 'half a version', '4:1 05', 'refused 1')
-header('header-2-version-4', '5: another version, and nothing behind it', '4:2 2:4', 'refused 2')
+header('header-2-version-3', '5: another version, and nothing behind it', '4:2 2:3', 'refused 2')
 header('header-version-0501', 'another version', '4:8 0501 01 08 00000000', 'refused 2')
 header('header-2', '5: cut at the unit\'s end, though bytes follow', '4:2 2:5 01 08 4:0', 'refused 1')
 header('header-3-type-2', 'another unit type, and nothing behind it', '4:3 2:5 02', 'refused 2')
@@ -478,9 +478,10 @@ OPERATIONS = [(c, '', None) for c in NONE] + [(c, '8180 00', None) for c in rang
     (0xa7, '98 0d', (2, 13, 1)), (0xa4, '8d00 02 9898', (1, 13, 2)), (0xf4, '8d00 02 9898', (1, 13, 2))]
 
 
-def operations(name, size):
-    """All of them in one unit; with addresses of four bytes where size is 4. Without its last byte each is refused."""
-    held, out, at = [], [], 12
+def operations(name, kind, size, version=5):
+    """All of them in one unit, by its header and its address size. Without its last byte each is refused."""
+    first = len(unit(kind))
+    held, out, at = [], [], first
     for code, operands, own in sorted(OPERATIONS):
         if operands == ADDRESS:
             operands = {8: '8:807060504030201', 4: '4:4030201'}[size]
@@ -500,13 +501,12 @@ def operations(name, size):
                     out.append('  reference at %d to %d width %d' % own)
                 out.append('  reference at %d to 12 width 2' % (length + 1))
             at = end
-    head = 'unit type 1 address_size %d abbreviations 0 first 12 end %d' % (size, at)
+    head = 'version %d unit type 1 address_size %d abbreviations 0 first %d end %d' % (version, size, first, at)
     for big in ORDERS:
-        body = b''.join(b'\1' + counted(expression(big)) for expression in held)
-        data = bundle_of('%s %s' % ({8: 'H', 4: 'H4'}[size], body.hex()), '1 24 02/18', big=big)
-        raw('big-' * big + name, 'every operation', data, '|'.join([head] + out), big=big)
-        widened(name, 'every operation', '%s %s' % ({8: 'H', 4: 'H4'}[size], body.hex()), '1 24 02/18',
-        '|'.join([head] + out), big=big)
+        body = kind + ' ' + b''.join(b'\1' + counted(expression(big)) for expression in held).hex()
+        raw('big-' * big + name, 'every operation', bundle_of(body, '1 24 02/18', big=big), '|'.join([head] + out),
+            big=big)
+        widened(name, 'every operation', body, '1 24 02/18', '|'.join([head] + out), big=big)
 
 
 def every_unknown():
@@ -518,8 +518,9 @@ def every_unknown():
     case('operations-unknown', 'every code that is no operation', body, '1 24 02/18', '|'.join(out))
 
 
-operations('operations', 8)
-operations('operations-32', 4)
+operations('operations', 'H', 8)
+operations('operations-32', 'H4', 4)
+operations('v4-operations', 'G', 8, 4)
 every_unknown()
 assert len(OPERATIONS) + len(UNKNOWN) + 4 == 256  # the four section-absolute ones have cases of their own
 
@@ -674,6 +675,137 @@ for code, tail in (('9a', ''), ('a0', '00'), ('f2', '7f'), ('fd', '')):
 case('wide-call4', '6.5: call4 and GNU_parameter_ref keep their width', 'W 01 0d 99 4:18 fa 4:18 98 2:18', '1 24 02/18',
      'wide 39|%s| attribute 2 form 24 bytes 26 to 39|  reference at 1 to 24 width 4|  reference at 6 to 24 width 4|'
      '  reference at 11 to 24 width 2' % WIDE_ENTRY)
+
+# ---- document 02, point 4: version 4 units, and bundles with .debug_ranges
+FIVE_4_LINES = (
+    'gnu 21|entry 11 depth 0 code 1 tag 17 children|entry 12 depth 1 code 2 tag 46| attribute 17 form 27 value 0|'
+    ' attribute 73 form 17 value 16|entry 15 depth 1 code 3 tag 36|entry 16 depth 1 code 3 tag 36|entry 17 depth 1 code 2 tag 46|'
+    ' attribute 17 form 27 value 1| attribute 73 form 17 value 15|terminator 20 depth 1')
+FIVE_4_THINNED = 'entries 5 kept 3|11 R 11|12 L 12|15 D -|16 L 15|17 D -'
+case('v4-five-entries', '4.10: P1 in version 4, version byte 1', FIVE_4, A5, FIVE_4_LINES, addresses='01 00',
+     thin=FIVE_4_THINNED)
+turned('v4-five-entries', '4: in big-endian', FIVE_4, A5, FIVE_4_LINES, addresses='01 00', thin=FIVE_4_THINNED)
+case('v4-five-entries-2', '0.4: version byte 2', FIVE_4, A5, FIVE_4_LINES, addresses='01 00', thin=FIVE_4_THINNED,
+     older='')
+again('v4-five-entries', '12.3: told wrongly', 'refused 1', True, 'refused 1')
+again('big-v4-five-entries', '12.3: told wrongly', 'refused 1', False, 'refused 1')
+for big in ORDERS:
+    name = '64-%sv4-five-entries' % ('big-' * big)
+    thinned[big].append((name,
+                         printed(name, ['entries 5 kept 3', '23 R 23', '24 L 24', '27 D -', '28 L 27', '29 D -'])))
+case('five-entries-2', '4.10: version 5 in a bundle with version byte 2', FIVE, A5, FIVE_LINES, addresses='01 00',
+     thin=FIVE_THINNED, older='ff')
+turned('five-entries-2', '4.10: in big-endian', FIVE, A5, FIVE_LINES, addresses='01 00', thin=FIVE_THINNED, older='ff')
+second = bundle_of(FIVE_4, A5, addresses='01 00', older='')
+raw('v4-bundle-five-parts', '4.10: version byte 2 with five parts', second[:3] + bytes([second[3] - 4]) + second[4:-4],
+    'bundle', 'bundle')
+raw('v4-bundle-six-parts', '4.10: version byte 1 with six parts', second[:4] + b'\1' + second[5:], 'bundle', 'bundle')
+raw('v4-bundle-version-3', 'version byte 3', second[:4] + b'\3' + second[5:], 'bundle', 'bundle')
+seven = bundle(parts(second) + [b''])
+raw('v4-bundle-seven-parts', 'version byte 2 with seven parts', seven[:4] + b'\2' + seven[5:], 'bundle')
+raw('v4-bundle-too-far', 'the last part reaches one byte too far', second[:-1] + b'\1', 'bundle', 'bundle')
+raw('v4-bundle-cut', 'its length is cut', second[:3] + bytes([second[3] - 1]) + second[4:-1], 'bundle')
+raw('v4-bundle-left-over', 'a byte behind the last part', second[:3] + bytes([second[3] + 1]) + second[4:] + b'\0',
+    'bundle')
+room = 65536 - len(second)
+raw('v4-bundle-65536', 'the largest', bundle_of(FIVE_4, A5, addresses='01 00', older=b'\xff' * room), FIVE_4_LINES)
+raw('v4-bundle-65537', 'one more', bundle_of(FIVE_4, A5, addresses='01 00', older=b'\xff' * (room + 1)), 'bundle')
+
+header('v4-header-no-entries', '4.2: no entries', '4:7 2:4 4:0 08', 'gnu 11', thin='entries 0 kept 0')
+header('v4-header-32', '4.2: address size 4', '4:8 2:4 4:0 04 03',
+       'version 4 unit type 1 address_size 4 abbreviations 0 first 11 end 12|entry 11 depth 0 code 3 tag 36')
+header('v4-header-abbreviations', '4.2: the abbreviation offset', '4:8 2:4 4:e 08 03',
+       'version 4 unit type 1 address_size 8 abbreviations 14 first 11 end 12|entry 11 depth 0 code 3 tag 36')
+header('v4-header-two-units', 'a second unit is not read', '4:8 2:4 4:0 08 03 ffffffff',
+       'gnu 12|entry 11 depth 0 code 3 tag 36')
+for n, rest in ((0, ''), (1, ''), (2, ''), (3, '00'), (5, '000000'), (6, '4:0')):
+    header('v4-header-%d' % n, '4.2: cut', '4:%x 2:4 %s' % (n, rest), 'refused 1')
+header('v4-header-offset', '4.2: the type byte of version 5 is the offset', '4:7 2:4 01080000 08', 'refused 3')
+header('v4-header-size-3', '4.2: address size 3', '4:7 2:4 4:0 03', 'refused 2')
+header('v4-header-size-before-offset', '4.2: before the offset is judged', '4:7 2:4 4:63 03', 'refused 2')
+header('v4-header-past', '4.2: an offset past the section', '4:7 2:4 4:63 08', 'refused 3')
+for version in (2, 3, 6):
+    header('header-version-%d' % version, '4.2: version %d' % version, '4:7 2:%x 4:0 08' % version, 'refused 2')
+
+ENTRY_4 = 'entry 11 depth 0 code 1 tag 36'
+
+
+def forms_4(name, indirect):
+    """Every form of version 4, an entry each; under indirect or not."""
+    declared, body, out, at = '', '', [], 11
+    held = [form for form in FORMS if form[0] not in ('22', '23')] + [('1f01', '9001', 'value 144')]
+    for code, (form, value, expected) in enumerate(held, 1):
+        number = uleb(int(form, 16)).hex() if indirect else ''
+        words = expected.split()
+        if words[0] == 'bytes':
+            words[1], words[3] = (str(int(w) - 12 + at + len(octets(number))) for w in (words[1], words[3]))
+        declared += '; %d 24 03/%s' % (code, '16' if indirect else form)
+        body += ' %02x %s %s' % (code, number, value)
+        out += ['entry %d depth 0 code %d tag 36' % (at, code),
+                ' attribute 3 form %d %s' % (int(form, 16), ' '.join(words))]
+        at += 1 + len(octets(number + ' ' + value))
+    case(name, '4.1: every form', 'G' + body, declared[2:], '|'.join(['gnu %d' % at] + out))
+
+
+forms_4('v4-forms', False)
+forms_4('v4-indirect', True)
+for form in ('22', '23'):
+    case('v4-form-' + form, '4.1: form 0x%s' % form, 'G 01 00', '1 24 03/' + form, 'gnu 13|refused 4')
+    case('v4-indirect-' + form, '4.1: behind indirect', 'G 01 %s 00' % form, '1 24 03/16', 'gnu 14|refused 4')
+    case('v4-unused-' + form, '4.1: where no entry uses it', 'G 01', '1 24; 2 24 03/' + form, 'gnu 12|' + ENTRY_4)
+for form in ('1f20', '1f21'):
+    case('v4-form-' + form, '4.1: form 0x%s stays unknown' % form, 'G 01 05', '1 24 3a/' + form, 'gnu 13|refused 4')
+
+
+def list_4(name, point, pair, expected, value='4:0', kind='G', head='gnu 16', **sections):
+    """One entry with one list by its offset."""
+    at, form = (int(w, 16) for w in pair.split('/'))
+    case(name, point, '%s 01 %s' % (kind, value), '1 24 ' + pair, '%s|%s| attribute %d form %d value %d|  ' %
+         (head, ENTRY_4, at, form, int(value.partition(':')[2], 16)) + expected.replace('|', '|  '), **sections)
+
+
+list_4('v4-locations', '4.3: every kind', '02/17',
+       'list at 0|kind 1 5 0|kind 2 128 7 bytes 8 to 9|kind 3 1 305419896 bytes 17 to 20|reference at 1 to 11 width 2|'
+       'kind 4 16 2271560481 bytes 31 to 31|end',
+       locations='01 05 02 8001 07 2:1 96 03 01 4:12345678 2:3 98 2@b 04 4:10 4:87654321 2:0 00 ff')
+list_4('v4-locations-long', '4.3: a length of two bytes', '02/17',
+       'list at 0|kind 3 1 2 bytes 8 to 267|reference at 257 to 11 width 2|end',
+       locations='03 01 4:2 2:103 ' + '96' * 256 + '98 2@b')
+list_4('v4-locations-refused', '4.3: an unreadable expression does not end the list', '02/17',
+       'list at 0|kind 4 0 0 bytes 11 to 12|expression refused 5|kind 2 0 1 bytes 17 to 18|end',
+       locations='04 4:0 4:0 2:1 ff 02 00 01 2:1 96 00')
+for text in ('05 01 96', '06 8:0', '07 8:0 8:0 2:0', '08 8:0 00 2:0', '09 00 00'):
+    list_4('v4-locations-kind-' + text[1:2], '4.3: an unknown kind', '02/17', 'list at 0|kind 1 7 0|list refused 5',
+           locations='01 07 ' + text + ' 00')
+for text in ('01', '02 00 01 00', '03 00 000000', '03 00 4:1 2:2 96', '04 4:1 000000', '04 4:1 4:2 00'):
+    list_4('v4-locations-cut-%d' % len(octets(text)), '4.3: cut inside an entry', '02/17', 'list at 0|list refused 5',
+           locations=text)
+list_4('v4-locations-at-end', '4.6: the section\'s end', '02/17', 'list at 2|end', '4:2', locations='ffff')
+list_4('v4-locations-past', '4.6: past it', '02/17', 'list unresolved', '4:3', locations='ffff')
+list_4('v4-pairs', '4.6: pairs', '55/17',
+       'list at 0|pair 0 9|pair 18446744073709551615 4096|pair 5 5|pair 4294967295 0|end',
+       older='8:0 8:9 ffffffffffffffff 8:1000 8:5 8:5 8:ffffffff 8:0 8:0 8:0 ff')
+list_4('v4-pairs-32', '4.5: of four bytes', '55/17', 'list at 8|pair 4294967295 4096|pair 5 9|end', '4:8', 'G4',
+       'version 4 unit type 1 address_size 4 abbreviations 0 first 11 end 16',
+       older='4:5 4:9 ffffffff 4:1000 4:5 4:9 4:0 4:0 4:1 4:1')
+list_4('v4-pairs-start-scope', 'of another attribute', '2c/17', 'list at 0|pair 1 2|end', older='8:1 8:2')
+for n in (1, 7, 8, 9, 15):
+    list_4('v4-pairs-cut-%d' % n, '4.6: cut inside a pair', '55/17', 'list at 0|pair 5 9|list refused 5',
+           older='8:5 8:9 ' + 'ff' * n)
+list_4('v4-pairs-empty', '4.6: an empty section', '55/17', 'list at 0|end', older='')
+list_4('v4-pairs-none', '4.10: version byte 1', '55/17', 'list at 0|end')
+list_4('v4-pairs-past', '4.6: past the section', '55/17', 'list unresolved', '4:11', older='8:5 8:9')
+list_4('v4-pairs-past-none', '4.10: version byte 1', '55/17', 'list unresolved', '4:1')
+list_4('v4-pairs-alone', '4.11: .debug_rnglists is not read', '55/17', 'list at 0|pair 5 9|end', ranges='ff' * 20,
+       older='8:5 8:9')
+case('v4-ranges-data4', '4.7: ranges in data4 name no list', 'G 01 4:0', '1 24 55/06',
+     'gnu 16|%s| attribute 85 form 6 value 0' % ENTRY_4, older='00')
+case('v4-bases', '4.9: list bases name no list', 'G 01 4:63 4:63', '1 11 74/17 2132/17',
+     'gnu 20|entry 11 depth 0 code 1 tag 17| attribute 116 form 23 value 99| attribute 8498 form 23 value 99')
+for name, entries, expected in (('', '00', 'end'), ('-live', '040001', 'kind 4 0 1|  end')):
+    case('p4-rnglists%s' % name, '4.11: .debug_ranges is not read for version 5', 'H 01 4:0', '1 24 55/17',
+         'unit 17|%s| attribute 85 form 23 value 0|  list at 0|  %s' % (ENTRY, expected), ranges=entries,
+         older='ff' * 20)
 
 # 6.8: references of an expression by the sizes that are told, in the order of crates/test_readers/src/main.rt
 SIZES = (0, 1, 2, 3, 4, 5, 7, 8, 9, 16, 255)

@@ -4,6 +4,7 @@ Bytes are hexadecimal text, or bytes as they stand. In text `W:N` is a field tha
 number N, hexadecimal, in W bytes. What depends on the order in another way is a function of it (True is big-endian).
 `H ..` is a unit by the bytes behind its header, which gets the right length: `H` has type 1 and address size 8, `H4`
 address size 4, `H5` type 5, `HA` abbreviations from 0x102 on; `W`, `W4`, `W5`, `WA` are the same in the 64-bit format.
+`G`, `G4` and `GA` are version 4 units (GNU split DWARF), `WG`, `WG4` and `WGA` in the 64-bit format.
 Abbreviations are `code tag children name/form ..`, with `;` between them; `name/form/bytes` has implicit_const's value.
 A5 are those of the five-entry unit.
 
@@ -23,6 +24,7 @@ CRATES = os.path.join(TESTS, '..', 'crates')
 A5 = '01 11 01 00 00 02 2e 00 11 1b 49 11 00 00 03 24 00 00 00 00'
 FIVE = 'H 01 020011 03 03 020110 00'
 FIVE64 = 'W 01 02001d 03 03 02011c 00'
+FIVE_4 = 'G 01 020010 03 03 02010f 00'  # of version 4
 T = 'z t:4 '
 CUT = 'z t-:4'
 T64 = '00' * 20 + ' 8:8 '
@@ -30,7 +32,8 @@ CUT64 = '00' * 20 + '08000000000000'
 BIG = '808080808080808040'  # 2^62
 LARGEST = 'ffffffffffffffffff01'  # 2^64 - 1
 HEADERS = {'H': '2:5 01 08 4:0', 'H4': '2:5 01 04 4:0', 'H5': '2:5 05 08 4:0 1122334455667788', 'HA': '2:5 01 08 4:102'}
-HEADERS.update({kind.replace('H', 'W'): text.replace('4:', '8:') for kind, text in HEADERS.items()})
+HEADERS.update({'G': '2:4 4:0 08', 'G4': '2:4 4:0 04', 'GA': '2:4 4:102 08'})
+HEADERS.update({'W' + kind.removeprefix('H'): text.replace('4:', '8:') for kind, text in HEADERS.items()})
 ESCAPE = b'\xff' * 4  # before a length of the 64-bit format
 ORDERS = (False, True)  # little-endian, big-endian
 FORMATS = (False, True)  # 32-bit, 64-bit
@@ -137,6 +140,14 @@ def unit(text, big=False):
     return header(octets(body, big), kind, big) if kind in HEADERS else octets(text, big)
 
 
+def of_two(of_unit):
+    """Of a unit `H 01 .. 02 .. 00` of two entries: where they stand, and what is before the second."""
+    kind, _, body = of_unit.partition(' ')
+    before = body.partition(' 02')[0]
+    first = len(unit(kind))
+    return first, first + len(octets(before)), before
+
+
 def asking(index):
     """Units whose second entry is a root where this index is live: what asks, unit, abbreviations, range lists."""
     size = len(octets(index)) + 1
@@ -165,24 +176,27 @@ DANGLING += [('H 01 %02x %s %s 02' % (size + 1, code, value), '1 24 02/18; 2 24'
              for code, size, value in (('98', 2, '2:1100'), ('99', 4, '4:13000000'), ('fa', 4, '4:13000000'), ('a3 03 98', 4, '2:1300'))]
 
 
-# ---- bundles: the length of the rest, version 1, five parts, each after its length
+# ---- bundles: the length of the rest, the version, the parts, each after its length. Version 1 has five parts, version 2
+# has .debug_ranges behind them.
 
 def bundle(parts):
-    rest = b'\1' + b''.join(len(p).to_bytes(4, 'big') + p for p in parts)
+    rest = bytes([len(parts) - 4]) + b''.join(len(p).to_bytes(4, 'big') + p for p in parts)
     return len(rest).to_bytes(4, 'big') + rest
 
 
-def bundle_of(of_unit, of_table, locations='', ranges='', addresses='', tail='', big=False):
+def bundle_of(of_unit, of_table, locations='', ranges='', addresses='', tail='', big=False, older=None):
+    """older: .debug_ranges, in a bundle of version 2."""
     lists = [octets(p, big) for p in (locations, ranges)]
-    return bundle([unit(of_unit, big) + octets(tail), table(of_table)] + lists + [octets(addresses)])
+    last = [] if older is None else [octets(older, big)]
+    return bundle([unit(of_unit, big) + octets(tail), table(of_table)] + lists + [octets(addresses)] + last)
 
 
 def parts(data):
-    """The five parts of a bundle; nothing where it is none."""
-    if int.from_bytes(data[:4], 'big') != len(data) - 4 or data[4:5] != b'\1':
+    """The five or six parts of a bundle; nothing where it is none."""
+    if int.from_bytes(data[:4], 'big') != len(data) - 4 or data[4:5] not in (b'\1', b'\2'):
         return None
     at, out = 5, []
-    for _ in range(5):
+    for _ in range(4 + data[4]):
         size = int.from_bytes(data[at:at + 4], 'big')
         out.append(data[at + 4:at + 4 + size])
         at += 4 + size

@@ -1,6 +1,6 @@
 """Units of the 64-bit format (document 02, point 6), made of those of the 32-bit one: the header and each field as wide
 as an offset get their new width, and each number that names a place follows its place. What they are read by is a
-unit's own abbreviations (DWARF 5, 7.5 and 7.7).
+unit's own abbreviations (DWARF 5, 7.5 and 7.7; in version 4 the lists have nothing as wide as an offset).
 
 A section is held as pieces: how many bytes one has in the 32-bit format, and its bytes in the 64-bit one, or a function
 of what tells the new places. What can't be read is copied, from where it can't be read on."""
@@ -8,7 +8,7 @@ import sys
 from bisect import bisect_right
 from functools import partial
 
-from units import BOTH, field, octets, table, tokens, unit
+from units import BOTH, bundle, field, octets, table, tokens, unit
 
 RESERVED = 0xfffffff0
 sys.setrecursionlimit(50000)  # entry values in each other
@@ -67,6 +67,8 @@ def padded(width, number):
 
 def listed(text, big, places=None):
     """A section of lists: its pieces. places: those of the unit, which references follow."""
+    if not isinstance(text, str):
+        return [(len(octets(text, big)), octets(text, big))]
     pieces, run = [], []
     for word in tokens(text):
         narrow = octets(word, big)
@@ -137,7 +139,8 @@ OFFSETS = (0x0e, 0x10, 0x17, 0x1d, 0x1f)  # strp, ref_addr, sec_offset, strp_sup
 SIZES = {0x05: 2, 0x06: 4, 0x07: 8, 0x0b: 1, 0x0c: 1, 0x19: 0, 0x1c: 4, 0x1e: 16, 0x20: 8, 0x21: 0, 0x24: 8,
          0x25: 1, 0x26: 2, 0x27: 3, 0x28: 4, 0x29: 1, 0x2a: 2, 0x2b: 3, 0x2c: 4}
 REFERENCES = {0x11: 1, 0x12: 2, 0x13: 4, 0x14: 8}
-LEBS = (0x0d, 0x0f, 0x1a, 0x1b, 0x22, 0x23, 0x1f02)
+LEBS = (0x0d, 0x0f, 0x1a, 0x1b, 0x22, 0x23, 0x1f01, 0x1f02)
+NOT_IN = {4: (0x22, 0x23), 5: (0x1f01,)}  # loclistx, rnglistx; GNU_addr_index
 BLOCKS = {0x03: 2, 0x04: 4, 0x0a: 1}
 # Operands: a number of bytes, `u` LEB128, `a` an address, `o` an offset, `r` a reference of so many bytes, `n` one in
 # LEB128, `b` a block, `e` an expression, `c` a block after one byte.
@@ -155,8 +158,9 @@ for operand, codes in (
 
 class Reader:
     """Pieces of a unit, up to an end."""
-    def __init__(self, data, big, address_size, lists):
-        self.data, self.big, self.address_size, self.lists, self.at, self.pieces = data, big, address_size, lists, 0, []
+    def __init__(self, data, big, version, address_size, lists):
+        self.data, self.big, self.version, self.address_size, self.lists = data, big, version, address_size, lists
+        self.at, self.pieces = 0, []
 
     def taken(self, size):
         if size > len(self.data) - self.at:
@@ -196,7 +200,7 @@ class Reader:
 
     def part(self, size):
         """A reader of the next so many bytes."""
-        return Reader(self.taken(size), self.big, self.address_size, self.lists)
+        return Reader(self.taken(size), self.big, self.version, self.address_size, self.lists)
 
     def expression(self):
         """One behind its length."""
@@ -251,6 +255,8 @@ class Reader:
             self.at -= width
             self.copy(width)
             self.value(name, form)
+        elif form in NOT_IN[self.version]:
+            raise Cut
         elif form in OFFSETS:
             self.offset(self.lists.get(name, lambda number: number) if form == 0x17 else lambda number: number)
         elif form in SIZES:
@@ -296,6 +302,11 @@ class Reader:
                 self.rest()
 
 
+def version_of(data, big):
+    """4, or 5 for any other."""
+    return 4 if data[4:6] == field(2, 4, big) else 5
+
+
 def of_unit(data, of_table, big, lists):
     """Pieces of a section of one unit and what follows it. lists: where offsets in lists stand, by the attribute."""
     if len(data) < 4:
@@ -304,18 +315,21 @@ def of_unit(data, of_table, big, lists):
     if length >= RESERVED:
         raise OneFormat
     end = min(4 + length, len(data))
-    reader = Reader(data[:end], big, data[7] if end > 7 else 0, lists)
+    version = version_of(data, big)
+    size_at = 10 if version == 4 else 7
+    reader = Reader(data[:end], big, version, data[size_at] if end > size_at else 0, lists)
     reader.taken(4)
     reader.pieces.append((4, Named(12, lambda places: b'\xff' * 4 + field(8, places(4 + length) - 12, big))))
     try:
-        reader.copy(min(4, end - 4))
+        reader.copy(min(2 if version == 4 else 4, end - 4))
         start = reader.number(4)
         reader.at -= 4
         reader.offset()
-        kind = data[6]
-        if kind == 5:
+        if version == 4:
+            reader.copy(1)
+        elif data[6] == 5:
             reader.copy(8)
-        if kind in (1, 5) and data[7] in (4, 8):
+        if (version == 4 or data[6] in (1, 5)) and data[size_at] in (4, 8):
             reader.entries(declarations(of_table[start:]))
     except Cut:
         reader.at = sum(size for size, _ in reader.pieces)
@@ -325,17 +339,25 @@ def of_unit(data, of_table, big, lists):
 
 class Wide:
     """The sections of a case in the 64-bit format, and where their places stand."""
-    def __init__(self, of_text, of_table, locations='', ranges='', base=0, big=False, tail=''):
-        self.big, self.table = big, table(of_table)
+    def __init__(self, of_text, of_table, locations='', ranges='', base=0, big=False, tail='', older=None):
+        self.big, self.table, self.older = big, table(of_table), [] if older is None else [octets(older, big)]
         by_list = [Places(listed(text, big)) for text in (locations, ranges)]
         self.in_locations, self.in_ranges = by_list
-        self.lists = {0x02: self.in_locations, 0x8c: self.in_locations,
-        0x55: lambda number: self.in_ranges(base + number) - base, 0x74: self.in_ranges}
-        pieces = of_unit(unit(of_text, big) + octets(tail), self.table, big, self.lists)
+        data = unit(of_text, big) + octets(tail)
+        self.lists = {0x02: self.in_locations}
+        if version_of(data, big) == 5:
+            self.lists.update({0x8c: self.in_locations, 0x55: lambda number: self.in_ranges(base + number) - base,
+                               0x74: self.in_ranges})
+        else:
+            self.in_ranges = lambda number: number  # .debug_ranges
+        pieces = of_unit(data, self.table, big, self.lists)
         self.places = Places(pieces)
         self.unit = joined(pieces, self.places)
         self.locations, self.ranges = (joined(listed(text, big, self.places), of) for text, of in zip((locations,
         ranges), by_list))
+
+    def bundle(self, addresses):
+        return bundle([self.unit, self.table, self.locations, self.ranges, octets(addresses)] + self.older)
 
     def written(self, body, kind):
         """A new unit by what follows its header: its bytes, and its places."""
@@ -355,7 +377,7 @@ class Wide:
             words = line.split()
             depth = len(line) - len(line.lstrip())
             numbers = {}  # by the word before, what it becomes
-            if words[0] == 'unit':
+            if words[0] == 'version':
                 numbers = {'first': self.places, 'end': self.places}
             elif words[0] in ('entry', 'terminator'):
                 numbers = {words[0]: self.places}

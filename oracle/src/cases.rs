@@ -1,6 +1,7 @@
 //! Makes cases, the same for the same seed. README.md names the families. A number of a fixed width is written by the case's byte order, and an offset
 //! is as wide as its format has it; of two orders the same dice make the same case.
 
+use crate::judge::Sections;
 use crate::order::{fixed, Layout};
 use std::collections::BTreeSet;
 
@@ -12,12 +13,18 @@ pub const FAMILIES: [&str; 20] = [
 /// Families of given bundles.
 pub const OF_FILES: [&str; 2] = ["tables", "damaged-files"];
 
-/// The five parts of a bundle: unit section, abbreviations, location lists, range lists, address table.
-pub type Parts = [Vec<u8>; 5];
+/// The parts of a bundle, as `Sections` has them.
+pub type Parts = [Vec<u8>; 6];
 
+pub fn slices(parts: &Parts) -> Sections<'_> {
+    parts.each_ref().map(|p| &p[..])
+}
+
+/// Of version 1 where .debug_ranges is empty, else of version 2, which has it.
 pub fn bundle(parts: &Parts) -> Vec<u8> {
-    let mut out = vec![0, 0, 0, 0, 1];
-    for part in parts {
+    let version = if parts[5].is_empty() { 1 } else { 2 };
+    let mut out = vec![0, 0, 0, 0, version];
+    for part in &parts[..4 + usize::from(version)] {
         out.extend((part.len() as u32).to_be_bytes());
         out.extend(part);
     }
@@ -26,15 +33,32 @@ pub fn bundle(parts: &Parts) -> Vec<u8> {
     out
 }
 
-pub fn unbundle(bytes: &[u8]) -> Option<Parts> {
-    let mut rest = bytes.get(5..)?;
-    let mut parts = Parts::default();
-    for part in &mut parts {
-        let length = u32::from_be_bytes(rest.get(..4)?.try_into().ok()?) as usize;
-        *part = rest.get(4..4 + length)?.to_vec();
-        rest = &rest[4 + length..];
+/// The sections of a bundle whose first length has been taken off, or none for a wrong layout.
+pub fn sections(rest: &[u8]) -> Option<Sections<'_>> {
+    let (&version, mut rest) = rest.split_first()?;
+    let count = match version {
+        1 => 5,
+        2 => 6,
+        _ => return None,
+    };
+    let mut parts: Sections<'_> = [&[]; 6];
+    for part in &mut parts[..count] {
+        let (length, after) = rest.split_first_chunk::<4>()?;
+        let length = u32::from_be_bytes(*length) as usize;
+        *part = after.get(..length)?;
+        rest = &after[length..];
     }
-    Some(parts)
+    rest.is_empty().then_some(parts)
+}
+
+/// Those of a whole bundle.
+pub fn whole(bytes: &[u8]) -> Option<Sections<'_>> {
+    let (length, rest) = bytes.split_first_chunk::<4>()?;
+    (u32::from_be_bytes(*length) as usize == rest.len()).then(|| sections(rest))?
+}
+
+pub fn unbundle(bytes: &[u8]) -> Option<Parts> {
+    whole(bytes).map(|parts| parts.map(<[u8]>::to_vec))
 }
 
 /// splitmix64.
@@ -131,8 +155,9 @@ enum Piece {
     Bytes(Vec<u8>),
     Fixed(Target, usize),
     Uleb(Target, usize),
-    /// Pieces after their length in ULEB128, padded.
+    /// Pieces after their length in ULEB128, padded; or in two bytes.
     Counted(Vec<Piece>, usize),
+    Measured(Vec<Piece>),
 }
 
 /// Offsets of items and lists, as far as they are known.
@@ -159,10 +184,11 @@ fn render(layout: Layout, pieces: &[Piece], places: &Places, out: &mut Vec<u8>) 
             Piece::Bytes(bytes) => out.extend(bytes),
             Piece::Fixed(target, width) => out.extend(layout.bytes(resolve(*target, places), *width)),
             Piece::Uleb(target, more) => out.extend(uleb(resolve(*target, places), *more)),
-            Piece::Counted(inner, more) => {
+            Piece::Counted(inner, _) | Piece::Measured(inner) => {
                 let mut held = Vec::new();
                 render(layout, inner, places, &mut held);
-                out.extend(uleb(held.len() as u64, *more));
+                let length = held.len() as u64;
+                out.extend(if let Piece::Counted(_, more) = piece { uleb(length, *more) } else { layout.bytes(length, 2) });
                 out.extend(held);
             }
         }
@@ -422,8 +448,21 @@ impl Maker<'_> {
         // What the original takes for an offset, or, in the 64-bit format, perhaps what it takes for one in the other.
         let wide = self.layout.wide;
         let data = move |d: &mut Dice| if wide { d.of(&[0x06, 0x07, 0x07]) } else { 0x06 };
-        let location = |d: &mut Dice| if listed && d.rare(8) { data(d) } else { d.of(&[0x18, 0x18, 0x18, 0x22, 0x22, 0x17, 0x0a, 0x16]) };
-        let ranges = |d: &mut Dice| if listed && d.rare(8) { data(d) } else { d.of(&[0x23, 0x23, 0x23, 0x17, 0x16, 0x0b]) };
+        // What names a list by its index, which version 4 lacks: in `listed`, seldom.
+        let older = self.layout.older;
+        let named = move |d: &mut Dice, index: u16| if older && !(listed && d.rare(8)) { 0x17 } else { index };
+        let one_of = |d: &mut Dice, forms: &[u16]| match d.of(forms) {
+            index @ (0x22 | 0x23) => named(d, index),
+            form => form,
+        };
+        let location = |d: &mut Dice| match listed && d.rare(8) {
+            true => data(d),
+            false => one_of(d, &[0x18, 0x18, 0x18, 0x22, 0x22, 0x17, 0x0a, 0x16]),
+        };
+        let ranges = |d: &mut Dice| match listed && d.rare(8) {
+            true => data(d),
+            false => one_of(d, &[0x23, 0x23, 0x23, 0x17, 0x16, 0x0b]),
+        };
         let d = &mut *self.dice;
         let kind = if style.asks() && !d.rare(4) {
             match tag {
@@ -441,6 +480,7 @@ impl Maker<'_> {
             d.below(8)
         };
         match kind {
+            0 if tag == 0x2e && older && d.rare(2) => (0x11, 0x1f01),
             0 if tag == 0x2e && style.asks() => {
                 (0x11, d.of(&[0x1b, 0x1b, 0x29, 0x2a, 0x2b, 0x2c, 0x01, 0x01, 0x01, 0x16]))
             }
@@ -454,7 +494,16 @@ impl Maker<'_> {
             7 => (d.of(&[0x02, 0x40, 0x0b, 0x1c]), 0x18),
             _ if self.fault(7) => (0x49, 0x10),
             _ if listed && self.dice.rare(8) => (0x03, self.dice.of(&[0x1f01, 0x1f20, 0x1f21, 0x27])),
-            _ => (self.dice.of(&NAMES), self.dice.of(&FORMS)),
+            _ => (self.dice.of(&NAMES), self.form()),
+        }
+    }
+
+    /// Any form of the version; in version 4 0x1f01 and 0x1f02 in place of rnglistx and loclistx.
+    fn form(&mut self) -> u16 {
+        match self.dice.of(&FORMS) {
+            0x23 if self.layout.older => 0x1f01,
+            0x22 if self.layout.older => 0x1f02,
+            form => form,
         }
     }
 
@@ -491,6 +540,7 @@ impl Maker<'_> {
                 out.push(Piece::Bytes(text));
             }
             0x0d => out.push(Piece::Bytes(sleb(n as i64))),
+            0x1f01 if self.layout.older => out.push(Piece::Bytes(uleb(self.address_index(), more))),
             0x0f | 0x1f01 => out.push(Piece::Bytes(uleb(n, more))),
             0x11..=0x15 => {
                 let target = if spec.name != 0x01 {
@@ -514,11 +564,14 @@ impl Maker<'_> {
             0x16 => {
                 let form = match spec.name {
                     0x01 | 0x31 | 0x49 | 0x64 => self.dice.of(&REFERENCES),
+                    0x02 if self.layout.older => self.dice.of(&[0x18, 0x17, 0x17, 0x16]),
+                    0x55 if self.layout.older => self.dice.of(&[0x17, 0x17, 0x16]),
+                    0x11 if self.layout.older && self.dice.rare(2) => 0x1f01,
                     0x02 => self.dice.of(&[0x18, 0x22, 0x17, 0x16]),
                     0x55 => self.dice.of(&[0x23, 0x17, 0x16]),
                     0x11 => self.dice.of(&[0x1b, 0x01, 0x29]),
                     _ => loop {
-                        let form = self.dice.of(&FORMS);
+                        let form = self.form();
                         if form != 0x21 && (form, spec.name) != (0x18, 0x01) {
                             break form;
                         }
@@ -531,6 +584,12 @@ impl Maker<'_> {
             0x17 => {
                 let target = match spec.name {
                     0x74 | 0x8c => Target::Number(self.offset(self.layout.table() as u64)),
+                    // Where the sum with a ranges base is above 64 bits.
+                    0x55 if self.layout.older && self.style.far && self.dice.rare(4) => {
+                        Target::Number(u64::MAX - self.dice.below(40) as u64)
+                    }
+                    // At the section's end, or past it.
+                    0x55 if self.layout.older && self.dice.rare(8) => Target::Ranges(self.ranges + self.dice.below(2)),
                     0x55 if !self.dice.rare(20) => Target::Ranges(self.dice.below(self.ranges)),
                     0x02 if !self.dice.rare(40) => Target::Locations(self.dice.below(self.locations)),
                     _ => Target::Number(self.dice.number()),
@@ -564,7 +623,42 @@ impl Maker<'_> {
         }
     }
 
+    /// A list of .debug_ranges: pairs and bases, dead and live, mostly with its end.
+    fn range_pairs(&mut self) -> Vec<u8> {
+        let mut out = Vec::new();
+        let ones = u64::MAX;
+        for _ in 0..self.dice.of(&[0, 1, 1, 2, 2, 3, 5]) {
+            // All ones of four bytes are no base of eight; at size 4 the low four are written, so all of eight are one.
+            let begin = match self.dice.below(8) {
+                0 | 1 => ones,
+                2..=4 => 0,
+                5 => 0xffff_ffff,
+                6 => self.dice.of(&[1, ones - 1, ones >> 1, 0xffff_ffff << 32, 1 << 63, 0xffff_fffe]),
+                _ => self.dice.number(),
+            };
+            let end = match self.dice.below(6) {
+                0 => 0,
+                1 => ones,
+                2 => 0xffff_ffff,
+                3 => begin,
+                _ => self.dice.number(),
+            };
+            out.extend(self.fixed(begin, self.address_size));
+            out.extend(self.fixed(end, self.address_size));
+        }
+        if self.fault(5) {
+            let more = 1 + self.dice.below(2 * self.address_size - 1);
+            out.extend(self.dice.bytes(more));
+        } else if !self.dice.rare(10) {
+            out.extend(vec![0; 2 * self.address_size]);
+        }
+        out
+    }
+
     fn range_list(&mut self) -> Vec<u8> {
+        if self.layout.older {
+            return self.range_pairs();
+        }
         let mut out = Vec::new();
         for _ in 0..self.dice.of(&[0, 1, 1, 2, 2, 3, 5]) {
             let kind = if self.fault(5) {
@@ -596,7 +690,62 @@ impl Maker<'_> {
         out
     }
 
+    /// A list of version 4: kinds 1 to 3, and 4 where both read the numbers alike; in `listed` 4 to 8 of any.
+    fn older_locations(&mut self) -> Vec<Piece> {
+        let listed = self.style.listed;
+        let mut out = Vec::new();
+        for _ in 0..self.dice.of(&[0, 1, 1, 2, 3]) {
+            let kind = if self.fault(5) {
+                self.dice.of(&[9, 10, 0xff])
+            } else if listed && self.dice.rare(6) {
+                self.dice.of(&[4, 4, 4, 5, 6, 7, 8])
+            } else {
+                self.dice.of(&[1, 2, 3, 3, 4])
+            };
+            let more = self.dice.padding();
+            let mut head = vec![kind];
+            if let 1..=3 = kind {
+                head.extend(uleb(self.dice.number(), more));
+            }
+            match kind {
+                2 => head.extend(uleb(self.dice.number(), 0)),
+                // Four bytes are a number, and a ULEB128 too.
+                4 if !listed || self.dice.rare(2) => {
+                    let bytes = self.dice.bytes(8);
+                    head.extend(bytes.iter().enumerate().map(|(i, b)| if i % 4 == 3 { b & 0x7f } else { b | 0x80 }));
+                }
+                3 | 4 => {
+                    for _ in 2..kind {
+                        let number = self.dice.number();
+                        head.extend(self.fixed(number, 4));
+                    }
+                }
+                6..=8 => {
+                    head.extend(self.address());
+                    match kind {
+                        7 => head.extend(self.address()),
+                        8 => head.extend(uleb(self.dice.number(), more)),
+                        _ => {}
+                    }
+                }
+                _ => {}
+            }
+            out.push(Piece::Bytes(head));
+            if matches!(kind, 2..=5 | 7 | 8) {
+                let inner = self.expression(0);
+                out.push(Piece::Measured(inner));
+            }
+        }
+        if !self.dice.rare(20) {
+            out.push(Piece::Bytes(vec![0]));
+        }
+        out
+    }
+
     fn location_list(&mut self) -> Vec<Piece> {
+        if self.layout.older {
+            return self.older_locations();
+        }
         let mut out = Vec::new();
         for _ in 0..self.dice.of(&[0, 1, 1, 2, 3]) {
             let kind = if self.fault(5) { self.dice.of(&[9, 10, 0xff]) } else { self.dice.of(&[1, 2, 3, 4, 4, 5, 5, 6, 7, 8]) };
@@ -636,9 +785,32 @@ fn high(dice: &mut Dice) -> u64 {
     dice.of(&[1 << 63, 1 << 32, 0xffff_ffff << 32, 1 << 40, 0x7fff_ffff << 32])
 }
 
+/// Lists one after another, as in version 4; now and then bytes between them. Behind their places come the section's
+/// end and a place past it.
+fn plain_section(dice: &mut Dice, lists: &[Vec<u8>], places: &mut Vec<usize>) -> Vec<u8> {
+    let mut out = Vec::new();
+    for list in lists {
+        if dice.rare(10) {
+            let more = dice.below(20);
+            out.extend(dice.bytes(more));
+        }
+        places.push(out.len());
+        out.extend(list);
+    }
+    if dice.rare(10) {
+        let more = dice.below(4);
+        out.extend(dice.bytes(more));
+    }
+    places.extend([out.len(), out.len() + 1 + dice.below(20)]);
+    out
+}
+
 /// A list section: header, table of offsets from behind the header, lists. Where the lists are far, an offset of eight bytes may have a high
 /// word, or name, by its sum with the base above 64 bits, a place in the section.
 fn list_section(dice: &mut Dice, layout: Layout, address_size: usize, far: bool, lists: &[Vec<u8>], places: &mut Vec<usize>) -> Vec<u8> {
+    if layout.older {
+        return plain_section(dice, lists, places);
+    }
     let mut body: Vec<u8> = Vec::new();
     let mut table: Vec<u8> = Vec::new();
     for list in lists {
@@ -795,7 +967,7 @@ fn structured(dice: &mut Dice, layout: Layout, style: Style) -> Parts {
     let located: Vec<Vec<Piece>> = (0..maker.locations).map(|_| maker.location_list()).collect();
     let dice = maker.dice;
 
-    let split = dice.rare(3);
+    let split = dice.rare(3) && !layout.older;
     let first = layout.first() + if split { 8 } else { 0 };
     let mut places = Places { items: vec![first; items.len()], ..Places::default() };
     let mut body = Vec::new();
@@ -829,10 +1001,10 @@ fn structured(dice: &mut Dice, layout: Layout, style: Style) -> Parts {
     }
 
     let before = if dice.rare(10) { dice.below(5) } else { 0 };
-    let mut unit = vec![0; layout.version()];
-    unit.extend(layout.bytes(5, 2));
-    unit.extend([if split { 5 } else { 1 }, address_size as u8]);
-    unit.extend(layout.offset(before as u64));
+    let mut unit = layout.header(address_size as u8, before as u64);
+    if split {
+        unit[layout.version() + 2] = 5;
+    }
     unit.extend(dice.bytes(first - layout.first()));
     unit.extend(body);
     layout.fit(&mut unit);
@@ -865,7 +1037,15 @@ fn structured(dice: &mut Dice, layout: Layout, style: Style) -> Parts {
             }
         }
     }
-    [unit, table, location_lists, range_lists, addresses]
+    of_parts(layout, [unit, table, location_lists, range_lists, addresses])
+}
+
+/// The parts by unit, abbreviations, location lists, range lists of the unit's version, address table; nothing in place
+/// of the other version's.
+fn of_parts(layout: Layout, [unit, table, locations, ranges, addresses]: [Vec<u8>; 5]) -> Parts {
+    let mut parts = [unit, table, locations, vec![], addresses, vec![]];
+    parts[layout.ranges()] = ranges;
+    parts
 }
 
 /// A table that fails at every index (6 at the first, 17 past it), for units that have no index to ask, or are to be
@@ -893,7 +1073,7 @@ fn cut(table: &mut Vec<u8>, keep: usize) {
 /// One to three changes anywhere.
 fn damage(dice: &mut Dice, layout: Layout, parts: &mut Parts) {
     for _ in 0..dice.of(&[1, 1, 1, 2, 3]) {
-        let which = dice.of(&[0, 0, 0, 0, 1, 1, 2, 3, 4]);
+        let which = dice.of(&[0, 0, 0, 0, 1, 1, 2, layout.ranges(), 4]);
         let part = &mut parts[which];
         let length = part.len();
         if length == 0 {
@@ -939,14 +1119,17 @@ fn refused(dice: &mut Dice, layout: Layout) -> Parts {
         }
         2 => match dice.below(4) {
             0 => parts[0][..4].copy_from_slice(&layout.bytes(0xffff_fff0 + dice.below(16) as u64, 4)),
-            1 => parts[0][version..version + 2].copy_from_slice(&layout.bytes(dice.of(&[0, 1, 2, 3, 4, 6]), 2)),
-            2 => parts[0][version + 2] = dice.of(&[0, 2, 3, 4, 6, 7]),
-            _ => parts[0][version + 3] = dice.of(&[0, 1, 2, 3, 16]),
+            1 => {
+                let other = if layout.older { 5 } else { 4 };
+                parts[0][version..version + 2].copy_from_slice(&layout.bytes(dice.of(&[0, 1, 2, 3, other, 6]), 2))
+            }
+            2 if !layout.older => parts[0][version + 2] = dice.of(&[0, 2, 3, 4, 6, 7]),
+            _ => parts[0][layout.address_size()] = dice.of(&[0, 1, 2, 3, 16]),
         },
         // The right offset but for its high word.
         3 if layout.wide && dice.rare(4) => {
-            let offset = fixed(layout.order, &parts[0][abbreviations..layout.first()]) | high(dice);
-            parts[0][abbreviations..layout.first()].copy_from_slice(&layout.offset(offset));
+            let offset = fixed(layout.order, &parts[0][abbreviations.clone()]) | high(dice);
+            parts[0][abbreviations].copy_from_slice(&layout.offset(offset));
         }
         3 => match dice.below(3) {
             0 => {
@@ -988,13 +1171,10 @@ fn refused(dice: &mut Dice, layout: Layout) -> Parts {
 const A5: [u8; 20] = [1, 0x11, 1, 0, 0, 2, 0x2e, 0, 0x11, 0x1b, 0x49, 0x11, 0, 0, 3, 0x24, 0, 0, 0, 0];
 
 fn of_body(layout: Layout, body: &[u8], table: &[u8]) -> Parts {
-    let mut unit = vec![0; layout.version()];
-    unit.extend(layout.bytes(5, 2));
-    unit.extend([1, 8]);
-    unit.extend(layout.offset(0));
+    let mut unit = layout.header(8, 0);
     unit.extend(body);
     layout.fit(&mut unit);
-    [unit, A5.to_vec(), vec![], vec![], table.to_vec()]
+    of_parts(layout, [unit, A5.to_vec(), vec![], vec![], table.to_vec()])
 }
 
 /// Every body of items over the five-entry unit's abbreviations, in order of their number; subprograms with both indices and
@@ -1118,12 +1298,14 @@ fn headers(dice: &mut Dice, layout: Layout) -> Parts {
     let mut parts =
         if dice.rare(2) { of_body(layout, &[1, 3, 2, 0, first + 1, 0], &[1]) } else { structured(dice, layout, Style::default()) };
     let version_at = layout.version();
-    let size = layout.first() + if parts[0][version_at + 2] == 5 { 8 } else { 0 };
+    let size = layout.first() + if !layout.older && parts[0][version_at + 2] == 5 { 8 } else { 0 };
     let body = parts[0][size..].to_vec();
-    let mut offset = fixed(layout.order, &parts[0][layout.abbreviations()..layout.first()]);
-    let version = if dice.rare(3) { dice.of(&[0, 1, 2, 3, 4, 6, 0x105, 0xffff]) } else { dice.of(&[5, 5, 5, 4]) };
+    let mut offset = fixed(layout.order, &parts[0][layout.abbreviations()]);
+    // Mostly the version that the unit is made for.
+    let (here, other) = if layout.older { (4, 5) } else { (5, 4) };
+    let version = if dice.rare(3) { dice.of(&[0, 1, 2, 3, other, 6, 0x100 | here, 0xffff]) } else { dice.of(&[here, here, here, other]) };
     let kind = if dice.rare(2) { dice.of(&[0, 2, 3, 4, 6, 7, 0x80, 0xff]) } else { dice.of(&[1, 5]) };
-    let address_size = if dice.rare(4) { dice.of(&[0, 1, 2, 3, 16, 255]) } else { parts[0][version_at + 3] };
+    let address_size = if dice.rare(4) { dice.of(&[0, 1, 2, 3, 16, 255]) } else { parts[0][layout.address_size()] };
     // Far behind the abbreviations; in the 64-bit format by the high word alone.
     if dice.rare(8) {
         offset |= if layout.wide { high(dice) } else { 1 << 31 };
@@ -1288,9 +1470,28 @@ fn of_value(layout: Layout, tag: u8, specs: &[u8], value: &[u8]) -> Parts {
     parts
 }
 
-/// A list section with one list.
+/// A list section with one list, behind a table of it, which in version 4 is as many bytes of no meaning.
 fn one_list(layout: Layout, held: &[u8]) -> Vec<u8> {
     [&vec![0; layout.table()], &layout.offset(layout.word() as u64)[..], held].concat()
+}
+
+/// Its offset.
+fn list_offset(layout: Layout) -> Vec<u8> {
+    layout.offset((layout.table() + layout.word()) as u64)
+}
+
+/// The form that names it, by the index 0 in version 5, and the value.
+fn by_list(layout: Layout, index: u8) -> (u8, Vec<u8>) {
+    if layout.older { (0x17, list_offset(layout)) } else { (index, vec![0]) }
+}
+
+/// A location list of one entry with this expression.
+fn one_location(layout: Layout, expression: &[u8]) -> Vec<u8> {
+    let length = expression.len() as u64;
+    match layout.older {
+        true => [&[3, 0], &layout.bytes(1, 4)[..], &layout.bytes(length, 2), expression, &[0]].concat(),
+        false => [&[5], &uleb(length, 0)[..], expression, &[0]].concat(),
+    }
 }
 
 /// Numbers at the edges of what can be read, in every place that has one.
@@ -1310,14 +1511,15 @@ fn numbers(dice: &mut Dice, layout: Layout) -> Parts {
         }
         // a value, or the length of one
         1 | 2 => {
-            let form = dice.of(&[0x09, 0x0d, 0x0f, 0x15, 0x15, 0x18, 0x1a, 0x1b, 0x22, 0x23]);
+            let [by_location, by_ranges] = if layout.older { [0x1f01, 0x1f02] } else { [0x22, 0x23] };
+            let form = dice.of(&[0x09, 0x0d, 0x0f, 0x15, 0x15, 0x18, 0x1a, 0x1b, by_location, by_ranges]);
             let name = dice.of(&[0x01, 0x02, 0x03, 0x11, 0x49, 0x55]);
             if matches!(form, 0x09 | 0x18) {
                 number.extend(after);
             }
-            let mut parts = of_value(layout, tag, &[name, form], &number);
+            let mut parts = of_value(layout, tag, &[&[name], &uleb(form, 0)[..]].concat(), &number);
             parts[2] = one_list(layout, &[0]);
-            parts[3] = one_list(layout, &[0]);
+            parts[layout.ranges()] = one_list(layout, &[0]);
             parts
         }
         // the number of a form, and a value of it
@@ -1346,21 +1548,35 @@ fn numbers(dice: &mut Dice, layout: Layout) -> Parts {
             }
             let name = dice.of(&[0x02, 0x40]);
             if dice.rare(3) {
-                let mut parts = of_value(layout, tag, &[name, 0x22], &[0]);
-                parts[2] = one_list(layout, &[&[5], &uleb(expression.len() as u64, 0)[..], &expression, &[0]].concat());
+                let (form, value) = by_list(layout, 0x22);
+                let mut parts = of_value(layout, tag, &[name, form], &value);
+                parts[2] = one_list(layout, &one_location(layout, &expression));
                 return parts;
             }
             of_value(layout, tag, &[name, 0x18], &[&uleb(expression.len() as u64, 0)[..], &expression].concat())
         }
         // lists
-        6 => {
+        6 if !layout.older => {
             let mut parts = of_value(layout, 0x2e, &[0x55, 0x23], &[0]);
             parts[3] = one_list(layout, &[&[dice.of(&[1, 2, 3, 4])], &number[..], &second, &[0]].concat());
             parts
         }
-        _ => {
+        _ if !layout.older => {
             let mut parts = of_value(layout, tag, &[0x02, 0x22], &[0]);
             parts[2] = one_list(layout, &[&[dice.of(&[1, 2, 3, 4, 5])], &number[..], &second, &[1, 0x96, 0]].concat());
+            parts
+        }
+        // Only the indices of a location list are such numbers.
+        _ => {
+            let mut parts = of_value(layout, tag, &[0x02, 0x17], &list_offset(layout));
+            let kind = dice.of(&[1, 2, 2, 3, 3]);
+            let rest = match kind {
+                1 => vec![],
+                2 => second,
+                _ => dice.bytes(4),
+            };
+            let expression = if kind == 1 { vec![] } else { [&layout.bytes(1, 2)[..], &[0x96]].concat() };
+            parts[2] = one_list(layout, &[&[kind], &number[..], &rest, &expression, &[0]].concat());
             parts
         }
     }
@@ -1411,7 +1627,7 @@ fn declarations(dice: &mut Dice, layout: Layout) -> Parts {
         if layout.wide && dice.rare(3) {
             offset |= high(dice);
         }
-        parts[0][layout.abbreviations()..layout.first()].copy_from_slice(&layout.offset(offset));
+        parts[0][layout.abbreviations()].copy_from_slice(&layout.offset(offset));
     }
     parts[1] = table;
     parts
@@ -1420,14 +1636,14 @@ fn declarations(dice: &mut Dice, layout: Layout) -> Parts {
 /// Expressions of operations of any code, with operands of any bytes: mostly 0x30 (0x3c in the 64-bit format), an operation of its own, and as an
 /// offset that of the last entry.
 fn operations(dice: &mut Dice, layout: Layout) -> Parts {
-    let last = layout.first() as u8 + 36;
+    let (first, last) = (layout.first() as u8, if layout.wide { 0x3c } else { 0x30 });
     let mut expression = Vec::new();
     for _ in 0..dice.of(&[1, 1, 1, 2, 3]) {
         expression.push(dice.next() as u8);
         for _ in 0..dice.below(6 + layout.word()) {
             expression.push(match dice.below(12) {
                 0 => dice.next() as u8,
-                1 => dice.of(&[0, 1, 2, 4, last - 36, last - 35, 0x80 | last]),
+                1 => dice.of(&[0, 1, 2, 4, first, first + 1, 0x80 | last]),
                 _ => last,
             });
         }
@@ -1445,20 +1661,62 @@ fn operations(dice: &mut Dice, layout: Layout) -> Parts {
     let name = dice.of(&[0x02, 0x40]);
     let in_list = dice.rare(3);
     // The first entry, a dead one, the one that holds the expression and fills up to that place, the last.
-    let value = if in_list { vec![0] } else { held.clone() };
-    let fill = 32usize.saturating_sub(value.len());
+    let (form, value) = if in_list { by_list(layout, 0x22) } else { (0x18, held) };
+    let fill = usize::from(last - first - 4).saturating_sub(value.len());
     let body = [&[1, 3, 2], &value[..], &[fill as u8], &vec![0; fill], &[3, 0]].concat();
     let count = dice.below(60);
     let table = address_table(dice, count);
     let mut parts = of_body(layout, &body, &table);
-    let specs: &[u8] = if in_list { &[0x02, 0x22, 0x03, 0x0a] } else { &[name, 0x18, 0x03, 0x0a] };
+    let specs: &[u8] = &[if in_list { 0x02 } else { name }, form, 0x03, 0x0a];
     let root: &[u8] = if dice.rare(4) { &[] } else { &[0x11, 0x19] };
     parts[1] = [&[1, 0x11, 1, 0, 0, 2, tag, 0], specs, root, &[0, 0, 3, 0x24, 0, 0, 0, 0]].concat();
-    parts[2] = one_list(layout, &[&[5], &held[..], &[0]].concat());
+    parts[2] = one_list(layout, &one_location(layout, &expression));
     if dice.rare(4) {
-        parts[0][layout.version() + 3] = 4;
+        parts[0][layout.address_size()] = 4;
     }
     parts
+}
+
+/// Addresses of either size that are dead, or all ones, or neither, and zeros of any number.
+fn pairs(dice: &mut Dice, layout: Layout) -> Vec<u8> {
+    let width = dice.of(&[4, 8]);
+    let mut list = Vec::new();
+    for _ in 0..dice.of(&[0, 1, 2, 2, 4, 4, 6, 8]) {
+        let address = dice.of(&[0, 0, 0, u64::MAX, u64::MAX, 0xffff_ffff, 1, 0x1000, u64::MAX - 1, 0xffff_ffff << 32]);
+        list.extend(layout.bytes(address, width));
+    }
+    list.extend(vec![0; dice.of(&[0, 16, 16, 8, 1])]);
+    list
+}
+
+/// The entries of a location list of version 4 of any kind, mostly as long as they should be.
+fn older_entries(dice: &mut Dice, layout: Layout) -> Vec<u8> {
+    let mut list = Vec::new();
+    for _ in 0..dice.of(&[0, 1, 1, 2, 3]) {
+        let kind = if dice.rare(12) { dice.next() as u8 } else { dice.of(&[1, 1, 2, 2, 3, 3, 4, 4, 5, 6, 7, 8, 9]) };
+        list.push(kind);
+        let operands = match kind {
+            1 => 1,
+            2 => 2,
+            3 => 5,
+            4 => dice.of(&[8, 8, 2]),
+            6 => dice.of(&[4, 8]),
+            7 => dice.of(&[8, 16]),
+            8 => dice.of(&[5, 9]),
+            _ => 0,
+        };
+        for _ in 0..operands + if dice.rare(12) { 1 } else { 0 } {
+            list.push(if dice.rare(4) { dice.next() as u8 } else { dice.of(&[0, 0, 0, 1, 1, 2, 3, 0x80]) });
+        }
+        if !matches!(kind, 1 | 6) {
+            let expression = dice.of(&[&[][..], &[0x96], &[0x96, 0x96], &[0x98, 0, 0], &[0xa3, 1, 0x96], &[0xff], &[0x0c, 1]]);
+            let length = if dice.rare(12) { dice.below(300) } else { expression.len() };
+            list.extend(layout.bytes(length as u64, 2));
+            list.extend(expression);
+        }
+    }
+    list.extend(vec![0; dice.below(3)]);
+    list
 }
 
 /// Lists of entries of any kind, with operands of any bytes.
@@ -1472,13 +1730,15 @@ fn kinds(dice: &mut Dice, layout: Layout) -> Parts {
     }
     list.extend(vec![0; dice.below(3)]);
     let ranges = dice.rare(2);
+    if layout.older && !dice.rare(4) {
+        list = if ranges { pairs(dice, layout) } else { older_entries(dice, layout) };
+    }
     let (name, index, tag) = if ranges { (0x55, 0x23, 0x2e) } else { (0x02, 0x22, dice.of(&[0x34, 0x2e, 0x24])) };
-    let at_offset = dice.rare(3);
-    let place = layout.offset((layout.table() + layout.word()) as u64);
-    let mut parts = if at_offset { of_value(layout, tag, &[name, 0x17], &place) } else { of_value(layout, tag, &[name, index], &[0]) };
-    parts[if ranges { 3 } else { 2 }] = one_list(layout, &list);
+    let (form, value) = if dice.rare(3) { (0x17, list_offset(layout)) } else { by_list(layout, index) };
+    let mut parts = of_value(layout, tag, &[name, form], &value);
+    parts[if ranges { layout.ranges() } else { 2 }] = one_list(layout, &list);
     if dice.rare(4) {
-        parts[0][layout.version() + 3] = 4;
+        parts[0][layout.address_size()] = 4;
     }
     let count = dice.below(5);
     parts[4] = address_table(dice, count);

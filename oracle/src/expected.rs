@@ -2,7 +2,8 @@
 //! does (`listed`); what is written then is worked out here, from the marks and the specification's words alone. Where no rule matches, that must be the
 //! original's own answer.
 
-use crate::judge::{self, Answer, Judged, List, Outcome, Setting};
+use crate::cases::{slices, Parts};
+use crate::judge::{self, Answer, Judged, List, Outcome, Sections, Setting};
 use crate::listed::{self, padded, Case, Change};
 use crate::order::{fixed, fixed_bytes, Layout, Order};
 use crate::unit::{self, header, uleb, Attribute, Unit};
@@ -220,7 +221,7 @@ fn plan(unit: &Unit, bytes: &[u8], marks: &[(usize, char)], type_units: bool) ->
 }
 
 /// What the port has to answer where the original answered so.
-pub fn expect(parts: [&[u8]; 5], setting: Setting, judged: &Judged) -> Expected {
+pub fn expect(parts: Sections<'_>, setting: Setting, judged: &Judged) -> Expected {
     let refused = |n: u8, rules| Expected { met: 0, references: vec![], read: Err(n), rules };
     let order = setting.order();
     if !parts[0].is_empty() {
@@ -232,17 +233,17 @@ pub fn expect(parts: [&[u8]; 5], setting: Setting, judged: &Judged) -> Expected 
 
     // The original's reading, changed until it reads as the port does.
     let mut rules = BTreeSet::new();
-    let mut changed: Option<([Vec<u8>; 5], Judged)> = None;
+    let mut changed: Option<(Parts, Judged)> = None;
     loop {
-        let (now, seen): ([&[u8]; 5], _) = match &changed {
+        let (now, seen) = match &changed {
             None => (parts, judged),
-            Some((p, j)) => ([&p[0], &p[1], &p[2], &p[3], &p[4]], j),
+            Some((p, j)) => (slices(p), j),
         };
         let unit = match unit::read(now, order, seen.met) {
             Ok(Some(unit)) => unit,
             Ok(None) => {
                 let encoding = gimli::Encoding { format: gimli::Format::Dwarf32, version: 5, address_size: 8 };
-                Unit { layout: Layout { order, wide: false }, encoding, first: 0, items: vec![] }
+                Unit { layout: Layout { order, wide: false, older: false }, encoding, first: 0, items: vec![] }
             }
             Err(_) => return refused(if let Outcome::Error(Some(n), _) = seen.outcome { n } else { 0 }, rules),
         };
@@ -260,10 +261,13 @@ pub fn expect(parts: [&[u8]; 5], setting: Setting, judged: &Judged) -> Expected 
         }
         let mut next = now.map(<[u8]>::to_vec);
         for Change(part, place, byte) in changes.into_iter().flat_map(|c| c.1) {
-            next[part][place] = byte;
+            match next[part].get_mut(place) {
+                Some(held) => *held = byte,
+                None => next[part].push(byte),
+            }
         }
         assert!(next != now, "the changes change nothing");
-        let again = judge::judge([&next[0], &next[1], &next[2], &next[3], &next[4]], setting);
+        let again = judge::judge(slices(&next), setting);
         changed = Some((next, again));
     }
 }

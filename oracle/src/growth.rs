@@ -133,13 +133,10 @@ impl Unit {
     /// The bundle's parts; the address table has a dead and a live index.
     fn parts(mut self, table: Vec<u8>, locations: Vec<u8>, ranges: Vec<u8>) -> Parts {
         self.end();
-        let mut section = vec![0; self.1.version()];
-        section.extend(self.1.bytes(5, 2));
-        section.extend([1, 8]);
-        section.extend(self.1.offset(0));
+        let mut section = self.1.header(8, 0);
         section.extend(self.0);
         self.1.fit(&mut section);
-        [section, table, locations, ranges, vec![0, 1]]
+        [section, table, locations, ranges, vec![0, 1], vec![]]
     }
 
     fn plain(self) -> Parts {

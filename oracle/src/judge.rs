@@ -1,10 +1,10 @@
 //! One run of `gc_debug_info`, and what it let be seen.
 
-use crate::order::{order, Order};
+use crate::order::{order, Layout, Order};
 use crate::{error::Error, gc, gc::probe, plain, shims};
 use gimli::{
     DebugAbbrev, DebugInfo, DebugLoc, DebugLocLists, DebugRanges, DebugRngLists, DebugRngListsBase,
-    EndianSlice, LocationLists, RangeLists,
+    EndianSlice, LocationLists, RangeLists, Reader as _,
 };
 use std::any::Any;
 use std::cell::Cell;
@@ -26,6 +26,10 @@ impl Setting {
         order(self.big_endian)
     }
 }
+
+/// The sections of a bundle: unit, abbreviations, location lists, range lists of version 5 (.debug_rnglists), address
+/// table, range lists of version 4 (.debug_ranges).
+pub type Sections<'a> = [&'a [u8]; 6];
 
 /// Numbers of an index list, or none where it is absent.
 pub type List = Option<BTreeSet<u64>>;
@@ -163,17 +167,25 @@ fn resolved(table: &[u8], index: usize) -> Result<bool, Error> {
     }
 }
 
-/// Calls `gc_debug_info` of a module on the five sections of a bundle, with this resolver.
+/// A section of location lists: .debug_loc.dwo of version 4, else .debug_loclists.dwo.
+pub(crate) fn location_lists(section: EndianSlice<'_, Order>, older: bool) -> LocationLists<EndianSlice<'_, Order>> {
+    let empty = EndianSlice::new(&[][..], section.endian());
+    let [bare, listed] = if older { [section, empty] } else { [empty, section] };
+    LocationLists::new(DebugLoc::from(bare), DebugLocLists::from(listed))
+}
+
+/// Calls `gc_debug_info` of a module on the sections of a bundle, with this resolver. The location lists are those of
+/// the unit's version.
 macro_rules! original {
     ($module:ident, $parts:expr, $setting:expr, $resolver:expr) => {{
-        let (parts, setting): ([&[u8]; 5], Setting) = ($parts, $setting);
+        let (parts, setting): (Sections<'_>, Setting) = ($parts, $setting);
         let reader = |i: usize| EndianSlice::new(parts[i], setting.order());
-        let empty = EndianSlice::new(&[][..], setting.order());
+        let older = Layout::of(setting.order(), parts[0]).older;
         $module::gc_debug_info(
             DebugInfo::from(reader(0)),
             DebugAbbrev::from(reader(1)),
-            LocationLists::new(DebugLoc::from(empty), DebugLocLists::from(reader(2))),
-            RangeLists::new(DebugRanges::from(empty), DebugRngLists::from(reader(3))),
+            location_lists(reader(2), older),
+            RangeLists::new(DebugRanges::from(reader(5)), DebugRngLists::from(reader(3))),
             DebugRngListsBase(setting.ranges_base),
             $resolver,
             shims::DwoId(0),
@@ -182,7 +194,7 @@ macro_rules! original {
     }};
 }
 
-fn outcome(parts: [&[u8]; 5], setting: Setting, asked: &Cell<usize>) -> Outcome {
+fn outcome(parts: Sections<'_>, setting: Setting, asked: &Cell<usize>) -> Outcome {
     let resolver = |index: gimli::DebugAddrIndex<usize>| {
         asked.set(asked.get() + 1);
         resolved(parts[4], index.0)
@@ -198,14 +210,14 @@ fn outcome(parts: [&[u8]; 5], setting: Setting, asked: &Cell<usize>) -> Outcome 
 }
 
 /// The original without the hook, its result freed: what is measured. The new unit's length, 0 where untouched, or none.
-pub fn measured(parts: [&[u8]; 5], setting: Setting) -> Option<usize> {
+pub fn measured(parts: Sections<'_>, setting: Setting) -> Option<usize> {
     let resolver = |index: gimli::DebugAddrIndex<usize>| resolved(parts[4], index.0);
     let answer = original!(plain, parts, setting, resolver).ok()?;
     Some(answer.rewritten.as_ref().map_or(0, |v| v.slice().len()))
 }
 
-/// Runs the original on the five sections of a bundle.
-pub fn judge(parts: [&[u8]; 5], setting: Setting) -> Judged {
+/// Runs the original on the sections of a bundle.
+pub fn judge(parts: Sections<'_>, setting: Setting) -> Judged {
     probe::clear();
     let asked = Cell::new(0);
     let outcome = panic::catch_unwind(AssertUnwindSafe(|| outcome(parts, setting, &asked)));

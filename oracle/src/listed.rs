@@ -1,14 +1,15 @@
 //! Which of the listed differences a case can show, told from the input and the marks, never from the answer; and how the input is to be
 //! changed so that the original reads what the port reads.
 
-use crate::judge::Setting;
+use crate::judge::{self, Sections, Setting};
 use crate::order::{self, Layout};
 use crate::unit::{self, uleb, Slice, Unit};
-use gimli::{EndianSlice, Operation, Reader};
+use gimli::{EndianSlice, LocationLists, LocationListsOffset, Operation, Reader};
 use std::collections::{BTreeMap, BTreeSet, HashMap};
+use std::ops::Range;
 
 pub struct Case<'a> {
-    pub parts: [&'a [u8]; 5],
+    pub parts: Sections<'a>,
     pub setting: Setting,
     /// How many entries were met.
     pub met: usize,
@@ -16,7 +17,8 @@ pub struct Case<'a> {
     pub marks: &'a [(usize, char)],
 }
 
-/// What makes the original read as the port does, a byte of a part: part, place, byte. No width changes.
+/// What makes the original read as the port does, a byte of a part: part, place, byte; at its end, a byte more. No
+/// width changes.
 pub(crate) struct Change(pub(crate) usize, pub(crate) usize, pub(crate) u8);
 
 /// Bytes from a place of a part on.
@@ -66,6 +68,132 @@ fn odd_operation(expression: Slice<'_>, encoding: gimli::Encoding) -> Option<(us
     None
 }
 
+/// The location lists of a case, and what they are read by.
+struct Locations<'a> {
+    section: Slice<'a>,
+    lists: LocationLists<Slice<'a>>,
+    encoding: gimli::Encoding,
+}
+
+/// A location list of version 4, as the port reads it.
+#[derive(Default)]
+struct Older {
+    expressions: Vec<Range<usize>>,
+    /// The rule of the first entry that the original reads otherwise.
+    rule: Option<&'static str>,
+    /// The same list in bytes that the original reads so.
+    written: Vec<u8>,
+}
+
+impl Locations<'_> {
+    /// Where the expression of an entry that the original has read stands; nowhere for a base.
+    fn place(&self, entry: &gimli::RawLocListEntry<Slice<'_>>) -> Range<usize> {
+        use gimli::RawLocListEntry::*;
+        match entry {
+            StartxEndx { data, .. } | StartxLength { data, .. } | OffsetPair { data, .. } | DefaultLocation { data } | StartEnd { data, .. }
+            | StartLength { data, .. } | AddressOrOffsetPair { data, .. } => {
+                let start = data.0.offset_from(self.section);
+                start..start + data.0.len()
+            }
+            BaseAddressx { .. } | BaseAddress { .. } => 0..0,
+        }
+    }
+
+    /// The expressions of a list of version 5.
+    fn expressions(&self, from: usize) -> Vec<Range<usize>> {
+        let mut found = Vec::new();
+        if let Ok(mut entries) = self.lists.raw_locations_dwo(LocationListsOffset(from), self.encoding) {
+            while let Ok(Some(entry)) = entries.next() {
+                found.push(self.place(&entry));
+            }
+        }
+        found
+    }
+
+    /// The expression of the entry of version 4 at a place, as the port reads it; that of a base is empty, behind its
+    /// index.
+    fn older_entry(&self, at: usize) -> gimli::Result<Range<usize>> {
+        let mut rest = self.section.range_from(at..);
+        let kind = rest.read_u8()?;
+        match kind {
+            1..=3 => rest.read_uleb128().map(|_| ())?,
+            4 => rest.read_u32().map(|_| ())?,
+            _ => return Err(gimli::Error::InvalidAddressRange),
+        }
+        match kind {
+            2 => rest.read_uleb128().map(|_| ())?,
+            3 | 4 => rest.read_u32().map(|_| ())?,
+            _ => {}
+        }
+        let length = if kind == 1 { 0 } else { rest.read_u16()?.into() };
+        rest.skip(length)?;
+        let end = self.section.len() - rest.len();
+        Ok(end - length..end)
+    }
+
+    /// A list of version 4 up to what neither reads, or the section's end.
+    fn older(&self, from: usize) -> Older {
+        let bytes = self.section.slice();
+        let mut found = Older::default();
+        let mut at = from;
+        loop {
+            let kind = bytes.get(at).copied().unwrap_or(0);
+            if kind == 0 {
+                found.written.push(0);
+                return found;
+            }
+            let mut entries = self.lists.raw_locations_dwo(LocationListsOffset(at), self.encoding).expect("a place in the section");
+            let original = entries.next().ok().flatten().map(|e| self.place(&e));
+            let port = self.older_entry(at).ok();
+            let same = if kind == 1 { port.is_some() == original.is_some() } else { port == original };
+            if !same {
+                assert!((4..=8).contains(&kind), "gimli keeps to the proposal in kinds 1 to 3 and knows none above 8");
+                found.rule = found.rule.or(Some(if kind == 4 { "offset-pair" } else { "location-kind" }));
+            }
+            let Some(expression) = port else {
+                found.written.push(0xff);
+                return found;
+            };
+            match same {
+                true => found.written.extend(&bytes[at..expression.end]),
+                // Two numbers of four bytes are two ULEB128 of four.
+                false => {
+                    found.written.extend([4, 0x80, 0x80, 0x80, 0, 0x80, 0x80, 0x80, 0]);
+                    found.written.extend(&bytes[at + 9..expression.end]);
+                }
+            }
+            at = expression.end;
+            let readable = judge::references(&bytes[expression.clone()], self.encoding, self.section.endian()).is_ok();
+            found.expressions.push(expression);
+            if !readable {
+                found.written.push(0xff);
+                return found;
+            }
+        }
+    }
+
+    /// The lists under DW_AT_location of all entries that can be read, of version 4, written behind the section, each
+    /// by itself, and their offsets: so that what is changed of one list is not read in another.
+    fn anew(&self, case: &Case<'_>, layout: Layout) -> Vec<Change> {
+        let mut made = Vec::new();
+        let mut end = self.section.len();
+        let Ok(Some(unit)) = unit::read(case.parts, layout.order, usize::MAX) else { return made };
+        let entries = unit.items.iter().filter_map(|i| i.entry.as_ref());
+        for a in entries.flat_map(|e| &e.attributes).filter(|a| (a.form, a.name) == (0x17, 0x02)) {
+            let from = order::fixed(layout.order, &case.parts[0][a.at..a.end]);
+            if from > self.section.len() as u64 {
+                made.extend(changes(0, a.at, layout.offset(u64::MAX)));
+                continue;
+            }
+            let written = self.older(from as usize).written;
+            made.extend(changes(0, a.at, layout.offset(end as u64)));
+            end += written.len();
+            made.extend(changes(2, end - written.len(), written));
+        }
+        made
+    }
+}
+
 /// What of the listed is read, entry by entry, with the changes for each.
 pub(crate) fn reading(case: &Case<'_>, unit: &Unit) -> Vec<(&'static str, Vec<Change>)> {
     let bytes = case.parts[0];
@@ -74,7 +202,8 @@ pub(crate) fn reading(case: &Case<'_>, unit: &Unit) -> Vec<(&'static str, Vec<Ch
     let reader = |part| EndianSlice::new(part, layout.order);
     let fixed = |bytes: &[u8]| order::fixed(layout.order, bytes);
     let section = reader(case.parts[2]);
-    let lists = gimli::LocationLists::new(gimli::DebugLoc::from(reader(&[][..])), gimli::DebugLocLists::from(section));
+    let locations = Locations { section, lists: judge::location_lists(section, layout.older), encoding };
+    let mut anew = None;
     let mut found = Vec::new();
     // The form that the original takes for an offset, data as wide as one.
     let (data, rule) = if layout.wide { (0x07, "data8") } else { (0x06, "data4") };
@@ -95,7 +224,7 @@ pub(crate) fn reading(case: &Case<'_>, unit: &Unit) -> Vec<(&'static str, Vec<Ch
                 let (part, place) = match a.number {
                     Some(place) => (0, place),
                     None => {
-                        let from = fixed(&bytes[layout.abbreviations()..layout.first()]) as usize;
+                        let from = fixed(&bytes[layout.abbreviations()]) as usize;
                         (1, unit::form_places(case.parts[1], from, entry.code).map_or(0, |p| p[i]))
                     }
                 };
@@ -112,7 +241,9 @@ pub(crate) fn reading(case: &Case<'_>, unit: &Unit) -> Vec<(&'static str, Vec<Ch
             };
             let mut list = None;
             match (a.form, a.name) {
-                (0x1f01 | 0x1f20 | 0x1f21, _) => found.push(("form", form(0x7f))),
+                (0x1f20 | 0x1f21, _) => found.push(("form", form(0x7f))),
+                (0x1f01, _) if !layout.older => found.push(("form", form(0x7f))),
+                (0x22 | 0x23, _) if layout.older => found.push(("list-index", form(0x7f))),
                 (0x18, 0x01) => found.push(("sibling-exprloc", form(0x02))),
                 (f, 0x02) if f == data => found.push((rule, form(0x0e))),
                 (f, 0x55) if f == data && entry.tag == 0x2e => found.push((rule, form(0x0e))),
@@ -132,23 +263,29 @@ pub(crate) fn reading(case: &Case<'_>, unit: &Unit) -> Vec<(&'static str, Vec<Ch
                 (0x22, 0x02) => {
                     let index = gimli::DebugLocListsIndex(index as usize);
                     let base = gimli::DebugLocListsBase(location_base as usize);
-                    list = lists.get_offset(encoding, base, index).ok().map(|o| o.0);
+                    list = locations.lists.get_offset(encoding, base, index).ok().map(|o| o.0);
                 }
                 _ => {}
             }
-            let Some(Ok(mut entries)) = list.map(|o| lists.raw_locations_dwo(gimli::LocationListsOffset(o), encoding)) else { continue };
-            while let Ok(Some(entry)) = entries.next() {
-                use gimli::RawLocListEntry::*;
-                let expression = match entry {
-                    StartxEndx { data, .. } | StartxLength { data, .. } | OffsetPair { data, .. } | DefaultLocation { data }
-                    | StartEnd { data, .. } | StartLength { data, .. } | AddressOrOffsetPair { data, .. } => data.0,
-                    BaseAddressx { .. } | BaseAddress { .. } => continue,
-                };
-                if let Some((place, code)) = odd_operation(expression, encoding) {
-                    found.push(("operation", vec![Change(2, expression.offset_from(section) + place, code)]));
+            let Some(list) = list else { continue };
+            let expressions = match layout.older {
+                false => locations.expressions(list),
+                true if list > section.len() => vec![],
+                true => {
+                    let read = locations.older(list);
+                    anew = anew.or(read.rule);
+                    read.expressions
+                }
+            };
+            for expression in expressions {
+                if let Some((place, code)) = odd_operation(reader(&case.parts[2][expression.clone()]), encoding) {
+                    found.push(("operation", vec![Change(2, expression.start + place, code)]));
                 }
             }
         }
+    }
+    if let Some(rule) = anew {
+        found.push((rule, locations.anew(case, layout)));
     }
     found
 }

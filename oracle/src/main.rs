@@ -1,6 +1,7 @@
 //! The original collector as the judge: reads bundles and prints one line for each. README.md has the line's form.
 
-use oracle::judge::{self, judge, or_dash, said, Judged, Setting};
+use oracle::cases::{sections, whole};
+use oracle::judge::{self, judge, or_dash, said, Judged, Sections, Setting};
 use oracle::{listed, order};
 use std::io::{self, BufRead, BufReader, BufWriter, Read, Write};
 use std::panic::{self, AssertUnwindSafe};
@@ -9,30 +10,13 @@ const USAGE: &str = "usage: oracle [--type-units] [--ranges-base N] [--big-endia
        oracle [--big-endian] --expression ADDRESS_SIZE OFFSET_SIZE HEX | --padded VALUE WIDTH | --tombstone ADDRESS ADDRESS_SIZE
 Without a file: bundles one after another from standard input.";
 
-/// The five sections of a bundle whose first length has been taken off, or none for a wrong layout.
-fn sections(mut rest: &[u8]) -> Option<[&[u8]; 5]> {
-    let (&version, after) = rest.split_first()?;
-    if version != 1 {
-        return None;
-    }
-    rest = after;
-    let mut parts: [&[u8]; 5] = [&[]; 5];
-    for part in &mut parts {
-        let (length, after) = rest.split_first_chunk::<4>()?;
-        let length = u32::from_be_bytes(*length) as usize;
-        *part = after.get(..length)?;
-        rest = &after[length..];
-    }
-    rest.is_empty().then_some(parts)
-}
-
 fn caught(job: impl FnOnce() -> String) -> String {
     panic::catch_unwind(AssertUnwindSafe(job)).unwrap_or_else(|p| format!("panic {}", said(p)))
 }
 
-/// The line of a case, its first length taken off. With `more` it says how far it came, and which listed differences the case can show.
-fn line(rest: &[u8], setting: Setting, more: bool) -> String {
-    match sections(rest) {
+/// The line of a case. With `more` it says how far it came, and which listed differences the case can show.
+fn line(parts: Option<Sections<'_>>, setting: Setting, more: bool) -> String {
+    match parts {
         None => "bundle".to_string(),
         Some(parts) => {
             let judged = judge(parts, setting);
@@ -46,18 +30,10 @@ fn line(rest: &[u8], setting: Setting, more: bool) -> String {
 }
 
 /// What `--more` adds.
-fn added(parts: [&[u8]; 5], setting: Setting, judged: &Judged) -> String {
+fn added(parts: Sections<'_>, setting: Setting, judged: &Judged) -> String {
     let case = listed::Case { parts, setting, met: judged.met, marks: &judged.marks };
     let rules: Vec<&str> = listed::rules(&case).into_iter().collect();
     format!(" | met {} references {} listed {}", judged.met, judged.all_references(), or_dash(rules.join(",")))
-}
-
-/// The line of a whole file.
-fn whole(bytes: &[u8], setting: Setting, more: bool) -> String {
-    match bytes.split_first_chunk::<4>() {
-        Some((length, rest)) if u32::from_be_bytes(*length) as usize == rest.len() => line(rest, setting, more),
-        _ => "bundle".to_string(),
-    }
 }
 
 /// Cases from standard input. Lines are handed out before the next case is waited for.
@@ -81,7 +57,7 @@ fn stream(output: &mut impl Write, setting: Setting, more: bool) -> io::Result<(
         if rest.len() < length {
             return writeln!(output, "bundle");
         }
-        writeln!(output, "{}", line(&rest, setting, more))?;
+        writeln!(output, "{}", line(sections(&rest), setting, more))?;
     }
 }
 
@@ -179,7 +155,7 @@ fn run() -> io::Result<i32> {
     }
     for file in files {
         let shown = match std::fs::read(&file) {
-            Ok(bytes) => whole(&bytes, setting, more),
+            Ok(bytes) => line(whole(&bytes), setting, more),
             Err(e) => {
                 eprintln!("{file}: {e}");
                 return Ok(1);

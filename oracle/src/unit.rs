@@ -1,5 +1,6 @@
 //! A unit as a list of its items, read by gimli: what the rules of `listed` and the answers of `expected` are told from.
 
+use crate::judge::Sections;
 use crate::order::{fixed, Layout, Order, ESCAPE};
 use gimli::{EndianSlice, Reader};
 
@@ -55,18 +56,19 @@ pub fn header(section: &[u8], order: Order) -> u8 {
         return 1;
     }
     let unit = &rest[..length as usize];
-    let end = 4 + Layout::of(order, section).word();
-    let fields: [(usize, &dyn Fn(&[u8]) -> bool); 4] =
-        [(2, &|u| fixed(order, &u[..2]) == 5), (3, &|u| matches!(u[2], 1 | 5)), (4, &|u| matches!(u[3], 4 | 8)), (end, &|_| true)];
-    for (need, right) in fields {
-        if unit.len() < need {
-            return 1;
-        }
-        if !right(unit) {
-            return 2;
-        }
+    let word = Layout::of(order, section).word();
+    let sized = |at: usize| matches!(unit[at], 4 | 8);
+    match unit.get(..2).map(|version| fixed(order, version)) {
+        None => 1,
+        Some(4) if unit.len() < 3 + word => 1,
+        Some(4) => if sized(2 + word) { 0 } else { 2 },
+        Some(5) if unit.len() < 3 => 1,
+        Some(5) if !matches!(unit[2], 1 | 5) => 2,
+        Some(5) if unit.len() < 4 => 1,
+        Some(5) if !sized(3) => 2,
+        Some(5) => u8::from(unit.len() < 4 + word + if unit[2] == 5 { 8 } else { 0 }),
+        Some(_) => 2,
     }
-    u8::from(unit[2] == 5 && unit.len() < end + 8)
 }
 
 /// The same in either byte order.
@@ -89,13 +91,13 @@ fn attribute(section: &[u8], spec: &gimli::AttributeSpecification, start: usize,
 }
 
 /// The items up to the last of `met` entries; none where the section holds no unit.
-pub(crate) fn read(parts: [&[u8]; 5], order: Order, met: usize) -> gimli::Result<Option<Unit>> {
+pub(crate) fn read(parts: Sections<'_>, order: Order, met: usize) -> gimli::Result<Option<Unit>> {
     let reader = |i: usize| EndianSlice::new(parts[i], order);
     let section = gimli::DebugInfo::from(reader(0));
     let Some(header) = section.units().next()? else { return Ok(None) };
     let table = header.abbreviations(&gimli::DebugAbbrev::from(reader(1)))?;
     let encoding = header.encoding();
-    let layout = Layout { order, wide: encoding.format == gimli::Format::Dwarf64 };
+    let layout = Layout::of(order, parts[0]);
     let mut unit = Unit { layout, encoding, first: header.size_of_header(), items: Vec::new() };
     let mut left = met;
     let mut entries = header.entries_raw(&table, None)?;

@@ -10,7 +10,7 @@ use Rattle.readers.specs.Choice.{pick}
 use Rattle.readers.specs.declared.fields.Field.{Field}
 use Rattle.readers.specs.declared.fields.FieldRead.{FieldRead}
 use Rattle.readers.specs.declared.fields.FieldRead.the-variants.{Read, Unreadable}
-use Rattle.bundle.specs.Bundle.{frameOf, part, onPart, sectionsOf, bundleOf}
+use Rattle.bundle.specs.Bundle.{frameOf, versionOf, part, debugRangesPart, onPart, sectionsOf, bundleOf}
 use Rattle.bundle.specs.declared.Bundle.{Bundle}
 use Rattle.bundle.specs.declared.BundleRead.{BundleRead}
 use Rattle.bundle.specs.declared.BundleRead.the-variants.{Read as Bundle′, Wrong}
@@ -33,12 +33,15 @@ on-none x r k e t = ap (λ z. onPart z k) (sym e ∙ t)
 
 -- what is left to read, from each section on
 module _ (s : List ℕ) where
-  abbrev at-end : Field → Field → Field → Field → Field → BundleRead
-  at-end u a l r d =
-      pick (eqb (d .end) (length s)) (Bundle′ (record { unit = u; abbreviations = a; locations = l; ranges = r; addresses = d })) Wrong
+  abbrev at-end : Field → Field → Field → Field → Field → Field → BundleRead
+  at-end u a l r d o =
+      pick (eqb (o .end) (length s)) (Bundle′ (record { unit = u; abbreviations = a; locations = l; ranges = r; addresses = d; «debug_ranges» = o })) Wrong
+
+  abbrev from-addresses : Field → Field → Field → Field → Field → BundleRead
+  from-addresses u a l r d = onPart (debugRangesPart s (d .end)) (at-end u a l r d)
 
   abbrev from-ranges : Field → Field → Field → Field → BundleRead
-  from-ranges u a l r = onPart (part s (r .end)) (at-end u a l r)
+  from-ranges u a l r = onPart (part s (r .end)) (from-addresses u a l r)
 
   abbrev from-locations : Field → Field → Field → BundleRead
   from-locations u a l = onPart (part s (l .end)) (from-ranges u a l)
@@ -85,15 +88,36 @@ module _ (s : List ℕ) where
             pub no-addresses : x5 ≡ Unreadable → Wrong ≡ sectionsOf s
             no-addresses t = sym (to-5 ∙ on-none x5 _ _ e5 t)
 
-            module _ (d : Field) (t5 : x5 ≡ Read d) where
-              to-6 : sectionsOf s ≡ at-end u a l r d
+            module _ (d : Field) (t5 : x5 ≡ Read d) (x6 : FieldRead) (e6 : x6 ≡ debugRangesPart s (d .end)) where
+              to-6 : sectionsOf s ≡ from-addresses u a l r d
               to-6 = to-5 ∙ on-read x5 _ d _ e5 t5
 
-              pub more-bytes : (d .end ≡ length s → ⊥) → Wrong ≡ sectionsOf s
-              unfolding pick
-              more-bytes h = sym (to-6 ∙ ap (λ z. pick z (Bundle′ (record { unit = u; abbreviations = a; locations = l; ranges = r; addresses = d })) Wrong) (ne-eqb (d .end) (length s) h))
+              pub no-debug-ranges : x6 ≡ Unreadable → Wrong ≡ sectionsOf s
+              no-debug-ranges t = sym (to-6 ∙ on-none x6 _ _ e6 t)
 
-              pub whole : d .end ≡ length s
-                  → Bundle′ (record { unit = u; abbreviations = a; locations = l; ranges = r; addresses = d }) ≡ sectionsOf s
-              unfolding pick
-              whole h = sym (to-6 ∙ ap (λ z. pick z (Bundle′ (record { unit = u; abbreviations = a; locations = l; ranges = r; addresses = d })) Wrong) (eq-eqb (d .end) (length s) h))
+              module _ (o : Field) (t6 : x6 ≡ Read o) where
+                abbrev ended : Bool → BundleRead
+                ended z = pick z (Bundle′ (record { unit = u; abbreviations = a; locations = l; ranges = r; addresses = d; «debug_ranges» = o })) Wrong
+
+                to-7 : sectionsOf s ≡ at-end u a l r d o
+                to-7 = to-6 ∙ on-read x6 _ o _ e6 t6
+
+                pub more-bytes : (o .end ≡ length s → ⊥) → Wrong ≡ sectionsOf s
+                unfolding pick
+                more-bytes h = sym (to-7 ∙ ap ended (ne-eqb (o .end) (length s) h))
+
+                pub whole : o .end ≡ length s
+                    → Bundle′ (record { unit = u; abbreviations = a; locations = l; ranges = r; addresses = d; «debug_ranges» = o }) ≡ sectionsOf s
+                unfolding pick
+                whole h = sym (to-7 ∙ ap ended (eq-eqb (o .end) (length s) h))
+
+-- ---- .debug_ranges, by the version byte
+
+module _ (s : List ℕ) (at b : ℕ) (q : b ≡ versionOf s) where
+  pub section-there : b ≡ 2 → (r : FieldRead) → r ≡ part s at → r ≡ debugRangesPart s at
+  unfolding debugRangesPart pick
+  section-there z r p = p ∙ rw (sym q ∙ z)
+
+  pub section-empty : (b ≡ 2 → ⊥) → Read (record { value = 0; start = at; end = at }) ≡ debugRangesPart s at
+  unfolding debugRangesPart pick
+  section-empty z = rw (← q, ne-eqb b 2 z)

@@ -1,10 +1,10 @@
--- The layout of a bundle (document 01, "The five-entry unit").
+-- The layout of a bundle (document 01, "The five-entry unit"; document 02, Point 4).
 use Prim.Native.Nat.{ℕ, _-_}
 use mathlib.Core.Bool.{Bool, true, false}
 use mathlib.Core.List.{List}
 use lib.ListN.{length, getD}
 use lib.Dec.{leb, eqb}
-use Rattle.readers.specs.Choice.{pick, _and_}
+use Rattle.readers.specs.Choice.{pick, _and_, _or_}
 use Rattle.readers.specs.Cursors.{fixedAt}
 use Rattle.readers.specs.Fields.{fieldAt}
 use Rattle.readers.specs.Tokens.{block4}
@@ -29,15 +29,25 @@ unfoldable pub numberIs : Number → ℕ → Bool
 numberIs (Value v c) n = eqb v n
 numberIs Unreadable n = false
 
--- at most 65,536 bytes, the length of the rest, version byte 1
+-- the version byte, behind the length of the rest
+unfoldable pub versionOf : List ℕ → ℕ
+versionOf s = getD s 4 0
+
+-- at most 65,536 bytes, the length of the rest, version byte 1 or 2
 unfoldable pub frameOf : List ℕ → Bool
-frameOf s = leb (length s) 65536 and numberIs (fixedAt true 4 s 0) (length s - 4) and leb 5 (length s) and eqb (getD s 4 0) 1
+frameOf s =
+    leb (length s) 65536 and numberIs (fixedAt true 4 s 0) (length s - 4) and leb 5 (length s)
+    and (eqb (versionOf s) 1 or eqb (versionOf s) 2)
 
 unfoldable pub onPart : FieldRead → (Field → BundleRead) → BundleRead
 onPart (Read f) k = k f
 onPart NoField k = Wrong
 
--- unit section, abbreviations, location lists, range lists and address table, and nothing after them
+-- "A bundle with version byte 2 has the ranges section after the address table"; with 1 it is empty
+unfoldable pub debugRangesPart : List ℕ → ℕ → FieldRead
+debugRangesPart s at = pick (eqb (versionOf s) 2) (part s at) (Read (record { value = 0; start = at; end = at }))
+
+-- unit section, abbreviations, location lists, range lists, address table and .debug_ranges, and nothing after them
 unfoldable pub sectionsOf : List ℕ → BundleRead
 sectionsOf s =
     onPart (part s 5) (λ unit.
@@ -45,9 +55,17 @@ sectionsOf s =
     onPart (part s (abbreviations .end)) (λ locations.
     onPart (part s (locations .end)) (λ ranges.
     onPart (part s (ranges .end)) (λ addresses.
-    pick (eqb (addresses .end) (length s))
-    (Bundle′ (record { unit = unit; abbreviations = abbreviations; locations = locations; ranges = ranges; addresses = addresses }))
-    Wrong)))))
+    onPart (debugRangesPart s (addresses .end)) (λ older.
+    pick (eqb (older .end) (length s))
+    (Bundle′ (record {
+      unit = unit;
+      abbreviations = abbreviations;
+      locations = locations;
+      ranges = ranges;
+      addresses = addresses;
+      «debug_ranges» = older;
+    }))
+    Wrong))))))
 
 unfoldable pub bundleOf : List ℕ → BundleRead
 bundleOf s = pick (frameOf s) (sectionsOf s) Wrong

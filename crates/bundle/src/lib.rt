@@ -1,7 +1,7 @@
 // A bundle: the sections of one unit in one run of bytes, as the programs read it from standard input.
 ghost use mathlib.Core.Path.{_≡_};
 ghost use Rattle.readers.specs.Fields.{partOf};
-ghost use Rattle.bundle.specs.Bundle.{bundleOf, frameOf, part, sectionsOf};
+ghost use Rattle.bundle.specs.Bundle.{bundleOf, frameOf, versionOf, part, debugRangesPart, sectionsOf};
 use readers::cursor::Cursor;
 use readers::cursor::Encoding;
 use readers::cursor::Number;
@@ -19,6 +19,7 @@ pub struct Bundle {
     pub locations: Field,
     pub ranges: Field,
     pub addresses: Field,
+    pub debug_ranges: Field,
 }
 
 pub enum BundleRead {
@@ -39,6 +40,16 @@ fn section(s: &[u8], at: usize) -> FieldRead
     (Cursor { at }).field(s, BLOCK4, e)
 }
 
+// The version byte, 0 where there is none.
+fn version(s: &[u8]) -> u8
+    ensures { λ r. ⌜ r ≡ versionOf (now (s .entry)) ⌝ }
+{
+    if s.len() < 5 {
+        return 0;
+    }
+    s[4]
+}
+
 // Whether the length of the rest and the version byte are right.
 fn frame(s: &[u8]) -> bool
     ensures { λ r. ⌜ r ≡ frameOf (now (s .entry)) ⌝ }
@@ -55,7 +66,25 @@ fn frame(s: &[u8]) -> bool
     if length != ((s.len() - 4) as u64) {
         return false;
     }
-    s[4] == 1
+    let v = version(s);
+    if v == 1 {
+        return true;
+    }
+    v == 2
+}
+
+// The last section, .debug_ranges, which version 2 has; in version 1 it is empty.
+fn debug_ranges_section(s: &[u8], at: usize) -> FieldRead
+    ensures { λ r. ⌜ r ≡ debugRangesPart (now (s .entry)) at ⌝ }
+{
+    if version(s) == 2 {
+        return section(s, at);
+    }
+    FieldRead::Read(Field {
+        value: 0,
+        start: at,
+        end: at,
+    })
 }
 
 // The sections, one after the other, with nothing after them.
@@ -77,7 +106,10 @@ fn sections(s: &[u8]) -> BundleRead
     let FieldRead::Read(addresses) = section(s, ranges.end) else {
         return BundleRead::Wrong;
     };
-    if addresses.end != s.len() {
+    let FieldRead::Read(debug_ranges) = debug_ranges_section(s, addresses.end) else {
+        return BundleRead::Wrong;
+    };
+    if debug_ranges.end != s.len() {
         return BundleRead::Wrong;
     }
     BundleRead::Read(Bundle {
@@ -86,6 +118,7 @@ fn sections(s: &[u8]) -> BundleRead
         locations,
         ranges,
         addresses,
+        debug_ranges,
     })
 }
 
@@ -96,7 +129,7 @@ pub fn section_bytes<'a>(s: &'a [u8], section: Field) -> &'a [u8]
     section.expression(s)
 }
 
-// Reads a bundle: the length of the rest, version 1, and the sections.
+// Reads a bundle: the length of the rest, version 1 or 2, and the sections.
 pub fn read_bundle(s: &[u8]) -> BundleRead
     ensures { λ r. ⌜ r ≡ bundleOf (now (s .entry)) ⌝ }
 {

@@ -69,9 +69,10 @@ abbrev pub settingOf : ℕ → ℕ → Setting
 settingOf base bigEndian = record { «ranges_base» = base; «big_endian» = isYes bigEndian }
 
 -- what collect makes of a call's sections and numbers
-abbrev pub collectedOf : List ℕ → List ℕ → List ℕ → List ℕ → List ℕ → ℕ → ℕ → ℕ → Room → Collected
-collectedOf section abbreviations locations ranges addresses base typeUnits bigEndian room =
-    collectOf (sections abbreviations locations ranges addresses (settingOf base bigEndian)) room (isYes typeUnits) section
+abbrev pub collectedOf : List ℕ → List ℕ → List ℕ → List ℕ → List ℕ → List ℕ → ℕ → ℕ → ℕ → Room → Collected
+collectedOf section abbreviations locations ranges addresses debugRanges base typeUnits bigEndian room =
+    collectOf (sections abbreviations locations ranges addresses debugRanges (settingOf base bigEndian)) room
+    (isYes typeUnits) section
 
 -- the room of the call's own tables, 2,048 entries and 8,192 references, with lent slices of some lengths
 abbrev pub ownRoom : ℕ → ℕ → ℕ → ℕ → ℕ → Room

@@ -10,12 +10,13 @@ use rewriting::collect::collect;
 
 // Thins the first unit of a section with tables that are lent. They are scratch, and zeros after the call.
 #[no_mangle]
-pub extern "C" fn collector_collect_lent(
+pub extern "C" fn collector_collect_lent<'a>(
     section: &[u8],
     abbreviations: &[u8],
     locations: &[u8],
-    ranges: &[u8],
+    ranges: &'a [u8],
     addresses: &[u8],
+    debug_ranges: &'a [u8],
     ranges_base: u64,
     type_units: u64,
     big_endian: u64,
@@ -41,7 +42,8 @@ pub extern "C" fn collector_collect_lent(
         (length (now (targets .entry))) (length (now (map .entry))) (length (now («range_list» .entry)))
         (length (now («location_list» .entry))) (length (now («string_list» .entry))) (length (now (out .entry))) in
         let answer = collectedOf (now (section .entry)) (now (abbreviations .entry)) (now (locations .entry))
-        (now (ranges .entry)) (now (addresses .entry)) «ranges_base» «type_units» «big_endian» room in
+        (now (ranges .entry)) (now (addresses .entry)) (now («debug_ranges» .entry)) «ranges_base» «type_units»
+        «big_endian» room in
         (r ≡ numberFor (length (now (counts .entry))) (answerFor answer))
         × (now (counts .exit) ≡ countsFor (length (now (counts .entry))) (answerFor answer))
         × (now (map .exit) ≡ mapFor (length (now (map .entry))) answer)
@@ -70,6 +72,7 @@ pub extern "C" fn collector_collect_lent(
         locations,
         ranges,
         addresses,
+        debug_ranges,
         setting,
         type_units > 0,
         index,
@@ -92,12 +95,13 @@ pub extern "C" fn collector_collect_lent(
 
 // The same with tables of its own, of 2,048 entries and 8,192 references.
 #[no_mangle]
-pub extern "C" fn collector_collect(
+pub extern "C" fn collector_collect<'a>(
     section: &[u8],
     abbreviations: &[u8],
     locations: &[u8],
-    ranges: &[u8],
+    ranges: &'a [u8],
     addresses: &[u8],
+    debug_ranges: &'a [u8],
     ranges_base: u64,
     type_units: u64,
     big_endian: u64,
@@ -112,7 +116,8 @@ pub extern "C" fn collector_collect(
         let room = ownRoom (length (now (map .entry))) (length (now («range_list» .entry)))
         (length (now («location_list» .entry))) (length (now («string_list» .entry))) (length (now (out .entry))) in
         let answer = collectedOf (now (section .entry)) (now (abbreviations .entry)) (now (locations .entry))
-        (now (ranges .entry)) (now (addresses .entry)) «ranges_base» «type_units» «big_endian» room in
+        (now (ranges .entry)) (now (addresses .entry)) (now («debug_ranges» .entry)) «ranges_base» «type_units»
+        «big_endian» room in
         (r ≡ numberFor (length (now (counts .entry))) (answerFor answer))
         × (now (counts .exit) ≡ countsFor (length (now (counts .entry))) (answerFor answer))
         × (now (map .exit) ≡ mapFor (length (now (map .entry))) answer)
@@ -137,6 +142,7 @@ pub extern "C" fn collector_collect(
         locations,
         ranges,
         addresses,
+        debug_ranges,
         ranges_base,
         type_units,
         big_endian,

@@ -5,5 +5,6 @@ pub mod references
 pub mod thinned
 pub mod attributes
 pub mod refusals
+pub mod ranges
 pub mod room
 pub mod tables

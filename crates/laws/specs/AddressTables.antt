@@ -13,7 +13,7 @@ use Rattle.marking.specs.Resolution.{graphOf}
 
 -- the same sections with another address table
 abbrev pub withTable : Sections → List ℕ → Sections
-withTable x table = sections (x .abbreviations) (x .locations) (x .ranges) table (x .setting)
+withTable x table = sections (x .abbreviations) (x .locations) (x .ranges) table (x .debugRanges) (x .setting)
 
 -- a table of n indices, each of them live
 unfoldable pub ones : ℕ → List ℕ

@@ -6,8 +6,10 @@ use mathlib.Core.Bool.{Bool, true, false}
 use mathlib.Core.Option.{some}
 use Prim.Native.Nat.{ℕ, _+_, _-_}
 use lib.ListN.{length}
+use lib.Dec.{eqb}
+use Rattle.readers.specs.Choice.{pick}
 use Rattle.readers.specs.Numbers.{fixedBytes}
-use Rattle.readers.specs.Codes.{«DW_FORM_strp», «DW_FORM_ref1», «DW_FORM_ref4», «DW_FORM_ref8»}
+use Rattle.readers.specs.Codes.{«DW_FORM_addrx», «DW_FORM_strp», «DW_FORM_ref1», «DW_FORM_ref4», «DW_FORM_ref8»}
 use Rattle.readers.specs.Header.{lengthSize, encodingOf}
 use Rattle.readers.specs.declared.cursor.Encoding.{Encoding}
 use Rattle.marking.specs.Analysis.{sections, rooms}
@@ -18,17 +20,18 @@ use Rattle.rewriting.specs.Written.{paddedAnswer, paddedOut}
 use Rattle.rewriting.specs.declared.numbers.Padded.the-variants.{Written, Refused as Padded′}
 use Rattle.rewriting.specs.Rewriting.{collectOf, Collected, Room, Lists, noLists, untouched, rewritten, refused}
 
--- its abbreviations, by the form of its references and the attributes of its base types
-abbrev pub declaring : ℕ → List ℕ → List ℕ
-declaring form specs =
+-- its abbreviations, by the form of its subprograms' addresses, as ULEB128, the form of its references and the
+-- attributes of its base types
+abbrev pub declaring : List ℕ → ℕ → List ℕ → List ℕ
+declaring address form specs =
     0x01 ∷ 0x11 ∷ 0x01 ∷ 0 ∷ 0
-    ∷ 0x02 ∷ 0x2e ∷ 0 ∷ 0x11 ∷ 0x1b ∷ 0x49 ∷ form ∷ 0 ∷ 0
+    ∷ 0x02 ∷ 0x2e ∷ 0 ∷ 0x11 ∷ (address ++ (0x49 ∷ form ∷ 0 ∷ 0
     ∷ 0x03 ∷ 0x24 ∷ 0 ∷ (specs ++ (0 ∷ 0
-    ∷ 0 ∷ []))
+    ∷ 0 ∷ []))))
 
 -- 01 11 01 00 00 02 2e 00 11 1b 49 11 00 00 03 24 00 00 00 00
 abbrev pub abbreviations5 : List ℕ
-abbreviations5 = declaring «DW_FORM_ref1» []
+abbreviations5 = declaring («DW_FORM_addrx» ∷ []) «DW_FORM_ref1» []
 
 -- what follows the header; of P1's answer, too
 abbrev pub body5 : List ℕ
@@ -52,7 +55,7 @@ abbrev pub told : Bool → Setting
 told big = record { «ranges_base» = 0; «big_endian» = big }
 
 abbrev pub five : List ℕ → Collected
-five table = collectOf (sections abbreviations5 [] [] table (told false)) room5 false unit5
+five table = collectOf (sections abbreviations5 [] [] table [] (told false)) room5 false unit5
 
 abbrev pub none3 : Lists
 none3 = record { ranges = some []; locations = some []; strings = some [] }
@@ -80,7 +83,7 @@ P1toP10 =
     × (five (1 ∷ 1 ∷ []) ≡ untouched 5 none3)
     × (five (2 ∷ 0 ∷ []) ≡ refused 6)
     × (five (1 ∷ []) ≡ refused 17)
-    × (collectOf (sections abbreviations5 [] [] [] (told false)) room5 false [] ≡ untouched 0 noLists)
+    × (collectOf (sections abbreviations5 [] [] [] [] (told false)) room5 false [] ≡ untouched 0 noLists)
     × ((paddedAnswer 0 1 1 ≡ Written) × (paddedOut 0 1 1 ≡ 0x00 ∷ [])
     × (paddedAnswer 16 2 2 ≡ Written) × (paddedOut 16 2 2 ≡ 0x90 ∷ 0x00 ∷ []))
     × (paddedAnswer 128 1 1 ≡ Padded′ 15)
@@ -95,19 +98,29 @@ lengthIn e n =
     fixedBytes (e .«big_endian») (lengthSize e - e .«offset_size») 0xffffffff
     ++ fixedBytes (e .«big_endian») (e .«offset_size») n
 
--- a unit of unit type 1 with a body (7.5.1.1)
+-- what the header has beside unit_length and version: in version 4 debug_abbrev_offset and address_size (DWARF 4,
+-- 7.5.1.1); in version 5 unit type 1, address_size and debug_abbrev_offset (7.5.1.1)
+abbrev pub othersIn : Encoding → List ℕ
+othersIn e =
+    let offset = fixedBytes (e .«big_endian») (e .«offset_size») 0 in
+    pick (eqb (e .version) 4) (offset ++ (e .«address_size» ∷ [])) (0x01 ∷ e .«address_size» ∷ offset)
+
+-- a compile unit with a body
 abbrev pub unitIn : Encoding → List ℕ → List ℕ
 unitIn e body =
-    lengthIn e (4 + e .«offset_size» + length body)
-    ++ (fixedBytes (e .«big_endian») 2 (e .version)
-    ++ (0x01 ∷ e .«address_size» ∷ (fixedBytes (e .«big_endian») (e .«offset_size») 0 ++ body)))
+    lengthIn e (2 + length (othersIn e) + length body)
+    ++ (fixedBytes (e .«big_endian») 2 (e .version) ++ (othersIn e ++ body))
 
 -- where its first entry starts
 abbrev pub firstIn : Encoding → ℕ
-firstIn e = lengthSize e + 4 + e .«offset_size»
+firstIn e = lengthSize e + 2 + length (othersIn e)
+
+-- the form of an address index, as ULEB128: DW_FORM_GNU_addr_index (0x1f01) in version 4, DW_FORM_addrx in version 5
+abbrev pub addressIn : Encoding → List ℕ
+addressIn e = pick (eqb (e .version) 4) (0x81 ∷ 0x3e ∷ []) («DW_FORM_addrx» ∷ [])
 
 abbrev pub fiveIn : Encoding → List ℕ → List ℕ → List ℕ → Collected
-fiveIn e abbreviations body table = collectOf (sections abbreviations [] [] table (told (e .«big_endian»))) room5 false (unitIn e body)
+fiveIn e abbreviations body table = collectOf (sections abbreviations [] [] table [] (told (e .«big_endian»))) room5 false (unitIn e body)
 
 -- a subprogram, by its address index, that refers to a place in so many bytes
 module _ (e : Encoding) (width : ℕ) where
@@ -136,7 +149,7 @@ P1By e form width specs base =
     let first = firstIn e in
     let n = 2 + width in
     let k = length base in
-    fiveIn e (declaring form specs) (entriesAt first n k (subprogram e width) base) (1 ∷ 0 ∷ [])
+    fiveIn e (declaring (addressIn e) form specs) (entriesAt first n k (subprogram e width) base) (1 ∷ 0 ∷ [])
     ≡ rewrite5 3 (placesAt first n k) (unitIn e (leftAt first n k (subprogram e width) base))
 
 pub record P1In (e : Encoding) : Type 0 where
@@ -147,8 +160,8 @@ pub record P1In (e : Encoding) : Type 0 where
   -- each base type has a name in DW_FORM_strp, as wide as an offset
   pub named : P1By e «DW_FORM_ref1» 1 (0x03 ∷ «DW_FORM_strp» ∷ []) (0x03 ∷ fixedBytes (e .«big_endian») (e .«offset_size») 7)
 
--- the bytes of the five-entry unit as document 01 has it, big-endian, and big-endian in the 64-bit format; what is left
--- of it
+-- the bytes of the five-entry unit as document 01 has it, big-endian, big-endian in the 64-bit format, and in version 4;
+-- what is left of it
 abbrev pub BytesIn : Type 0
 BytesIn =
     (unitIn (encodingOf false 5 4 8) body5 ≡ unit5)
@@ -166,3 +179,16 @@ BytesIn =
     ≡ 0xff ∷ 0xff ∷ 0xff ∷ 0xff ∷ 0 ∷ 0 ∷ 0 ∷ 0 ∷ 0 ∷ 0 ∷ 0 ∷ 0x12 ∷ 0 ∷ 0x05 ∷ 0x01 ∷ 0x08
     ∷ 0 ∷ 0 ∷ 0 ∷ 0 ∷ 0 ∷ 0 ∷ 0 ∷ 0
     ∷ 0x01 ∷ 0x02 ∷ 0x00 ∷ 0x1c ∷ 0x03 ∷ 0x00 ∷ [])
+    × (firstIn (encodingOf false 4 4 8) ≡ 11)
+    × (firstIn (encodingOf false 4 8 8) ≡ 23)
+    × (unitIn (encodingOf false 4 4 8) (entriesAt 11 3 1 (subprogram (encodingOf false 4 4 8) 1) (0x03 ∷ []))
+    ≡ 0x11 ∷ 0 ∷ 0 ∷ 0 ∷ 0x04 ∷ 0 ∷ 0 ∷ 0 ∷ 0 ∷ 0 ∷ 0x08
+    ∷ 0x01 ∷ 0x02 ∷ 0x00 ∷ 0x10 ∷ 0x03 ∷ 0x03 ∷ 0x02 ∷ 0x01 ∷ 0x0f ∷ 0x00 ∷ [])
+    × (unitIn (encodingOf true 4 8 4) (entriesAt 23 3 1 (subprogram (encodingOf true 4 8 4) 1) (0x03 ∷ []))
+    ≡ 0xff ∷ 0xff ∷ 0xff ∷ 0xff ∷ 0 ∷ 0 ∷ 0 ∷ 0 ∷ 0 ∷ 0 ∷ 0 ∷ 0x15 ∷ 0 ∷ 0x04
+    ∷ 0 ∷ 0 ∷ 0 ∷ 0 ∷ 0 ∷ 0 ∷ 0 ∷ 0 ∷ 0x04
+    ∷ 0x01 ∷ 0x02 ∷ 0x00 ∷ 0x1c ∷ 0x03 ∷ 0x03 ∷ 0x02 ∷ 0x01 ∷ 0x1b ∷ 0x00 ∷ [])
+    × (placesAt 11 3 1 ≡ place 11 11 0 ∷ place 12 12 1 ∷ place 16 15 1 ∷ place 20 16 1 ∷ [])
+    × (unitIn (encodingOf false 4 4 8) (leftAt 11 3 1 (subprogram (encodingOf false 4 4 8) 1) (0x03 ∷ []))
+    ≡ 0x0d ∷ 0 ∷ 0 ∷ 0 ∷ 0x04 ∷ 0 ∷ 0 ∷ 0 ∷ 0 ∷ 0 ∷ 0x08
+    ∷ 0x01 ∷ 0x02 ∷ 0x00 ∷ 0x0f ∷ 0x03 ∷ 0x00 ∷ [])

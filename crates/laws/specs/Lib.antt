@@ -23,4 +23,5 @@ pub mod Yields
 pub mod Ancestors
 pub mod AddressTables
 pub mod ByteOrders
+pub mod RangeSections
 pub mod Formats

@@ -1,6 +1,8 @@
 pub mod Lookups
 pub mod Verdicts
 pub mod Lists
+pub mod RangePairs
+pub mod RangeSections
 pub mod RootTests
 pub mod Placing
 pub mod NextOffsets

@@ -77,39 +77,41 @@ module _ (e : Encoding) (s : List ℕ) where
     unfolding olderFrom olderLive onNext olderStep
     older-none r = sym (older-turn (c .at) at h o q ∙ rw r)
 
+-- ---- a turn of a list
+
+-- wherever it goes on, it is at n
+unfoldable pub Heads : ℕ → RootTurn → Type 0
+Heads n (go p) = p .at ≡ n
+Heads n (stop v) = Unit {0}
+
+pub on-turn : (n : ℕ) (t : RootTurn) → Heads n t → (b : Bool) → On b ≡ turnOf t → t ≡ go (record { at = n; flag = b })
+unfolding Heads turnOf
+on-turn n (go p) h b q = let f : p .flag ≡ b = cc in ap₂ (λ (n : ℕ) (c : Bool). go (record { at = n; flag = c })) h f
+on-turn n (stop v) h b q = let z : _≡_ {A = ℕ} 0 1 = cc in absurd (omega arith)
+
+pub decided-turn : (t : RootTurn) (v : Verdict) → Decided v ≡ turnOf t → t ≡ stop v
+unfolding turnOf
+decided-turn (go p) v q = let z : _≡_ {A = ℕ} 0 1 = cc in absurd (omega arith)
+decided-turn (stop w) v q = cc
+
 -- ---- a range list
 
--- wherever an entry goes on, it is at its end
-unfoldable Heads : ListEntry → RootTurn → Type 0
-Heads x (go p) = p .at ≡ x .next .at
-Heads x (stop v) = Unit {0}
-
 module _ (x : ListEntry) where
-  looked-heads : (l : AddressLookup) (t u : RootTurn) → Heads x t → Heads x u → Heads x (onLookup l stop t u)
+  looked-heads : (l : AddressLookup) (t u : RootTurn) → Heads (x .next .at) t → Heads (x .next .at) u → Heads (x .next .at) (onLookup l stop t u)
   unfolding onLookup Heads
   looked-heads Live t u f g = f
   looked-heads Dead t u f g = g
   looked-heads (Fails n) t u f g = tt
 
-  entry-heads : (e : Encoding) (table : List ℕ) (dead : Bool) → Heads x (rangeEntry e table dead x)
+  entry-heads : (e : Encoding) (table : List ℕ) (dead : Bool) → Heads (x .next .at) (rangeEntry e table dead x)
   unfolding rangeEntry Heads
   entry-heads e table dead =
       let l : AddressLookup = lookupAt table (x .first .value) in
-      pick-either (Heads x) (eqb (x .kind) 1) _ _ (λ t. looked-heads l (toward x false) (toward x true) refl refl)
-      (λ t. pick-either (Heads x) (leb (x .kind) 3) _ _ (λ t. looked-heads l (stop isLive) (toward x dead) tt refl)
-      (λ t. pick-either (Heads x) (eqb (x .kind) 4) _ _ (λ t. pick-either (Heads x) dead (toward x dead) (stop isLive) (λ t. refl) (λ t. tt))
-      (λ t. pick-either (Heads x) (eqb (x .kind) 5) (toward x (isTombstone (x .first .value) (e .«address_size»))) _ (λ t. refl)
-      (λ t. pick-either (Heads x) (isTombstone (x .first .value) (e .«address_size»)) (toward x dead) (stop isLive) (λ t. refl) (λ t. tt)))))
-
-  on-turn : (t : RootTurn) → Heads x t → (b : Bool) → On b ≡ turnOf t → t ≡ toward x b
-  unfolding Heads turnOf
-  on-turn (go p) h b q = let f : p .flag ≡ b = cc in ap₂ (λ (n : ℕ) (c : Bool). go (record { at = n; flag = c })) h f
-  on-turn (stop v) h b q = let z : _≡_ {A = ℕ} 0 1 = cc in absurd (omega arith)
-
-decided-turn : (t : RootTurn) (v : Verdict) → Decided v ≡ turnOf t → t ≡ stop v
-unfolding turnOf
-decided-turn (go p) v q = let z : _≡_ {A = ℕ} 0 1 = cc in absurd (omega arith)
-decided-turn (stop w) v q = cc
+      pick-either (Heads (x .next .at)) (eqb (x .kind) 1) _ _ (λ t. looked-heads l (toward x false) (toward x true) refl refl)
+      (λ t. pick-either (Heads (x .next .at)) (leb (x .kind) 3) _ _ (λ t. looked-heads l (stop isLive) (toward x dead) tt refl)
+      (λ t. pick-either (Heads (x .next .at)) (eqb (x .kind) 4) _ _ (λ t. pick-either (Heads (x .next .at)) dead (toward x dead) (stop isLive) (λ t. refl) (λ t. tt))
+      (λ t. pick-either (Heads (x .next .at)) (eqb (x .kind) 5) (toward x (isTombstone (x .first .value) (e .«address_size»))) _ (λ t. refl)
+      (λ t. pick-either (Heads (x .next .at)) (isTombstone (x .first .value) (e .«address_size»)) (toward x dead) (stop isLive) (λ t. refl) (λ t. tt)))))
 
 module _ (e : Encoding) (table s : List ℕ) where
   abbrev rangeTurn : Flagged → RootTurn
@@ -123,7 +125,7 @@ module _ (e : Encoding) (table s : List ℕ) where
   unfolding rangesLive rangesFrom
   ranges-start c = refl
 
-  heads-forward : (p : Flagged) (x : ListEntry) (t : RootTurn) → Heads x t → p .at < x .next .at → x .next .at ≤ length s → Forward place (length s) p t
+  heads-forward : (p : Flagged) (x : ListEntry) (t : RootTurn) → Heads (x .next .at) t → p .at < x .next .at → x .next .at ≤ length s → Forward place (length s) p t
   unfolding Heads Forward
   heads-forward p x (go u) h lo hi = (omega arith, omega arith)
   heads-forward p x (stop v) h lo hi = tt
@@ -161,7 +163,7 @@ module _ (e : Encoding) (table s : List ℕ) where
 
         pub range-on : (b : Bool) → w ≡ On b → rangesFrom at dead ≡ rangesFrom (x .next .at) b
         unfolding onNext rangesFrom
-        range-on b k = entry-turn (toward x b) (on-turn x (rangeEntry e table dead x) (entry-heads x e table dead) b (sym k ∙ l))
+        range-on b k = entry-turn (toward x b) (on-turn (x .next .at) (rangeEntry e table dead x) (entry-heads x e table dead) b (sym k ∙ l))
 
         pub range-decided : (v : Verdict) → w ≡ Decided v → rangesFrom at dead ≡ v
         unfolding onNext

@@ -8,7 +8,7 @@ use Rattle.readers.specs.Layout.{asBytes, width, asLeb, copy, asNumber, asLink,
 use Rattle.readers.specs.Layout.{before, numberIn, tokenIn, readIn, numberBytes, pieceBytes, bytesOf}
 use Rattle.readers.specs.Tokens.{numberAs, tokenOf}
 use Rattle.readers.specs.Operations.{unreadableRow, rows, rowOf, rowLayout, operations, rowAmong, operationRow}
-use Rattle.readers.specs.Operations.{operation, locationEntries, listRow}
+use Rattle.readers.specs.Operations.{operation, locationEntries, locationEntries4, listRow}
 use Rattle.readers.specs.Expression.{allPieces, andRest, expressionWithin, expressionIn}
 use Rattle.readers.specs.References.{nameIn, namesIn, isAbsolute, anyAbsolute, asWalk, walkOf, namesOr, referencesIn}
 use Rattle.readers.specs.References.{walkAnswer, referencesAnswer, numbersOf, answerTable, referencesTable}
@@ -46,13 +46,20 @@ lists :
     × (listFound little8 (1 ∷ 0 ∷ 9 ∷ []) (At (cursor 0)) ≡ refused [] 5)  -- an unknown kind
     × (listFound little8 [] Unresolved ≡ refused [] 5)
     × (listFound big4 (8 ∷ 1 ∷ 2 ∷ 3 ∷ 4 ∷ 9 ∷ 3 ∷ 0x98 ∷ 0 ∷ 0x63 ∷ 0 ∷ []) (At (cursor 0)) ≡ found (0x63 ∷ []))  -- big-endian: start_length
+    -- version 4: base, start and end, start and length, offsets, end; the same numbers of four bytes in the 64-bit format
+    × (listFound (encodingOf false 4 4 8)
+    (1 ∷ 0 ∷ 2 ∷ 0 ∷ 0x80 ∷ 1 ∷ 3 ∷ 0 ∷ 0x98 ∷ 7 ∷ 0 ∷ 3 ∷ 0 ∷ 9 ∷ 0 ∷ 0 ∷ 0 ∷ 3 ∷ 0 ∷ 0x98 ∷ 8 ∷ 0
+    ∷ 4 ∷ 1 ∷ 0 ∷ 0 ∷ 0 ∷ 2 ∷ 0 ∷ 0 ∷ 0 ∷ 3 ∷ 0 ∷ 0x98 ∷ 9 ∷ 0 ∷ 0 ∷ []) (At (cursor 0)) ≡ found (7 ∷ 8 ∷ 9 ∷ []))
+    × (listFound (encodingOf true 4 8 4) (3 ∷ 0 ∷ 0 ∷ 0 ∷ 0 ∷ 9 ∷ 0 ∷ 3 ∷ 0x98 ∷ 0 ∷ 8 ∷ 0 ∷ []) (At (cursor 0)) ≡ found (8 ∷ []))
+    × (listFound (encodingOf false 4 4 8) (5 ∷ 0 ∷ 0 ∷ []) (At (cursor 0)) ≡ refused [] 5)  -- default_location is version 5's
+    × (listFound (encodingOf false 4 4 8) (3 ∷ 0 ∷ 9 ∷ 1 ∷ 0x96 ∷ []) (At (cursor 0)) ≡ refused [] 5)  -- as version 5 has them
 unfolding listFound locationStep onLocation locationFound partOf walk walkWithin onNext listEntryAt asListStep entryOfReads
-    rowEntry listEntry listRow locationEntries asBytes size fieldOf linkedValue rowOfReads expressionFound walkFound
+    rowEntry listEntry listRow locationEntries locationEntries4 asBytes size fieldOf linkedValue rowOfReads expressionFound walkFound
     targets walkOf asWalk referencesIn namesOr namesIn nameIn anyAbsolute isAbsolute expressionIn expressionWithin
     andRest allPieces encodingOf operation operationRow operations rowAmong rowOf rows unreadableRow rowLayout tokenOf
     numberAs readIn tokenIn numberIn before asNumber asBounded asLink asBlock asExpression asLeb copy uleb groups below
     unsigned64 fixedValue ordered littleValue width bytesOf pieceBytes numberBytes pick check bind _and_ _or_
-lists = (refl, refl, refl, refl, refl)
+lists = (refl, refl, refl, refl, refl, refl, refl, refl, refl)
 
 -- references of an expression: place, offset and width, by the sizes and the byte order that are told
 calls :

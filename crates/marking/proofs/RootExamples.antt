@@ -5,7 +5,7 @@ use mathlib.Core.Path.{_≡_, refl}
 use Prim.Native.Nat.{ℕ, suc}
 use mathlib.Core.List.{List, [], _∷_, _++_}
 use lib.ListN.{length, getD}
-use lib.Dec.{ltb}
+use lib.Dec.{ltb, eqb}
 use native.Mathlib.Omega.{arith}
 use borrow.Author.Tests.{ne-eqb}
 use Rattle.readers.specs.Choice.{pick, check, bind, _and_, _or_}
@@ -17,9 +17,9 @@ use Rattle.readers.specs.Layout.{numberBytes, pieceBytes, bytesOf}
 use Rattle.readers.specs.Tokens.{numberAs, tokenOf}
 use Rattle.readers.specs.Operations.{unreadableRow, rows, rowOf, rowLayout, operations, rowAmong, operationRow}
 use Rattle.readers.specs.Operations.{operation, rangeEntries, listRow}
-use Rattle.readers.specs.Forms.{formTokens, tokenAmong, formToken, useOf, valueToken, attributeLayout}
+use Rattle.readers.specs.Forms.{formTokens, tokenAmong, formToken, useOf, inVersion, valueToken, attributeLayout}
 use Rattle.readers.specs.Cursors.{asLebNumber, lebAt, fixedAt, asFixed}
-use Rattle.readers.specs.Fields.{linkedValue, size, fieldOf, rowOfReads, partOf}
+use Rattle.readers.specs.Fields.{linkedValue, size, fieldOf, rowOfReads, asRow, rowAt, partOf}
 use Rattle.readers.specs.Steps.{rowOperation, operationOfReads, asOperation, operationAt, listEntry, rowEntry}
 use Rattle.readers.specs.Steps.{entryOfReads, asListStep, listEntryAt}
 use Rattle.readers.specs.Lists.{listBase, listStart, fromBase, listOffset}
@@ -32,11 +32,13 @@ use Rattle.readers.specs.Entries.{attributeOfReads, asAttribute, attributeAt}
 use Rattle.marking.specs.Addresses.{isTombstone, byteLiveness, lookupAt}
 use Rattle.marking.specs.Walking.{onNext, walkWithin, walk}
 use Rattle.marking.specs.Roots.{orElse, onLookup, rangeEntry, rangeStep, rangesLive, operationStep, locationLive}
-use Rattle.marking.specs.Roots.{olderStep, olderLive, lowPc}
+use Rattle.marking.specs.Roots.{olderStep, olderLive, rangePair, pairStep, pairsLive, lowPc}
+use Rattle.marking.specs.Analysis.{rangesFor}
 use Rattle.readers.specs.EntryAttributes.{Valued, onAttribute, valuesOf, onSpec, specsWithin, specsFrom, entryValues}
-use Rattle.marking.specs.Roots.{lowPcs, locations, rangesBy, otherRanges, rangesOf}
+use Rattle.marking.specs.Roots.{lowPcs, locations, rangesBy, offsetLive, otherRanges, rangesOf}
 use Rattle.marking.specs.Roots.{firstRanges, rootTest, baseFrom, baseAfter}
 use Rattle.marking.specs.declared.addresses.AddressLookup.the-variants.{Live as AddressLive, Fails}
+use Rattle.readers.specs.declared.lists.ListOffset.the-variants.{At, Unresolved}
 use Rattle.marking.specs.declared.root_test.Verdict.{Verdict}
 use Rattle.marking.specs.declared.root_test.Verdict.the-variants.{Live, Dead, Refused}
 
@@ -196,16 +198,60 @@ entries :
     × (tested big8 [] 0x2e (0x11 ∷ 0x01 ∷ 0 ∷ 0 ∷ []) (0 ∷ 0 ∷ 0 ∷ 0 ∷ 0 ∷ 0 ∷ 0 ∷ 1 ∷ []) ≡ Live)
     × (tested big8 [] 0x2e (0x11 ∷ 0x01 ∷ 0 ∷ 0 ∷ []) (0 ∷ 0 ∷ 0 ∷ 0 ∷ 0 ∷ 0 ∷ 0 ∷ 0 ∷ []) ≡ Dead)
     × (tested big8 (1 ∷ []) 0x34 (0x02 ∷ 0x18 ∷ 0 ∷ 0 ∷ []) (2 ∷ 0xa1 ∷ 0 ∷ []) ≡ Live)
-unfolding tested fixedBytes littleBytes rootTest orElse lowPcs lowPc firstRanges rangesOf otherRanges olderLive olderStep rangesLive rangeStep
+unfolding tested fixedBytes littleBytes rootTest orElse lowPcs lowPc firstRanges rangesOf otherRanges offsetLive olderLive olderStep rangesLive rangeStep
     rangeEntry listOffset fromBase listStart fixedAt asFixed listEntryAt asListStep entryOfReads rowEntry listEntry
     listRow rangeEntries rowAmong rowOf rows unreadableRow rowLayout locations partOf locationLive operationStep
     operationAt asOperation operationOfReads rowOperation operation operationRow operations onLookup lookupAt
     byteLiveness isTombstone walk walkWithin onNext entryOf entryValues valuesOf onAttribute specsFrom specsWithin onSpec specAt
     implicitSpec numberSpec lebAt asLebNumber short within16 attributeAt asAttribute attributeOfReads attributeLayout
-    valueToken useOf formToken tokenAmong formTokens encodingOf tokenOf numberAs readIn tokenIn numberIn before asNumber
+    valueToken inVersion useOf formToken tokenAmong formTokens encodingOf tokenOf numberAs readIn tokenIn numberIn before asNumber
     asLink asExpression asLeb asBytes copy uleb groups below unsigned64 fixedValue ordered littleValue width size
     bytesOf pieceBytes numberBytes padded fieldOf linkedValue rowOfReads pick check bind _and_ _or_
 entries = (refl, refl, refl, refl, refl, refl, refl, refl, refl, refl, refl, refl, refl, refl, refl, refl, refl, refl, refl, refl, refl, refl, refl, refl, refl, refl, refl, refl, refl, refl, refl, refl, refl, refl, refl)
+
+-- ---- .debug_ranges of version 4 (document 02, Point 4)
+
+-- two addresses of four bytes, both below 256 or all ones
+byte4 : ℕ → List ℕ
+byte4 n = pick (eqb n 0xffffffff) (0xff ∷ 0xff ∷ 0xff ∷ 0xff ∷ []) (n ∷ 0 ∷ 0 ∷ 0 ∷ [])
+
+pair4 : ℕ → ℕ → List ℕ
+pair4 begin end = byte4 begin ++ byte4 end
+
+-- the verdict of a section that begins with the list, at the address sizes 4 and 8
+of4 : List ℕ → Verdict
+of4 s = pairsLive (encodingOf false 4 4 4) s (At (record { at = 0 }))
+
+of8 : List ℕ → Verdict
+of8 s = pairsLive (encodingOf true 4 8 8) s (At (record { at = 0 }))
+
+-- before any base entry; a begin of 0; under a base of 0, of all ones, and under a live one again; two equal numbers; the
+-- end pair whatever the base; the section's end; cut inside a pair, and behind a live one; no list is at such an offset
+pairs :
+    (of4 (pair4 5 9 ++ pair4 0 0) ≡ Live)
+    × (of4 (pair4 0 9 ++ pair4 0 0) ≡ Dead)
+    × (of4 (pair4 0xffffffff 0 ++ pair4 5 9 ++ pair4 0 0) ≡ Dead)
+    × (of4 (pair4 0xffffffff 0xffffffff ++ pair4 5 9 ++ pair4 0 0) ≡ Dead)
+    × (of4 (pair4 0xffffffff 7 ++ pair4 0 9 ++ pair4 0 0) ≡ Dead)
+    × (of4 (pair4 0xffffffff 0 ++ pair4 0xffffffff 7 ++ pair4 5 9) ≡ Live)
+    × (of4 (pair4 0 9 ++ pair4 5 5 ++ pair4 0 0) ≡ Live)
+    × (of4 (pair4 0xffffffff 7 ++ pair4 0 0 ++ pair4 5 9) ≡ Dead)
+    × (of4 (pair4 0 9) ≡ Dead)
+    × (of4 (pair4 0 9 ++ byte4 5) ≡ Refused 5)
+    × (of4 (pair4 5 9 ++ byte4 5) ≡ Live)
+    × (of4 [] ≡ Dead)
+    × (pairsLive (encodingOf false 4 4 4) [] Unresolved ≡ Live)
+    -- big-endian, of eight bytes: 0xffffffff is an address, all ones are a base
+    × (of8 (0 ∷ 0 ∷ 0 ∷ 0 ∷ 0xff ∷ 0xff ∷ 0xff ∷ 0xff ∷ 0 ∷ 0 ∷ 0 ∷ 0 ∷ 0 ∷ 0 ∷ 0 ∷ 0 ∷ []) ≡ Live)
+    × (of8 (0xff ∷ 0xff ∷ 0xff ∷ 0xff ∷ 0xff ∷ 0xff ∷ 0xff ∷ 0xff ∷ 0 ∷ 0 ∷ 0 ∷ 0 ∷ 0 ∷ 0 ∷ 0 ∷ 0
+    ∷ 0 ∷ 0 ∷ 0 ∷ 0 ∷ 0 ∷ 0 ∷ 0 ∷ 5 ∷ 0 ∷ 0 ∷ 0 ∷ 0 ∷ 0 ∷ 0 ∷ 0 ∷ 9 ∷ []) ≡ Dead)
+    -- the section of the unit's version
+    × (rangesFor (encodingOf false 4 4 8) (1 ∷ []) (2 ∷ []) ≡ 2 ∷ [])
+    × (rangesFor (encodingOf false 5 4 8) (1 ∷ []) (2 ∷ []) ≡ 1 ∷ [])
+unfolding byte4 pair4 of4 of8 pairsLive pairStep rangePair rangesFor isTombstone rowAt asRow rowOfReads rowOf rows unreadableRow rowLayout
+    tokenOf numberAs encodingOf walk walkWithin onNext readIn tokenIn numberIn before asNumber copy width fixedValue ordered
+    littleValue size bytesOf pieceBytes fieldOf linkedValue asBytes pick check bind _and_ _or_
+pairs = (refl, refl, refl, refl, refl, refl, refl, refl, refl, refl, refl, refl, refl, refl, refl, refl, refl)
 
 -- rnglists_base in sec_offset: of several the last counts; another form, another name and another tag leave the base
 list-bases :
@@ -219,7 +265,7 @@ list-bases :
     × (listBase little8 ≡ 12)
     × (listBase (encodingOf false 5 8 8) ≡ 20)
 unfolding listBase lengthBytes baseAfter baseFrom entryOf entryValues valuesOf onAttribute specsFrom specsWithin onSpec specAt implicitSpec
-    numberSpec lebAt asLebNumber short within16 attributeAt asAttribute attributeOfReads attributeLayout valueToken
+    numberSpec lebAt asLebNumber short within16 attributeAt asAttribute attributeOfReads attributeLayout valueToken inVersion
     useOf formToken tokenAmong formTokens encodingOf tokenOf numberAs readIn tokenIn numberIn before asNumber copy
     groups below fixedValue ordered littleValue width size bytesOf pieceBytes fieldOf linkedValue pick check bind _and_
     _or_

@@ -1,5 +1,5 @@
 -- The root test's loops over an entry's attributes, one turn at a time. Assumes nothing.
-use mathlib.Core.Path.{_≡_, ap, sym, _∙_}
+use mathlib.Core.Path.{_≡_, refl, ap, sym, _∙_}
 use Prim.Native.Nat.{ℕ, _+_, _-_, _<_}
 use native.Mathlib.Omega.{arith}
 use mathlib.Core.Bool.{Bool, false}
@@ -7,7 +7,9 @@ use mathlib.Core.List.{List, [], _∷_}
 use lib.ListN.{length}
 use lib.Dec.{eqb}
 use borrow.Author.Tests.{eq-eqb, ne-eqb}
+use mir.Facts.{yes-eqb, no-eqb}
 use Rattle.readers.specs.Choice.{pick, _and_}
+use Rattle.readers.proofs.Choice.{pick-yes, pick-no, pick-either}
 use Rattle.readers.specs.Fields.{partOf}
 use Rattle.readers.specs.Lists.{listStart, listOffset}
 use Rattle.readers.proofs.ListStarts.{start-past}
@@ -16,7 +18,7 @@ use Rattle.readers.specs.declared.cursor.Cursor.{Cursor}
 use Rattle.readers.specs.declared.attributes.Attribute.{Attribute}
 use Rattle.readers.specs.declared.lists.ListOffset.{ListOffset}
 use Rattle.readers.specs.declared.lists.ListOffset.the-variants.{At, Unresolved}
-use Rattle.marking.specs.Roots.{orElse, lowPc, lowPcs, locationLive, locations, olderLive, otherRanges, Ranges, rangesBy, rangesLive, rangesOf, firstRanges, rootTest, baseFrom, baseAfter}
+use Rattle.marking.specs.Roots.{orElse, lowPc, lowPcs, locationLive, locations, olderLive, pairsLive, offsetLive, otherRanges, Ranges, rangesBy, rangesLive, rangesOf, firstRanges, rootTest, baseFrom, baseAfter}
 use Rattle.readers.specs.EntryAttributes.{Valued, entryValues, nextAttribute}
 use Rattle.readers.specs.declared.entry_attributes.EntryAttribute.{EntryAttribute}
 use Rattle.readers.specs.declared.entry_attributes.NextAttribute.{NextAttribute}
@@ -124,22 +126,29 @@ module _ (e : Encoding) (s : List ℕ) (base : ℕ) (v : Attribute) where
   unfolding otherRanges pick
   other-form k = rw (ne-eqb (v .form) 0x17 k)
 
+  unresolved : offsetLive e s Unresolved ≡ isLive
+  unfolding offsetLive olderLive pairsLive
+  unresolved = pick-either (λ (w : Verdict). w ≡ isLive) (eqb (e .version) 4) isLive isLive (λ _. refl) (λ _. refl)
+
   module _ (k : v .form ≡ 0x17) where
-    other-from : olderLive e s (listStart s (base + v .field .value)) ≡ otherRanges e s base v
+    other-from : offsetLive e s (listStart s (base + v .field .value)) ≡ otherRanges e s base v
     unfolding otherRanges pick
     other-from = rw (eq-eqb (v .form) 0x17 k)
 
     pub other-past : length s < base + v .field .value → isLive ≡ otherRanges e s base v
-    unfolding olderLive
-    other-past h = sym (ap (olderLive e s) (start-past s (base + v .field .value) h)) ∙ other-from
+    other-past h = sym (ap (offsetLive e s) (start-past s (base + v .field .value) h) ∙ unresolved) ∙ other-from
 
     module _ (o : ListOffset) (p : o ≡ listStart s (base + v .field .value)) where
       pub other-unresolved : o ≡ Unresolved → isLive ≡ otherRanges e s base v
-      unfolding olderLive
-      other-unresolved u = ap (olderLive e s) (sym u ∙ p) ∙ other-from
+      other-unresolved u = sym unresolved ∙ ap (offsetLive e s) (sym u ∙ p) ∙ other-from
 
-      pub other-older : (c : Cursor) → o ≡ At c → (w : Verdict) → w ≡ olderLive e s (At c) → w ≡ otherRanges e s base v
-      other-older c u w q = q ∙ ap (olderLive e s) (sym u ∙ p) ∙ other-from
+      pub other-pairs : (c : Cursor) → o ≡ At c → (w : Verdict) → e .version ≡ 4 → w ≡ pairsLive e s (At c) → w ≡ otherRanges e s base v
+      unfolding offsetLive
+      other-pairs c u w n q = q ∙ sym (pick-yes _ _ _ (yes-eqb {a = e .version} {b = 4} n)) ∙ ap (offsetLive e s) (sym u ∙ p) ∙ other-from
+
+      pub other-older : (c : Cursor) → o ≡ At c → (w : Verdict) → (e .version ≡ 4 → ⊥) → w ≡ olderLive e s (At c) → w ≡ otherRanges e s base v
+      unfolding offsetLive
+      other-older c u w n q = q ∙ sym (pick-no _ _ _ (no-eqb {a = e .version} {b = 4} n)) ∙ ap (offsetLive e s) (sym u ∙ p) ∙ other-from
 
 -- ---- the first ranges
 

@@ -1,6 +1,7 @@
 -- What a test of liveness finds, by the tests that were made. Assumes nothing.
 use mathlib.Core.Path.{_≡_, sym, _∙_}
 use Prim.Native.Nat.{ℕ, _≤_, _<_}
+use native.Mathlib.Omega.{arith}
 use mathlib.Core.Bool.{Bool, true, false}
 use mathlib.Core.List.{List}
 use lib.Dec.{leb, eqb}
@@ -72,7 +73,7 @@ module _ (e : Encoding) (table : List ℕ) (dead : Bool) (x : ListEntry) where
 
 module _ (e : Encoding) (table : List ℕ) (v : Attribute) where
   abbrev pub indexed : Bool
-  indexed = eqb (v .form) 0x1b or (leb 0x29 (v .form) and leb (v .form) 0x2c)
+  indexed = eqb (v .form) 0x1b or (leb 0x29 (v .form) and leb (v .form) 0x2c) or eqb (v .form) 0x1f01
 
   is-one : v .form ≡ 1 → indexed ≡ false
   unfolding _or_ _and_
@@ -90,11 +91,11 @@ module _ (e : Encoding) (table : List ℕ) (v : Attribute) where
   module _ (k : v .form ≡ 1 → ⊥) where
     pub form-low : (v .form ≡ 27 → ⊥) → v .form < 41 → isLive ≡ lowPc e table v
     unfolding lowPc pick _or_ _and_
-    form-low n h = rw (ne-eqb (v .form) 27 n, lt-leb 41 (v .form) h, ne-eqb (v .form) 1 k)
+    form-low n h = rw (ne-eqb (v .form) 27 n, lt-leb 41 (v .form) h, ne-eqb (v .form) 0x1f01 (λ z. absurd (omega arith)), ne-eqb (v .form) 1 k)
 
-    pub form-high : (v .form ≡ 27 → ⊥) → 41 ≤ v .form → 44 < v .form → isLive ≡ lowPc e table v
+    pub form-high : (v .form ≡ 27 → ⊥) → 41 ≤ v .form → 44 < v .form → (v .form ≡ 0x1f01 → ⊥) → isLive ≡ lowPc e table v
     unfolding lowPc pick _or_ _and_
-    form-high n l h = rw (ne-eqb (v .form) 27 n, le-leb 41 (v .form) l, lt-leb (v .form) 44 h, ne-eqb (v .form) 1 k)
+    form-high n l h g = rw (ne-eqb (v .form) 27 n, le-leb 41 (v .form) l, lt-leb (v .form) 44 h, ne-eqb (v .form) 0x1f01 g, ne-eqb (v .form) 1 k)
 
   pub form-addrx : v .form ≡ 27 → indexed ≡ true
   unfolding _or_
@@ -103,6 +104,10 @@ module _ (e : Encoding) (table : List ℕ) (v : Attribute) where
   pub form-sized : (v .form ≡ 27 → ⊥) → 41 ≤ v .form → v .form ≤ 44 → indexed ≡ true
   unfolding _or_ _and_
   form-sized n l h = rw (ne-eqb (v .form) 27 n, le-leb 41 (v .form) l, le-leb (v .form) 44 h)
+
+  pub form-gnu : v .form ≡ 0x1f01 → indexed ≡ true
+  unfolding _or_ _and_
+  form-gnu k = rw k
 
   module _ (l : AddressLookup) (q : l ≡ lookupAt table (v .field .value)) (i : indexed ≡ true) where
     pub index-live : l ≡ Live → isLive ≡ lowPc e table v

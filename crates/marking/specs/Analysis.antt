@@ -6,7 +6,7 @@ use mathlib.Core.Bool.{Bool, true, false}
 use mathlib.Core.List.{List, [], _∷_}
 use mathlib.Core.Option.{Option, none, some}
 use lib.ListN.{length, take}
-use lib.Dec.{ltb, leb}
+use lib.Dec.{ltb, leb, eqb}
 use Rattle.readers.specs.Choice.{pick}
 use Rattle.readers.specs.Codes.{«DW_AT_loclists_base», «DW_AT_rnglists_base»}
 use Rattle.readers.specs.Header.{headerOf}
@@ -28,17 +28,24 @@ use Rattle.marking.specs.declared.setting.Setting.{Setting}
 use Rattle.marking.specs.declared.root_test.Verdict.the-variants.{Live, Dead, Refused as Failed}
 use Rattle.readers.specs.Stream.{Item, entry, terminator, itemsFrom}
 
--- what a unit is read by: the other sections, already relocated, the address table, and what a call tells beside them:
--- the base of older range lists and the byte order
+-- what a unit is read by: the other sections, already relocated, the address table, .debug_ranges, and what a call tells
+-- beside them: the base of range lists that are named by an offset, and the byte order
 pub record Sections : Type 0 where
   pub abbreviations : List ℕ
   pub locations : List ℕ
   pub ranges : List ℕ
   pub addresses : List ℕ
+  pub debugRanges : List ℕ
   pub setting : Setting
 
-abbrev pub sections : List ℕ → List ℕ → List ℕ → List ℕ → Setting → Sections
-sections a l r t s = record { abbreviations = a; locations = l; ranges = r; addresses = t; setting = s }
+abbrev pub sections : List ℕ → List ℕ → List ℕ → List ℕ → List ℕ → Setting → Sections
+sections a l r t o s =
+    record { abbreviations = a; locations = l; ranges = r; addresses = t; debugRanges = o; setting = s }
+
+-- the one section that range lists are read in, by the unit's version: .debug_ranges in version 4, else .debug_rnglists
+-- (document 02, Point 4)
+unfoldable pub rangesFor : Encoding → List ℕ → List ℕ → List ℕ
+rangesFor e rnglists debugRanges = pick (eqb (e .version) 4) debugRanges rnglists
 
 -- how many entries and references the tables have room for
 pub record Rooms : Type 0 where
@@ -97,7 +104,8 @@ module _ (e : Encoding) (x : Sections) (unit : List ℕ) where
   -- DW_AT_rnglists_base, DW_AT_loclists_base: from this entry's root test on
   unfoldable pub rootOf : ℕ → Entry → Verdict
   rootOf base y =
-      rootTest e (rangesBy (x .ranges) (x .addresses) (x .setting .«ranges_base») base) unit (tagOf y) (valuesOfEntry y)
+      let ranges = rangesFor e (x .ranges) (x .debugRanges) in
+      rootTest e (rangesBy ranges (x .addresses) (x .setting .«ranges_base») base) unit (tagOf y) (valuesOfEntry y)
 
   unfoldable pub namesOf : ℕ → Entry → ReferencesFound
   namesOf base y = attributesFound e (locationsBy unit (x .locations) base) (valuesOfEntry y)

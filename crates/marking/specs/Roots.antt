@@ -1,7 +1,7 @@
 -- Which entries are roots (document 01, "Roots"; gc.rs: `is_root`, `rnglist_has_live_entry`, `ranges_has_live_entry`,
 -- `location_expr_live`).
 use Prim.Native.Nat.{ℕ, _+_}
-use mathlib.Core.Bool.{Bool, true, false}
+use mathlib.Core.Bool.{Bool, true, false, not}
 use mathlib.Core.List.{List, [], _∷_}
 use lib.ListN.{length}
 use lib.Dec.{ltb, leb, eqb}
@@ -10,14 +10,17 @@ use Rattle.readers.specs.Codes.{«DW_AT_location», «DW_AT_low_pc», «DW_AT_r
 use Rattle.readers.specs.Codes.{«DW_FORM_addrx1», «DW_FORM_addrx4», «DW_FORM_exprloc», «DW_FORM_rnglistx»}
 use Rattle.readers.specs.Codes.{«DW_FORM_sec_offset», «DW_RLE_base_address», «DW_RLE_base_addressx»}
 use Rattle.readers.specs.Codes.{«DW_RLE_offset_pair», «DW_RLE_startx_length», «DW_TAG_compile_unit»}
-use Rattle.readers.specs.Codes.{«DW_TAG_subprogram», «DW_TAG_variable»}
-use Rattle.readers.specs.Operations.{row-address-index}
-use Rattle.readers.specs.Fields.{partOf}
+use Rattle.readers.specs.Codes.{«DW_TAG_subprogram», «DW_TAG_variable», «DW_FORM_GNU_addr_index»}
+use Rattle.readers.specs.Operations.{row-address-index, row-address-address}
+use Rattle.readers.specs.Fields.{partOf, rowAt}
 use Rattle.readers.specs.Steps.{operationAt, listEntryAt}
 use Rattle.readers.specs.Refusals.{refusalOfList, refusalOfOperation}
 use Rattle.readers.specs.Lists.{listOffset, listStart}
 use Rattle.readers.specs.declared.cursor.Encoding.{Encoding}
 use Rattle.readers.specs.declared.attributes.Attribute.{Attribute}
+use Rattle.readers.specs.declared.fields.Operands.{Operands}
+use Rattle.readers.specs.declared.fields.OperandsRead.{OperandsRead}
+use Rattle.readers.specs.declared.fields.OperandsRead.the-variants.{Read as Row′, Unreadable as NoRow}
 use Rattle.readers.specs.declared.lists.ListOffset.{ListOffset}
 use Rattle.readers.specs.declared.lists.ListOffset.the-variants.{At, Unresolved}
 use Rattle.readers.specs.declared.operations.OperationRead.{OperationRead}
@@ -103,7 +106,7 @@ module _ (e : Encoding) (table : List ℕ) where
       (λ (p : Flagged). pick (ltb (p .at) (length s)) (operationStep (p .flag) (operationAt e s (p .at))) (stop (pick (p .flag) isLive isDead)))
       isDead (record { at = 0; flag = false })
 
--- the older test, version 5: base_address only is skipped; every other entry is live
+-- the older test (document 01), of .debug_rnglists in version 5: base_address only is skipped; every other entry is live
 unfoldable pub olderStep : ListStep → RootTurn
 olderStep (Entry x) = pick (eqb (x .kind) «DW_RLE_base_address») (toward x false) (stop isLive)
 olderStep End = stop isDead
@@ -113,10 +116,40 @@ unfoldable pub olderLive : Encoding → List ℕ → ListOffset → Verdict
 olderLive e s (At c) = walk place (length s) (λ (p : Flagged). olderStep (listEntryAt e false s (p .at))) isDead (record { at = c .at; flag = false })
 olderLive e s Unresolved = isLive
 
--- DW_AT_low_pc: addrx asks the table, addr the tombstone test, any other form is live
+-- ---- .debug_ranges of version 4 (DWARF 4, 2.17.3): pairs of addresses, of which 0 and 0 end the list, and a begin of all
+-- ones makes the second the base of those after it
+
+abbrev pub pastPair : Operands → Bool → RootTurn
+pastPair r b = go (record { at = r .third .end; flag = b })
+
+-- Document 02, Point 4: "A pair is live unless its base is a tombstone or its own begin is one; before any base entry the
+-- base counts as live. So a begin of 0 under a live base counts dead". A tombstone other than 0 is all ones.
+unfoldable pub rangePair : Encoding → Bool → Operands → RootTurn
+rangePair e dead r =
+    let begin = r .first .value in
+    let end = r .second .value in
+    pick (eqb begin 0 and eqb end 0) (stop isDead)
+    (pick (isTombstone begin (e .«address_size») and not (eqb begin 0)) (pastPair r (isTombstone end (e .«address_size»)))
+    (pick (dead or isTombstone begin (e .«address_size»)) (pastPair r dead) (stop isLive)))
+
+unfoldable pub pairStep : Encoding → Bool → OperandsRead → RootTurn
+pairStep e dead (Row′ r) = rangePair e dead r
+pairStep e dead NoRow = stop (refused (refusalOfList NoEntry))
+
+-- a list ends at its end pair or where the section ends between two pairs, as every list does; cut inside one it is 5
+unfoldable pub pairsLive : Encoding → List ℕ → ListOffset → Verdict
+pairsLive e s (At c) =
+    walk place (length s)
+    (λ (p : Flagged). pick (ltb (p .at) (length s)) (pairStep e (p .flag) (rowAt e s (p .at) row-address-address)) (stop isDead))
+    isDead (record { at = c .at; flag = false })
+pairsLive e s Unresolved = isLive
+
+-- DW_AT_low_pc: addrx and GNU_addr_index ask the table, addr the tombstone test, any other form is live
 unfoldable pub lowPc : Encoding → List ℕ → Attribute → Verdict
 lowPc e table v =
-    pick (eqb (v .form) «DW_FORM_addrx» or (leb «DW_FORM_addrx1» (v .form) and leb (v .form) «DW_FORM_addrx4»))
+    pick
+    (eqb (v .form) «DW_FORM_addrx» or (leb «DW_FORM_addrx1» (v .form) and leb (v .form) «DW_FORM_addrx4»)
+    or eqb (v .form) «DW_FORM_GNU_addr_index»)
     (onLookup (lookupAt table (v .field .value)) (λ r. r) isLive isDead)
     (pick (eqb (v .form) «DW_FORM_addr») (pick (isTombstone (v .field .value) (e .«address_size»)) isDead isLive) isLive)
 
@@ -135,7 +168,8 @@ locations e table unit (a ∷ rest) =
     (orElse (locationLive e table (partOf unit (a .value .field))) (locations e table unit rest))
     (locations e table unit rest)
 
--- what ranges are read by: the range lists, the address table, the caller's ranges base, and the range lists' own base
+-- what ranges are read by: the range lists of the unit's version, the address table, the caller's ranges base, and the
+-- range lists' own base
 pub record Ranges : Type 0 where
   pub ranges : List ℕ
   pub table : List ℕ
@@ -145,10 +179,14 @@ pub record Ranges : Type 0 where
 abbrev pub rangesBy : List ℕ → List ℕ → ℕ → ℕ → Ranges
 rangesBy ranges table rangesBase rnglistsBase = record { ranges = ranges; table = table; rangesBase = rangesBase; rnglistsBase = rnglistsBase }
 
--- DW_AT_ranges not in rnglistx: sec_offset by the older test, another form live. The sum has no bound here:
--- above 64 bits it lies past the section's end.
+-- a list that is named by its offset: by its pairs in version 4, else by the older test
+unfoldable pub offsetLive : Encoding → List ℕ → ListOffset → Verdict
+offsetLive e s start = pick (eqb (e .version) 4) (pairsLive e s start) (olderLive e s start)
+
+-- DW_AT_ranges not in rnglistx: sec_offset by its list, another form live. The sum has no bound here: above 64 bits it
+-- lies past the section's end.
 unfoldable pub otherRanges : Encoding → List ℕ → ℕ → Attribute → Verdict
-otherRanges e ranges base v = pick (eqb (v .form) «DW_FORM_sec_offset») (olderLive e ranges (listStart ranges (base + v .field .value))) isLive
+otherRanges e ranges base v = pick (eqb (v .form) «DW_FORM_sec_offset») (offsetLive e ranges (listStart ranges (base + v .field .value))) isLive
 
 module _ (e : Encoding) (x : Ranges) where
   -- DW_AT_ranges: rnglistx by its list

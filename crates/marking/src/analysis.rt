@@ -4,7 +4,7 @@ ghost use lib.ListN.{length, take};
 ghost use Rattle.readers.specs.Choice.{zeros};
 ghost use Rattle.readers.specs.inner.Entries.{headEnd};
 ghost use Rattle.readers.specs.Header.{headerOf};
-ghost use Rattle.marking.specs.Analysis.{sections, rooms, rootOf, namesOf, unitAnalysed, analysisOf};
+ghost use Rattle.marking.specs.Analysis.{sections, rangesFor, rooms, rootOf, namesOf, unitAnalysed, analysisOf};
 ghost use Rattle.marking.specs.Columns.{offsetsIn, parentsIn, rootsIn, endsIn, namesIn, column, least, roomsOf};
 ghost use Rattle.marking.specs.Columns.{indexAfter, answerOf};
 ghost use Rattle.marking.specs.inner.Columns.{AnalysisInput, Outcome, headed, refusalOf, entryAnswer, entryTable, leftBy, unitFound};
@@ -70,7 +70,8 @@ fn refusal(unit: &[u8], abbreviations: &[u8], x: EntryHead, e: Encoding, n: u8) 
     }
 }
 
-// The root test of an entry, then its references. The scan also finds where the entry ends.
+// The root test of an entry, then its references. The scan also finds where the entry ends. In its contract, and in that
+// of `analyse_entries`, the range lists of the unit's version stand for both sections of them.
 fn analyse_entry(
     unit: &[u8],
     abbreviations: &[u8],
@@ -87,7 +88,7 @@ fn analyse_entry(
 ) -> EntryAnalysis
     ensures { λ r. ⌜ (
         let lent = sections (now (abbreviations .entry)) (now (locations .entry)) (now (ranges .entry))
-        (now (addresses .entry)) setting in
+        (now (addresses .entry)) (now (ranges .entry)) setting in
         let end = headEnd e (now (abbreviations .entry)) (now (unit .entry)) x in
         let root = rootOf e lent (now (unit .entry)) «rnglists_base» (headed x) in
         let names = namesOf e lent (now (unit .entry)) «loclists_base» (headed x) in
@@ -168,7 +169,7 @@ fn analyse_entries(
         (now offsets) (now parents) (now roots) (now «reference_ends») (now targets) ⌝ }
     ensures { λ r. ⌜ (
         let lent = sections (now (abbreviations .entry)) (now (locations .entry)) (now (ranges .entry))
-        (now (addresses .entry)) setting in
+        (now (addresses .entry)) (now (ranges .entry)) setting in
         let found = unitAnalysed e lent (now (unit .entry)) (rooms «entry_room» «reference_room») from (first .at) in
         (r ≡ answerOf found)
         × Outcome found
@@ -348,14 +349,24 @@ fn clear_refused(
     }
 }
 
+// The one section that range lists are read in: .debug_ranges in version 4, else .debug_rnglists.
+pub fn ranges_for<'a>(e: Encoding, ranges: &'a [u8], debug_ranges: &'a [u8]) -> &'a [u8]
+    ensures { λ r. ⌜ now r ≡ rangesFor e (now (ranges .entry)) (now («debug_ranges» .entry)) ⌝ }
+{
+    if e.version == 4 {
+        return debug_ranges;
+    }
+    ranges
+}
+
 // A unit whose declarations were checked, into cleared columns; zeros after a refusal.
-fn analyse_unit(
+fn analyse_unit<'a>(
     section: &[u8],
     h: UnitHeader,
     abbreviations: &[u8],
     index: &[u64],
     locations: &[u8],
-    ranges: &[u8],
+    ranges: &'a [u8],
     addresses: &[u8],
     setting: Setting,
     entry_room: usize,
@@ -365,12 +376,13 @@ fn analyse_unit(
     roots: &mut [u8],
     reference_ends: &mut [u64],
     targets: &mut [u64],
+    debug_ranges: &'a [u8],
 ) -> Analysis
     requires { ⌜ AnalysisInput (now abbreviations) (now index) (h .abbreviations) (take (h .end) (now section))
         «entry_room» «reference_room» (now offsets) (now parents) (now roots) (now «reference_ends») (now targets) ⌝ }
     ensures { λ r. ⌜ (
         let lent = sections (now (abbreviations .entry)) (now (locations .entry)) (now (ranges .entry))
-        (now (addresses .entry)) setting in
+        (now (addresses .entry)) (now («debug_ranges» .entry)) setting in
         let found = unitAnalysed (h .encoding) lent (take (h .end) (now (section .entry)))
         (rooms «entry_room» «reference_room») (h .abbreviations) (h .first .0) in
         (r ≡ answerOf found)
@@ -382,6 +394,7 @@ fn analyse_unit(
         ) ⌝ }
 {
     let first = h.first;
+    let lists = ranges_for(h.encoding, ranges, debug_ranges);
     let answer = analyse_entries(
         unit_part(section, h),
         abbreviations,
@@ -392,7 +405,7 @@ fn analyse_unit(
         },
         h.encoding,
         locations,
-        ranges,
+        lists,
         addresses,
         setting,
         entry_room,
@@ -436,12 +449,13 @@ fn find_unit(header: HeaderRead, abbreviations: &[u8], index: &mut [u64]) -> Uni
 // named). At most so many entries and references, and as many as the shortest column has. The index of the declarations
 // is for finding them, and stays filled; its length changes no answer. A refusal leaves zeros in the columns: 1 and 2
 // of the header, 3 of the abbreviations, then entry by entry 4, 10, one of 5, 6 and 17, 5 or 7, 11.
-pub fn analyse(
+pub fn analyse<'a>(
     section: &[u8],
     abbreviations: &[u8],
     locations: &[u8],
-    ranges: &[u8],
+    ranges: &'a [u8],
     addresses: &[u8],
+    debug_ranges: &'a [u8],
     setting: Setting,
     entries: usize,
     references: usize,
@@ -454,7 +468,7 @@ pub fn analyse(
 ) -> UnitAnalysis
     ensures { λ r. ⌜ (
         let lent = sections (now (abbreviations .entry)) (now (locations .entry)) (now (ranges .entry))
-        (now (addresses .entry)) setting in
+        (now (addresses .entry)) (now («debug_ranges» .entry)) setting in
         let room = roomsOf entries references (length (now (offsets .entry))) (length (now (parents .entry)))
         (length (now (roots .entry))) (length (now («reference_ends» .entry))) (length (now (targets .entry))) in
         let found = analysisOf lent (now (section .entry)) room in
@@ -496,6 +510,7 @@ pub fn analyse(
                 roots,
                 reference_ends,
                 targets,
+                debug_ranges,
             );
             UnitAnalysis { header, analysis }
         }

@@ -1,7 +1,7 @@
 // The root test of an entry: what is live by itself, then over the attributes of an entry. ranges_has_live_entry,
 // location_expr_live and is_root have the names of their originals in gc.rs.
 ghost use mathlib.Core.Path.{_≡_};
-ghost use Rattle.marking.specs.Roots.{turnOf, rangeEntry, olderLive, locationLive, lowPc};
+ghost use Rattle.marking.specs.Roots.{turnOf, rangeEntry, olderLive, rangePair, pairsLive, locationLive, lowPc};
 ghost use Rattle.marking.specs.Roots.{lowPcs, locations, otherRanges, rangesBy, firstRanges};
 ghost use Rattle.readers.specs.EntryAttributes.{entryValues};
 ghost use Rattle.marking.specs.Roots.{rootTest, baseAfter};
@@ -14,6 +14,7 @@ use readers::attributes::Attribute;
 use readers::codes::DW_AT_location;
 use readers::codes::DW_AT_low_pc;
 use readers::codes::DW_AT_ranges;
+use readers::codes::DW_FORM_GNU_addr_index;
 use readers::codes::DW_FORM_addr;
 use readers::codes::DW_FORM_addrx;
 use readers::codes::DW_FORM_addrx1;
@@ -32,6 +33,9 @@ use readers::cursor::Cursor;
 use readers::cursor::Encoding;
 use readers::entry_attributes::NextAttribute;
 use readers::entry_attributes::next_attribute;
+use readers::fields::Operands;
+use readers::fields::OperandsRead;
+use readers::layouts::ROW_ADDRESS_ADDRESS;
 use readers::layouts::ROW_ADDRESS_INDEX;
 use readers::lists::ListOffset;
 use readers::lists::list_offset;
@@ -92,7 +96,7 @@ pub fn range_entry(table: &[u8], dead: bool, x: ListEntry, e: Encoding) -> Range
     RangeTurn::Decided(Verdict::Live)
 }
 
-// The older test of a range list: base_address is skipped, every other entry is live.
+// The older test of a range list of version 5: base_address is skipped, every other entry is live.
 pub fn ranges_has_live_entry(ranges: &[u8], start: Cursor, e: Encoding) -> Verdict
     ensures { λ r. ⌜ r ≡ olderLive e (now (ranges .entry)) (At start) ⌝ }
 {
@@ -113,6 +117,57 @@ pub fn ranges_has_live_entry(ranges: &[u8], start: Cursor, e: Encoding) -> Verdi
             }
         }
     }
+}
+
+// A pair of .debug_ranges, where the latest base was dead or not: 0 and 0 end the list, a begin of all ones makes a new
+// base; any other is live unless the base or its begin is a tombstone. One turn of gc.rs's `ranges_has_live_entry` in
+// version 4.
+pub fn range_pair(dead: bool, r: Operands, e: Encoding) -> RangeTurn
+    ensures { λ t. ⌜ t ≡ turnOf (rangePair e dead r) ⌝ }
+{
+    let first = r.first;
+    let second = r.second;
+    let begin = first.value;
+    let end = second.value;
+    let begin_dead = is_tombstone(begin, e.address_size);
+    if begin == 0 {
+        if end == 0 {
+            return RangeTurn::Decided(Verdict::Dead);
+        }
+    } else if begin_dead {
+        return RangeTurn::On(is_tombstone(end, e.address_size));
+    }
+    if dead {
+        return RangeTurn::On(dead);
+    }
+    if begin_dead {
+        return RangeTurn::On(dead);
+    }
+    RangeTurn::Decided(Verdict::Live)
+}
+
+// The test of a range list of version 4, by its pairs.
+pub fn pairs_live(ranges: &[u8], start: Cursor, e: Encoding) -> Verdict
+    ensures { λ r. ⌜ r ≡ pairsLive e (now (ranges .entry)) (At start) ⌝ }
+{
+    let mut c = start;
+    let mut base_dead = false;
+    while c.at < ranges.len() {
+        let OperandsRead::Read(r) = c.row(ranges, ROW_ADDRESS_ADDRESS, e) else {
+            return Verdict::Refused(5);
+        };
+        let third = r.third;
+        match range_pair(base_dead, r, e) {
+            RangeTurn::On(flag) => {
+                base_dead = flag;
+                c = third.next();
+            }
+            RangeTurn::Decided(found) => {
+                return found;
+            }
+        }
+    }
+    Verdict::Dead
 }
 
 // Whether a variable's location holds a live index of the address table. It is read to its end; nested entry values are
@@ -165,7 +220,9 @@ pub fn low_pc(v: Attribute, table: &[u8], e: Encoding) -> Verdict
             return Verdict::Live;
         }
         if form > DW_FORM_addrx4 {
-            return Verdict::Live;
+            if form != DW_FORM_GNU_addr_index {
+                return Verdict::Live;
+            }
         }
     }
     match lookup(table, field.value) {
@@ -258,8 +315,8 @@ pub fn locations_live(
     }
 }
 
-// Ranges that are not in rnglistx: a section offset from the base by the older test; what can't be resolved, and any
-// other form, is live.
+// Ranges that are not in rnglistx: a section offset from the base, in version 4 by the pairs there, else by the older
+// test; what can't be resolved, and any other form, is live.
 pub fn other_ranges(v: Attribute, ranges: &[u8], ranges_base: u64, e: Encoding) -> Verdict
     ensures { λ r. ⌜ r ≡ otherRanges e (now (ranges .entry)) «ranges_base» v ⌝ }
 {
@@ -278,6 +335,9 @@ pub fn other_ranges(v: Attribute, ranges: &[u8], ranges_base: u64, e: Encoding) 
     let ListOffset::At(start) = list_start(ranges, at) else {
         return Verdict::Live;
     };
+    if e.version == 4 {
+        return pairs_live(ranges, start, e);
+    }
     ranges_has_live_entry(ranges, start, e)
 }
 

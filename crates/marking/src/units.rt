@@ -178,12 +178,13 @@ fn mark_rows(
 // with the marks among those of the entry table and the pairs among those of the reference table, two numbers each. A
 // refusal is the analysis's, and leaves zeros. The work column is scratch, zeros on every answer; its length, best two
 // numbers an entry, changes the time alone.
-pub fn mark_unit(
+pub fn mark_unit<'a>(
     section: &[u8],
     abbreviations: &[u8],
     locations: &[u8],
-    ranges: &[u8],
+    ranges: &'a [u8],
     addresses: &[u8],
+    debug_ranges: &'a [u8],
     setting: Setting,
     index: &mut [u64],
     offsets: &mut [u64],
@@ -197,7 +198,7 @@ pub fn mark_unit(
 ) -> UnitMarking
     ensures { λ r. ⌜ (
         let lent = sections (now (abbreviations .entry)) (now (locations .entry)) (now (ranges .entry))
-        (now (addresses .entry)) setting in
+        (now (addresses .entry)) (now («debug_ranges» .entry)) setting in
         let room = unitRooms (length (now (marks .entry))) (length (now (pairs .entry)))
         (length (now (offsets .entry))) (length (now (parents .entry))) (length (now (roots .entry)))
         (length (now («reference_ends» .entry))) (length (now (targets .entry))) in
@@ -224,6 +225,7 @@ pub fn mark_unit(
         locations,
         ranges,
         addresses,
+        debug_ranges,
         setting,
         marks.len(),
         pairs.len() / 2,

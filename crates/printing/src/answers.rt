@@ -59,12 +59,13 @@ fn entries(offsets: &[u64], marks: &[u8], map: &[u8], c: Counts, rewritten: bool
 }
 
 // The marks of the unit, beside what collect answered.
-fn marked(
+fn marked<'a>(
     section: &[u8],
     abbreviations: &[u8],
     locations: &[u8],
-    ranges: &[u8],
+    ranges: &'a [u8],
     addresses: &[u8],
+    debug_ranges: &'a [u8],
     setting: Setting,
     map: &[u8],
     c: Counts,
@@ -78,6 +79,7 @@ fn marked(
         locations,
         ranges,
         addresses,
+        debug_ranges,
         setting,
         &mut offsets,
         &mut marks,
@@ -188,12 +190,13 @@ fn line(
 
 // The unit of given sections: tables of 2,048 entries and 8,192 references, 4,096 map places, 8,192 numbers a list,
 // 65,536 output bytes. What is lent for the answer holds no zeros before the call.
-fn unit(
+fn unit<'a>(
     section: &[u8],
     abbreviations: &[u8],
     locations: &[u8],
-    ranges: &[u8],
+    ranges: &'a [u8],
     addresses: &[u8],
+    debug_ranges: &'a [u8],
     setting: Setting,
     whole: bool,
 ) {
@@ -217,6 +220,7 @@ fn unit(
         locations,
         ranges,
         addresses,
+        debug_ranges,
         setting,
         false,
         &mut index,
@@ -252,6 +256,7 @@ fn unit(
                     locations,
                     ranges,
                     addresses,
+                    debug_ranges,
                     setting,
                     &map,
                     c,
@@ -277,6 +282,7 @@ fn unit(
                     locations,
                     ranges,
                     addresses,
+                    debug_ranges,
                     setting,
                     &map,
                     c,
@@ -301,6 +307,7 @@ fn of_bundle(s: &[u8], setting: Setting, whole: bool) {
         section_bytes(s, b.locations),
         section_bytes(s, b.ranges),
         section_bytes(s, b.addresses),
+        section_bytes(s, b.debug_ranges),
         setting,
         whole,
     );

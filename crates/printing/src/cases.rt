@@ -107,6 +107,7 @@ fn collect_bundle(
         section_bytes(s, b.locations),
         section_bytes(s, b.ranges),
         section_bytes(s, b.addresses),
+        section_bytes(s, b.debug_ranges),
         told(settings),
         setting(settings, TYPE_UNITS) != 0,
         index,

@@ -26,8 +26,10 @@ use readers::entries::Entry;
 use readers::entries::Step;
 use readers::expressions::References;
 use readers::fields::Field;
+use readers::fields::OperandsRead;
 use readers::header::HeaderRead;
 use readers::header::UnitHeader;
+use readers::layouts::ROW_ADDRESS_ADDRESS;
 use readers::lists::ListOffset;
 use readers::operations::ListEntry;
 use readers::operations::ListStep;
@@ -177,8 +179,40 @@ fn list_lines(s: &[u8], entry: ListEntry, location: bool, e: Encoding) {
     text(b"\n");
 }
 
-// One entry of a list; answers where the next one is, or nowhere at the list's end.
+// One pair of a range list of version 4; answers where the next one is, or nowhere at the list's end. A begin of all ones
+// makes its end the base of the pairs after it.
+fn pair_step(s: &[u8], c: Cursor, e: Encoding) -> Moved {
+    if c.at >= s.len() {
+        text(b"  end\n");
+        return Moved::Unreadable;
+    }
+    let OperandsRead::Read(r) = c.row(s, ROW_ADDRESS_ADDRESS, e) else {
+        text(b"  list ");
+        refused(5);
+        return Moved::Unreadable;
+    };
+    let begin = r.first;
+    let end = r.second;
+    let third = r.third;
+    if begin.value == 0 {
+        if end.value == 0 {
+            text(b"  end\n");
+            return Moved::Unreadable;
+        }
+    }
+    number(b"  pair ", begin.value);
+    number(b" ", end.value);
+    text(b"\n");
+    Moved::To(third.next())
+}
+
+// One entry of a list; answers where the next one is, or nowhere at the list's end. A range list of version 4 has pairs.
 fn list_step(s: &[u8], c: Cursor, location: bool, e: Encoding) -> Moved {
+    if !location {
+        if e.version == 4 {
+            return pair_step(s, c, e);
+        }
+    }
     match c.list_entry(s, location, e) {
         ListStep::Entry(entry) => {
             list_lines(s, entry, location, e);
@@ -488,7 +522,8 @@ fn entries(
 fn header_line(h: UnitHeader) {
     let e = h.encoding;
     let first = h.first;
-    number(b"unit type ", h.unit_type as u64);
+    number(b"version ", e.version as u64);
+    number(b" unit type ", h.unit_type as u64);
     number(b" address_size ", e.address_size as u64);
     number(b" abbreviations ", h.abbreviations);
     number(b" first ", first.0);
@@ -542,7 +577,11 @@ pub fn dump(s: &[u8], big_endian: bool) {
                 unit,
                 bundle::section_bytes(s, b.abbreviations),
                 bundle::section_bytes(s, b.locations),
-                bundle::section_bytes(s, b.ranges),
+                marking::analysis::ranges_for(
+                    h.encoding,
+                    bundle::section_bytes(s, b.ranges),
+                    bundle::section_bytes(s, b.debug_ranges),
+                ),
                 h,
             );
         }

@@ -35,12 +35,13 @@ fn lines(offsets: &[u64], marks: &[u8], entries: usize) {
 
 // Marks the unit of given sections, with tables of 8,192 references and as many entries as the caller has offsets and
 // marks for, 2,048 at most.
-pub fn mark(
+pub fn mark<'a>(
     section: &[u8],
     abbreviations: &[u8],
     locations: &[u8],
-    ranges: &[u8],
+    ranges: &'a [u8],
     addresses: &[u8],
+    debug_ranges: &'a [u8],
     setting: Setting,
     offsets: &mut [u64],
     marks: &mut [u8],
@@ -58,6 +59,7 @@ pub fn mark(
         locations,
         ranges,
         addresses,
+        debug_ranges,
         setting,
         &mut index,
         offsets,
@@ -73,12 +75,13 @@ pub fn mark(
 }
 
 // The marks of the unit of given sections.
-fn unit(
+fn unit<'a>(
     section: &[u8],
     abbreviations: &[u8],
     locations: &[u8],
-    ranges: &[u8],
+    ranges: &'a [u8],
     addresses: &[u8],
+    debug_ranges: &'a [u8],
     setting: Setting,
 ) {
     let mut offsets = [0u64; 2048];
@@ -89,6 +92,7 @@ fn unit(
         locations,
         ranges,
         addresses,
+        debug_ranges,
         setting,
         &mut offsets,
         &mut marks,
@@ -118,6 +122,7 @@ pub fn list(s: &[u8], setting: Setting) {
         section_bytes(s, b.locations),
         section_bytes(s, b.ranges),
         section_bytes(s, b.addresses),
+        section_bytes(s, b.debug_ranges),
         setting,
     );
 }

@@ -16,7 +16,7 @@ use Rattle.readers.specs.Abbreviations.{pastAttributes, numberDeclaratio
 use Rattle.readers.specs.Abbreviations.{wholeDeclaration, declarationAt, declarationTurn, declarationsFrom}
 use Rattle.readers.specs.Abbreviations.{declaredIn, isFound, distinct, checkDistinct, abbreviationsOf}
 use Rattle.readers.specs.Abbreviations.{insertByCode, byCode, slotsOf, indexed, indexFor, indexOf}
-use Rattle.readers.specs.Header.{present, right, lengthBytes, encodingOf, headerMade, headerFields, headerIn, headerOf}
+use Rattle.readers.specs.Header.{present, right, lengthBytes, encodingOf, headerMade, fields4, fields5, headerFields, headerIn, headerOf}
 use Rattle.readers.specs.declared.header.HeaderRead.the-variants.{Unit as Unit′, Empty, Refused}
 
 -- ---- 7.6, table 7.7: unsigned numbers
@@ -87,7 +87,7 @@ headers :
     × (headerOf false (0x08 ∷ 0 ∷ 0 ∷ []) ≡ Refused 1)
     × (headerOf false (0xf0 ∷ 0xff ∷ 0xff ∷ 0xff ∷ []) ≡ Refused 2)
     × (headerOf false (0x03 ∷ 0 ∷ 0 ∷ 0 ∷ 4 ∷ 0 ∷ []) ≡ Refused 1)
-    × (headerOf false (0x02 ∷ 0 ∷ 0 ∷ 0 ∷ 4 ∷ 0 ∷ []) ≡ Refused 2)
+    × (headerOf false (0x02 ∷ 0 ∷ 0 ∷ 0 ∷ 3 ∷ 0 ∷ []) ≡ Refused 2)
     × (headerOf false (0x02 ∷ 0 ∷ 0 ∷ 0 ∷ 5 ∷ 0 ∷ 1 ∷ 8 ∷ 0 ∷ 0 ∷ 0 ∷ 0 ∷ []) ≡ Refused 1)
     × (headerOf false (0x08 ∷ 0 ∷ 0 ∷ 0 ∷ 5 ∷ 0 ∷ 2 ∷ 8 ∷ 0 ∷ 0 ∷ 0 ∷ 0 ∷ []) ≡ Refused 2)
     × (headerOf false (0x08 ∷ 0 ∷ 0 ∷ 0 ∷ 5 ∷ 0 ∷ 1 ∷ 3 ∷ 0 ∷ 0 ∷ 0 ∷ 0 ∷ []) ≡ Refused 2)
@@ -98,7 +98,7 @@ headers :
     × (headerOf true (0xff ∷ 0xff ∷ 0xff ∷ 0xf0 ∷ []) ≡ Refused 2)
     × (headerOf true (0xff ∷ 0xff ∷ 0xff ∷ 0xef ∷ []) ≡ Refused 1)
     × (headerOf true (0xf0 ∷ 0xff ∷ 0xff ∷ 0xff ∷ []) ≡ Refused 1)
-    × (headerOf true (0 ∷ 0 ∷ 0 ∷ 0x02 ∷ 0 ∷ 4 ∷ []) ≡ Refused 2)
+    × (headerOf true (0 ∷ 0 ∷ 0 ∷ 0x02 ∷ 0 ∷ 6 ∷ []) ≡ Refused 2)
     × (headerOf true (0 ∷ 0 ∷ 0 ∷ 0x02 ∷ 0 ∷ 5 ∷ 1 ∷ 8 ∷ 0 ∷ 0 ∷ 0 ∷ 0 ∷ []) ≡ Refused 1)
     × (headerOf true (0 ∷ 0 ∷ 0 ∷ 0x08 ∷ 0 ∷ 5 ∷ 2 ∷ 8 ∷ 0 ∷ 0 ∷ 0 ∷ 0 ∷ []) ≡ Refused 2)
     × (headerOf true (0 ∷ 0 ∷ 0 ∷ 0x08 ∷ 0 ∷ 5 ∷ 1 ∷ 3 ∷ 0 ∷ 0 ∷ 0 ∷ 0 ∷ []) ≡ Refused 2)
@@ -119,9 +119,19 @@ headers :
     × (headerOf true (0xff ∷ 0xff ∷ 0xff ∷ 0xff ∷ 0 ∷ 0 ∷ 0 ∷ 0 ∷ 0 ∷ 0 ∷ 0 ∷ 20 ∷ 0 ∷ 5 ∷ 5 ∷ 4 ∷ 0 ∷ 0 ∷ 0 ∷ 0 ∷ 0 ∷ 0 ∷ 1 ∷ 2
     ∷ 1 ∷ 2 ∷ 3 ∷ 4 ∷ 5 ∷ 6 ∷ 7 ∷ 8 ∷ [])
     ≡ Unit′ (record { encoding = encodingOf true 5 8 4; «unit_type» = 5; abbreviations = 0x0102; first = record { 0 = 32 }; end = 32 }))
-unfolding headerOf headerIn headerFields lengthBytes present right headerMade encodingOf fixedAt asFixed numberIn width fixedValue
+    -- version 4: cut short behind the version, in its offset, at its address size; an address size of 3; headers of 11 and
+    -- 23 bytes
+    × (headerOf false (0x02 ∷ 0 ∷ 0 ∷ 0 ∷ 4 ∷ 0 ∷ []) ≡ Refused 1)
+    × (headerOf true (0 ∷ 0 ∷ 0 ∷ 0x05 ∷ 0 ∷ 4 ∷ 0 ∷ 0 ∷ 0 ∷ []) ≡ Refused 1)
+    × (headerOf false (0x06 ∷ 0 ∷ 0 ∷ 0 ∷ 4 ∷ 0 ∷ 1 ∷ 2 ∷ 0 ∷ 0 ∷ []) ≡ Refused 1)
+    × (headerOf false (0x07 ∷ 0 ∷ 0 ∷ 0 ∷ 4 ∷ 0 ∷ 0xff ∷ 0xff ∷ 0xff ∷ 0xff ∷ 3 ∷ []) ≡ Refused 2)
+    × (headerOf false (0x07 ∷ 0 ∷ 0 ∷ 0 ∷ 4 ∷ 0 ∷ 1 ∷ 2 ∷ 0 ∷ 0 ∷ 8 ∷ [])
+    ≡ Unit′ (record { encoding = encodingOf false 4 4 8; «unit_type» = 1; abbreviations = 0x0201; first = record { 0 = 11 }; end = 11 }))
+    × (headerOf true (0xff ∷ 0xff ∷ 0xff ∷ 0xff ∷ 0 ∷ 0 ∷ 0 ∷ 0 ∷ 0 ∷ 0 ∷ 0 ∷ 11 ∷ 0 ∷ 4 ∷ 0 ∷ 0 ∷ 0 ∷ 0 ∷ 0 ∷ 0 ∷ 1 ∷ 2 ∷ 4 ∷ [])
+    ≡ Unit′ (record { encoding = encodingOf true 4 8 4; «unit_type» = 1; abbreviations = 0x0102; first = record { 0 = 23 }; end = 23 }))
+unfolding headerOf headerIn headerFields fields4 fields5 lengthBytes present right headerMade encodingOf fixedAt asFixed numberIn width fixedValue
     ordered littleValue pick check _or_
-headers = (refl, refl, refl, refl, refl, refl, refl, refl, refl, refl, refl, refl, refl, refl, refl, refl, refl, refl, refl, refl, refl, refl, refl, refl, refl, refl, refl, refl, refl, refl)
+headers = (refl, refl, refl, refl, refl, refl, refl, refl, refl, refl, refl, refl, refl, refl, refl, refl, refl, refl, refl, refl, refl, refl, refl, refl, refl, refl, refl, refl, refl, refl, refl, refl, refl, refl, refl, refl)
 
 -- ---- the index: declarations with the codes 9, 2 and 5 at 0, 5 and 10 in the order of their codes; zeros where it has no room for them
 

@@ -18,7 +18,7 @@ use Rattle.readers.specs.Numbers.{littleValue, ordered, fixedBytes, fixe
 use Rattle.readers.proofs.Numbers.{length-fixed, fixed-value}
 use Rattle.readers.proofs.Widths.{fixed-is, fixed-inside}
 use Rattle.readers.proofs.Headers.{present-at, four-bytes, eight-bytes, in-there, length-four, length-eight}
-use Rattle.readers.specs.Header.{present, right, lengthBytes, lengthSize, encodingOf, headerMade, headerFields, headerIn, headerOf, withEnd, SaysWidth, Known}
+use Rattle.readers.specs.Header.{present, right, lengthBytes, lengthSize, encodingOf, headerMade, fields4, fields5, headerFields, headerIn, headerOf, withEnd, SaysWidth, Headed, Known}
 use Rattle.readers.specs.declared.cursor.Cursor.{Cursor}
 use Rattle.readers.specs.declared.cursor.Encoding.{Encoding}
 use Rattle.readers.specs.declared.cursor.Number.{Number}
@@ -51,15 +51,16 @@ module _ (big : Bool) (w : ℕ) (u : List ℕ) where
 
   -- what is read with them
   record FieldsLaw (h : UnitHeader) : Type 0 where
-    pub encoding-is : h .encoding ≡ encodingOf big 5 w (h .encoding .«address_size»)
+    pub encoding-is : h .encoding ≡ encodingOf big (h .encoding .version) w (h .encoding .«address_size»)
+    pub version-is : (h .encoding .version ≡ 4) ⊎ (h .encoding .version ≡ 5)
     pub address-is : (h .encoding .«address_size» ≡ 4) ⊎ (h .encoding .«address_size» ≡ 8)
-    pub headed : ((h .«unit_type» ≡ 1) × (h .first .0 ≡ at + 4 + w)) ⊎ ((h .«unit_type» ≡ 5) × (h .first .0 ≡ at + 4 + w + 8))
+    pub headed : Headed (h .encoding .version) (at + w) (h .«unit_type») (h .first .0)
     pub inside : h .first .0 ≤ length u
     pub end-is : h .end ≡ length u
-    pub version-there : fixedAt big 2 u at ≡ Value 5 (cursor (at + 2))
+    pub version-there : fixedAt big 2 u at ≡ Value (h .encoding .version) (cursor (at + 2))
     pub again : (v : List ℕ) → Same (h .first .0) v → headerFields big w v ≡ Unit′ (withEnd h (length v))
 
-  module _ (some : 0 < w) (few : w ≤ 8) (P : HeaderRead → Type 0) (one : P (Refused 1)) (two : P (Refused 2)) (made : (h : UnitHeader) → FieldsLaw h → P (Unit′ h)) where
+  module _ (few : w ≤ 8) (P : HeaderRead → Type 0) (one : P (Refused 1)) (two : P (Refused 2)) (made : (h : UnitHeader) → FieldsLaw h → P (Unit′ h)) where
     on-present : (n : Number) (k : ℕ → HeaderRead) → ((v : ℕ) (c : Cursor) → n ≡ Value v c → P (k v)) → P (present n k)
     unfolding present
     on-present (Value v c) k h = h v c refl
@@ -69,49 +70,88 @@ module _ (big : Bool) (w : ℕ) (u : List ℕ) where
     unfolding right
     on-right b h k = pick-either P b h (Refused 2) k (λ _. two)
 
+    module _ (version : ℕ) (cv : Cursor) (qv : fixedAt big 2 u at ≡ Value version cv) where
+      version-read : (n : ℕ) → version ≡ n → fixedAt big 2 u at ≡ Value n (cursor (at + 2))
+      version-read n q =
+          qv
+          ∙ ap (λ (d : Cursor). Value version d) (let e : cv ≡ cursor (at + 2) = ap (λ (m : ℕ). cursor m) (fixed-inside big 2 u at version cv qv .0) in e)
+          ∙ ap (λ (m : ℕ). Value m (cursor (at + 2))) q
+
+      -- a unit with the same version is read by the fields of that version
+      by-version : (n : ℕ) (v : List ℕ) → at + 2 ≤ n → Same n v
+          → headerFields big w v ≡ pick (eqb version 5) (fields5 big w v (at + 2)) (pick (eqb version 4) (fields4 big w v (at + 2)) (Refused 2))
+      unfolding headerFields
+      by-version n v l s = present-at (fixedAt big 2 v at) version cv _ (s at 2 (omega arith) (omega arith) (omega arith) ∙ qv)
+
+      fields5-law : T (eqb version 5) → P (fields5 big w u (at + 2))
+      unfolding fields5 headerMade encodingOf
+      fields5-law tv =
+          on-present (fixedAt big 1 u (at + 2)) _ (λ unitType ct qt. on-right (eqb unitType 1 or eqb unitType 5) _ (λ tt′.
+          on-present (fixedAt big 1 u (at + 2 + 1)) _ (λ addressSize ca qa. on-right (eqb addressSize 4 or eqb addressSize 8) _ (λ ta.
+          on-present (fixedAt big w u (at + 2 + 2)) _ (λ abbreviations co qo.
+          let there : w ≤ length u - (at + 2 + 2) = fixed-inside big w u (at + 2 + 2) abbreviations co qo .1 in
+          let vthere : 1 ≤ length u - (at + 2 + 1) = fixed-inside big 1 u (at + 2 + 1) addressSize ca qa .1 in
+          let five : version ≡ 5 = eqb-yes {a = version} {b = 5} tv in
+          let e : Encoding = encodingOf big 5 w addressSize in
+          let on : (n : ℕ) (v : List ℕ) → at + 2 + 2 + w ≤ n → Same n v → headerFields big w v ≡ pick (eqb unitType 1)
+          (headerMade e v unitType abbreviations (at + 2 + 2 + w))
+          (present (fixedAt big 8 v (at + 2 + 2 + w)) (λ _. headerMade e v unitType abbreviations (at + 2 + 2 + w + 8))) =
+          (λ n v l s.
+          by-version n v (omega arith) s ∙ pick-yes _ _ _ tv
+          ∙ present-right (fixedAt big 1 v (at + 2)) unitType ct (λ z. eqb z 1 or eqb z 5) _ (s (at + 2) 1 (omega arith) (omega arith) (omega arith) ∙ qt) tt′
+          ∙ present-right (fixedAt big 1 v (at + 2 + 1)) addressSize ca (λ z. eqb z 4 or eqb z 8) _ (s (at + 2 + 1) 1 (omega arith) (omega arith) (omega arith) ∙ qa) ta
+          ∙ present-at (fixedAt big w v (at + 2 + 2)) abbreviations co _ (s (at + 2 + 2) w (omega arith) few (omega arith) ∙ qo)) in
+          pick-either P (eqb unitType 1) _ _
+          (λ y. made _ (record {
+            encoding-is = refl;
+            version-is = inr refl;
+            address-is = one-of addressSize 4 8 ta;
+            headed = inr (inl (refl, (eqb-yes {a = unitType} {b = 1} y, omega arith)));
+            inside = let g : at + 2 + 2 + w ≤ length u = omega arith in g;
+            end-is = refl;
+            version-there = version-read 5 five;
+            again = (λ v s. on (at + 2 + 2 + w) v (omega arith) s ∙ pick-yes _ _ _ y);
+          }))
+          (λ y. on-present (fixedAt big 8 u (at + 2 + 2 + w)) _ (λ id ci qi.
+          let there′ : 8 ≤ length u - (at + 2 + 2 + w) = fixed-inside big 8 u (at + 2 + 2 + w) id ci qi .1 in
+          made _ (record {
+            encoding-is = refl;
+            version-is = inr refl;
+            address-is = one-of addressSize 4 8 ta;
+            headed = inr (inr (refl, (⊎-elim (λ o. absurd (eqb-no {a = unitType} {b = 1} y o)) (λ o. o) (one-of unitType 1 5 tt′), omega arith)));
+            inside = let g : at + 2 + 2 + w + 8 ≤ length u = omega arith in g;
+            end-is = refl;
+            version-there = version-read 5 five;
+            again = (λ v s. on (at + 2 + 2 + w + 8) v (omega arith) s ∙ pick-no _ _ _ y
+                ∙ present-at (fixedAt big 8 v (at + 2 + 2 + w)) id ci _ (s (at + 2 + 2 + w) 8 (omega arith) (omega arith) (omega arith) ∙ qi));
+          }))))))))
+
+      fields4-law : T (not (eqb version 5)) → T (eqb version 4) → P (fields4 big w u (at + 2))
+      unfolding fields4 headerMade encodingOf
+      fields4-law nv tv =
+          on-present (fixedAt big w u (at + 2)) _ (λ abbreviations co qo.
+          on-present (fixedAt big 1 u (at + 2 + w)) _ (λ addressSize ca qa. on-right (eqb addressSize 4 or eqb addressSize 8) _ (λ ta.
+          let there : 1 ≤ length u - (at + 2 + w) = fixed-inside big 1 u (at + 2 + w) addressSize ca qa .1 in
+          made _ (record {
+            encoding-is = refl;
+            version-is = inl refl;
+            address-is = one-of addressSize 4 8 ta;
+            headed = inl (refl, (refl, omega arith));
+            inside = let g : at + 2 + w + 1 ≤ length u = omega arith in g;
+            end-is = refl;
+            version-there = version-read 4 (eqb-yes {a = version} {b = 4} tv);
+            again = (λ v s.
+                by-version (at + 2 + w + 1) v (omega arith) s ∙ pick-no _ _ _ nv ∙ pick-yes _ _ _ tv
+                ∙ present-at (fixedAt big w v (at + 2)) abbreviations co _ (s (at + 2) w (omega arith) few (omega arith) ∙ qo)
+                ∙ present-right (fixedAt big 1 v (at + 2 + w)) addressSize ca (λ z. eqb z 4 or eqb z 8) _ (s (at + 2 + w) 1 (omega arith) (omega arith) (omega arith) ∙ qa) ta);
+          }))))
+
     fields-law : P (headerFields big w u)
-    unfolding headerFields headerMade encodingOf
+    unfolding headerFields
     fields-law =
-        on-present (fixedAt big 2 u at) _ (λ version cv qv. on-right (eqb version 5) _ (λ tv.
-        on-present (fixedAt big 1 u (at + 2)) _ (λ unitType ct qt. on-right (eqb unitType 1 or eqb unitType 5) _ (λ tt′.
-        on-present (fixedAt big 1 u (at + 3)) _ (λ addressSize ca qa. on-right (eqb addressSize 4 or eqb addressSize 8) _ (λ ta.
-        on-present (fixedAt big w u (at + 4)) _ (λ abbreviations co qo.
-        let there : w ≤ length u - (at + 4) = fixed-inside big w u (at + 4) abbreviations co qo .1 in
-        let five : version ≡ 5 = eqb-yes {a = version} {b = 5} tv in
-        let vthere : 2 ≤ length u - at = fixed-inside big 2 u at version cv qv .1 in
-        let vis : fixedAt big 2 u at ≡ Value 5 (cursor (at + 2)) =
-        qv ∙ (let e : cv ≡ cursor (at + 2) = ap (λ (n : ℕ). cursor n) (fixed-inside big 2 u at version cv qv .0) in ap (λ (d : Cursor). Value version d) e ∙ ap (λ (n : ℕ). Value n (cursor (at + 2))) five) in
-        let e : Encoding = encodingOf big 5 w addressSize in
-        let on : (n : ℕ) (v : List ℕ) → at + 4 + w ≤ n → Same n v → headerFields big w v ≡ pick (eqb unitType 1)
-        (headerMade e v unitType abbreviations (at + 4 + w))
-        (present (fixedAt big 8 v (at + 4 + w)) (λ _. headerMade e v unitType abbreviations (at + 4 + w + 8))) =
-        (λ n v l s.
-        present-right (fixedAt big 2 v at) version cv (λ z. eqb z 5) _ (s at 2 (omega arith) (omega arith) (omega arith) ∙ qv) tv
-        ∙ present-right (fixedAt big 1 v (at + 2)) unitType ct (λ z. eqb z 1 or eqb z 5) _ (s (at + 2) 1 (omega arith) (omega arith) (omega arith) ∙ qt) tt′
-        ∙ present-right (fixedAt big 1 v (at + 3)) addressSize ca (λ z. eqb z 4 or eqb z 8) _ (s (at + 3) 1 (omega arith) (omega arith) (omega arith) ∙ qa) ta
-        ∙ present-at (fixedAt big w v (at + 4)) abbreviations co _ (s (at + 4) w (omega arith) few (omega arith) ∙ qo)) in
-        pick-either P (eqb unitType 1) _ _
-        (λ y. made _ (record {
-          encoding-is = refl;
-          address-is = one-of addressSize 4 8 ta;
-          headed = inl (eqb-yes {a = unitType} {b = 1} y, refl);
-          inside = let g : at + 4 + w ≤ length u = omega arith in g;
-          end-is = refl;
-          version-there = vis;
-          again = (λ v s. on (at + 4 + w) v (omega arith) s ∙ pick-yes _ _ _ y);
-        }))
-        (λ y. on-present (fixedAt big 8 u (at + 4 + w)) _ (λ id ci qi.
-        let there′ : 8 ≤ length u - (at + 4 + w) = fixed-inside big 8 u (at + 4 + w) id ci qi .1 in
-        made _ (record {
-          encoding-is = refl;
-          address-is = one-of addressSize 4 8 ta;
-          headed = inr (⊎-elim (λ o. absurd (eqb-no {a = unitType} {b = 1} y o)) (λ o. o) (one-of unitType 1 5 tt′), refl);
-          inside = let g : at + 4 + w + 8 ≤ length u = omega arith in g;
-          end-is = refl;
-          version-there = vis;
-          again = (λ v s. on (at + 4 + w + 8) v (omega arith) s ∙ pick-no _ _ _ y
-              ∙ present-at (fixedAt big 8 v (at + 4 + w)) id ci _ (s (at + 4 + w) 8 (omega arith) (omega arith) (omega arith) ∙ qi));
-        }))))))))))
+        on-present (fixedAt big 2 u at) _ (λ version cv qv.
+        pick-either P (eqb version 5) _ _ (fields5-law version cv qv)
+        (λ n. pick-either P (eqb version 4) _ (Refused 2) (fields4-law version cv qv n) (λ _. two)))
 
 -- ---- a header, and a unit that begins with it but for its length
 
@@ -121,14 +161,13 @@ pub record HeaderLaw (big : Bool) (u : List ℕ) (h : UnitHeader) : Type 0 where
   -- its first four bytes say the format
   pub format : SaysWidth (fixedValue big (take 4 u)) (h .encoding .«offset_size»)
   -- its unit type, and how many bytes it has
-  pub headed : let plain = lengthSize (h .encoding) + 4 + h .encoding .«offset_size» in
-      ((h .«unit_type» ≡ 1) × (h .first .0 ≡ plain)) ⊎ ((h .«unit_type» ≡ 5) × (h .first .0 ≡ plain + 8))
+  pub headed : Headed (h .encoding .version) (lengthSize (h .encoding) + h .encoding .«offset_size») (h .«unit_type») (h .first .0)
   pub after : lengthSize (h .encoding) + 7 ≤ h .first .0
   pub inside : h .first .0 ≤ length u
   pub short : length u < lengthSize (h .encoding) + 256 ^ h .encoding .«offset_size»
   pub below : length u < 2 ^ 64
   pub end-is : h .end ≡ length u
-  pub version-there : fixedAt big 2 u (lengthSize (h .encoding)) ≡ Value 5 (cursor (lengthSize (h .encoding) + 2))
+  pub version-there : fixedAt big 2 u (lengthSize (h .encoding)) ≡ Value (h .encoding .version) (cursor (lengthSize (h .encoding) + 2))
   pub again : (v r : List ℕ) → length v ≤ length u
       → v ≡ take (lengthSize (h .encoding) - h .encoding .«offset_size») u
       ++ (fixedBytes big (h .encoding .«offset_size») (length v - lengthSize (h .encoding))
@@ -180,8 +219,8 @@ Again big u h w k =
 
 module _ (big : Bool) (w : ℕ) (u : List ℕ) (h : UnitHeader) (b : FieldsLaw big w u h) where
   -- the first entry stands behind the fields
-  fields-after : lengthBytes w + 4 + w ≤ h .first .0
-  fields-after = ⊎-elim (λ y. omega (arith, y .1)) (λ y. omega (arith, y .1)) (b .headed)
+  fields-after : lengthBytes w + 3 + w ≤ h .first .0
+  fields-after = ⊎-elim (λ y. omega (arith, y .1 .1)) (λ y. ⊎-elim (λ y. omega (arith, y .1 .1)) (λ y. omega (arith, y .1 .1)) y) (b .headed)
 
   module _ (k : ℕ) (is : lengthBytes w ≡ k) (within : w ≤ k) (few : w ≤ 8) (under : length u < k + 256 ^ w)
       (v r : List ℕ) (no-longer : length v ≤ length u)
@@ -192,8 +231,8 @@ module _ (big : Bool) (w : ℕ) (u : List ℕ) (h : UnitHeader) (b : FieldsLaw b
     abbrev rest : List ℕ
     rest = drop k (take (h .first .0) u) ++ r
 
-    after : k + 4 + w ≤ h .first .0
-    after = subst (λ (z : ℕ). z + 4 + w ≤ h .first .0) is fields-after
+    after : k + 3 + w ≤ h .first .0
+    after = subst (λ (z : ℕ). z + 3 + w ≤ h .first .0) is fields-after
 
     length-lead : length (take (k - w) u) ≡ k - w
     length-lead = length-take-le (k - w) u (omega (arith, after, b .inside))
@@ -204,7 +243,7 @@ module _ (big : Bool) (w : ℕ) (u : List ℕ) (h : UnitHeader) (b : FieldsLaw b
     front : v ≡ (take (k - w) u ++ number) ++ rest
     front = q ∙ sym (append-assoc (take (k - w) u) number rest)
 
-    length-again : k + 4 + w ≤ length v
+    length-again : k + 3 + w ≤ length v
     length-again =
         let z : length v ≡ length (take (k - w) u ++ number) + length rest = ap length front ∙ length-append (take (k - w) u ++ number) rest in
         let y : length rest ≡ length (drop k (take (h .first .0) u)) + length r = length-append (drop k (take (h .first .0) u)) r in
@@ -231,7 +270,7 @@ module _ (big : Bool) (w : ℕ) (u : List ℕ) (h : UnitHeader) (b : FieldsLaw b
 four-again : (big : Bool) (u : List ℕ) (h : UnitHeader) → FieldsLaw big 4 u h → length u < 0xfffffff4 → Again big u h 4 4
 four-again big u h b hi v r l q =
     let under : length u < 4 + 256 ^ 4 = omega arith in
-    let some : 4 + 4 + 4 ≤ length v = length-again big 4 u h b 4 four-bytes (omega arith) (omega arith) under v r l q in
+    let some : 4 + 3 + 4 ≤ length v = length-again big 4 u h b 4 four-bytes (omega arith) (omega arith) under v r l q in
     length-four big v (λ z. absurd (omega (arith, z))) (length v - 4) (cursor 4)
     (number-again big 4 u h b 4 four-bytes (omega arith) (omega arith) under v r l q) (omega arith)
     ∙ fields-again big 4 u h b 4 four-bytes (omega arith) (omega arith) under v r l q
@@ -241,7 +280,7 @@ eight-again : (big : Bool) (u : List ℕ) (h : UnitHeader) → FieldsLaw big 8 u
     → length u < 2 ^ 64 → Again big u h 8 12
 eight-again big u h b c e hi v r l q =
     let under : length u < 12 + 256 ^ 8 = omega arith in
-    let some : 12 + 4 + 8 ≤ length v = length-again big 8 u h b 12 eight-bytes (omega arith) (omega arith) under v r l q in
+    let some : 12 + 3 + 8 ≤ length v = length-again big 8 u h b 12 eight-bytes (omega arith) (omega arith) under v r l q in
     let t : take 4 v ≡ take 4 u =
     ap (take 4) q ∙ take-at (take 4 u) (fixedBytes big 8 (length v - 12) ++ (drop 12 (take (h .first .0) u) ++ r)) 4 (length-take-le 4 u (omega arith)) in
     let e′ : fixedAt big 4 v 0 ≡ Value 0xffffffff c =
@@ -264,21 +303,20 @@ module _ (big : Bool) (w : ℕ) (u : List ℕ) (h : UnitHeader) (b : FieldsLaw b
       let wide : (P : ℕ → Type 0) → P w → P (h .encoding .«offset_size») = (λ P p. subst P (sym width-is) p) in
       record {
         known = record {
-          version-is = ap (λ (e : Encoding). e .version) (b .encoding-is);
+          version-is = b .version-is;
           offset-is = wide (λ (z : ℕ). (z ≡ 4) ⊎ (z ≡ 8)) is;
           address-is = b .address-is;
           order-is = ap (λ (e : Encoding). e .«big_endian») (b .encoding-is);
         };
         format = wide (SaysWidth (fixedValue big (take 4 u))) format;
-        headed = wide (λ (z : ℕ).
-            ((h .«unit_type» ≡ 1) × (h .first .0 ≡ lengthBytes z + 4 + z)) ⊎ ((h .«unit_type» ≡ 5) × (h .first .0 ≡ lengthBytes z + 4 + z + 8))) (b .headed);
+        headed = wide (λ (z : ℕ). Headed (h .encoding .version) (lengthBytes z + z) (h .«unit_type») (h .first .0)) (b .headed);
         after = wide (λ (z : ℕ). lengthBytes z + 7 ≤ h .first .0)
             (let g : lengthBytes w + 7 ≤ h .first .0 = ⊎-elim (λ y. omega (arith, y, fields-after big w u h b)) (λ y. omega (arith, y, fields-after big w u h b)) is in g);
         inside = b .inside;
         short = wide (λ (z : ℕ). length u < lengthBytes z + 256 ^ z) under;
         below = below;
         end-is = b .end-is;
-        version-there = wide (λ (z : ℕ). fixedAt big 2 u (lengthBytes z) ≡ Value 5 (cursor (lengthBytes z + 2))) (b .version-there);
+        version-there = wide (λ (z : ℕ). fixedAt big 2 u (lengthBytes z) ≡ Value (h .encoding .version) (cursor (lengthBytes z + 2))) (b .version-there);
         again = wide (λ (z : ℕ). Again big u h z (lengthBytes z)) again;
       }
 
@@ -307,7 +345,7 @@ module _ (big : Bool) (s : List ℕ) (P : HeaderRead → Type 0) (empty : length
       let u : List ℕ = take (lengthBytes w + n) s in
       let l : length u ≡ lengthBytes w + n = length-take-le (lengthBytes w + n) s (omega arith) in
       let start : take 4 u ≡ take 4 s = start-of w is n l in
-      fields-law big w u (⊎-elim (λ y. omega (arith, y)) (λ y. omega (arith, y)) is) (⊎-elim (λ y. omega (arith, y)) (λ y. omega (arith, y)) is) P one two
+      fields-law big w u (⊎-elim (λ y. omega (arith, y)) (λ y. omega (arith, y)) is) P one two
       (λ h b. unit h (subst (λ (z : ℕ). HeaderLaw big (take z s) h) (sym (b .end-is ∙ l))
       (lawful big w u h b is
       (subst (λ (t : List ℕ). SaysWidth (fixedValue big t) w) (sym start) format)
@@ -373,13 +411,13 @@ header-laws big s h q =
 
 -- ---- a section that is told the other byte order
 
--- two bytes are the version in one order alone
-one-order : (l : List ℕ) → length l ≡ 2 → (big : Bool) → fixedValue big l ≡ 5 → fixedValue (not big) l ≡ 5 → ⊥
+-- two bytes are a version in one order alone
+one-order : (l : List ℕ) → length l ≡ 2 → (big : Bool) → (0 < fixedValue big l) × (fixedValue big l < 256) → (0 < fixedValue (not big) l) × (fixedValue (not big) l < 256) → ⊥
 unfolding fixedValue ordered littleValue
 one-order [] n big p q = absurd (omega (arith, n))
 one-order (a ∷ []) n big p q = absurd (omega (arith, n))
-one-order (a ∷ b ∷ []) n true p q = omega (arith, p, q)
-one-order (a ∷ b ∷ []) n false p q = omega (arith, p, q)
+one-order (a ∷ b ∷ []) n true p q = omega (arith, p .0, p .1, q .0, q .1)
+one-order (a ∷ b ∷ []) n false p q = omega (arith, p .0, p .1, q .0, q .1)
 one-order (a ∷ b ∷ c ∷ l) n big p q = absurd (omega (arith, n))
 
 -- four numbers that make all ones in one order make no less in the other
@@ -434,18 +472,21 @@ module _ (big : Bool) (s : List ℕ) (h : UnitHeader) (law : HeaderLaw big (take
       sym (take-append-le 4 (take (h .end) s) (drop (h .end) s) (omega (arith, there, length-least))) ∙ ap (take 4) (take-append-drop (h .end) s)
 
   -- the version, behind a length field of k bytes
-  version-in : (k : ℕ) → lengthSize (h .encoding) ≡ k → (fixedValue big (take 2 (drop k s)) ≡ 5) × (k + 2 ≤ length s)
+  version-in : (k : ℕ) → lengthSize (h .encoding) ≡ k → ((0 < fixedValue big (take 2 (drop k s))) × (fixedValue big (take 2 (drop k s)) < 256)) × (k + 2 ≤ length s)
   version-in k at =
       let u : List ℕ = take (h .end) s in
-      let v : fixedAt big 2 u k ≡ Value 5 (cursor (k + 2)) = subst (λ (k : ℕ). fixedAt big 2 u k ≡ Value 5 (cursor (k + 2))) at (law .version-there) in
-      let there : 2 ≤ length u - k = fixed-inside big 2 u k 5 (cursor (k + 2)) v .1 in
-      let is : Value (fixedValue big (take 2 (drop k u))) (cursor (k + 2)) ≡ Value 5 (cursor (k + 2)) = sym (fixed-is big 2 u k (omega arith) there) ∙ v in
-      let five : fixedValue big (take 2 (drop k u)) ≡ 5 = cc in
+      let n : ℕ = h .encoding .version in
+      let v : fixedAt big 2 u k ≡ Value n (cursor (k + 2)) = subst (λ (k : ℕ). fixedAt big 2 u k ≡ Value n (cursor (k + 2))) at (law .version-there) in
+      let there : 2 ≤ length u - k = fixed-inside big 2 u k n (cursor (k + 2)) v .1 in
+      let is : Value (fixedValue big (take 2 (drop k u))) (cursor (k + 2)) ≡ Value n (cursor (k + 2)) = sym (fixed-is big 2 u k (omega arith) there) ∙ v in
+      let said : fixedValue big (take 2 (drop k u)) ≡ n = cc in
+      let small : (0 < n) × (n < 256) = ⊎-elim (λ y. (omega (arith, y), omega (arith, y))) (λ y. (omega (arith, y), omega (arith, y))) (law .known .version-is) in
       let same : take 2 (drop k s) ≡ take 2 (drop k u) =
       ap (λ (z : List ℕ). take 2 (drop k z)) (sym (take-append-drop (h .end) s))
       ∙ ap (take 2) (drop-append-le k u (drop (h .end) s) (omega arith))
       ∙ take-append-le 2 (drop k u) (drop (h .end) s) (omega (arith, length-drop k u)) in
-      (ap (fixedValue big) same ∙ five, (let z : k + 2 ≤ length s = omega (arith, inside-section) in z))
+      let is′ : fixedValue big (take 2 (drop k s)) ≡ n = ap (fixedValue big) same ∙ said in
+      ((omega (arith, is′, small .0), omega (arith, is′, small .1)), (let z : k + 2 ≤ length s = omega (arith, inside-section) in z))
 
   start-four : h .encoding .«offset_size» ≡ 4 → fixedValue big (take 4 s) < 0xfffffff0
   start-four w = ⊎-elim (λ y. subst (λ (l : List ℕ). fixedValue big l < 0xfffffff0) start-in (y .1)) (λ y. absurd (omega (arith, w, y .0))) (law .format)
@@ -472,7 +513,7 @@ not-both big s h g law law′ =
 
     same : (k : ℕ) → lengthSize (h .encoding) ≡ k → lengthSize (g .encoding) ≡ k → ⊥
     same k p q =
-        let v : (fixedValue big (take 2 (drop k s)) ≡ 5) × (k + 2 ≤ length s) = version-in big s h law k p in
+        let v : ((0 < fixedValue big (take 2 (drop k s))) × (fixedValue big (take 2 (drop k s)) < 256)) × (k + 2 ≤ length s) = version-in big s h law k p in
         one-order (take 2 (drop k s)) (length-take-le 2 (drop k s) (omega (arith, length-drop k s, v .1))) big (v .0) (version-in (not big) s g law′ k q .0)
 
 -- a unit that is told wrongly is refused, with 1 or 2

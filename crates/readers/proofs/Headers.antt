@@ -11,13 +11,13 @@ use mir.Facts.{yes-leb, no-leb, ltb-no, yes-eqb, no-eqb}
 use Rattle.readers.specs.Choice.{pick, _or_}
 use Rattle.readers.proofs.Choice.{pick-yes, pick-no, pick-either}
 use Rattle.readers.specs.Cursors.{fixedAt}
-use Rattle.readers.specs.Header.{present, right, lengthBytes, encodingOf, headerMade, headerFields, headerIn, headerOf}
+use Rattle.readers.specs.Header.{present, right, lengthBytes, encodingOf, headerMade, fields4, fields5, headerFields, headerIn, headerOf}
 use Rattle.readers.specs.declared.cursor.Cursor.{Cursor}
 use Rattle.readers.specs.declared.cursor.Number.{Number}
 use Rattle.readers.specs.declared.cursor.Number.the-variants.{Value, Unreadable}
 use Rattle.readers.specs.declared.header.HeaderRead.{HeaderRead}
 use Rattle.readers.specs.declared.header.HeaderRead.the-variants.{Empty, Refused}
-use Rattle.readers.proofs.Widths.{fixed-one, fixed-is, fixed-short}
+use Rattle.readers.proofs.Widths.{fixed-one, fixed-is, fixed-short, fixed-inside}
 
 -- ---- a field that is there or is not, and a value in the domain or not
 
@@ -49,51 +49,26 @@ neither v a b f g = both (eqb v a) (eqb v b) (no-eqb {a = v} {b = a} f) (no-eqb 
     both true y t u = t
     both false y t u = u
 
--- ---- the fields of a unit, the first at n
+-- ---- the fields of version 5, from a place n on
 
 module _ (big : Bool) (w : ℕ) (u : List ℕ) (n : ℕ) where
   -- what is still to be read from each field on
   unfoldable pub atFirst : ℕ → ℕ → ℕ → HeaderRead
   atFirst unitType addressSize abbreviations =
       pick (eqb unitType 1)
-      (headerMade (encodingOf big 5 w addressSize) u unitType abbreviations (n + 4 + w))
-      (present (fixedAt big 8 u (n + 4 + w)) (λ _. headerMade (encodingOf big 5 w addressSize) u unitType abbreviations (n + 4 + w + 8)))
+      (headerMade (encodingOf big 5 w addressSize) u unitType abbreviations (n + 2 + w))
+      (present (fixedAt big 8 u (n + 2 + w)) (λ _. headerMade (encodingOf big 5 w addressSize) u unitType abbreviations (n + 2 + w + 8)))
 
   unfoldable pub atAbbreviations : ℕ → ℕ → HeaderRead
-  atAbbreviations unitType addressSize = present (fixedAt big w u (n + 4)) (atFirst unitType addressSize)
+  atAbbreviations unitType addressSize = present (fixedAt big w u (n + 2)) (atFirst unitType addressSize)
 
   unfoldable pub atSize : ℕ → HeaderRead
   atSize unitType =
-      present (fixedAt big 1 u (n + 3)) (λ addressSize. right (eqb addressSize 4 or eqb addressSize 8) (atAbbreviations unitType addressSize))
+      present (fixedAt big 1 u (n + 1)) (λ addressSize. right (eqb addressSize 4 or eqb addressSize 8) (atAbbreviations unitType addressSize))
 
-  unfoldable pub atType : HeaderRead
-  atType = present (fixedAt big 1 u (n + 2)) (λ unitType. right (eqb unitType 1 or eqb unitType 5) (atSize unitType))
-
-  unfoldable atVersion : HeaderRead
-  atVersion = present (fixedAt big 2 u n) (λ version. right (eqb version 5) atType)
-
-module _ (big : Bool) (w : ℕ) (u : List ℕ) where
-  fields-at : headerFields big w u ≡ atVersion big w u (lengthBytes w)
-  unfolding headerFields atVersion atType atSize atAbbreviations atFirst
-  fields-at = refl
-
-module _ (big : Bool) (w : ℕ) (u : List ℕ) (n : ℕ) where
-  module _ (is : n ≡ lengthBytes w) where
-    split : headerFields big w u ≡ present (fixedAt big 2 u n) (λ version. right (eqb version 5) (atType big w u n))
-    unfolding atVersion
-    split = fields-at big w u ∙ ap (atVersion big w u) (sym is)
-
-    pub version-none : fixedAt big 2 u n ≡ Unreadable → headerFields big w u ≡ Refused 1
-    version-none e = split ∙ absent _ _ e
-
-    module _ (v : ℕ) (c : Cursor) (e : fixedAt big 2 u n ≡ Value v c) where
-      pub version-other : (v ≡ 5 → ⊥) → headerFields big w u ≡ Refused 2
-      unfolding right
-      version-other h = split ∙ present-at _ v c _ e ∙ pick-no _ _ _ (no-eqb {a = v} {b = 5} h)
-
-      pub version-five : v ≡ 5 → headerFields big w u ≡ atType big w u n
-      unfolding right
-      version-five h = split ∙ present-at _ v c _ e ∙ pick-yes _ _ _ (yes-eqb {a = v} {b = 5} h)
+  from-type : fields5 big w u n ≡ present (fixedAt big 1 u n) (λ unitType. right (eqb unitType 1 or eqb unitType 5) (atSize unitType))
+  unfolding fields5 atSize atAbbreviations atFirst
+  from-type = refl
 
   byte-none : (at : ℕ) (k : ℕ → HeaderRead) → length u ≤ at → present (fixedAt big 1 u at) k ≡ Refused 1
   byte-none at k h = absent _ k (fixed-short big 1 u at (omega arith))
@@ -101,52 +76,108 @@ module _ (big : Bool) (w : ℕ) (u : List ℕ) (n : ℕ) where
   byte-at : (at : ℕ) (k : ℕ → HeaderRead) → at < length u → present (fixedAt big 1 u at) k ≡ k (getD u at 0)
   byte-at at k h = present-at _ _ _ k (fixed-one big u at h)
 
-  pub type-none : length u ≤ n + 2 → atType big w u n ≡ Refused 1
-  unfolding atType
-  type-none h = byte-none (n + 2) _ h
+  pub type-none : length u ≤ n → fields5 big w u n ≡ Refused 1
+  type-none h = from-type ∙ byte-none n _ h
 
-  pub type-other : n + 2 < length u → (getD u (n + 2) 0 ≡ 1 → ⊥) → (getD u (n + 2) 0 ≡ 5 → ⊥) → atType big w u n ≡ Refused 2
-  unfolding atType right
-  type-other h f g = byte-at (n + 2) _ h ∙ pick-no _ _ _ (neither (getD u (n + 2) 0) 1 5 f g)
+  pub type-other : n < length u → (getD u n 0 ≡ 1 → ⊥) → (getD u n 0 ≡ 5 → ⊥) → fields5 big w u n ≡ Refused 2
+  unfolding right
+  type-other h f g = from-type ∙ byte-at n _ h ∙ pick-no _ _ _ (neither (getD u n 0) 1 5 f g)
 
-  pub type-known : n + 2 < length u → (getD u (n + 2) 0 ≡ 1) ⊎ (getD u (n + 2) 0 ≡ 5) → atType big w u n ≡ atSize big w u n (getD u (n + 2) 0)
-  unfolding atType right
-  type-known h f = byte-at (n + 2) _ h ∙ pick-yes _ _ _ (one-of (getD u (n + 2) 0) 1 5 f)
+  pub type-known : n < length u → (getD u n 0 ≡ 1) ⊎ (getD u n 0 ≡ 5) → fields5 big w u n ≡ atSize (getD u n 0)
+  unfolding right
+  type-known h f = from-type ∙ byte-at n _ h ∙ pick-yes _ _ _ (one-of (getD u n 0) 1 5 f)
 
   module _ (t : ℕ) where
-    pub size-none : length u ≤ n + 3 → atSize big w u n t ≡ Refused 1
+    pub size-none : length u ≤ n + 1 → atSize t ≡ Refused 1
     unfolding atSize
-    size-none h = byte-none (n + 3) _ h
+    size-none h = byte-none (n + 1) _ h
 
-    pub size-other : n + 3 < length u → (getD u (n + 3) 0 ≡ 4 → ⊥) → (getD u (n + 3) 0 ≡ 8 → ⊥) → atSize big w u n t ≡ Refused 2
+    pub size-other : n + 1 < length u → (getD u (n + 1) 0 ≡ 4 → ⊥) → (getD u (n + 1) 0 ≡ 8 → ⊥) → atSize t ≡ Refused 2
     unfolding atSize right
-    size-other h f g = byte-at (n + 3) _ h ∙ pick-no _ _ _ (neither (getD u (n + 3) 0) 4 8 f g)
+    size-other h f g = byte-at (n + 1) _ h ∙ pick-no _ _ _ (neither (getD u (n + 1) 0) 4 8 f g)
 
-    pub size-known : n + 3 < length u → (getD u (n + 3) 0 ≡ 4) ⊎ (getD u (n + 3) 0 ≡ 8) → atSize big w u n t ≡ atAbbreviations big w u n t (getD u (n + 3) 0)
+    pub size-known : n + 1 < length u → (getD u (n + 1) 0 ≡ 4) ⊎ (getD u (n + 1) 0 ≡ 8) → atSize t ≡ atAbbreviations t (getD u (n + 1) 0)
     unfolding atSize right
-    size-known h f = byte-at (n + 3) _ h ∙ pick-yes _ _ _ (one-of (getD u (n + 3) 0) 4 8 f)
+    size-known h f = byte-at (n + 1) _ h ∙ pick-yes _ _ _ (one-of (getD u (n + 1) 0) 4 8 f)
 
     module _ (a : ℕ) where
-      pub abbreviations-none : fixedAt big w u (n + 4) ≡ Unreadable → atAbbreviations big w u n t a ≡ Refused 1
+      pub abbreviations-none : fixedAt big w u (n + 2) ≡ Unreadable → atAbbreviations t a ≡ Refused 1
       unfolding atAbbreviations
       abbreviations-none e = absent _ _ e
 
-      module _ (v : ℕ) (c : Cursor) (e : fixedAt big w u (n + 4) ≡ Value v c) where
-        pub whole : t ≡ 1 → atAbbreviations big w u n t a ≡ headerMade (encodingOf big 5 w a) u t v (n + 4 + w)
+      module _ (v : ℕ) (c : Cursor) (e : fixedAt big w u (n + 2) ≡ Value v c) where
+        pub whole : t ≡ 1 → atAbbreviations t a ≡ headerMade (encodingOf big 5 w a) u t v (n + 2 + w)
         unfolding atAbbreviations atFirst
         whole h = present-at _ v c _ e ∙ pick-yes _ _ _ (yes-eqb {a = t} {b = 1} h)
 
-        pub id-none : (t ≡ 1 → ⊥) → length u < n + 4 + w + 8 → atAbbreviations big w u n t a ≡ Refused 1
+        pub id-none : (t ≡ 1 → ⊥) → length u < n + 2 + w + 8 → atAbbreviations t a ≡ Refused 1
         unfolding atAbbreviations atFirst
         id-none h k =
-            present-at _ v c _ e ∙ pick-no _ _ _ (no-eqb {a = t} {b = 1} h) ∙ absent _ _ (fixed-short big 8 u (n + 4 + w) (omega arith))
+            present-at _ v c _ e ∙ pick-no _ _ _ (no-eqb {a = t} {b = 1} h) ∙ absent _ _ (fixed-short big 8 u (n + 2 + w) (omega arith))
 
-        pub id-there : (t ≡ 1 → ⊥) → n + 4 + w + 8 ≤ length u → atAbbreviations big w u n t a ≡ headerMade (encodingOf big 5 w a) u t v (n + 4 + w + 8)
+        pub id-there : (t ≡ 1 → ⊥) → n + 2 + w + 8 ≤ length u → atAbbreviations t a ≡ headerMade (encodingOf big 5 w a) u t v (n + 2 + w + 8)
         unfolding atAbbreviations atFirst
         id-there h k =
             present-at _ v c _ e
             ∙ pick-no _ _ _ (no-eqb {a = t} {b = 1} h)
-            ∙ present-at _ _ _ _ (fixed-is big 8 u (n + 4 + w) (omega arith) (omega arith))
+            ∙ present-at _ _ _ _ (fixed-is big 8 u (n + 2 + w) (omega arith) (omega arith))
+
+  -- ---- those of version 4
+
+  pub offset-none : fixedAt big w u n ≡ Unreadable → fields4 big w u n ≡ Refused 1
+  unfolding fields4
+  offset-none e = absent _ _ e
+
+  module _ (v : ℕ) (c : Cursor) (e : fixedAt big w u n ≡ Value v c) where
+    from-size : fields4 big w u n
+        ≡ present (fixedAt big 1 u (n + w)) (λ size. right (eqb size 4 or eqb size 8) (headerMade (encodingOf big 4 w size) u 1 v (n + w + 1)))
+    unfolding fields4
+    from-size = present-at _ v c _ e
+
+    pub size4-none : length u ≤ n + w → fields4 big w u n ≡ Refused 1
+    size4-none h = from-size ∙ byte-none (n + w) _ h
+
+    module _ (there : n + w < length u) where
+      pub size4-other : (getD u (n + w) 0 ≡ 4 → ⊥) → (getD u (n + w) 0 ≡ 8 → ⊥) → fields4 big w u n ≡ Refused 2
+      unfolding right
+      size4-other f g = from-size ∙ byte-at (n + w) _ there ∙ pick-no _ _ _ (neither (getD u (n + w) 0) 4 8 f g)
+
+      pub size4-known : (getD u (n + w) 0 ≡ 4) ⊎ (getD u (n + w) 0 ≡ 8)
+          → fields4 big w u n ≡ headerMade (encodingOf big 4 w (getD u (n + w) 0)) u 1 v (n + w + 1)
+      unfolding right
+      size4-known f = from-size ∙ byte-at (n + w) _ there ∙ pick-yes _ _ _ (one-of (getD u (n + w) 0) 4 8 f)
+
+-- ---- the version, which stands at n
+
+module _ (big : Bool) (w : ℕ) (u : List ℕ) (n : ℕ) (is : n ≡ lengthBytes w) where
+  from-version : headerFields big w u
+      ≡ present (fixedAt big 2 u n) (λ version. pick (eqb version 5) (fields5 big w u (n + 2)) (pick (eqb version 4) (fields4 big w u (n + 2)) (Refused 2)))
+  unfolding headerFields
+  from-version =
+      ap (λ (m : ℕ). present (fixedAt big 2 u m) (λ version. pick (eqb version 5) (fields5 big w u (m + 2)) (pick (eqb version 4) (fields4 big w u (m + 2)) (Refused 2)))) (sym is)
+
+  pub version-none : fixedAt big 2 u n ≡ Unreadable → headerFields big w u ≡ Refused 1
+  version-none e = from-version ∙ absent _ _ e
+
+  module _ (v : ℕ) (c : Cursor) (e : fixedAt big 2 u n ≡ Value v c) where
+    by-version : headerFields big w u ≡ pick (eqb v 5) (fields5 big w u (c .at)) (pick (eqb v 4) (fields4 big w u (c .at)) (Refused 2))
+    by-version =
+        from-version ∙ present-at _ v c _ e
+        ∙ ap (λ (m : ℕ). pick (eqb v 5) (fields5 big w u m) (pick (eqb v 4) (fields4 big w u m) (Refused 2))) (sym (fixed-inside big 2 u n v c e .0))
+
+    -- where it ends
+    pub version-inside : c .at ≤ length u
+    version-inside = omega (arith, fixed-inside big 2 u n v c e .0, fixed-inside big 2 u n v c e .1)
+
+    pub version-five : v ≡ 5 → headerFields big w u ≡ fields5 big w u (c .at)
+    version-five h = by-version ∙ pick-yes _ _ _ (yes-eqb {a = v} {b = 5} h)
+
+    module _ (other : v ≡ 5 → ⊥) where
+      pub version-four : v ≡ 4 → headerFields big w u ≡ fields4 big w u (c .at)
+      version-four h = by-version ∙ pick-no _ _ _ (no-eqb {a = v} {b = 5} other) ∙ pick-yes _ _ _ (yes-eqb {a = v} {b = 4} h)
+
+      pub version-other : (v ≡ 4 → ⊥) → headerFields big w u ≡ Refused 2
+      version-other h = by-version ∙ pick-no _ _ _ (no-eqb {a = v} {b = 5} other) ∙ pick-no _ _ _ (no-eqb {a = v} {b = 4} h)
 
 -- ---- the length of a unit
 

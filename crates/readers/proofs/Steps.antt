@@ -10,11 +10,12 @@ use native.Mathlib.Numerals.{add-one}
 use lib.ListN.{length, getD, drop, drop-of-length-le}
 use lib.Seq.{drop-cons}
 use lib.Dec.{T, leb, ltb, eqb}
+use borrow.Author.Tests.{eq-eqb, ne-eqb}
 use mir.Facts.{yes-leb, no-leb, yes-ltb, no-ltb, ltb-yes, ltb-no, no-eqb, eqb-yes, eqb-no}
 use Rattle.readers.specs.Choice.{pick, _and_, check, bind}
 use Rattle.readers.proofs.Choice.{pick-yes, pick-no, either, check-yes, bind-at}
 use Rattle.readers.specs.Layout.{fixed, infixed, number, verbatim, Read, RunOf, Layout, field, done, width, copy, asNumber, before, numberIn, tokenIn, readIn, asBytes, pieceBytes, bytesOf}
-use Rattle.readers.specs.Operations.{rowLayout, rowOf, operation, operationRow, Codes, rowAmong, locationEntries, rangeEntries, listRow}
+use Rattle.readers.specs.Operations.{rowLayout, rowOf, operation, operationRow, Codes, rowAmong, locationEntries, locationEntries4, rangeEntries, listRow}
 use Rattle.readers.specs.Cursors.{cursor}
 use Rattle.readers.specs.Fields.{size, asRow, rowAt}
 use Rattle.readers.specs.Steps.{rowOperation, operationOfReads, asOperation, operationAt, listEntry, rowEntry, entryOfReads, asListStep, listEntryAt}
@@ -56,20 +57,31 @@ past-codes (x ∷ xs) n k t h =
     let q : x .upto < n = ltb-yes {a = x .upto} {b = n} (p .0) in
     pick-no _ _ _ (refuted (leb (x .from) k) (leb k (x .upto)) (no-leb {a = k} {b = x .upto} (omega arith))) ∙ past-codes xs n k (p .1) h
 
-module _ (location : Bool) (k : ℕ) where
-  pub location-row : location ≡ true → listRow location k ≡ rowAmong locationEntries k
-  unfolding listRow pick
-  location-row l = ap (λ b. rowAmong (pick b locationEntries rangeEntries) k) l
+module _ (version : ℕ) (location : Bool) (k : ℕ) where
+  abbrev among : Bool → Bool → ℕ
+  among old list = rowAmong (pick list (pick old locationEntries4 locationEntries) rangeEntries) k
 
-  pub range-row : location ≡ false → listRow location k ≡ rowAmong rangeEntries k
+  pub location4-row : location ≡ true → version ≡ 4 → listRow version location k ≡ rowAmong locationEntries4 k
   unfolding listRow pick
-  range-row l = ap (λ b. rowAmong (pick b locationEntries rangeEntries) k) l
+  location4-row l v = ap (among (eqb version 4)) l ∙ ap (λ b. among b true) (eq-eqb version 4 v)
 
-  pub location-past : location ≡ true → 9 ≤ k → listRow location k ≡ 0
+  pub location-row : location ≡ true → (version ≡ 4 → ⊥) → listRow version location k ≡ rowAmong locationEntries k
+  unfolding listRow pick
+  location-row l v = ap (among (eqb version 4)) l ∙ ap (λ b. among b true) (ne-eqb version 4 v)
+
+  pub range-row : location ≡ false → listRow version location k ≡ rowAmong rangeEntries k
+  unfolding listRow pick
+  range-row l = ap (among (eqb version 4)) l
+
+  pub location4-past : location ≡ true → version ≡ 4 → 5 ≤ k → listRow version location k ≡ 0
+  unfolding locationEntries4 allBelow _and_
+  location4-past l v h = location4-row l v ∙ past-codes locationEntries4 5 k tt h
+
+  pub location-past : location ≡ true → (version ≡ 4 → ⊥) → 9 ≤ k → listRow version location k ≡ 0
   unfolding locationEntries allBelow _and_
-  location-past l h = location-row l ∙ past-codes locationEntries 9 k tt h
+  location-past l v h = location-row l v ∙ past-codes locationEntries 9 k tt h
 
-  pub range-past : location ≡ false → 8 ≤ k → listRow location k ≡ 0
+  pub range-past : location ≡ false → 8 ≤ k → listRow version location k ≡ 0
   unfolding rangeEntries allBelow _and_
   range-past l h = range-row l ∙ past-codes rangeEntries 8 k tt h
 
@@ -147,7 +159,7 @@ module _ (e : Encoding) (location : Bool) (s : List ℕ) (at : ℕ) where
   entry-end h = pick-no _ _ _ (no-ltb {a = at} {b = length s} h)
 
   abbrev kinds : ℕ → Layout
-  kinds k = pick (eqb k 0) done (rowLayout e (rowOf (listRow location k)))
+  kinds k = pick (eqb k 0) done (rowLayout e (rowOf (listRow (e .version) location k)))
 
   of-kind : at < length s
       → listEntryAt e location s at
@@ -167,7 +179,7 @@ module _ (e : Encoding) (location : Bool) (s : List ℕ) (at : ℕ) where
   of-entry k none h = refl
   of-entry k (some r) h = pick-no _ _ _ (no-eqb {a = k} {b = 0} h)
 
-  pub entry-step : at < length s → (kind ≡ 0 → ⊥) → listEntryAt e location s at ≡ rowEntry kind (rowAt e s (at + 1) (listRow location kind))
+  pub entry-step : at < length s → (kind ≡ 0 → ⊥) → listEntryAt e location s at ≡ rowEntry kind (rowAt e s (at + 1) (listRow (e .version) location kind))
   unfolding rowAt
   entry-step h f =
       of-kind h
@@ -175,7 +187,7 @@ module _ (e : Encoding) (location : Bool) (s : List ℕ) (at : ℕ) where
       ∙ ap (λ g. rowEntry kind (asRow (e .«big_endian») (at + 1) (readIn (e .«big_endian») asBytes g (drop (at + 1) s)))) (pick-no _ _ _ (no-eqb {a = kind} {b = 0} f))
 
   -- the same, of the row l that was read
-  module _ (l : ℕ) (r : OperandsRead) (h : at < length s) (z : kind ≡ 0 → ⊥) (p : l ≡ listRow location kind) (q : r ≡ rowAt e s (at + 1) l) where
+  module _ (l : ℕ) (r : OperandsRead) (h : at < length s) (z : kind ≡ 0 → ⊥) (p : l ≡ listRow (e .version) location kind) (q : r ≡ rowAt e s (at + 1) l) where
     of-row-read : listEntryAt e location s at ≡ rowEntry kind r
     of-row-read = entry-step h z ∙ ap (λ m. rowEntry kind (rowAt e s (at + 1) m)) (sym p) ∙ ap (rowEntry kind) (sym q)
 
@@ -262,14 +274,14 @@ pub record Entered (e : Encoding) (location : Bool) (s : List ℕ) (at : ℕ) (o
   pub kind : o .kind ≡ getD s at 0
   pub other : getD s at 0 ≡ 0 → ⊥
   pub fields : Operands
-  pub read : rowAt e s (at + 1) (listRow location (o .kind)) ≡ Row′ fields
+  pub read : rowAt e s (at + 1) (listRow (e .version) location (o .kind)) ≡ Row′ fields
   pub first : o .first ≡ fields .first
   pub second : o .second ≡ fields .second
   pub third : o .third ≡ fields .third
   pub next : o .next ≡ cursor (fields .third .end)
 
 module _ (e : Encoding) (location : Bool) (s : List ℕ) (at : ℕ) (o : ListEntry) where
-  entered-in : at < length s → (getD s at 0 ≡ 0 → ⊥) → (r : OperandsRead) → rowAt e s (at + 1) (listRow location (getD s at 0)) ≡ r
+  entered-in : at < length s → (getD s at 0 ≡ 0 → ⊥) → (r : OperandsRead) → rowAt e s (at + 1) (listRow (e .version) location (getD s at 0)) ≡ r
       → rowEntry (getD s at 0) r ≡ Entry o → Entered e location s at o
   unfolding rowEntry
   entered-in h f (Row′ r) q x =
@@ -284,7 +296,7 @@ module _ (e : Encoding) (location : Bool) (s : List ℕ) (at : ℕ) (o : ListEnt
       ⊎-elim
       (λ u. let z : _≡_ {A = ℕ} 0 1 = cc (entry-zero e location s at h (eqb-yes {a = getD s at 0} {b = 0} u)) in absurd (omega arith))
       (λ u. let f : getD s at 0 ≡ 0 → ⊥ = eqb-no {a = getD s at 0} {b = 0} u in
-      entered-in h f (rowAt e s (at + 1) (listRow location (getD s at 0))) refl (sym (entry-step e location s at h f) ∙ x))
+      entered-in h f (rowAt e s (at + 1) (listRow (e .version) location (getD s at 0))) refl (sym (entry-step e location s at h f) ∙ x))
       (either (eqb (getD s at 0) 0)))
       (λ t. let z : _≡_ {A = ℕ} 0 1 = cc (entry-end e location s at (ltb-no {a = at} {b = length s} t)) in absurd (omega arith))
       (either (ltb at (length s)))
@@ -294,7 +306,7 @@ module _ (e : Encoding) (location : Bool) (s : List ℕ) (at : ℕ) (o : ListEnt
   entry-inside x =
       let q : Entered e location s at o = entry-entered x in
       let i : Inside s (at + 1) (q .fields .first) × Inside s (q .fields .first .end) (q .fields .second) × Inside s (q .fields .second .end) (q .fields .third) =
-      row-inside e s (at + 1) (listRow location (o .kind)) (q .fields) (q .read) in
+      row-inside e s (at + 1) (listRow (e .version) location (o .kind)) (q .fields) (q .read) in
       let n : o .next .at ≡ q .fields .third .end = ap (λ (d : Cursor). d .at) (q .next) in
       let b : (at < q .fields .third .end) × (q .fields .third .end ≤ length s) × (q .fields .second .end ≤ q .fields .third .end) = between e s at (q .fields) (q .here) i in (
         omega (arith, b .0),

@@ -570,7 +570,7 @@ pub field-from : (e : Encoding) (s : List ℕ) (t : ℕ) (r : FieldRead) (d : Cu
 field-from e s t r d n p q = p ∙ ap (λ (d : Cursor). fieldAt e s (d .at) t) q
 
 module _ (e : Encoding) (s : List ℕ) (at l : ℕ) where
-  pub row-over : 28 ≤ l → NoRow ≡ rowAt e s at l
+  pub row-over : 31 ≤ l → NoRow ≡ rowAt e s at l
   unfolding rowOf rows unreadableRow
   row-over h =
       let o : rowOf l .first ≡ 21 = ap (λ (r : Tokens). r .first) (List·getD-eq-default rows unreadableRow {n = l} h) in

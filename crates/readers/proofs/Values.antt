@@ -9,6 +9,7 @@ use native.Mathlib.Omega.{arith}
 use lib.ListN.{length, getD, take, drop, length-append}
 use lib.Seq.{length-take-le, drop-drop}
 use lib.Dec.{T, ltb, leb, eqb}
+use borrow.Author.Tests.{eq-eqb, ne-eqb}
 use mir.Facts.{yes-ltb, no-ltb, ltb-yes, ltb-no, yes-eqb, no-eqb, eqb-yes, eqb-no, leb-yes, leb-no}
 use Rattle.readers.specs.Choice.{pick, _and_, _or_, bind}
 use Rattle.readers.proofs.Choice.{pick-yes, pick-no, pick-either, either, bind-bind, bind-ext, All, all-some, all-bind, all-triv, all-map}
@@ -16,7 +17,7 @@ use Rattle.readers.specs.Numbers.{Groups, uleb}
 use Rattle.readers.specs.Layout.{Read, ReadOf, RunOf, ExpressionReader, Token, forms, Layout, done, fail, field, asBytes, asLeb, copy, asNumber, asForms, before, numberIn, formsIn, tokenIn, readIn, pieceBytes, bytesOf, writeAll, width}
 use Rattle.readers.proofs.LayoutLaws.{LebLaw, uleb-law, FormsLaw, forms-law, ReadLaw, read-law, as-bytes-law}
 use Rattle.readers.specs.Operations.{Codes}
-use Rattle.readers.specs.Forms.{formToken, formTokens, tokenAmong, useOf, valueToken, attributeLayout}
+use Rattle.readers.specs.Forms.{formToken, formTokens, tokenAmong, useOf, inVersion, valueToken, attributeLayout}
 use Rattle.readers.specs.Cursors.{cursor, asLebNumber, lebAt, fixedAt, skipAt, asFormNumber, formsAt}
 use Rattle.readers.specs.Fields.{size, fieldOf, asField, tokenAt, fieldAt}
 use Rattle.readers.specs.inner.Fields.{numberField, numberAt}
@@ -62,12 +63,12 @@ copied-size big v k n s h = ap length (append-nil (take n s)) ∙ length-take-le
 
 -- ---- the tokens of forms
 
--- every form is below 45 or is 0x1f02
+-- every form is below 45 or is 0x1f01 or 0x1f02
 unfoldable known : List Codes → Bool
 known [] = true
-known (x ∷ xs) = pick (ltb (x .from) 45) (known xs) (pick (eqb (x .from) 0x1f02) (known xs) false)
+known (x ∷ xs) = pick (ltb (x .from) 45) (known xs) (pick (eqb (x .from) 0x1f02) (known xs) (pick (eqb (x .from) 0x1f01) (known xs) false))
 
-module _ (f : ℕ) (high : 45 ≤ f) (other : f ≡ 0x1f02 → ⊥) where
+module _ (f : ℕ) (high : 45 ≤ f) (other : f ≡ 0x1f02 → ⊥) (another : f ≡ 0x1f01 → ⊥) where
   not-among : (xs : List Codes) → T (known xs) → tokenAmong xs f ≡ 21
   unfolding tokenAmong known
   not-among [] h = refl
@@ -78,7 +79,11 @@ module _ (f : ℕ) (high : 45 ≤ f) (other : f ≡ 0x1f02 → ⊥) where
       (λ u. ⊎-elim
       (λ v. pick-no _ _ _ (no-eqb {a = x .from} {b = f} (λ q. other (sym q ∙ eqb-yes {a = x .from} {b = 0x1f02} v)))
       ∙ not-among xs (subst T (pick-no _ _ _ u ∙ pick-yes _ _ _ v) h))
-      (λ v. absurd (subst T (pick-no _ _ _ u ∙ pick-no _ _ _ v) h))
+      (λ v. ⊎-elim
+      (λ w. pick-no _ _ _ (no-eqb {a = x .from} {b = f} (λ q. another (sym q ∙ eqb-yes {a = x .from} {b = 0x1f01} w)))
+      ∙ not-among xs (subst T (pick-no _ _ _ u ∙ pick-no _ _ _ v ∙ pick-yes _ _ _ w) h))
+      (λ w. absurd (subst T (pick-no _ _ _ u ∙ pick-no _ _ _ v ∙ pick-no _ _ _ w) h))
+      (either (eqb (x .from) 0x1f01)))
       (either (eqb (x .from) 0x1f02)))
       (either (ltb (x .from) 45))
 
@@ -92,6 +97,10 @@ token-low f h = entry formToken 45 f h
 pub token-gnu : (f : ℕ) → f ≡ 0x1f02 → 11 ≡ formToken f
 unfolding formToken formTokens tokenAmong pick
 token-gnu f h = sym (ap formToken h)
+
+pub token-address : (f : ℕ) → f ≡ 0x1f01 → 11 ≡ formToken f
+unfolding formToken formTokens tokenAmong pick
+token-address f h = sym (ap formToken h)
 
 -- ---- the value in a form
 
@@ -109,6 +118,25 @@ neither false b true true h k = absurd (k tt tt)
 neither false b true false h k = tt
 neither false b false d h k = tt
 
+pub not-true : (b : Bool) → not b ≡ true → b ≡ false
+not-true true h = sym h
+not-true false h = refl
+
+pub not-false : (b : Bool) → not b ≡ false → b ≡ true
+not-false true h = refl
+not-false false h = sym h
+
+-- what bars a value: the version, or one of the two others
+barred : (v b : Bool) → (T (not v)) ⊎ T b → T (not v or b)
+unfolding _or_
+barred true b h = ⊎-elim (λ t. absurd t) (λ t. t) h
+barred false b h = tt
+
+unbarred : (v b : Bool) → T v → T (not b) → T (not (not v or b))
+unfolding _or_
+unbarred true b t h = h
+unbarred false b t h = absurd t
+
 one-of : (a b c d : Bool) → (T a × T b) ⊎ (T c × T d) → T ((a and b) or (c and d))
 unfolding _and_ _or_
 one-of true true c d h = tt
@@ -120,9 +148,19 @@ one-of false b true false h = ⊎-elim (λ u. u .0) (λ u. u .1) h
 one-of false b false d h = ⊎-elim (λ u. u .0) (λ u. u .0) h
 
 module _ (e : Encoding) (s : List ℕ) (at : ℕ) (indirect : Bool) (name form : ℕ) where
-  refused : (T (eqb name 0x01) × T (eqb form 0x18)) ⊎ (T indirect × T (eqb form 0x21)) → NoField ≡ tokenAt e s at (valueToken e indirect name form)
+  abbrev other : Bool
+  other = (eqb name 0x01 and eqb form 0x18) or (indirect and eqb form 0x21)
+
+  barred-value : (T (not (inVersion (e .version) form))) ⊎ T other → NoField ≡ tokenAt e s at (valueToken e indirect name form)
   unfolding valueToken
-  refused h = sym (ap (tokenAt e s at) (pick-yes _ _ _ (one-of (eqb name 0x01) (eqb form 0x18) indirect (eqb form 0x21) h)) ∙ token-unknown e s at)
+  barred-value h = sym (ap (tokenAt e s at) (pick-yes _ _ _ (barred (inVersion (e .version) form) other h)) ∙ token-unknown e s at)
+
+  refused : (T (eqb name 0x01) × T (eqb form 0x18)) ⊎ (T indirect × T (eqb form 0x21)) → NoField ≡ tokenAt e s at (valueToken e indirect name form)
+  refused h = barred-value (inr (one-of (eqb name 0x01) (eqb form 0x18) indirect (eqb form 0x21) h))
+
+  -- a form of the other version
+  pub value-foreign : inVersion (e .version) form ≡ false → NoField ≡ tokenAt e s at (valueToken e indirect name form)
+  value-foreign h = barred-value (inl (subst (λ (b : Bool). T (not b)) (sym h) tt))
 
   -- a sibling in exprloc
   pub value-sibling : name ≡ 0x01 → form ≡ 0x18 → NoField ≡ tokenAt e s at (valueToken e indirect name form)
@@ -133,15 +171,42 @@ module _ (e : Encoding) (s : List ℕ) (at : ℕ) (indirect : Bool) (name form :
   value-implicit h k = refused (inr (subst T (sym h) tt, yes-eqb {a = form} {b = 0x21} k))
 
   -- any other, whatever it is used as
-  pub value-other : (name ≡ 0x01 → form ≡ 0x18 → ⊥) → (indirect ≡ true → form ≡ 0x21 → ⊥)
+  pub value-other : inVersion (e .version) form ≡ true → (name ≡ 0x01 → form ≡ 0x18 → ⊥) → (indirect ≡ true → form ≡ 0x21 → ⊥)
       → tokenAt e s at (valueToken e indirect name form) ≡ fieldAt e s at (formToken form)
   unfolding valueToken
-  value-other h k =
+  value-other i h k =
       ap (tokenAt e s at)
-      (pick-no _ _ _ (neither (eqb name 0x01) (eqb form 0x18) indirect (eqb form 0x21)
+      (pick-no _ _ _ (unbarred (inVersion (e .version) form) other (subst T (sym i) tt)
+      (neither (eqb name 0x01) (eqb form 0x18) indirect (eqb form 0x21)
       (λ u v. h (eqb-yes {a = name} {b = 0x01} u) (eqb-yes {a = form} {b = 0x18} v))
-      (λ u v. k (is-true indirect u) (eqb-yes {a = form} {b = 0x21} v))))
+      (λ u v. k (is-true indirect u) (eqb-yes {a = form} {b = 0x21} v)))))
       ∙ token-use e s at (useOf name form) (formToken form)
+
+-- ---- the forms of a version
+
+module _ (version form : ℕ) where
+  pub in-four : version ≡ 4 → (form ≡ 0x23 → ⊥) → inVersion version form ≡ not (eqb form 0x22)
+  unfolding inVersion pick _or_
+  in-four v f = ap (λ (b : Bool). pick b (not (eqb form 0x23 or eqb form 0x22)) (not (eqb form 0x1f01))) (eq-eqb version 4 v)
+      ∙ ap (λ (b : Bool). not (b or eqb form 0x22)) (ne-eqb form 0x23 f)
+
+  pub out-of-four : version ≡ 4 → form ≡ 0x23 → inVersion version form ≡ false
+  unfolding inVersion pick _or_
+  out-of-four v f = ap (λ (b : Bool). pick b (not (eqb form 0x23 or eqb form 0x22)) (not (eqb form 0x1f01))) (eq-eqb version 4 v)
+      ∙ ap (λ (b : Bool). not (b or eqb form 0x22)) (eq-eqb form 0x23 f)
+
+  pub in-other : (version ≡ 4 → ⊥) → inVersion version form ≡ not (eqb form 0x1f01)
+  unfolding inVersion pick
+  in-other v = ap (λ (b : Bool). pick b (not (eqb form 0x23 or eqb form 0x22)) (not (eqb form 0x1f01))) (ne-eqb version 4 v)
+
+-- those that are not of every version are ULEB128 numbers
+pub in-every : (version form : ℕ) → (formToken form ≡ 11 → ⊥) → inVersion version form ≡ true
+unfolding formToken formTokens tokenAmong pick
+in-every version form h =
+    ⊎-elim
+    (λ t. in-four version form (eqb-yes {a = version} {b = 4} t) (λ q. h (ap formToken q)) ∙ ap not (ne-eqb form 0x22 (λ q. h (ap formToken q))))
+    (λ t. in-other version form (eqb-no {a = version} {b = 4} t) ∙ ap not (ne-eqb form 0x1f01 (λ q. h (ap formToken q))))
+    (either (eqb version 4))
 
 -- ---- one attribute
 
@@ -220,7 +285,7 @@ module _ (e : Encoding) (s : List ℕ) (at name form : ℕ) where
 -- ---- forms of a fixed width, and ULEB128
 
 -- no name makes their values unreadable, and DW_FORM_indirect is none of them
-module _ (e : Encoding) (s : List ℕ) (at name form t : ℕ) (p : t ≡ formToken form) (h : t ≤ 11) where
+module _ (e : Encoding) (s : List ℕ) (at name form t : ℕ) (p : t ≡ formToken form) (h : t ≤ 11) (i : inVersion (e .version) form ≡ true) where
   plain-form : form ≡ 0x16 → ⊥
   unfolding formToken formTokens tokenAmong pick
   plain-form q = let z : t ≡ 21 = p ∙ ap formToken q in omega arith
@@ -228,7 +293,7 @@ module _ (e : Encoding) (s : List ℕ) (at name form t : ℕ) (p : t ≡ formTok
   plain-value : tokenAt e s at (valueToken e false name form) ≡ fieldAt e s at t
   unfolding formToken formTokens tokenAmong pick
   plain-value =
-      value-other e s at false name form
+      value-other e s at false name form i
       (λ _ k. let z : t ≡ 19 = p ∙ ap formToken k in omega arith)
       (λ b _. absurd (subst T (sym b) tt))
       ∙ ap (fieldAt e s at) (sym p)
@@ -267,6 +332,15 @@ module _ (e : Encoding) (s : List ℕ) (at name form t : ℕ) (p : t ≡ formTok
       sym (skip-over s at t over) ∙ ap attributeEnd (plain-none (omega arith) (fixedAt (order e) t s at) (sym (number-fixed e s at t w)) (fixed-short (order e) t s at over)))
       (either (leb t (length s - at))))
       (either (eqb t 0))
+
+-- a number of some bytes is of every version; a form of the other version is unreadable
+pub fixed-in : (version form t : ℕ) → t ≡ formToken form → t ≤ 8 → inVersion version form ≡ true
+fixed-in version form t p h = in-every version form (λ q. absurd (omega (arith, p, q)))
+
+pub foreign-none : (e : Encoding) (s : List ℕ) (at name form t : ℕ) → t ≡ formToken form → t ≡ 11 → inVersion (e .version) form ≡ false → NoAttribute ≡ attributeAt e s at name form
+unfolding formToken formTokens tokenAmong pick
+foreign-none e s at name form t p h i =
+    direct-none e s at name form _ (λ q. let z : t ≡ 21 = p ∙ ap formToken q in absurd (omega arith)) (value-foreign e s at false name form i) refl
 
 -- by its reader
 module _ (r : AttributeRead) where

@@ -168,6 +168,9 @@ abbrev pub «DW_FORM_addrx3» : ℕ
 abbrev pub «DW_FORM_addrx4» : ℕ
 «DW_FORM_addrx4» = 0x2c
 
+abbrev pub «DW_FORM_GNU_addr_index» : ℕ
+«DW_FORM_GNU_addr_index» = 0x1f01
+
 abbrev pub «DW_FORM_GNU_str_index» : ℕ
 «DW_FORM_GNU_str_index» = 0x1f02
 
@@ -456,6 +459,20 @@ abbrev pub «DW_LLE_start_end» : ℕ
 
 abbrev pub «DW_LLE_start_length» : ℕ
 «DW_LLE_start_length» = 0x08
+
+-- ---- kinds of location list entries in version 4 (DebugFission, "Location Lists"); 0 ends the list
+
+abbrev pub «DW_LLE_GNU_base_address_selection_entry» : ℕ
+«DW_LLE_GNU_base_address_selection_entry» = 0x01
+
+abbrev pub «DW_LLE_GNU_start_end_entry» : ℕ
+«DW_LLE_GNU_start_end_entry» = 0x02
+
+abbrev pub «DW_LLE_GNU_start_length_entry» : ℕ
+«DW_LLE_GNU_start_length_entry» = 0x03
+
+abbrev pub «DW_LLE_GNU_offset_pair_entry» : ℕ
+«DW_LLE_GNU_offset_pair_entry» = 0x04
 
 -- ---- kinds of range list entries (7.25, table 7.30)
 

@@ -1,5 +1,5 @@
--- The forms of attribute values (DWARF 5, 7.5.6, table 7.6) and DW_FORM_GNU_str_index.
-use mathlib.Core.Bool.{Bool, true, false}
+-- The forms of attribute values (DWARF 5, 7.5.6, table 7.6), DW_FORM_GNU_addr_index and DW_FORM_GNU_str_index.
+use mathlib.Core.Bool.{Bool, true, false, not}
 use mathlib.Core.List.{List, [], _∷_}
 use Prim.Native.Nat.{ℕ}
 use lib.Dec.{eqb, leb}
@@ -15,7 +15,7 @@ use Rattle.readers.specs.Codes.{«DW_FORM_strp_sup», «DW_FORM_data16»
 use Rattle.readers.specs.Codes.{«DW_FORM_implicit_const», «DW_FORM_loclistx», «DW_FORM_rnglistx»}
 use Rattle.readers.specs.Codes.{«DW_FORM_ref_sup8», «DW_FORM_strx1», «DW_FORM_strx2», «DW_FORM_strx3»}
 use Rattle.readers.specs.Codes.{«DW_FORM_strx4», «DW_FORM_addrx1», «DW_FORM_addrx2», «DW_FORM_addrx3»}
-use Rattle.readers.specs.Codes.{«DW_FORM_addrx4», «DW_FORM_GNU_str_index»}
+use Rattle.readers.specs.Codes.{«DW_FORM_addrx4», «DW_FORM_GNU_addr_index», «DW_FORM_GNU_str_index»}
 use Rattle.readers.specs.Layout.{reference, sibling, index, absolute, Token, forms, unknown, Layout, done, field}
 use Rattle.readers.specs.Tokens.{Use, plain, as′, tokenOf, no-bytes, bytes, address, offset, uleb128, sleb128}
 use Rattle.readers.specs.Tokens.{null-terminated, data16, unreadable, block1, block2, block4, block-uleb128}
@@ -68,6 +68,7 @@ formTokens =
     ∷ code «DW_FORM_addrx2» (bytes 2)
     ∷ code «DW_FORM_addrx3» (bytes 3)
     ∷ code «DW_FORM_addrx4» (bytes 4)
+    ∷ code «DW_FORM_GNU_addr_index» uleb128
     ∷ code «DW_FORM_GNU_str_index» uleb128
     ∷ []
 
@@ -101,10 +102,19 @@ listForm f =
     (pick (eqb f «DW_FORM_strx» or (leb «DW_FORM_strx1» f and leb f «DW_FORM_strx4») or eqb f «DW_FORM_GNU_str_index») 2
     3))
 
--- Document 01, "Readers": a sibling in exprloc, and implicit_const under indirect, are unreadable.
+-- Document 02, Point 4: version 4 has DW_FORM_GNU_addr_index, but not rnglistx and loclistx ("are 4 there"). The other
+-- forms are of both versions.
+unfoldable pub inVersion : ℕ → ℕ → Bool
+inVersion version f =
+    pick (eqb version 4) (not (eqb f «DW_FORM_rnglistx» or eqb f «DW_FORM_loclistx»)) (not (eqb f «DW_FORM_GNU_addr_index»))
+
+-- Document 01, "Readers": a sibling in exprloc, and implicit_const under indirect, are unreadable. So is a form that the
+-- unit's version does not have (document 02, Point 4).
 unfoldable pub valueToken : Encoding → Bool → ℕ → ℕ → Token
 valueToken e indirect name f =
-    pick ((eqb name «DW_AT_sibling» and eqb f «DW_FORM_exprloc») or (indirect and eqb f «DW_FORM_implicit_const»))
+    pick
+    (not (inVersion (e .version) f)
+    or (eqb name «DW_AT_sibling» and eqb f «DW_FORM_exprloc») or (indirect and eqb f «DW_FORM_implicit_const»))
     unknown
     (tokenOf e (useOf name f) (formToken f))
 

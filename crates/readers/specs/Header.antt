@@ -1,5 +1,5 @@
--- The header of the first unit of a section (DWARF 5, 7.5.1.1 and 7.5.1.2; document 01, "Readers" and the order of
--- refusals 1 and 2).
+-- The header of the first unit of a section (DWARF 5, 7.5.1.1 and 7.5.1.2; DWARF 4, 7.5.1.1; document 01, "Readers" and
+-- the order of refusals 1 and 2).
 use Prim.Native.Nat.{ℕ, _+_, _-_, _^_, _<_}
 use mathlib.Core.Path.{_≡_}
 use mathlib.Core.Logic.{_⊎_}
@@ -54,20 +54,33 @@ headerMade e u unitType abbreviations first =
 
 -- in either byte order, with offsets of w bytes
 module _ (big : Bool) (w : ℕ) where
-  -- after unit_length: version (2 bytes), unit_type (1), address_size (1): 4 or 8, debug_abbrev_offset (w), and for
+  -- version 5, from a place on: unit_type (1 byte), address_size (1): 4 or 8, debug_abbrev_offset (w), and for
   -- DW_UT_split_compile dwo_id (8)
+  unfoldable pub fields5 : List ℕ → ℕ → HeaderRead
+  fields5 u at =
+      present (fixedAt big 1 u at) (λ unitType.
+      right (eqb unitType «DW_UT_compile» or eqb unitType «DW_UT_split_compile»)
+      (present (fixedAt big 1 u (at + 1)) (λ addressSize. right (sizeKnown addressSize)
+      (present (fixedAt big w u (at + 2)) (λ abbreviations.
+      pick (eqb unitType «DW_UT_compile»)
+      (headerMade (encodingOf big 5 w addressSize) u unitType abbreviations (at + 2 + w))
+      (present (fixedAt big 8 u (at + 2 + w)) (λ _.
+      headerMade (encodingOf big 5 w addressSize) u unitType abbreviations (at + 2 + w + 8))))))))
+
+  -- version 4, from a place on: debug_abbrev_offset (w), address_size (1): 4 or 8; there is no unit type, and that of a
+  -- compile unit is told
+  unfoldable pub fields4 : List ℕ → ℕ → HeaderRead
+  fields4 u at =
+      present (fixedAt big w u at) (λ abbreviations.
+      present (fixedAt big 1 u (at + w)) (λ addressSize. right (sizeKnown addressSize)
+      (headerMade (encodingOf big 4 w addressSize) u «DW_UT_compile» abbreviations (at + w + 1))))
+
+  -- after unit_length: version (2 bytes), and the fields of that version
   unfoldable pub headerFields : List ℕ → HeaderRead
   headerFields u =
       let at = lengthBytes w in
-      present (fixedAt big 2 u at) (λ version. right (eqb version 5)
-      (present (fixedAt big 1 u (at + 2)) (λ unitType.
-      right (eqb unitType «DW_UT_compile» or eqb unitType «DW_UT_split_compile»)
-      (present (fixedAt big 1 u (at + 3)) (λ addressSize. right (sizeKnown addressSize)
-      (present (fixedAt big w u (at + 4)) (λ abbreviations.
-      pick (eqb unitType «DW_UT_compile»)
-      (headerMade (encodingOf big 5 w addressSize) u unitType abbreviations (at + 4 + w))
-      (present (fixedAt big 8 u (at + 4 + w)) (λ _.
-      headerMade (encodingOf big 5 w addressSize) u unitType abbreviations (at + 4 + w + 8))))))))))
+      present (fixedAt big 2 u at) (λ version.
+      pick (eqb version 5) (fields5 u (at + 2)) (pick (eqb version 4) (fields4 u (at + 2)) (Refused 2)))
 
   -- the unit is the n bytes after unit_length, and must be there
   unfoldable pub headerIn : List ℕ → ℕ → HeaderRead
@@ -95,9 +108,18 @@ withEnd h n =
 abbrev pub SaysWidth : ℕ → ℕ → Type 0
 SaysWidth start w = ((w ≡ 4) × (start < 0xfffffff0)) ⊎ ((w ≡ 8) × (start ≡ 0xffffffff))
 
--- document 01, "Readers", and document 02, Points 6 (either format) and 12 (the byte order is the one that was told)
+-- the unit type of a header of some version, and how many bytes it has: 3 beside the length and the offset of the
+-- abbreviations in version 4, and in version 5 4, or 12 with a dwo_id
+abbrev pub Headed : ℕ → ℕ → ℕ → ℕ → Type 0
+Headed version others unitType first =
+    ((version ≡ 4) × ((unitType ≡ «DW_UT_compile») × (first ≡ others + 3)))
+    ⊎ (((version ≡ 5) × ((unitType ≡ «DW_UT_compile») × (first ≡ others + 4)))
+    ⊎ ((version ≡ 5) × ((unitType ≡ «DW_UT_split_compile») × (first ≡ others + 12))))
+
+-- document 01, "Readers", and document 02, Points 4 (either version), 6 (either format) and 12 (the byte order is the one
+-- that was told)
 pub record Known (big : Bool) (e : Encoding) : Type 0 where
-  pub version-is : e .version ≡ 5
+  pub version-is : (e .version ≡ 4) ⊎ (e .version ≡ 5)
   pub offset-is : (e .«offset_size» ≡ 4) ⊎ (e .«offset_size» ≡ 8)
   pub address-is : (e .«address_size» ≡ 4) ⊎ (e .«address_size» ≡ 8)
   pub order-is : e .«big_endian» ≡ big

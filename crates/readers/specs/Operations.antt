@@ -1,10 +1,11 @@
 -- The operand layout of every operation (DWARF 5, 7.7.1, table 7.9, and the GNU codes of document 01), and the
--- layouts of range and location list entries (7.25, 7.7.3): each a row of tokens, by its number.
+-- layouts of range and location list entries (7.25, 7.7.3; in version 4 those of the DebugFission proposal): each a row
+-- of tokens, by its number.
 use mathlib.Core.Bool.{Bool}
 use mathlib.Core.List.{List, [], _∷_}
 use Prim.Native.Nat.{ℕ, suc}
 use lib.ListN.{getD}
-use lib.Dec.{leb}
+use lib.Dec.{leb, eqb}
 use Rattle.readers.specs.Choice.{pick, _and_}
 use Rattle.readers.specs.Codes.{«DW_OP_addr», «DW_OP_deref», «DW_OP_const1u», «DW_OP_const1s», «DW_OP_const2u»}
 use Rattle.readers.specs.Codes.{«DW_OP_const2s», «DW_OP_const4u», «DW_OP_const4s», «DW_OP_const8u»}
@@ -31,10 +32,12 @@ use Rattle.readers.specs.Codes.{«DW_RLE_startx_length», «DW_RLE_offse
 use Rattle.readers.specs.Codes.{«DW_RLE_start_end», «DW_RLE_start_length», «DW_LLE_base_addressx»}
 use Rattle.readers.specs.Codes.{«DW_LLE_startx_endx», «DW_LLE_startx_length», «DW_LLE_offset_pair»}
 use Rattle.readers.specs.Codes.{«DW_LLE_default_location», «DW_LLE_base_address», «DW_LLE_start_end»}
-use Rattle.readers.specs.Codes.{«DW_LLE_start_length»}
+use Rattle.readers.specs.Codes.{«DW_LLE_start_length», «DW_LLE_GNU_base_address_selection_entry»}
+use Rattle.readers.specs.Codes.{«DW_LLE_GNU_start_end_entry», «DW_LLE_GNU_start_length_entry»}
+use Rattle.readers.specs.Codes.{«DW_LLE_GNU_offset_pair_entry»}
 use Rattle.readers.specs.Layout.{fixed, Role, reference, typeReference, absolute, number, Layout, done, field}
 use Rattle.readers.specs.Tokens.{Use, plain, as′, tokenOf, no-bytes, bytes, address, offset, uleb128, sleb128}
-use Rattle.readers.specs.Tokens.{block1, block-uleb128, exprloc, register, unreadable}
+use Rattle.readers.specs.Tokens.{block1, block2, block-uleb128, exprloc, register, unreadable}
 use Rattle.readers.specs.declared.cursor.Encoding.{Encoding}
 
 -- ---- rows: up to three tokens, by the numbers of Tokens.antt, and what the first two are used as
@@ -101,6 +104,9 @@ rows =
     ∷ row3 uleb128 uleb128 exprloc  -- row-uleb128-uleb128-expression
     ∷ row3 address address exprloc  -- row-address-address-expression
     ∷ row3 address uleb128 exprloc  -- row-address-uleb128-expression
+    ∷ row3 uleb128 uleb128 block2  -- row-uleb128-uleb128-block2
+    ∷ row3 uleb128 (bytes 4) block2  -- row-uleb128-bytes4-block2
+    ∷ row3 (bytes 4) (bytes 4) block2  -- row-bytes4-bytes4-block2
     ∷ []
 
 -- The numbers of the rows: places in the list above, in its order, each one more than the one before it.
@@ -187,6 +193,15 @@ row-address-address-expression = suc row-uleb128-uleb128-expression
 
 abbrev pub row-address-uleb128-expression : ℕ
 row-address-uleb128-expression = suc row-address-address-expression
+
+abbrev pub row-uleb128-uleb128-block2 : ℕ
+row-uleb128-uleb128-block2 = suc row-address-uleb128-expression
+
+abbrev pub row-uleb128-bytes4-block2 : ℕ
+row-uleb128-bytes4-block2 = suc row-uleb128-uleb128-block2
+
+abbrev pub row-bytes4-bytes4-block2 : ℕ
+row-bytes4-bytes4-block2 = suc row-uleb128-bytes4-block2
 
 unfoldable pub rowOf : ℕ → OperandRow
 rowOf l = getD rows l unreadableRow
@@ -338,5 +353,17 @@ locationEntries =
     ∷ code «DW_LLE_start_length» row-address-uleb128-expression
     ∷ []
 
-unfoldable pub listRow : Bool → ℕ → ℕ
-listRow location k = rowAmong (pick location locationEntries rangeEntries) k
+-- version 4 (DebugFission, "Location Lists"): addresses are indices, lengths and offsets have four bytes, and after them
+-- comes an expression with a length of two
+unfoldable pub locationEntries4 : List Codes
+locationEntries4 =
+    code «DW_LLE_GNU_base_address_selection_entry» row-uleb128
+    ∷ code «DW_LLE_GNU_start_end_entry» row-uleb128-uleb128-block2
+    ∷ code «DW_LLE_GNU_start_length_entry» row-uleb128-bytes4-block2
+    ∷ code «DW_LLE_GNU_offset_pair_entry» row-bytes4-bytes4-block2
+    ∷ []
+
+-- by the unit's version, of a location list or a range list; .debug_ranges of version 4 has no kinds
+unfoldable pub listRow : ℕ → Bool → ℕ → ℕ
+listRow version location k =
+    rowAmong (pick location (pick (eqb version 4) locationEntries4 locationEntries) rangeEntries) k

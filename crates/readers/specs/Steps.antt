@@ -42,10 +42,11 @@ operationAt e s at = asOperation (e .«big_endian») at (readIn (e .«big_endian
 
 -- ---- list entries
 
--- 7.7.3, 7.25: a kind of one byte and its operands; DW_RLE_end_of_list, which DW_LLE_end_of_list is too, ends the list
+-- 7.7.3, 7.25: a kind of one byte and its operands; DW_RLE_end_of_list, which DW_LLE_end_of_list is too, ends the list,
+-- as 0 does in version 4
 unfoldable pub listEntry : Encoding → Bool → Layout
 listEntry e location =
-    field (number (fixed 1)) (λ k. pick (eqb k «DW_RLE_end_of_list») done (rowLayout e (rowOf (listRow location k))))
+    field (number (fixed 1)) (λ k. pick (eqb k «DW_RLE_end_of_list») done (rowLayout e (rowOf (listRow (e .version) location k))))
 
 unfoldable pub rowEntry : ℕ → OperandsRead → ListStep
 rowEntry kind (Row′ r) =

@@ -1,9 +1,10 @@
 // Values of attributes, by their forms (DWARF 5, 7.5.6).
 ghost use mathlib.Core.Path.{_≡_};
-ghost use Rattle.readers.specs.Forms.{formToken, listForm, valueToken};
+ghost use Rattle.readers.specs.Forms.{formToken, inVersion, listForm, valueToken};
 ghost use Rattle.readers.specs.Fields.{tokenAt};
 ghost use Rattle.readers.specs.Entries.{attributeAt, attributeEnd};
 use crate::codes::DW_AT_sibling;
+use crate::codes::DW_FORM_GNU_addr_index;
 use crate::codes::DW_FORM_GNU_str_index;
 use crate::codes::DW_FORM_exprloc;
 use crate::codes::DW_FORM_implicit_const;
@@ -92,7 +93,23 @@ pub fn form_token(form: u64) -> u8
     if form == DW_FORM_GNU_str_index {
         return ULEB128;
     }
+    if form == DW_FORM_GNU_addr_index {
+        return ULEB128;
+    }
     UNREADABLE
+}
+
+// Whether units of a version have a form.
+pub fn in_version(version: u16, form: u64) -> bool
+    ensures { λ r. ⌜ r ≡ inVersion version form ⌝ }
+{
+    if version == 4 {
+        if form == DW_FORM_rnglistx {
+            return false;
+        }
+        return form != DW_FORM_loclistx;
+    }
+    form != DW_FORM_GNU_addr_index
 }
 
 // The number of the index list of a form: 0 ranges, 1 locations, 2 strings; 3 for a form that is no index.
@@ -121,8 +138,8 @@ pub fn list_of(form: u64) -> u8
 }
 
 impl Cursor {
-    // A value in a form that is not DW_FORM_indirect. A sibling in exprloc, and implicit_const under indirect, are
-    // unreadable.
+    // A value in a form that is not DW_FORM_indirect. A sibling in exprloc, implicit_const under indirect, and a form
+    // that the version does not have, are unreadable.
     fn value(self, s: &[u8], indirect: bool, name: u64, form: u64, e: Encoding) -> FieldRead
         ensures { λ r. ⌜ r ≡ tokenAt e (now (s .entry)) (self .at) (valueToken e indirect name form) ⌝ }
     {
@@ -135,6 +152,9 @@ impl Cursor {
             if form == DW_FORM_implicit_const {
                 return FieldRead::Unreadable;
             }
+        }
+        if !in_version(e.version, form) {
+            return FieldRead::Unreadable;
         }
         self.field(s, form_token(form), e)
     }
@@ -189,6 +209,9 @@ impl Cursor {
             });
         }
         if token == ULEB128 {
+            if !in_version(e.version, form) {
+                return AttributeRead::Unreadable;
+            }
             let Number::Value(value, next) = self.uleb(s) else {
                 return AttributeRead::Unreadable;
             };

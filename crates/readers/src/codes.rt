@@ -61,6 +61,8 @@ pub const DW_FORM_addrx1: u64 = 0x29;
 
 pub const DW_FORM_addrx4: u64 = 0x2c;
 
+pub const DW_FORM_GNU_addr_index: u64 = 0x1f01;
+
 pub const DW_FORM_GNU_str_index: u64 = 0x1f02;
 
 // Kinds of location list entries (7.7.3, table 7.10).

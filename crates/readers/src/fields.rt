@@ -36,7 +36,7 @@ pub enum OperandsRead {
 }
 
 // The first, the second and the third token of each row (specs/Operations.antt).
-const FIRST: [u8; 28] = [
+const FIRST: [u8; 31] = [
     UNREADABLE, // ROW_UNREADABLE
     NO_BYTES, // ROW_NONE
     ADDRESS, // ROW_ADDRESS
@@ -65,9 +65,12 @@ const FIRST: [u8; 28] = [
     ULEB128, // ROW_ULEB128_ULEB128_EXPRESSION
     ADDRESS, // ROW_ADDRESS_ADDRESS_EXPRESSION
     ADDRESS, // ROW_ADDRESS_ULEB128_EXPRESSION
+    ULEB128, // ROW_ULEB128_ULEB128_BLOCK2
+    ULEB128, // ROW_ULEB128_BYTES4_BLOCK2
+    BYTES4, // ROW_BYTES4_BYTES4_BLOCK2
 ];
 
-const SECOND: [u8; 28] = [
+const SECOND: [u8; 31] = [
     NO_BYTES, // ROW_UNREADABLE
     NO_BYTES, // ROW_NONE
     NO_BYTES, // ROW_ADDRESS
@@ -96,9 +99,12 @@ const SECOND: [u8; 28] = [
     ULEB128, // ROW_ULEB128_ULEB128_EXPRESSION
     ADDRESS, // ROW_ADDRESS_ADDRESS_EXPRESSION
     ULEB128, // ROW_ADDRESS_ULEB128_EXPRESSION
+    ULEB128, // ROW_ULEB128_ULEB128_BLOCK2
+    BYTES4, // ROW_ULEB128_BYTES4_BLOCK2
+    BYTES4, // ROW_BYTES4_BYTES4_BLOCK2
 ];
 
-const THIRD: [u8; 28] = [
+const THIRD: [u8; 31] = [
     NO_BYTES, // ROW_UNREADABLE
     NO_BYTES, // ROW_NONE
     NO_BYTES, // ROW_ADDRESS
@@ -127,6 +133,9 @@ const THIRD: [u8; 28] = [
     EXPRLOC, // ROW_ULEB128_ULEB128_EXPRESSION
     EXPRLOC, // ROW_ADDRESS_ADDRESS_EXPRESSION
     EXPRLOC, // ROW_ADDRESS_ULEB128_EXPRESSION
+    BLOCK2, // ROW_ULEB128_ULEB128_BLOCK2
+    BLOCK2, // ROW_ULEB128_BYTES4_BLOCK2
+    BLOCK2, // ROW_BYTES4_BYTES4_BLOCK2
 ];
 
 fn number_field(at: usize, n: Number) -> FieldRead
@@ -274,7 +283,7 @@ impl Cursor {
         ensures { λ r. ⌜ r ≡ rowAt e (now (s .entry)) (self .at) layout ⌝ }
     {
         let l = layout as usize;
-        if l >= 28 {
+        if l >= 31 {
             return OperandsRead::Unreadable;
         }
         let FieldRead::Read(first) = self.field(s, FIRST[l], e) else {

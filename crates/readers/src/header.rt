@@ -1,8 +1,9 @@
-// The header of a unit (DWARF 5, 7.5.1), within the domain: version 5, both formats, either byte order.
+// The header of a unit (DWARF 5, 7.5.1; DWARF 4, 7.5.1.1), within the domain: versions 4 and 5, both formats, either byte
+// order.
 ghost use mathlib.Core.Path.{_≡_};
 ghost use Prim.Native.Nat.{_≤_};
 ghost use lib.ListN.{length, take};
-ghost use Rattle.readers.specs.Header.{lengthBytes, headerFields, headerIn, headerOf};
+ghost use Rattle.readers.specs.Header.{lengthBytes, fields4, fields5, headerFields, headerIn, headerOf};
 use crate::codes::DW_UT_compile;
 use crate::codes::DW_UT_split_compile;
 use crate::cursor::Cursor;
@@ -42,28 +43,21 @@ pub fn length_bytes(offset_size: u8) -> usize
     if offset_size == 8 { 12 } else { 4 }
 }
 
-// The fields after the length, of a unit that ends where its length says.
-fn header_fields(unit: &[u8], offset_size: u8, big_endian: bool) -> HeaderRead
-    ensures { λ r. ⌜ r ≡ headerFields «big_endian» «offset_size» (now (unit .entry)) ⌝ }
+// The fields of version 5 after the version, which ends at a place.
+fn fields_5(unit: &[u8], at: usize, offset_size: u8, big_endian: bool) -> HeaderRead
+    requires { ⌜ at ≤ length (now unit) ⌝ }
+    ensures { λ r. ⌜ r ≡ fields5 «big_endian» «offset_size» (now (unit .entry)) at ⌝ }
 {
-    let from = length_bytes(offset_size);
-    let Number::Value(version, _) = (Cursor { at: from }).fixed(unit, 2, big_endian) else {
-        return HeaderRead::Refused(1);
-    };
-    if version != 5 {
-        return HeaderRead::Refused(2);
-    }
-    let type_at = from + 2;
-    if unit.len() <= type_at {
+    if unit.len() <= at {
         return HeaderRead::Refused(1);
     }
-    let unit_type = unit[type_at];
+    let unit_type = unit[at];
     if unit_type != DW_UT_compile {
         if unit_type != DW_UT_split_compile {
             return HeaderRead::Refused(2);
         }
     }
-    let size_at = from + 3;
+    let size_at = at + 1;
     if unit.len() <= size_at {
         return HeaderRead::Refused(1);
     }
@@ -74,7 +68,7 @@ fn header_fields(unit: &[u8], offset_size: u8, big_endian: bool) -> HeaderRead
         }
     }
     let width = offset_size as usize;
-    let Number::Value(abbreviations, _) = (Cursor { at: from + 4 }).fixed(unit, width, big_endian)
+    let Number::Value(abbreviations, _) = (Cursor { at: at + 2 }).fixed(unit, width, big_endian)
     else {
         return HeaderRead::Refused(1);
     };
@@ -84,7 +78,7 @@ fn header_fields(unit: &[u8], offset_size: u8, big_endian: bool) -> HeaderRead
         address_size,
         big_endian,
     };
-    let first = from + 4 + width;
+    let first = at + 2 + width;
     if unit_type == DW_UT_compile {
         return HeaderRead::Unit(UnitHeader {
             encoding,
@@ -104,6 +98,58 @@ fn header_fields(unit: &[u8], offset_size: u8, big_endian: bool) -> HeaderRead
         first: UnitOffset((first + 8) as u64),
         end: unit.len(),
     })
+}
+
+// The fields of version 4 after the version, which ends at a place.
+fn fields_4(unit: &[u8], at: usize, offset_size: u8, big_endian: bool) -> HeaderRead
+    requires { ⌜ at ≤ length (now unit) ⌝ }
+    ensures { λ r. ⌜ r ≡ fields4 «big_endian» «offset_size» (now (unit .entry)) at ⌝ }
+{
+    let width = offset_size as usize;
+    let Number::Value(abbreviations, _) = (Cursor { at }).fixed(unit, width, big_endian) else {
+        return HeaderRead::Refused(1);
+    };
+    let size_at = at + width;
+    if unit.len() <= size_at {
+        return HeaderRead::Refused(1);
+    }
+    let address_size = unit[size_at];
+    if address_size != 4 {
+        if address_size != 8 {
+            return HeaderRead::Refused(2);
+        }
+    }
+    HeaderRead::Unit(UnitHeader {
+        encoding: Encoding {
+            version: 4,
+            offset_size,
+            address_size,
+            big_endian,
+        },
+        unit_type: DW_UT_compile,
+        abbreviations,
+        first: UnitOffset((size_at + 1) as u64),
+        end: unit.len(),
+    })
+}
+
+// The fields after the length, of a unit that ends where its length says.
+fn header_fields(unit: &[u8], offset_size: u8, big_endian: bool) -> HeaderRead
+    ensures { λ r. ⌜ r ≡ headerFields «big_endian» «offset_size» (now (unit .entry)) ⌝ }
+{
+    let Number::Value(version, next) = (Cursor {
+        at: length_bytes(offset_size),
+    }).fixed(unit, 2, big_endian) else {
+        return HeaderRead::Refused(1);
+    };
+    let at = next.at;
+    if version == 5 {
+        return fields_5(unit, at, offset_size, big_endian);
+    }
+    if version == 4 {
+        return fields_4(unit, at, offset_size, big_endian);
+    }
+    HeaderRead::Refused(2)
 }
 
 // The header of a unit that is the so many bytes after its length field; all of them must be there.

@@ -269,8 +269,8 @@ const OPERATIONS: [u8; 256] = [
     ROW_UNREADABLE, // 0xff
 ];
 
-// The same for the kinds of range list entries, and of location list entries. No row is read for the kind that ends a
-// list.
+// The same for the kinds of range list entries, and of location list entries in version 5 and in version 4. No row is
+// read for the kind that ends a list.
 const RANGE_ENTRIES: [u8; 8] = [
     ROW_UNREADABLE, // 0x00 DW_RLE_end_of_list
     ROW_ULEB128, // 0x01 DW_RLE_base_addressx
@@ -292,6 +292,14 @@ const LOCATION_ENTRIES: [u8; 9] = [
     ROW_ADDRESS, // 0x06 DW_LLE_base_address
     ROW_ADDRESS_ADDRESS_EXPRESSION, // 0x07 DW_LLE_start_end
     ROW_ADDRESS_ULEB128_EXPRESSION, // 0x08 DW_LLE_start_length
+];
+
+const LOCATION_ENTRIES_4: [u8; 5] = [
+    ROW_UNREADABLE, // 0x00 DW_LLE_GNU_end_of_list_entry
+    ROW_ULEB128, // 0x01 DW_LLE_GNU_base_address_selection_entry
+    ROW_ULEB128_ULEB128_BLOCK2, // 0x02 DW_LLE_GNU_start_end_entry
+    ROW_ULEB128_BYTES4_BLOCK2, // 0x03 DW_LLE_GNU_start_length_entry
+    ROW_BYTES4_BYTES4_BLOCK2, // 0x04 DW_LLE_GNU_offset_pair_entry
 ];
 
 // An operation: its row, its first two operands, and the cursor past it.
@@ -331,12 +339,18 @@ pub fn operation_row(code: u8) -> u8
     OPERATIONS[i]
 }
 
-// The row of a list entry's kind; unreadable for an unknown kind and for the end entry.
-pub fn list_row(location: bool, kind: u8) -> u8
-    ensures { λ r. ⌜ r ≡ listRow location kind ⌝ }
+// The row of a list entry's kind, by the unit's version; unreadable for an unknown kind and for the end entry.
+pub fn list_row(version: u16, location: bool, kind: u8) -> u8
+    ensures { λ r. ⌜ r ≡ listRow version location kind ⌝ }
 {
     let i = kind as usize;
     if location {
+        if version == 4 {
+            if i < 5 {
+                return LOCATION_ENTRIES_4[i];
+            }
+            return ROW_UNREADABLE;
+        }
         if i < 9 {
             return LOCATION_ENTRIES[i];
         }
@@ -384,7 +398,7 @@ impl Cursor {
         if kind == DW_RLE_end_of_list {
             return ListStep::End;
         }
-        let row = list_row(location, kind);
+        let row = list_row(e.version, location, kind);
         let OperandsRead::Read(r) = (Cursor { at: at + 1 }).row(s, row, e) else {
             return ListStep::Unreadable;
         };

@@ -8,5 +8,6 @@ pub mod EndsFilled
 pub mod ParentsOf
 pub mod ReadableItems
 pub mod DeepReads
+pub mod FormTokens
 pub mod EntryReads
 pub mod UnitKept

@@ -530,11 +530,11 @@ fn collect_marked(
 }
 
 // The answer, with tables as they are left, and after a refusal also map, lists and output.
-fn collect_unit(
+fn collect_unit<'a>(
     section: &[u8],
     abbreviations: &[u8],
     locations: &[u8],
-    ranges: &[u8],
+    ranges: &'a [u8],
     addresses: &[u8],
     setting: Setting,
     type_units: bool,
@@ -552,10 +552,11 @@ fn collect_unit(
     location_list: &mut [u8],
     string_list: &mut [u8],
     out: &mut [u8],
+    debug_ranges: &'a [u8],
 ) -> Collected
     ensures { λ r. ⌜ (
         let x = sections (now (abbreviations .entry)) (now (locations .entry)) (now (ranges .entry))
-        (now (addresses .entry)) setting in
+        (now (addresses .entry)) (now («debug_ranges» .entry)) setting in
         let room = roomOf (length (now (marks .entry))) (length (now (pairs .entry))) (length (now (offsets .entry)))
         (length (now (parents .entry))) (length (now (roots .entry))) (length (now (ends .entry)))
         (length (now (targets .entry))) (length (now (map .entry))) (length (now («range_list» .entry)))
@@ -573,6 +574,7 @@ fn collect_unit(
         locations,
         ranges,
         addresses,
+        debug_ranges,
         setting,
         index,
         offsets,
@@ -609,12 +611,13 @@ fn collect_unit(
 // those of the entries (`offsets`, `parents`, `roots`, `ends`, `marks`) and of the references (`targets`, `pairs`), and the
 // work column of the marking and of the search for siblings, best two numbers an entry. The lengths of the index and of
 // the work column change the time alone.
-pub fn collect(
+pub fn collect<'a>(
     section: &[u8],
     abbreviations: &[u8],
     locations: &[u8],
-    ranges: &[u8],
+    ranges: &'a [u8],
     addresses: &[u8],
+    debug_ranges: &'a [u8],
     setting: Setting,
     type_units: bool,
     index: &mut [u64],
@@ -634,7 +637,7 @@ pub fn collect(
 ) -> Collected
     ensures { λ r. ⌜ (
         let x = sections (now (abbreviations .entry)) (now (locations .entry)) (now (ranges .entry))
-        (now (addresses .entry)) setting in
+        (now (addresses .entry)) (now («debug_ranges» .entry)) setting in
         let room = roomOf (length (now (marks .entry))) (length (now (pairs .entry))) (length (now (offsets .entry)))
         (length (now (parents .entry))) (length (now (roots .entry))) (length (now (ends .entry)))
         (length (now (targets .entry))) (length (now (map .entry))) (length (now («range_list» .entry)))
@@ -679,6 +682,7 @@ pub fn collect(
         location_list,
         string_list,
         out,
+        debug_ranges,
     );
     clear_tables(
         index,

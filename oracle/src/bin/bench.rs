@@ -1,8 +1,8 @@
 //! Time and stack of the port's C call and of the original, in one process on the same units; bench/README.md has the rules.
 
-use oracle::cases::{unbundle, Parts};
+use oracle::cases::{slices, unbundle, Parts};
 use oracle::growth::{self, half_live, name, sizes, FAMILIES};
-use oracle::judge::{judge, measured, Judged, Outcome, Setting};
+use oracle::judge::{judge, measured, Judged, Outcome, Sections, Setting};
 use oracle::order::Layout;
 use std::collections::BTreeSet;
 use std::hint::black_box;
@@ -16,12 +16,14 @@ WORDS: --big-endian, --64-bit: the families' units are of that byte order and fo
 extern "C" {
     fn collector_collect(
         section: *const u8, _: usize, abbreviations: *const u8, _: usize, locations: *const u8, _: usize, ranges: *const u8, _: usize,
-        addresses: *const u8, _: usize, ranges_base: u64, type_units: u64, big_endian: u64, map: *mut u8, _: usize, range_list: *mut u8, _: usize,
+        addresses: *const u8, _: usize, debug_ranges: *const u8, _: usize, ranges_base: u64, type_units: u64, big_endian: u64,
+        map: *mut u8, _: usize, range_list: *mut u8, _: usize,
         location_list: *mut u8, _: usize, string_list: *mut u8, _: usize, out: *mut u8, _: usize, counts: *mut u8, _: usize,
     ) -> u64;
     fn collector_collect_lent(
         section: *const u8, _: usize, abbreviations: *const u8, _: usize, locations: *const u8, _: usize, ranges: *const u8, _: usize,
-        addresses: *const u8, _: usize, ranges_base: u64, type_units: u64, big_endian: u64, index: *mut u64, _: usize, offsets: *mut u64, _: usize,
+        addresses: *const u8, _: usize, debug_ranges: *const u8, _: usize, ranges_base: u64, type_units: u64, big_endian: u64,
+        index: *mut u64, _: usize, offsets: *mut u64, _: usize,
         parents: *mut u64, _: usize, roots: *mut u8, _: usize, ends: *mut u64, _: usize, marks: *mut u8, _: usize, targets: *mut u64, _: usize,
         pairs: *mut u64, _: usize, work: *mut u32, _: usize, map: *mut u8, _: usize, range_list: *mut u8, _: usize,
         location_list: *mut u8, _: usize, string_list: *mut u8, _: usize, out: *mut u8, _: usize, counts: *mut u8, _: usize,
@@ -93,8 +95,8 @@ impl Unit {
         Unit { parts, setting: Setting { big_endian, ..Setting::default() } }
     }
 
-    fn parts(&self) -> [&[u8]; 5] {
-        [0, 1, 2, 3, 4].map(|i: usize| &self.parts[i][..])
+    fn parts(&self) -> Sections<'_> {
+        slices(&self.parts)
     }
 }
 
@@ -181,11 +183,12 @@ impl Lent {
 
 macro_rules! collect {
     ($f:ident, $unit:expr, $l:expr, [$($t:ident),*]) => {{
-        let (s, l): ([&[u8]; 5], &mut Lent) = ($unit.parts(), $l);
+        let (s, l): (Sections<'_>, &mut Lent) = ($unit.parts(), $l);
         unsafe {
             $f(
                 s[0].as_ptr(), s[0].len(), s[1].as_ptr(), s[1].len(), s[2].as_ptr(), s[2].len(), s[3].as_ptr(), s[3].len(),
-                s[4].as_ptr(), s[4].len(), 0, 0, $unit.setting.big_endian.into(), $(l.$t.as_mut_ptr(), l.$t.len(),)* l.map.as_mut_ptr(), l.map.len(),
+                s[4].as_ptr(), s[4].len(), s[5].as_ptr(), s[5].len(), 0, 0, $unit.setting.big_endian.into(),
+                $(l.$t.as_mut_ptr(), l.$t.len(),)* l.map.as_mut_ptr(), l.map.len(),
                 l.lists[0].as_mut_ptr(), l.lists[0].len(), l.lists[1].as_mut_ptr(), l.lists[1].len(), l.lists[2].as_mut_ptr(), l.lists[2].len(),
                 l.out.as_mut_ptr(), l.out.len(), l.counts.as_mut_ptr(), l.counts.len(),
             )
@@ -298,7 +301,7 @@ fn goes_on(before: Option<f64>, now: Option<f64>) -> bool {
 
 /// A family's unit of a size.
 fn grown(what: &str, size: usize, (big_endian, wide): (bool, bool)) -> Unit {
-    Unit::new(growth::unit(what, size, Layout::new(big_endian, wide)).expect("a family"), big_endian)
+    Unit::new(growth::unit(what, size, Layout::new(big_endian, wide, false)).expect("a family"), big_endian)
 }
 
 fn family(what: &str, most: usize, of: (bool, bool)) {

@@ -4,13 +4,14 @@ use oracle::cases::{bundle, unbundle, Cases};
 use oracle::order::Layout;
 use std::io::{self, BufWriter, Write};
 
-const USAGE: &str = "usage: cases [--seed N] [--count N] [--big-endian] [--64-bit] FAMILY [BUNDLE ..]
-Families: small, bytes, valid, lists, expressions, trees, deep, refused, headers, declarations, numbers, operations, kinds, siblings, many,
-damaged, listed, sums, no-table, failures; of given bundles: tables, damaged-files. Little-endian, or big-endian, and of the 32-bit format or of the 64-bit
-one, as given bundles then have to be.";
+const USAGE: &str = "usage: cases [--seed N] [--count N] [--big-endian] [--64-bit] [--version-4] FAMILY [BUNDLE ..]
+Families: small, bytes, valid, lists, expressions, trees, deep, refused, headers, declarations, numbers, operations,
+kinds, siblings, many, damaged, listed, sums, no-table, failures; of given bundles: tables, damaged-files. Little-endian,
+or big-endian, of the 32-bit format or of the 64-bit one, and of version 5 or 4, as given bundles then have to be.";
 
 fn main() -> io::Result<()> {
-    let (mut seed, mut count, mut big_endian, mut wide) = (1u64, 1000usize, false, false);
+    let (mut seed, mut count) = (1u64, 1000usize);
+    let (mut big_endian, mut wide, mut older) = (false, false, false);
     let mut words = Vec::new();
     let mut args = std::env::args().skip(1);
     let usage = || -> ! {
@@ -24,6 +25,7 @@ fn main() -> io::Result<()> {
             "--count" => count = number() as usize,
             "--big-endian" => big_endian = true,
             "--64-bit" => wide = true,
+            "--version-4" => older = true,
             _ if arg.starts_with('-') => usage(),
             _ => words.push(arg),
         }
@@ -39,7 +41,7 @@ fn main() -> io::Result<()> {
             }
         }
     }
-    let Some(mut cases) = Cases::new(family, seed, Layout::new(big_endian, wide), &given) else { usage() };
+    let Some(mut cases) = Cases::new(family, seed, Layout::new(big_endian, wide, older), &given) else { usage() };
     let mut output = BufWriter::new(io::stdout().lock());
     for i in 0..count {
         output.write_all(&bundle(&cases.case(i)))?;

@@ -1,7 +1,7 @@
 //! The port's C call and the original on the same cases, in one process; README.md has the rules. Every result is compared: the number that
 //! comes back, counts, map, lists, output, every byte that is lent and not written, and that what is only read stays as it was.
 
-use oracle::cases::{bundle, unbundle, Cases, Dice, Parts, FAMILIES, OF_FILES};
+use oracle::cases::{bundle, slices, unbundle, Cases, Dice, Parts, FAMILIES, OF_FILES};
 use oracle::expected::{expect, Expected, Plan, Room};
 use oracle::judge::{hex, judge, said, Answer, Outcome, Setting};
 use oracle::order::{order, Layout, Order};
@@ -13,23 +13,27 @@ use std::panic;
 use std::sync::atomic::{AtomicUsize, Ordering};
 use std::sync::Mutex;
 
-const USAGE: &str = "usage: differ [--seed N] [--count N] [--threads N] [--blocks] [--quiet | --save FOLDER] [--big-endian] [--64-bit]
-              [FAMILY .. | --only-files] [-- BUNDLE .. [--big-endian BUNDLE ..]]
+const USAGE: &str = "usage: differ [--seed N] [--count N] [--threads N] [--blocks] [--quiet | --save FOLDER]
+              [--big-endian] [--64-bit] [--version-4] [FAMILY .. | --only-files]
+              [-- BUNDLE .. [--big-endian BUNDLE ..]]
        differ --lines [--type-units] [--ranges-base N] [--big-endian] < BUNDLES
-So many cases of each family in each byte order of each format (of many a fiftieth, of tables and damaged-files a fifth); all families if none is
-named. --big-endian: no little-endian ones; among the bundles: those behind it are big-endian. --64-bit: none of the 32-bit format; bundles tell
-theirs. --blocks: what is lent is a block of memory of its own, nothing around it. --save: where cases that differ are left; --quiet: they are only
-counted. --lines: the port's answer for each of the bundles on standard input.";
+So many cases of each family in each byte order of each format of each version (of many a fiftieth, of tables and
+damaged-files a fifth); all families if none is named. --big-endian: no little-endian ones; among the bundles: those
+behind it are big-endian. --64-bit: none of the 32-bit format, --version-4: none of version 5; bundles tell theirs.
+--blocks: what is lent is a block of memory of its own, nothing around it. --save: where cases that differ are left;
+--quiet: they are only counted. --lines: the port's answer for each of the bundles on standard input.";
 
 extern "C" {
     fn collector_collect(
         section: *const u8, _: usize, abbreviations: *const u8, _: usize, locations: *const u8, _: usize, ranges: *const u8, _: usize,
-        addresses: *const u8, _: usize, ranges_base: u64, type_units: u64, big_endian: u64, map: *mut u8, _: usize, range_list: *mut u8, _: usize,
+        addresses: *const u8, _: usize, debug_ranges: *const u8, _: usize, ranges_base: u64, type_units: u64, big_endian: u64,
+        map: *mut u8, _: usize, range_list: *mut u8, _: usize,
         location_list: *mut u8, _: usize, string_list: *mut u8, _: usize, out: *mut u8, _: usize, counts: *mut u8, _: usize,
     ) -> u64;
     fn collector_collect_lent(
         section: *const u8, _: usize, abbreviations: *const u8, _: usize, locations: *const u8, _: usize, ranges: *const u8, _: usize,
-        addresses: *const u8, _: usize, ranges_base: u64, type_units: u64, big_endian: u64, index: *mut u64, _: usize, offsets: *mut u64, _: usize,
+        addresses: *const u8, _: usize, debug_ranges: *const u8, _: usize, ranges_base: u64, type_units: u64, big_endian: u64,
+        index: *mut u64, _: usize, offsets: *mut u64, _: usize,
         parents: *mut u64, _: usize, roots: *mut u8, _: usize, ends: *mut u64, _: usize, marks: *mut u8, _: usize, targets: *mut u64, _: usize,
         pairs: *mut u64, _: usize, work: *mut u32, _: usize, map: *mut u8, _: usize,
         range_list: *mut u8, _: usize, location_list: *mut u8, _: usize, string_list: *mut u8, _: usize, out: *mut u8, _: usize,
@@ -174,7 +178,8 @@ fn call(parts: &Parts, setting: Setting, lengths: &Lengths, manner: Manner) -> L
             unsafe {
                 $f(
                     $s[0].start(), $s[0].length(), $s[1].start(), $s[1].length(), $s[2].start(), $s[2].length(), $s[3].start(), $s[3].length(),
-                    $s[4].start(), $s[4].length(), base, units, big, $($t.start(), $t.length(),)* map.start(), map.length(),
+                    $s[4].start(), $s[4].length(), $s[5].start(), $s[5].length(), base, units, big,
+                    $($t.start(), $t.length(),)* map.start(), map.length(),
                     lists[0].start(), lists[0].length(), lists[1].start(), lists[1].length(), lists[2].start(), lists[2].length(),
                     output.start(), output.length(), counts.start(), counts.length(),
                 )
@@ -339,10 +344,6 @@ fn name(answer: Result<&Plan, u8>) -> String {
     }
 }
 
-fn parts_of(parts: &Parts) -> [&[u8]; 5] {
-    [&parts[0], &parts[1], &parts[2], &parts[3], &parts[4]]
-}
-
 /// One case; a panic, which neither side may show here, is a difference.
 fn one(parts: &Parts, setting: Setting, seed: u64, blocks: bool) -> Ended {
     panic::catch_unwind(|| compared(parts, setting, seed, blocks))
@@ -351,8 +352,8 @@ fn one(parts: &Parts, setting: Setting, seed: u64, blocks: bool) -> Ended {
 
 /// The original, what follows from it, and two calls of the port.
 fn compared(parts: &Parts, setting: Setting, seed: u64, blocks: bool) -> Ended {
-    let judged = judge(parts_of(parts), setting);
-    let expected = expect(parts_of(parts), setting, &judged);
+    let judged = judge(slices(parts), setting);
+    let expected = expect(slices(parts), setting, &judged);
     let dice = &mut Dice(seed);
     let empty = parts[4].is_empty();
     let mut ended = Ended { empty, asked: empty && judged.asked > 0, ..Ended::default() };
@@ -389,7 +390,7 @@ fn told_wrongly(parts: &Parts, with: Setting, seed: u64, blocks: bool) -> Ended 
     let told = Setting { big_endian: !with.big_endian, ..with };
     let mut ended = one(parts, told, seed, blocks);
     if header(&parts[0], with.order()) == 0 {
-        let original = judge(parts_of(parts), told);
+        let original = judge(slices(parts), told);
         if !matches!(original.outcome, Outcome::Error(Some(1), _)) {
             ended.different.get_or_insert(format!("the original reads it in both byte orders: {}", original.line()));
         }
@@ -404,7 +405,7 @@ fn told_wrongly(parts: &Parts, with: Setting, seed: u64, blocks: bool) -> Ended 
 fn setting(dice: &mut Dice, layout: Layout) -> Setting {
     let ranges_base = match dice.below(24) {
         0 => dice.below(40),
-        1 => layout.table(),
+        1 => layout.version() + 8,
         2 => (dice.next() >> dice.below(64)) as usize,
         3 => usize::MAX - dice.below(40),
         _ => 0,
@@ -418,6 +419,22 @@ fn spoil(dice: &mut Dice, table: &mut Vec<u8>) {
     if place > 0 && dice.rare(2) { table.truncate(place) } else { table[place..].fill(dice.of(&[2, 0x80, 0xff])) }
 }
 
+/// What the ranges' sections need to be told apart: one case in four has bytes in the section of the other version,
+/// which nobody may read, and where a ranges base is within 64 bytes, .debug_ranges mostly has as many bytes before its
+/// lists.
+fn other_ranges(dice: &mut Dice, layout: Layout, base: usize, parts: &mut Parts) {
+    if dice.rare(4) && parts[layout.unread()].is_empty() {
+        let length = dice.of(&[1, 2, 16, 40]);
+        // What both sections read as a list without a live entry, as one with a live entry, and as none.
+        let byte = dice.of(&[0, 0x11, 0xff]);
+        parts[layout.unread()] = if dice.rare(3) { dice.bytes(length) } else { vec![byte; length] };
+    }
+    if layout.older && base < 64 && !dice.rare(4) {
+        let before = dice.bytes(base);
+        parts[5].splice(0..0, before);
+    }
+}
+
 /// Smaller parts that still differ: shorter, then with more zeros.
 fn reduced(parts: &Parts, with: Setting, seed: u64, blocks: bool) -> Parts {
     let mut best = parts.clone();
@@ -425,7 +442,7 @@ fn reduced(parts: &Parts, with: Setting, seed: u64, blocks: bool) -> Parts {
     let mut again = true;
     while again && tries < 20_000 {
         again = false;
-        for part in 0..5 {
+        for part in 0..parts.len() {
             let mut size = best[part].len();
             while size > 0 {
                 let mut at = 0;
@@ -527,15 +544,19 @@ struct Options {
     save: String,
 }
 
-/// The byte orders and formats, and their names.
-const LAYOUTS: [(Layout, &str); 4] = [
-    (Layout { order: Order::Little, wide: false }, "32-bit little-endian"),
-    (Layout { order: Order::Big, wide: false }, "32-bit big-endian"),
-    (Layout { order: Order::Little, wide: true }, "64-bit little-endian"),
-    (Layout { order: Order::Big, wide: true }, "64-bit big-endian"),
+/// The byte orders, formats and versions, and their names.
+const LAYOUTS: [(Layout, &str); 8] = [
+    (Layout { order: Order::Little, wide: false, older: false }, "32-bit little-endian"),
+    (Layout { order: Order::Big, wide: false, older: false }, "32-bit big-endian"),
+    (Layout { order: Order::Little, wide: true, older: false }, "64-bit little-endian"),
+    (Layout { order: Order::Big, wide: true, older: false }, "64-bit big-endian"),
+    (Layout { order: Order::Little, wide: false, older: true }, "version 4 32-bit little-endian"),
+    (Layout { order: Order::Big, wide: false, older: true }, "version 4 32-bit big-endian"),
+    (Layout { order: Order::Little, wide: true, older: true }, "version 4 64-bit little-endian"),
+    (Layout { order: Order::Big, wide: true, older: true }, "version 4 64-bit big-endian"),
 ];
 
-/// A family in a byte order and a format, of LAYOUTS.
+/// A family in a byte order, a format and a version, of LAYOUTS.
 #[derive(Clone, Copy)]
 struct Group<'a> {
     family: &'a str,
@@ -583,6 +604,7 @@ fn run_part(group: Group, options: &Options, thread: usize, saved: &Mutex<usize>
         let mut dice = Dice(options.seed.wrapping_mul(0x9e37_79b9).wrapping_add(i as u64) << 7 ^ family.len() as u64);
         let with = setting(&mut dice, group.layout());
         let seed = dice.next();
+        other_ranges(&mut dice, group.layout(), with.ranges_base, &mut parts);
         let mut tables = vec![parts[4].clone()];
         if family != "small" {
             match dice.below(8) {
@@ -629,10 +651,10 @@ fn report(group: Group, i: usize, parts: &Parts, with: Setting, seed: u64, what:
     let small = reduced(parts, with, seed, options.blocks);
     let why = one(&small, with, seed, options.blocks).different.unwrap_or_default();
     let text = format!(
-        "{} seed {} case {i} {with:?}\n  {what}\nreduced\n  unit {}\n  abbreviations {}\n  locations {}\n  ranges {}\n  addresses {}\n  {why}\n  \
-         original: {}\n",
-        group.name(), options.seed, hex(&small[0]), hex(&small[1]), hex(&small[2]), hex(&small[3]), hex(&small[4]),
-        judge(parts_of(&small), with).line(),
+        "{} seed {} case {i} {with:?}\n  {what}\nreduced\n  unit {}\n  abbreviations {}\n  locations {}\n  ranges {}\n  addresses {}\n  \
+         older ranges {}\n  {why}\n  original: {}\n",
+        group.name(), options.seed, hex(&small[0]), hex(&small[1]), hex(&small[2]), hex(&small[3]), hex(&small[4]), hex(&small[5]),
+        judge(slices(&small), with).line(),
     );
     println!("{text}");
     let path = format!("{}/{}-{}-{i}", options.save, group.name().replace(' ', "-"), options.seed);
@@ -657,7 +679,7 @@ fn row(name: &str, tally: &Tally) -> String {
 
 fn run(groups: &[Group], options: &Options) -> bool {
     let (mut rows, mut empty) = (Vec::new(), Vec::new());
-    let mut tallies: [Tally; 4] = Default::default();
+    let mut tallies: [Tally; LAYOUTS.len()] = Default::default();
     let saved = Mutex::new(0);
     for group in groups {
         let started = std::time::Instant::now();
@@ -797,8 +819,8 @@ fn main() {
     };
     let mut options = Options { seed: 1, count: 1000, threads: 2, blocks: false, quiet: false, save: "different".to_string() };
     let mut families: Vec<String> = Vec::new();
-    let mut given: [Vec<Parts>; 4] = Default::default();
-    let mut only_wide = false;
+    let mut given: [Vec<Parts>; LAYOUTS.len()] = Default::default();
+    let (mut only_wide, mut only_older) = (false, false);
     let mut big_files = false;
     let (mut files, mut only, mut in_lines) = (false, false, false);
     let mut with = Setting::default();
@@ -821,6 +843,7 @@ fn main() {
             "--type-units" => with.type_units = true,
             "--big-endian" => with.big_endian = true,
             "--64-bit" => only_wide = true,
+            "--version-4" => only_older = true,
             "--ranges-base" => with.ranges_base = number() as usize,
             "--seed" => options.seed = number(),
             "--count" => options.count = number() as usize,
@@ -841,7 +864,9 @@ fn main() {
     if families.is_empty() {
         families = FAMILIES.iter().filter(|_| !only).chain(&OF_FILES).map(|f| f.to_string()).collect();
     }
-    let wanted = |layout: Layout| (layout.wide || !only_wide) && (layout.order == Order::Big || !with.big_endian);
+    let wanted = |layout: Layout| {
+        (layout.wide || !only_wide) && (layout.older || !only_older) && (layout.order == Order::Big || !with.big_endian)
+    };
     let mut groups = Vec::new();
     for family in &families {
         let found = (0..LAYOUTS.len()).map(|which| Group { family, which, given: &given[which] });

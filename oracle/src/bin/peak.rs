@@ -1,6 +1,6 @@
 //! What the original takes from the allocator at most, over what was taken before the call. A program of its own, for counting costs time.
 
-use oracle::cases::unbundle;
+use oracle::cases::{slices, unbundle};
 use oracle::growth::{half_live, name, unit, FAMILIES};
 use oracle::judge::{measured, Setting};
 use oracle::order;
@@ -37,12 +37,12 @@ fn main() {
     };
     let files: Vec<String> = args.collect();
     let run = move || {
-        let families = FAMILIES.iter().map(|f| (f.0.to_string(), size, unit(f.0, size, order::Layout::new(false, false)).expect("a family")));
+        let families = FAMILIES.iter().map(|f| (f.0.to_string(), size, unit(f.0, size, order::Layout::new(false, false, false)).expect("a family")));
         let bundles = files.iter().map(|f| (name(f), 0, half_live(unbundle(&std::fs::read(f).expect(f)).expect(f))));
         for (name, size, parts) in families.chain(bundles) {
             let before = NOW.load(Relaxed);
             MOST.store(before, Relaxed);
-            let answer = measured([&parts[0], &parts[1], &parts[2], &parts[3], &parts[4]], Setting::default());
+            let answer = measured(slices(&parts), Setting::default());
             let most = MOST.load(Relaxed) - before;
             println!("peak\t{name}\t{size}\t{}\t{most}", if answer.is_some() { "answered" } else { "refused" });
         }

@@ -8,19 +8,15 @@ use Rattle.bundle.proofs.read_bundle.Lts as lts
 use Rattle.bundle.proofs.frame.Reads as frame-reads
 use Rattle.bundle.proofs.sections.Reads as sections-reads
 
--- src/lib.rt:94:8
 frame-requires : tie.Need-frame-requires
 frame-requires c κs = search needs
 
--- src/lib.rt:95:9
 sections-requires : tie.Need-sections-requires
 sections-requires c κs = search needs
 
--- src/lib.rt:95:9
 returns : tie.Need-returns
 returns c = search framed
 
--- src/lib.rt:91:1
 returns-2 : tie.Need-returns-2
 returns-2 c = search unframed
 

@@ -31,7 +31,8 @@ use Rattle.rewriting.proofs.map_pass.Exact.{tokenOk}
 use Rattle.rewriting.proofs.write_pass.Expressions.{isExpression, value-exprloc}
 use Rattle.rewriting.proofs.write_pass.ValueForms.{formIs, expression-form}
 use Rattle.rewriting.proofs.kept_pass.DeepReads.{like-width, like-patched}
-use Rattle.laws.proofs.attributes.ValuesAgain.{partOf, between-part, noRole, tokenNumber, use-number, plain-use, same-reader, TokenTwice, again, token-twice, token-known}
+use Rattle.laws.proofs.attributes.ValuesAgain.{partOf, between-part, noRole, tokenNumber, use-number, plain-use, same-reader, TokenTwice, again, token-twice}
+use Rattle.rewriting.proofs.kept_pass.FormTokens.{token-known}
 
 -- ---- reads in a row, written and patched
 
@@ -76,7 +77,7 @@ module _ (e : Encoding) (f : Patch) (unit output : List ℕ) where
     token = valueToken e indirect name form
 
     known : token ≡ formIs e name form
-    known = token-known e name indirect form (drop o unit) (v, mid) q
+    known = token-known e indirect name form big ex (drop o unit) (v, mid) q
 
     no-expression : (form ≡ 0x18 → ⊥) → T (not (isExpression token))
     no-expression h = ⊎-elim (λ x. absurd (h (value-exprloc e indirect name form x .0))) (λ x. x) (either (isExpression token))

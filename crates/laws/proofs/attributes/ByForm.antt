@@ -46,7 +46,8 @@ use Rattle.laws.specs.Thinned.{Pairwise, Becomes, thinnedOf}
 use Rattle.laws.specs.ByForm.{formOf, numberOf, RefersInUnit, AttributeByForm, EntryByForm, ThinnedByForm}
 use Rattle.rewriting.proofs.write_pass.Expressions.{isExpression}
 use Rattle.rewriting.proofs.write_pass.ValueForms.{own, LinkForm, reference-form, ranges-form, locations-form, strings-form}
-use Rattle.laws.proofs.attributes.ValuesAgain.{same-reader, LinkRead, link-read, ExpressionRead, expression-read, token-known}
+use Rattle.laws.proofs.attributes.ValuesAgain.{same-reader, LinkRead, link-read, ExpressionRead, expression-read}
+use Rattle.rewriting.proofs.kept_pass.FormTokens.{token-known}
 use Rattle.laws.proofs.attributes.AttributesAgain.{Direct, direct-all, Indirect, indirect-all, shallow-one, shallow-two, Divided, divided, more}
 use Rattle.rewriting.proofs.kept_pass.ItemDepths.{Stands}
 use Rattle.laws.proofs.thinned.ThinnedItems.{nth-member}
@@ -155,7 +156,7 @@ module _ (e : Encoding) (unit : List ℕ) where
               ap (λ (g : Layout). asAttribute big declared at (readIn big asBytes g (drop at unit))) (pick-no _ _ _ n)
               ∙ ap (asAttribute big declared at) (shallow-one e keep unit unit tok (drop at unit) (t .it) rest (t .is));
           ends = ap (λ (k : ℕ). at + k) (t .wide ∙ sym w);
-          held = (λ role l. t .held (l .kind) role (token-known e name false declared (drop at unit) (v, rest) q ∙ l .token));
+          held = (λ role l. t .held (l .kind) role (token-known e false name declared (e .«big_endian») (expressionIn e) (drop at unit) (v, rest) q ∙ l .token));
         }
 
     indirect-held : T (eqb declared 0x16) → (c : Read) (mid : List ℕ) → tokenIn big ex forms (drop at unit) ≡ some (c, mid)
@@ -176,7 +177,7 @@ module _ (e : Encoding) (unit : List ℕ) where
               ∙ ap (asAttribute big declared at) (shallow-two e keep unit unit name (drop at unit) c mid (t .it) rest q₀ (t .is));
           ends = (let z : at + w + size big (t .it) ≡ at + length (bytesOf big (c .pieces) ++ (bytesOf big (v .pieces) ++ [])) = omega arith in z);
           held = (λ role l. held-in role _ (v ∷ []) (c ∷ v ∷ []) (λ r m. there m)
-              (t .held (l .kind) role (token-known e name true (c .seen) mid (v, rest) k ∙ l .token)));
+              (t .held (l .kind) role (token-known e true name (c .seen) (e .«big_endian») (expressionIn e) mid (v, rest) k ∙ l .token)));
         }
 
     attribute-held : (one : List Read) → readIn big ex (attributeLayout e name declared) (drop at unit) ≡ some (one, rest) → One one

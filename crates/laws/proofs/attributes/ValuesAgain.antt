@@ -4,7 +4,7 @@ use mathlib.Core.Path.{_≡_, refl, ap, ap₂, sym, _∙_, subst}
 use Prim.Native.Nat.{ℕ, suc, _+_, _-_, _≤_}
 use native.Mathlib.Omega.{arith}
 use mathlib.Core.Bool.{Bool, false, not}
-use mathlib.Core.Option.{none, some}
+use mathlib.Core.Option.{some}
 use mathlib.Core.List.{List, [], _∷_, _++_, append-nil}
 use mathlib.Core.Logic.{⊎-elim}
 use lib.ListN.{length, take, drop, length-append, length-drop, take-append-drop, drop-of-length-le}
@@ -19,7 +19,7 @@ use Rattle.readers.proofs.LayoutLaws.{LebLaw, uleb-law, TokenLaw, token-law, Wh
 use Rattle.readers.specs.Expression.{expressionIn}
 use Rattle.readers.proofs.Expression.{expression-law}
 use Rattle.readers.specs.Tokens.{Use, plain, as′, numberAs, tokenOf}
-use Rattle.readers.specs.Forms.{formToken, formTokens, tokenAmong, useOf, valueToken, listForm}
+use Rattle.readers.specs.Forms.{formToken, formTokens, tokenAmong, useOf, listForm}
 use Rattle.readers.specs.Fields.{size, linkedValue}
 use Rattle.readers.specs.declared.cursor.Encoding.{Encoding}
 use Rattle.rewriting.specs.Emission.{between}
@@ -336,15 +336,3 @@ module _ (e : Encoding) (f : Patch) where
     token-twice (block k) q = verbatim-twice (block k) tt tt (λ z. let y : _≡_ {A = ℕ} 0 1 = cc in absurd (omega arith)) q
     token-twice expression q = expression-twice q
     token-twice unknown q = verbatim-twice unknown tt tt (λ z. let y : _≡_ {A = ℕ} 0 1 = cc in absurd (omega arith)) q
-
--- ---- what can be read is by the token of its form
-
-pub token-known : (e : Encoding) (name : ℕ) (indirect : Bool) (form : ℕ) (s : List ℕ) (r : ReadOf) → tokenIn (e .«big_endian») (expressionIn e) (valueToken e indirect name form) s ≡ some r
-    → valueToken e indirect name form ≡ formIs e name form
-unfolding valueToken tokenIn
-token-known e name indirect form s r q =
-    ⊎-elim
-    (λ t. let z : none ≡ some r = ap (λ (g : Token). tokenIn (e .«big_endian») (expressionIn e) g s) (sym (pick-yes _ _ _ t)) ∙ q in
-    let y : _≡_ {A = ℕ} 0 1 = cc in absurd (omega arith))
-    (λ t. pick-no _ _ _ t)
-    (either ((eqb name 0x01 and eqb form 0x18) or (indirect and eqb form 0x21)))

@@ -9,9 +9,9 @@ use mathlib.Core.Logic.{⊎-elim}
 use lib.ListN.{length, take, drop, length-append}
 use lib.Seq.{length-take-le, drop-drop}
 use lib.Dec.{T, eqb, leb}
-use mir.Facts.{leb-yes, yes-eqb, eqb-yes, eqb-no, no-eqb}
+use mir.Facts.{leb-yes, eqb-yes, eqb-no, no-eqb}
 use Rattle.readers.specs.Choice.{pick, _and_, _or_, bind}
-use Rattle.readers.proofs.Choice.{pick-yes, pick-no, pick-either, either, bind-at, check-yes, All, all-some, all-none, all-of, all-bind, all-check, all-map, all-triv, and-both}
+use Rattle.readers.proofs.Choice.{pick-no, pick-either, either, bind-at, check-yes, All, all-some, all-none, all-of, all-bind, all-check, all-map, all-triv, and-both}
 use Rattle.readers.specs.Numbers.{uleb, sleb}
 use Rattle.readers.specs.Layout.{Kind, leb128, reference, sibling, Token, nothing, number, bounded, forms, signed, link, string, run, block, expression, unknown, field, verbatim, Read, ReadOf, RunOf, ExpressionReader, asBytes, copy, asNumber, asBounded, asForms, asSigned, asLink, asString, asBlock, asExpression, numberIn, formsIn, stringIn, tokenIn, readIn, bytesOf, pieceBytes}
 use Rattle.readers.proofs.LayoutLaws.{LebLaw, uleb-law}
@@ -29,6 +29,8 @@ use Rattle.readers.specs.EntryAttributes.{Valued}
 use Rattle.marking.specs.EntryReferences.{partOf}
 use Rattle.rewriting.proofs.write_pass.Expressions.{isExpression, value-exprloc}
 use Rattle.rewriting.proofs.kept_pass.EntryReads.{TokenRead, StepBy, deep-by}
+use Rattle.rewriting.proofs.kept_pass.FormTokens.{all-known}
+use Rattle.rewriting.proofs.write_pass.ValueForms.{formIs, expression-form}
 use Rattle.laws.proofs.references.NamedPieces.{roleNames, pieceNames, piecesNames, readsNames, namesOf}
 
 -- a use that names nothing
@@ -239,38 +241,13 @@ module _ (e : Encoding) (unit : List ℕ) where
         (either (eqb form 0x18)))
         (either (leb 0x11 form and leb form 0x15))
 
-    sibling-names : (form : ℕ) → name ≡ 0x01 → [] ≡ ownNames name form f
-    unfolding ownNames
-    sibling-names form z = sym (pick-yes _ _ _ (yes-eqb {a = name} {b = 0x01} z))
-
-    constant-names : (form : ℕ) → form ≡ 0x21 → [] ≡ ownNames name form f
-    unfolding _and_
-    constant-names form z = subst (λ (g : ℕ). [] ≡ ownNames name g f) (sym z) (own-none 0x21 tt (λ y. absurd (omega arith)))
-
-    -- a sibling in exprloc and implicit_const behind indirect can't be read, and name nothing
-    unreadable-names : (form : ℕ) (a b c d : Bool) → (T a → name ≡ 0x01) → (T d → form ≡ 0x21) → T ((a and b) or (c and d)) → [] ≡ ownNames name form f
-    unfolding _and_ _or_
-    unreadable-names form true true c d h j t = sibling-names form (h tt)
-    unreadable-names form true false true d h j t = constant-names form (j t)
-    unreadable-names form true false false d h j t = absurd t
-    unreadable-names form false b true d h j t = constant-names form (j t)
-    unreadable-names form false b false d h j t = absurd t
-
-    no-sibling : (a b c : Bool) → T (not ((a and b) or c)) → T b → T a → ⊥
-    unfolding _and_ _or_
-    no-sibling true true c t u v = t
-    no-sibling true false c t u v = u
-    no-sibling false b c t u v = v
-
-    value-names : (indirect : Bool) (form : ℕ) → tokenNames (valueToken e indirect name form) f ≡ ownNames name form f
-    unfolding valueToken tokenNames
-    value-names indirect form =
-        let known : Token = tokenOf e (useOf name form) (formToken form) in
-        pick-either (λ (t : Token). tokenNames t f ≡ ownNames name form f) ((eqb name 0x01 and eqb form 0x18) or (indirect and eqb form 0x21)) unknown known
-        (λ t. unreadable-names form (eqb name 0x01) (eqb form 0x18) indirect (eqb form 0x21) (λ y. eqb-yes {a = name} {b = 0x01} y) (λ y. eqb-yes {a = form} {b = 0x21} y) t)
-        (λ n. chosen form
-        (λ y z. no-sibling (eqb name 0x01) (eqb form 0x18) (indirect and eqb form 0x21) n (yes-eqb {a = form} {b = 0x18} y) (yes-eqb {a = name} {b = 0x01} z))
-        (λ y. value-exprloc e indirect name form (subst (λ (t : Token). T (isExpression t)) (sym (pick-no _ unknown known n)) y) .0))
+    value-names : (indirect : Bool) (form : ℕ) → valueToken e indirect name form ≡ formIs e name form → tokenNames (valueToken e indirect name form) f ≡ ownNames name form f
+    unfolding isExpression
+    value-names indirect form known =
+        let own : T (isExpression (formIs e name form)) → (form ≡ 0x18) × (name ≡ 0x01 → ⊥) =
+        (λ t. value-exprloc e indirect name form (subst (λ (t : Token). T (isExpression t)) (sym known) t)) in
+        ap (λ (t : Token). tokenNames t f) known
+        ∙ chosen form (λ y. own (subst (λ (t : Token). T (isExpression t)) (sym (expression-form e name form y)) tt) .1) (λ t. own t .0)
 
   -- ---- a value that was read deep
 
@@ -281,9 +258,10 @@ module _ (e : Encoding) (unit : List ℕ) where
       → All (TokenRead piecesNames valueNames e unit indirect name form at) (tokenIn big deep (valueToken e indirect name form) (drop at unit))
   token-read indirect name form at =
       let t : Token = valueToken e indirect name form in
+      all-known e indirect name form big deep (drop at unit) (TokenRead piecesNames valueNames e unit indirect name form at) (λ known.
       all-map (NamedToken t at) (TokenRead piecesNames valueNames e unit indirect name form at) (tokenIn big deep t (drop at unit))
-      (λ r i. record { it = i .it; is = i .is; numbers = i .names ∙ value-names name (fieldOf big at (i .it)) indirect form })
-      (token-named t at)
+      (λ r i. record { it = i .it; is = i .is; numbers = i .names ∙ value-names name (fieldOf big at (i .it)) indirect form known })
+      (token-named t at))
 
   copied-none : (l : List ℕ) → piecesNames (verbatim l ∷ []) ≡ []
   unfolding piecesNames pieceNames

@@ -30,6 +30,7 @@ use Rattle.marking.proofs.Members.{nothing-in, in-left, in-right, in-either}
 use Rattle.laws.specs.SameRoles.{RoleRead}
 use Rattle.laws.proofs.references.NamedPieces.{only}
 use Rattle.rewriting.proofs.kept_pass.EntryReads.{TokenRead, StepBy, deep-by}
+use Rattle.rewriting.proofs.kept_pass.FormTokens.{all-known}
 
 -- ---- uses
 
@@ -396,33 +397,6 @@ module _ (sought : Role → Bool) (no-reference : sought reference ≡ false) (n
         (λ t u. no-string-form f n25 n26 n27 n28 (leb-yes {a = 0x25} {b = f} t) (leb-yes {a = f} {b = 0x28} u)))
         (no-eqb {a = f} {b = 0x1f02} n1f02)))))))))))))))))
 
-    abbrev NotSought : ℕ → ℕ → ℕ → Type 0
-    NotSought name v f = [] ≡ pick (useSought (useOf name f)) (v ∷ []) []
-
-    exprloc-none : (name v : ℕ) → NotSought name v 0x18
-    unfolding useSought useOf pick _and_ _or_
-    exprloc-none name v = refl
-
-    implicit-none : (name v : ℕ) → NotSought name v 0x21
-    unfolding useSought useOf pick _and_ _or_
-    implicit-none name v = refl
-
-    unknown-none : (name : ℕ) (a b c d : Bool) (f v : ℕ) → (T b → f ≡ 0x18) → (T d → f ≡ 0x21) → T ((a and b) or (c and d)) → NotSought name v f
-    unfolding _and_ _or_
-    unknown-none name true true c d f v h g t = subst (NotSought name v) (sym (h tt)) (exprloc-none name v)
-    unknown-none name true false true d f v h g t = subst (NotSought name v) (sym (g t)) (implicit-none name v)
-    unknown-none name true false false d f v h g t = absurd t
-    unknown-none name false b true d f v h g t = subst (NotSought name v) (sym (g t)) (implicit-none name v)
-    unknown-none name false b false d f v h g t = absurd t
-
-    value-sought : (indirect : Bool) (name f v : ℕ) → tokenSought (valueToken e indirect name f) v ≡ pick (useSought (useOf name f)) (v ∷ []) []
-    unfolding valueToken tokenSought
-    value-sought indirect name f v =
-        pick-either (λ (t : Token). tokenSought t v ≡ pick (useSought (useOf name f)) (v ∷ []) [])
-        ((eqb name 0x01 and eqb f 0x18) or (indirect and eqb f 0x21)) unknown (tokenOf e (useOf name f) (formToken f))
-        (λ t. unknown-none name (eqb name 0x01) (eqb f 0x18) indirect (eqb f 0x21) f v (λ u. eqb-yes {a = f} {b = 0x18} u) (λ u. eqb-yes {a = f} {b = 0x21} u) t)
-        (λ _. chosen name f v)
-
     -- ---- a value that was read deep
 
     module _ (unit : List ℕ) where
@@ -437,14 +411,16 @@ module _ (sought : Role → Bool) (no-reference : sought reference ≡ false) (n
       unfolding ownSought fieldOf
       token-read indirect name form at =
           let t : Token = valueToken e indirect name form in
+          all-known e indirect name form big deep (drop at unit) (TokenRead piecesSought ownSought e unit indirect name form at) (λ known.
           all-map (SoughtToken big deep t (drop at unit)) (TokenRead piecesSought ownSought e unit indirect name form at) (tokenIn big deep t (drop at unit))
           (λ r i.
+          let v : ℕ = linkedValue (i .it .pieces) (i .it .seen) in
           record {
             it = i .it;
             is = i .is;
-            numbers = i .numbers ∙ value-sought indirect name form (linkedValue (i .it .pieces) (i .it .seen));
+            numbers = i .numbers ∙ ap (λ (t : Token). tokenSought t v) known ∙ chosen name form v;
           })
-          (token-sought big deep expression-none t (drop at unit))
+          (token-sought big deep expression-none t (drop at unit)))
 
       copied-none : (l : List ℕ) → piecesSought (verbatim l ∷ []) ≡ []
       unfolding piecesSought pieceSought

@@ -21,10 +21,11 @@ use Rattle.readers.specs.declared.lists.ListOffset.{ListOffset}
 use Rattle.marking.specs.declared.root_test.Verdict.{Verdict}
 use Rattle.marking.specs.declared.root_test.Verdict.the-variants.{Live, Dead}
 use Rattle.marking.specs.EntryReferences.{ReferencesFound, found, refused as refusedAfter}
-use Rattle.marking.specs.Roots.{rangesBy, orElse, rangesLive, locationLive, olderLive, lowPc, lowPcs, locations}
+use Rattle.marking.specs.Roots.{rangesBy, orElse, rangesLive, locationLive, offsetLive, lowPc, lowPcs, locations}
 use Rattle.marking.specs.Roots.{otherRanges, rangesOf, firstRanges, rootTest}
 use Rattle.marking.specs.Analysis.{Sections, Rooms, Analysed, analysed, refused as notAnalysed, onto}
-use Rattle.marking.specs.Analysis.{onVerdict, onFound, Reached, startOf, tagOf, valuesOfEntry, rootOf, namesOf, baseOf}
+use Rattle.marking.specs.Analysis.{onVerdict, onFound, Reached, startOf, tagOf, valuesOfEntry, rangesFor, rootOf, namesOf}
+use Rattle.marking.specs.Analysis.{baseOf}
 use Rattle.marking.specs.Analysis.{analyseItems, onDeclared, unitAnalysed, headerAnalysed, analysisOf}
 use Rattle.laws.specs.AddressTables.{withTable}
 use Rattle.laws.specs.RefusalNumbers.{OneOf}
@@ -48,7 +49,7 @@ pub record Verdicts {I : Type 0} (table : I → List ℕ) (P : (I → Verdict) �
   pub of-low-pc : (e : Encoding) (a : Attribute) → P (λ i. lowPc e (table i) a)
   pub of-location : (e : Encoding) (s : List ℕ) → P (λ i. locationLive e (table i) s)
   pub of-ranges : (e : Encoding) (s : List ℕ) (o : ListOffset) → P (λ i. rangesLive e (table i) s o)
-  pub of-older : (e : Encoding) (s : List ℕ) (o : ListOffset) → P (λ i. olderLive e s o)
+  pub of-offset : (e : Encoding) (s : List ℕ) (o : ListOffset) → P (λ i. offsetLive e s o)
 
 -- analyses, one by each table; N is what holds of the numbers that say whether an entry is a root
 pub record Analyses {I : Type 0} (P : (I → Verdict) → Type 0) (N : (I → ℕ) → Type 0) (Q : (I → Analysed) → Type 0) : Type 0 where
@@ -81,7 +82,7 @@ module _ {I : Type 0} (table : I → List ℕ) where
       unfolding rangesOf otherRanges
       ranges-by a =
           pick-of P (eqb (a .form) «DW_FORM_rnglistx») _ _ (v .of-ranges e ranges _)
-          (pick-of P (eqb (a .form) «DW_FORM_sec_offset») _ _ (v .of-older e ranges _) (v .of-live))
+          (pick-of P (eqb (a .form) «DW_FORM_sec_offset») _ _ (v .of-offset e ranges _) (v .of-live))
 
       first-by : (vs : List Valued) → P (λ i. firstRanges e (rangesBy ranges (table i) rangesBase rnglistsBase) vs)
       unfolding firstRanges
@@ -114,7 +115,7 @@ module _ {I : Type 0} (table : I → List ℕ) where
     items-by e unit room p (entry y ∷ is) whole =
         pick-of Q (ltb (p .count) (room .entries)) _ _
         (a .of-verdict _
-        (root-by v e (x .ranges) (x .setting .«ranges_base») (baseOf e x unit «DW_AT_rnglists_base» (p .rnglistsBase) y) unit (tagOf y)
+        (root-by v e (rangesFor e (x .ranges) (x .debugRanges)) (x .setting .«ranges_base») (baseOf e x unit «DW_AT_rnglists_base» (p .rnglistsBase) y) unit (tagOf y)
         (valuesOfEntry e x unit y)) _
         (λ root r. found-by (namesOf e x unit (baseOf e x unit «DW_AT_loclists_base» (p .loclistsBase) y) y) (attributes-numbered e _ _) _
         (λ names. pick-of Q (leb (p .references + length names) (room .references)) _ _

@@ -30,4 +30,4 @@ pub all-live-law : (x : Sections) (room : Room) (typeUnits : Bool) (section : Li
     → Eventually (λ n. collectOf (withTable x (ones n)) room typeUnits section ≡ collectOf (withTable x []) room typeUnits section)
 all-live-law x room typeUnits section =
     let a = all-live-analysis x section (room .tables) in
-    record { from = a .from; holds = λ n l. same-collected x (ones n) [] room typeUnits section (a .holds n l) }
+    record { from = a .from; holds = λ n l. same-collected (withTable x (ones n)) (x .locations) (x .ranges) [] (x .debugRanges) room typeUnits section (a .holds n l) }

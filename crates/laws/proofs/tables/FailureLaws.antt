@@ -171,7 +171,7 @@ module _ (x : Sections) (room : Room) (typeUnits : Bool) (section : List ℕ) wh
       record {
         asked = a .asked;
         fine = a .fine;
-        decides = λ table s. same-collected x table (x .addresses) room typeUnits section (a .decides table s);
+        decides = λ table s. same-collected (withTable x table) (x .locations) (x .ranges) (x .addresses) (x .debugRanges) room typeUnits section (a .decides table s);
       }
 
 -- ---- the empty table (Point 2)

@@ -8,8 +8,12 @@ use mathlib.Core.List.{List, [], _∷_}
 use lib.ListN.{length}
 use lib.Dec.{ltb}
 use Rattle.readers.specs.Choice.{pick, _and_, _or_}
+use Rattle.readers.specs.Operations.{row-address-address}
+use Rattle.readers.specs.Fields.{rowAt}
 use Rattle.readers.specs.Steps.{operationAt, listEntryAt}
 use Rattle.readers.specs.declared.cursor.Encoding.{Encoding}
+use Rattle.readers.specs.declared.fields.OperandsRead.{OperandsRead}
+use Rattle.readers.specs.declared.fields.OperandsRead.the-variants.{Read as Row′, Unreadable as NoRow}
 use Rattle.readers.specs.declared.lists.ListOffset.{ListOffset}
 use Rattle.readers.specs.declared.lists.ListOffset.the-variants.{At, Unresolved}
 use Rattle.readers.specs.declared.operations.ListEntry.{ListEntry}
@@ -26,7 +30,7 @@ use Rattle.marking.specs.declared.root_test.Verdict.{Verdict}
 use Rattle.marking.specs.declared.root_test.Verdict.the-variants.{Live, Dead, Refused}
 use Rattle.marking.specs.Walking.{go, stop, onNext, walkWithin, walk}
 use Rattle.marking.specs.Roots.{Flagged, place, RootTurn, orElse, onLookup, rangeEntry, rangeStep, rangesLive}
-use Rattle.marking.specs.Roots.{operationStep, locationLive, olderStep, olderLive, lowPc}
+use Rattle.marking.specs.Roots.{operationStep, locationLive, olderStep, olderLive, rangePair, pairStep, pairsLive, offsetLive, lowPc}
 use Rattle.marking.specs.Analysis.{Sections, Rooms, EntryRow, Analysed, analysed, refused as notAnalysed, onto, onVerdict}
 use Rattle.marking.specs.Analysis.{Reached, analyseItems, analysisOf}
 use Rattle.laws.specs.AddressTables.{withTable}
@@ -144,6 +148,22 @@ module _ {I : Type 0} {table : I → List ℕ} {others : List ℕ} {Holds : (X :
     older-told s (At d) = walk-told (λ i p. olderStep (listEntryAt e false s (p .at))) (λ p. older-turn _) (length s) _
     older-told s Unresolved = live-told
 
+    pair-turn : (dead : Bool) (t : OperandsRead) → TurnTold (λ i. pairStep e dead t)
+    unfolding pairStep rangePair
+    pair-turn dead (Row′ r) = turn-pick _ _ _ stop-dead (turn-pick _ _ _ (go-told _) (turn-pick _ _ _ (go-told _) stop-live))
+    pair-turn dead NoRow = c .of-refusal ends 5 five
+
+    pairs-told : (s : List ℕ) (o : ListOffset) → Told (λ i. pairsLive e s o)
+    unfolding pairsLive
+    pairs-told s (At d) =
+        walk-told (λ i p. pick (ltb (p .at) (length s)) (pairStep e (p .flag) (rowAt e s (p .at) row-address-address)) (stop Dead))
+        (λ p. turn-pick _ _ _ (pair-turn _ _) stop-dead) (length s) _
+    pairs-told s Unresolved = live-told
+
+    offset-told : (s : List ℕ) (o : ListOffset) → Told (λ i. offsetLive e s o)
+    unfolding offsetLive
+    offset-told s o = pick-of Told _ _ _ (pairs-told s o) (older-told s o)
+
     entry-turn : (dead : Bool) (x : ListEntry) → TurnTold (λ i. rangeEntry e (table i) dead x)
     unfolding rangeEntry
     entry-turn dead x =
@@ -207,7 +227,7 @@ module _ {I : Type 0} {table : I → List ℕ} {others : List ℕ} {Holds : (X :
         of-low-pc = λ e a. low-told five e a;
         of-location = λ e s. location-told five e s;
         of-ranges = λ e s o. ranges-told five e s o;
-        of-older = λ e s o. older-told five e s o;
+        of-offset = λ e s o. offset-told five e s o;
       }
 
   -- ---- the analysis: an entry is a root by each of the tables, or by none

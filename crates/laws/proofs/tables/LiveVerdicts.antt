@@ -181,5 +181,5 @@ held table =
       of-low-pc = λ e a. low-held e table a;
       of-location = λ e s. location-held e table s;
       of-ranges = λ e s o. ranges-held e table s o;
-      of-older = λ e s o. held-same _;
+      of-offset = λ e s o. held-same _;
     }

@@ -143,7 +143,8 @@ module _ (x : Sections) (room : Room) (typeUnits : Bool) (section : List ℕ) (w
         length-read = length-law;
         others = others-are;
         unit-id = (λ t.
-            let f : n ≡ front + 4 + offset + 8 = ⊎-elim (λ y. absurd (omega (arith, y .0, t))) (λ y. y .1) (law .headed) in (
+            let f : n ≡ front + 4 + offset + 8 =
+            ⊎-elim (λ y. absurd (omega (arith, y .1 .0, t))) (λ y. ⊎-elim (λ y. absurd (omega (arith, y .1 .0, t))) (λ y. omega (arith, y .1 .1)) y) (law .headed) in (
               f,
               same-part (u .bytes) (w .output) front (front + 4 + offset) 8 (omega arith) (omega (arith, law .inside, f)) (omega (arith, size-is, f))
                   (subst (λ (z : ℕ). drop front (take z (w .output)) ≡ drop front (take z (u .bytes))) f others-are),

@@ -28,6 +28,7 @@ use Rattle.rewriting.specs.inner.IndexLists.{formList, valueIndex, value
 use Rattle.readers.specs.inner.Forms.{roleList, useList}
 use Rattle.readers.proofs.FormKinds.{list-low, list-high, form-list}
 use Rattle.rewriting.proofs.kept_pass.EntryReads.{TokenRead, StepBy, deep-by}
+use Rattle.rewriting.proofs.kept_pass.FormTokens.{all-known}
 
 -- ---- indices of some pieces after others
 
@@ -310,30 +311,6 @@ module _ (k : ℕ) where
           (either (eqb f 0x22)))
           (either (eqb f 0x23))
 
-      exprloc-none : (v : ℕ) → [] ≡ pick (eqb (formList 0x18) k) (v ∷ []) []
-      unfolding formList useList useOf pick _and_ _or_
-      exprloc-none v = sym (ap (λ (b : Bool). pick b (v ∷ []) []) not-three)
-
-      implicit-none : (v : ℕ) → [] ≡ pick (eqb (formList 0x21) k) (v ∷ []) []
-      unfolding formList useList useOf pick _and_ _or_
-      implicit-none v = sym (ap (λ (b : Bool). pick b (v ∷ []) []) not-three)
-
-      unknown-none : (a b c d : Bool) (f v : ℕ) → (T b → f ≡ 0x18) → (T d → f ≡ 0x21) → T ((a and b) or (c and d)) → [] ≡ pick (eqb (formList f) k) (v ∷ []) []
-      unfolding _and_ _or_
-      unknown-none true true c d f v h g t = subst (λ (f : ℕ). [] ≡ pick (eqb (formList f) k) (v ∷ []) []) (sym (h tt)) (exprloc-none v)
-      unknown-none true false true d f v h g t = subst (λ (f : ℕ). [] ≡ pick (eqb (formList f) k) (v ∷ []) []) (sym (g t)) (implicit-none v)
-      unknown-none true false false d f v h g t = absurd t
-      unknown-none false b true d f v h g t = subst (λ (f : ℕ). [] ≡ pick (eqb (formList f) k) (v ∷ []) []) (sym (g t)) (implicit-none v)
-      unknown-none false b false d f v h g t = absurd t
-
-      value-index : (indirect : Bool) (name f v : ℕ) → tokenIndex (valueToken e indirect name f) v ≡ pick (eqb (formList f) k) (v ∷ []) []
-      unfolding valueToken tokenIndex
-      value-index indirect name f v =
-          pick-either (λ (t : Token). tokenIndex t v ≡ pick (eqb (formList f) k) (v ∷ []) [])
-          ((eqb name 0x01 and eqb f 0x18) or (indirect and eqb f 0x21)) unknown (tokenOf e (useOf name f) (formToken f))
-          (λ t. unknown-none (eqb name 0x01) (eqb f 0x18) indirect (eqb f 0x21) f v (λ u. eqb-yes {a = f} {b = 0x18} u) (λ u. eqb-yes {a = f} {b = 0x21} u) t)
-          (λ _. chosen name f v)
-
       -- ---- a value that was read deep
 
       module _ (unit : List ℕ) where
@@ -351,14 +328,16 @@ module _ (k : ℕ) where
         unfolding valueIndex fieldOf
         token-read indirect name form at =
             let t : Token = valueToken e indirect name form in
+            all-known e indirect name form big deep (drop at unit) (TokenRead (indicesIn k) own e unit indirect name form at) (λ known.
             all-map (Indexed big deep t (drop at unit)) (TokenRead (indicesIn k) own e unit indirect name form at) (tokenIn big deep t (drop at unit))
             (λ r i.
+            let v : ℕ = linkedValue (i .it .pieces) (i .it .seen) in
             record {
               it = i .it;
               is = i .is;
-              numbers = i .indices ∙ value-index indirect name form (linkedValue (i .it .pieces) (i .it .seen));
+              numbers = i .indices ∙ ap (λ (t : Token). tokenIndex t v) known ∙ chosen name form v;
             })
-            (token-indexed big deep expression-none t (drop at unit))
+            (token-indexed big deep expression-none t (drop at unit)))
 
         copied-none : (l : List ℕ) → indicesIn k (verbatim l ∷ []) ≡ []
         unfolding indicesIn indexIn

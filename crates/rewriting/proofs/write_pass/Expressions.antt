@@ -11,7 +11,7 @@ use Rattle.readers.proofs.Choice.{pick-either, and-both}
 use Rattle.readers.specs.Layout.{Kind, Token, nothing, number, bounded, forms, signed, link, string, run, block, expression, unknown}
 use Rattle.readers.specs.Tokens.{Use, plain, as′, numberAs, tokenOf}
 use Rattle.readers.specs.Operations.{Codes}
-use Rattle.readers.specs.Forms.{formTokens, tokenAmong, formToken, useOf, valueToken}
+use Rattle.readers.specs.Forms.{formTokens, tokenAmong, formToken, useOf, inVersion, valueToken}
 use Rattle.readers.specs.declared.cursor.Encoding.{Encoding}
 
 unfoldable pub isExpression : Token → Bool
@@ -82,18 +82,20 @@ module _ (e : Encoding) (indirect : Bool) (name f : ℕ) where
   abbrev Exprloc : Token → Type 0
   Exprloc t = T (isExpression t) → (f ≡ 0x18) × (name ≡ 0x01 → ⊥)
 
-  none-of : (a b c : Bool) → T (not ((a and b) or c)) → T b → T a → ⊥
+  none-of : (x a b c : Bool) → T (not (x or (a and b) or c)) → T b → T a → ⊥
   unfolding _and_ _or_
-  none-of true true c t u v = t
-  none-of true false c t u v = u
-  none-of false b c t u v = v
+  none-of true a b c t u v = t
+  none-of false true true c t u v = t
+  none-of false true false c t u v = u
+  none-of false false b c t u v = v
 
   -- an expression is a value in exprloc, not a sibling
   pub value-exprloc : T (isExpression (valueToken e indirect name f)) → (f ≡ 0x18) × (name ≡ 0x01 → ⊥)
   unfolding valueToken isExpression
   value-exprloc =
-      pick-either Exprloc ((eqb name 0x01 and eqb f 0x18) or (indirect and eqb f 0x21)) unknown (tokenOf e (useOf name f) (formToken f))
+      let foreign : Bool = not (inVersion (e .version) f) in
+      pick-either Exprloc (foreign or (eqb name 0x01 and eqb f 0x18) or (indirect and eqb f 0x21)) unknown (tokenOf e (useOf name f) (formToken f))
       (λ _ t. absurd t)
       (λ n t.
       let q : f ≡ 0x18 = exprloc f (nineteen e (useOf name f) (formToken f) t) in
-      (q, λ z. none-of (eqb name 0x01) (eqb f 0x18) (indirect and eqb f 0x21) n (yes-eqb {a = f} {b = 0x18} q) (yes-eqb {a = name} {b = 0x01} z)))
+      (q, λ z. none-of foreign (eqb name 0x01) (eqb f 0x18) (indirect and eqb f 0x21) n (yes-eqb {a = f} {b = 0x18} q) (yes-eqb {a = name} {b = 0x01} z)))

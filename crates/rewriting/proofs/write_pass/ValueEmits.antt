@@ -40,7 +40,8 @@ use Rattle.rewriting.proofs.write_pass.Emissions.{EmitsAt, emits-as, em
 use Rattle.rewriting.proofs.map_pass.Exact.{tokenOk, Right, Rights, ExactReader, Exactly, TokenExact, number-exact, token-exact, are-drop}
 use Rattle.rewriting.proofs.write_pass.Splices.{next-zero, absolute-none, reference-refusal, Sound, fit-sound, wide-of}
 use Rattle.rewriting.proofs.write_pass.ValueForms.{onlyAbsolute, formIs, LinkForm}
-use Rattle.rewriting.proofs.write_pass.ValueParts.{between-from, between-join, next-last, Value, token-known}
+use Rattle.rewriting.proofs.write_pass.ValueParts.{between-from, between-join, next-last, Value}
+use Rattle.rewriting.proofs.kept_pass.FormTokens.{token-known}
 
 -- ---- refusals by role
 
@@ -146,7 +147,7 @@ module _ (e : Encoding) (unit : List ℕ) (values name : ℕ) (value : Attribute
   there = drop (w .o) unit
 
   known : valueToken e (w .indirect) name f ≡ formIs e name f
-  known = token-known e name (w .indirect) f there (w .v, w .rest) (w .deep)
+  known = token-known e (w .indirect) name f big (expressionIn e) there (w .v, w .rest) (w .deep)
 
   deeply : tokenIn big (expressionIn e) (formIs e name f) there ≡ some (w .v, w .rest)
   deeply = ap (λ g. tokenIn big (expressionIn e) g there) (sym known) ∙ w .deep

@@ -3,7 +3,7 @@ use mathlib.Core.Path.{_≡_, refl, ap, ap₂, sym, _∙_, subst}
 use Prim.Native.Nat.{ℕ, _+_, _-_, _≤_}
 use native.Mathlib.Omega.{arith}
 use mathlib.Core.Bool.{Bool, true, false}
-use mathlib.Core.Option.{none, some}
+use mathlib.Core.Option.{some}
 use mathlib.Core.List.{List, [], _∷_, _++_, append-nil}
 use mathlib.Core.Logic.{⊎-elim}
 use lib.ListN.{length, take, drop, length-drop}
@@ -28,7 +28,6 @@ use Rattle.readers.proofs.Values.{valued, behindForms, attribute-direct, attrib
 use Rattle.rewriting.specs.Places.{Place}
 use Rattle.rewriting.specs.Rewriting.{Lists, pieceRefusal, piecesRefusal, readsRefusal, orNext}
 use Rattle.rewriting.specs.Emission.{between}
-use Rattle.rewriting.proofs.write_pass.ValueForms.{formIs}
 
 -- ---- parts of a slice
 
@@ -175,14 +174,3 @@ module _ (e : Encoding) (unit : List ℕ) (values name declared : ℕ) (value : 
       (λ t. all-of Shape (indirect-all (eqb-yes {a = declared} {b = 0x16} t)) (ap (λ g. readIn big ex g (drop values unit)) (sym (pick-yes _ _ _ t)) ∙ q))
       (λ t. all-of Shape (direct-all (eqb-no {a = declared} {b = 0x16} t)) (ap (λ g. readIn big ex g (drop values unit)) (sym (pick-no _ _ _ t)) ∙ q))
       (either (eqb declared 0x16))
-
--- what can be read is by the token of its form
-pub token-known : (e : Encoding) (name : ℕ) (indirect : Bool) (f : ℕ) (s : List ℕ) (r : ReadOf) → tokenIn (e .«big_endian») (expressionIn e) (valueToken e indirect name f) s ≡ some r
-    → valueToken e indirect name f ≡ formIs e name f
-unfolding valueToken tokenIn
-token-known e name indirect f s r q =
-    ⊎-elim
-    (λ t. let z : none ≡ some r = ap (λ g. tokenIn (e .«big_endian») (expressionIn e) g s) (sym (pick-yes _ _ _ t)) ∙ q in
-    let y : _≡_ {A = ℕ} 0 1 = cc in absurd (omega arith))
-    (λ t. pick-no _ _ _ t)
-    (either ((eqb name 0x01 and eqb f 0x18) or (indirect and eqb f 0x21)))

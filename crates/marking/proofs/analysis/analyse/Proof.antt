@@ -16,7 +16,7 @@ header-read c =
     .before .before .before .before .before
 
 abbrev start : tie.After-find-unit → tie.Start
-start c = header-read c .before .before .before .before .before .before .before .before .before .before .before .before
+start c = header-read c .before .before .before .before .before .before .before .before .before .before .before .before .before
 
 abbrev found-none : tie.After-known-told → tie.After-find-unit
 found-none c = c .before .before .before .before .before

@@ -15,8 +15,8 @@ use Rattle.marking.proofs.analysis.analyse_entries.Tie as tie
 
 abbrev Inv-loop : tie.InvT-loop
 Inv-loop unit abbreviations from index e locations ranges addresses setting entry-room reference-room offsets₀ parents₀ roots₀ ends₀ targets₀ c₀ count₀ to₀ nesting₀ rnglists-base₀ loclists-base₀ offsets parents roots ends targets c count to nesting rnglists-base loclists-base =
-    Stage e (sections abbreviations locations ranges addresses setting) unit (rooms entry-room reference-room) (findAt abbreviations from index)
-    (unitAnalysed e (sections abbreviations locations ranges addresses setting) unit (rooms entry-room reference-room) from (c₀ .at))
+    Stage e (sections abbreviations locations ranges addresses ranges setting) unit (rooms entry-room reference-room) (findAt abbreviations from index)
+    (unitAnalysed e (sections abbreviations locations ranges addresses ranges setting) unit (rooms entry-room reference-room) from (c₀ .at))
     offsets₀ parents₀ roots₀ ends₀ targets₀ offsets parents roots ends targets (c .at) count to nesting rnglists-base loclists-base
 
 abbrev μ-loop : tie.MeasureT-loop

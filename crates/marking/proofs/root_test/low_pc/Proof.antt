@@ -1,7 +1,7 @@
 -- `low_pc` answers by the form. Assumes nothing.
 use mathlib.Core.Logic.{⊎-elim}
 use borrow.Author.Needs.{needs}
-use Rattle.marking.proofs.Verdicts.{address-dead, address-live, form-low, form-high, form-addrx, form-sized, index-live, index-dead, index-fails}
+use Rattle.marking.proofs.Verdicts.{address-dead, address-live, form-low, form-high, form-addrx, form-sized, form-gnu, index-live, index-dead, index-fails}
 use Rattle.marking.proofs.root_test.low_pc.Statement.{statement}
 use Rattle.marking.proofs.root_test.low_pc.Tie as tie
 
@@ -33,13 +33,13 @@ enum-known-n : tie.Need-enum-known-n
 enum-known-n c = search needs
 
 returns-5 : tie.Need-returns-5
-returns-5 c = ⊎-elim (λ w. search (index-live, form-sized)) (λ w. search (index-live, form-addrx)) (c .before .before .before .if3 .came)
+returns-5 c = ⊎-elim (λ w. search (index-live, form-gnu)) (λ w. ⊎-elim (λ w. search (index-live, form-sized)) (λ w. search (index-live, form-addrx)) w) (c .before .before .before .if3 .came)
 
 returns-6 : tie.Need-returns-6
-returns-6 c = ⊎-elim (λ w. search (index-dead, form-sized)) (λ w. search (index-dead, form-addrx)) (c .before .before .before .if3 .came)
+returns-6 c = ⊎-elim (λ w. search (index-dead, form-gnu)) (λ w. ⊎-elim (λ w. search (index-dead, form-sized)) (λ w. search (index-dead, form-addrx)) w) (c .before .before .before .if3 .came)
 
 returns-7 : tie.Need-returns-7
-returns-7 c = ⊎-elim (λ w. search (index-fails, form-sized)) (λ w. search (index-fails, form-addrx)) (c .before .before .before .before .if3 .came)
+returns-7 c = ⊎-elim (λ w. search (index-fails, form-gnu)) (λ w. ⊎-elim (λ w. search (index-fails, form-sized)) (λ w. search (index-fails, form-addrx)) w) (c .before .before .before .before .if3 .came)
 
 pub low-pc-spec : {M : Type 1} → statement M
 low-pc-spec =

@@ -1,7 +1,7 @@
 -- `other_ranges` meets its contract: a sum within the section is no larger than 64 bits. Assumes nothing.
 use native.Mathlib.Omega.{arith}
 use borrow.Author.Needs.{needs}
-use Rattle.marking.proofs.RootTests.{other-form, other-past, other-unresolved, other-older}
+use Rattle.marking.proofs.RootTests.{other-form, other-past, other-unresolved, other-pairs, other-older}
 use Rattle.marking.proofs.root_test.other_ranges.Statement.{statement}
 use Rattle.marking.proofs.root_test.other_ranges.Tie as tie
 
@@ -29,11 +29,17 @@ enum-told c = search needs
 returns-4 : tie.Need-returns-4
 returns-4 c = search other-unresolved
 
+pairs-live-requires : tie.Need-pairs-live-requires
+pairs-live-requires c κs = search needs
+
+returns-5 : tie.Need-returns-5
+returns-5 c = search other-pairs
+
 ranges-has-live-entry-requires : tie.Need-ranges-has-live-entry-requires
 ranges-has-live-entry-requires c κs = search needs
 
-returns-5 : tie.Need-returns-5
-returns-5 c = search other-older
+returns-6 : tie.Need-returns-6
+returns-6 c = search other-older
 
 pub other-ranges-spec : {M : Type 1} → statement M
 other-ranges-spec =
@@ -47,5 +53,7 @@ other-ranges-spec =
     enum-known-start
     enum-told
     returns-4
+    pairs-live-requires
+    returns-5
     ranges-has-live-entry-requires
-    returns-5)
+    returns-6)

@@ -3,7 +3,7 @@ use mathlib.Core.Path.{ap, _∙_}
 use native.Mathlib.Omega.{arith}
 use Rattle.readers.specs.Entries.{attributeEnd}
 use Rattle.readers.specs.declared.cursor.Moved.the-variants.{To}
-use Rattle.readers.proofs.Values.{plain-past, end-read, end-none}
+use Rattle.readers.proofs.Values.{plain-past, fixed-in, end-read, end-none}
 use borrow.Author.Needs.{needs}
 use Rattle.readers.proofs.cursor.Cursor.past_attribute.Statement.{statement}
 use Rattle.readers.proofs.cursor.Cursor.past_attribute.Tie as tie
@@ -18,7 +18,7 @@ bytes-requires : tie.Need-bytes-requires
 bytes-requires c κs = search needs
 
 returns : tie.Need-returns
-returns c = plain-past _ _ _ _ _ _ (c .before .before .form-token .ensures) (omega arith) (c .before .if1 .taken) _ (c .bytes .ensures)
+returns c = plain-past _ _ _ _ _ _ (c .before .before .form-token .ensures) (omega arith) (fixed-in _ _ _ (c .before .before .form-token .ensures) (c .before .if1 .taken)) (c .before .if1 .taken) _ (c .bytes .ensures)
 
 attribute-requires : tie.Need-attribute-requires
 attribute-requires c κs = search needs

@@ -23,7 +23,7 @@ enum-told c = search needs
 
 returns-2 : tie.Need-returns-2
 unfolding listed listedFrom rowOf rows unreadableRow
-returns-2 c = row-none _ _ _ _ _ _ (c .before .before .field .ensures) (entry (λ l. rowOf l .first) 28 _ (c .before .before .before .if1 .left)) (c .enum-told .given .1)
+returns-2 c = row-none _ _ _ _ _ _ (c .before .before .field .ensures) (entry (λ l. rowOf l .first) 31 _ (c .before .before .before .if1 .left)) (c .enum-told .given .1)
 
 next-requires : tie.Need-next-requires
 next-requires c κs = search needs
@@ -44,8 +44,8 @@ returns-3 : tie.Need-returns-3
 unfolding listed listedFrom rowOf rows unreadableRow
 returns-3 c =
     row-none2 _ _ _ _ _ _
-    (c .before .before .before .before .before .before .before .field .ensures) (entry (λ l. rowOf l .first) 28 _ (c .before .before .before .before .before .before .before .before .if1 .left)) _ (c .before .before .before .before .before .first .given .1) _ _
-    (field-from _ _ _ _ _ _ (c .before .before .field2 .ensures) (c .before .before .before .next .ensures)) (entry (λ l. rowOf l .second) 28 _ (c .before .before .before .before .before .before .before .before .if1 .left)) (c .enum-told2 .given .1)
+    (c .before .before .before .before .before .before .before .field .ensures) (entry (λ l. rowOf l .first) 31 _ (c .before .before .before .before .before .before .before .before .if1 .left)) _ (c .before .before .before .before .before .first .given .1) _ _
+    (field-from _ _ _ _ _ _ (c .before .before .field2 .ensures) (c .before .before .before .next .ensures)) (entry (λ l. rowOf l .second) 31 _ (c .before .before .before .before .before .before .before .before .if1 .left)) (c .enum-told2 .given .1)
 
 next-requires-2 : tie.Need-next-requires-2
 next-requires-2 c κs = search needs
@@ -66,17 +66,17 @@ returns-4 : tie.Need-returns-4
 unfolding listed listedFrom rowOf rows unreadableRow
 returns-4 c =
     row-none3 _ _ _ _ _ _
-    (c .before .before .before .before .before .before .before .before .before .before .before .before .field .ensures) (entry (λ l. rowOf l .first) 28 _ (c .before .before .before .before .before .before .before .before .before .before .before .before .before .if1 .left)) _ (c .before .before .before .before .before .before .before .before .before .before .first .given .1) _ _
-    (field-from _ _ _ _ _ _ (c .before .before .before .before .before .before .before .field2 .ensures) (c .before .before .before .before .before .before .before .before .next .ensures)) (entry (λ l. rowOf l .second) 28 _ (c .before .before .before .before .before .before .before .before .before .before .before .before .before .if1 .left)) _ (c .before .before .before .before .before .second .given .1) _ _
-    (field-from _ _ _ _ _ _ (c .before .before .field3 .ensures) (c .before .before .before .next2 .ensures)) (entry (λ l. rowOf l .third) 28 _ (c .before .before .before .before .before .before .before .before .before .before .before .before .before .if1 .left)) (c .enum-told3 .given .1)
+    (c .before .before .before .before .before .before .before .before .before .before .before .before .field .ensures) (entry (λ l. rowOf l .first) 31 _ (c .before .before .before .before .before .before .before .before .before .before .before .before .before .if1 .left)) _ (c .before .before .before .before .before .before .before .before .before .before .first .given .1) _ _
+    (field-from _ _ _ _ _ _ (c .before .before .before .before .before .before .before .field2 .ensures) (c .before .before .before .before .before .before .before .before .next .ensures)) (entry (λ l. rowOf l .second) 31 _ (c .before .before .before .before .before .before .before .before .before .before .before .before .before .if1 .left)) _ (c .before .before .before .before .before .second .given .1) _ _
+    (field-from _ _ _ _ _ _ (c .before .before .field3 .ensures) (c .before .before .before .next2 .ensures)) (entry (λ l. rowOf l .third) 31 _ (c .before .before .before .before .before .before .before .before .before .before .before .before .before .if1 .left)) (c .enum-told3 .given .1)
 
 returns-5 : tie.Need-returns-5
 unfolding listed listedFrom rowOf rows unreadableRow
 returns-5 c =
     row-read _ _ _ _ _ _
-    (c .before .before .before .before .before .before .before .before .before .before .before .before .before .field .ensures) (entry (λ l. rowOf l .first) 28 _ (c .before .before .before .before .before .before .before .before .before .before .before .before .before .before .if1 .left)) _ (c .before .before .before .before .before .before .before .before .before .before .before .first .given .1) _ _
-    (field-from _ _ _ _ _ _ (c .before .before .before .before .before .before .before .before .field2 .ensures) (c .before .before .before .before .before .before .before .before .before .next .ensures)) (entry (λ l. rowOf l .second) 28 _ (c .before .before .before .before .before .before .before .before .before .before .before .before .before .before .if1 .left)) _ (c .before .before .before .before .before .before .second .given .1) _ _
-    (field-from _ _ _ _ _ _ (c .before .before .before .field3 .ensures) (c .before .before .before .before .next2 .ensures)) (entry (λ l. rowOf l .third) 28 _ (c .before .before .before .before .before .before .before .before .before .before .before .before .before .before .if1 .left)) _ (c .before .third .given .1)
+    (c .before .before .before .before .before .before .before .before .before .before .before .before .before .field .ensures) (entry (λ l. rowOf l .first) 31 _ (c .before .before .before .before .before .before .before .before .before .before .before .before .before .before .if1 .left)) _ (c .before .before .before .before .before .before .before .before .before .before .before .first .given .1) _ _
+    (field-from _ _ _ _ _ _ (c .before .before .before .before .before .before .before .before .field2 .ensures) (c .before .before .before .before .before .before .before .before .before .next .ensures)) (entry (λ l. rowOf l .second) 31 _ (c .before .before .before .before .before .before .before .before .before .before .before .before .before .before .if1 .left)) _ (c .before .before .before .before .before .before .second .given .1) _ _
+    (field-from _ _ _ _ _ _ (c .before .before .before .field3 .ensures) (c .before .before .before .before .next2 .ensures)) (entry (λ l. rowOf l .third) 31 _ (c .before .before .before .before .before .before .before .before .before .before .before .before .before .before .if1 .left)) _ (c .before .third .given .1)
 
 pub row-spec : {M : Type 1} → statement M
 row-spec =

@@ -1,0 +1,2 @@
+-- Which section of range lists is read.
+pub mod OneRanges

@@ -1,0 +1,62 @@
+-- A unit's range lists are read in one section, by its version: whatever stands in the other, the answer is the same
+-- (document 02, Point 4). Assumes nothing.
+use mathlib.Core.Path.{_≡_, ap, sym, _∙_}
+use Prim.Native.Nat.{ℕ}
+use native.Mathlib.Omega.{arith}
+use mathlib.Core.List.{List}
+use lib.ListN.{take}
+use Rattle.readers.specs.Header.{headerOf}
+use Rattle.readers.specs.declared.cursor.Encoding.{Encoding}
+use Rattle.readers.specs.declared.header.UnitHeader.{UnitHeader}
+use Rattle.readers.specs.declared.header.HeaderRead.the-variants.{Unit as Unit′}
+use Rattle.marking.specs.Analysis.{Sections, sections, rangesFor, Rooms, Analysed, headerAnalysed, unitAnalysed, analysisOf}
+use Rattle.marking.proofs.RangeSections.{debug-ranges-for, rnglists-for, unit-same}
+use Rattle.laws.specs.RangeSections.{SameAnswers, OneRanges}
+use Rattle.laws.proofs.tables.SameRewriting.{same-collected}
+
+module _ (x : Sections) (section : List ℕ) (h : UnitHeader) (header : headerOf (x .setting .«big_endian») section ≡ Unit′ h) where
+  abbrev e : Encoding
+  e = h .encoding
+
+  -- the analysis, with one section of range lists in place of both
+  within : (y : Sections) (lists : List ℕ) (room : Rooms) → Analysed
+  within y lists room =
+      unitAnalysed e (sections (y .abbreviations) (y .locations) lists (y .addresses) lists (y .setting)) (take (h .end) section)
+      room (h .abbreviations) (h .first .0)
+
+  -- it is that with the chosen one
+  chosen : (y : Sections) (room : Rooms) → headerOf (y .setting .«big_endian») section ≡ Unit′ h
+      → analysisOf y section room ≡ within y (rangesFor e (y .ranges) (y .debugRanges)) room
+  unfolding analysisOf headerAnalysed within
+  chosen y room q =
+      ap (headerAnalysed y section room) q
+      ∙ sym (unit-same e (y .abbreviations) (y .locations) (y .ranges) (y .addresses) (y .debugRanges) (y .setting)
+      (take (h .end) section) room (h .abbreviations) (h .first .0))
+
+  module _ (rnglists ranges : List ℕ) (same : rangesFor e rnglists ranges ≡ rangesFor e (x .ranges) (x .debugRanges)) where
+    abbrev other : Sections
+    other = sections (x .abbreviations) (x .locations) rnglists (x .addresses) ranges (x .setting)
+
+    same-rows : (room : Rooms) → analysisOf other section room ≡ analysisOf x section room
+    unfolding within
+    same-rows room = chosen other room header ∙ ap (λ (lists : List ℕ). within x lists room) same ∙ sym (chosen x room header)
+
+    same-answers : SameAnswers other x section
+    same-answers =
+        record {
+          rows = same-rows;
+          collected = (λ room typeUnits.
+              same-collected other (x .locations) (x .ranges) (x .addresses) (x .debugRanges) room typeUnits section (same-rows (room .tables)));
+        }
+
+  -- THE LAW of the two sections
+  pub one-ranges-law : OneRanges e x section
+  one-ranges-law =
+      record {
+        four = (λ v ranges.
+            same-answers ranges (x .debugRanges)
+            (sym (debug-ranges-for e ranges (x .debugRanges) v) ∙ debug-ranges-for e (x .ranges) (x .debugRanges) v));
+        five = (λ v ranges.
+            let n : e .version ≡ 4 → ⊥ = (λ z. omega (arith, v, z)) in
+            same-answers (x .ranges) ranges (sym (rnglists-for e (x .ranges) ranges n) ∙ rnglists-for e (x .ranges) (x .debugRanges) n));
+      }
