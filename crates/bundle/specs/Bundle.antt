@@ -55,15 +55,15 @@ sectionsOf s =
     onPart (part s (abbreviations .end)) (λ locations.
     onPart (part s (locations .end)) (λ ranges.
     onPart (part s (ranges .end)) (λ addresses.
-    onPart (debugRangesPart s (addresses .end)) (λ older.
-    pick (eqb (older .end) (length s))
+    onPart (debugRangesPart s (addresses .end)) (λ debugRanges.
+    pick (eqb (debugRanges .end) (length s))
     (Bundle′ (record {
       unit = unit;
       abbreviations = abbreviations;
       locations = locations;
       ranges = ranges;
       addresses = addresses;
-      «debug_ranges» = older;
+      «debug_ranges» = debugRanges;
     }))
     Wrong))))))
 

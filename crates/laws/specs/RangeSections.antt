@@ -4,7 +4,8 @@ use Prim.Native.Nat.{ℕ}
 use mathlib.Core.Path.{_≡_}
 use mathlib.Core.Bool.{Bool}
 use mathlib.Core.List.{List}
-use Rattle.readers.specs.declared.cursor.Encoding.{Encoding}
+use Rattle.readers.specs.declared.header.HeaderRead.{HeaderRead}
+use Rattle.readers.specs.declared.header.HeaderRead.the-variants.{Unit as Unit′, Empty, Refused}
 use Rattle.marking.specs.Analysis.{Sections, sections, Rooms, analysisOf}
 use Rattle.rewriting.specs.Rewriting.{Room, collectOf}
 
@@ -19,7 +20,10 @@ pub record SameAnswers (x y : Sections) (section : List ℕ) : Type 0 where
   pub rows : (room : Rooms) → analysisOf x section room ≡ analysisOf y section room
   pub collected : (room : Room) (typeUnits : Bool) → collectOf x room typeUnits section ≡ collectOf y room typeUnits section
 
--- whatever stands in the section that the unit's version does not read
-pub record OneRanges (e : Encoding) (x : Sections) (section : List ℕ) : Type 0 where
-  pub four : e .version ≡ 4 → (ranges : List ℕ) → SameAnswers (withRanges x ranges) x section
-  pub five : e .version ≡ 5 → (ranges : List ℕ) → SameAnswers (withDebugRanges x ranges) x section
+-- whatever stands in the section that the unit's version does not read, and in both where no header is read
+unfoldable pub OneRanges : Sections → List ℕ → HeaderRead → Type 0
+OneRanges x section (Unit′ h) =
+    (h .encoding .version ≡ 4 → (ranges : List ℕ) → SameAnswers (withRanges x ranges) x section)
+    × (h .encoding .version ≡ 5 → (ranges : List ℕ) → SameAnswers (withDebugRanges x ranges) x section)
+OneRanges x section Empty = (a b : List ℕ) → SameAnswers (withDebugRanges (withRanges x a) b) x section
+OneRanges x section (Refused n) = (a b : List ℕ) → SameAnswers (withDebugRanges (withRanges x a) b) x section

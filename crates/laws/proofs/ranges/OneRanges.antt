@@ -1,6 +1,6 @@
 -- A unit's range lists are read in one section, by its version: whatever stands in the other, the answer is the same
 -- (document 02, Point 4). Assumes nothing.
-use mathlib.Core.Path.{_≡_, ap, sym, _∙_}
+use mathlib.Core.Path.{_≡_, refl, ap, sym, _∙_}
 use Prim.Native.Nat.{ℕ}
 use native.Mathlib.Omega.{arith}
 use mathlib.Core.List.{List}
@@ -8,10 +8,11 @@ use lib.ListN.{take}
 use Rattle.readers.specs.Header.{headerOf}
 use Rattle.readers.specs.declared.cursor.Encoding.{Encoding}
 use Rattle.readers.specs.declared.header.UnitHeader.{UnitHeader}
-use Rattle.readers.specs.declared.header.HeaderRead.the-variants.{Unit as Unit′}
+use Rattle.readers.specs.declared.header.HeaderRead.{HeaderRead}
+use Rattle.readers.specs.declared.header.HeaderRead.the-variants.{Unit as Unit′, Empty, Refused}
 use Rattle.marking.specs.Analysis.{Sections, sections, rangesFor, Rooms, Analysed, headerAnalysed, unitAnalysed, analysisOf}
 use Rattle.marking.proofs.RangeSections.{debug-ranges-for, rnglists-for, unit-same}
-use Rattle.laws.specs.RangeSections.{SameAnswers, OneRanges}
+use Rattle.laws.specs.RangeSections.{withRanges, withDebugRanges, SameAnswers, OneRanges}
 use Rattle.laws.proofs.tables.SameRewriting.{same-collected}
 
 module _ (x : Sections) (section : List ℕ) (h : UnitHeader) (header : headerOf (x .setting .«big_endian») section ≡ Unit′ h) where
@@ -49,14 +50,38 @@ module _ (x : Sections) (section : List ℕ) (h : UnitHeader) (header : headerOf
               same-collected other (x .locations) (x .ranges) (x .addresses) (x .debugRanges) room typeUnits section (same-rows (room .tables)));
         }
 
-  -- THE LAW of the two sections
-  pub one-ranges-law : OneRanges e x section
-  one-ranges-law =
+  of-unit : OneRanges x section (Unit′ h)
+  unfolding OneRanges
+  of-unit = (
+    (λ v ranges.
+        same-answers ranges (x .debugRanges)
+        (sym (debug-ranges-for e ranges (x .debugRanges) v) ∙ debug-ranges-for e (x .ranges) (x .debugRanges) v)),
+    (λ v ranges.
+        let n : e .version ≡ 4 → ⊥ = (λ z. omega (arith, v, z)) in
+        same-answers (x .ranges) ranges (sym (rnglists-for e (x .ranges) ranges n) ∙ rnglists-for e (x .ranges) (x .debugRanges) n)),
+  )
+
+module _ (x : Sections) (section : List ℕ) where
+  -- where no header is read, no section is
+  without : (r : HeaderRead) → headerOf (x .setting .«big_endian») section ≡ r
+      → ((y z : Sections) (room : Rooms) → headerAnalysed y section room r ≡ headerAnalysed z section room r)
+      → (a b : List ℕ) → SameAnswers (withDebugRanges (withRanges x a) b) x section
+  unfolding analysisOf
+  without r q same a b =
+      let rows : (room : Rooms) → analysisOf (withDebugRanges (withRanges x a) b) section room ≡ analysisOf x section room =
+      (λ room. ap (headerAnalysed (withDebugRanges (withRanges x a) b) section room) q ∙ same _ x room ∙ sym (ap (headerAnalysed x section room) q)) in
       record {
-        four = (λ v ranges.
-            same-answers ranges (x .debugRanges)
-            (sym (debug-ranges-for e ranges (x .debugRanges) v) ∙ debug-ranges-for e (x .ranges) (x .debugRanges) v));
-        five = (λ v ranges.
-            let n : e .version ≡ 4 → ⊥ = (λ z. omega (arith, v, z)) in
-            same-answers (x .ranges) ranges (sym (rnglists-for e (x .ranges) ranges n) ∙ rnglists-for e (x .ranges) (x .debugRanges) n));
+        rows = rows;
+        collected = (λ room typeUnits.
+            same-collected (withDebugRanges (withRanges x a) b) (x .locations) (x .ranges) (x .addresses) (x .debugRanges) room typeUnits section (rows (room .tables)));
       }
+
+  by-header : (r : HeaderRead) → headerOf (x .setting .«big_endian») section ≡ r → OneRanges x section r
+  unfolding OneRanges headerAnalysed
+  by-header (Unit′ h) q = of-unit x section h q
+  by-header Empty q = without Empty q (λ y z room. refl)
+  by-header (Refused n) q = without (Refused n) q (λ y z room. refl)
+
+  -- THE LAW of the two sections
+  pub one-ranges-law : OneRanges x section (headerOf (x .setting .«big_endian») section)
+  one-ranges-law = by-header (headerOf (x .setting .«big_endian») section) refl
