@@ -17,6 +17,9 @@
  *   type_units     0 no, any other number yes: the index lists are then absent
  *   big_endian     0: the unit's fixed-width fields, those of its lists and expressions too, are little-endian; any
  *                  other number: big-endian. Never guessed: a unit told wrongly is refused with 1 or 2
+ *   fixed_addresses    0: no, as in gc.rs; any other number: a variable is also a root if its exprloc location has a
+ *                  DW_OP_addr whose address isn't a tombstone (0, or all ones, of the unit's address size); nested
+ *                  entry values are not searched. Such a DW_OP_addr ends the root test as a live DW_OP_addrx does
  *
  * Written, whatever it held before; zeros wherever the answer is not, all zeros after a refusal
  *   map            24 bytes a place: old offset, new offset, depth, eight big-endian bytes each, ascending
@@ -73,7 +76,7 @@ uint64_t collector_collect(
     const uint8_t *ranges, size_t ranges_length,
     const uint8_t *addresses, size_t addresses_length,
     const uint8_t *debug_ranges, size_t debug_ranges_length,
-    uint64_t ranges_base, uint64_t type_units, uint64_t big_endian,
+    uint64_t ranges_base, uint64_t type_units, uint64_t big_endian, uint64_t fixed_addresses,
     uint8_t *map, size_t map_length,
     uint8_t *range_list, size_t range_list_length,
     uint8_t *location_list, size_t location_list_length,
@@ -92,7 +95,7 @@ uint64_t collector_collect_lent(
     const uint8_t *ranges, size_t ranges_length,
     const uint8_t *addresses, size_t addresses_length,
     const uint8_t *debug_ranges, size_t debug_ranges_length,
-    uint64_t ranges_base, uint64_t type_units, uint64_t big_endian,
+    uint64_t ranges_base, uint64_t type_units, uint64_t big_endian, uint64_t fixed_addresses,
     uint64_t *index, size_t index_length,
     uint64_t *offsets, size_t offsets_length,
     uint64_t *parents, size_t parents_length,

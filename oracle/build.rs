@@ -39,6 +39,15 @@ const HOOKS: &[(&str, &str, usize)] = &[
     ),
 ];
 
+/// 6. Not of gc.rs: fixed addresses, where the choice is on. Off, it changes nothing.
+const FIXED_ADDRESSES: &[(&str, &str, usize)] = &[(
+    "        if let gimli::Operation::AddressIndex { index } = op {\n",
+    "        if let gimli::Operation::Address { address } = op { \
+         if probe::fixed_addresses() && !is_tombstone(address, encoding.address_size) { (saw_addrx, any_live) = (true, true); } } \
+         if let gimli::Operation::AddressIndex { index } = op {\n",
+    1,
+)];
+
 fn patch(text: String, patches: &[(&str, &str, usize)]) -> String {
     patches.iter().fold(text, |text, (old, new, times)| {
         let found = text.matches(old).count();
@@ -71,10 +80,10 @@ fn main() {
     let Ok(text) = fs::read_to_string(&source) else {
         stop("no source of the original: the variable GC_RS names it, and oracle/build sets it");
     };
-    // Without the hook: what is measured.
+    // Without the hook, and without fixed addresses: what is measured.
     let plain = patch(text, PATCHES);
-    let mut text = patch(plain.clone(), HOOKS);
-    // 6. The module that sees gc.rs's private names.
+    let mut text = patch(patch(plain.clone(), HOOKS), FIXED_ADDRESSES);
+    // 7. The module that sees gc.rs's private names.
     text.push_str(&format!("\n#[path = {:?}]\npub(crate) mod probe;\n", format!("{here}/src/probe.rs")));
 
     if env::var_os("CARGO_FEATURE_PORT").is_some() {

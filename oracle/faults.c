@@ -5,7 +5,7 @@
 #include <string.h>
 
 #define SECTIONS const uint8_t *s, size_t sn, const uint8_t *a, size_t an, const uint8_t *l, size_t ln, const uint8_t *r, size_t rn, \
-    const uint8_t *t, size_t tn, const uint8_t *g, size_t gn, uint64_t base, uint64_t units, uint64_t big
+    const uint8_t *t, size_t tn, const uint8_t *g, size_t gn, uint64_t base, uint64_t units, uint64_t big, uint64_t fixed
 #define TABLES uint64_t *index, size_t in, uint64_t *offsets, size_t on, uint64_t *parents, size_t pn, uint8_t *roots, size_t ron, uint64_t *ends, size_t en, uint8_t *marks, size_t mn, \
     uint64_t *targets, size_t tgn, uint64_t *pairs, size_t prn, uint32_t *work, size_t wn
 #define RESULTS uint8_t *map, size_t mapn, uint8_t *rl, size_t rln, uint8_t *ll, size_t lln, uint8_t *sl, size_t sln, uint8_t *out, size_t outn, uint8_t *counts, size_t cn
@@ -76,7 +76,7 @@ static uint64_t spoilt(uint64_t answer, SECTIONS, RESULTS)
 {
     int f = fault();
     int counted = answer == 256 || answer == 257;
-    (void)a, (void)an, (void)l, (void)ln, (void)r, (void)rn, (void)t, (void)tn, (void)g, (void)gn, (void)base, (void)units, (void)big;
+    (void)a, (void)an, (void)l, (void)ln, (void)r, (void)rn, (void)t, (void)tn, (void)g, (void)gn, (void)base, (void)units, (void)big, (void)fixed;
     switch (f) {
     case 1: /* a byte of the output */
         if (answer == 257)
@@ -202,6 +202,22 @@ static uint64_t told(uint64_t big)
         return big == 1;
     }
     return big;
+}
+
+/* The number that tells whether fixed addresses count, in place of this one. */
+static uint64_t chosen(uint64_t fixed)
+{
+    switch (fault()) {
+    case 58: /* it is not looked at */
+        return 0;
+    case 59: /* they always count */
+        return 1;
+    case 60: /* its low byte counts */
+        return fixed & 255;
+    case 61: /* only 1 is yes */
+        return fixed == 1;
+    }
+    return fixed;
 }
 
 /* The byte order is guessed: where the header is refused, the other one is tried. */
@@ -330,6 +346,84 @@ static const uint8_t *forms(const uint8_t *a, size_t n)
     return held == NULL ? a : held;
 }
 
+/* Whether an operation that asks the address table stands here, its index in one byte. */
+static int asks(const uint8_t *at, size_t left)
+{
+    return left >= 2 && (at[0] == 0xa1 || at[0] == 0xfb) && at[1] < 128;
+}
+
+/* The unit's section where fixed addresses count. DW_OP_addr is taken to be where its code stands, and what is left out
+ * of an expression becomes DW_OP_nop; `restored` takes the changes out of what was written. */
+static const uint8_t *addresses(const uint8_t *s, size_t n, const uint8_t *t, size_t tn, uint64_t big, uint64_t fixed)
+{
+    int f = fault();
+    size_t at_size = version(s, n) + (older(s, n, big) ? 2 + word(s, n) : 3), size = at_size < n ? s[at_size] : 0;
+    uint8_t *held = fixed && f >= 62 && f <= 69 && (size == 4 || size == 8) ? copy(2, s, n) : NULL;
+    if (held == NULL)
+        return s;
+    uint64_t ones = size == 4 ? 0xffffffff : UINT64_MAX;
+    for (size_t at = version(s, n) + 4; at + 1 + size <= n; at++) {
+        uint8_t *operand = held + at + 1, *behind = operand + size;
+        size_t left = n - at - 1 - size;
+        uint64_t address = 0;
+        if (held[at] != 3)
+            continue;
+        for (size_t i = 0; i < size; i++)
+            address |= (uint64_t)operand[i] << 8 * (big ? size - 1 - i : i);
+        int dead = address == 0 || address == ones;
+        if (f == 62 && address == 0) /* 0 is live */
+            operand[0] = 1;
+        if (f == 63 && size == 8 && address == ones) /* all ones of eight bytes are live */
+            operand[0] = 1;
+        if (f == 64 && size == 4 && address == ones) /* all ones of four bytes are live at address size 4 */
+            operand[0] = 1;
+        if (f == 65 && size == 8 && address == 0xffffffff) /* they are dead at address size 8 */
+            memset(operand, 0, 8);
+        if (f == 66 && (held[at - 2] == 0xa3 || held[at - 2] == 0xf3) && held[at - 1] == 1 + size) /* entry values are searched */
+            memset(held + at - 2, 0x96, 2);
+        if (f == 67 && !dead && asks(behind, left)) /* behind a live address the expression is not read */
+            memset(behind, 0x96, 2);
+        if (f == 68 && dead && asks(behind, left)) /* nor behind a dead one */
+            memset(behind, 0x96, 2);
+        /* the next location is asked after a live address: here where its index fails */
+        if (f == 69 && !dead && left > 0 && asks(behind + 1, left - 1) && tn > 0 && (behind[2] >= tn || t[behind[2]] > 1))
+            memset(held + at, 0x96, 1 + size);
+    }
+    return held;
+}
+
+/* The new unit with the bytes that `addresses` changed as they were. */
+static void restored(uint64_t answer, const uint8_t *given, const uint8_t *changed, size_t n, const uint8_t *map, size_t mapn, uint8_t *out, size_t outn)
+{
+    size_t places = 0;
+    while (24 * (places + 1) <= mapn && number(map + 24 * places, 8) != 0)
+        places++;
+    for (size_t i = 0; (answer == 257 || answer == 259) && fault() >= 62 && i < places; i++) {
+        size_t old = number(map + 24 * i, 8), new = number(map + 24 * i + 8, 8);
+        size_t end = i + 1 < places ? number(map + 24 * i + 32, 8) : outn;
+        for (size_t k = 0; new + k < end && old + k < n; k++)
+            if (changed[old + k] != given[old + k])
+                out[new + k] = given[old + k];
+    }
+}
+
+/* The abbreviations where fixed addresses count: a parameter is searched too; or DW_AT_frame_base is; or a location in
+ * block1. Each by its bytes. */
+static const uint8_t *searched(const uint8_t *a, size_t n, uint64_t fixed)
+{
+    int f = fault();
+    uint8_t *held = fixed && f >= 70 && f <= 72 ? copy(5, a, n) : NULL;
+    for (size_t i = 0; held != NULL && i + 3 < n; i++) {
+        if (f == 70 && held[i] == 0x05 && held[i + 1] < 2 && held[i + 2] == 0x02 && held[i + 3] == 0x18)
+            held[i] = 0x34;
+        if (f == 71 && held[i] == 0x40 && held[i + 1] == 0x18)
+            held[i] = 0x02;
+        if (f == 72 && held[i] == 0x02 && held[i + 1] == 0x0a)
+            held[i + 1] = 0x18;
+    }
+    return held == NULL ? a : held;
+}
+
 #define SWAP(type, x, y) do { type held_ = x; x = y; y = held_; } while (0)
 
 #define TOLD \
@@ -347,7 +441,11 @@ static const uint8_t *forms(const uint8_t *a, size_t n)
     } \
     r = lists(0, 35, 44, 46, r, &rn, wide(s, sn), big); /* range lists */ \
     l = lists(1, 36, 45, 47, l, &ln, wide(s, sn), big); /* location lists */ \
+    const uint8_t *given = s; \
+    s = addresses(s, sn, t, tn, big, fixed); \
+    a = searched(a, an, fixed); \
     s = unit(s, sn, big); \
+    fixed = chosen(fixed); \
     big = told(big)
 
 /* A map in place of the one that is lent, twice as long: a place is taken to have 12 bytes where its room is asked for. */
@@ -370,14 +468,15 @@ uint64_t collector_collect(SECTIONS, RESULTS)
     uint8_t *lent = map;
     size_t lentn = mapn;
     map = longer(map, &mapn);
-    uint64_t answer = port_collect(s, sn, a, an, l, ln, r, rn, t, tn, g, gn, base, units, big, map, mapn, rl, rln, ll, lln, sl, sln, out, outn, counts, cn);
+    uint64_t answer = port_collect(s, sn, a, an, l, ln, r, rn, t, tn, g, gn, base, units, big, fixed, map, mapn, rl, rln, ll, lln, sl, sln, out, outn, counts, cn);
     if (guessed(answer))
-        answer = port_collect(s, sn, a, an, l, ln, r, rn, t, tn, g, gn, base, units, !big, map, mapn, rl, rln, ll, lln, sl, sln, out, outn, counts, cn);
+        answer = port_collect(s, sn, a, an, l, ln, r, rn, t, tn, g, gn, base, units, !big, fixed, map, mapn, rl, rln, ll, lln, sl, sln, out, outn, counts, cn);
+    restored(answer, given, s, sn, map, mapn, out, outn);
     if (map != lent)
         memcpy(lent, map, lentn);
     map = lent;
     mapn = lentn;
-    return spoilt(answer, s, sn, a, an, l, ln, r, rn, t, tn, g, gn, base, units, big, map, mapn, rl, rln, ll, lln, sl, sln, out, outn, counts, cn);
+    return spoilt(answer, s, sn, a, an, l, ln, r, rn, t, tn, g, gn, base, units, big, fixed, map, mapn, rl, rln, ll, lln, sl, sln, out, outn, counts, cn);
 }
 
 uint64_t collector_collect_lent(SECTIONS, TABLES, RESULTS)
@@ -387,16 +486,17 @@ uint64_t collector_collect_lent(SECTIONS, TABLES, RESULTS)
     int one_entry = fault() == 21 && en > 0;      /* a place of the entry table */
     tgn -= one_reference;
     en -= one_entry;
-    uint64_t answer = port_collect_lent(s, sn, a, an, l, ln, r, rn, t, tn, g, gn, base, units, big, index, in, offsets, on, parents, pn, roots, ron, ends, en, marks, mn, targets, tgn, pairs, prn, work, wn,
+    uint64_t answer = port_collect_lent(s, sn, a, an, l, ln, r, rn, t, tn, g, gn, base, units, big, fixed, index, in, offsets, on, parents, pn, roots, ron, ends, en, marks, mn, targets, tgn, pairs, prn, work, wn,
                                         map, mapn, rl, rln, ll, lln, sl, sln, out, outn, counts, cn);
     if (guessed(answer))
-        answer = port_collect_lent(s, sn, a, an, l, ln, r, rn, t, tn, g, gn, base, units, !big, index, in, offsets, on, parents, pn, roots, ron, ends, en, marks, mn, targets, tgn, pairs, prn, work, wn,
+        answer = port_collect_lent(s, sn, a, an, l, ln, r, rn, t, tn, g, gn, base, units, !big, fixed, index, in, offsets, on, parents, pn, roots, ron, ends, en, marks, mn, targets, tgn, pairs, prn, work, wn,
                                    map, mapn, rl, rln, ll, lln, sl, sln, out, outn, counts, cn);
+    restored(answer, given, s, sn, map, mapn, out, outn);
     if (one_reference)
         targets[tgn] = 0;
     if (one_entry)
         ends[en] = 0;
     if (fault() == 22 && mn > 0) /* a table is not zeros */
         marks[mn - 1] = 2;
-    return spoilt(answer, s, sn, a, an, l, ln, r, rn, t, tn, g, gn, base, units, big, map, mapn, rl, rln, ll, lln, sl, sln, out, outn, counts, cn);
+    return spoilt(answer, s, sn, a, an, l, ln, r, rn, t, tn, g, gn, base, units, big, fixed, map, mapn, rl, rln, ll, lln, sl, sln, out, outn, counts, cn);
 }

@@ -6,8 +6,8 @@ refusal. With `check` nothing is written, and the files are compared with what w
 oracle/keep makes the cases. Each stands once: in crates/test_collect/data, of its family where the original's answer
 tells the marks too, in dangling.bundles where it is a refusal by 8; and in oracle/kept where the port is not held to
 it: cases with a listed difference, and headers that are refused (the original's errors don't tell 1 from 2). Names of
-big-endian cases end with -big, before which those of the 64-bit format have -64, and before that those of version 4
-have -4."""
+big-endian cases end with -big, before which those of the 64-bit format have -64, before that those of version 4 -4, and
+before all of these those with the choice of fixed addresses on -fixed."""
 import os
 import sys
 
@@ -15,17 +15,21 @@ from units import CRATES, TESTS, Part, bundles, placed, read, with_parts, write
 
 KEPT = os.path.join(TESTS, '..', 'oracle', 'kept')
 DATA = os.path.join(CRATES, 'test_collect', 'data')
-BIG, WIDE, OLDER = '-big', '-64', '-4'
+BIG, WIDE, OLDER, FIXED = '-big', '-64', '-4', '-fixed'
 # little-endian ones first, as `files` has them
-SUFFIXES = tuple(version + width + order for order in ('', BIG) for version in ('', OLDER) for width in ('', WIDE))
+LAYOUTS = tuple(version + width + order for order in ('', BIG) for version in ('', OLDER) for width in ('', WIDE))
+SUFFIXES = LAYOUTS + tuple(FIXED + layout for layout in LAYOUTS)
 NAMES = ('small bytes valid lists expressions trees deep refused damaged listed headers declarations numbers operations kinds '
-         'siblings sums no-table failures tables').split()
+         'siblings sums no-table failures addresses tables').split()
 # What version 4 has of its own in every byte order and format.
 OLDER_NAMES = ('lists', 'kinds', 'headers')
 
 
 def is_kept(name, suffix):
-    """The tables are those of compilers' units of version 5 in the 32-bit format."""
+    """The tables are those of compilers' units of version 5 in the 32-bit format. With the choice of fixed addresses on,
+    one family in every byte order, format and version, and compilers' units."""
+    if suffix.startswith(FIXED):
+        return name == 'addresses' or name + suffix == 'tables' + FIXED
     if name == 'tables':
         return suffix in ('', BIG)
     return name in OLDER_NAMES or not suffix.startswith(OLDER) or suffix == OLDER
@@ -42,8 +46,13 @@ def is_big(name):
     return name.split('.')[0].endswith(BIG)
 
 
+def is_fixed(name):
+    """Whether the choice of fixed addresses is on."""
+    return FIXED in name
+
+
 def split(family):
-    """Its name, and the suffix that says byte order and format."""
+    """Its name, and the suffix that says byte order, format, version and choice."""
     return next((name, family[len(name):]) for name in NAMES if family[len(name):] in SUFFIXES and family.startswith(name))
 
 
@@ -105,18 +114,24 @@ def printed(cases, of):
     return ''.join(placed(name, [(data, of(line)) for data, line in held]) for name, held in cases.items())
 
 
-def files(cases):
+def files(cases, fixed):
     """The arguments that name the files: the big-endian ones come last, after the word that says so."""
     big = [name for name in cases if is_big(name)]
-    return [name for name in cases if not is_big(name)] + ['big-endian'] + big
+    return ['--fixed-addresses'] * fixed + [name for name in cases if not is_big(name)] + ['--big-endian'] + big
+
+
+def parts(cases, fixed):
+    """The parts of the cases with the choice of fixed addresses off, or on."""
+    cases = {name: held for name, held in cases.items() if is_fixed(name) == fixed}
+    marked = {name: held for name, held in cases.items() if not name.startswith('dangling')}
+    which = ', fixed addresses' * fixed
+    return [Part('marks of kept cases' + which, 'marks', files(marked, fixed), printed(marked, marks)),
+            Part('answers for kept cases' + which, 'collect', files(cases, fixed), printed(cases, answer))]
 
 
 def main():
     cases = kept()
-    marked = {name: held for name, held in cases.items() if not name.startswith('dangling')}
-    made = with_parts('test_collect', [Part('marks of kept cases', 'marks', files(marked), printed(marked, marks)),
-                                       Part('answers for kept cases', 'collect', files(cases), printed(cases, answer))])
-    wrong = write(made, sys.argv[1:] == ['check'])
+    wrong = write(with_parts('test_collect', parts(cases, False) + parts(cases, True)), sys.argv[1:] == ['check'])
     print('answers: %s' % ', '.join('%s %d' % (name.split('.')[0], len(held)) for name, held in cases.items()))
     sys.exit(wrong > 0)
 

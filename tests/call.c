@@ -1,11 +1,12 @@
-/* call [collect] [big-endian] FILE.. : runs each bundle of each file through the C call and prints its answer as
- * crates/test_collect does; `big-endian` holds for the files after it, up to the next `collect`.
+/* call [collect] [--big-endian] [--fixed-addresses] FILE.. : runs each bundle of each file through the C call and
+ * prints its answer as crates/test_collect does; an option holds for the files after it, up to the next `collect`.
  * call --cases FILE.. : runs cases that say what they lend through the call with lent tables, and prints what they leave
  * as crates/test_collect does.
  * call --nested N [big-endian] : a unit whose one expression has N entry values, one in the other, with a reference to
  * the terminator in the innermost, and a dead entry: what stack it takes is seen with `ulimit -s`.
  * call --rules : checks of the calls themselves: counts without room, flags, lengths that are no whole places, an
- * address table of length 0, the two ways in which one can fail, the byte order, both formats, version 4.
+ * address table of length 0, the two ways in which one can fail, the byte order, both formats, version 4, fixed
+ * addresses.
  * call --above : units whose old offsets are above 4 GiB, then other sections that are read above 4 GiB; they take no
  * memory, but time under valgrind.
  * call --above FILE [big-endian] : one whose new offsets are too; its output, of so many bytes, is the file.
@@ -78,22 +79,24 @@ static void zeros(struct bytes b, uint64_t from, const char *what)
 
 /* The call on sections as they stand. */
 static uint64_t call_on(
-    const struct bytes *s, uint64_t ranges_base, uint64_t type_units, uint64_t big_endian, struct bytes *lent)
+    const struct bytes *s, uint64_t ranges_base, uint64_t type_units, uint64_t big_endian, uint64_t fixed_addresses,
+    struct bytes *lent)
 {
     return collector_collect(
         s[0].at, s[0].length, s[1].at, s[1].length, s[2].at, s[2].length, s[3].at, s[3].length, s[4].at, s[4].length,
-        s[5].at, s[5].length, ranges_base, type_units, big_endian,
+        s[5].at, s[5].length, ranges_base, type_units, big_endian, fixed_addresses,
         lent[MAP].at, lent[MAP].length, lent[RANGES].at, lent[RANGES].length, lent[LOCATIONS].at, lent[LOCATIONS].length,
         lent[STRINGS].at, lent[STRINGS].length, lent[OUT].at, lent[OUT].length, lent[COUNTS].at, lent[COUNTS].length);
 }
 
 static uint64_t call(
-    const struct bytes *sections, uint64_t ranges_base, uint64_t type_units, uint64_t big_endian, struct bytes *lent)
+    const struct bytes *sections, uint64_t ranges_base, uint64_t type_units, uint64_t big_endian,
+    uint64_t fixed_addresses, struct bytes *lent)
 {
     struct bytes s[SECTIONS];
     for (int i = 0; i < SECTIONS; i++)
         s[i] = copy(sections[i]);
-    uint64_t answer = call_on(s, ranges_base, type_units, big_endian, lent);
+    uint64_t answer = call_on(s, ranges_base, type_units, big_endian, fixed_addresses, lent);
     for (int i = 0; i < SECTIONS; i++) {
         if (memcmp(s[i].at, sections[i].at, s[i].length) != 0)
             fail("a section changed");
@@ -203,12 +206,12 @@ static void sections_of(struct bytes bundle, struct bytes *sections)
     }
 }
 
-static void run_bundle(struct bytes bundle, uint64_t big_endian)
+static void run_bundle(struct bytes bundle, uint64_t big_endian, uint64_t fixed_addresses)
 {
     struct bytes sections[SECTIONS], lent[LENT];
     sections_of(bundle, sections);
     lend(lent, PLACE * 4096, 8 * 8192, 65536, COLLECTOR_COUNTS + 5);
-    uint64_t answer = call(sections, 0, 0, big_endian, lent);
+    uint64_t answer = call(sections, 0, 0, big_endian, fixed_addresses, lent);
     check_zeros(answer, lent);
     print_answer(answer, lent);
     give_back(lent);
@@ -232,7 +235,7 @@ static struct bytes read_file(const char *path)
     return b;
 }
 
-static void run_file(const char *path, uint64_t big_endian)
+static void run_file(const char *path, uint64_t big_endian, uint64_t fixed_addresses)
 {
     const char *name = strrchr(path, '/');
     printf("== %s\n", name == NULL ? path : name + 1);
@@ -243,15 +246,15 @@ static void run_file(const char *path, uint64_t big_endian)
         if (n > b.length - at)
             fail("a bundle that is cut");
         printf("-- %zu\n", at);
-        run_bundle((struct bytes){b.at + at, n}, big_endian);
+        run_bundle((struct bytes){b.at + at, n}, big_endian, fixed_addresses);
         at += n;
     }
     free(b.at);
 }
 
-/* ---- cases that say what they lend: sixteen numbers of eight big-endian bytes, then a bundle */
+/* ---- cases that say what they lend: seventeen numbers of eight big-endian bytes, then a bundle */
 
-enum { INDEX, OFFSETS, PARENTS, ROOTS, ENDS, MARKS, TARGETS, PAIRS, TABLES, SETTINGS = 16, WORK = 4096 };
+enum { INDEX, OFFSETS, PARENTS, ROOTS, ENDS, MARKS, TARGETS, PAIRS, TABLES, SETTINGS = 17, WORK = 4096 };
 
 static size_t setting(const uint8_t *settings, int which, size_t most)
 {
@@ -297,8 +300,8 @@ static void print_left(uint64_t answer, const struct bytes *lent)
 
 /* The call with lent tables, of so many elements each; they are zeros after it. */
 static uint64_t call_lent(
-    const struct bytes *s, uint64_t ranges_base, uint64_t type_units, uint64_t big_endian, const size_t *elements,
-    struct bytes *lent)
+    const struct bytes *s, uint64_t ranges_base, uint64_t type_units, uint64_t big_endian, uint64_t fixed_addresses,
+    const size_t *elements, struct bytes *lent)
 {
     static const size_t width[TABLES] = {8, 8, 8, 1, 8, 1, 8, 8};
     struct bytes table[TABLES + 1];
@@ -307,7 +310,7 @@ static uint64_t call_lent(
     table[TABLES] = block(4 * WORK);
     uint64_t answer = collector_collect_lent(
         s[0].at, s[0].length, s[1].at, s[1].length, s[2].at, s[2].length, s[3].at, s[3].length, s[4].at, s[4].length,
-        s[5].at, s[5].length, ranges_base, type_units, big_endian,
+        s[5].at, s[5].length, ranges_base, type_units, big_endian, fixed_addresses,
         (uint64_t *)table[INDEX].at, table[INDEX].length / 8, (uint64_t *)table[OFFSETS].at, table[OFFSETS].length / 8,
         (uint64_t *)table[PARENTS].at, table[PARENTS].length / 8, table[ROOTS].at, table[ROOTS].length,
         (uint64_t *)table[ENDS].at, table[ENDS].length / 8, table[MARKS].at, table[MARKS].length,
@@ -336,7 +339,8 @@ static void run_case(const uint8_t *settings, struct bytes bundle)
         lent[i] = block(setting(settings, TABLES + i, most_bytes[i]));
     lent[COUNTS] = block(COLLECTOR_COUNTS);
     uint64_t answer = call_lent(
-        s, big(settings + 8 * 13, 8), big(settings + 8 * 14, 8), big(settings + 8 * 15, 8), elements, lent);
+        s, big(settings + 8 * 13, 8), big(settings + 8 * 14, 8), big(settings + 8 * 15, 8), big(settings + 8 * 16, 8),
+        elements, lent);
     print_left(answer, lent);
     give_back(lent);
 }
@@ -374,7 +378,7 @@ static uint8_t nothing[1];
 static uint64_t five_by(uint8_t *table, size_t length, uint64_t type_units, struct bytes *lent)
 {
     struct bytes sections[SECTIONS] = FIVE(table, length);
-    uint64_t answer = call(sections, 0, type_units, 0, lent);
+    uint64_t answer = call(sections, 0, type_units, 0, 0, lent);
     check_zeros(answer, lent);
     return answer;
 }
@@ -415,7 +419,7 @@ static void check_failures(void)
         struct bytes own = copy((struct bytes){tables[i].bytes, tables[i].length});
         struct bytes sections[SECTIONS] = FIVE(own.at, own.length);
         lend(lent, 5 * PLACE, 80, 20, COLLECTOR_COUNTS);
-        expect(call_lent(sections, 0, 0, 0, room, lent), tables[i].answer, "an address table, with lent tables");
+        expect(call_lent(sections, 0, 0, 0, 0, room, lent), tables[i].answer, "an address table, with lent tables");
         give_back(lent);
         free(own.at);
     }
@@ -451,17 +455,18 @@ static void wide_header(uint8_t *at, uint64_t length, int is_big)
 
 /* Either call. */
 static uint64_t either_by(
-    int lent_tables, struct bytes *sections, uint64_t ranges_base, uint64_t big_endian, struct bytes *lent)
+    int lent_tables, struct bytes *sections, uint64_t ranges_base, uint64_t big_endian, uint64_t fixed_addresses,
+    struct bytes *lent)
 {
-    uint64_t answer = lent_tables ? call_lent(sections, ranges_base, 0, big_endian, room, lent)
-                                  : call(sections, ranges_base, 0, big_endian, lent);
+    uint64_t answer = lent_tables ? call_lent(sections, ranges_base, 0, big_endian, fixed_addresses, room, lent)
+                                  : call(sections, ranges_base, 0, big_endian, fixed_addresses, lent);
     check_zeros(answer, lent);
     return answer;
 }
 
 static uint64_t either(int lent_tables, struct bytes *sections, uint64_t big_endian, struct bytes *lent)
 {
-    return either_by(lent_tables, sections, 0, big_endian, lent);
+    return either_by(lent_tables, sections, 0, big_endian, 0, lent);
 }
 
 /* The byte order, through both calls: any number but 0 is big-endian; told wrongly, a unit is refused, with 1 where its
@@ -651,7 +656,7 @@ static void ranges_of_4(int lent_tables, int is_wide, int is_big)
         struct bytes sections[SECTIONS] = {{old, first + 3 + width}, {declarations, sizeof declarations}, {nothing, 0},
                                            {others, sizeof others}, {all_dead, 2}, older};
         lend(lent, 2 * PLACE, 0, first + 2, COLLECTOR_COUNTS);
-        uint64_t answer = either_by(lent_tables, sections, by_pairs[i].base, (uint64_t)is_big, lent);
+        uint64_t answer = either_by(lent_tables, sections, by_pairs[i].base, (uint64_t)is_big, 0, lent);
         expect(answer, by_pairs[i].answer, "ranges of version 4");
         if (answer == COLLECTOR_REWRITTEN)
             expect((uint64_t)memcmp(lent[OUT].at, thinned, first + 2), 0, "output by ranges of version 4");
@@ -715,11 +720,96 @@ static void check_version_4(void)
             struct bytes s[SECTIONS] = {{old, sizeof old}, {declarations, sizeof declarations}, {nothing, 0},
                                         {nothing, 0}, {nothing, 0}, {shown[i], 0}};
             lend(lent, 2 * PLACE, 0, 13, COLLECTOR_COUNTS);
-            uint64_t answer = call_on(s, 0, 0, 0, lent);
+            uint64_t answer = call_on(s, 0, 0, 0, 0, lent);
             check_zeros(answer, lent);
             expect(answer, past ? COLLECTOR_UNTOUCHED : COLLECTOR_REWRITTEN, "no .debug_ranges");
             give_back(lent);
         }
+}
+
+/* ---- fixed addresses */
+
+/* The header of a unit of version 4 or 5, as header_4 has it. */
+static size_t header_of(uint8_t *at, size_t behind, int version, uint8_t size, int is_wide, int is_big)
+{
+    size_t start = is_wide ? 12 : 4, first = is_wide ? 24 : 12;
+    if (version == 4) {
+        first = header_4(at, behind, is_wide, is_big);
+        at[first - 1] = size;
+        return first;
+    }
+    wide_header(at, first + behind - start, is_big);
+    if (!is_wide) {
+        memset(at, 0, first);
+        put(at, first + behind - start, 4, is_big);
+        put(at + start, 5, 2, is_big);
+    }
+    at[start + 2] = 1;
+    at[start + 3] = size;
+    return first;
+}
+
+/* A variable with two locations, a DW_OP_addr and an index of the table, and a type: where the address counts the
+ * second is not asked, and the variable and its type are kept; a third entry never is. */
+static void fixed_address(
+    uint64_t address, uint8_t size, uint8_t index, int counts, uint64_t told, int version, int lent_tables, int is_wide,
+    int is_big)
+{
+    static uint8_t declarations[] = {
+        1, 0x11, 1, 0, 0, 2, 0x34, 0, 0x02, 0x18, 0x02, 0x18, 0x49, 0x11, 0, 0, 3, 0x24, 0, 0, 0, 0};
+    uint8_t old[48], thinned[48];
+    size_t first = header_of(old, 11u + size, version, size, is_wide, is_big), end = first + 11 + size;
+    uint8_t *at = old + first;
+    memcpy(at, (const uint8_t[]){1, 2, size + 1, 3}, 4);
+    put(at + 4, address, size, is_big);
+    memcpy(at + 4 + size, (const uint8_t[]){2, 0xa1, index, (uint8_t)(end - 2), 3, 3, 0}, 7);
+    uint64_t places[4][3] = {
+        {first, first, 0}, {first + 1, first + 1, 1}, {end - 2, end - 3, 1}, {end - 1, end - 2, 1}};
+    size_t length = end - 1, n = 4;
+    header_of(thinned, 10u + size, version, size, is_wide, is_big);
+    memcpy(thinned + first, at, 7u + size);
+    memcpy(thinned + first + 7 + size, (const uint8_t[]){(uint8_t)(end - 3), 3, 0}, 3);
+    if (!counts) {
+        memcpy(places[1], (const uint64_t[]){end - 1, first + 1, 1}, sizeof places[1]);
+        length = header_of(thinned, 2, version, size, is_wide, is_big) + 2;
+        memcpy(thinned + first, (const uint8_t[]){1, 0}, 2);
+        n = 2;
+    }
+    struct bytes lent[LENT], sections[SECTIONS] = FIVE(one_dead, 2);
+    sections[0] = (struct bytes){old, end};
+    sections[1] = (struct bytes){declarations, sizeof declarations};
+    lend(lent, n * PLACE, 0, length, COLLECTOR_COUNTS);
+    uint64_t answer = either_by(lent_tables, sections, 0, (uint64_t)is_big, told, lent);
+    expect(answer, !counts && index > 1 ? 17 : COLLECTOR_REWRITTEN, "a fixed address");
+    if (answer == COLLECTOR_REWRITTEN) {
+        expect(count(lent, 1), n - 1, "kept by a fixed address");
+        expect((uint64_t)memcmp(lent[OUT].at, thinned, length), 0, "output by a fixed address");
+        for (size_t i = 0; i < 3 * n; i++)
+            expect(big(lent[MAP].at + 8 * i, 8), places[i / 3][i % 3], "map by a fixed address");
+    }
+    give_back(lent);
+}
+
+/* By any number but 0 an address counts that is no tombstone of its size; through both calls, in both versions, formats
+ * and byte orders, with a second location that is dead and with one that fails. */
+static void check_fixed(void)
+{
+    static const struct {
+        uint64_t address;
+        uint8_t size;
+        int live;
+    } addresses[] = {
+        {1, 8, 1}, {UINT64_MAX - 1, 8, 1}, {0xffffffff, 8, 1}, {0, 8, 0}, {UINT64_MAX, 8, 0},
+        {1, 4, 1}, {0xfffffffe, 4, 1}, {0, 4, 0}, {0xffffffff, 4, 0},
+    };
+    static const uint64_t numbers[] = {0, 1, 2, (uint64_t)1 << 32, UINT64_MAX};
+    for (size_t i = 0; i < sizeof addresses / sizeof *addresses; i++)
+        for (size_t j = 0; j < sizeof numbers / sizeof *numbers; j++)
+            for (int k = 0; k < 16; k++)
+                for (uint8_t index = 1; index < 10; index += 8)
+                    fixed_address(
+                        addresses[i].address, addresses[i].size, index, numbers[j] != 0 && addresses[i].live,
+                        numbers[j], 4 + k / 8, k % 2, k / 2 % 2, k / 4 % 2);
 }
 
 /* ---- offsets above 4 GiB */
@@ -804,7 +894,7 @@ static void check_above(void)
             static const size_t few[TABLES] = {6, 5, 5, 5, 5, 5, 3, 6};
             lend(lent, 4 * PLACE, 0, sizeof thinned, COLLECTOR_COUNTS);
             uint64_t order = (uint64_t)is_big;
-            uint64_t answer = lent_tables ? call_lent(s, 0, 0, order, few, lent) : call_on(s, 0, 0, order, lent);
+            uint64_t answer = lent_tables ? call_lent(s, 0, 0, order, 0, few, lent) : call_on(s, 0, 0, order, 0, lent);
             check_zeros(answer, lent);
             expect(answer, COLLECTOR_REWRITTEN, "a unit above 4 GiB");
             expect((uint64_t)memcmp(lent[OUT].at, thinned, sizeof thinned), 0, "output of a unit above 4 GiB");
@@ -849,7 +939,7 @@ static void above(const char *path, int is_big)
     struct bytes s[SECTIONS] = ABOVE(section, length);
     struct timespec began, ended;
     clock_gettime(CLOCK_MONOTONIC, &began);
-    uint64_t answer = call_on(s, 0, 0, (uint64_t)is_big, lent);
+    uint64_t answer = call_on(s, 0, 0, (uint64_t)is_big, 0, lent);
     clock_gettime(CLOCK_MONOTONIC, &ended);
     expect(answer, COLLECTOR_REWRITTEN, "new offsets above 4 GiB");
     expect(count(lent, 3), size, "the size of the output");
@@ -922,7 +1012,7 @@ static void far_calls(
         lend(lent, 3 * PLACE, 8, s[0].length, COLLECTOR_COUNTS);
         uint64_t order = (uint64_t)is_big;
         uint64_t answer =
-            lent_tables ? call_lent(s, lent_base, 0, order, room, lent) : call_on(s, lent_base, 0, order, lent);
+            lent_tables ? call_lent(s, lent_base, 0, order, 0, room, lent) : call_on(s, lent_base, 0, order, 0, lent);
         check_zeros(answer, lent);
         expect(answer, COLLECTOR_REWRITTEN, what);
         expect(count(lent, 1), kept != 0 ? 2 : 1, what);
@@ -1123,7 +1213,7 @@ static void check_rules(void)
     for (size_t i = 0; i < sizeof shown / sizeof *shown; i++) {
         five_of[4] = (struct bytes){shown[i], 0};
         lend(lent, 4 * PLACE, 8, 18, COLLECTOR_COUNTS);
-        uint64_t answer = call_on(five_of, 0, 0, 0, lent);
+        uint64_t answer = call_on(five_of, 0, 0, 0, 0, lent);
         check_zeros(answer, lent);
         expect(answer, COLLECTOR_UNTOUCHED, "no address table");
         static const uint64_t all[] = {5, 5, 0, 0, 0, 0, 0};
@@ -1141,6 +1231,7 @@ static void check_rules(void)
     check_order();
     check_wide();
     check_version_4();
+    check_fixed();
     printf("the call's own rules hold\n");
 }
 
@@ -1176,7 +1267,7 @@ static uint64_t nested(size_t levels, int is_big)
     struct bytes sections[SECTIONS] = {{section.at, at}, {declarations, sizeof declarations}, {nothing, 0}, {nothing, 0}, {nothing, 0}, {nothing, 0}};
     struct bytes lent[LENT];
     lend(lent, 4 * PLACE, 0, at - 1, COLLECTOR_COUNTS);
-    uint64_t answer = call(sections, 0, 0, (uint64_t)is_big, lent);
+    uint64_t answer = call(sections, 0, 0, (uint64_t)is_big, 0, lent);
     check_zeros(answer, lent);
     uint8_t reference[4];
     put(reference, at - 2, 4, is_big);
@@ -1211,14 +1302,16 @@ int main(int argc, char **argv)
         check_rules();
         return 0;
     }
-    uint64_t big_endian = 0;
+    uint64_t big_endian = 0, fixed_addresses = 0;
     for (int i = 1; i < argc; i++) {
         if (strcmp(argv[i], "collect") == 0)
-            big_endian = 0;
-        else if (strcmp(argv[i], "big-endian") == 0)
+            big_endian = fixed_addresses = 0;
+        else if (strcmp(argv[i], "--big-endian") == 0)
             big_endian = 1;
+        else if (strcmp(argv[i], "--fixed-addresses") == 0)
+            fixed_addresses = 1;
         else
-            run_file(argv[i], big_endian);
+            run_file(argv[i], big_endian, fixed_addresses);
     }
     return 0;
 }

@@ -7,15 +7,17 @@ has the notation), what it lends, and the answer that the specification gives, n
 written, and the files are compared with what would be. `collect.py names` prints the number of each case with what it
 is about.
 
-A case is sixteen numbers of eight bytes, big-endian (how much is lent of the index of the declarations, of the columns
-offsets, parents, roots, ends, marks, targets, pairs, of map, three lists and output; the ranges base; type units; the
-unit's byte order, 0 little-endian), then a bundle. What is not said is lent with something to spare, so that zeros
-after the answer are seen. Each case stands in both byte orders, with the same number, and in both formats (wide.py),
-in a file for each; those of version 4 have files of their own, since one has at most 262,144 bytes."""
+A case is seventeen numbers of eight bytes, big-endian (how much is lent of the index of the declarations, of the
+columns offsets, parents, roots, ends, marks, targets, pairs, of map, three lists and output; the ranges base; type
+units; the unit's byte order, 0 little-endian; whether fixed addresses count, 0 no), then a bundle. What is not said is
+lent with something to spare, so that zeros after the answer are seen. Each case stands in both byte orders, with the
+same number, and in both formats (wide.py), in a file for each; those of version 4 and those with fixed addresses have
+files of their own, since one has at most 262,144 bytes."""
 import sys
 from functools import partial
 
 import failures
+import fixed
 import older
 from units import (A5, BIG, CUT, CUT64, DANGLING, ESCAPE, FAR, FIVE, FIVE64, FIVE_4, FORMATS, HEADERS, LARGEST, ORDERS,
                    T, T64,
@@ -24,12 +26,13 @@ from units import (A5, BIG, CUT, CUT64, DANGLING, ESCAPE, FAR, FIVE, FIVE64, FIV
 from wide import OneFormat, Wide
 
 SETTINGS = ('index', 'offsets', 'parents', 'roots', 'ends', 'marks', 'targets', 'pairs', 'map', 'ranges', 'locations', 'strings', 'output', 'base',
-            'type_units', 'big_endian')
+            'type_units', 'big_endian', 'fixed_addresses')
 ENTRY_COLUMNS = ('offsets', 'parents', 'roots', 'ends', 'marks')
 LISTS = ('ranges', 'locations', 'strings')
 PLACE = 24  # bytes of a place of the map
 MOST = 262144  # bytes of a file
-cases = {(part, wide, big): [] for part in ('', '-4') for wide in FORMATS for big in ORDERS}  # big: as it is told
+PARTS = ('', '-4', '-fixed')
+cases = {(part, wide, big): [] for part in PARTS for wide in FORMATS for big in ORDERS}  # big: as it is told
 part = ''  # which files the next cases are for
 
 
@@ -62,11 +65,11 @@ def kind_of(of_unit):
 
 
 def case(why, of_unit, table, answer, locations='', ranges='', addresses='', tail='', lend=None, wrong=False, told=1,
-         both=True, older=None):
+         both=True, older=None, counts=0):
     """lend: settings that matter, by name; `entries` and `references` for a whole table. wrong: the unit is of the
-    order that is not told. told: the number that says big-endian. A unit `W ..` is of the 64-bit format alone; both
-    says whether another stands in both."""
-    kind, lend = kind_of(of_unit), dict(lend or {})
+    order that is not told. told: the number that says big-endian; counts: the one that says whether fixed addresses
+    count. A unit `W ..` is of the 64-bit format alone; both says whether another stands in both."""
+    kind, lend = kind_of(of_unit), dict(lend or {}, fixed_addresses=counts)
     alone = kind.startswith('W')
     for big in ORDERS:
         data = bundle_of(of_unit, table, locations, ranges, addresses, tail, big != wrong, older)
@@ -104,7 +107,7 @@ def lent_and_left(why, answer, lend, places, out, length):
     """The settings of a case, and what it must print: its map and its new unit, if it has them; the unit's length."""
     refused = 'refused' in answer
     lists = {k: b'' if refused or answer[k] == 'absent' else numbers(answer[k], 8) for k in LISTS}
-    given = {'index': 16, 'targets': 8, 'pairs': 16, 'base': 0, 'type_units': 0,
+    given = {'index': 16, 'targets': 8, 'pairs': 16, 'base': 0, 'type_units': 0, 'fixed_addresses': 0,
              'map': 4 * PLACE + 5 if refused else len(places) + 5, 'output': (length if refused else len(out)) + 3}
     given.update({c: 8 if refused else answer['entries'] + 1 for c in ENTRY_COLUMNS})
     given.update({k: len(lists[k]) + 11 for k in LISTS})
@@ -846,6 +849,66 @@ for code, more in (('9a', ''), ('a0', '00'), ('f2', '7f'), ('fd', '')):
 for why, of_unit, table, answer, sections in older.cases():
     judged(why, of_unit, table, answer, **sections)
 
+# ---- document 02, point 7: variables at a fixed address, where they do not count and where they do
+part = '-fixed'
+ONE_AT = 'H 01 02 09 03 8:1 00'
+
+
+def twice(why, of_unit, table, off, on, **sections):
+    case(why + ', off', of_unit, table, off, **sections)
+    case(why + ', on', of_unit, table, on, counts=1, **sections)
+
+
+for why, of_unit, table, off, on, sections in fixed.SOME:
+    judged(why + ', off', of_unit, table, off, **sections)
+    judged(why + ', on', of_unit, table, on, counts=1, **sections)
+for number in (0, 1, 2, 256, 2 ** 32, 2 ** 63, 2 ** 64 - 1):
+    judged('7: by the number %d' % number, ONE_AT, V, 'live' if number else 'dead', counts=number)
+    judged('7: a tombstone by the number %d' % number, 'H 01 02 09 03 8:0 00', V, 'dead', counts=number)
+judged('7, 12: both by the largest number', ONE_AT, V, 'live', counts=2 ** 64 - 1, told=2 ** 64 - 1)
+judged('7, 12: big-endian by the largest number, off', ONE_AT, V, 'dead', told=2 ** 64 - 1)
+TYPED, FIRST_ALONE = '1 11 children; 2 34 02/18 49/11; 3 24', rewritten(4, 1, '12>12@0 27>13@1', '01 00')
+for address in ('8:0', '8:ffffffffffffffff'):
+    twice('7: its type, %s' % address, 'H 01 02 09 03 %s 1a 03 03 00' % address, TYPED, FIRST_ALONE, FIRST_ALONE)
+twice('7: its type', 'H 01 02 09 03 8:1 1a 03 03 00', TYPED, FIRST_ALONE,
+      rewritten(4, 3, '12>12@0 13>13@1 26>25@1 27>26@1', '01 02 09 03 8:1 19 03 00'))
+twice('7: what its expression names', 'H 01 02 0c 03 8:1 98 2:1c 03 03 00', '1 11 children; 2 34 02/18; 3 24',
+      rewritten(4, 1, '12>12@0 29>13@1', '01 00'),
+      rewritten(4, 3, '12>12@0 13>13@1 28>27@1 29>28@1', '01 02 0c 03 8:1 98 2:1b 03 00'))
+twice('7: what its entry value names', 'H 01 02 0e 03 8:1 a303 98 2:1e 03 03 00', '1 11 children; 2 34 02/18; 3 24',
+      rewritten(4, 1, '12>12@0 31>13@1', '01 00'),
+      rewritten(4, 3, '12>12@0 13>13@1 30>29@1 31>30@1', '01 02 0e 03 8:1 a303 98 2:1d 03 00'))
+twice('7: its parent', 'H 01 02 03 09 03 8:1 04 00 04 00', '1 11 children; 2 39 children; 3 34 02/18; 4 24',
+      rewritten(5, 1, '12>12@0 28>13@1', '01 00'),
+      rewritten(5, 3, '12>12@0 13>13@1 14>14@2 26>25@2 28>26@1', '01 02 03 09 03 8:1 00 00'))
+twice('7: a static variable of a dead subprogram', 'H 01 0200 03 09 03 8:1 04 00 04 00',
+      '1 11 children; 2 2e children 11/1b; 3 34 02/18; 4 24', rewritten(5, 1, '12>12@0 29>13@1', '01 00'),
+      rewritten(5, 3, '12>12@0 13>13@1 15>15@2 27>26@2 29>27@1', '01 0200 03 09 03 8:1 00 00'), addresses='00')
+twice('7: unit type 5', 'H5 01 02 09 03 8:1 00', V, rewritten(2, 1, '20>20@0 32>21@1', '01 00'), untouched(2))
+twice('7: what is below it', 'H 01 02 09 03 8:1 03 00 03 00', '1 11 children; 2 34 children 02/18; 3 24', FIRST_ALONE,
+      rewritten(4, 3, '12>12@0 13>13@1 24>24@2 25>25@2 27>26@1', '01 02 09 03 8:1 03 00 00'))
+twice('7: one of several', 'H 01 02 09 03 8:0 02 02 a100 02 02 a101 02 09 03 8:1 00', V,
+      rewritten(5, 2, '12>12@0 28>13@1 43>17@1', '01 02 02 a101 00'),
+      rewritten(5, 3, '12>12@0 28>13@1 32>17@1 43>28@1', '01 02 02 a101 02 09 03 8:1 00'), addresses='0001')
+NAMING = '1 11 children; 2 34 02/18 03/1a'
+twice('7: its strings', 'H 01 02 09 03 8:1 05 00', NAMING, rewritten(2, 1, '12>12@0 25>13@1', '01 00'),
+      untouched(2, strings='5'))
+twice('7: no room for them', 'H 01 02 09 03 8:1 05 00', NAMING, rewritten(2, 1, '12>12@0 25>13@1', '01 00'), no(12),
+      lend={'strings': 7})
+twice('7: no room for its references', 'H 01 02 09 03 8:1 0c 00', '1 11 children; 2 34 02/18 49/11', no(11), no(11),
+      lend={'references': 0})
+twice('7: no room for it', ONE_AT, V, no(10), no(10), lend={'entries': 1})
+twice('7: 10 before its root test', 'H 01 02 0b 03 8:1 a101 00', V, no(10), no(10), addresses='00', lend={'entries': 1})
+twice('7: a dangling reference', 'H 01 02 09 03 8:1 63 03 00', TYPED, rewritten(3, 1, '12>12@0 26>13@1', '01 00'),
+      no(8))
+twice('7: type units', 'H 01 02 09 03 8:1 05 00', NAMING,
+      rewritten(2, 1, '12>12@0 25>13@1', '01 00', 'absent', 'absent', 'absent'),
+      untouched(2, 'absent', 'absent', 'absent'), lend={'type_units': 1})
+twice('7: the five-entry unit', FIVE, A5, ONE, ONE, addresses='0100')
+twice('7: it in version 4', FIVE_4, A5, ONE_4, ONE_4, addresses='0100')
+twice('7: an empty section', '', A5, NOTHING, NOTHING)
+twice('7: told the wrong order', ONE_AT, V, no(1), no(1), wrong=True)
+
 # ---- 50, and document 02's 3.1: padded numbers, in the order of crates/test_collect/src/main.rt: value, width, length, bytes or none where refused (15)
 PADDED = [(0, 1, 1, '00'), (16, 2, 3, '900000'), (127, 1, 3, '7f0000'), (128, 1, 3, None), (128, 2, 3, '800100'), (0, 0, 3, None), (0, 4, 3, None), (0, 3, 3, '808000'),
           (0, 1, 0, None), (0, 0, 0, None),
@@ -919,6 +982,21 @@ def big_thin_cases():
          'entries 9 kept 8\n12 R 12\n301 D -\n' + ''.join('%d L %d\n' % (n, n - 1) for n in range(302, 309)))]
 
 
+# Through thin, in both byte orders: a name, a unit, its abbreviations, the address table, and the lines where fixed
+# addresses do not count and where they do.
+BY_TYPE = ('entries 4 kept 1\n12 R 12\n13 D -\n25 D -\n26 D -\n',
+           'entries 4 kept 3\n12 R 12\n13 L 13\n25 D -\n26 L 25\n')
+FIXED_THIN = [('fixed-type', 'H 01 02 09 03 8:2 1a 03 03 00', TYPED, '', *BY_TYPE),
+              ('fixed-tombstone', 'H 01 02 09 03 8:0 1a 03 03 00', TYPED, '', BY_TYPE[0], BY_TYPE[0]),
+              ('fixed-ends-the-test', 'H 01 02 09 03 8:1 02a109 00', fixed.TWO, '00', 'refused 17\n',
+               'entries 2 kept 2\n12 R 12\n13 L 13\n')]
+
+
+def fixed_thin_cases(big, on):
+    return [('big-' * big + name, bundle_of(of_unit, table, addresses=addresses, big=big), lines[on])
+            for name, of_unit, table, addresses, *lines in FIXED_THIN]
+
+
 FILES = {key: 'points%s%s%s.cases' % (key[0], '-64' * key[1], '-big' * key[2]) for key in cases}
 
 
@@ -930,9 +1008,13 @@ def files():
                  ''.join('== %s\n' % name + lines_of(cases[key]) for key, name in FILES.items()))]
     made = {'test_collect/data/' + name: b''.join(data for _, data, _ in cases[key]) for key, name in FILES.items()}
     assert all(len(data) <= MOST for data in made.values())
-    for heading, thin, big in (('bundles through thin', thin_cases(), False), ('big-endian bundles through thin', big_thin_cases(), True)):
+    for heading, thin, big, on in (
+            ('bundles through thin', thin_cases() + fixed_thin_cases(False, False), False, False),
+            ('big-endian bundles through thin', big_thin_cases() + fixed_thin_cases(True, False), True, False),
+            ('bundles through thin, where fixed addresses count', fixed_thin_cases(False, True), False, True),
+            ('big-endian bundles through thin, where fixed addresses count', fixed_thin_cases(True, True), True, True)):
         lines = ''.join('== %s.bundle\n%s' % (name, lines) for name, _, lines in thin)
-        held.append(Part(heading, 'thin', [name + '.bundle' for name, _, _ in thin], lines, big))
+        held.append(Part(heading, 'thin', [name + '.bundle' for name, _, _ in thin], lines, big, on))
         made.update({'test_collect/data/%s.bundle' % name: data for name, data, _ in thin})
     made.update(with_parts('test_collect', held + [Part('padded numbers', None, [], padded_lines())]))
     made.update({'thin/stdin': FIRST, 'thin/stdout': FIRST_THINNED.encode()})
@@ -947,8 +1029,8 @@ if __name__ == '__main__':
                 print('%d %s' % (n, why))
         sys.exit(0)
     wrong = write(files(), sys.argv[1:] == ['check'])
-    print('collect: in each byte order %d cases of the 32-bit format and %d of the 64-bit one, for version 4 %d and %d; '
-          '%d padded numbers; thin: %d files, %d of them big-endian' %
-          (*(len(cases[of, wide, False]) for of in ('', '-4') for wide in FORMATS), len(PADDED),
-           len(thin_cases() + big_thin_cases()), len(big_thin_cases())))
+    print('collect: in each byte order %d cases of the 32-bit format and %d of the 64-bit one, for version 4 %d and '
+          '%d, with fixed addresses %d and %d; %d padded numbers; thin: %d files, %d of them big-endian' %
+          (*(len(cases[of, wide, False]) for of in PARTS for wide in FORMATS), len(PADDED),
+           len(thin_cases() + big_thin_cases()) + 2 * len(FIXED_THIN), len(big_thin_cases()) + len(FIXED_THIN)))
     sys.exit(wrong > 0)

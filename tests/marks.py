@@ -4,26 +4,28 @@ crates/marks too.
 
 Each case has the point that it is about (one with a dot is document 02's), its bytes (units.py has the notation) and
 the marks that the specification gives, never from a run. It stands in both byte orders, with the same marks, and in
-both formats, with the marks of the same entries (wide.py). With `check` nothing is written, and the files are compared
-with what would be."""
+both formats, with the marks of the same entries (wide.py). Units with fixed addresses (fixed.py) have files of their
+own, which are marked twice: where these addresses do not count, and where they do. With `check` nothing is written, and
+the files are compared with what would be."""
 import sys
 
 import failures
+import fixed
 import older
 from units import (A5, BIG, CUT, DANGLING, ESCAPE, FAR, FIVE, FIVE64, FIVE_4, FORMATS, LARGEST, ORDERS, T, T64, Part,
                    asking, bundle_of, far, of_two, placed, unit, with_parts, write)
 from wide import OneFormat, Wide
 
 points = {(wide, big): [] for wide in FORMATS for big in ORDERS}  # by the format, and the order that is told
+at_fixed = {key: [] for key in points}  # the same, with two answers
 
 
-def case(why, of_unit, table, expected, locations='', ranges='', addresses='', wrong=False, both=True, older=None):
-    """expected: marks as `12R 13L`, or `refused N`. wrong: the unit is of the order that is not told. A unit `W ..` is
-    of the 64-bit format alone; both says whether another stands in both."""
+def ways(of_unit, table, expected, locations='', ranges='', addresses='', wrong=False, both=True, older=None):
+    """A case in each format and byte order: these, its bundle, and its lines for each of the marks expected."""
     alone = isinstance(of_unit, str) and of_unit.startswith(('W', ESCAPE.hex()))
     for big in ORDERS:
         data = bundle_of(of_unit, table, locations, ranges, addresses, big=big != wrong, older=older)
-        points[alone, big].append((why, data, letters(expected)))
+        yield (alone, big), data, [letters(marks) for marks in expected]
         if both and not alone:
             try:
                 made = Wide(of_unit, table, locations, ranges, big=big != wrong, older=older)
@@ -31,14 +33,33 @@ def case(why, of_unit, table, expected, locations='', ranges='', addresses='', w
                 continue
             held = made.bundle(addresses)
             if held != data:
-                marks = expected if expected.startswith('refused') else made.marks(expected)
-                points[True, big].append((why, held, letters(marks)))
+                moved = [marks if marks.startswith('refused') else made.marks(marks) for marks in expected]
+                yield (True, big), held, [letters(marks) for marks in moved]
+
+
+def case(why, of_unit, table, expected, **sections):
+    """expected: marks as `12R 13L`, or `refused N`. wrong: the unit is of the order that is not told. A unit `W ..` is
+    of the 64-bit format alone; both says whether another stands in both."""
+    for way, data, (lines,) in ways(of_unit, table, [expected], **sections):
+        points[way].append((why, data, lines))
+
+
+def twice(why, of_unit, table, off, on, **sections):
+    """The marks where fixed addresses do not count, and where they do."""
+    for way, data, lines in ways(of_unit, table, [off, on], **sections):
+        at_fixed[way].append((why, data, lines))
+
+
+def second(of_unit, answer):
+    """The marks of a unit of two entries, whose second is live or dead; or a refusal by its number."""
+    if answer in ('live', 'dead'):
+        return '%dR %d' % of_two(of_unit)[:2] + {'live': 'L', 'dead': 'D'}[answer]
+    return 'refused %d' % answer
 
 
 def judged(why, of_unit, table, answer, **sections):
     """answer: of a unit of two entries whether the second is live or dead; or the number of a refusal."""
-    marks = '%dR %d' % of_two(of_unit)[:2] + {'live': 'L', 'dead': 'D'}[answer] if answer in ('live', 'dead') else None
-    case(why, of_unit, table, marks or 'refused %d' % answer, **sections)
+    case(why, of_unit, table, second(of_unit, answer), **sections)
 
 
 def letters(expected):
@@ -344,18 +365,57 @@ for why, of_unit, table, answer, sections in older.cases():
     judged(why, of_unit, table, answer, **sections)
 
 
+# ---- document 02, point 7: variables at a fixed address
+for why, of_unit, table, off, on, sections in fixed.EACH:
+    twice(why, of_unit, table, second(of_unit, off), second(of_unit, on), **sections)
+TYPED = '1 11 children; 2 34 02/18 49/11; 3 24'
+for address, on in (('8:1', '12R 13L 25D 26L'), ('8:0', '12R 13D 25D 26D'), ('8:ffffffffffffffff', '12R 13D 25D 26D')):
+    twice('7: what it names, %s' % address, 'H 01 02 09 03 %s 1a 03 03 00' % address, TYPED, '12R 13D 25D 26D', on)
+twice('7: what its expression names', 'H 01 02 0c 03 8:1 98 2:1c 03 03 00', '1 11 children; 2 34 02/18; 3 24',
+      '12R 13D 27D 28D', '12R 13L 27D 28L')
+twice('7: its parent is retained', 'H 01 02 03 09 03 8:1 04 00 04 00', '1 11 children; 2 39 children; 3 34 02/18; 4 24',
+      '12R 13D 14D 25D 27D', '12R 13R 14L 25D 27D')
+STATIC = '1 11 children; 2 2e children 11/1b; 3 34 02/18; 4 24'
+twice('7: a static variable of a dead subprogram', 'H 01 0200 03 09 03 8:1 04 00 04 00', STATIC,
+      '12R 13D 15D 26D 28D', '12R 13R 15L 26D 28D', addresses='00')
+twice('7: of one whose index is past the end', 'H 01 0209 03 09 03 8:1 00 00', STATIC, 'refused 17', 'refused 17',
+      addresses='00')
+twice('7: what is below it', 'H 01 02 09 03 8:1 03 00 03 00', '1 11 children; 2 34 children 02/18; 3 24',
+      '12R 13D 24D 26D', '12R 13L 24L 26D')
+twice('7: a variable below a variable', 'H 01 02 09 03 8:0 02 09 03 8:1 00 00 00', '1 11 children; 2 34 children 02/18',
+      '12R 13D 24D', '12R 13R 24L')
+twice('7: unit type 5', 'H5 01 02 09 03 8:1 00', V, '20R 21D', '20R 21L')
+twice('7: a padded length', 'H 01 02 8900 03 8:1 00', V, '12R 13D', '12R 13L')
+twice('7: an entry value with a padded length', 'H 01 02 0d a38900 03 8:1 96 00', V, '12R 13D', '12R 13D')
+twice('7: an address in the block of a const_type', 'H 01 02 0d a400 0a 03 8:1 96 00', V, '12R 13D', '12R 13D')
+twice('7: one of several', 'H 01 02 09 03 8:0 02 02 a100 02 02 a101 02 09 03 8:1 00', V,
+      '12R 13D 24D 28L 32D', '12R 13D 24D 28L 32L', addresses='0001')
+twice('7: the five-entry unit', FIVE, A5, '12R 13L 16D 17L 18D', '12R 13L 16D 17L 18D', addresses='0100')
+twice('7: told the wrong order', 'H 01 02 09 03 8:1 00', V, 'refused 1', 'refused 1', wrong=True)
+
+
 def main():
-    _, data, lines = points[False, False][0]
-    made, held = {'marks/stdin': data, 'marks/stdout': lines.encode()}, []
+    one = [(data, lines) for why, data, (_, lines) in at_fixed[False, True] if why.startswith('7: what it names')][0]
+    made, held = {'marks/stdin': one[0], 'marks/stdout': one[1].encode(),
+                  'marks/args': b'--fixed-addresses\n--big-endian\n'}, []
     for (wide, big), cases in points.items():
         name = 'points%s%s.bundles' % ('-64' * wide, '-big' * big)
         heading = '%sunits made by hand%s' % ('big-endian ' * big, ', 64-bit format' * wide)
         held.append(Part(heading, 'marks', [name], placed(name, [(data, lines) for _, data, lines in cases]), big))
         made['test_marks/data/' + name] = b''.join(data for _, data, _ in cases)
+    for (wide, big), cases in at_fixed.items():
+        for on in (True, False):
+            name = 'fixed%s%s.bundles' % ('-64' * wide, '-big' * big)
+            heading = '%sunits with fixed addresses, which %s%s' % ('big-endian ' * big,
+                                                                    'count' if on else 'do not count',
+                                                                    ', 64-bit format' * wide)
+            text = placed(name, [(data, lines[on]) for _, data, lines in cases])
+            held.append(Part(heading, 'marks', [name], text, big, on))
+            made['test_marks/data/' + name] = b''.join(data for _, data, _ in cases)
     made.update(with_parts('test_marks', held))
     wrong = write(made, sys.argv[1:] == ['check'])
-    print('marks: in each byte order %d points of the 32-bit format, %d of the 64-bit one' %
-          tuple(len(points[wide, False]) for wide in FORMATS))
+    print('marks: in each byte order %d points of the 32-bit format, %d of the 64-bit one; with fixed addresses %d '
+          'and %d' % tuple(len(held[wide, False]) for held in (points, at_fixed) for wide in FORMATS))
     sys.exit(wrong > 0)
 
 

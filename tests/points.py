@@ -807,6 +807,35 @@ for name, entries, expected in (('', '00', 'end'), ('-live', '040001', 'kind 4 0
          'unit 17|%s| attribute 85 form 23 value 0|  list at 0|  %s' % (ENTRY, expected), ranges=entries,
          older='ff' * 20)
 
+# ---- document 02, point 7: whether fixed addresses count changes nothing of what dump prints, but of what thin does
+at_fixed = {big: [] for big in ORDERS}  # by the order that is told: names, what dump prints, and thin where they count
+
+
+def at_address(name, kind, size, address, live):
+    """A variable at an address, and an entry that names it, in both byte orders. live: whether that makes it a root."""
+    first = len(unit(kind))
+    last = first + 4 + size
+    of_unit = '%s 01 02 %02x 03 %d:%x 03 %02x 00' % (kind, size + 1, size, address, first + 1)
+    expected = ('version %d unit type 1 address_size %d abbreviations 0 first %d end %d|'
+                'entry %d depth 0 code 1 tag 17 children|entry %d depth 1 code 2 tag 52|'
+                ' attribute 2 form 24 bytes %d to %d|entry %d depth 1 code 3 tag 36|'
+                ' attribute 73 form 17 value %d|terminator %d depth 1' %
+                (4 if 'G' in kind else 5, size, first, last + 3, first, first + 1, first + 3, last, last, first + 1,
+                 last + 2))
+    off, on = ('entries 3 kept %d|%d R %d|%d %s|%d D -' %
+               (1 + kept, first, first, first + 1, 'L %d' % (first + 1) if kept else 'D -', last)
+               for kept in (False, live))
+    for big in ORDERS:
+        whole = '64-' * kind.startswith('W') + 'big-' * big + name
+        data = bundle_of(of_unit, '1 11 children; 2 34 02/18; 3 24 49/11', big=big)
+        raw(whole, '7.3', data, expected, off, big)
+        at_fixed[big].append((whole, printed(whole, lines(expected)), printed(whole, on.split('|'))))
+
+
+for name, kind, size in (('p7', 'H', 8), ('p7', 'W', 8), ('v4-p7-32', 'G4', 4), ('v4-p7-32', 'WG4', 4)):
+    at_address(name + '-address', kind, size, 0xffffffff if size == 8 else 1, True)
+    at_address(name + '-tombstone', kind, size, 256 ** size - 1, False)
+
 # 6.8: references of an expression by the sizes that are told, in the order of crates/test_readers/src/main.rt
 SIZES = (0, 1, 2, 3, 4, 5, 7, 8, 9, 16, 255)
 
@@ -840,6 +869,11 @@ def main():
         made.update({'test_readers/data/%s.bundle' % name: data for name, _, data, _ in cases[big] if data is not None})
     for big, heading in ((False, 'some of them through thin'), (True, 'some of them through thin, big-endian')):
         held.append(Part(heading, 'thin', [n + '.bundle' for n, _ in thinned[big]], ''.join(text for _, text in thinned[big]), big))
+    for big, word in ((False, ''), (True, ', big-endian')):
+        names = [name + '.bundle' for name, _, _ in at_fixed[big]]
+        for what, column in (('dump', 1), ('thin', 2)):
+            text = ''.join(row[column] for row in at_fixed[big])
+            held.append(Part('%s where fixed addresses count%s' % (what, word), what, names, text, big, True))
     held.append(Part('references of an expression, by the sizes told', None, [], told_lines()))
     made.update(with_parts('test_readers', held))
     # the program that reads one bundle: it has the five-entry unit, in big-endian
@@ -848,8 +882,9 @@ def main():
     wrong = write(made, sys.argv[1:] == ['check'])
     through = len(thinned[False] + thinned[True])
     wide = sum(name.startswith('64-') for held in cases.values() for name, _, _, _ in held)
-    print('points: %d cases in little-endian, %d in big-endian, %d of them of the 64-bit format, %d through thin' %
-          (len(cases[False]), len(cases[True]), wide, through))
+    print('points: %d cases in little-endian, %d in big-endian, %d of them of the 64-bit format, %d through thin; '
+          '%d where fixed addresses count' % (len(cases[False]), len(cases[True]), wide, through,
+                                              sum(len(held) for held in at_fixed.values())))
     sys.exit(wrong > 0)
 
 

@@ -225,11 +225,12 @@ def placed(name, cases):
 # ---- the files of a crate
 
 class Part:
-    """A part of a test crate's arguments and of what it prints: a heading, what is asked for, files, lines; and whether
-    the files' units are big-endian."""
-    def __init__(self, heading, word, files, lines, big=False):
+    """A part of a test crate's arguments and of what it prints: a heading, what is asked for, files, lines; whether the
+    files' units are big-endian, and whether fixed addresses count."""
+    def __init__(self, heading, word, files, lines, big=False, fixed=False):
         self.heading = '# %s\n' % heading
-        self.args = ''.join(w + '\n' for w in [word] + ['big-endian'] * big + list(files)) if word else None
+        options = ['--big-endian'] * big + ['--fixed-addresses'] * fixed
+        self.args = ''.join(w + '\n' for w in [word] + options + list(files)) if word else None
         self.lines = lines
 
 

@@ -6,9 +6,9 @@ use crate::order::{fixed, Layout};
 use std::collections::BTreeSet;
 
 /// Families that are made of nothing given, in the order of README.md.
-pub const FAMILIES: [&str; 20] = [
+pub const FAMILIES: [&str; 21] = [
     "small", "bytes", "valid", "lists", "expressions", "trees", "deep", "refused", "headers", "declarations", "numbers", "operations", "kinds",
-    "siblings", "many", "damaged", "listed", "sums", "no-table", "failures",
+    "siblings", "many", "damaged", "listed", "sums", "no-table", "failures", "addresses",
 ];
 /// Families of given bundles.
 pub const OF_FILES: [&str; 2] = ["tables", "damaged-files"];
@@ -227,6 +227,8 @@ struct Style {
     no_table: bool,
     /// The same, and the table is short, or holds bytes above 1.
     failures: bool,
+    /// Mostly variables' locations with DW_OP_addr, and the same where it is not searched for.
+    fixed: bool,
     /// A fault of each kind, 0 for none.
     fault: u8,
 }
@@ -259,6 +261,11 @@ struct Maker<'a> {
 const NAMES: [u16; 12] = [0x03, 0x0b, 0x10, 0x12, 0x1c, 0x31, 0x3a, 0x40, 0x49, 0x64, 0x72, 0x2107];
 const TAGS: [u16; 9] = [0x2e, 0x2e, 0x2e, 0x34, 0x34, 0x24, 0x0b, 0x13, 0x39];
 const ROOTS: [u16; 8] = [0x2e, 0x2e, 0x2e, 0x34, 0x34, 0x34, 0x24, 0x0b];
+const LOCATED: [u16; 8] = [0x34, 0x34, 0x34, 0x34, 0x34, 0x05, 0x2e, 0x24];
+/// Tombstones of either size and what is nearly one: of four bytes the low half is written.
+const FIXED: [u64; 15] = [
+    0, 0, 0, u64::MAX, u64::MAX, 0xffff_ffff, 0xffff_ffff, 1, u64::MAX - 1, 0xffff_fffe, 0xffff_ffff << 32, 1 << 32, 1 << 31, 1 << 63, 0x1000,
+];
 const REFERENCES: [u16; 5] = [0x11, 0x12, 0x13, 0x14, 0x15];
 const FORMS: [u16; 41] = [
     0x01, 0x03, 0x04, 0x05, 0x06, 0x07, 0x08, 0x09, 0x0a, 0x0b, 0x0c, 0x0d, 0x0e, 0x0f, 0x11, 0x12, 0x13, 0x14, 0x15,
@@ -313,6 +320,7 @@ impl Maker<'_> {
 
     fn address(&mut self) -> Vec<u8> {
         let address = match self.dice.below(4) {
+            _ if self.style.fixed => self.dice.of(&FIXED),
             0 => 0,
             1 => u64::MAX,
             2 => 0xffff_ffff,
@@ -323,7 +331,7 @@ impl Maker<'_> {
 
     /// An index into the address table: in it, but for fault 6 and in `failures`; any number where there is none.
     fn address_index(&mut self) -> u64 {
-        if self.style.failures && self.dice.rare(12) {
+        if self.style.failures && self.dice.rare(12) || self.style.fixed && self.dice.rare(40) {
             let past = self.dice.of(&[0, 0, 0, 0, 1, 1, 2, 100, 1 << 16, 1 << 32, 1 << 63, u64::MAX]);
             return past.saturating_add(self.addresses as u64);
         }
@@ -344,6 +352,8 @@ impl Maker<'_> {
             self.dice.of(&[0x9a, 0xa0, 0xf2])
         } else if self.style.asks() && self.dice.rare(2) {
             self.dice.of(&[0xa1, 0xa1, 0xa1, 0xfb, 0xfb, 0xa2, 0x03, 0xa3])
+        } else if self.style.fixed && depth < 4 && !self.dice.rare(4) {
+            self.dice.of(&[0x03, 0x03, 0x03, 0x03, 0x03, 0x03, 0x03, 0x03, 0x03, 0xa1, 0xa1, 0xfb, 0xa3, 0xa3, 0xf3, 0x0e, 0x22, 0xa2])
         } else {
             match self.dice.below(8) {
                 0 | 1 => self.dice.of(&[0x98, 0x99, 0xa4, 0xa5, 0xa6, 0xa7, 0xa8, 0xa9, 0xf4, 0xf5, 0xf6, 0xf7, 0xf9, 0xfa]),
@@ -368,6 +378,11 @@ impl Maker<'_> {
             0x0a | 0x0b | 0x28 | 0x2f => bytes(self.dice.bytes(2)),
             0x0c | 0x0d => bytes(self.dice.bytes(4)),
             0x9a | 0xfd => bytes(self.dice.bytes(self.layout.word())),
+            // An address of a thread's own variable is no DW_OP_addr.
+            0x0e if self.style.fixed => {
+                bytes(self.fixed(0x1000, 8));
+                bytes(vec![self.dice.of(&[0x9b, 0xe0])]);
+            }
             0x0e | 0x0f => bytes(self.dice.bytes(8)),
             0x10 | 0x23 | 0xa2 | 0xfc => bytes(uleb(n, more)),
             0x93 => bytes(uleb(if listed { n } else { n >> 3 }, more)),
@@ -434,7 +449,7 @@ impl Maker<'_> {
     fn abbreviation(&mut self, code: u64, tag: u16, children: bool) -> Abbreviation {
         let mut specs = Vec::new();
         let some = if self.style.lists || self.style.expressions { 3 } else { 5 };
-        let least = usize::from(self.style.asks());
+        let least = usize::from(self.style.asks() || self.style.fixed);
         for _ in 0..least + self.dice.below(some - 2 * least) {
             let (name, form) = self.attribute(tag);
             specs.push(Spec { name, form, constant: self.dice.number() as i64 });
@@ -470,6 +485,8 @@ impl Maker<'_> {
                 0x2e => d.of(&[0, 0, 2]),
                 _ => d.of(&[0, 0, 1, 4]),
             }
+        } else if style.fixed && !d.rare(6) {
+            d.of(if tag == 0x2e { &[1, 2, 7][..] } else { &[0, 0, 0, 0, 1, 1, 1, 7, 4] })
         } else if style.lists && !d.rare(4) {
             d.of(&[1, 2])
         } else if style.expressions && !d.rare(4) {
@@ -485,7 +502,7 @@ impl Maker<'_> {
                 (0x11, d.of(&[0x1b, 0x1b, 0x29, 0x2a, 0x2b, 0x2c, 0x01, 0x01, 0x01, 0x16]))
             }
             0 if tag == 0x2e => (0x11, d.of(&[0x1b, 0x1b, 0x1b, 0x29, 0x2a, 0x2b, 0x2c, 0x01, 0x16, 0x0b])),
-            0 if tag == 0x34 => (0x02, 0x18),
+            0 if tag == 0x34 || style.fixed && tag != 0x2e => (0x02, 0x18),
             1 => (0x02, location(d)),
             2 => (0x55, ranges(d)),
             3 => (0x01, if d.rare(8) { 0x16 } else { d.of(&REFERENCES) }),
@@ -514,6 +531,12 @@ impl Maker<'_> {
         let n = self.dice.number();
         match form {
             0x01 => out.push(Piece::Bytes(self.address())),
+            // What would be an address in exprloc.
+            0x0a if self.style.fixed => {
+                let held = [&[0x03], &self.address()[..]].concat();
+                out.push(Piece::Bytes(vec![held.len() as u8]));
+                out.push(Piece::Bytes(held));
+            }
             0x03 | 0x04 | 0x09 | 0x0a => {
                 let held = self.dice.below(6);
                 let length = match form {
@@ -895,7 +918,7 @@ fn shape(dice: &mut Dice, style: Style, abbreviations: &[Abbreviation], size: us
 }
 
 fn structured(dice: &mut Dice, layout: Layout, style: Style) -> Parts {
-    let address_size = if dice.rare(4) { 4 } else { 8 };
+    let address_size = if dice.rare(if style.fixed { 2 } else { 4 }) { 4 } else { 8 };
     let addresses = if style.no_table { 0 } else { dice.of(&[1, 2, 3, 6, 140]) };
     let dangling = dice.rare(12);
     let wild = style.trees || dice.rare(6);
@@ -929,7 +952,7 @@ fn structured(dice: &mut Dice, layout: Layout, style: Style) -> Parts {
         } else if maker.dice.rare(20) {
             maker.dice.of(&[0x11, 0x41, 0xffff, 0x05])
         } else {
-            maker.dice.of(if style.asks() { &ROOTS[..] } else { &TAGS[..] })
+            maker.dice.of(if style.fixed { &LOCATED[..] } else if style.asks() { &ROOTS[..] } else { &TAGS[..] })
         };
         let children = if i == 0 { !maker.dice.rare(20) } else { maker.dice.rare(if style.trees { 2 } else { 3 }) };
         let mut made = maker.abbreviation(code, tag, children);
@@ -941,7 +964,7 @@ fn structured(dice: &mut Dice, layout: Layout, style: Style) -> Parts {
         abbreviations.push(made);
     }
 
-    let size = maker.dice.of(&[1, 2, 3, 4, 6, 9, 14, 14, 20, 30, 60]);
+    let size = maker.dice.of(if style.fixed { &[2, 3, 4, 6, 9, 9, 14, 20] } else { &[1, 2, 3, 4, 6, 9, 14, 14, 20, 30, 60][..] });
     let shape = shape(maker.dice, style, &abbreviations, size);
     maker.entries = shape.items.iter().map(Option::is_some).collect();
 
@@ -1030,7 +1053,11 @@ fn structured(dice: &mut Dice, layout: Layout, style: Style) -> Parts {
     table.extend(uleb(0, dice.padding()));
 
     let mut addresses = if style.no_table { vec![] } else { address_table(dice, addresses) };
-    if style.failures {
+    // Beside fixed addresses the others are mostly dead.
+    if style.fixed && !dice.rare(3) {
+        addresses.fill(0);
+    }
+    if style.failures || style.fixed && dice.rare(6) {
         for byte in &mut addresses {
             if dice.rare(5) {
                 *byte = dice.of(&[2, 3, 0x7f, 0x80, 0x81, 0xff]);
@@ -1798,6 +1825,10 @@ impl<'a> Cases<'a> {
                 let fault = dice.of(&[0, 0, 0, 0, 0, 0, 0, 0, 4, 5, 7, 8]);
                 let no_table = self.family == "no-table";
                 structured(dice, layout, Style { no_table, failures: !no_table, fault, ..style })
+            }
+            "addresses" => {
+                let fault = dice.of(&[0, 0, 0, 0, 0, 0, 0, 0, 0, 0, 0, 0, 0, 5, 5, 7, 8]);
+                structured(dice, layout, Style { fixed: true, fault, ..style })
             }
             "headers" => headers(dice, layout),
             "declarations" => declarations(dice, layout),

@@ -19,6 +19,8 @@ pub struct Setting {
     pub ranges_base: usize,
     /// Fixed-width fields of the unit and its lists are big-endian, else little-endian.
     pub big_endian: bool,
+    /// A DW_OP_addr in a variable's location that is no tombstone makes a root; gc.rs knows no such roots.
+    pub fixed_addresses: bool,
 }
 
 impl Setting {
@@ -210,6 +212,7 @@ fn outcome(parts: Sections<'_>, setting: Setting, asked: &Cell<usize>) -> Outcom
 }
 
 /// The original without the hook, its result freed: what is measured. The new unit's length, 0 where untouched, or none.
+/// Fixed addresses do not count here.
 pub fn measured(parts: Sections<'_>, setting: Setting) -> Option<usize> {
     let resolver = |index: gimli::DebugAddrIndex<usize>| resolved(parts[4], index.0);
     let answer = original!(plain, parts, setting, resolver).ok()?;
@@ -218,7 +221,7 @@ pub fn measured(parts: Sections<'_>, setting: Setting) -> Option<usize> {
 
 /// Runs the original on the sections of a bundle.
 pub fn judge(parts: Sections<'_>, setting: Setting) -> Judged {
-    probe::clear();
+    probe::begin(setting.fixed_addresses);
     let asked = Cell::new(0);
     let outcome = panic::catch_unwind(AssertUnwindSafe(|| outcome(parts, setting, &asked)));
     let seen = probe::taken();

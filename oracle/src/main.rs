@@ -6,7 +6,8 @@ use oracle::{listed, order};
 use std::io::{self, BufRead, BufReader, BufWriter, Read, Write};
 use std::panic::{self, AssertUnwindSafe};
 
-const USAGE: &str = "usage: oracle [--type-units] [--ranges-base N] [--big-endian] [--more] [BUNDLE ..]
+const USAGE: &str = "usage: oracle [--type-units] [--ranges-base N] [--big-endian] [--fixed-addresses] [--more]
+              [BUNDLE ..]
        oracle [--big-endian] --expression ADDRESS_SIZE OFFSET_SIZE HEX | --padded VALUE WIDTH | --tombstone ADDRESS ADDRESS_SIZE
 Without a file: bundles one after another from standard input.";
 
@@ -135,6 +136,7 @@ fn run() -> io::Result<i32> {
         match arg.as_str() {
             "--type-units" => setting.type_units = true,
             "--big-endian" => setting.big_endian = true,
+            "--fixed-addresses" => setting.fixed_addresses = true,
             "--more" => more = true,
             "--ranges-base" => match args.next().as_deref().and_then(number) {
                 Some(base) => setting.ranges_base = base as usize,

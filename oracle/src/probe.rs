@@ -1,7 +1,7 @@
 //! Sits inside gc.rs's module, so that its private names are seen: takes down what the answer does not carry.
 
 use super::*;
-use std::cell::RefCell;
+use std::cell::{Cell, RefCell};
 
 /// What one run of `gc_debug_info` let be seen.
 #[derive(Clone, Default)]
@@ -16,15 +16,23 @@ pub(crate) struct Seen {
 
 thread_local! {
     static SEEN: RefCell<Seen> = RefCell::default();
+    static FIXED_ADDRESSES: Cell<bool> = const { Cell::new(false) };
 }
 
-/// What was taken down since it was last cleared, or taken.
+/// What was taken down since a run began, or it was last taken.
 pub(crate) fn taken() -> Seen {
     SEEN.take()
 }
 
-pub(crate) fn clear() {
+/// A run begins, in which fixed addresses count, or do not.
+pub(crate) fn begin(fixed_addresses: bool) {
     SEEN.take();
+    FIXED_ADDRESSES.set(fixed_addresses);
+}
+
+/// Whether fixed addresses count in this run: asked at each DW_OP_addr of a variable's location.
+pub(super) fn fixed_addresses() -> bool {
+    FIXED_ADDRESSES.get()
 }
 
 /// Called when an entry's attributes are read, before its root test.

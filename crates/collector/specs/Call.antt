@@ -64,15 +64,17 @@ countsFor n (Refused k) = zeros n
 abbrev pub isYes : ℕ → Bool
 isYes n = ltb 0 n
 
--- what a call tells by its numbers: the ranges base, and the byte order, 0 for little-endian, any other for big-endian
-abbrev pub settingOf : ℕ → ℕ → Setting
-settingOf base bigEndian = record { «ranges_base» = base; «big_endian» = isYes bigEndian }
+-- what a call tells by its numbers: the ranges base; the byte order, 0 for little-endian, any other for big-endian; and
+-- whether fixed addresses count, 0 for no, any other for yes
+abbrev pub settingOf : ℕ → ℕ → ℕ → Setting
+settingOf base bigEndian fixedAddresses =
+    record { «ranges_base» = base; «big_endian» = isYes bigEndian; «fixed_addresses» = isYes fixedAddresses }
 
 -- what collect makes of a call's sections and numbers
-abbrev pub collectedOf : List ℕ → List ℕ → List ℕ → List ℕ → List ℕ → List ℕ → ℕ → ℕ → ℕ → Room → Collected
-collectedOf section abbreviations locations ranges addresses debugRanges base typeUnits bigEndian room =
-    collectOf (sections abbreviations locations ranges addresses debugRanges (settingOf base bigEndian)) room
-    (isYes typeUnits) section
+abbrev pub collectedOf : List ℕ → List ℕ → List ℕ → List ℕ → List ℕ → List ℕ → ℕ → ℕ → ℕ → ℕ → Room → Collected
+collectedOf section abbreviations locations ranges addresses debugRanges base typeUnits bigEndian fixedAddresses room =
+    collectOf (sections abbreviations locations ranges addresses debugRanges (settingOf base bigEndian fixedAddresses))
+    room (isYes typeUnits) section
 
 -- the room of the call's own tables, 2,048 entries and 8,192 references, with lent slices of some lengths
 abbrev pub ownRoom : ℕ → ℕ → ℕ → ℕ → ℕ → Room

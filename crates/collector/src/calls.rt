@@ -20,6 +20,7 @@ pub extern "C" fn collector_collect_lent<'a>(
     ranges_base: u64,
     type_units: u64,
     big_endian: u64,
+    fixed_addresses: u64,
     index: &mut [u64],
     offsets: &mut [u64],
     parents: &mut [u64],
@@ -43,7 +44,7 @@ pub extern "C" fn collector_collect_lent<'a>(
         (length (now («location_list» .entry))) (length (now («string_list» .entry))) (length (now (out .entry))) in
         let answer = collectedOf (now (section .entry)) (now (abbreviations .entry)) (now (locations .entry))
         (now (ranges .entry)) (now (addresses .entry)) (now («debug_ranges» .entry)) «ranges_base» «type_units»
-        «big_endian» room in
+        «big_endian» «fixed_addresses» room in
         (r ≡ numberFor (length (now (counts .entry))) (answerFor answer))
         × (now (counts .exit) ≡ countsFor (length (now (counts .entry))) (answerFor answer))
         × (now (map .exit) ≡ mapFor (length (now (map .entry))) answer)
@@ -65,6 +66,7 @@ pub extern "C" fn collector_collect_lent<'a>(
     let setting = Setting {
         ranges_base,
         big_endian: big_endian > 0,
+        fixed_addresses: fixed_addresses > 0,
     };
     let answer = collect(
         section,
@@ -105,6 +107,7 @@ pub extern "C" fn collector_collect<'a>(
     ranges_base: u64,
     type_units: u64,
     big_endian: u64,
+    fixed_addresses: u64,
     map: &mut [u8],
     range_list: &mut [u8],
     location_list: &mut [u8],
@@ -117,7 +120,7 @@ pub extern "C" fn collector_collect<'a>(
         (length (now («location_list» .entry))) (length (now («string_list» .entry))) (length (now (out .entry))) in
         let answer = collectedOf (now (section .entry)) (now (abbreviations .entry)) (now (locations .entry))
         (now (ranges .entry)) (now (addresses .entry)) (now («debug_ranges» .entry)) «ranges_base» «type_units»
-        «big_endian» room in
+        «big_endian» «fixed_addresses» room in
         (r ≡ numberFor (length (now (counts .entry))) (answerFor answer))
         × (now (counts .exit) ≡ countsFor (length (now (counts .entry))) (answerFor answer))
         × (now (map .exit) ≡ mapFor (length (now (map .entry))) answer)
@@ -146,6 +149,7 @@ pub extern "C" fn collector_collect<'a>(
         ranges_base,
         type_units,
         big_endian,
+        fixed_addresses,
         &mut index,
         &mut offsets,
         &mut parents,

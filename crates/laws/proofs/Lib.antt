@@ -8,3 +8,4 @@ pub mod refusals
 pub mod ranges
 pub mod room
 pub mod tables
+pub mod fixed

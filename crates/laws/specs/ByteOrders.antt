@@ -5,4 +5,8 @@ use Rattle.marking.specs.Analysis.{Sections, sections}
 abbrev pub otherOrder : Sections → Sections
 otherOrder x =
     sections (x .abbreviations) (x .locations) (x .ranges) (x .addresses) (x .debugRanges)
-    (record { «ranges_base» = x .setting .«ranges_base»; «big_endian» = not (x .setting .«big_endian») })
+    (record {
+      «ranges_base» = x .setting .«ranges_base»;
+      «big_endian» = not (x .setting .«big_endian»);
+      «fixed_addresses» = x .setting .«fixed_addresses»;
+    })

@@ -50,9 +50,9 @@ unit5 = header5 0x12 ++ body5
 abbrev pub room5 : Room
 room5 = record { tables = rooms 2048 8192; ranges = 8192; locations = 8192; strings = 8192; places = 4096; bytes = 65536 }
 
--- no ranges base, and a byte order
+-- no ranges base, a byte order, and the roots that gc.rs finds
 abbrev pub told : Bool → Setting
-told big = record { «ranges_base» = 0; «big_endian» = big }
+told big = record { «ranges_base» = 0; «big_endian» = big; «fixed_addresses» = false }
 
 abbrev pub five : List ℕ → Collected
 five table = collectOf (sections abbreviations5 [] [] table [] (told false)) room5 false unit5

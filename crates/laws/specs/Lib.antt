@@ -25,3 +25,4 @@ pub mod AddressTables
 pub mod ByteOrders
 pub mod RangeSections
 pub mod Formats
+pub mod FixedAddresses

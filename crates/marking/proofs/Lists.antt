@@ -7,7 +7,7 @@ use mathlib.Core.List.{List}
 use lib.ListN.{length}
 use lib.Dec.{ltb, leb, eqb}
 use borrow.Author.Tests.{lt-ltb, le-ltb, eq-eqb, ne-eqb}
-use Rattle.readers.specs.Choice.{pick}
+use Rattle.readers.specs.Choice.{pick, _and_}
 use Rattle.readers.proofs.Choice.{pick-either}
 use Rattle.readers.specs.Steps.{operationAt, listEntryAt}
 use Rattle.readers.proofs.Steps.{entry-inside, operation-inside}
@@ -23,7 +23,8 @@ use Rattle.readers.specs.declared.operations.ListStep.the-variants.{Entry, End,
 use Rattle.marking.specs.Addresses.{isTombstone, lookupAt}
 use Rattle.marking.specs.Walking.{go, stop, onNext, walk}
 use Rattle.marking.proofs.Walking.{Forward, walk-step}
-use Rattle.marking.specs.Roots.{Flagged, place, RootTurn, toward, turnOf, onLookup, rangeEntry, rangeStep, rangesLive, olderStep, olderLive, operationStep, locationLive}
+use Rattle.marking.specs.Roots.{Flagged, place, RootTurn, toward, turnOf, onLookup, rangeEntry, rangeStep, rangesLive, olderStep, olderLive}
+use Rattle.marking.specs.Roots.{operationLive, operationStep, locationLive}
 use Rattle.marking.specs.declared.addresses.AddressLookup.{AddressLookup}
 use Rattle.marking.specs.declared.addresses.AddressLookup.the-variants.{Live, Dead, Fails}
 use Rattle.marking.specs.declared.root_test.RangeTurn.{RangeTurn}
@@ -171,15 +172,43 @@ module _ (e : Encoding) (table s : List ℕ) where
 
 -- ---- a location
 
-module _ (e : Encoding) (table s : List ℕ) where
-  abbrev locationTurn : Flagged → RootTurn
-  locationTurn p = pick (ltb (p .at) (length s)) (operationStep e table (p .flag) (operationAt e s (p .at))) (stop (pick (p .flag) isLive isDead))
+module _ (e : Encoding) (fixed : Bool) (table : List ℕ) (op : Operation) where
+  pub index-live : op .row ≡ 22 → (w : AddressLookup) → w ≡ lookupAt table (op .first .value) → w ≡ operationLive e fixed table op
+  unfolding operationLive pick
+  index-live k w q = q ∙ rw (eq-eqb (op .row) 22 k)
 
-  -- the answer from a place on, where a live index was met or not
+  module _ (n : op .row ≡ 22 → ⊥) where
+    pub not-counted : fixed ≡ false → Dead ≡ operationLive e fixed table op
+    unfolding operationLive pick _and_
+    not-counted f = rw (ne-eqb (op .row) 22 n, f)
+
+    pub no-address : (op .row ≡ 2 → ⊥) → Dead ≡ operationLive e fixed table op
+    unfolding operationLive pick _and_
+    no-address k = other fixed
+      where
+        other : (b : Bool) → Dead ≡ operationLive e b table op
+        other true = rw (ne-eqb (op .row) 22 n, ne-eqb (op .row) 2 k)
+        other false = rw (ne-eqb (op .row) 22 n)
+
+    module _ (f : fixed ≡ true) (k : op .row ≡ 2) (t : Bool) (q : t ≡ isTombstone (op .first .value) (e .«address_size»)) where
+      pub address-dead : t ≡ true → Dead ≡ operationLive e fixed table op
+      unfolding operationLive pick _and_
+      address-dead v = rw (ne-eqb (op .row) 22 n, f, eq-eqb (op .row) 2 k, sym q ∙ v)
+
+      pub address-live : t ≡ false → Live ≡ operationLive e fixed table op
+      unfolding operationLive pick _and_
+      address-live v = rw (ne-eqb (op .row) 22 n, f, eq-eqb (op .row) 2 k, sym q ∙ v)
+
+module _ (e : Encoding) (fixed : Bool) (table s : List ℕ) where
+  abbrev locationTurn : Flagged → RootTurn
+  locationTurn p =
+      pick (ltb (p .at) (length s)) (operationStep e fixed table (p .flag) (operationAt e s (p .at))) (stop (pick (p .flag) isLive isDead))
+
+  -- the answer from a place on, where something live was met or not
   unfoldable pub locationFrom : ℕ → Bool → Verdict
   locationFrom at live = walk place (length s) locationTurn isDead (record { at = at; flag = live })
 
-  pub location-start : locationLive e table s ≡ locationFrom 0 false
+  pub location-start : locationLive e fixed table s ≡ locationFrom 0 false
   unfolding locationLive locationFrom
   location-start = refl
 
@@ -190,11 +219,11 @@ module _ (e : Encoding) (table s : List ℕ) where
   looked-forward p Dead t u f g = g
   looked-forward p (Fails n) t u f g = tt
 
-  read-forward : (p : Flagged) (o : OperationRead) → operationAt e s (p .at) ≡ o → Forward place (length s) p (operationStep e table (p .flag) o)
+  read-forward : (p : Flagged) (o : OperationRead) → operationAt e s (p .at) ≡ o → Forward place (length s) p (operationStep e fixed table (p .flag) o)
   unfolding operationStep Forward
   read-forward p (Operation′ x) q =
       let i : (p .at < x .next .at) × (x .next .at ≤ length s) = (operation-inside e s (p .at) x q .0, operation-inside e s (p .at) x q .1) in
-      pick-either (Forward place (length s) p) (eqb (x .row) 22) _ _ (λ t. looked-forward p (lookupAt table (x .first .value)) _ _ i i) (λ t. i)
+      looked-forward p (operationLive e fixed table x) _ _ i i
   read-forward p NoOperation q = tt
 
   location-forward : (p : Flagged) → Forward place (length s) p (locationTurn p)
@@ -202,25 +231,25 @@ module _ (e : Encoding) (table s : List ℕ) where
   location-forward p =
       pick-either (Forward place (length s) p) (ltb (p .at) (length s)) _ _ (λ t. read-forward p (operationAt e s (p .at)) refl) (λ t. tt)
 
-  module _ (at : ℕ) (live : Bool) (h : locationLive e table s ≡ locationFrom at live) where
-    location-turn : locationLive e table s ≡ onNext (locationTurn (record { at = at; flag = live })) (walk place (length s) locationTurn isDead)
+  module _ (at : ℕ) (live : Bool) (h : locationLive e fixed table s ≡ locationFrom at live) where
+    location-turn : locationLive e fixed table s ≡ onNext (locationTurn (record { at = at; flag = live })) (walk place (length s) locationTurn isDead)
     unfolding locationFrom
     location-turn = h ∙ walk-step place (length s) locationTurn isDead location-forward (record { at = at; flag = live })
 
-    pub location-live : length s ≤ at → live ≡ true → isLive ≡ locationLive e table s
+    pub location-live : length s ≤ at → live ≡ true → isLive ≡ locationLive e fixed table s
     unfolding onNext pick
     location-live n t = sym (location-turn ∙ rw (le-ltb at (length s) n, t))
 
-    pub location-dead : length s ≤ at → live ≡ false → isDead ≡ locationLive e table s
+    pub location-dead : length s ≤ at → live ≡ false → isDead ≡ locationLive e fixed table s
     unfolding onNext pick
     location-dead n t = sym (location-turn ∙ rw (le-ltb at (length s) n, t))
 
     module _ (b : at < length s) (o : OperationRead) (q : o ≡ operationAt e s at) where
-      operation-turn : locationLive e table s ≡ onNext (operationStep e table live o) (walk place (length s) locationTurn isDead)
+      operation-turn : locationLive e fixed table s ≡ onNext (operationStep e fixed table live o) (walk place (length s) locationTurn isDead)
       unfolding pick
       operation-turn = location-turn ∙ rw (lt-ltb at (length s) b, q)
 
-      pub location-none : o ≡ NoOperation → refused 5 ≡ locationLive e table s
+      pub location-none : o ≡ NoOperation → refused 5 ≡ locationLive e fixed table s
       unfolding onNext operationStep
       location-none r = sym (operation-turn ∙ rw r)
 
@@ -228,24 +257,20 @@ module _ (e : Encoding) (table s : List ℕ) where
         pub location-less : length s - x .next .at < length s - at
         location-less = omega (arith, operation-inside e s at x (sym q ∙ r) .0, operation-inside e s at x (sym q ∙ r) .1)
 
-        pub location-on : (x .row ≡ 22 → ⊥) → locationLive e table s ≡ locationFrom (x .next .at) live
-        unfolding locationFrom onNext operationStep pick
-        location-on k = operation-turn ∙ rw (r, ne-eqb (x .row) 22 k)
-
-        module _ (k : x .row ≡ 22) (l : AddressLookup) (a : l ≡ lookupAt table (x .first .value)) where
-          index-turn : locationLive e table s
+        module _ (l : AddressLookup) (a : l ≡ operationLive e fixed table x) where
+          live-turn : locationLive e fixed table s
               ≡ onNext (onLookup l stop (go (record { at = x .next .at; flag = true })) (go (record { at = x .next .at; flag = live }))) (walk place (length s) locationTurn isDead)
-          unfolding operationStep pick
-          index-turn = operation-turn ∙ rw (r, eq-eqb (x .row) 22 k, a)
+          unfolding operationStep
+          live-turn = operation-turn ∙ rw (r, a)
 
-          pub index-met : l ≡ Live → locationLive e table s ≡ locationFrom (x .next .at) true
+          pub operation-met : l ≡ Live → locationLive e fixed table s ≡ locationFrom (x .next .at) true
           unfolding locationFrom onNext onLookup
-          index-met v = index-turn ∙ rw v
+          operation-met v = live-turn ∙ rw v
 
-          pub index-passed : l ≡ Dead → locationLive e table s ≡ locationFrom (x .next .at) live
+          pub operation-passed : l ≡ Dead → locationLive e fixed table s ≡ locationFrom (x .next .at) live
           unfolding locationFrom onNext onLookup
-          index-passed v = index-turn ∙ rw v
+          operation-passed v = live-turn ∙ rw v
 
-          pub index-refused : (n : ℕ) → l ≡ Fails n → refused n ≡ locationLive e table s
+          pub operation-refused : (n : ℕ) → l ≡ Fails n → refused n ≡ locationLive e fixed table s
           unfolding onNext onLookup
-          index-refused n v = sym (index-turn ∙ rw v)
+          operation-refused n v = sym (live-turn ∙ rw v)

@@ -52,11 +52,11 @@ found-same (found xs) k g h = h xs
 found-same (refusedAfter xs n) k g h = refl
 
 -- a root test in one section
-pub rooted : (e : Encoding) (ranges table : List ℕ) (rangesBase base : ℕ) (unit : List ℕ) (tag : ℕ) (values : List Valued) (w : Verdict)
-    → w ≡ rootTest e (rangesBy ranges table rangesBase base) unit tag values
-    → w ≡ rootTest e (rangesBy (rangesFor e ranges ranges) table rangesBase base) unit tag values
-rooted e ranges table rangesBase base unit tag values w q =
-    q ∙ ap (λ (z : List ℕ). rootTest e (rangesBy z table rangesBase base) unit tag values) (sym (same-for e ranges))
+pub rooted : (e : Encoding) (ranges table : List ℕ) (rangesBase base : ℕ) (fixed : Bool) (unit : List ℕ) (tag : ℕ) (values : List Valued) (w : Verdict)
+    → w ≡ rootTest e (rangesBy ranges table rangesBase base) fixed unit tag values
+    → w ≡ rootTest e (rangesBy (rangesFor e ranges ranges) table rangesBase base) fixed unit tag values
+rooted e ranges table rangesBase base fixed unit tag values w q =
+    q ∙ ap (λ (z : List ℕ). rootTest e (rangesBy z table rangesBase base) fixed unit tag values) (sym (same-for e ranges))
 
 module _ (e : Encoding) (a l r t o : List ℕ) (setting : Setting) (unit : List ℕ) (room : Rooms) where
   -- all that is lent, and with the chosen section alone
@@ -68,7 +68,7 @@ module _ (e : Encoding) (a l r t o : List ℕ) (setting : Setting) (unit : List 
 
   root-same : (base : ℕ) (y : Entry) → rootOf e chosen unit base y ≡ rootOf e lent unit base y
   unfolding rootOf rangesFor pick valuesOfEntry
-  root-same base y = sym (rooted e (rangesFor e r o) t (setting .«ranges_base») base unit (tagOf y) (valuesOfEntry e lent unit y) _ refl)
+  root-same base y = sym (rooted e (rangesFor e r o) t (setting .«ranges_base») base (setting .«fixed_addresses») unit (tagOf y) (valuesOfEntry e lent unit y) _ refl)
 
   items-same : (p : Reached) (items : List Item) (whole : Bool) → analyseItems e chosen unit room p items whole ≡ analyseItems e lent unit room p items whole
   unfolding analyseItems baseOf namesOf valuesOfEntry

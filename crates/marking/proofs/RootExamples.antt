@@ -31,7 +31,7 @@ use Rattle.readers.specs.Abbreviations.{numberSpec, implicitSpec, specAt}
 use Rattle.readers.specs.Entries.{attributeOfReads, asAttribute, attributeAt}
 use Rattle.marking.specs.Addresses.{isTombstone, byteLiveness, lookupAt}
 use Rattle.marking.specs.Walking.{onNext, walkWithin, walk}
-use Rattle.marking.specs.Roots.{orElse, onLookup, rangeEntry, rangeStep, rangesLive, operationStep, locationLive}
+use Rattle.marking.specs.Roots.{orElse, onLookup, rangeEntry, rangeStep, rangesLive, operationLive, operationStep, locationLive}
 use Rattle.marking.specs.Roots.{olderStep, olderLive, rangePair, pairStep, pairsLive, lowPc}
 use Rattle.marking.specs.Analysis.{rangesFor}
 use Rattle.readers.specs.EntryAttributes.{Valued, onAttribute, valuesOf, onSpec, specsWithin, specsFrom, entryValues}
@@ -126,20 +126,20 @@ addresses = (refl, refl, refl)
 
 -- a location is read to its end though a live index was met; a nested entry value is stepped over; constx asks nothing
 locations-live :
-    (locationLive little8 (0 ∷ 1 ∷ []) (0xa1 ∷ 1 ∷ []) ≡ Live)
-    × (locationLive little8 (0 ∷ 1 ∷ []) (0xa1 ∷ 1 ∷ 0xa1 ∷ 2 ∷ []) ≡ Refused 17)
-    × (locationLive little8 (0 ∷ 2 ∷ []) (0xa1 ∷ 1 ∷ 0xa1 ∷ 2 ∷ []) ≡ Refused 6)  -- the failure that is met first
-    × (locationLive little8 (0 ∷ 2 ∷ []) (0xfb ∷ 2 ∷ 0xa1 ∷ 1 ∷ 0xff ∷ []) ≡ Refused 17)
-    × (locationLive little8 (0 ∷ 2 ∷ 0 ∷ []) (0xfb ∷ 1 ∷ 0xff ∷ []) ≡ Refused 6)
-    × (locationLive little8 (0 ∷ 1 ∷ []) (0xa3 ∷ 1 ∷ 0xff ∷ 0xfb ∷ 1 ∷ []) ≡ Live)
-    × (locationLive little8 [] (0xa2 ∷ 7 ∷ []) ≡ Dead)
-    × (locationLive little8 [] (0x03 ∷ 1 ∷ 0 ∷ 0 ∷ 0 ∷ 0 ∷ 0 ∷ 0 ∷ 0 ∷ []) ≡ Dead)
-    × (locationLive little8 [] (0xff ∷ []) ≡ Refused 5)
-    × (locationLive little8 [] (0xa1 ∷ 7 ∷ []) ≡ Live)  -- no table
-    × (locationLive little8 [] (0xfb ∷ 7 ∷ []) ≡ Live)
-    × (locationLive little8 [] (0xa3 ∷ 2 ∷ 0xa1 ∷ 7 ∷ []) ≡ Dead)
-    × (locationLive little8 [] (0xa1 ∷ 7 ∷ 0xff ∷ []) ≡ Refused 5)
-unfolding locationLive operationStep onLookup lookupAt byteLiveness walk walkWithin onNext encodingOf operationAt
+    (locationLive little8 false (0 ∷ 1 ∷ []) (0xa1 ∷ 1 ∷ []) ≡ Live)
+    × (locationLive little8 false (0 ∷ 1 ∷ []) (0xa1 ∷ 1 ∷ 0xa1 ∷ 2 ∷ []) ≡ Refused 17)
+    × (locationLive little8 false (0 ∷ 2 ∷ []) (0xa1 ∷ 1 ∷ 0xa1 ∷ 2 ∷ []) ≡ Refused 6)  -- the failure that is met first
+    × (locationLive little8 false (0 ∷ 2 ∷ []) (0xfb ∷ 2 ∷ 0xa1 ∷ 1 ∷ 0xff ∷ []) ≡ Refused 17)
+    × (locationLive little8 false (0 ∷ 2 ∷ 0 ∷ []) (0xfb ∷ 1 ∷ 0xff ∷ []) ≡ Refused 6)
+    × (locationLive little8 false (0 ∷ 1 ∷ []) (0xa3 ∷ 1 ∷ 0xff ∷ 0xfb ∷ 1 ∷ []) ≡ Live)
+    × (locationLive little8 false [] (0xa2 ∷ 7 ∷ []) ≡ Dead)
+    × (locationLive little8 false [] (0x03 ∷ 1 ∷ 0 ∷ 0 ∷ 0 ∷ 0 ∷ 0 ∷ 0 ∷ 0 ∷ []) ≡ Dead)
+    × (locationLive little8 false [] (0xff ∷ []) ≡ Refused 5)
+    × (locationLive little8 false [] (0xa1 ∷ 7 ∷ []) ≡ Live)  -- no table
+    × (locationLive little8 false [] (0xfb ∷ 7 ∷ []) ≡ Live)
+    × (locationLive little8 false [] (0xa3 ∷ 2 ∷ 0xa1 ∷ 7 ∷ []) ≡ Dead)
+    × (locationLive little8 false [] (0xa1 ∷ 7 ∷ 0xff ∷ []) ≡ Refused 5)
+unfolding locationLive operationLive operationStep onLookup lookupAt byteLiveness walk walkWithin onNext encodingOf operationAt
     asOperation operationOfReads rowOperation operation operationRow operations rowAmong rowOf rows unreadableRow
     rowLayout tokenOf numberAs readIn tokenIn numberIn before asNumber asBounded asLink asBlock asExpression asLeb
     asBytes copy uleb groups below unsigned64 fixedValue ordered littleValue width size bytesOf pieceBytes numberBytes
@@ -153,7 +153,7 @@ entryOf e specs values = entryValues e specs 0 values 0
 
 -- the test of an entry with a tag; the range lists have two lists, index 0 an empty one, index 1 a live range
 tested : Encoding → List ℕ → ℕ → List ℕ → List ℕ → Verdict
-tested e table tag specs values = rootTest e (rangesBy section table 0 12) values tag (entryOf e specs values)
+tested e table tag specs values = rootTest e (rangesBy section table 0 12) false values tag (entryOf e specs values)
   where
     number : ℕ → List ℕ
     number n = fixedBytes (e .«big_endian») 4 n
@@ -200,7 +200,7 @@ entries :
     × (tested big8 (1 ∷ []) 0x34 (0x02 ∷ 0x18 ∷ 0 ∷ 0 ∷ []) (2 ∷ 0xa1 ∷ 0 ∷ []) ≡ Live)
 unfolding tested fixedBytes littleBytes rootTest orElse lowPcs lowPc firstRanges rangesOf otherRanges offsetLive olderLive olderStep rangesLive rangeStep
     rangeEntry listOffset fromBase listStart fixedAt asFixed listEntryAt asListStep entryOfReads rowEntry listEntry
-    listRow rangeEntries rowAmong rowOf rows unreadableRow rowLayout locations partOf locationLive operationStep
+    listRow rangeEntries rowAmong rowOf rows unreadableRow rowLayout locations partOf locationLive operationLive operationStep
     operationAt asOperation operationOfReads rowOperation operation operationRow operations onLookup lookupAt
     byteLiveness isTombstone walk walkWithin onNext entryOf entryValues valuesOf onAttribute specsFrom specsWithin onSpec specAt
     implicitSpec numberSpec lebAt asLebNumber short within16 attributeAt asAttribute attributeOfReads attributeLayout
@@ -208,6 +208,73 @@ unfolding tested fixedBytes littleBytes rootTest orElse lowPcs lowPc firstRanges
     asLink asExpression asLeb asBytes copy uleb groups below unsigned64 fixedValue ordered littleValue width size
     bytesOf pieceBytes numberBytes padded fieldOf linkedValue rowOfReads pick check bind _and_ _or_
 entries = (refl, refl, refl, refl, refl, refl, refl, refl, refl, refl, refl, refl, refl, refl, refl, refl, refl, refl, refl, refl, refl, refl, refl, refl, refl, refl, refl, refl, refl, refl, refl, refl, refl, refl, refl)
+
+-- ---- a variable at a fixed address (document 02, Point 7)
+
+-- DW_OP_addr with an address
+at : Encoding → ℕ → List ℕ
+at e n = 0x03 ∷ fixedBytes (e .«big_endian») (e .«address_size») n
+
+little4 : Encoding
+little4 = encodingOf false 4 8 4
+
+-- off it says nothing, on it is live but for a tombstone of the address size
+fixed-off-on :
+    (locationLive little8 false [] (at little8 1) ≡ Dead)
+    × (locationLive little8 true [] (at little8 1) ≡ Live)
+    × (locationLive big8 true [] (at big8 1) ≡ Live)
+    × (locationLive big4 true [] (at big4 1) ≡ Live)
+    × (locationLive little4 true [] (at little4 1) ≡ Live)  -- of version 4, in the 64-bit format
+    × (locationLive little8 true [] (at little8 0) ≡ Dead)
+    × (locationLive little4 true [] (at little4 0) ≡ Dead)
+    × (locationLive little4 true [] (at little4 0xffffffff) ≡ Dead)
+    × (locationLive big4 true [] (at big4 0xffffffff) ≡ Dead)
+    × (locationLive little4 true [] (at little4 0xfffffffe) ≡ Live)
+    × (locationLive little8 true [] (at little8 0xffffffff) ≡ Live)  -- a tombstone of four bytes in eight
+    × (locationLive big8 true [] (at big8 0xffffffffffffffff) ≡ Dead)
+    -- the expression is read to its end, and its indices are asked
+    × (locationLive little4 true (0 ∷ []) (at little4 1 ++ (0xa1 ∷ 1 ∷ [])) ≡ Refused 17)
+    × (locationLive little4 true (2 ∷ []) (at little4 1 ++ (0xa1 ∷ 0 ∷ [])) ≡ Refused 6)
+    × (locationLive little4 true [] (at little4 1 ++ (0xff ∷ [])) ≡ Refused 5)
+    × (locationLive little4 true (0 ∷ []) (at little4 1 ++ (0xa1 ∷ 0 ∷ [])) ≡ Live)  -- a dead index takes nothing back
+    × (locationLive little4 true (0 ∷ []) ((0xa1 ∷ 0 ∷ []) ++ at little4 1) ≡ Live)
+    × (locationLive little4 true (1 ∷ []) (at little4 0 ++ (0xa1 ∷ 0 ∷ [])) ≡ Live)  -- nor does a tombstone
+    × (locationLive little4 true [] (at little4 1 ++ (0x23 ∷ 8 ∷ [])) ≡ Live)  -- with an offset added
+    -- a nested entry value is stepped over; a constant is no address
+    × (locationLive little4 true [] ((0xa3 ∷ 5 ∷ []) ++ at little4 1) ≡ Dead)
+    × (locationLive little4 true [] ((0xf3 ∷ 5 ∷ []) ++ at little4 1) ≡ Dead)
+    × (locationLive little4 true [] (0x0c ∷ 1 ∷ 0 ∷ 0 ∷ 0 ∷ 0x9b ∷ []) ≡ Dead)
+unfolding at little4 fixedBytes littleBytes locationLive operationLive operationStep onLookup lookupAt byteLiveness isTombstone walk walkWithin onNext
+    encodingOf operationAt asOperation operationOfReads rowOperation operation operationRow operations rowAmong rowOf
+    rows unreadableRow rowLayout tokenOf numberAs readIn tokenIn numberIn before asNumber asBounded asLink asBlock
+    asExpression asLeb asBytes copy uleb groups below unsigned64 fixedValue ordered littleValue width size bytesOf
+    pieceBytes numberBytes fieldOf linkedValue rowOfReads pick check bind _and_ _or_
+fixed-off-on = (refl, refl, refl, refl, refl, refl, refl, refl, refl, refl, refl, refl, refl, refl, refl, refl, refl, refl, refl, refl, refl, refl)
+
+-- an entry of the 32-bit format with four bytes an address, where fixed addresses count
+counted : List ℕ → ℕ → List ℕ → List ℕ → Verdict
+counted table tag specs values = rootTest four (rangesBy [] table 0 8) true values tag (entryOf four specs values)
+  where
+    four : Encoding
+    four = encodingOf false 5 4 4
+
+-- it ends the test: a later location is not asked, behind a tombstone it is; a variable's location in exprloc alone
+fixed-ends :
+    (counted (0 ∷ []) 0x34 (0x02 ∷ 0x18 ∷ 0x02 ∷ 0x18 ∷ 0 ∷ 0 ∷ []) (5 ∷ 0x03 ∷ 1 ∷ 0 ∷ 0 ∷ 0 ∷ 2 ∷ 0xa1 ∷ 9 ∷ []) ≡ Live)
+    × (counted (0 ∷ []) 0x34 (0x02 ∷ 0x18 ∷ 0x02 ∷ 0x18 ∷ 0 ∷ 0 ∷ []) (5 ∷ 0x03 ∷ 0 ∷ 0 ∷ 0 ∷ 0 ∷ 2 ∷ 0xa1 ∷ 9 ∷ []) ≡ Refused 17)
+    × (counted [] 0x34 (0x02 ∷ 0x18 ∷ 0 ∷ 0 ∷ []) (5 ∷ 0x03 ∷ 1 ∷ 0 ∷ 0 ∷ 0 ∷ []) ≡ Live)
+    × (counted [] 0x34 (0x02 ∷ 0x0a ∷ 0 ∷ 0 ∷ []) (5 ∷ 0x03 ∷ 1 ∷ 0 ∷ 0 ∷ 0 ∷ []) ≡ Dead)  -- in a block
+    × (counted [] 0x05 (0x02 ∷ 0x18 ∷ 0 ∷ 0 ∷ []) (5 ∷ 0x03 ∷ 1 ∷ 0 ∷ 0 ∷ 0 ∷ []) ≡ Dead)  -- a formal parameter
+    × (counted [] 0x34 (0x40 ∷ 0x18 ∷ 0 ∷ 0 ∷ []) (5 ∷ 0x03 ∷ 1 ∷ 0 ∷ 0 ∷ 0 ∷ []) ≡ Dead)  -- its frame base
+unfolding counted rootTest orElse locations partOf locationLive operationLive operationStep operationAt asOperation
+    operationOfReads rowOperation operation operationRow operations rowAmong rowOf rows unreadableRow rowLayout onLookup
+    lookupAt byteLiveness isTombstone walk walkWithin onNext entryOf entryValues valuesOf onAttribute specsFrom
+    specsWithin onSpec specAt implicitSpec numberSpec lebAt asLebNumber short within16 attributeAt asAttribute
+    attributeOfReads attributeLayout valueToken inVersion useOf formToken tokenAmong formTokens encodingOf tokenOf
+    numberAs readIn tokenIn numberIn before asNumber asBounded asLink asBlock asExpression asLeb asBytes copy uleb groups
+    below unsigned64 fixedValue ordered littleValue width size bytesOf pieceBytes numberBytes padded fieldOf linkedValue
+    rowOfReads pick check bind _and_ _or_
+fixed-ends = (refl, refl, refl, refl, refl, refl)
 
 -- ---- .debug_ranges of version 4 (document 02, Point 4)
 

@@ -77,45 +77,45 @@ module _ (e : Encoding) (table s unit : List ℕ) (p₀ at₀ p at : ℕ) (h : l
 
 -- ---- location
 
-module _ (e : Encoding) (table s unit : List ℕ) (p₀ at₀ p at : ℕ)
-    (h : locations e table unit (entryValues e s p₀ unit at₀) ≡ locations e table unit (entryValues e s p unit at))
+module _ (e : Encoding) (fixed : Bool) (table s unit : List ℕ) (p₀ at₀ p at : ℕ)
+    (h : locations e fixed table unit (entryValues e s p₀ unit at₀) ≡ locations e fixed table unit (entryValues e s p unit at))
     (n : NextAttribute) (q : n ≡ nextAttribute e s p unit at) where
-  pub locations-end : n ≡ NoMore → isDead ≡ locations e table unit (entryValues e s p₀ unit at₀)
+  pub locations-end : n ≡ NoMore → isDead ≡ locations e fixed table unit (entryValues e s p₀ unit at₀)
   unfolding locations
-  locations-end r = sym (h ∙ attributes-end e s unit p at n q (locations e table unit) r)
+  locations-end r = sym (h ∙ attributes-end e s unit p at n q (locations e fixed table unit) r)
 
   module _ (x : EntryAttribute) (r : n ≡ More x) where
-    locations-turn : locations e table unit (entryValues e s p₀ unit at₀)
-        ≡ locations e table unit (valued x ∷ entryValues e s (x .next .at) unit (x .values .at))
-    locations-turn = h ∙ attributes-turn e s unit p at n q (locations e table unit) x r
+    locations-turn : locations e fixed table unit (entryValues e s p₀ unit at₀)
+        ≡ locations e fixed table unit (valued x ∷ entryValues e s (x .next .at) unit (x .values .at))
+    locations-turn = h ∙ attributes-turn e s unit p at n q (locations e fixed table unit) x r
 
     pub locations-other : (x .name ≡ 0x02 → ⊥)
-        → locations e table unit (entryValues e s p₀ unit at₀) ≡ locations e table unit (entryValues e s (x .next .at) unit (x .values .at))
+        → locations e fixed table unit (entryValues e s p₀ unit at₀) ≡ locations e fixed table unit (entryValues e s (x .next .at) unit (x .values .at))
     unfolding locations pick _and_
     locations-other k = locations-turn ∙ rw (ne-eqb (x .name) 0x02 k)
 
     module _ (k : x .name ≡ 0x02) where
       pub locations-list : (x .value .form ≡ 0x18 → ⊥)
-          → locations e table unit (entryValues e s p₀ unit at₀) ≡ locations e table unit (entryValues e s (x .next .at) unit (x .values .at))
+          → locations e fixed table unit (entryValues e s p₀ unit at₀) ≡ locations e fixed table unit (entryValues e s (x .next .at) unit (x .values .at))
       unfolding locations pick _and_
       locations-list f = locations-turn ∙ rw (eq-eqb (x .name) 0x02 k, ne-eqb (x .value .form) 0x18 f)
 
-      module _ (f : x .value .form ≡ 0x18) (part : List ℕ) (i : part ≡ partOf unit (x .value .field)) (w : Verdict) (l : w ≡ locationLive e table part) where
-        locations-met : locations e table unit (entryValues e s p₀ unit at₀)
-            ≡ orElse w (locations e table unit (entryValues e s (x .next .at) unit (x .values .at)))
+      module _ (f : x .value .form ≡ 0x18) (part : List ℕ) (i : part ≡ partOf unit (x .value .field)) (w : Verdict) (l : w ≡ locationLive e fixed table part) where
+        locations-met : locations e fixed table unit (entryValues e s p₀ unit at₀)
+            ≡ orElse w (locations e fixed table unit (entryValues e s (x .next .at) unit (x .values .at)))
         unfolding locations pick _and_
         locations-met = locations-turn ∙ rw (eq-eqb (x .name) 0x02 k, eq-eqb (x .value .form) 0x18 f, l, i)
 
-        pub locations-live : w ≡ isLive → isLive ≡ locations e table unit (entryValues e s p₀ unit at₀)
+        pub locations-live : w ≡ isLive → isLive ≡ locations e fixed table unit (entryValues e s p₀ unit at₀)
         unfolding orElse
         locations-live v = sym (locations-met ∙ rw v)
 
-        pub locations-refused : (m : ℕ) → w ≡ refused m → refused m ≡ locations e table unit (entryValues e s p₀ unit at₀)
+        pub locations-refused : (m : ℕ) → w ≡ refused m → refused m ≡ locations e fixed table unit (entryValues e s p₀ unit at₀)
         unfolding orElse
         locations-refused m v = sym (locations-met ∙ rw v)
 
         pub locations-dead : w ≡ isDead
-            → locations e table unit (entryValues e s p₀ unit at₀) ≡ locations e table unit (entryValues e s (x .next .at) unit (x .values .at))
+            → locations e fixed table unit (entryValues e s p₀ unit at₀) ≡ locations e fixed table unit (entryValues e s (x .next .at) unit (x .values .at))
         unfolding orElse
         locations-dead v = locations-met ∙ rw v
 
@@ -195,26 +195,26 @@ module _ (e : Encoding) (ranges table : List ℕ) (rb nb : ℕ) (s unit : List �
 
 -- ---- the root test
 
-module _ (e : Encoding) (g : Ranges) (unit : List ℕ) (tag : ℕ) (l : List Valued) where
+module _ (e : Encoding) (g : Ranges) (fixed : Bool) (unit : List ℕ) (tag : ℕ) (l : List Valued) where
   module _ (k : tag ≡ 0x2e) (w : Verdict) (q : w ≡ lowPcs e (g .table) l) where
-    pub subprogram-live : w ≡ isLive → isLive ≡ rootTest e g unit tag l
+    pub subprogram-live : w ≡ isLive → isLive ≡ rootTest e g fixed unit tag l
     unfolding rootTest pick orElse
     subprogram-live v = rw (eq-eqb tag 0x2e k, sym q ∙ v)
 
-    pub subprogram-refused : (m : ℕ) → w ≡ refused m → refused m ≡ rootTest e g unit tag l
+    pub subprogram-refused : (m : ℕ) → w ≡ refused m → refused m ≡ rootTest e g fixed unit tag l
     unfolding rootTest pick orElse
     subprogram-refused m v = rw (eq-eqb tag 0x2e k, sym q ∙ v)
 
-    pub subprogram-ranges : w ≡ isDead → (r : Verdict) → r ≡ firstRanges e g l → r ≡ rootTest e g unit tag l
+    pub subprogram-ranges : w ≡ isDead → (r : Verdict) → r ≡ firstRanges e g l → r ≡ rootTest e g fixed unit tag l
     unfolding rootTest pick orElse
     subprogram-ranges v r z = z ∙ rw (eq-eqb tag 0x2e k, sym q ∙ v)
 
   module _ (n : tag ≡ 0x2e → ⊥) where
-    pub variable-is : tag ≡ 0x34 → (w : Verdict) → w ≡ locations e (g .table) unit l → w ≡ rootTest e g unit tag l
+    pub variable-is : tag ≡ 0x34 → (w : Verdict) → w ≡ locations e fixed (g .table) unit l → w ≡ rootTest e g fixed unit tag l
     unfolding rootTest pick
     variable-is k w q = q ∙ rw (ne-eqb tag 0x2e n, eq-eqb tag 0x34 k)
 
-    pub other-tag : (tag ≡ 0x34 → ⊥) → isDead ≡ rootTest e g unit tag l
+    pub other-tag : (tag ≡ 0x34 → ⊥) → isDead ≡ rootTest e g fixed unit tag l
     unfolding rootTest pick
     other-tag k = rw (ne-eqb tag 0x2e n, ne-eqb tag 0x34 k)
 

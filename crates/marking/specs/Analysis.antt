@@ -29,7 +29,7 @@ use Rattle.marking.specs.declared.root_test.Verdict.the-variants.{Live, 
 use Rattle.readers.specs.Stream.{Item, entry, terminator, itemsFrom}
 
 -- what a unit is read by: the other sections, already relocated, the address table, .debug_ranges, and what a call tells
--- beside them: the base of range lists that are named by an offset, and the byte order
+-- beside them: the base of range lists that are named by an offset, the byte order, and whether fixed addresses count
 pub record Sections : Type 0 where
   pub abbreviations : List ℕ
   pub locations : List ℕ
@@ -105,7 +105,8 @@ module _ (e : Encoding) (x : Sections) (unit : List ℕ) where
   unfoldable pub rootOf : ℕ → Entry → Verdict
   rootOf base y =
       let ranges = rangesFor e (x .ranges) (x .debugRanges) in
-      rootTest e (rangesBy ranges (x .addresses) (x .setting .«ranges_base») base) unit (tagOf y) (valuesOfEntry y)
+      let lists = rangesBy ranges (x .addresses) (x .setting .«ranges_base») base in
+      rootTest e lists (x .setting .«fixed_addresses») unit (tagOf y) (valuesOfEntry y)
 
   unfoldable pub namesOf : ℕ → Entry → ReferencesFound
   namesOf base y = attributesFound e (locationsBy unit (x .locations) base) (valuesOfEntry y)

@@ -11,7 +11,7 @@ use Rattle.readers.specs.Codes.{«DW_FORM_addrx1», «DW_FORM_addrx4», «DW_FO
 use Rattle.readers.specs.Codes.{«DW_FORM_sec_offset», «DW_RLE_base_address», «DW_RLE_base_addressx»}
 use Rattle.readers.specs.Codes.{«DW_RLE_offset_pair», «DW_RLE_startx_length», «DW_TAG_compile_unit»}
 use Rattle.readers.specs.Codes.{«DW_TAG_subprogram», «DW_TAG_variable», «DW_FORM_GNU_addr_index»}
-use Rattle.readers.specs.Operations.{row-address-index, row-address-address}
+use Rattle.readers.specs.Operations.{row-address, row-address-index, row-address-address}
 use Rattle.readers.specs.Fields.{partOf, rowAt}
 use Rattle.readers.specs.Steps.{operationAt, listEntryAt}
 use Rattle.readers.specs.Refusals.{refusalOfList, refusalOfOperation}
@@ -23,6 +23,7 @@ use Rattle.readers.specs.declared.fields.OperandsRead.{OperandsRead}
 use Rattle.readers.specs.declared.fields.OperandsRead.the-variants.{Read as Row′, Unreadable as NoRow}
 use Rattle.readers.specs.declared.lists.ListOffset.{ListOffset}
 use Rattle.readers.specs.declared.lists.ListOffset.the-variants.{At, Unresolved}
+use Rattle.readers.specs.declared.operations.Operation.{Operation}
 use Rattle.readers.specs.declared.operations.OperationRead.{OperationRead}
 use Rattle.readers.specs.declared.operations.OperationRead.the-variants.{Read as Operation′, Unreadable as NoOperation}
 use Rattle.readers.specs.declared.operations.ListEntry.{ListEntry}
@@ -50,7 +51,8 @@ onLookup Live refuse live dead = live
 onLookup Dead refuse live dead = dead
 onLookup (Fails n) refuse live dead = refuse (refused n)
 
--- ---- lists and expressions, from a place on, with a flag: in a range list, that the latest base was dead; in an expression, that a live index was met
+-- ---- lists and expressions, from a place on, with a flag: in a range list, that the latest base was dead; in an expression,
+-- that a live index or a fixed address was met
 
 pub record Flagged : Type 0 where
   pub at : ℕ
@@ -91,15 +93,23 @@ module _ (e : Encoding) (table : List ℕ) where
       walk place (length s) (λ (p : Flagged). rangeStep (p .flag) (listEntryAt e false s (p .at))) isDead (record { at = c .at; flag = false })
   rangesLive s Unresolved = isLive
 
-  -- addrx and GNU_addr_index are row 22
+-- ---- a variable's location: `fixed` is whether fixed addresses count (document 02, Point 7; off, as in gc.rs, they do not)
+
+module _ (e : Encoding) (fixed : Bool) (table : List ℕ) where
+  -- What an operation says: DW_OP_addrx and DW_OP_GNU_addr_index (row-address-index, theirs alone) what the table says of
+  -- their index; DW_OP_addr (row-address, its alone), where fixed addresses count, that it is live unless a tombstone of
+  -- the unit's address size; any other operation nothing, as a dead index does.
+  unfoldable pub operationLive : Operation → AddressLookup
+  operationLive op =
+      pick (eqb (op .row) row-address-index) (lookupAt table (op .first .value))
+      (pick (fixed and eqb (op .row) row-address and not (isTombstone (op .first .value) (e .«address_size»))) Live Dead)
+
   unfoldable pub operationStep : Bool → OperationRead → RootTurn
   operationStep live (Operation′ op) =
-      pick (eqb (op .row) row-address-index)
-      (onLookup (lookupAt table (op .first .value)) stop (go (record { at = op .next .at; flag = true })) (go (record { at = op .next .at; flag = live })))
-      (go (record { at = op .next .at; flag = live }))
+      onLookup (operationLive op) stop (go (record { at = op .next .at; flag = true })) (go (record { at = op .next .at; flag = live }))
   operationStep live NoOperation = stop (refused (refusalOfOperation NoOperation))
 
-  -- a location with a live index; read to its end, nested entry values stepped over
+  -- a location with a live index or, where they count, a fixed address; read to its end, nested entry values stepped over
   unfoldable pub locationLive : List ℕ → Verdict
   locationLive s =
       walk place (length s)
@@ -161,12 +171,12 @@ lowPcs e table [] = isDead
 lowPcs e table (a ∷ rest) = pick (eqb (a .name) «DW_AT_low_pc») (orElse (lowPc e table (a .value)) (lowPcs e table rest)) (lowPcs e table rest)
 
 -- DW_AT_location in exprloc, each in turn
-unfoldable pub locations : Encoding → List ℕ → List ℕ → List Valued → Verdict
-locations e table unit [] = isDead
-locations e table unit (a ∷ rest) =
+unfoldable pub locations : Encoding → Bool → List ℕ → List ℕ → List Valued → Verdict
+locations e fixed table unit [] = isDead
+locations e fixed table unit (a ∷ rest) =
     pick (eqb (a .name) «DW_AT_location» and eqb (a .value .form) «DW_FORM_exprloc»)
-    (orElse (locationLive e table (partOf unit (a .value .field))) (locations e table unit rest))
-    (locations e table unit rest)
+    (orElse (locationLive e fixed table (partOf unit (a .value .field))) (locations e fixed table unit rest))
+    (locations e fixed table unit rest)
 
 -- what ranges are read by: the range lists of the unit's version, the address table, the caller's ranges base, and the
 -- range lists' own base
@@ -201,10 +211,10 @@ module _ (e : Encoding) (x : Ranges) where
   firstRanges (a ∷ rest) = pick (eqb (a .name) «DW_AT_ranges») (rangesOf (a .value)) (firstRanges rest)
 
   -- THE root test of an entry: a subprogram, a variable; other tags never
-  unfoldable pub rootTest : List ℕ → ℕ → List Valued → Verdict
-  rootTest unit tag attributes =
+  unfoldable pub rootTest : Bool → List ℕ → ℕ → List Valued → Verdict
+  rootTest fixed unit tag attributes =
       pick (eqb tag «DW_TAG_subprogram») (orElse (lowPcs e (x .table) attributes) (firstRanges attributes))
-      (pick (eqb tag «DW_TAG_variable») (locations e (x .table) unit attributes) isDead)
+      (pick (eqb tag «DW_TAG_variable») (locations e fixed (x .table) unit attributes) isDead)
 
 -- ---- list bases: what a compile unit entry's own attribute in sec_offset says, from that entry on; of several the last counts
 

@@ -1,8 +1,8 @@
 // The root test of an entry: what is live by itself, then over the attributes of an entry. ranges_has_live_entry,
 // location_expr_live and is_root have the names of their originals in gc.rs.
 ghost use mathlib.Core.Path.{_≡_};
-ghost use Rattle.marking.specs.Roots.{turnOf, rangeEntry, olderLive, rangePair, pairsLive, locationLive, lowPc};
-ghost use Rattle.marking.specs.Roots.{lowPcs, locations, otherRanges, rangesBy, firstRanges};
+ghost use Rattle.marking.specs.Roots.{turnOf, rangeEntry, olderLive, rangePair, pairsLive, operationLive};
+ghost use Rattle.marking.specs.Roots.{locationLive, lowPc, lowPcs, locations, otherRanges, rangesBy, firstRanges};
 ghost use Rattle.readers.specs.EntryAttributes.{entryValues};
 ghost use Rattle.marking.specs.Roots.{rootTest, baseAfter};
 ghost use Rattle.readers.specs.declared.lists.ListOffset.the-variants.{At};
@@ -35,6 +35,7 @@ use readers::entry_attributes::NextAttribute;
 use readers::entry_attributes::next_attribute;
 use readers::fields::Operands;
 use readers::fields::OperandsRead;
+use readers::layouts::ROW_ADDRESS;
 use readers::layouts::ROW_ADDRESS_ADDRESS;
 use readers::layouts::ROW_ADDRESS_INDEX;
 use readers::lists::ListOffset;
@@ -42,6 +43,7 @@ use readers::lists::list_offset;
 use readers::lists::list_start;
 use readers::operations::ListEntry;
 use readers::operations::ListStep;
+use readers::operations::Operation;
 use readers::operations::OperationRead;
 
 // ---- an address, a list, an expression
@@ -170,10 +172,37 @@ pub fn pairs_live(ranges: &[u8], start: Cursor, e: Encoding) -> Verdict
     Verdict::Dead
 }
 
-// Whether a variable's location holds a live index of the address table. It is read to its end; nested entry values are
-// stepped over.
-pub fn location_expr_live(s: &[u8], table: &[u8], e: Encoding) -> Verdict
-    ensures { λ r. ⌜ r ≡ locationLive e (now (table .entry)) (now (s .entry)) ⌝ }
+// What an operation of a location says: an index of the address table what the table says of it; an address, where
+// fixed addresses count, that it is live unless it is a tombstone; any other operation, and an address where they do
+// not count, nothing, as a dead index does.
+pub fn operation_live(
+    op: Operation,
+    table: &[u8],
+    fixed_addresses: bool,
+    e: Encoding,
+) -> AddressLookup
+    ensures { λ r. ⌜ r ≡ operationLive e «fixed_addresses» (now (table .entry)) op ⌝ }
+{
+    let first = op.first;
+    if op.row == ROW_ADDRESS_INDEX {
+        return lookup(table, first.value);
+    }
+    if !fixed_addresses {
+        return AddressLookup::Dead;
+    }
+    if op.row != ROW_ADDRESS {
+        return AddressLookup::Dead;
+    }
+    if is_tombstone(first.value, e.address_size) {
+        return AddressLookup::Dead;
+    }
+    AddressLookup::Live
+}
+
+// Whether a variable's location holds a live index of the address table or, where fixed addresses count, an address
+// that is no tombstone. It is read to its end; nested entry values are stepped over.
+pub fn location_expr_live(s: &[u8], table: &[u8], fixed_addresses: bool, e: Encoding) -> Verdict
+    ensures { λ r. ⌜ r ≡ locationLive e «fixed_addresses» (now (table .entry)) (now (s .entry)) ⌝ }
 {
     let mut c = Cursor { at: 0 };
     let mut live = false;
@@ -181,18 +210,14 @@ pub fn location_expr_live(s: &[u8], table: &[u8], e: Encoding) -> Verdict
         let OperationRead::Read(op) = c.operation(s, e) else {
             return Verdict::Refused(5);
         };
-        let row = op.row;
-        let first = op.first;
         let next = op.next;
-        if row == ROW_ADDRESS_INDEX {
-            match lookup(table, first.value) {
-                AddressLookup::Live => {
-                    live = true;
-                }
-                AddressLookup::Dead => {}
-                AddressLookup::Fails(n) => {
-                    return Verdict::Refused(n);
-                }
+        match operation_live(op, table, fixed_addresses, e) {
+            AddressLookup::Live => {
+                live = true;
+            }
+            AddressLookup::Dead => {}
+            AddressLookup::Fails(n) => {
+                return Verdict::Refused(n);
             }
         }
         c = next;
@@ -280,11 +305,12 @@ pub fn locations_live(
     specs: Cursor,
     values: Cursor,
     table: &[u8],
+    fixed_addresses: bool,
     e: Encoding,
 ) -> Verdict
     ensures { λ r. ⌜ (
         let attributes = entryValues e (now (abbreviations .entry)) (specs .at) (now (unit .entry)) (values .at) in
-        r ≡ locations e (now (table .entry)) (now (unit .entry)) attributes
+        r ≡ locations e «fixed_addresses» (now (table .entry)) (now (unit .entry)) attributes
         ) ⌝ }
 {
     let mut p = specs;
@@ -299,7 +325,7 @@ pub fn locations_live(
         let past = a.values;
         if a.name == DW_AT_location {
             if v.form == DW_FORM_exprloc {
-                match location_expr_live(field.expression(unit), table, e) {
+                match location_expr_live(field.expression(unit), table, fixed_addresses, e) {
                     Verdict::Live => {
                         return Verdict::Live;
                     }
@@ -411,7 +437,8 @@ pub fn first_ranges(
 }
 
 // The root test of an entry with a tag (gc.rs: `is_root`): a subprogram by its low_pc and its ranges, a variable by its
-// location; other tags never. Numbers are read by the encoding; of the setting the ranges base counts.
+// location; other tags never. Numbers are read by the encoding; of the setting the ranges base counts, and whether fixed
+// addresses do.
 pub fn is_root(
     unit: &[u8],
     abbreviations: &[u8],
@@ -427,7 +454,7 @@ pub fn is_root(
     ensures { λ r. ⌜ (
         let lists = rangesBy (now (ranges .entry)) (now (table .entry)) (setting .«ranges_base») «rnglists_base» in
         let attributes = entryValues e (now (abbreviations .entry)) (specs .at) (now (unit .entry)) (values .at) in
-        r ≡ rootTest e lists (now (unit .entry)) tag attributes
+        r ≡ rootTest e lists (setting .«fixed_addresses») (now (unit .entry)) tag attributes
         ) ⌝ }
 {
     if tag == DW_TAG_subprogram {
@@ -448,7 +475,15 @@ pub fn is_root(
         };
     }
     if tag == DW_TAG_variable {
-        return locations_live(unit, abbreviations, specs, values, table, e);
+        return locations_live(
+            unit,
+            abbreviations,
+            specs,
+            values,
+            table,
+            setting.fixed_addresses,
+            e,
+        );
     }
     Verdict::Dead
 }

@@ -4,4 +4,6 @@ pub struct Setting {
     pub ranges_base: u64,
     // the byte order of the unit, its lists and its expressions
     pub big_endian: bool,
+    // whether an address in a variable's location, DW_OP_addr, can make it a root; gc.rs knows no such roots
+    pub fixed_addresses: bool,
 }

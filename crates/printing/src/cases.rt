@@ -51,7 +51,9 @@ const TYPE_UNITS: usize = 112;
 
 const BIG_ENDIAN: usize = 120;
 
-const SETTINGS: usize = 128;
+const FIXED_ADDRESSES: usize = 128;
+
+const SETTINGS: usize = 136;
 
 fn setting(settings: &[u8], at: usize) -> u64 {
     match (Cursor { at }).fixed(settings, 8, true) {
@@ -65,6 +67,7 @@ fn told(settings: &[u8]) -> Setting {
     Setting {
         ranges_base: setting(settings, RANGES_BASE),
         big_endian: setting(settings, BIG_ENDIAN) != 0,
+        fixed_addresses: setting(settings, FIXED_ADDRESSES) != 0,
     }
 }
 

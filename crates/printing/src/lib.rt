@@ -23,36 +23,72 @@ const COLLECT: u8 = 4;
 
 const CASES: u8 = 5;
 
-// ---- the bundle on standard input
+// ---- options: what is told of a unit
 
-// What is told of a unit: no ranges base, and its byte order.
-fn told(big_endian: bool) -> Setting {
+// Where nothing is told: no ranges base, little-endian, and the roots that gc.rs finds.
+fn untold() -> Setting {
     Setting {
         ranges_base: 0,
-        big_endian,
+        big_endian: false,
+        fixed_addresses: false,
     }
 }
 
-// The byte order that the arguments tell: none is little-endian, `--big-endian` big-endian.
-enum Order {
-    Told(bool),
+// What a word tells beside what was told before; Unknown where it is no option, or the same one again.
+enum Told {
+    By(Setting),
     Unknown,
 }
 
-fn byte_order() -> Order {
-    if os::arg_count() < 2 {
-        return Order::Told(false);
+fn option(word: &[u8], setting: Setting) -> Told {
+    if check::same(word, b"--big-endian") {
+        if setting.big_endian {
+            return Told::Unknown;
+        }
+        return Told::By(Setting {
+            ranges_base: setting.ranges_base,
+            big_endian: true,
+            fixed_addresses: setting.fixed_addresses,
+        });
     }
-    if os::arg_count() > 2 {
-        return Order::Unknown;
+    if check::same(word, b"--fixed-addresses") {
+        if setting.fixed_addresses {
+            return Told::Unknown;
+        }
+        return Told::By(Setting {
+            ranges_base: setting.ranges_base,
+            big_endian: setting.big_endian,
+            fixed_addresses: true,
+        });
     }
-    let mut word = io::buffer();
-    let length = os::arg(1, &mut word);
-    if check::same(&word[..length], b"--big-endian") {
-        return Order::Told(true);
-    }
-    Order::Unknown
+    Told::Unknown
 }
+
+// The same for argument i.
+fn option_at(i: usize, setting: Setting) -> Told {
+    let mut word = io::buffer();
+    let length = os::arg(i, &mut word);
+    option(&word[..length], setting)
+}
+
+// What all the arguments tell: none, one option or two.
+fn options() -> Told {
+    if os::arg_count() < 2 {
+        return Told::By(untold());
+    }
+    if os::arg_count() > 3 {
+        return Told::Unknown;
+    }
+    let Told::By(first) = option_at(1, untold()) else {
+        return Told::Unknown;
+    };
+    if os::arg_count() < 3 {
+        return Told::By(first);
+    }
+    option_at(2, first)
+}
+
+// ---- the bundle on standard input
 
 // Of one bundle: what it holds, its marks, or what becomes of it.
 fn bundle(s: &[u8], what: u8, setting: Setting) {
@@ -66,16 +102,17 @@ fn bundle(s: &[u8], what: u8, setting: Setting) {
 }
 
 // Prints what is asked of the bundle on standard input. Its unit is little-endian, with the argument `--big-endian`
-// big-endian; with any other arguments nothing is read.
+// big-endian; with `--fixed-addresses` a variable's location can make it a root by an address too. With any other
+// arguments nothing is read.
 pub fn standard_input(what: u8) {
-    match byte_order() {
-        Order::Unknown => {
-            text(b"arguments: none, or --big-endian\n");
+    match options() {
+        Told::Unknown => {
+            text(b"arguments: none, --big-endian, --fixed-addresses, or both\n");
         }
-        Order::Told(big_endian) => {
+        Told::By(setting) => {
             let mut input = [0u8; 65537];
             let n = io::read_full(0, &mut input);
-            bundle(&input[..n], what, told(big_endian));
+            bundle(&input[..n], what, setting);
         }
     }
 }
@@ -111,7 +148,7 @@ fn list_all(s: &[u8], what: u8, setting: Setting) {
 }
 
 // A file is one bundle to dump and thin, bundles one after another to marks and collect, cases of collect to cases;
-// these say their byte order themselves.
+// these say themselves what is told of their units.
 fn file(s: &[u8], what: u8, setting: Setting) {
     if what == CASES {
         cases::list_all(s);
@@ -142,7 +179,7 @@ fn file_at(path: &[u8], what: u8, setting: Setting) {
 
 // ---- arguments
 
-// What is asked for: what is printed of the files that follow, and by which byte order.
+// What is asked for: what is printed of the files that follow, and what is told of their units.
 struct Asked {
     what: u8,
     setting: Setting,
@@ -176,24 +213,24 @@ fn is_heading(word: &[u8]) -> bool {
     word[0] == 0x23
 }
 
-// An argument after those before it: a heading, a word, or a file. Answers what is asked for from then on.
+// An argument after those before it: a heading, an option, a word, or a file. Answers what is asked for from then on.
 fn argument(word: &[u8], a: Asked) -> Asked {
     if is_heading(word) {
         text(word);
         text(b"\n");
         return a;
     }
-    if check::same(word, b"big-endian") {
+    if let Told::By(setting) = option(word, a.setting) {
         return Asked {
             what: a.what,
-            setting: told(true),
+            setting,
         };
     }
     let next = kind_of(word);
     if next != 0 {
         return Asked {
             what: next,
-            setting: told(false),
+            setting: untold(),
         };
     }
     file_at(word, a.what, a.setting);
@@ -204,7 +241,7 @@ fn argument(word: &[u8], a: Asked) -> Asked {
 fn argument_at(i: usize, a: Asked) -> Asked {
     let none = Asked {
         what: 0,
-        setting: told(false),
+        setting: untold(),
     };
     let mut word = io::buffer();
     let length = os::arg(i, &mut word);
@@ -218,12 +255,12 @@ fn argument_at(i: usize, a: Asked) -> Asked {
 }
 
 // Prints what the program's arguments ask for: `# ..` is a heading, printed as it is; `dump`, `marks`, `thin`,
-// `collect` or `cases` says what is printed of the files that the arguments after it name; `big-endian` after it that
-// their units are big-endian.
+// `collect` or `cases` says what is printed of the files that the arguments after it name; options after it what is
+// told of their units.
 pub fn arguments() {
     let mut a = Asked {
         what: DUMP,
-        setting: told(false),
+        setting: untold(),
     };
     let mut i: usize = 1;
     while i < 10000 {

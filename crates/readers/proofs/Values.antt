@@ -118,14 +118,6 @@ neither false b true true h k = absurd (k tt tt)
 neither false b true false h k = tt
 neither false b false d h k = tt
 
-pub not-true : (b : Bool) → not b ≡ true → b ≡ false
-not-true true h = sym h
-not-true false h = refl
-
-pub not-false : (b : Bool) → not b ≡ false → b ≡ true
-not-false true h = refl
-not-false false h = sym h
-
 -- what bars a value: the version, or one of the two others
 barred : (v b : Bool) → (T (not v)) ⊎ T b → T (not v or b)
 unfolding _or_

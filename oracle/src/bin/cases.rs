@@ -6,8 +6,9 @@ use std::io::{self, BufWriter, Write};
 
 const USAGE: &str = "usage: cases [--seed N] [--count N] [--big-endian] [--64-bit] [--version-4] FAMILY [BUNDLE ..]
 Families: small, bytes, valid, lists, expressions, trees, deep, refused, headers, declarations, numbers, operations,
-kinds, siblings, many, damaged, listed, sums, no-table, failures; of given bundles: tables, damaged-files. Little-endian,
-or big-endian, of the 32-bit format or of the 64-bit one, and of version 5 or 4, as given bundles then have to be.";
+kinds, siblings, many, damaged, listed, sums, no-table, failures, addresses; of given bundles: tables, damaged-files.
+Little-endian, or big-endian, of the 32-bit format or of the 64-bit one, and of version 5 or 4, as given bundles then
+have to be.";
 
 fn main() -> io::Result<()> {
     let (mut seed, mut count) = (1u64, 1000usize);

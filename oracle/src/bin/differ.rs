@@ -14,25 +14,26 @@ use std::sync::atomic::{AtomicUsize, Ordering};
 use std::sync::Mutex;
 
 const USAGE: &str = "usage: differ [--seed N] [--count N] [--threads N] [--blocks] [--quiet | --save FOLDER]
-              [--big-endian] [--64-bit] [--version-4] [FAMILY .. | --only-files]
+              [--big-endian] [--64-bit] [--version-4] [--fixed-addresses] [FAMILY .. | --only-files]
               [-- BUNDLE .. [--big-endian BUNDLE ..]]
-       differ --lines [--type-units] [--ranges-base N] [--big-endian] < BUNDLES
+       differ --lines [--type-units] [--ranges-base N] [--big-endian] [--fixed-addresses] < BUNDLES
 So many cases of each family in each byte order of each format of each version (of many a fiftieth, of tables and
 damaged-files a fifth); all families if none is named. --big-endian: no little-endian ones; among the bundles: those
 behind it are big-endian. --64-bit: none of the 32-bit format, --version-4: none of version 5; bundles tell theirs.
+Each case is run with the choice of fixed addresses off, and then on; --fixed-addresses: only on.
 --blocks: what is lent is a block of memory of its own, nothing around it. --save: where cases that differ are left;
 --quiet: they are only counted. --lines: the port's answer for each of the bundles on standard input.";
 
 extern "C" {
     fn collector_collect(
         section: *const u8, _: usize, abbreviations: *const u8, _: usize, locations: *const u8, _: usize, ranges: *const u8, _: usize,
-        addresses: *const u8, _: usize, debug_ranges: *const u8, _: usize, ranges_base: u64, type_units: u64, big_endian: u64,
+        addresses: *const u8, _: usize, debug_ranges: *const u8, _: usize, ranges_base: u64, type_units: u64, big_endian: u64, fixed_addresses: u64,
         map: *mut u8, _: usize, range_list: *mut u8, _: usize,
         location_list: *mut u8, _: usize, string_list: *mut u8, _: usize, out: *mut u8, _: usize, counts: *mut u8, _: usize,
     ) -> u64;
     fn collector_collect_lent(
         section: *const u8, _: usize, abbreviations: *const u8, _: usize, locations: *const u8, _: usize, ranges: *const u8, _: usize,
-        addresses: *const u8, _: usize, debug_ranges: *const u8, _: usize, ranges_base: u64, type_units: u64, big_endian: u64,
+        addresses: *const u8, _: usize, debug_ranges: *const u8, _: usize, ranges_base: u64, type_units: u64, big_endian: u64, fixed_addresses: u64,
         index: *mut u64, _: usize, offsets: *mut u64, _: usize,
         parents: *mut u64, _: usize, roots: *mut u8, _: usize, ends: *mut u64, _: usize, marks: *mut u8, _: usize, targets: *mut u64, _: usize,
         pairs: *mut u64, _: usize, work: *mut u32, _: usize, map: *mut u8, _: usize,
@@ -160,8 +161,8 @@ struct Left {
 struct Manner {
     around: usize,
     fill: u8,
-    /// The number that says yes, of type units and of big-endian.
-    yes: [u64; 2],
+    /// The number that says yes, of type units, of big-endian and of fixed addresses.
+    yes: [u64; 3],
 }
 
 fn call(parts: &Parts, setting: Setting, lengths: &Lengths, manner: Manner) -> Left {
@@ -171,14 +172,15 @@ fn call(parts: &Parts, setting: Setting, lengths: &Lengths, manner: Manner) -> L
     let (mut map, mut output, mut counts) = (bytes(lengths.map), bytes(lengths.output), bytes(lengths.counts));
     let mut lists = lengths.lists.map(bytes);
     let base = setting.ranges_base as u64;
-    let [units, big] = [(setting.type_units, yes[0]), (setting.big_endian, yes[1])].map(|(is, yes)| if is { yes } else { 0 });
+    let told = [(setting.type_units, yes[0]), (setting.big_endian, yes[1]), (setting.fixed_addresses, yes[2])];
+    let [units, big, fixed] = told.map(|(is, yes)| if is { yes } else { 0 });
     let mut wrong = None;
     macro_rules! lend {
         ($f:ident, $s:ident, [$($t:expr),*]) => {
             unsafe {
                 $f(
                     $s[0].start(), $s[0].length(), $s[1].start(), $s[1].length(), $s[2].start(), $s[2].length(), $s[3].start(), $s[3].length(),
-                    $s[4].start(), $s[4].length(), $s[5].start(), $s[5].length(), base, units, big,
+                    $s[4].start(), $s[4].length(), $s[5].start(), $s[5].length(), base, units, big, fixed,
                     $($t.start(), $t.length(),)* map.start(), map.length(),
                     lists[0].start(), lists[0].length(), lists[1].start(), lists[1].length(), lists[2].start(), lists[2].length(),
                     output.start(), output.length(), counts.start(), counts.length(),
@@ -335,6 +337,8 @@ struct Ended {
     /// Whether the address table is empty, and whether the original asked for an index then.
     empty: bool,
     asked: bool,
+    /// What the original answered.
+    line: String,
 }
 
 fn name(answer: Result<&Plan, u8>) -> String {
@@ -356,7 +360,7 @@ fn compared(parts: &Parts, setting: Setting, seed: u64, blocks: bool) -> Ended {
     let expected = expect(slices(parts), setting, &judged);
     let dice = &mut Dice(seed);
     let empty = parts[4].is_empty();
-    let mut ended = Ended { empty, asked: empty && judged.asked > 0, ..Ended::default() };
+    let mut ended = Ended { empty, asked: empty && judged.asked > 0, line: judged.line(), ..Ended::default() };
     let names: Vec<&str> = expected.rules.iter().copied().collect();
     if !expected.is(&judged, &parts[0], setting.order()) {
         match names.is_empty() {
@@ -369,7 +373,7 @@ fn compared(parts: &Parts, setting: Setting, seed: u64, blocks: bool) -> Ended {
         let manner = Manner {
             around: if blocks { 0 } else { 16 },
             fill: dice.of(&[0xa5, 0x5a, 0xff, 0x01, 0x80]),
-            yes: [(); 2].map(|_| dice.of(&[1, 1, 2, 256, 1 << 32, u64::MAX])),
+            yes: [true, true, setting.fixed_addresses].map(|said| if said { dice.of(&[1, 1, 2, 256, 1 << 32, u64::MAX]) } else { 0 }),
         };
         let answer = expected.answer(&lengths.room());
         let left = call(parts, setting, &lengths, manner);
@@ -410,7 +414,7 @@ fn setting(dice: &mut Dice, layout: Layout) -> Setting {
         3 => usize::MAX - dice.below(40),
         _ => 0,
     };
-    Setting { type_units: dice.rare(8), ranges_base, big_endian: layout.order == Order::Big }
+    Setting { type_units: dice.rare(8), ranges_base, big_endian: layout.order == Order::Big, fixed_addresses: false }
 }
 
 /// An address table, not empty, that fails from some place on: it ends there, or holds bytes above 1.
@@ -494,6 +498,8 @@ struct Tally {
     asked: usize,
     /// Told the other byte order, by the port's answer. These are no cases.
     told: BTreeMap<String, usize>,
+    /// With the choice of fixed addresses on: by the port's answer off and on, where the original's is another.
+    otherwise: BTreeMap<String, usize>,
 }
 
 impl Tally {
@@ -525,6 +531,7 @@ impl Tally {
             (&mut self.second, &other.second),
             (&mut self.listed, &other.listed),
             (&mut self.told, &other.told),
+            (&mut self.otherwise, &other.otherwise),
         ];
         for (into, from) in counts {
             for (k, n) in from {
@@ -542,6 +549,8 @@ struct Options {
     /// Differences are only counted.
     quiet: bool,
     save: String,
+    /// No case with the choice of fixed addresses off.
+    only_fixed: bool,
 }
 
 /// The byte orders, formats and versions, and their names.
@@ -581,10 +590,11 @@ impl Group<'_> {
 /// Which case each thread is at, for one that ends the process.
 static AT: [AtomicUsize; 8] = [const { AtomicUsize::new(0) }; 8];
 
-fn run_part(group: Group, options: &Options, thread: usize, saved: &Mutex<usize>) -> Tally {
-    let mut tally = Tally::default();
+/// The counts with the choice of fixed addresses off, and on.
+fn run_part(group: Group, options: &Options, thread: usize, saved: &Mutex<usize>) -> [Tally; 2] {
+    let (mut tally, mut fixed) = (Tally::default(), Tally::default());
     let family = group.family;
-    let Some(mut cases) = group.cases(options.seed) else { return tally };
+    let Some(mut cases) = group.cases(options.seed) else { return [tally, fixed] };
     // Large units: fewer.
     let count = match family {
         "many" => options.count.div_ceil(50),
@@ -627,11 +637,20 @@ fn run_part(group: Group, options: &Options, thread: usize, saved: &Mutex<usize>
         };
         for table in tables {
             parts[4] = table;
-            let ended = one(&parts, with, seed, options.blocks);
-            tally.add(&ended);
-            note(&ended, &parts, with);
+            let off = (!options.only_fixed).then(|| one(&parts, with, seed, options.blocks));
+            if let Some(off) = &off {
+                tally.add(off);
+                note(off, &parts, with);
+            }
+            let chosen = Setting { fixed_addresses: true, ..with };
+            let on = one(&parts, chosen, seed, options.blocks);
+            fixed.add(&on);
+            note(&on, &parts, chosen);
+            if let Some(off) = off.filter(|off| off.line != on.line) {
+                *fixed.otherwise.entry(format!("{} to {}", off.first, on.first)).or_default() += 1;
+            }
         }
-        if wrongly && !parts[0].is_empty() {
+        if wrongly && !parts[0].is_empty() && !options.only_fixed {
             let layout = Layout::of(with.order(), &parts[0]);
             if dice.rare(4) && !layout.wide && header(&parts[0], with.order()) == 0 {
                 // A length that is the same in both byte orders, so that the version alone tells them apart. One of eight bytes that is
@@ -644,7 +663,7 @@ fn run_part(group: Group, options: &Options, thread: usize, saved: &Mutex<usize>
             note(&ended, &parts, Setting { big_endian: !with.big_endian, ..with });
         }
     }
-    tally
+    [tally, fixed]
 }
 
 fn report(group: Group, i: usize, parts: &Parts, with: Setting, seed: u64, what: &str, options: &Options) {
@@ -677,13 +696,36 @@ fn row(name: &str, tally: &Tally) -> String {
     format!("| {} |", cells.join(" | "))
 }
 
+/// A table of rows; with the choice of fixed addresses on, one column more.
+fn table(rows: &[String], more: &[&str]) {
+    let columns = [&["listed", "different"], more].concat();
+    println!("| family | cases | {} | then {} | {} |", FIRST.join(" | "), SECOND.join(" | "), columns.join(" | "));
+    println!("|{}", "---|".repeat(2 + FIRST.len() + SECOND.len() + columns.len()));
+    for row in rows {
+        println!("{row}");
+    }
+    println!();
+}
+
+/// A row of the table with fixed addresses: last in how many cases the answer is another than with the choice off.
+fn fixed_row(name: &str, tally: &Tally) -> String {
+    format!("{} {} |", row(name, tally), tally.otherwise.values().sum::<usize>())
+}
+
+fn counts(of: &BTreeMap<String, usize>) -> String {
+    of.iter().map(|(k, n)| format!("{k} {n}")).collect::<Vec<_>>().join(", ")
+}
+
 fn run(groups: &[Group], options: &Options) -> bool {
     let (mut rows, mut empty) = (Vec::new(), Vec::new());
     let mut tallies: [Tally; LAYOUTS.len()] = Default::default();
+    // With the choice of fixed addresses on: by family, and by byte order, format and version.
+    let mut families: Vec<(&str, Tally)> = Vec::new();
+    let mut fixed_tallies: [Tally; LAYOUTS.len()] = Default::default();
     let saved = Mutex::new(0);
     for group in groups {
         let started = std::time::Instant::now();
-        let mut tally = Tally::default();
+        let (mut tally, mut fixed) = (Tally::default(), Tally::default());
         std::thread::scope(|scope| {
             let saved = &saved;
             let parts: Vec<_> = (0..options.threads)
@@ -695,7 +737,10 @@ fn run(groups: &[Group], options: &Options) -> bool {
                 .collect();
             for part in parts {
                 match part.join() {
-                    Ok(t) => tally.merge(&t),
+                    Ok([off, on]) => {
+                        tally.merge(&off);
+                        fixed.merge(&on);
+                    }
                     Err(p) => {
                         println!("{}: {} (about case {:?})", group.name(), said(p), AT[0]);
                         tally.different += 1;
@@ -704,35 +749,45 @@ fn run(groups: &[Group], options: &Options) -> bool {
             }
         });
         let name = group.name();
-        eprintln!("{} {:?}", row(&name, &tally), started.elapsed());
+        eprintln!("{} and on {} {:?}", row(&name, &tally), fixed_row("", &fixed), started.elapsed());
         rows.push(row(&name, &tally));
         empty.push(format!("{name} {} {}", tally.empty, tally.asked));
         tallies[group.which].merge(&tally);
+        fixed_tallies[group.which].merge(&fixed);
+        match families.last_mut() {
+            Some((last, held)) if *last == group.family => held.merge(&fixed),
+            _ => families.push((group.family, fixed)),
+        }
     }
-    let mut total = Tally::default();
-    for ((_, name), tally) in LAYOUTS.iter().zip(&tallies) {
-        rows.push(row(&format!("all {name}"), tally));
-        total.merge(tally);
+    let (mut total, mut fixed) = (Tally::default(), Tally::default());
+    let mut fixed_rows: Vec<String> = families.iter().map(|(family, tally)| fixed_row(family, tally)).collect();
+    for ((_, name), (off, on)) in LAYOUTS.iter().zip(tallies.iter().zip(&fixed_tallies)) {
+        rows.push(row(&format!("all {name}"), off));
+        fixed_rows.push(fixed_row(&format!("all {name}"), on));
+        total.merge(off);
+        fixed.merge(on);
     }
-    println!("| family | cases | {} | then {} | listed | different |", FIRST.join(" | "), SECOND.join(" | "));
-    println!("|{}", "---|".repeat(4 + FIRST.len() + SECOND.len()));
-    for row in rows {
-        println!("{row}");
-    }
-    println!("{}", row("all", &total));
-    println!();
+    rows.push(row("all", &total));
+    fixed_rows.push(fixed_row("all", &fixed));
+    table(&rows, &[]);
+    println!("with the choice of fixed addresses on, and last how many answers are others than with it off:");
+    table(&fixed_rows, &["otherwise"]);
+    println!("otherwise, by the answers off and on: {}", counts(&fixed.otherwise));
     let mut by_rule: BTreeMap<&str, usize> = BTreeMap::new();
     for (rules, n) in &total.listed {
         for rule in rules.split(',') {
             *by_rule.entry(rule).or_default() += n;
         }
     }
-    println!("listed, by rule (several may match a case): {}", by_rule.iter().map(|(r, n)| format!("{r} {n}")).collect::<Vec<_>>().join(", "));
+    let by_rule = by_rule.into_iter().map(|(rule, n)| (rule.to_string(), n)).collect();
+    println!("listed, by rule (several may match a case): {}", counts(&by_rule));
     println!("empty address tables, and those in which an index was asked for: {}, all {} {}", empty.join(", "), total.empty, total.asked);
     for ((_, name), tally) in LAYOUTS.iter().zip(&tallies) {
-        let told = tally.told.iter().map(|(answer, n)| format!("{answer} {n}")).collect::<Vec<_>>().join(", ");
+        let told = counts(&tally.told);
         println!("{name}: {} cases, {} different; and told the other byte order, by answer: {told}", tally.cases, tally.different);
     }
+    println!("fixed addresses: {} cases, {} different", fixed.cases, fixed.different);
+    total.merge(&fixed);
     println!("differ: {} cases, {} different", total.cases, total.different);
     total.different == 0
 }
@@ -741,7 +796,7 @@ fn run(groups: &[Group], options: &Options) -> bool {
 fn line(parts: &Parts, with: Setting) -> String {
     let size = parts[0].len() + 1;
     let lengths = Lengths { map: PLACE * size, lists: [8 * size; 3], output: size, counts: COUNTS, tables: None };
-    let left = call(parts, with, &lengths, Manner { around: 16, fill: 0xa5, yes: [1; 2] });
+    let left = call(parts, with, &lengths, Manner { around: 16, fill: 0xa5, yes: [1; 3] });
     if let Some(wrong) = left.wrong {
         return format!("wrong: {wrong}");
     }
@@ -817,7 +872,7 @@ fn main() {
         eprintln!("{USAGE}");
         std::process::exit(2)
     };
-    let mut options = Options { seed: 1, count: 1000, threads: 2, blocks: false, quiet: false, save: "different".to_string() };
+    let mut options = Options { seed: 1, count: 1000, threads: 2, blocks: false, quiet: false, save: "different".to_string(), only_fixed: false };
     let mut families: Vec<String> = Vec::new();
     let mut given: [Vec<Parts>; LAYOUTS.len()] = Default::default();
     let (mut only_wide, mut only_older) = (false, false);
@@ -842,6 +897,7 @@ fn main() {
             "--lines" => in_lines = true,
             "--type-units" => with.type_units = true,
             "--big-endian" => with.big_endian = true,
+            "--fixed-addresses" => (with.fixed_addresses, options.only_fixed) = (true, true),
             "--64-bit" => only_wide = true,
             "--version-4" => only_older = true,
             "--ranges-base" => with.ranges_base = number() as usize,

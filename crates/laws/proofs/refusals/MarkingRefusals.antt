@@ -3,6 +3,7 @@
 use mathlib.Core.Path.{_≡_, refl, ap, sym, _∙_, subst}
 use Prim.Native.Nat.{ℕ}
 use native.Mathlib.Omega.{arith}
+use mathlib.Core.Bool.{Bool}
 use mathlib.Core.List.{List, _∷_}
 use mathlib.Core.Option.{Option, none, some}
 use lib.ListN.{take}
@@ -66,16 +67,17 @@ module _ (ms : List ℕ) where
   unfolding VerdictOf
   verdict-failed n o = o
 
-  root-numbered : OneOf ms 5 → (e : Encoding) (x : Ranges) → FailuresOf ms (x .table) → (unit : List ℕ) (tag : ℕ) (vs : List Valued)
-      → VerdictOf ms (rootTest e x unit tag vs)
-  root-numbered five e x fails unit tag vs =
+  root-numbered : OneOf ms 5 → (e : Encoding) (x : Ranges) → FailuresOf ms (x .table) → (fixed : Bool) (unit : List ℕ) (tag : ℕ) (vs : List Valued)
+      → VerdictOf ms (rootTest e x fixed unit tag vs)
+  root-numbered five e x fails fixed unit tag vs =
       settled-of (x .table) ms fails Failed (VerdictOf ms) verdict-fine verdict-failed _
-      (root-by (λ (t : List ℕ). t) (verdicts-told (settling (x .table) ms) five) e (x .ranges) (x .rangesBase) (x .rnglistsBase) unit tag vs)
+      (root-by (λ t. fixed) (λ (t : List ℕ). t) (verdicts-told (settling (x .table) ms) fixed five) e (x .ranges) (x .rangesBase) (x .rnglistsBase) unit tag vs)
 
-pub root-refusal : (e : Encoding) (x : Ranges) (unit : List ℕ) (tag : ℕ) (vs : List Valued) (n : ℕ) → rootTest e x unit tag vs ≡ Failed n → RootRefusal n
+pub root-refusal : (e : Encoding) (x : Ranges) (fixed : Bool) (unit : List ℕ) (tag : ℕ) (vs : List Valued) (n : ℕ) → rootTest e x fixed unit tag vs ≡ Failed n
+    → RootRefusal n
 unfolding VerdictOf isOneOf areOf _or_ _and_
-root-refusal e x unit tag vs n q =
-    subst (VerdictOf (5 ∷ tableNumbers)) q (root-numbered _ (one-of _ 5 tt) e x (either-failure _ (x .table) tt) unit tag vs)
+root-refusal e x fixed unit tag vs n q =
+    subst (VerdictOf (5 ∷ tableNumbers)) q (root-numbered _ (one-of _ 5 tt) e x (either-failure _ (x .table) tt) fixed unit tag vs)
 
 -- ---- the analysis
 
@@ -116,7 +118,7 @@ names-of ms t (refusedAfter xs n) k q h = none-of ms n (t n q)
 module _ (e : Encoding) (x : Sections) (unit : List ℕ) where
   pub root-of : (ms : List ℕ) → OneOf ms 5 → FailuresOf ms (x .addresses) → (base : ℕ) (y : Entry′) → VerdictOf ms (rootOf e x unit base y)
   unfolding rootOf
-  root-of ms five fails base y = root-numbered ms five e _ fails unit _ _
+  root-of ms five fails base y = root-numbered ms five e _ fails _ unit _ _
 
   pub references-of : (base : ℕ) (y : Entry′) → FoundNumbered (namesOf e x unit base y)
   unfolding namesOf

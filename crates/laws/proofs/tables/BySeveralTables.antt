@@ -1,4 +1,5 @@
--- Root tests and analyses of one unit by several address tables: what holds of their parts holds of the whole. Assumes nothing.
+-- Root tests and analyses of one unit by several address tables, where fixed addresses count or do not: what holds of their parts holds of
+-- the whole. Assumes nothing.
 use Prim.Native.Nat.{ℕ, _+_}
 use mathlib.Core.Bool.{Bool, true, false}
 use mathlib.Core.List.{List, [], _∷_}
@@ -27,7 +28,7 @@ use Rattle.marking.specs.Analysis.{Sections, Rooms, Analysed, analysed, refused
 use Rattle.marking.specs.Analysis.{onVerdict, onFound, Reached, startOf, tagOf, valuesOfEntry, rangesFor, rootOf, namesOf}
 use Rattle.marking.specs.Analysis.{baseOf}
 use Rattle.marking.specs.Analysis.{analyseItems, onDeclared, unitAnalysed, headerAnalysed, analysisOf}
-use Rattle.laws.specs.AddressTables.{withTable}
+use Rattle.laws.specs.AddressTables.{withTable, withFixed}
 use Rattle.laws.specs.RefusalNumbers.{OneOf}
 use Rattle.laws.proofs.refusals.ReaderRefusals.{isOneOf, areOf, one-of, wider, HeaderNumbered, header-numbered}
 use Rattle.laws.proofs.refusals.ScanRefusals.{FoundNumbered, attributes-numbered}
@@ -41,17 +42,17 @@ unfolding pick
 pick-of P true f g p q = p
 pick-of P false f g p q = q
 
--- verdicts, one by each table
-pub record Verdicts {I : Type 0} (table : I → List ℕ) (P : (I → Verdict) → Type 0) : Type 0 where
+-- verdicts, one by each table and choice
+pub record Verdicts {I : Type 0} (fixed : I → Bool) (table : I → List ℕ) (P : (I → Verdict) → Type 0) : Type 0 where
   pub of-live : P (λ i. Live)
   pub of-dead : P (λ i. Dead)
   pub of-else : (v w : I → Verdict) → P v → P w → P (λ i. orElse (v i) (w i))
   pub of-low-pc : (e : Encoding) (a : Attribute) → P (λ i. lowPc e (table i) a)
-  pub of-location : (e : Encoding) (s : List ℕ) → P (λ i. locationLive e (table i) s)
+  pub of-location : (e : Encoding) (s : List ℕ) → P (λ i. locationLive e (fixed i) (table i) s)
   pub of-ranges : (e : Encoding) (s : List ℕ) (o : ListOffset) → P (λ i. rangesLive e (table i) s o)
   pub of-offset : (e : Encoding) (s : List ℕ) (o : ListOffset) → P (λ i. offsetLive e s o)
 
--- analyses, one by each table; N is what holds of the numbers that say whether an entry is a root
+-- analyses, one by each; N is what holds of the numbers that say whether an entry is a root
 pub record Analyses {I : Type 0} (P : (I → Verdict) → Type 0) (N : (I → ℕ) → Type 0) (Q : (I → Analysed) → Type 0) : Type 0 where
   pub of-end : Q (λ i. analysed [])
   pub of-refused : (n : ℕ) → OneOf entryNumbersButTable n → Q (λ i. notAnalysed n)
@@ -60,17 +61,17 @@ pub record Analyses {I : Type 0} (P : (I → Verdict) → Type 0) (N : (I → �
   pub of-onto : (offset parent : ℕ) (names : List ℕ) (root : I → ℕ) → N root → (a : I → Analysed) → Q a
       → Q (λ i. onto (record { offset = offset; parent = parent; root = root i; names = names }) (a i))
 
-module _ {I : Type 0} (table : I → List ℕ) where
+module _ {I : Type 0} (fixed : I → Bool) (table : I → List ℕ) where
   -- ---- the root test
 
-  module _ {P : (I → Verdict) → Type 0} (v : Verdicts table P) (e : Encoding) where
+  module _ {P : (I → Verdict) → Type 0} (v : Verdicts fixed table P) (e : Encoding) where
     low-pcs-by : (vs : List Valued) → P (λ i. lowPcs e (table i) vs)
     unfolding lowPcs
     low-pcs-by [] = v .of-dead
     low-pcs-by (a ∷ vs) =
         pick-of P (eqb (a .name) «DW_AT_low_pc») _ _ (v .of-else _ _ (v .of-low-pc e (a .value)) (low-pcs-by vs)) (low-pcs-by vs)
 
-    locations-by : (unit : List ℕ) (vs : List Valued) → P (λ i. locations e (table i) unit vs)
+    locations-by : (unit : List ℕ) (vs : List Valued) → P (λ i. locations e (fixed i) (table i) unit vs)
     unfolding locations
     locations-by unit [] = v .of-dead
     locations-by unit (a ∷ vs) =
@@ -90,7 +91,7 @@ module _ {I : Type 0} (table : I → List ℕ) where
       first-by (a ∷ vs) = pick-of P (eqb (a .name) «DW_AT_ranges») _ _ (ranges-by (a .value)) (first-by vs)
 
       pub root-by : (unit : List ℕ) (tag : ℕ) (vs : List Valued)
-          → P (λ i. rootTest e (rangesBy ranges (table i) rangesBase rnglistsBase) unit tag vs)
+          → P (λ i. rootTest e (rangesBy ranges (table i) rangesBase rnglistsBase) (fixed i) unit tag vs)
       unfolding rootTest
       root-by unit tag vs =
           pick-of P (eqb tag «DW_TAG_subprogram») _ _ (v .of-else _ _ (low-pcs-by vs) (first-by vs))
@@ -98,7 +99,7 @@ module _ {I : Type 0} (table : I → List ℕ) where
 
   -- ---- the analysis
 
-  module _ {P : (I → Verdict) → Type 0} {N : (I → ℕ) → Type 0} {Q : (I → Analysed) → Type 0} (v : Verdicts table P) (a : Analyses P N Q)
+  module _ {P : (I → Verdict) → Type 0} {N : (I → ℕ) → Type 0} {Q : (I → Analysed) → Type 0} (v : Verdicts fixed table P) (a : Analyses P N Q)
       (x : Sections) where
     found-by : (f : ReferencesFound) → FoundNumbered f → (k : I → List ℕ → Analysed) → ((names : List ℕ) → Q (λ i. k i names))
         → Q (λ i. onFound f (k i))
@@ -107,7 +108,7 @@ module _ {I : Type 0} (table : I → List ℕ) where
     found-by (refusedAfter names n) q k each = a .of-refused n (wider (5 ∷ 7 ∷ []) entryNumbersButTable n tt q)
 
     pub items-by : (e : Encoding) (unit : List ℕ) (room : Rooms) (p : Reached) (is : List Item) (whole : Bool)
-        → Q (λ i. analyseItems e (withTable x (table i)) unit room p is whole)
+        → Q (λ i. analyseItems e (withFixed (withTable x (table i)) (fixed i)) unit room p is whole)
     unfolding analyseItems rootOf namesOf baseOf valuesOfEntry isOneOf _or_
     items-by e unit room p [] true = a .of-end
     items-by e unit room p [] false = a .of-refused 4 (one-of entryNumbersButTable 4 tt)
@@ -131,7 +132,7 @@ module _ {I : Type 0} (table : I → List ℕ) where
       declared-by (some ds) k each = each ds
 
       header-by : (section : List ℕ) (room : Rooms) (h : HeaderRead) → HeaderNumbered h
-          → Q (λ i. headerAnalysed (withTable x (table i)) section room h)
+          → Q (λ i. headerAnalysed (withFixed (withTable x (table i)) (fixed i)) section room h)
       unfolding headerAnalysed unitAnalysed HeaderNumbered isOneOf areOf _or_ _and_
       header-by section room Empty q = a .of-end
       header-by section room (Refused n) q = early n (wider (1 ∷ 2 ∷ []) _ n tt q)
@@ -139,6 +140,6 @@ module _ {I : Type 0} (table : I → List ℕ) where
           declared-by (abbreviationsOf (x .abbreviations) (h .abbreviations)) _
           (λ ds. items-by (h .encoding) (take (h .end) section) room (startOf (h .encoding)) _ _)
 
-      pub analysis-by : (section : List ℕ) (room : Rooms) → Q (λ i. analysisOf (withTable x (table i)) section room)
+      pub analysis-by : (section : List ℕ) (room : Rooms) → Q (λ i. analysisOf (withFixed (withTable x (table i)) (fixed i)) section room)
       unfolding analysisOf
       analysis-by section room = header-by section room (headerOf (x .setting .«big_endian») section) (header-numbered (x .setting .«big_endian») section)

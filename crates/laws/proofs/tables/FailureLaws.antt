@@ -3,7 +3,7 @@
 use mathlib.Core.Path.{_≡_, refl, ap, sym, _∙_}
 use Prim.Native.Nat.{ℕ}
 use native.Mathlib.Omega.{arith}
-use mathlib.Core.Bool.{Bool}
+use mathlib.Core.Bool.{Bool, false}
 use mathlib.Core.List.{List, [], _∷_}
 use mathlib.Core.Option.{Option, none, some}
 use Rattle.readers.specs.Choice.{_and_, _or_}
@@ -59,19 +59,19 @@ module _ (table : List ℕ) (n : ℕ) (o : OneOf tableNumbers n) (e : Encoding) 
   verdict-failed v s q = settled-failure table others Failed v same-verdict s n (none-other n o) q
 
   pub failure-low-pc : (a : Attribute) → lowPc e table a ≡ Failed n → FailedBy (λ t. lowPc e t a) Failed table n
-  failure-low-pc a = verdict-failed _ (verdicts-told (settling table others) five .of-low-pc e a)
+  failure-low-pc a = verdict-failed _ (verdicts-told (settling table others) false five .of-low-pc e a)
 
-  pub failure-location : (s : List ℕ) → locationLive e table s ≡ Failed n → FailedBy (λ t. locationLive e t s) Failed table n
-  failure-location s = verdict-failed _ (verdicts-told (settling table others) five .of-location e s)
+  pub failure-location : (fixed : Bool) (s : List ℕ) → locationLive e fixed table s ≡ Failed n → FailedBy (λ t. locationLive e fixed t s) Failed table n
+  failure-location fixed s = verdict-failed _ (verdicts-told (settling table others) fixed five .of-location e s)
 
   pub failure-ranges : (s : List ℕ) (l : ListOffset) → rangesLive e table s l ≡ Failed n → FailedBy (λ t. rangesLive e t s l) Failed table n
-  failure-ranges s l = verdict-failed _ (verdicts-told (settling table others) five .of-ranges e s l)
+  failure-ranges s l = verdict-failed _ (verdicts-told (settling table others) false five .of-ranges e s l)
 
-  pub failure-root : (ranges : List ℕ) (rangesBase rnglistsBase : ℕ) (unit : List ℕ) (tag : ℕ) (vs : List Valued)
-      → rootTest e (rangesBy ranges table rangesBase rnglistsBase) unit tag vs ≡ Failed n
-      → FailedBy (λ t. rootTest e (rangesBy ranges t rangesBase rnglistsBase) unit tag vs) Failed table n
-  failure-root ranges rangesBase rnglistsBase unit tag vs =
-      verdict-failed _ (root-by (λ (t : List ℕ). t) (verdicts-told (settling table others) five) e ranges rangesBase rnglistsBase unit tag vs)
+  pub failure-root : (ranges : List ℕ) (rangesBase rnglistsBase : ℕ) (fixed : Bool) (unit : List ℕ) (tag : ℕ) (vs : List Valued)
+      → rootTest e (rangesBy ranges table rangesBase rnglistsBase) fixed unit tag vs ≡ Failed n
+      → FailedBy (λ t. rootTest e (rangesBy ranges t rangesBase rnglistsBase) fixed unit tag vs) Failed table n
+  failure-root ranges rangesBase rnglistsBase fixed unit tag vs =
+      verdict-failed _ (root-by (λ t. fixed) (λ (t : List ℕ). t) (verdicts-told (settling table others) fixed five) e ranges rangesBase rnglistsBase unit tag vs)
 
 -- ---- the analysis and the marks of a unit
 

@@ -19,6 +19,7 @@ use Rattle.readers.specs.declared.lists.ListOffset.the-variants.{At, Unresolved
 use Rattle.readers.specs.declared.operations.ListEntry.{ListEntry}
 use Rattle.readers.specs.declared.operations.ListStep.{ListStep}
 use Rattle.readers.specs.declared.operations.ListStep.the-variants.{Entry, End, Unreadable as NoEntry}
+use Rattle.readers.specs.declared.operations.Operation.{Operation}
 use Rattle.readers.specs.declared.operations.OperationRead.{OperationRead}
 use Rattle.readers.specs.declared.operations.OperationRead.the-variants.{Read as Operation′, Unreadable as NoOperation}
 use Rattle.readers.specs.declared.attributes.Attribute.{Attribute}
@@ -30,7 +31,7 @@ use Rattle.marking.specs.declared.root_test.Verdict.{Verdict}
 use Rattle.marking.specs.declared.root_test.Verdict.the-variants.{Live, Dead, Refused}
 use Rattle.marking.specs.Walking.{go, stop, onNext, walkWithin, walk}
 use Rattle.marking.specs.Roots.{Flagged, place, RootTurn, orElse, onLookup, rangeEntry, rangeStep, rangesLive}
-use Rattle.marking.specs.Roots.{operationStep, locationLive, olderStep, olderLive, rangePair, pairStep, pairsLive, offsetLive, lowPc}
+use Rattle.marking.specs.Roots.{operationLive, operationStep, locationLive, olderStep, olderLive, rangePair, pairStep, pairsLive, offsetLive, lowPc}
 use Rattle.marking.specs.Analysis.{Sections, Rooms, EntryRow, Analysed, analysed, refused as notAnalysed, onto, onVerdict}
 use Rattle.marking.specs.Analysis.{Reached, analyseItems, analysisOf}
 use Rattle.laws.specs.AddressTables.{withTable}
@@ -50,6 +51,12 @@ pub record Carried {I : Type 0} (table : I → List ℕ) (others : List ℕ) (Ho
       → ((i : I) (n : ℕ) → g i (refuse n) ≡ refuse′ n) → ((c : X) → NoRefusal refuse c → Holds Y refuse′ (λ i. g i c))
       → Holds Y refuse′ (λ i. g i (f i))
   pub of-lookup : (index : ℕ) → Holds AddressLookup Fails (λ i. lookupAt (table i) index)
+
+alive-no-failure : NoRefusal Fails Alive
+alive-no-failure n q = let z : _≡_ {A = ℕ} 0 1 = cc in omega arith
+
+not-alive-no-failure : NoRefusal Fails NotAlive
+not-alive-no-failure n q = let z : _≡_ {A = ℕ} 0 1 = cc in omega arith
 
 pub live-no-refusal : NoRefusal Refused Live
 live-no-refusal n q = let z : _≡_ {A = ℕ} 0 1 = cc in omega arith
@@ -104,10 +111,12 @@ module _ {I : Type 0} {table : I → List ℕ} {others : List ℕ} {Holds : (X :
     by-answer NotAlive never = q
     by-answer (Fails n) never = absurd (never n refl)
 
-    asked : (index : ℕ) → Holds X (λ n. refuse (Refused n)) (λ i. onLookup (lookupAt (table i) index) refuse a b)
+    looked : (l : I → AddressLookup) → Holds AddressLookup Fails l → Holds X (λ n. refuse (Refused n)) (λ i. onLookup (l i) refuse a b)
     unfolding onLookup
-    asked index =
-        c .of-then Fails (λ n. refuse (Refused n)) _ (λ i l. onLookup l refuse a b) (c .of-lookup index) (λ i n. refl) by-answer
+    looked l h = c .of-then Fails (λ n. refuse (Refused n)) l (λ i l. onLookup l refuse a b) h (λ i n. refl) by-answer
+
+    asked : (index : ℕ) → Holds X (λ n. refuse (Refused n)) (λ i. onLookup (lookupAt (table i) index) refuse a b)
+    asked index = looked (λ i. lookupAt (table i) index) (c .of-lookup index)
 
   -- ---- walks
 
@@ -185,22 +194,29 @@ module _ {I : Type 0} {table : I → List ℕ} {others : List ℕ} {Holds : (X :
         walk-told (λ i p. rangeStep e (table i) (p .flag) (listEntryAt e false s (p .at))) (λ p. range-turn (p .flag) _) (length s) _
     ranges-told s Unresolved = live-told
 
-    operation-turn : (live : Bool) (o : OperationRead) → TurnTold (λ i. operationStep e (table i) live o)
+    operation-told : (counted : Bool) (op : Operation) → Holds AddressLookup Fails (λ i. operationLive e counted (table i) op)
+    unfolding operationLive
+    operation-told counted op =
+        pick-of (Holds AddressLookup Fails) _ _ _ (c .of-lookup _)
+        (pick-of (Holds AddressLookup Fails) _ _ _ (c .of-value Fails Alive alive-no-failure) (c .of-value Fails NotAlive not-alive-no-failure))
+
+    operation-turn : (counted live : Bool) (o : OperationRead) → TurnTold (λ i. operationStep e counted (table i) live o)
     unfolding operationStep
-    operation-turn live (Operation′ op) = turn-pick _ _ _ (asked stop _ _ (go-told _) (go-told _) _) (go-told _)
-    operation-turn live NoOperation = c .of-refusal ends 5 five
+    operation-turn counted live (Operation′ op) =
+        looked stop _ _ (go-told _) (go-told _) (λ i. operationLive e counted (table i) op) (operation-told counted op)
+    operation-turn counted live NoOperation = c .of-refusal ends 5 five
 
     end-turn : (live : Bool) → TurnTold (λ i. stop (pick live Live Dead))
     unfolding pick
     end-turn true = stop-live
     end-turn false = stop-dead
 
-    location-told : (s : List ℕ) → Told (λ i. locationLive e (table i) s)
+    location-told : (counted : Bool) (s : List ℕ) → Told (λ i. locationLive e counted (table i) s)
     unfolding locationLive
-    location-told s =
+    location-told counted s =
         walk-told
-        (λ i p. pick (ltb (p .at) (length s)) (operationStep e (table i) (p .flag) (operationAt e s (p .at))) (stop (pick (p .flag) Live Dead)))
-        (λ p. turn-pick _ _ _ (operation-turn (p .flag) _) (end-turn (p .flag))) (length s) _
+        (λ i p. pick (ltb (p .at) (length s)) (operationStep e counted (table i) (p .flag) (operationAt e s (p .at))) (stop (pick (p .flag) Live Dead)))
+        (λ p. turn-pick _ _ _ (operation-turn counted (p .flag) _) (end-turn (p .flag))) (length s) _
 
     low-told : (v : Attribute) → Told (λ i. lowPc e (table i) v)
     unfolding lowPc
@@ -218,14 +234,14 @@ module _ {I : Type 0} {table : I → List ℕ} {others : List ℕ} {Holds : (X :
   unfolding orElse
   else-told v w p q = c .of-then Refused Refused v (λ i u. orElse u (w i)) p (λ i n. refl) (or-else w q)
 
-  pub verdicts-told : OneOf others 5 → Verdicts table (λ v. Holds Verdict Refused v)
-  verdicts-told five =
+  pub verdicts-told : (counted : Bool) → OneOf others 5 → Verdicts (λ i. counted) table (λ v. Holds Verdict Refused v)
+  verdicts-told counted five =
       record {
         of-live = live-told;
         of-dead = dead-told;
         of-else = else-told;
         of-low-pc = λ e a. low-told five e a;
-        of-location = λ e s. location-told five e s;
+        of-location = λ e s. location-told five e counted s;
         of-ranges = λ e s o. ranges-told five e s o;
         of-offset = λ e s o. offset-told five e s o;
       }
@@ -267,12 +283,15 @@ module _ {I : Type 0} {table : I → List ℕ} {others : List ℕ} {Holds : (X :
   pub items-told : ((n : ℕ) → OneOf entryNumbersButTable n → OneOf others n) → (x : Sections) (e : Encoding) (unit : List ℕ) (room : Rooms) (p : Reached)
       (is : List Item) (whole : Bool) → Holds Analysed notAnalysed (λ i. analyseItems e (withTable x (table i)) unit room p is whole)
   unfolding isOneOf _or_
-  items-told among x = items-by table (verdicts-told (among 5 (one-of entryNumbersButTable 5 tt))) (rows-told among) x
+  items-told among x =
+      let counted : Bool = x .setting .«fixed_addresses» in
+      items-by (λ i. counted) table (verdicts-told counted (among 5 (one-of entryNumbersButTable 5 tt))) (rows-told among) x
 
   -- 1 to 3, and those of the entries
   pub analysis-told : ((n : ℕ) → OneOf (1 ∷ 2 ∷ 3 ∷ entryNumbersButTable) n → OneOf others n) → (x : Sections) (section : List ℕ) (room : Rooms)
       → Holds Analysed notAnalysed (λ i. analysisOf (withTable x (table i)) section room)
   unfolding isOneOf areOf _or_ _and_
   analysis-told among x section room =
-      analysis-by table (verdicts-told (among 5 (one-of _ 5 tt))) (rows-told (λ n o. among n (wider entryNumbersButTable _ n tt o))) x
+      let counted : Bool = x .setting .«fixed_addresses» in
+      analysis-by (λ i. counted) table (verdicts-told counted (among 5 (one-of _ 5 tt))) (rows-told (λ n o. among n (wider entryNumbersButTable _ n tt o))) x
       (λ n o. c .of-refusal notAnalysed n (among n (wider (1 ∷ 2 ∷ 3 ∷ []) _ n tt o))) section room

@@ -13,6 +13,7 @@ use Rattle.readers.specs.declared.lists.ListOffset.the-variants.{At, Unresolved
 use Rattle.readers.specs.declared.operations.ListEntry.{ListEntry}
 use Rattle.readers.specs.declared.operations.ListStep.{ListStep}
 use Rattle.readers.specs.declared.operations.ListStep.the-variants.{Entry, End, Unreadable as NoEntry}
+use Rattle.readers.specs.declared.operations.Operation.{Operation}
 use Rattle.readers.specs.declared.operations.OperationRead.{OperationRead}
 use Rattle.readers.specs.declared.operations.OperationRead.the-variants.{Read as Operation′, Unreadable as NoOperation}
 use Rattle.readers.specs.declared.attributes.Attribute.{Attribute}
@@ -24,7 +25,7 @@ use Rattle.marking.specs.declared.root_test.Verdict.{Verdict}
 use Rattle.marking.specs.declared.root_test.Verdict.the-variants.{Live, Dead, Refused}
 use Rattle.marking.specs.Walking.{go, stop, onNext, walkWithin, walk}
 use Rattle.marking.specs.Roots.{Flagged, place, RootTurn, toward, orElse, onLookup, rangeEntry}
-use Rattle.marking.specs.Roots.{rangeStep, rangesLive, operationStep, locationLive, lowPc}
+use Rattle.marking.specs.Roots.{rangeStep, rangesLive, operationLive, operationStep, locationLive, lowPc}
 use Rattle.laws.proofs.tables.BySeveralTables.{Verdicts}
 
 -- ---- verdicts
@@ -35,13 +36,13 @@ Held Live w = w ≡ Live
 Held Dead w = (w ≡ Live) ⊎ (w ≡ Dead)
 Held (Refused n) w = Unit {0}
 
-held-live : (v : Verdict) → Held v Live
+pub held-live : (v : Verdict) → Held v Live
 unfolding Held
 held-live Live = refl
 held-live Dead = inl refl
 held-live (Refused n) = tt
 
-held-same : (v : Verdict) → Held v v
+pub held-same : (v : Verdict) → Held v v
 unfolding Held
 held-same Live = refl
 held-same Dead = inr refl
@@ -51,7 +52,7 @@ held-refused : (n : ℕ) (w : Verdict) → Held (Refused n) w
 unfolding Held
 held-refused n w = tt
 
-held-else : (v w v′ w′ : Verdict) → Held v v′ → Held w w′ → Held (orElse v w) (orElse v′ w′)
+pub held-else : (v w v′ w′ : Verdict) → Held v v′ → Held w w′ → Held (orElse v w) (orElse v′ w′)
 unfolding Held orElse
 held-else Live w v′ w′ q h = subst (λ (z : Verdict). orElse z w′ ≡ Live) (sym q) refl
 held-else Dead w v′ w′ (inl q) h = subst (λ (z : Verdict). Held w (orElse z w′)) (sym q) (held-live w)
@@ -63,20 +64,39 @@ unfolding pick
 both-pick R true x y x′ y′ p q = p
 both-pick R false x y x′ y′ p q = q
 
--- an index that is asked of the table, and of none
-module _ {X : Type 0} (R : X → X → Type 0) (refuse : Verdict → X) (fails : (n : ℕ) (u : X) → R (refuse (Refused n)) u) where
-  by-lookup : (l : AddressLookup) (a b u : X) → R a u → R b u → R (onLookup l refuse a b) u
-  unfolding onLookup
-  by-lookup Alive a b u p q = p
-  by-lookup NotAlive a b u p q = q
-  by-lookup (Fails n) a b u p q = fails n u
+-- what is said of an index, or of an operation, by the table, and by none
+unfoldable Shown : AddressLookup → AddressLookup → Type 0
+Shown Alive m = m ≡ Alive
+Shown NotAlive m = (m ≡ Alive) ⊎ (m ≡ NotAlive)
+Shown (Fails n) m = Unit {0}
 
-  asked : (table : List ℕ) (index : ℕ) (a b u v : X) → R a u → R b u
+shown-alive : (l m : AddressLookup) → m ≡ Alive → Shown l m
+unfolding Shown
+shown-alive Alive m q = q
+shown-alive NotAlive m q = inl q
+shown-alive (Fails n) m q = tt
+
+shown-same : (l : AddressLookup) → Shown l l
+unfolding Shown
+shown-same Alive = refl
+shown-same NotAlive = inr refl
+shown-same (Fails n) = tt
+
+looked-shown : (table : List ℕ) (index : ℕ) → Shown (lookupAt table index) (lookupAt [] index)
+looked-shown table index = shown-alive _ _ (sym (no-table [] index refl))
+
+-- what follows it
+module _ {X : Type 0} (R : X → X → Type 0) (refuse : Verdict → X) (fails : (n : ℕ) (u : X) → R (refuse (Refused n)) u) where
+  by-lookup : (l m : AddressLookup) → Shown l m → (a b u v : X) → R a u → R b u → R b v → R (onLookup l refuse a b) (onLookup m refuse u v)
+  unfolding onLookup Shown
+  by-lookup Alive m s a b u v p q r = subst (λ (m : AddressLookup). R a (onLookup m refuse u v)) (sym s) p
+  by-lookup NotAlive m (inl s) a b u v p q r = subst (λ (m : AddressLookup). R b (onLookup m refuse u v)) (sym s) q
+  by-lookup NotAlive m (inr s) a b u v p q r = subst (λ (m : AddressLookup). R b (onLookup m refuse u v)) (sym s) r
+  by-lookup (Fails n) m s a b u v p q r = fails n _
+
+  asked : (table : List ℕ) (index : ℕ) (a b u v : X) → R a u → R b u → R b v
       → R (onLookup (lookupAt table index) refuse a b) (onLookup (lookupAt [] index) refuse u v)
-  unfolding onLookup
-  asked table index a b u v p q =
-      subst (λ (l : AddressLookup). R (onLookup (lookupAt table index) refuse a b) (onLookup l refuse u v)) (no-table [] index refl)
-      (by-lookup (lookupAt table index) a b u p q)
+  asked table index a b u v p q r = by-lookup (lookupAt table index) (lookupAt [] index) (looked-shown table index) a b u v p q r
 
 -- ---- walks, side by side at one place
 
@@ -123,8 +143,8 @@ module _ (e : Encoding) (table : List ℕ) where
   entry-held : (x : ListEntry) (a b : Bool) → Base a b → Turns Base (rangeEntry e table a x) (rangeEntry e [] b x)
   unfolding rangeEntry
   entry-held x a b q =
-      both-pick (Turns Base) _ _ _ _ _ (asked (Turns Base) stop (λ n u. failed) table _ _ _ _ _ (on (λ z. z)) (on (λ z. refl)))
-      (both-pick (Turns Base) _ _ _ _ _ (asked (Turns Base) stop (λ n u. failed) table _ _ _ _ _ found found)
+      both-pick (Turns Base) _ _ _ _ _ (asked (Turns Base) stop (λ n u. failed) table _ _ _ _ _ (on (λ z. z)) (on (λ z. refl)) (on (λ z. z)))
+      (both-pick (Turns Base) _ _ _ _ _ (asked (Turns Base) stop (λ n u. failed) table _ _ _ _ _ found found (on q))
       (both-pick (Turns Base) _ _ _ _ _ (pair-held x a b q)
       (both-pick (Turns Base) _ _ _ _ _ (on (λ z. z))
       (both-pick (Turns Base) _ _ _ _ _ (on q) found))))
@@ -147,11 +167,15 @@ module _ (e : Encoding) (table : List ℕ) where
 abbrev Met : Bool → Bool → Type 0
 Met a b = a ≡ true → b ≡ true
 
-module _ (e : Encoding) (table : List ℕ) where
-  operation-held : (o : OperationRead) (a b : Bool) → Met a b → Turns Met (operationStep e table a o) (operationStep e [] b o)
+module _ (e : Encoding) (fixed : Bool) (table : List ℕ) where
+  operation-shown : (op : Operation) → Shown (operationLive e fixed table op) (operationLive e fixed [] op)
+  unfolding operationLive
+  operation-shown op = both-pick Shown _ _ _ _ _ (looked-shown table _) (shown-same _)
+
+  operation-held : (o : OperationRead) (a b : Bool) → Met a b → Turns Met (operationStep e fixed table a o) (operationStep e fixed [] b o)
   unfolding operationStep
   operation-held (Operation′ op) a b q =
-      both-pick (Turns Met) _ _ _ _ _ (asked (Turns Met) stop (λ n u. failed) table _ _ _ _ _ (on (λ z. refl)) (on (λ z. refl))) (on q)
+      by-lookup (Turns Met) stop (λ n u. failed) _ _ (operation-shown op) _ _ _ _ (on (λ z. refl)) (on (λ z. refl)) (on q)
   operation-held NoOperation a b q = failed
 
   end-held : (a b : Bool) → Met a b → Held (pick a Live Dead) (pick b Live Dead)
@@ -160,26 +184,27 @@ module _ (e : Encoding) (table : List ℕ) where
   end-held false false q = held-same Dead
   end-held true false q = absurd (false≢true (q refl))
 
-  location-held : (s : List ℕ) → Held (locationLive e table s) (locationLive e [] s)
+  location-held : (s : List ℕ) → Held (locationLive e fixed table s) (locationLive e fixed [] s)
   unfolding locationLive
   location-held s =
       walk-held Met _ _
       (λ n a b q. both-pick (Turns Met) _ _ _ _ _ (operation-held (operationAt e s n) a b q) (ended (end-held a b q))) (length s) 0 false false (λ z. z)
 
-  low-held : (v : Attribute) → Held (lowPc e table v) (lowPc e [] v)
-  unfolding lowPc
-  low-held v = both-pick Held _ _ _ _ _ (asked Held (λ r. r) held-refused table _ _ _ _ _ (held-same Live) (held-live Dead)) (held-same _)
+low-held : (e : Encoding) (table : List ℕ) (v : Attribute) → Held (lowPc e table v) (lowPc e [] v)
+unfolding lowPc
+low-held e table v =
+    both-pick Held _ _ _ _ _ (asked Held (λ r. r) held-refused table _ _ _ _ _ (held-same Live) (held-live Dead) (held-same Dead)) (held-same _)
 
 -- by a table (true) and by the empty one (false)
-pub held : (table : List ℕ) → Verdicts (λ (i : Bool). pick i table []) (λ v. Held (v true) (v false))
+pub held : (fixed : Bool) (table : List ℕ) → Verdicts (λ (i : Bool). fixed) (λ (i : Bool). pick i table []) (λ v. Held (v true) (v false))
 unfolding pick
-held table =
+held fixed table =
     record {
       of-live = held-same Live;
       of-dead = held-same Dead;
       of-else = λ v w p q. held-else (v true) (w true) (v false) (w false) p q;
       of-low-pc = λ e a. low-held e table a;
-      of-location = λ e s. location-held e table s;
+      of-location = λ e s. location-held e fixed table s;
       of-ranges = λ e s o. ranges-held e table s o;
       of-offset = λ e s o. held-same _;
     }

@@ -1,4 +1,5 @@
--- Without an address table nothing is lost that a table keeps (document 02, Point 2). Assumes nothing.
+-- Where each root test by some sections holds by others, nothing is lost; so without an address table nothing is lost that a table keeps
+-- (document 02, Point 2). Assumes nothing.
 use mathlib.Core.Path.{_≡_, refl, ap, ap₂, sym, _∙_, subst}
 use Prim.Native.Nat.{ℕ, suc, _<_}
 use mathlib.Core.Bool.{Bool, true, false}
@@ -14,16 +15,16 @@ use Rattle.marking.specs.Analysis.{onVerdict}
 use Rattle.marking.specs.Analysis.{analysisOf}
 use Rattle.marking.specs.Columns.{offsetsIn}
 use Rattle.marking.specs.Resolution.{graphOf}
-use Rattle.laws.specs.AddressTables.{withTable, NoneLost}
-use Rattle.laws.specs.UnitSurvivors.{ParentIn, RootIn, NamesIn, Below, child, deeper, ClosedRows}
+use Rattle.laws.specs.AddressTables.{withTable, withFixed, NoneLost}
+use Rattle.laws.specs.UnitSurvivors.{ParentIn, RootIn, NamesIn, Below, child, deeper, ClosedRows, SurvivorsOf}
 use Rattle.laws.proofs.survivors.UnitLaws.{unit-survivors}
-use Rattle.laws.proofs.tables.BySeveralTables.{Analyses, analysis-by}
+use Rattle.laws.proofs.tables.BySeveralTables.{Verdicts, Analyses, analysis-by}
 use Rattle.laws.proofs.tables.LiveVerdicts.{Held, held}
 use Rattle.readers.specs.Choice.{pick}
 
 -- ---- rows
 
--- a row of an entry by a table, and by none: a root stays one
+-- a row of an entry by the ones, and by the others: a root stays one
 record RowHeld (r s : EntryRow) : Type 0 where
   pub offset-is : r .offset ≡ s .offset
   pub parent-is : r .parent ≡ s .parent
@@ -65,7 +66,7 @@ verdict-held Dead w (inl q) k h each = subst (λ (z : Verdict). AnalysedHeld (k 
 verdict-held Dead w (inr q) k h each = subst (λ (z : Verdict). AnalysedHeld (k 0) (onVerdict z h)) (sym q) (each 0 0 (λ e. e))
 verdict-held (Failed n) w q k h each = tt
 
--- a root by the table (true) is one by the empty table (false)
+-- a root by the ones (true) is one by the others (false)
 rows-held : Analyses {I = Bool} (λ v. Held (v true) (v false)) (λ root. root true ≡ 1 → root false ≡ 1)
     (λ a. AnalysedHeld (a true) (a false))
 unfolding pick
@@ -77,14 +78,6 @@ rows-held =
       of-onto = λ offset parent names root r a q.
           onto-held _ _ (record { offset-is = refl; parent-is = refl; names-are = refl; root-held = r }) (a true) (a false) q;
     }
-
-analysis-held : (x : Sections) (table section : List ℕ) (room : Rooms) (rows : List EntryRow)
-    → analysisOf (withTable x table) section room ≡ analysed rows
-    → Beside rows (analysisOf (withTable x []) section room)
-unfolding pick AnalysedHeld
-analysis-held x table section room rows q =
-    subst (λ (a : Analysed). AnalysedHeld a (analysisOf (withTable x []) section room)) q
-    (analysis-by (λ (i : Bool). pick i table []) (held table) rows-held x (λ n o. refused-held n (notAnalysed n)) section room)
 
 -- ---- survivors
 
@@ -132,7 +125,7 @@ module _ {rows all : List EntryRow} (h : RowsHeld rows all) where
   below-in (child p) = child (parent-in p)
   below-in (deeper b p) = deeper (below-in b) (parent-in p)
 
-  -- a set that holds what it must by the rows of the empty table does so by those of the other
+  -- a set that holds what it must by the others' rows does so by the ones'
   closed-in : (S : ℕ → Type 0) → ClosedRows all S → ClosedRows rows S
   closed-in S c =
       record {
@@ -144,15 +137,36 @@ module _ {rows all : List EntryRow} (h : RowsHeld rows all) where
         has-under-named = λ s t d q k b. c .has-under-named s t d (names-in q) k (below-in b);
       }
 
+module _ (x : Sections) (fixed : Bool → Bool) (table : Bool → List ℕ) (v : Verdicts fixed table (λ v. Held (v true) (v false)))
+    (section : List ℕ) (room : Rooms) where
+  abbrev by : Bool → Sections
+  by i = withFixed (withTable x (table i)) (fixed i)
+
+  analysis-held : (rows : List EntryRow) → analysisOf (by true) section room ≡ analysed rows → Beside rows (analysisOf (by false) section room)
+  unfolding AnalysedHeld
+  analysis-held rows q =
+      subst (λ (a : Analysed). AnalysedHeld a (analysisOf (by false) section room)) q
+      (analysis-by fixed table v rows-held x (λ n o. refused-held n (notAnalysed n)) section room)
+
+  -- where each root test by the ones holds by the others, their survivors survive
+  pub all-kept : (rows : List EntryRow) → analysisOf (by true) section room ≡ analysed rows → NoneLost (by false) section room rows
+  all-kept rows q =
+      let b = analysis-held rows q in
+      let of-rows : SurvivorsOf (by true) section rows = unit-survivors (by true) section room rows q in
+      let of-all : SurvivorsOf (by false) section (b .all) = unit-survivors (by false) section room (b .all) (b .is) in
+      let stays : (i : ℕ) → Survivor (graphOf rows) i → Survivor (graphOf (b .all)) i =
+      of-rows .least .least (Survivor (graphOf (b .all))) (closed-in (b .held) (Survivor (graphOf (b .all))) (of-all .least .closed)) in
+      record {
+        all = b .all;
+        accepted = b .is;
+        same-entries = same-offsets (b .held);
+        kept = stays;
+        marked = λ i m. of-all .kept i .1 (stays i (of-rows .kept i .0 m));
+      }
+
 -- THE survivors by any table survive without one
 pub none-lost-law : (x : Sections) (table section : List ℕ) (room : Rooms) (rows : List EntryRow)
-    → analysisOf (withTable x table) section room ≡ analysed rows → NoneLost x section room rows
+    → analysisOf (withTable x table) section room ≡ analysed rows → NoneLost (withTable x []) section room rows
+unfolding pick
 none-lost-law x table section room rows q =
-    let b = analysis-held x table section room rows q in
-    record {
-      all = b .all;
-      accepted = b .is;
-      same-entries = same-offsets (b .held);
-      kept = unit-survivors (withTable x table) section room rows q .least .least (Survivor (graphOf (b .all)))
-          (closed-in (b .held) (Survivor (graphOf (b .all))) (unit-survivors (withTable x []) section room (b .all) (b .is) .least .closed));
-    }
+    all-kept x (λ i. x .setting .«fixed_addresses») (λ (i : Bool). pick i table []) (held (x .setting .«fixed_addresses») table) section room rows q

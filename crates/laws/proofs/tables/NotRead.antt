@@ -129,26 +129,26 @@ five-apart : (n : ℕ) → OneOf tableNumbers n → Refused 5 ≡ Refused n → 
 unfolding isOneOf _or_
 five-apart n o q = let e : n ≡ 5 = cc in not-one-of tableNumbers n 5 e tt o
 
-module _ (e : Encoding) (table s more : List ℕ) (n : ℕ) (o : OneOf tableNumbers n) where
+module _ (e : Encoding) (fixed : Bool) (table s more : List ℕ) (n : ℕ) (o : OneOf tableNumbers n) where
   end-apart : (live : Bool) → pick live Live Dead ≡ Refused n → ⊥
   unfolding pick
   end-apart true q = live-no-refusal n q
   end-apart false q = dead-no-refusal n q
 
   abbrev operationTurn : List ℕ → Flagged → RootTurn
-  operationTurn s p = pick (ltb (p .at) (length s)) (operationStep e table (p .flag) (operationAt e s (p .at))) (stop (pick (p .flag) Live Dead))
+  operationTurn s p = pick (ltb (p .at) (length s)) (operationStep e fixed table (p .flag) (operationAt e s (p .at))) (stop (pick (p .flag) Live Dead))
 
   by-operation : (p : Flagged) → p .at < length s → (r : OperationRead) → operationAt e s (p .at) ≡ r
       → (operationTurn (s ++ more) p ≡ operationTurn s p) ⊎ Otherwise n (operationTurn s p)
   unfolding operationStep
   by-operation p h (Operation′ x) q =
       inl (pick-yes (ltb (p .at) (length (s ++ more))) _ _ (inside-longer s more (p .at) h)
-      ∙ ap (operationStep e table (p .flag)) (operation-longer e s more (p .at) x q ∙ sym q)
+      ∙ ap (operationStep e fixed table (p .flag)) (operation-longer e s more (p .at) x q ∙ sym q)
       ∙ sym (pick-yes (ltb (p .at) (length s)) _ _ (yes-ltb h)))
   by-operation p h NoOperation q =
       inr (record {
         verdict = Refused 5;
-        is = pick-yes (ltb (p .at) (length s)) _ _ (yes-ltb h) ∙ ap (operationStep e table (p .flag)) q;
+        is = pick-yes (ltb (p .at) (length s)) _ _ (yes-ltb h) ∙ ap (operationStep e fixed table (p .flag)) q;
         other = five-apart n o;
       })
 
@@ -159,7 +159,7 @@ module _ (e : Encoding) (table s more : List ℕ) (n : ℕ) (o : OneOf tableNumb
       (either (ltb (p .at) (length s)))
 
   -- an expression that is refused so is, whatever stands behind it
-  pub behind-location : locationLive e table s ≡ Refused n → locationLive e table (s ++ more) ≡ Refused n
+  pub behind-location : locationLive e fixed table s ≡ Refused n → locationLive e fixed table (s ++ more) ≡ Refused n
   unfolding locationLive walk
   behind-location q = walk-longer n (operationTurn s) (operationTurn (s ++ more)) operation-turns _ _ (omega (arith, length-append s more)) _ q
 
@@ -196,7 +196,7 @@ module _ (n : ℕ) where
   else-stays Dead w w′ f q = f q
   else-stays (Refused m) w w′ f q = q
 
-  module _ (e : Encoding) (table : List ℕ) (more : List Valued) where
+  module _ (e : Encoding) (fixed : Bool) (table : List ℕ) (more : List Valued) where
     -- a low_pc that is refused, whatever attributes stand behind it
     pub behind-low-pcs : (vs : List Valued) → lowPcs e table vs ≡ Refused n → lowPcs e table (vs ++ more) ≡ Refused n
     unfolding lowPcs
@@ -205,12 +205,12 @@ module _ (n : ℕ) where
         pick-stays Refused (eqb (a .name) «DW_AT_low_pc») _ _ _ _ (else-stays (lowPc e table (a .value)) _ _ (behind-low-pcs vs)) (behind-low-pcs vs) q
 
     -- a location
-    pub behind-locations : (unit : List ℕ) (vs : List Valued) → locations e table unit vs ≡ Refused n → locations e table unit (vs ++ more) ≡ Refused n
+    pub behind-locations : (unit : List ℕ) (vs : List Valued) → locations e fixed table unit vs ≡ Refused n → locations e fixed table unit (vs ++ more) ≡ Refused n
     unfolding locations
     behind-locations unit [] q = absurd (dead-no-refusal n q)
     behind-locations unit (a ∷ vs) q =
         pick-stays Refused (eqb (a .name) «DW_AT_location» and eqb (a .value .form) «DW_FORM_exprloc») _ _ _ _
-        (else-stays (locationLive e table (partOf unit (a .value .field))) _ _ (behind-locations unit vs)) (behind-locations unit vs) q
+        (else-stays (locationLive e fixed table (partOf unit (a .value .field))) _ _ (behind-locations unit vs)) (behind-locations unit vs) q
 
   verdict-stays : (v : Verdict) (k k′ : ℕ → Analysed) → ((r : ℕ) → k r ≡ notAnalysed n → k′ r ≡ notAnalysed n)
       → onVerdict v k ≡ notAnalysed n → onVerdict v k′ ≡ notAnalysed n

@@ -14,8 +14,8 @@ Inv-loop what₀ i₀ what i = Unit {0}
 abbrev μ-loop : tie.MeasureT-loop
 μ-loop what₀ i₀ what i = 10000 - i
 
-told-requires : tie.Need-told-requires Inv-loop μ-loop
-told-requires c κs = search needs
+untold-requires : tie.Need-untold-requires Inv-loop μ-loop
+untold-requires c κs = search needs
 
 loop-holds : tie.Need-loop-holds Inv-loop μ-loop
 loop-holds c = search needs
@@ -44,7 +44,7 @@ arguments-spec =
     (tie.spec
     Inv-loop
     μ-loop
-    told-requires
+    untold-requires
     loop-holds
     argument-at-requires
     returns

@@ -25,7 +25,7 @@ refusal-requires c κs = search needs
 
 returns : tie.Need-returns
 unfolding valuesOfEntry rootOf namesOf
-returns c = no-root _ _ _ _ _ _ _ (sym (rooted _ _ _ _ _ _ _ _ _ (c .before .before .before .before .is-root .ensures)) ∙ c .before .before .n .given .1) (c .refusal .ensures)
+returns c = no-root _ _ _ _ _ _ _ (sym (rooted _ _ _ _ _ _ _ _ _ _ (c .before .before .before .before .is-root .ensures)) ∙ c .before .before .n .given .1) (c .refusal .ensures)
 
 scan-live-die-attrs-requires : tie.Need-scan-live-die-attrs-requires
 scan-live-die-attrs-requires c κs = search needs
@@ -50,21 +50,21 @@ same-length c = search needs
 
 returns-2 : tie.Need-returns-2
 unfolding valuesOfEntry rootOf namesOf
-returns-2 c = row-found _ _ _ _ _ _ (⊎-elim (λ w. judged-live _ _ (sym (rooted _ _ _ _ _ _ _ _ _ (c .before .before .before .before .before .before .before .before .before .before .before .is-root .ensures)) ∙ w .1 .given .1) (w .2)) (λ w. judged-dead _ _ (sym (rooted _ _ _ _ _ _ _ _ _ (c .before .before .before .before .before .before .before .before .before .before .before .is-root .ensures)) ∙ w .1 .given .1) (w .2)) (c .before .before .before .before .before .before .before .before .before .before .match .came)) _ (c .before .before .before .before .before .before .before .before .scan-live-die-attrs .ensures .1) _ _ (sym (c .before .before .before .before .place .given .1) ∙ c .before .before .before .before .before .before .before .before .scan-live-die-attrs .ensures .0) _ (c .before .end .given .1)
+returns-2 c = row-found _ _ _ _ _ _ (⊎-elim (λ w. judged-live _ _ (sym (rooted _ _ _ _ _ _ _ _ _ _ (c .before .before .before .before .before .before .before .before .before .before .before .is-root .ensures)) ∙ w .1 .given .1) (w .2)) (λ w. judged-dead _ _ (sym (rooted _ _ _ _ _ _ _ _ _ _ (c .before .before .before .before .before .before .before .before .before .before .before .is-root .ensures)) ∙ w .1 .given .1) (w .2)) (c .before .before .before .before .before .before .before .before .before .before .match .came)) _ (c .before .before .before .before .before .before .before .before .scan-live-die-attrs .ensures .1) _ _ (sym (c .before .before .before .before .place .given .1) ∙ c .before .before .before .before .before .before .before .before .scan-live-die-attrs .ensures .0) _ (c .before .end .given .1)
 
 same-length-2 : tie.Need-same-length-2
 same-length-2 c = search needs
 
 returns-3 : tie.Need-returns-3
 unfolding valuesOfEntry rootOf namesOf
-returns-3 c = row-unread _ _ _ _ _ _ (⊎-elim (λ w. judged-live _ _ (sym (rooted _ _ _ _ _ _ _ _ _ (c .before .before .before .before .before .before .before .before .before .before .is-root .ensures)) ∙ w .1 .given .1) (w .2)) (λ w. judged-dead _ _ (sym (rooted _ _ _ _ _ _ _ _ _ (c .before .before .before .before .before .before .before .before .before .before .is-root .ensures)) ∙ w .1 .given .1) (w .2)) (c .before .before .before .before .before .before .before .before .before .match .came)) _ (c .before .before .before .before .before .before .before .scan-live-die-attrs .ensures .1) _ _ (sym (c .before .before .before .place .given .1) ∙ c .before .before .before .before .before .before .before .scan-live-die-attrs .ensures .0) (c .enum-told3 .given .1)
+returns-3 c = row-unread _ _ _ _ _ _ (⊎-elim (λ w. judged-live _ _ (sym (rooted _ _ _ _ _ _ _ _ _ _ (c .before .before .before .before .before .before .before .before .before .before .is-root .ensures)) ∙ w .1 .given .1) (w .2)) (λ w. judged-dead _ _ (sym (rooted _ _ _ _ _ _ _ _ _ _ (c .before .before .before .before .before .before .before .before .before .before .is-root .ensures)) ∙ w .1 .given .1) (w .2)) (c .before .before .before .before .before .before .before .before .before .match .came)) _ (c .before .before .before .before .before .before .before .scan-live-die-attrs .ensures .1) _ _ (sym (c .before .before .before .place .given .1) ∙ c .before .before .before .before .before .before .before .scan-live-die-attrs .ensures .0) (c .enum-told3 .given .1)
 
 same-length-3 : tie.Need-same-length-3
 same-length-3 c = search needs
 
 returns-4 : tie.Need-returns-4
 unfolding valuesOfEntry rootOf namesOf
-returns-4 c = row-refused _ _ _ _ _ _ (⊎-elim (λ w. judged-live _ _ (sym (rooted _ _ _ _ _ _ _ _ _ (c .before .before .before .before .before .before .before .before .before .is-root .ensures)) ∙ w .1 .given .1) (w .2)) (λ w. judged-dead _ _ (sym (rooted _ _ _ _ _ _ _ _ _ (c .before .before .before .before .before .before .before .before .before .is-root .ensures)) ∙ w .1 .given .1) (w .2)) (c .before .before .before .before .before .before .before .before .match .came)) _ (c .before .before .before .before .before .before .scan-live-die-attrs .ensures .1) _ _ (sym (c .before .before .n2 .given .1) ∙ c .before .before .before .before .before .before .scan-live-die-attrs .ensures .0) (c .refusal2 .ensures)
+returns-4 c = row-refused _ _ _ _ _ _ (⊎-elim (λ w. judged-live _ _ (sym (rooted _ _ _ _ _ _ _ _ _ _ (c .before .before .before .before .before .before .before .before .before .is-root .ensures)) ∙ w .1 .given .1) (w .2)) (λ w. judged-dead _ _ (sym (rooted _ _ _ _ _ _ _ _ _ _ (c .before .before .before .before .before .before .before .before .before .is-root .ensures)) ∙ w .1 .given .1) (w .2)) (c .before .before .before .before .before .before .before .before .match .came)) _ (c .before .before .before .before .before .before .scan-live-die-attrs .ensures .1) _ _ (sym (c .before .before .n2 .given .1) ∙ c .before .before .before .before .before .before .scan-live-die-attrs .ensures .0) (c .refusal2 .ensures)
 
 pub analyse-entry-spec : {M : Type 1} → statement M
 analyse-entry-spec =

@@ -4,15 +4,15 @@ use Prim.Native.Nat.{_-_}
 use lib.ListN.{length}
 use borrow.Author.Needs.{needs}
 use Rattle.marking.specs.Roots.{locationLive}
-use Rattle.marking.proofs.Lists.{locationFrom, location-start, location-live, location-dead, location-none, location-less, location-on, index-met, index-passed, index-refused}
+use Rattle.marking.proofs.Lists.{locationFrom, location-start, location-live, location-dead, location-none, location-less, operation-met, operation-passed, operation-refused}
 use Rattle.marking.proofs.root_test.location_expr_live.Statement.{statement}
 use Rattle.marking.proofs.root_test.location_expr_live.Tie as tie
 
 abbrev Inv-loop : tie.InvT-loop
-Inv-loop s table e c₀ live₀ c live = locationLive e table s ≡ locationFrom e table s (c .at) live
+Inv-loop s table fixed e c₀ live₀ c live = locationLive e fixed table s ≡ locationFrom e fixed table s (c .at) live
 
 abbrev μ-loop : tie.MeasureT-loop
-μ-loop s table e c₀ live₀ c live = length s - c .at
+μ-loop s table fixed e c₀ live₀ c live = length s - c .at
 
 loop-holds : tie.Need-loop-holds Inv-loop μ-loop
 loop-holds c = search location-start
@@ -29,8 +29,8 @@ enum-told c = search needs
 returns : tie.Need-returns Inv-loop μ-loop
 returns c = search location-none
 
-lookup-requires : tie.Need-lookup-requires Inv-loop μ-loop
-lookup-requires c κs = search needs
+operation-live-requires : tie.Need-operation-live-requires Inv-loop μ-loop
+operation-live-requires c κs = search needs
 
 enum-told-2 : tie.Need-enum-told-2 Inv-loop μ-loop
 enum-told-2 c = search needs
@@ -42,25 +42,19 @@ enum-known-n : tie.Need-enum-known-n Inv-loop μ-loop
 enum-known-n c = search needs
 
 returns-2 : tie.Need-returns-2 Inv-loop μ-loop
-returns-2 c = search index-refused
+returns-2 c = search operation-refused
 
 loop-less : tie.Need-loop-less Inv-loop μ-loop
 loop-less c = search location-less
 
 loop-again : tie.Need-loop-again Inv-loop μ-loop
-loop-again c = search index-met
+loop-again c = search operation-met
 
 loop-less-2 : tie.Need-loop-less-2 Inv-loop μ-loop
 loop-less-2 c = search location-less
 
 loop-again-2 : tie.Need-loop-again-2 Inv-loop μ-loop
-loop-again-2 c = search index-passed
-
-loop-less-3 : tie.Need-loop-less-3 Inv-loop μ-loop
-loop-less-3 c = search location-less
-
-loop-again-3 : tie.Need-loop-again-3 Inv-loop μ-loop
-loop-again-3 c = search location-on
+loop-again-2 c = search operation-passed
 
 returns-3 : tie.Need-returns-3 Inv-loop μ-loop
 returns-3 c = search location-live
@@ -79,7 +73,7 @@ location-expr-live-spec =
     enum-known-op
     enum-told
     returns
-    lookup-requires
+    operation-live-requires
     enum-told-2
     enum-told-3
     enum-known-n
@@ -88,7 +82,5 @@ location-expr-live-spec =
     loop-again
     loop-less-2
     loop-again-2
-    loop-less-3
-    loop-again-3
     returns-3
     returns-4)

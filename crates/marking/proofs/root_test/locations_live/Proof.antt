@@ -10,10 +10,12 @@ use Rattle.marking.proofs.root_test.locations_live.Statement.{statement
 use Rattle.marking.proofs.root_test.locations_live.Tie as tie
 
 abbrev Inv-loop : tie.InvT-loop
-Inv-loop unit abbreviations table e p₀ c₀ p c = locations e table unit (entryValues e abbreviations (p₀ .at) unit (c₀ .at)) ≡ locations e table unit (entryValues e abbreviations (p .at) unit (c .at))
+Inv-loop unit abbreviations table fixed e p₀ c₀ p c =
+    locations e fixed table unit (entryValues e abbreviations (p₀ .at) unit (c₀ .at))
+    ≡ locations e fixed table unit (entryValues e abbreviations (p .at) unit (c .at))
 
 abbrev μ-loop : tie.MeasureT-loop
-μ-loop unit abbreviations table e p₀ c₀ p c = length abbreviations - p .at
+μ-loop unit abbreviations table fixed e p₀ c₀ p c = length abbreviations - p .at
 
 loop-holds : tie.Need-loop-holds Inv-loop μ-loop
 loop-holds c = refl

@@ -2,7 +2,8 @@
 use mathlib.Core.Path.{sym, _∙_}
 use native.Mathlib.Omega.{arith}
 use Rattle.readers.proofs.Tokens.{number-fixed, number-leb}
-use Rattle.readers.proofs.Values.{not-true, not-false, fixed-in, foreign-none, plain-nothing, plain-none, plain-read}
+use borrow.Author.Tests.{not-true, not-false}
+use Rattle.readers.proofs.Values.{fixed-in, foreign-none, plain-nothing, plain-none, plain-read}
 use borrow.Author.Needs.{needs}
 use Rattle.readers.proofs.cursor.Cursor.attribute.Statement.{statement}
 use Rattle.readers.proofs.cursor.Cursor.attribute.Tie as tie

@@ -5,7 +5,8 @@ use lib.Dec.{T}
 use mathlib.Core.Logic.{⊎-elim}
 use borrow.Author.Needs.{needs}
 use Rattle.readers.specs.Fields.{fieldAt}
-use Rattle.readers.proofs.Values.{not-true, not-false, value-sibling, value-implicit, value-foreign, value-other}
+use borrow.Author.Tests.{not-true, not-false}
+use Rattle.readers.proofs.Values.{value-sibling, value-implicit, value-foreign, value-other}
 use Rattle.readers.proofs.cursor.Cursor.value.Statement.{statement}
 use Rattle.readers.proofs.cursor.Cursor.value.Tie as tie
 

@@ -1,0 +1,74 @@
+-- Variables at a fixed address (document 02, Point 7): the words of `as-live-index` (proofs/fixed/FixedOperations.antt),
+-- `fixed-roots-law`, `ended-law` (FixedRoots.antt) and `fixed-kept-law` (FixedSurvivors.antt).
+use Prim.Native.Nat.{ℕ, suc}
+use mathlib.Core.Path.{_≡_}
+use mathlib.Core.Bool.{false}
+use mathlib.Core.List.{List, _∷_}
+use mathlib.Core.Logic.{_⊎_}
+use lib.ListN.{getD}
+use Rattle.readers.specs.Codes.{«DW_AT_location», «DW_FORM_exprloc», «DW_OP_addr»}
+use Rattle.readers.specs.EntryAttributes.{Valued}
+use Rattle.readers.specs.Fields.{partOf}
+use Rattle.readers.specs.Operations.{row-address}
+use Rattle.readers.specs.Steps.{operationAt}
+use Rattle.readers.specs.Stream.{Item, entry, terminator}
+use Rattle.readers.specs.declared.cursor.Encoding.{Encoding}
+use Rattle.readers.specs.declared.entries.Entry.{Entry}
+use Rattle.readers.specs.declared.operations.Operation.{Operation}
+use Rattle.readers.specs.declared.operations.OperationRead.the-variants.{Read as Operation′}
+use Rattle.marking.specs.Addresses.{isTombstone}
+use Rattle.marking.specs.Members.{Member}
+use Rattle.marking.specs.declared.root_test.Verdict.{Verdict}
+use Rattle.marking.specs.declared.root_test.Verdict.the-variants.{Live, Dead, Refused}
+
+-- the places at which operations of an expression start, and its end: those nested in an operand are not among them
+pub data Outermost (e : Encoding) (s : List ℕ) : ℕ → Type 0 where
+  start : Outermost e s 0
+  past : {at : ℕ} {op : Operation} → Outermost e s at → operationAt e s at ≡ Operation′ op → Outermost e s (op .next .at)
+
+-- an operation's address, its first operand, is no tombstone of the unit's address size
+abbrev pub NoTombstone : Encoding → Operation → Type 0
+NoTombstone e op = isTombstone (op .first .value) (e .«address_size») ≡ false
+
+-- "has a DW_OP_addr whose address isn't a tombstone", "Nested entry values are not searched"
+pub record FixedAddress (e : Encoding) (s : List ℕ) : Type 0 where
+  pub at : ℕ
+  pub outermost : Outermost e s at
+  pub code : getD s at 0 ≡ «DW_OP_addr»
+  pub op : Operation
+  pub read : operationAt e s at ≡ Operation′ op
+  pub live : NoTombstone e op
+
+-- "its exprloc location" has one: an entry's attributes, whose values stand in a unit
+pub record FixedLocation (e : Encoding) (unit : List ℕ) (attributes : List Valued) : Type 0 where
+  pub location : Valued
+  pub among : Member location attributes
+  pub name : location .name ≡ «DW_AT_location»
+  pub form : location .value .form ≡ «DW_FORM_exprloc»
+  pub has : FixedAddress e (partOf unit (location .value .field))
+
+-- A root test where fixed addresses do not count, and one where they do; Has is that the entry has one.
+pub record AlsoRoot (off on : Verdict) (Has : Type 0) : Type 0 where
+  -- "a variable is also a root if .."
+  pub stays : off ≡ Live → on ≡ Live
+  pub also : Has → on ≡ Dead → ⊥
+  -- and by nothing else
+  pub only : on ≡ Live → (off ≡ Live) ⊎ Has
+  pub without : (Has → ⊥) → on ≡ off
+  -- the choice refuses nothing more
+  pub refuses : (n : ℕ) → on ≡ Refused n → off ≡ Refused n
+
+-- an operation by its row, which DW_OP_addr alone has (`address-code`, `code-address`), with an address that is no tombstone
+pub record IsFixed (e : Encoding) (op : Operation) : Type 0 where
+  pub row-is : op .row ≡ row-address
+  pub live : NoTombstone e op
+
+-- an entry of a unit's items, and how many entries stand before it
+pub data EntryAt (y : Entry) : ℕ → List Item → Type 0 where
+  next : {rest : List Item} → EntryAt y 0 (entry y ∷ rest)
+  behind-entry : {k : ℕ} {z : Entry} {rest : List Item} → EntryAt y k rest → EntryAt y (suc k) (entry z ∷ rest)
+  behind-terminator : {k a b : ℕ} {rest : List Item} → EntryAt y k rest → EntryAt y k (terminator a b ∷ rest)
+
+-- live or dead
+abbrev pub Decided : Verdict → Type 0
+Decided v = (n : ℕ) → v ≡ Refused n → ⊥
