@@ -6,10 +6,9 @@ use mathlib.Core.Bool.{false}
 use mathlib.Core.List.{List, _∷_}
 use mathlib.Core.Logic.{_⊎_}
 use lib.ListN.{getD}
-use Rattle.readers.specs.Codes.{«DW_AT_location», «DW_FORM_exprloc», «DW_OP_addr»}
+use Rattle.readers.specs.Codes.{«DW_AT_location», «DW_FORM_exprloc», «DW_OP_addr», «DW_TAG_variable»}
 use Rattle.readers.specs.EntryAttributes.{Valued}
 use Rattle.readers.specs.Fields.{partOf}
-use Rattle.readers.specs.Operations.{row-address}
 use Rattle.readers.specs.Steps.{operationAt}
 use Rattle.readers.specs.Stream.{Item, entry, terminator}
 use Rattle.readers.specs.declared.cursor.Encoding.{Encoding}
@@ -17,9 +16,10 @@ use Rattle.readers.specs.declared.entries.Entry.{Entry}
 use Rattle.readers.specs.declared.operations.Operation.{Operation}
 use Rattle.readers.specs.declared.operations.OperationRead.the-variants.{Read as Operation′}
 use Rattle.marking.specs.Addresses.{isTombstone}
+use Rattle.marking.specs.Analysis.{Sections, tagOf, valuesOfEntry}
 use Rattle.marking.specs.Members.{Member}
 use Rattle.marking.specs.declared.root_test.Verdict.{Verdict}
-use Rattle.marking.specs.declared.root_test.Verdict.the-variants.{Live, Dead, Refused}
+use Rattle.marking.specs.declared.root_test.Verdict.the-variants.{Live, Dead}
 
 -- the places at which operations of an expression start, and its end: those nested in an operand are not among them
 pub data Outermost (e : Encoding) (s : List ℕ) : ℕ → Type 0 where
@@ -47,28 +47,20 @@ pub record FixedLocation (e : Encoding) (unit : List ℕ) (attributes : List Val
   pub form : location .value .form ≡ «DW_FORM_exprloc»
   pub has : FixedAddress e (partOf unit (location .value .field))
 
--- A root test where fixed addresses do not count, and one where they do; Has is that the entry has one.
-pub record AlsoRoot (off on : Verdict) (Has : Type 0) : Type 0 where
-  -- "a variable is also a root if .."
-  pub stays : off ≡ Live → on ≡ Live
-  pub also : Has → on ≡ Dead → ⊥
-  -- and by nothing else
-  pub only : on ≡ Live → (off ≡ Live) ⊎ Has
-  pub without : (Has → ⊥) → on ≡ off
-  -- the choice refuses nothing more
-  pub refuses : (n : ℕ) → on ≡ Refused n → off ≡ Refused n
+-- "a variable .. if its exprloc location has" one: an entry of a unit
+pub record FixedVariable (e : Encoding) (x : Sections) (unit : List ℕ) (y : Entry) : Type 0 where
+  pub tag : tagOf y ≡ «DW_TAG_variable»
+  pub has : FixedLocation e unit (valuesOfEntry e x unit y)
 
--- an operation by its row, which DW_OP_addr alone has (`address-code`, `code-address`), with an address that is no tombstone
-pub record IsFixed (e : Encoding) (op : Operation) : Type 0 where
-  pub row-is : op .row ≡ row-address
-  pub live : NoTombstone e op
+-- The root test of an entry where fixed addresses do not count, and where they do; Has is that it is such a variable.
+pub record AlsoRoot (off on : Verdict) (Has : Type 0) : Type 0 where
+  -- "is also a root if ..": it is not dead
+  pub also : Has → on ≡ Dead → ⊥
+  -- and by nothing else: the verdict, a refusal too, is the one without the choice, or it is live and this the reason
+  pub only : (on ≡ off) ⊎ ((on ≡ Live) × Has)
 
 -- an entry of a unit's items, and how many entries stand before it
 pub data EntryAt (y : Entry) : ℕ → List Item → Type 0 where
   next : {rest : List Item} → EntryAt y 0 (entry y ∷ rest)
   behind-entry : {k : ℕ} {z : Entry} {rest : List Item} → EntryAt y k rest → EntryAt y (suc k) (entry z ∷ rest)
   behind-terminator : {k a b : ℕ} {rest : List Item} → EntryAt y k rest → EntryAt y k (terminator a b ∷ rest)
-
--- live or dead
-abbrev pub Decided : Verdict → Type 0
-Decided v = (n : ℕ) → v ≡ Refused n → ⊥

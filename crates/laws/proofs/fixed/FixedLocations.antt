@@ -27,8 +27,8 @@ use Rattle.marking.specs.Roots.{orElse, operationLive, locationLive, locations}
 use Rattle.marking.proofs.Lists.{locationFrom, location-start, location-live, location-dead, location-none, location-less}
 use Rattle.marking.proofs.Lists.{operation-met, operation-passed, operation-refused}
 use Rattle.marking.proofs.Tests.{split, and-in, and-out}
-use Rattle.laws.specs.FixedAddresses.{Outermost, start, past, IsFixed, FixedAddress, FixedLocation}
-use Rattle.laws.proofs.fixed.FixedOperations.{address-code, code-address, Said, same, more, operation-said, fixed-live}
+use Rattle.laws.specs.FixedAddresses.{Outermost, start, past, FixedAddress, FixedLocation}
+use Rattle.laws.proofs.fixed.FixedOperations.{address-code, code-address, IsFixed, Said, same, more, operation-said, fixed-live}
 
 -- a verdict where fixed addresses count is that where they do not, or live by one of them
 abbrev pub Counted : Verdict → Verdict → Type 0 → Type 0
@@ -54,10 +54,10 @@ module _ (e : Encoding) (table s : List ℕ) where
       record {
         at = at;
         outermost = o;
-        code = address-code _ (sym (operation-stepped e s at op q .code) ∙ f .row-is);
+        code = address-code _ (sym (operation-stepped e s at op q .code) ∙ f .0);
         op = op;
         read = q;
-        live = f .live;
+        live = f .1;
       }
 
   -- what was met so far, off and on
@@ -122,69 +122,71 @@ module _ (e : Encoding) (table s : List ℕ) where
     refuses : (n : ℕ) → test true ≡ Refused n → RefusedOr P
     goes : P → RefusedOr P
 
-  record Flag (at : ℕ) : Type 0 where
+  then : {P Q : Type 0} → RefusedOr P → (P → RefusedOr Q) → RefusedOr Q
+  then (refuses n r) f = refuses n r
+  then (goes p) f = f p
+
+  -- the test comes to a place, with a flag that has P
+  record Comes (P : Bool → Type 0) (at : ℕ) : Type 0 where
     pub live : Bool
+    pub holds : P live
     pub from : From true at live
 
-  -- to every place of the outermost level the test comes, unless it is refused before
-  came : (at : ℕ) (op : Operation) → operationAt e s at ≡ Operation′ op → Flag at → (l : AddressLookup) → l ≡ operationLive e true table op
-      → RefusedOr (Flag (op .next .at))
-  came at op q h Alive u =
+  past-operation : (P : Bool → Type 0) → P true → (at : ℕ) (op : Operation) → operationAt e s at ≡ Operation′ op → Comes P at → (l : AddressLookup)
+      → l ≡ operationLive e true table op → RefusedOr (Comes P (op .next .at))
+  past-operation P t at op q h Alive u =
       let i : at < length s = operation-stepped e s at op q .here in
-      goes (record { live = true; from = operation-met e true table s at (h .live) (h .from) i _ refl op q Alive u refl })
-  came at op q h NotAlive u =
+      goes (record { live = true; holds = t; from = operation-met e true table s at (h .live) (h .from) i _ refl op q Alive u refl })
+  past-operation P t at op q h NotAlive u =
       let i : at < length s = operation-stepped e s at op q .here in
-      goes (record { live = h .live; from = operation-passed e true table s at (h .live) (h .from) i _ refl op q NotAlive u refl })
-  came at op q h (Fails n) u =
+      goes (record { live = h .live; holds = h .holds; from = operation-passed e true table s at (h .live) (h .from) i _ refl op q NotAlive u refl })
+  past-operation P t at op q h (Fails n) u =
       let i : at < length s = operation-stepped e s at op q .here in
       refuses n (sym (operation-refused e true table s at (h .live) (h .from) i _ refl op q (Fails n) u n refl))
 
-  on-to : {at : ℕ} (op : Operation) → operationAt e s at ≡ Operation′ op → RefusedOr (Flag at) → RefusedOr (Flag (op .next .at))
-  on-to op q (refuses n r) = refuses n r
-  on-to {at} op q (goes h) = came at op q h (operationLive e true table op) refl
+  -- to every place of the outermost level, unless it is refused before
+  abbrev Any : Bool → Type 0
+  Any live = Unit {0}
 
-  reached : {at : ℕ} → Outermost e s at → RefusedOr (Flag at)
-  reached start = goes (record { live = false; from = location-start e true table s })
-  reached (past {op = op} o q) = on-to op q (reached o)
+  reached : {at : ℕ} → Outermost e s at → RefusedOr (Comes Any at)
+  reached start = goes (record { live = false; holds = tt; from = location-start e true table s })
+  reached (past {at = at} {op = op} o q) = then (reached o) (λ h. past-operation Any tt at op q h (operationLive e true table op) refl)
 
   -- from something live on it is live, or refused
-  module _ (at : ℕ) (h : From true at true) (i : at < length s) where
-    live-on : (op : Operation) → operationAt e s at ≡ Operation′ op → (From true (op .next .at) true → RefusedOr (test true ≡ Live))
-        → (l : AddressLookup)
-        → l ≡ operationLive e true table op → RefusedOr (test true ≡ Live)
-    live-on op q next Alive u = next (operation-met e true table s at true h i _ refl op q Alive u refl)
-    live-on op q next NotAlive u = next (operation-passed e true table s at true h i _ refl op q NotAlive u refl)
-    live-on op q next (Fails n) u = refuses n (sym (operation-refused e true table s at true h i _ refl op q (Fails n) u n refl))
+  abbrev Met : Bool → Type 0
+  Met live = live ≡ true
 
-    live-read : (r : OperationRead) → operationAt e s at ≡ r
-        → ((op : Operation) → operationAt e s at ≡ Operation′ op → From true (op .next .at) true → RefusedOr (test true ≡ Live))
-        → RefusedOr (test true ≡ Live)
-    live-read NoOperation q next = refuses 5 (sym (location-none e true table s at true h i _ refl q))
-    live-read (Operation′ op) q next = live-on op q (next op q) (operationLive e true table op) refl
+  live-read : (at : ℕ) → at < length s → Comes Met at → (r : OperationRead) → operationAt e s at ≡ r
+      → ((op : Operation) → operationAt e s at ≡ Operation′ op → Comes Met (op .next .at) → RefusedOr (test true ≡ Live)) → RefusedOr (test true ≡ Live)
+  live-read at i h NoOperation q on = refuses 5 (sym (location-none e true table s at (h .live) (h .from) i _ refl q))
+  live-read at i h (Operation′ op) q on = then (past-operation Met refl at op q h (operationLive e true table op) refl) (on op q)
 
-  live-from : (k at : ℕ) → length s - at < k → From true at true → RefusedOr (test true ≡ Live)
+  live-from : (k at : ℕ) → length s - at < k → Comes Met at → RefusedOr (test true ≡ Live)
   live-from zero at l h = absurd (omega arith)
   live-from (suc k) at l h =
       ⊎-elim
-      (λ i. live-read at h i (operationAt e s at) refl
-      (λ op q g. live-from k (op .next .at) (omega (arith, location-less e true table s at true h i _ refl op q)) g))
-      (λ n. goes (sym (location-live e true table s at true h n refl))) (split at (length s))
+      (λ i. live-read at i h (operationAt e s at) refl
+      (λ op q g. live-from k (op .next .at) (omega (arith, location-less e true table s at (h .live) (h .from) i _ refl op q)) g))
+      (λ n. goes (sym (location-live e true table s at (h .live) (h .from) n (h .holds)))) (split at (length s))
 
-  met : (f : FixedAddress e s) → RefusedOr (Flag (f .at)) → RefusedOr (test true ≡ Live)
-  met f (refuses n r) = refuses n r
-  met f (goes h) =
+  met : (f : FixedAddress e s) → Comes Any (f .at) → RefusedOr (test true ≡ Live)
+  met f h =
       let o : Operation = f .op in
       let p = operation-stepped e s (f .at) o (f .read) in
-      let is : IsFixed e o = record { row-is = p .code ∙ code-address _ (f .code); live = f .live } in
+      let is : IsFixed e o = (p .code ∙ code-address _ (f .code), f .live) in
       live-from (suc (length s)) (o .next .at) (omega arith)
-      (operation-met e true table s (f .at) (h .live) (h .from) (p .here) _ refl o (f .read) Alive (sym (fixed-live e table o is)) refl)
+      (record {
+        live = true;
+        holds = refl;
+        from = operation-met e true table s (f .at) (h .live) (h .from) (p .here) _ refl o (f .read) Alive (sym (fixed-live e table o is)) refl;
+      })
 
   not-dead : RefusedOr (test true ≡ Live) → test true ≡ Dead → ⊥
   not-dead (refuses n r) q = let z : _≡_ {A = ℕ} 0 1 = cc in omega arith
   not-dead (goes r) q = let z : _≡_ {A = ℕ} 0 1 = cc in omega arith
 
   pub location-found : FixedAddress e s → locationLive e true table s ≡ Dead → ⊥
-  location-found f = not-dead (met f (reached (f .outermost)))
+  location-found f = not-dead (then (reached (f .outermost)) (met f))
 
 -- ---- the locations of an entry
 

@@ -23,7 +23,7 @@ use Rattle.marking.specs.declared.addresses.AddressLookup.{AddressLookup}
 use Rattle.marking.specs.declared.addresses.AddressLookup.the-variants.{Live, Dead}
 use Rattle.marking.proofs.Lists.{index-live, address-live}
 use Rattle.marking.proofs.Tests.{and-out, or-out}
-use Rattle.laws.specs.FixedAddresses.{IsFixed}
+use Rattle.laws.specs.FixedAddresses.{NoTombstone}
 
 -- ---- the codes of a row
 
@@ -93,6 +93,10 @@ code-index c (there (here q)) = ap operationRow q
 
 -- ---- an operation
 
+-- DW_OP_addr, which alone has its row, with an address that is no tombstone
+abbrev pub IsFixed : Encoding → Operation → Type 0
+IsFixed e op = (op .row ≡ row-address) × NoTombstone e op
+
 -- what is said where fixed addresses do not count, and where they do
 pub data Said (off on : AddressLookup) (F : Type 0) : Type 0 where
   same : on ≡ off → Said off on F
@@ -129,7 +133,7 @@ module _ (e : Encoding) (table : List ℕ) where
   said op true a t p q r = same (rw p)
   said op false false t p q r = same (rw (p, q))
   said op false true true p q r = same (rw (p, q, r))
-  said op false true false p q r = more (rw p) (rw (p, q, r)) (record { row-is = eqb-true _ _ q; live = r })
+  said op false true false p q r = more (rw p) (rw (p, q, r)) (eqb-true _ _ q, r)
 
   -- on it says the same, or live of a fixed address
   pub operation-said : (op : Operation) → Said (operationLive e false table op) (operationLive e true table op) (IsFixed e op)
@@ -137,13 +141,14 @@ module _ (e : Encoding) (table : List ℕ) where
       said op (eqb (op .row) row-address-index) (eqb (op .row) row-address) (isTombstone (op .first .value) (e .«address_size»)) refl refl refl
 
   pub fixed-live : (op : Operation) → IsFixed e op → operationLive e true table op ≡ Live
-  fixed-live op f = sym (address-live e true table op (λ z. omega (arith, f .row-is)) refl (f .row-is) false (sym (f .live)) refl)
+  fixed-live op f = sym (address-live e true table op (λ z. omega (arith, f .0)) refl (f .0) false (sym (f .1)) refl)
 
   -- "as a live addrx does": wherever it stands, what follows is what follows a live index that ends at the same place
-  pub as-live-index : (op index : Operation) → IsFixed e op → index .row ≡ row-address-index → lookupAt table (index .first .value) ≡ Live
-      → op .next ≡ index .next → (live : Bool) → operationStep e true table live (Operation′ op) ≡ operationStep e true table live (Operation′ index)
+  pub as-live-index : (op index : Operation) → op .row ≡ row-address → NoTombstone e op → index .row ≡ row-address-index
+      → lookupAt table (index .first .value) ≡ Live → op .next ≡ index .next → (live : Bool)
+      → operationStep e true table live (Operation′ op) ≡ operationStep e true table live (Operation′ index)
   unfolding operationStep onLookup
-  as-live-index op index f r l n live =
+  as-live-index op index a f r l n live =
       let t : operationLive e true table index ≡ Live = sym (index-live e true table index r Live (sym l)) in
       ap₂ (λ (a : AddressLookup) (m : Cursor). onLookup a stop (go (record { at = m .at; flag = true })) (go (record { at = m .at; flag = live })))
-      (fixed-live op f ∙ sym t) n
+      (fixed-live op (a, f) ∙ sym t) n

@@ -6,7 +6,6 @@ use mathlib.Core.Bool.{Bool, true, false, not}
 use mathlib.Core.List.{List, [], _∷_}
 use mathlib.Core.Logic.{inl, inr}
 use lib.ListN.{take}
-use Rattle.readers.specs.Codes.{«DW_TAG_variable»}
 use Rattle.readers.specs.Stream.{Item, entry, terminator}
 use Rattle.readers.specs.declared.cursor.Encoding.{Encoding}
 use Rattle.readers.specs.declared.entries.Entry.{Entry}
@@ -14,11 +13,11 @@ use Rattle.marking.specs.declared.root_test.Verdict.{Verdict}
 use Rattle.marking.specs.declared.root_test.Verdict.the-variants.{Live, Dead}
 use Rattle.marking.specs.Members.{Nth, now, later}
 use Rattle.marking.specs.Survivors.{Survivor}
-use Rattle.marking.specs.Analysis.{Sections, Rooms, EntryRow, analysed, tagOf, valuesOfEntry, analysisOf}
+use Rattle.marking.specs.Analysis.{Sections, Rooms, EntryRow, analysed, analysisOf}
 use Rattle.marking.specs.EntryRows.{Tested, RowOf, RowsOf, unitItems}
 use Rattle.marking.specs.Resolution.{graphOf}
 use Rattle.laws.specs.AddressTables.{withFixed, NoneLost}
-use Rattle.laws.specs.FixedAddresses.{FixedLocation, EntryAt, next, behind-entry, behind-terminator}
+use Rattle.laws.specs.FixedAddresses.{FixedVariable, EntryAt, next, behind-entry, behind-terminator}
 use Rattle.laws.specs.UnitSurvivors.{FirstUnit}
 use Rattle.laws.proofs.survivors.UnitLaws.{unit-survivors}
 use Rattle.laws.proofs.tables.BySeveralTables.{Verdicts}
@@ -60,14 +59,12 @@ module _ (e : Encoding) (x : Sections) (unit : List ℕ) where
 -- THE variables at a fixed address: where they count, each is a survivor of its unit
 pub fixed-kept-law : (x : Sections) (section : List ℕ) (room : Rooms) (rows : List EntryRow) → analysisOf (withFixed x true) section room ≡ analysed rows
     → (u : FirstUnit (withFixed x true) section rows) (k : ℕ) (y : Entry) → EntryAt y k (unitItems x section (u .header) (u .declared) .0)
-    → tagOf y ≡ «DW_TAG_variable»
-    → FixedLocation (u .header .encoding) (take (u .header .end) section) (valuesOfEntry (u .header .encoding) x (take (u .header .end) section) y)
-    → Survivor (graphOf rows) k
-fixed-kept-law x section room rows q u k y at v f =
+    → FixedVariable (u .header .encoding) x (take (u .header .end) section) y → Survivor (graphOf rows) k
+fixed-kept-law x section room rows q u k y at f =
     let e : Encoding = u .header .encoding in
     let unit : List ℕ = take (u .header .end) section in
     let w : RowAt e (withFixed x true) unit y k rows = row-at e (withFixed x true) unit y k _ _ _ _ _ rows at (u .each) in
-    let r : w .row .root ≡ 1 = not-dead-root _ _ (w .of .root-is) (fixed-roots-law e x unit _ y v .also f) in
+    let r : w .row .root ≡ 1 = not-dead-root _ _ (w .of .root-is) (fixed-roots-law e x unit _ y .also f) in
     unit-survivors (withFixed x true) section room rows q .least .closed .has-roots k (record { row = w .row; at = w .at; is = r })
 
 -- ---- all that survives without

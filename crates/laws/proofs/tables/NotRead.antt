@@ -183,35 +183,36 @@ module _ (e : Encoding) (fixed : Bool) (table s more : List ℕ) (n : ℕ) (o : 
 
 -- ---- attributes and entries
 
+pick-stays : {X : Type 0} (c : X) (b : Bool) (x y x′ y′ : X) → (x ≡ c → x′ ≡ c) → (y ≡ c → y′ ≡ c) → pick b x y ≡ c → pick b x′ y′ ≡ c
+unfolding pick
+pick-stays c true x y x′ y′ f g q = f q
+pick-stays c false x y x′ y′ f g q = g q
+
+else-stays : (c v w w′ : Verdict) → (w ≡ c → w′ ≡ c) → orElse v w ≡ c → orElse v w′ ≡ c
+unfolding orElse
+else-stays c Live w w′ f q = q
+else-stays c Dead w w′ f q = f q
+else-stays c (Refused m) w w′ f q = q
+
+-- a verdict that is not dead ends the test
+module _ (c : Verdict) (ends : Dead ≡ c → ⊥) (e : Encoding) (table : List ℕ) (more : List Valued) where
+  -- of the low_pc, whatever attributes stand behind it
+  pub behind-low-pcs : (vs : List Valued) → lowPcs e table vs ≡ c → lowPcs e table (vs ++ more) ≡ c
+  unfolding lowPcs
+  behind-low-pcs [] q = absurd (ends q)
+  behind-low-pcs (a ∷ vs) q =
+      pick-stays c (eqb (a .name) «DW_AT_low_pc») _ _ _ _ (else-stays c (lowPc e table (a .value)) _ _ (behind-low-pcs vs)) (behind-low-pcs vs) q
+
+  -- of the location
+  pub behind-locations : (fixed : Bool) (unit : List ℕ) (vs : List Valued) → locations e fixed table unit vs ≡ c
+      → locations e fixed table unit (vs ++ more) ≡ c
+  unfolding locations
+  behind-locations fixed unit [] q = absurd (ends q)
+  behind-locations fixed unit (a ∷ vs) q =
+      pick-stays c (eqb (a .name) «DW_AT_location» and eqb (a .value .form) «DW_FORM_exprloc») _ _ _ _
+      (else-stays c (locationLive e fixed table (partOf unit (a .value .field))) _ _ (behind-locations fixed unit vs)) (behind-locations fixed unit vs) q
+
 module _ (n : ℕ) where
-  pick-stays : {X : Type 0} (refuse : ℕ → X) (b : Bool) (x y x′ y′ : X) → (x ≡ refuse n → x′ ≡ refuse n) → (y ≡ refuse n → y′ ≡ refuse n)
-      → pick b x y ≡ refuse n → pick b x′ y′ ≡ refuse n
-  unfolding pick
-  pick-stays refuse true x y x′ y′ f g q = f q
-  pick-stays refuse false x y x′ y′ f g q = g q
-
-  else-stays : (v w w′ : Verdict) → (w ≡ Refused n → w′ ≡ Refused n) → orElse v w ≡ Refused n → orElse v w′ ≡ Refused n
-  unfolding orElse
-  else-stays Live w w′ f q = q
-  else-stays Dead w w′ f q = f q
-  else-stays (Refused m) w w′ f q = q
-
-  module _ (e : Encoding) (fixed : Bool) (table : List ℕ) (more : List Valued) where
-    -- a low_pc that is refused, whatever attributes stand behind it
-    pub behind-low-pcs : (vs : List Valued) → lowPcs e table vs ≡ Refused n → lowPcs e table (vs ++ more) ≡ Refused n
-    unfolding lowPcs
-    behind-low-pcs [] q = absurd (dead-no-refusal n q)
-    behind-low-pcs (a ∷ vs) q =
-        pick-stays Refused (eqb (a .name) «DW_AT_low_pc») _ _ _ _ (else-stays (lowPc e table (a .value)) _ _ (behind-low-pcs vs)) (behind-low-pcs vs) q
-
-    -- a location
-    pub behind-locations : (unit : List ℕ) (vs : List Valued) → locations e fixed table unit vs ≡ Refused n → locations e fixed table unit (vs ++ more) ≡ Refused n
-    unfolding locations
-    behind-locations unit [] q = absurd (dead-no-refusal n q)
-    behind-locations unit (a ∷ vs) q =
-        pick-stays Refused (eqb (a .name) «DW_AT_location» and eqb (a .value .form) «DW_FORM_exprloc») _ _ _ _
-        (else-stays (locationLive e fixed table (partOf unit (a .value .field))) _ _ (behind-locations unit vs)) (behind-locations unit vs) q
-
   verdict-stays : (v : Verdict) (k k′ : ℕ → Analysed) → ((r : ℕ) → k r ≡ notAnalysed n → k′ r ≡ notAnalysed n)
       → onVerdict v k ≡ notAnalysed n → onVerdict v k′ ≡ notAnalysed n
   unfolding onVerdict
@@ -238,6 +239,6 @@ module _ (n : ℕ) where
   behind-entries o e x unit room p [] more false whole′ q = let four : n ≡ 4 = cc in absurd (not-one-of tableNumbers n 4 four tt o)
   behind-entries o e x unit room p (terminator a b ∷ is) more whole whole′ q = behind-entries o e x unit room _ is more whole whole′ q
   behind-entries o e x unit room p (entry y ∷ is) more whole whole′ q =
-      pick-stays notAnalysed (ltb (p .count) (room .entries)) _ _ _ _
-      (verdict-stays _ _ _ (λ root. found-stays _ _ _ (λ names. pick-stays notAnalysed (leb (p .references + length names) (room .references)) _ _ _ _
+      pick-stays (notAnalysed n) (ltb (p .count) (room .entries)) _ _ _ _
+      (verdict-stays _ _ _ (λ root. found-stays _ _ _ (λ names. pick-stays (notAnalysed n) (leb (p .references + length names) (room .references)) _ _ _ _
       (onto-stays _ _ _ (behind-entries o e x unit room _ is more whole whole′)) (λ r. r)))) (λ r. r) q
