@@ -13,13 +13,20 @@
  *   debug_ranges   .debug_ranges, relocated: the pairs of addresses that a version 4 unit's ranges attributes name in
  *                  sec_offset. Read for such a unit alone, which reads nothing in ranges; empty (length 0, but a
  *                  pointer that is not null) where there is none, and for a version 5 unit
+ *   tags, treatments    a keep list: tags in ascending order, two big-endian bytes each, and for each a byte, its
+ *                  treatment: 1, every entry with that tag is a root; 2, none is. Entries with other tags are judged as
+ *                  without the list (length 0 both). Each entry goes through its root test all the same, so what is
+ *                  malformed is refused; and an entry that is no root is still kept where it is the unit's first, where
+ *                  a kept one names it, as the parent of a kept one, or below a root or a named one. A byte short of a
+ *                  whole tag counts for nothing
  *   ranges_base    added to a ranges attribute in sec_offset: the skeleton's DW_AT_GNU_ranges_base for version 4
  *   type_units     0 no, any other number yes: the index lists are then absent
  *   big_endian     0: the unit's fixed-width fields, those of its lists and expressions too, are little-endian; any
  *                  other number: big-endian. Never guessed: a unit told wrongly is refused with 1 or 2
  *   fixed_addresses    0: no, as in gc.rs; any other number: a variable is also a root if its exprloc location has a
  *                  DW_OP_addr whose address isn't a tombstone (0, or all ones, of the unit's address size); nested
- *                  entry values are not searched. Such a DW_OP_addr ends the root test as a live DW_OP_addrx does
+ *                  entry values are not searched. Such a DW_OP_addr ends the root test as a live DW_OP_addrx does.
+ *                  Treatment 2 of variables goes before it
  *
  * Written, whatever it held before; zeros wherever the answer is not, all zeros after a refusal
  *   map            24 bytes a place: old offset, new offset, depth, eight big-endian bytes each, ascending
@@ -32,11 +39,11 @@
  * each index of its kind. A call writes every byte of what it is lent here, and of the host's tables: time goes by the
  * lengths that are lent too.
  *
- * The answer is a refusal's number, 1 to 14 or 17, or one of the numbers below. Of an accepted answer `counts` holds
- * seven numbers of eight big-endian bytes: entries, kept entries, map places, bytes of the new unit (these two 0 where
- * untouched), numbers of the ranges, locations and strings list; then for each list a byte, 1 present, 0 absent (an
- * absent list counts 0); then zeros. Where `counts` is shorter than COLLECTOR_COUNTS the answer tells so, and `counts`
- * is zeros; all else is as it would be.
+ * The answer is a refusal's number, 1 to 14, 17, 19 or 20, or one of the numbers below. Of an accepted answer `counts`
+ * holds seven numbers of eight big-endian bytes: entries, kept entries, map places, bytes of the new unit (these two 0
+ * where untouched), numbers of the ranges, locations and strings list; then for each list a byte, 1 present, 0 absent
+ * (an absent list counts 0); then zeros. Where `counts` is shorter than COLLECTOR_COUNTS the answer tells so, and
+ * `counts` is zeros; all else is as it would be.
  *
  * Stack: collector_collect takes 284 KiB, most of it its tables; collector_collect_lent some KiB; and both 208 bytes
  * more for each level of DW_OP_entry_value operations that stand one in the other. A level takes at least two bytes of
@@ -49,7 +56,9 @@
  * table has a byte above 1 at an index that is asked, 7 a section-absolute reference, 8 a reference whose target is not
  * kept, 9 a value that does not fit its width, 10 more entries than the tables hold, 11 more references, 12 an index
  * list too short, 13 the map too short, 14 the output too short, 17 the address table, which is not empty, ends before
- * an index that is asked (at 6's place: the first of the two that is met).
+ * an index that is asked (at 6's place: the first of the two that is met), 19 a treatment is neither 1 nor 2, or there
+ * is not one for each tag, 20 a tag is not above the one before it. 19 and 20 come before all others, also where the
+ * section is empty, and 19 before 20, whatever stands first in the list.
  */
 #ifndef COLLECTOR_H
 #define COLLECTOR_H
@@ -76,6 +85,8 @@ uint64_t collector_collect(
     const uint8_t *ranges, size_t ranges_length,
     const uint8_t *addresses, size_t addresses_length,
     const uint8_t *debug_ranges, size_t debug_ranges_length,
+    const uint8_t *tags, size_t tags_length,
+    const uint8_t *treatments, size_t treatments_length,
     uint64_t ranges_base, uint64_t type_units, uint64_t big_endian, uint64_t fixed_addresses,
     uint8_t *map, size_t map_length,
     uint8_t *range_list, size_t range_list_length,
@@ -95,6 +106,8 @@ uint64_t collector_collect_lent(
     const uint8_t *ranges, size_t ranges_length,
     const uint8_t *addresses, size_t addresses_length,
     const uint8_t *debug_ranges, size_t debug_ranges_length,
+    const uint8_t *tags, size_t tags_length,
+    const uint8_t *treatments, size_t treatments_length,
     uint64_t ranges_base, uint64_t type_units, uint64_t big_endian, uint64_t fixed_addresses,
     uint64_t *index, size_t index_length,
     uint64_t *offsets, size_t offsets_length,

@@ -48,6 +48,16 @@ const FIXED_ADDRESSES: &[(&str, &str, usize)] = &[(
     1,
 )];
 
+/// 7. Not of gc.rs: a keep list, where one is given. The root test is asked first. Without a list it changes nothing.
+const KEEP_LIST: &[(&str, &str, usize)] = &[
+    ("        if is_root(\n            tag,\n", "        if probe::treated(tag, is_root(\n            tag,\n", 1),
+    (
+        "        )? {\n            liveness = Liveness::Live;\n",
+        "        )?) {\n            liveness = Liveness::Live;\n",
+        1,
+    ),
+];
+
 fn patch(text: String, patches: &[(&str, &str, usize)]) -> String {
     patches.iter().fold(text, |text, (old, new, times)| {
         let found = text.matches(old).count();
@@ -80,10 +90,10 @@ fn main() {
     let Ok(text) = fs::read_to_string(&source) else {
         stop("no source of the original: the variable GC_RS names it, and oracle/build sets it");
     };
-    // Without the hook, and without fixed addresses: what is measured.
+    // Without the hook, fixed addresses and keep lists: what is measured.
     let plain = patch(text, PATCHES);
-    let mut text = patch(patch(plain.clone(), HOOKS), FIXED_ADDRESSES);
-    // 7. The module that sees gc.rs's private names.
+    let mut text = patch(patch(patch(plain.clone(), HOOKS), FIXED_ADDRESSES), KEEP_LIST);
+    // 8. The module that sees gc.rs's private names.
     text.push_str(&format!("\n#[path = {:?}]\npub(crate) mod probe;\n", format!("{here}/src/probe.rs")));
 
     if env::var_os("CARGO_FEATURE_PORT").is_some() {

@@ -5,7 +5,8 @@
 #include <string.h>
 
 #define SECTIONS const uint8_t *s, size_t sn, const uint8_t *a, size_t an, const uint8_t *l, size_t ln, const uint8_t *r, size_t rn, \
-    const uint8_t *t, size_t tn, const uint8_t *g, size_t gn, uint64_t base, uint64_t units, uint64_t big, uint64_t fixed
+    const uint8_t *t, size_t tn, const uint8_t *g, size_t gn, const uint8_t *kt, size_t ktn, const uint8_t *kk, size_t kkn, \
+    uint64_t base, uint64_t units, uint64_t big, uint64_t fixed
 #define TABLES uint64_t *index, size_t in, uint64_t *offsets, size_t on, uint64_t *parents, size_t pn, uint8_t *roots, size_t ron, uint64_t *ends, size_t en, uint8_t *marks, size_t mn, \
     uint64_t *targets, size_t tgn, uint64_t *pairs, size_t prn, uint32_t *work, size_t wn
 #define RESULTS uint8_t *map, size_t mapn, uint8_t *rl, size_t rln, uint8_t *ll, size_t lln, uint8_t *sl, size_t sln, uint8_t *out, size_t outn, uint8_t *counts, size_t cn
@@ -70,6 +71,90 @@ static void turn(uint8_t *at, size_t width)
 static uint8_t *high(uint8_t *at, uint64_t big)
 {
     return big ? at : at + 4;
+}
+
+/* A LEB128 number, and the place behind it. */
+static size_t leb(const uint8_t *a, size_t n, size_t *at)
+{
+    size_t held = 0;
+    for (int shift = 0; *at < n; shift += 7) {
+        uint8_t byte = a[(*at)++];
+        if (shift < 64)
+            held |= (size_t)(byte & 127) << shift;
+        if (byte < 128)
+            break;
+    }
+    return held;
+}
+
+/* Where the unit's abbreviations start. */
+static size_t declarations(const uint8_t *s, size_t sn, uint64_t big)
+{
+    size_t at = version(s, sn) + (older(s, sn, big) ? 2 : 4), width = word(s, sn), held = 0;
+    for (size_t i = 0; at + width <= sn && i < width; i++)
+        held |= (size_t)s[at + i] << 8 * (big ? width - 1 - i : i);
+    return held;
+}
+
+/* The tag of the next declaration and where it stands, or 0 behind the last. */
+static size_t declared(const uint8_t *a, size_t n, size_t *at, size_t *code, size_t *place)
+{
+    *code = leb(a, n, at);
+    if (*code == 0)
+        return 0;
+    *place = *at;
+    size_t tag = leb(a, n, at), name, form;
+    leb(a, n, at);
+    do {
+        name = leb(a, n, at);
+        form = leb(a, n, at);
+        if (form == 0x21)
+            leb(a, n, at);
+    } while ((name != 0 || form != 0) && *at < n);
+    return tag;
+}
+
+/* The tag that a code declares, or 0. */
+static size_t tag_of(size_t code, const uint8_t *a, size_t an, size_t at)
+{
+    size_t found, place, tag;
+    while ((tag = declared(a, an, &at, &found, &place)) != 0)
+        if (found == code)
+            return tag;
+    return 0;
+}
+
+/* The treatment of a tag, or 0. */
+static int treatment(size_t tag, const uint8_t *kt, size_t ktn, const uint8_t *kk, size_t kkn)
+{
+    for (size_t i = 0; i < kkn && i < ktn / 2; i++)
+        if (number(kt + 2 * i, 2) == tag)
+            return kk[i];
+    return 0;
+}
+
+/* Whether a tag of a keep list is not above the one before it. */
+static int descends(const uint8_t *kt, size_t ktn)
+{
+    for (size_t i = 1; i < ktn / 2; i++)
+        if (number(kt + 2 * i, 2) <= number(kt + 2 * i - 2, 2))
+            return 1;
+    return 0;
+}
+
+/* Whether there is, behind the first, a kept entry that its tag makes no root: with kept entries below it, or with none,
+ * at depth 1 (where it is named) or deeper (where it may be below a root). */
+static int kept(int parent, int deep, const uint8_t *s, size_t sn, const uint8_t *a, size_t an, const uint8_t *kt, size_t ktn, const uint8_t *kk, size_t kkn,
+                uint64_t big, const uint8_t *map, size_t places)
+{
+    for (size_t i = 1; i < places; i++) {
+        size_t at = number(map + 24 * i, 8), depth = number(map + 24 * i + 16, 8), code = leb(s, sn, &at);
+        size_t below = i + 1 < places ? number(map + 24 * i + 24, 8) : sn;
+        int has = below < sn && number(map + 24 * i + 40, 8) > depth && leb(s, sn, &below) != 0;
+        if (code != 0 && has == parent && (parent || deep == (depth > 1)) && treatment(tag_of(code, a, an, declarations(s, sn, big)), kt, ktn, kk, kkn) == 2)
+            return 1;
+    }
+    return 0;
 }
 
 static uint64_t spoilt(uint64_t answer, SECTIONS, RESULTS)
@@ -161,6 +246,23 @@ static uint64_t spoilt(uint64_t answer, SECTIONS, RESULTS)
     case 41: /* a map's numbers are cut to four bytes and the rest is what was lent; here the high byte of an old offset */
         if (answer == 257)
             map[0] = 1;
+        break;
+    case 81: /* 20 before 19 */
+        return answer == 19 && descends(kt, ktn) ? 20 : answer;
+    case 102: /* the first of the two that is met, pair by pair */
+        for (size_t i = 1; answer == 19 && kkn == ktn / 2 && i < kkn && (kk[i - 1] == 1 || kk[i - 1] == 2); i++)
+            if (number(kt + 2 * i, 2) <= number(kt + 2 * i - 2, 2))
+                return 20;
+        break;
+    case 98: /* an entry that is never a root is dropped though it is named, here from the count alone */
+    case 99: /* though it is below a root */
+    case 100: /* though it is a parent */
+        if (answer == 257 && kept(f == 100, f == 99, s, sn, a, an, kt, ktn, kk, kkn, big, map, count(counts, 2)))
+            counts[15]--;
+        break;
+    case 101: /* a byte of the keep list */
+        if (ktn > 0)
+            ((uint8_t *)kt)[ktn - 1] ^= 1;
         break;
     case 49: /* version 4 is not read */
         return older(s, sn, big) ? 2 : answer;
@@ -424,6 +526,155 @@ static const uint8_t *searched(const uint8_t *a, size_t n, uint64_t fixed)
     return held == NULL ? a : held;
 }
 
+/* The abbreviations where the root test is not made of what a keep list treats, by 2 or by 1: subprograms and variables
+ * get a tag that is not tested, which the list has with the same treatment. */
+static const uint8_t *untested(const uint8_t *a, size_t n, const uint8_t *s, size_t sn, uint64_t big, const uint8_t *kt, size_t ktn, const uint8_t *kk, size_t kkn,
+                               size_t *spare)
+{
+    int f = fault(), of = f == 77 ? 2 : 1;
+    size_t start = declarations(s, sn, big), at = start, code, place, tag;
+    uint8_t *held = f == 77 || f == 78 ? copy(5, a, n) : NULL;
+    *spare = 0;
+    if (held == NULL)
+        return a;
+    uint8_t taken[128] = {1};
+    while ((tag = declared(a, n, &at, &code, &place)) != 0)
+        if (tag < 128)
+            taken[tag] = 1;
+    for (*spare = 1; *spare < 127 && (taken[*spare] || treatment(*spare, kt, ktn, kk, kkn) != 0);)
+        ++*spare;
+    at = start;
+    while ((tag = declared(a, n, &at, &code, &place)) != 0)
+        if ((tag == 0x2e || tag == 0x34) && held[place] == tag && treatment(tag, kt, ktn, kk, kkn) == of)
+            held[place] = *spare;
+    return held;
+}
+
+struct pair {
+    uint16_t tag;
+    uint8_t treatment;
+};
+
+static int by_tag(const void *x, const void *y)
+{
+    return ((const struct pair *)x)->tag - ((const struct pair *)y)->tag;
+}
+
+/* The keep list that the port is lent in place of this one. `spare` is a tag that `untested` put in, or 0. */
+static void listed(const uint8_t **kt, size_t *ktn, const uint8_t **kk, size_t *kkn, const uint8_t *a, size_t an, const uint8_t *s, size_t sn, uint64_t big, uint64_t fixed,
+                   size_t spare)
+{
+    static _Thread_local struct pair pairs[1 << 17];
+    static _Thread_local uint8_t tags[1 << 18], treatments[1 << 17];
+    int f = fault(), fine = 1, unread = f == 73; /* it is not looked at */
+    size_t n = *ktn / 2;
+    if (f < 73 || f == 81 || f == 82 || f > 97)
+        return;
+    unread |= f == 83 && sn == 0;       /* nor is it of an empty section */
+    unread |= f == 95 && n == 1 << 16;  /* the number of tags is cut to 16 bits */
+    unread |= f == 96 && fixed;         /* it is not looked at where fixed addresses count */
+    if (unread) {
+        *ktn = *kkn = 0;
+        return;
+    }
+    if (f == 86 && *kkn > n) /* too many treatments are taken */
+        *kkn = n;
+    if (f == 87 && *kkn < n) /* too few */
+        *ktn = 2 * *kkn, n = *kkn;
+    if (f == 89 && *ktn % 2 == 1) { /* half a tag counts */
+        memcpy(tags, *kt, *ktn);
+        tags[(*ktn)++] = 0;
+        *kt = tags;
+        return;
+    }
+    if (*kkn != n)
+        return;
+    for (size_t i = 0; i < n; i++) {
+        pairs[i].tag = number(*kt + 2 * i, 2);
+        pairs[i].treatment = (*kk)[i];
+        fine &= pairs[i].treatment == 1 || pairs[i].treatment == 2;
+    }
+    int sorted = !descends(*kt, *ktn);
+    size_t to = 0, given = n;
+    for (size_t i = 0; i < n; i++) {
+        struct pair p = pairs[i];
+        int out = 0;
+        switch (f) {
+        case 74: /* 2 is not looked at */
+            out = p.treatment == 2;
+            break;
+        case 75: /* 1 is not */
+            out = p.treatment == 1;
+            break;
+        case 97: /* a variable's 2 is not */
+            out = p.treatment == 2 && p.tag == 0x34;
+            break;
+        case 76: /* 1 and 2 are swapped */
+            if (fine)
+                p.treatment = 3 - p.treatment;
+            break;
+        case 84: /* a treatment above 2 is 1 */
+            p.treatment = p.treatment > 2 ? 1 : p.treatment;
+            break;
+        case 85: /* 0 is no treatment */
+            out = p.treatment == 0;
+            break;
+        case 88: /* tags are little-endian */
+            p.tag = p.tag >> 8 | p.tag << 8;
+            break;
+        case 90: /* the first is not found */
+            out = fine && sorted && i == 0;
+            break;
+        case 91: /* the last is not */
+            out = fine && sorted && i + 1 == given;
+            break;
+        case 80: /* a tag twice is taken */
+            out = i > 0 && p.tag == pairs[to - 1].tag;
+            break;
+        case 94: /* its low byte counts */
+            if (fine && sorted)
+                p.tag &= 255;
+            break;
+        }
+        if (!out)
+            pairs[to++] = p;
+    }
+    n = to;
+    if ((f == 92 || f == 93) && fine && sorted) { /* what is not listed has the treatment of the tag below it; of the one above */
+        size_t at = declarations(s, sn, big), code, place, tag, more = n;
+        while ((tag = declared(a, an, &at, &code, &place)) != 0 && more < n + 256) {
+            int found = 0, by = 0;
+            for (size_t i = 0; i < n; i++) {
+                found |= pairs[i].tag == tag;
+                if (f == 92 ? pairs[i].tag < tag : pairs[i].tag > tag && by == 0)
+                    by = pairs[i].treatment;
+            }
+            if (!found && by != 0 && tag < 65536)
+                pairs[more++] = (struct pair){tag, by};
+        }
+        n = more;
+    }
+    if (spare != 0 && fine && sorted)
+        pairs[n++] = (struct pair){spare, f == 77 ? 2 : 1};
+    if (fine && (f == 79 || (sorted && f != 88))) { /* 79: the order is not looked at */
+        qsort(pairs, n, sizeof *pairs, by_tag);
+        to = 0;
+        for (size_t i = 0; i < n; i++)
+            if (i == 0 || pairs[i].tag != pairs[to - 1].tag)
+                pairs[to++] = pairs[i];
+        n = to;
+    }
+    for (size_t i = 0; i < n; i++) {
+        tags[2 * i] = pairs[i].tag >> 8;
+        tags[2 * i + 1] = pairs[i].tag;
+        treatments[i] = pairs[i].treatment;
+    }
+    *kt = tags;
+    *ktn = 2 * n;
+    *kk = treatments;
+    *kkn = n;
+}
+
 #define SWAP(type, x, y) do { type held_ = x; x = y; y = held_; } while (0)
 
 #define TOLD \
@@ -444,6 +695,10 @@ static const uint8_t *searched(const uint8_t *a, size_t n, uint64_t fixed)
     const uint8_t *given = s; \
     s = addresses(s, sn, t, tn, big, fixed); \
     a = searched(a, an, fixed); \
+    const uint8_t *tags = kt, *treatments = kk, *tested = a; \
+    size_t tagn = ktn, treatmentn = kkn, spare; \
+    a = untested(a, an, s, sn, big, kt, ktn, kk, kkn, &spare); \
+    listed(&kt, &ktn, &kk, &kkn, tested, an, s, sn, big, fixed, spare); \
     s = unit(s, sn, big); \
     fixed = chosen(fixed); \
     big = told(big)
@@ -468,15 +723,17 @@ uint64_t collector_collect(SECTIONS, RESULTS)
     uint8_t *lent = map;
     size_t lentn = mapn;
     map = longer(map, &mapn);
-    uint64_t answer = port_collect(s, sn, a, an, l, ln, r, rn, t, tn, g, gn, base, units, big, fixed, map, mapn, rl, rln, ll, lln, sl, sln, out, outn, counts, cn);
+    if (fault() == 82 && port_collect(s, sn, a, an, l, ln, r, rn, t, tn, g, gn, kt, 0, kk, 0, base, units, big, fixed, map, mapn, rl, rln, ll, lln, sl, sln, out, outn, counts, cn) == 1)
+        return 1; /* the list is looked at after the header's 1 */
+    uint64_t answer = port_collect(s, sn, a, an, l, ln, r, rn, t, tn, g, gn, kt, ktn, kk, kkn, base, units, big, fixed, map, mapn, rl, rln, ll, lln, sl, sln, out, outn, counts, cn);
     if (guessed(answer))
-        answer = port_collect(s, sn, a, an, l, ln, r, rn, t, tn, g, gn, base, units, !big, fixed, map, mapn, rl, rln, ll, lln, sl, sln, out, outn, counts, cn);
+        answer = port_collect(s, sn, a, an, l, ln, r, rn, t, tn, g, gn, kt, ktn, kk, kkn, base, units, !big, fixed, map, mapn, rl, rln, ll, lln, sl, sln, out, outn, counts, cn);
     restored(answer, given, s, sn, map, mapn, out, outn);
     if (map != lent)
         memcpy(lent, map, lentn);
     map = lent;
     mapn = lentn;
-    return spoilt(answer, s, sn, a, an, l, ln, r, rn, t, tn, g, gn, base, units, big, fixed, map, mapn, rl, rln, ll, lln, sl, sln, out, outn, counts, cn);
+    return spoilt(answer, s, sn, a, an, l, ln, r, rn, t, tn, g, gn, tags, tagn, treatments, treatmentn, base, units, big, fixed, map, mapn, rl, rln, ll, lln, sl, sln, out, outn, counts, cn);
 }
 
 uint64_t collector_collect_lent(SECTIONS, TABLES, RESULTS)
@@ -486,10 +743,13 @@ uint64_t collector_collect_lent(SECTIONS, TABLES, RESULTS)
     int one_entry = fault() == 21 && en > 0;      /* a place of the entry table */
     tgn -= one_reference;
     en -= one_entry;
-    uint64_t answer = port_collect_lent(s, sn, a, an, l, ln, r, rn, t, tn, g, gn, base, units, big, fixed, index, in, offsets, on, parents, pn, roots, ron, ends, en, marks, mn, targets, tgn, pairs, prn, work, wn,
+    if (fault() == 82 && port_collect_lent(s, sn, a, an, l, ln, r, rn, t, tn, g, gn, kt, 0, kk, 0, base, units, big, fixed, index, in, offsets, on, parents, pn, roots, ron, ends, en, marks, mn, targets, tgn,
+                                           pairs, prn, work, wn, map, mapn, rl, rln, ll, lln, sl, sln, out, outn, counts, cn) == 1)
+        return 1;
+    uint64_t answer = port_collect_lent(s, sn, a, an, l, ln, r, rn, t, tn, g, gn, kt, ktn, kk, kkn, base, units, big, fixed, index, in, offsets, on, parents, pn, roots, ron, ends, en, marks, mn, targets, tgn, pairs, prn, work, wn,
                                         map, mapn, rl, rln, ll, lln, sl, sln, out, outn, counts, cn);
     if (guessed(answer))
-        answer = port_collect_lent(s, sn, a, an, l, ln, r, rn, t, tn, g, gn, base, units, !big, fixed, index, in, offsets, on, parents, pn, roots, ron, ends, en, marks, mn, targets, tgn, pairs, prn, work, wn,
+        answer = port_collect_lent(s, sn, a, an, l, ln, r, rn, t, tn, g, gn, kt, ktn, kk, kkn, base, units, !big, fixed, index, in, offsets, on, parents, pn, roots, ron, ends, en, marks, mn, targets, tgn, pairs, prn, work, wn,
                                    map, mapn, rl, rln, ll, lln, sl, sln, out, outn, counts, cn);
     restored(answer, given, s, sn, map, mapn, out, outn);
     if (one_reference)
@@ -498,5 +758,5 @@ uint64_t collector_collect_lent(SECTIONS, TABLES, RESULTS)
         ends[en] = 0;
     if (fault() == 22 && mn > 0) /* a table is not zeros */
         marks[mn - 1] = 2;
-    return spoilt(answer, s, sn, a, an, l, ln, r, rn, t, tn, g, gn, base, units, big, fixed, map, mapn, rl, rln, ll, lln, sl, sln, out, outn, counts, cn);
+    return spoilt(answer, s, sn, a, an, l, ln, r, rn, t, tn, g, gn, tags, tagn, treatments, treatmentn, base, units, big, fixed, map, mapn, rl, rln, ll, lln, sl, sln, out, outn, counts, cn);
 }

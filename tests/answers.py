@@ -7,7 +7,7 @@ oracle/keep makes the cases. Each stands once: in crates/test_collect/data, of i
 tells the marks too, in dangling.bundles where it is a refusal by 8; and in oracle/kept where the port is not held to
 it: cases with a listed difference, and headers that are refused (the original's errors don't tell 1 from 2). Names of
 big-endian cases end with -big, before which those of the 64-bit format have -64, before that those of version 4 -4, and
-before all of these those with the choice of fixed addresses on -fixed."""
+before all of these those with the choice of fixed addresses on -fixed, and those with a keep list -kept."""
 import os
 import sys
 
@@ -15,10 +15,12 @@ from units import CRATES, TESTS, Part, bundles, placed, read, with_parts, write
 
 KEPT = os.path.join(TESTS, '..', 'oracle', 'kept')
 DATA = os.path.join(CRATES, 'test_collect', 'data')
-BIG, WIDE, OLDER, FIXED = '-big', '-64', '-4', '-fixed'
+BIG, WIDE, OLDER, FIXED, LISTED = '-big', '-64', '-4', '-fixed', '-kept'
+# The keep list of each family that has one: tags and treatments.
+LISTS = {'valid': {0x24: 1, 0x2e: 2}, 'trees': {0x0b: 1, 0x13: 2, 0x24: 2, 0x2e: 2}, 'addresses': {0x05: 1, 0x34: 2}}
 # little-endian ones first, as `files` has them
 LAYOUTS = tuple(version + width + order for order in ('', BIG) for version in ('', OLDER) for width in ('', WIDE))
-SUFFIXES = LAYOUTS + tuple(FIXED + layout for layout in LAYOUTS)
+SUFFIXES = LAYOUTS + tuple(kind + layout for kind in (FIXED, LISTED) for layout in LAYOUTS)
 NAMES = ('small bytes valid lists expressions trees deep refused damaged listed headers declarations numbers operations kinds '
          'siblings sums no-table failures addresses tables').split()
 # What version 4 has of its own in every byte order and format.
@@ -27,9 +29,11 @@ OLDER_NAMES = ('lists', 'kinds', 'headers')
 
 def is_kept(name, suffix):
     """The tables are those of compilers' units of version 5 in the 32-bit format. With the choice of fixed addresses on,
-    one family in every byte order, format and version, and compilers' units."""
+    one family in every byte order, format and version, and compilers' units; with a keep list, the families that have one."""
     if suffix.startswith(FIXED):
         return name == 'addresses' or name + suffix == 'tables' + FIXED
+    if suffix.startswith(LISTED):
+        return name in LISTS
     if name == 'tables':
         return suffix in ('', BIG)
     return name in OLDER_NAMES or not suffix.startswith(OLDER) or suffix == OLDER
@@ -95,7 +99,9 @@ def lines(family):
 
 def kept():
     """The cases of the crate with the original's lines, by file, in order."""
-    held = [name for suffix in SUFFIXES for name in [f for f in FAMILIES if split(f)[1] == suffix] + ['dangling' + suffix]]
+    # with a keep list there are none of 8
+    held = [name for suffix in SUFFIXES
+            for name in [f for f in FAMILIES if split(f)[1] == suffix] + ['dangling' + suffix] * (not suffix.startswith(LISTED))]
     out = {os.path.join(DATA, name + '.bundles'): [] for name in held}
     for family in FAMILIES:
         for line in lines(family):
@@ -114,24 +120,38 @@ def printed(cases, of):
     return ''.join(placed(name, [(data, of(line)) for data, line in held]) for name, held in cases.items())
 
 
-def files(cases, fixed):
+def files(cases, words):
     """The arguments that name the files: the big-endian ones come last, after the word that says so."""
     big = [name for name in cases if is_big(name)]
-    return ['--fixed-addresses'] * fixed + [name for name in cases if not is_big(name)] + ['--big-endian'] + big
+    return words + [name for name in cases if not is_big(name)] + ['--big-endian'] + big
+
+
+def two(cases, which, words):
+    """Marks and answers of cases, after these words."""
+    marked = {name: held for name, held in cases.items() if not name.startswith('dangling')}
+    return [Part('marks of kept cases' + which, 'marks', files(marked, words), printed(marked, marks)),
+            Part('answers for kept cases' + which, 'collect', files(cases, words), printed(cases, answer))]
 
 
 def parts(cases, fixed):
-    """The parts of the cases with the choice of fixed addresses off, or on."""
-    cases = {name: held for name, held in cases.items() if is_fixed(name) == fixed}
-    marked = {name: held for name, held in cases.items() if not name.startswith('dangling')}
-    which = ', fixed addresses' * fixed
-    return [Part('marks of kept cases' + which, 'marks', files(marked, fixed), printed(marked, marks)),
-            Part('answers for kept cases' + which, 'collect', files(cases, fixed), printed(cases, answer))]
+    """The parts of the cases with the choice of fixed addresses off, or on, and no keep list."""
+    held = {name: held for name, held in cases.items() if is_fixed(name) == fixed and LISTED not in name}
+    return two(held, ', fixed addresses' * fixed, ['--fixed-addresses'] * fixed)
+
+
+def parts_listed(cases):
+    """The parts of the cases with a keep list, a family each."""
+    out = []
+    for family, keep in LISTS.items():
+        held = {name: held for name, held in cases.items() if name.startswith(family + LISTED)}
+        word = '--keep-list=' + ','.join('0x%02x=%d' % pair for pair in keep.items())
+        out += two(held, ', %s with a keep list' % family, [word])
+    return out
 
 
 def main():
     cases = kept()
-    wrong = write(with_parts('test_collect', parts(cases, False) + parts(cases, True)), sys.argv[1:] == ['check'])
+    wrong = write(with_parts('test_collect', parts(cases, False) + parts(cases, True) + parts_listed(cases)), sys.argv[1:] == ['check'])
     print('answers: %s' % ', '.join('%s %d' % (name.split('.')[0], len(held)) for name, held in cases.items()))
     sys.exit(wrong > 0)
 

@@ -1,12 +1,13 @@
-/* call [collect] [--big-endian] [--fixed-addresses] FILE.. : runs each bundle of each file through the C call and
- * prints its answer as crates/test_collect does; an option holds for the files after it, up to the next `collect`.
+/* call [collect] [--big-endian] [--fixed-addresses] [--keep-list=TAG=TREATMENT,..] FILE.. : runs each bundle of each
+ * file through the C call and prints its answer as crates/test_collect does; an option holds for the files after it, up
+ * to the next `collect`, a keep list up to the next one.
  * call --cases FILE.. : runs cases that say what they lend through the call with lent tables, and prints what they leave
  * as crates/test_collect does.
  * call --nested N [big-endian] : a unit whose one expression has N entry values, one in the other, with a reference to
  * the terminator in the innermost, and a dead entry: what stack it takes is seen with `ulimit -s`.
  * call --rules : checks of the calls themselves: counts without room, flags, lengths that are no whole places, an
  * address table of length 0, the two ways in which one can fail, the byte order, both formats, version 4, fixed
- * addresses.
+ * addresses, keep lists.
  * call --above : units whose old offsets are above 4 GiB, then other sections that are read above 4 GiB; they take no
  * memory, but time under valgrind.
  * call --above FILE [big-endian] : one whose new offsets are too; its output, of so many bytes, is the file.
@@ -24,7 +25,8 @@
 
 #include "collector.h"
 
-enum { SECTIONS = 6, LENT = 6, PLACE = 24 };
+/* tags and treatments of a keep list stand behind the sections */
+enum { READ = 6, TAGS = READ, TREATMENTS, SECTIONS, LENT = 6, PLACE = 24 };
 enum { MAP, RANGES, LOCATIONS, STRINGS, OUT, COUNTS };
 
 struct bytes {
@@ -77,6 +79,22 @@ static void zeros(struct bytes b, uint64_t from, const char *what)
             fail(what);
 }
 
+/* What is read, in blocks of its own; and that a call left it as it was. */
+static void own(const struct bytes *sections, struct bytes *s)
+{
+    for (int i = 0; i < SECTIONS; i++)
+        s[i] = copy(sections[i]);
+}
+
+static void unchanged(const struct bytes *sections, struct bytes *s)
+{
+    for (int i = 0; i < SECTIONS; i++) {
+        if (memcmp(s[i].at, sections[i].at, s[i].length) != 0)
+            fail("a section changed");
+        free(s[i].at);
+    }
+}
+
 /* The call on sections as they stand. */
 static uint64_t call_on(
     const struct bytes *s, uint64_t ranges_base, uint64_t type_units, uint64_t big_endian, uint64_t fixed_addresses,
@@ -84,7 +102,8 @@ static uint64_t call_on(
 {
     return collector_collect(
         s[0].at, s[0].length, s[1].at, s[1].length, s[2].at, s[2].length, s[3].at, s[3].length, s[4].at, s[4].length,
-        s[5].at, s[5].length, ranges_base, type_units, big_endian, fixed_addresses,
+        s[5].at, s[5].length, s[TAGS].at, s[TAGS].length, s[TREATMENTS].at, s[TREATMENTS].length,
+        ranges_base, type_units, big_endian, fixed_addresses,
         lent[MAP].at, lent[MAP].length, lent[RANGES].at, lent[RANGES].length, lent[LOCATIONS].at, lent[LOCATIONS].length,
         lent[STRINGS].at, lent[STRINGS].length, lent[OUT].at, lent[OUT].length, lent[COUNTS].at, lent[COUNTS].length);
 }
@@ -94,14 +113,9 @@ static uint64_t call(
     uint64_t fixed_addresses, struct bytes *lent)
 {
     struct bytes s[SECTIONS];
-    for (int i = 0; i < SECTIONS; i++)
-        s[i] = copy(sections[i]);
+    own(sections, s);
     uint64_t answer = call_on(s, ranges_base, type_units, big_endian, fixed_addresses, lent);
-    for (int i = 0; i < SECTIONS; i++) {
-        if (memcmp(s[i].at, sections[i].at, s[i].length) != 0)
-            fail("a section changed");
-        free(s[i].at);
-    }
+    unchanged(sections, s);
     return answer;
 }
 
@@ -109,7 +123,7 @@ static uint64_t call(
 static void check_zeros(uint64_t answer, const struct bytes *lent)
 {
     if (answer < COLLECTOR_UNTOUCHED) {
-        if ((answer < 1 || answer > 14) && answer != 17)
+        if ((answer < 1 || answer > 14) && answer != 17 && answer != 19 && answer != 20)
             fail("a number that is none");
         for (int i = 0; i < LENT; i++)
             zeros(lent[i], 0, "bytes after a refusal");
@@ -193,8 +207,8 @@ static void give_back(struct bytes *lent)
 static void sections_of(struct bytes bundle, struct bytes *sections)
 {
     size_t at = 5;
-    sections[SECTIONS - 1] = (struct bytes){bundle.at, 0};
-    for (int i = 0; i < (bundle.at[4] == 1 ? SECTIONS - 1 : SECTIONS); i++) {
+    sections[READ - 1] = sections[TAGS] = sections[TREATMENTS] = (struct bytes){bundle.at, 0};
+    for (int i = 0; i < (bundle.at[4] == 1 ? READ - 1 : READ); i++) {
         if (bundle.length - at < 4)
             fail("a bundle that is cut");
         size_t n = big(bundle.at + at, 4);
@@ -206,12 +220,19 @@ static void sections_of(struct bytes bundle, struct bytes *sections)
     }
 }
 
-static void run_bundle(struct bytes bundle, uint64_t big_endian, uint64_t fixed_addresses)
+/* What is told of the units of files: keep holds tags, then treatments. */
+struct told {
+    uint64_t big_endian, fixed_addresses;
+    struct bytes keep[2];
+};
+
+static void run_bundle(struct bytes bundle, const struct told *told)
 {
     struct bytes sections[SECTIONS], lent[LENT];
     sections_of(bundle, sections);
+    memcpy(sections + TAGS, told->keep, sizeof told->keep);
     lend(lent, PLACE * 4096, 8 * 8192, 65536, COLLECTOR_COUNTS + 5);
-    uint64_t answer = call(sections, 0, 0, big_endian, fixed_addresses, lent);
+    uint64_t answer = call(sections, 0, 0, told->big_endian, told->fixed_addresses, lent);
     check_zeros(answer, lent);
     print_answer(answer, lent);
     give_back(lent);
@@ -235,7 +256,7 @@ static struct bytes read_file(const char *path)
     return b;
 }
 
-static void run_file(const char *path, uint64_t big_endian, uint64_t fixed_addresses)
+static void run_file(const char *path, const struct told *told)
 {
     const char *name = strrchr(path, '/');
     printf("== %s\n", name == NULL ? path : name + 1);
@@ -246,15 +267,35 @@ static void run_file(const char *path, uint64_t big_endian, uint64_t fixed_addre
         if (n > b.length - at)
             fail("a bundle that is cut");
         printf("-- %zu\n", at);
-        run_bundle((struct bytes){b.at + at, n}, big_endian, fixed_addresses);
+        run_bundle((struct bytes){b.at + at, n}, told);
         at += n;
     }
     free(b.at);
 }
 
-/* ---- cases that say what they lend: seventeen numbers of eight big-endian bytes, then a bundle */
+/* The keep list of a word, TAG=TREATMENT with commas between them. */
+static void keep_list(const char *word, struct bytes *keep)
+{
+    char *end;
+    free(keep[0].at);
+    free(keep[1].at);
+    keep[0] = block(strlen(word) + 1);
+    keep[1] = block(strlen(word) + 1);
+    keep[0].length = keep[1].length = 0;
+    for (; *word != 0; word = *end == ',' ? end + 1 : end) {
+        unsigned long tag = strtoul(word, &end, 0);
+        if (*end != '=')
+            fail("a keep list");
+        keep[0].at[keep[0].length++] = (uint8_t)(tag >> 8);
+        keep[0].at[keep[0].length++] = (uint8_t)tag;
+        keep[1].at[keep[1].length++] = (uint8_t)strtoul(end + 1, &end, 0);
+    }
+}
 
-enum { INDEX, OFFSETS, PARENTS, ROOTS, ENDS, MARKS, TARGETS, PAIRS, TABLES, SETTINGS = 17, WORK = 4096 };
+/* ---- cases that say what they lend: nineteen numbers of eight big-endian bytes, then tags and treatments of a keep
+ * list, as many bytes as the last two say, then a bundle */
+
+enum { INDEX, OFFSETS, PARENTS, ROOTS, ENDS, MARKS, TARGETS, PAIRS, TABLES, SETTINGS = 19, WORK = 4096 };
 
 static size_t setting(const uint8_t *settings, int which, size_t most)
 {
@@ -310,7 +351,8 @@ static uint64_t call_lent(
     table[TABLES] = block(4 * WORK);
     uint64_t answer = collector_collect_lent(
         s[0].at, s[0].length, s[1].at, s[1].length, s[2].at, s[2].length, s[3].at, s[3].length, s[4].at, s[4].length,
-        s[5].at, s[5].length, ranges_base, type_units, big_endian, fixed_addresses,
+        s[5].at, s[5].length, s[TAGS].at, s[TAGS].length, s[TREATMENTS].at, s[TREATMENTS].length,
+        ranges_base, type_units, big_endian, fixed_addresses,
         (uint64_t *)table[INDEX].at, table[INDEX].length / 8, (uint64_t *)table[OFFSETS].at, table[OFFSETS].length / 8,
         (uint64_t *)table[PARENTS].at, table[PARENTS].length / 8, table[ROOTS].at, table[ROOTS].length,
         (uint64_t *)table[ENDS].at, table[ENDS].length / 8, table[MARKS].at, table[MARKS].length,
@@ -326,13 +368,15 @@ static uint64_t call_lent(
     return answer;
 }
 
-static void run_case(const uint8_t *settings, struct bytes bundle)
+static void run_case(const uint8_t *settings, const struct bytes *keep, struct bytes bundle)
 {
     static const size_t most[TABLES] = {1024, 2048, 2048, 2048, 2048, 2048, 8192, 16384};
     static const size_t most_bytes[] = {98304, 65536, 65536, 65536, 65536};
-    struct bytes s[SECTIONS], lent[LENT];
+    struct bytes sections[SECTIONS], s[SECTIONS], lent[LENT];
     size_t elements[TABLES];
-    sections_of(bundle, s);
+    sections_of(bundle, sections);
+    memcpy(sections + TAGS, keep, 2 * sizeof *keep);
+    own(sections, s);
     for (int i = 0; i < TABLES; i++)
         elements[i] = setting(settings, i, most[i]);
     for (int i = 0; i < COUNTS; i++)
@@ -341,6 +385,7 @@ static void run_case(const uint8_t *settings, struct bytes bundle)
     uint64_t answer = call_lent(
         s, big(settings + 8 * 13, 8), big(settings + 8 * 14, 8), big(settings + 8 * 15, 8), big(settings + 8 * 16, 8),
         elements, lent);
+    unchanged(sections, s);
     print_left(answer, lent);
     give_back(lent);
 }
@@ -353,12 +398,17 @@ static void run_cases(const char *path)
     int number = 0;
     for (size_t at = 0; b.length - at >= 8 * SETTINGS + 4;) {
         const uint8_t *settings = b.at + at;
+        struct bytes keep[2];
         at += 8 * SETTINGS;
-        size_t n = 4 + big(b.at + at, 4);
+        for (int i = 0; i < 2; i++) {
+            keep[i] = (struct bytes){b.at + at, setting(settings, SETTINGS - 2 + i, b.length - at)};
+            at += keep[i].length;
+        }
+        size_t n = b.length - at < 4 ? b.length : 4 + big(b.at + at, 4);
         if (n > b.length - at)
             fail("a bundle that is cut");
         printf("-- %d\n", ++number);
-        run_case(settings, (struct bytes){b.at + at, n});
+        run_case(settings, keep, (struct bytes){b.at + at, n});
         at += n;
     }
     free(b.at);
@@ -371,9 +421,12 @@ static uint8_t unit[] = {0x12, 0, 0, 0, 5, 0, 1, 8, 0, 0, 0, 0, 0x01, 0x02, 0x00
 static uint8_t one_dead[] = {1, 0}, none_dead[] = {1, 1}, all_dead[] = {0, 0}, wrong[] = {2, 0};
 static uint8_t nothing[1];
 
+#define NO_LIST {nothing, 0}, {nothing, 0}
+
 /* its sections, with an address table */
 #define FIVE(table, length) \
-    {{unit, sizeof unit}, {abbreviations, sizeof abbreviations}, {nothing, 0}, {nothing, 0}, {table, length}, {nothing, 0}}
+    {{unit, sizeof unit}, {abbreviations, sizeof abbreviations}, {nothing, 0}, {nothing, 0}, {table, length}, \
+     {nothing, 0}, NO_LIST}
 
 static uint64_t five_by(uint8_t *table, size_t length, uint64_t type_units, struct bytes *lent)
 {
@@ -458,8 +511,11 @@ static uint64_t either_by(
     int lent_tables, struct bytes *sections, uint64_t ranges_base, uint64_t big_endian, uint64_t fixed_addresses,
     struct bytes *lent)
 {
-    uint64_t answer = lent_tables ? call_lent(sections, ranges_base, 0, big_endian, fixed_addresses, room, lent)
-                                  : call(sections, ranges_base, 0, big_endian, fixed_addresses, lent);
+    struct bytes s[SECTIONS];
+    own(sections, s);
+    uint64_t answer = lent_tables ? call_lent(s, ranges_base, 0, big_endian, fixed_addresses, room, lent)
+                                  : call_on(s, ranges_base, 0, big_endian, fixed_addresses, lent);
+    unchanged(sections, s);
     check_zeros(answer, lent);
     return answer;
 }
@@ -559,7 +615,8 @@ static void check_wide(void)
             put(section.at + 15, 20, 2, is_big);
             put(section.at + 17, place - 21, 4, is_big);
             section.at[place] = 3;
-            struct bytes sections[SECTIONS] = {section, {declarations, sizeof declarations}, {nothing, 0}, {nothing, 0}, {nothing, 0}, {nothing, 0}};
+            struct bytes sections[SECTIONS] = {section, {declarations, sizeof declarations}, {nothing, 0}, {nothing, 0},
+                                               {nothing, 0}, {nothing, 0}, NO_LIST};
             lend(lent, 5 * PLACE, 0, place + 1, COLLECTOR_COUNTS);
             uint64_t answer = either(0, sections, (uint64_t)is_big, lent);
             expect(answer, place == 65535 ? COLLECTOR_REWRITTEN : 9, "a sibling of two bytes");
@@ -654,7 +711,7 @@ static void ranges_of_4(int lent_tables, int is_wide, int is_big)
             put(pairs + 8 * j, by_pairs[i].numbers[j], 8, is_big);
         struct bytes lent[LENT], older = copy((struct bytes){pairs, by_pairs[i].length});
         struct bytes sections[SECTIONS] = {{old, first + 3 + width}, {declarations, sizeof declarations}, {nothing, 0},
-                                           {others, sizeof others}, {all_dead, 2}, older};
+                                           {others, sizeof others}, {all_dead, 2}, older, NO_LIST};
         lend(lent, 2 * PLACE, 0, first + 2, COLLECTOR_COUNTS);
         uint64_t answer = either_by(lent_tables, sections, by_pairs[i].base, (uint64_t)is_big, 0, lent);
         expect(answer, by_pairs[i].answer, "ranges of version 4");
@@ -680,7 +737,8 @@ static void locations_of_4(int lent_tables, int is_wide, int is_big)
     list[8] = 0x98;
     put(list + 9, second, 2, is_big);
     struct bytes lent[LENT], sections[SECTIONS] = {{old, second + 2}, {declarations, sizeof declarations},
-                                                   {list, sizeof list}, {nothing, 0}, {nothing, 0}, {nothing, 0}};
+                                                   {list, sizeof list}, {nothing, 0}, {nothing, 0}, {nothing, 0},
+                                                   NO_LIST};
     lend(lent, 2 * PLACE, 0, second + 1, COLLECTOR_COUNTS);
     expect(either(lent_tables, sections, (uint64_t)is_big, lent), COLLECTOR_REWRITTEN, "locations of version 4");
     expect(count(lent, 1), 2, "kept by locations of version 4");
@@ -718,7 +776,7 @@ static void check_version_4(void)
         for (int past = 0; past < 2; past++) {
             old[first + 2] = (uint8_t)past;
             struct bytes s[SECTIONS] = {{old, sizeof old}, {declarations, sizeof declarations}, {nothing, 0},
-                                        {nothing, 0}, {nothing, 0}, {shown[i], 0}};
+                                        {nothing, 0}, {nothing, 0}, {shown[i], 0}, NO_LIST};
             lend(lent, 2 * PLACE, 0, 13, COLLECTOR_COUNTS);
             uint64_t answer = call_on(s, 0, 0, 0, 0, lent);
             check_zeros(answer, lent);
@@ -812,7 +870,111 @@ static void check_fixed(void)
                         numbers[j], 4 + k / 8, k % 2, k / 2 % 2, k / 4 % 2);
 }
 
-/* ---- offsets above 4 GiB */
+/* ---- keep lists */
+
+#define BYTES(...) (uint8_t[]){__VA_ARGS__}, sizeof((uint8_t[]){__VA_ARGS__})
+
+/* The five-entry unit by a list and an address table: the answer, and of a rewritten unit the entries behind the header
+ * and how many are kept. */
+static const struct {
+    uint8_t *tags;
+    size_t tags_length;
+    uint8_t *treatments;
+    size_t treatments_length;
+    uint8_t addresses[2];
+    uint64_t answer;
+    uint8_t kept, length, body[8];
+} by_list[] = {
+    {nothing, 0, nothing, 0, {1, 0}, COLLECTOR_REWRITTEN, 3, 6, {1, 2, 0, 16, 3, 0}},
+    {BYTES(0, 0x24), BYTES(1), {0, 0}, COLLECTOR_REWRITTEN, 3, 4, {1, 3, 3, 0}},
+    {BYTES(0, 0x24, 0), BYTES(1), {0, 0}, COLLECTOR_REWRITTEN, 3, 4, {1, 3, 3, 0}},
+    {BYTES(0, 0x24, 0, 0x2e), BYTES(1, 2), {1, 1}, COLLECTOR_REWRITTEN, 3, 4, {1, 3, 3, 0}},
+    {BYTES(0, 0x24), BYTES(2), {1, 0}, COLLECTOR_REWRITTEN, 3, 6, {1, 2, 0, 16, 3, 0}},
+    {BYTES(0, 0x2e), BYTES(2), {1, 1}, COLLECTOR_REWRITTEN, 1, 2, {1, 0}},
+    {BYTES(0, 0x11), BYTES(2), {0, 0}, COLLECTOR_REWRITTEN, 1, 2, {1, 0}},
+    {BYTES(0, 0x11), BYTES(1), {0, 0}, COLLECTOR_UNTOUCHED, 5, 0, {0}},
+    {BYTES(0, 0x2e), BYTES(1), {0, 0}, COLLECTOR_UNTOUCHED, 5, 0, {0}},
+    {BYTES(0x24, 0), BYTES(1), {0, 0}, COLLECTOR_REWRITTEN, 1, 2, {1, 0}},
+    {BYTES(0, 0, 0, 7, 0xff, 0xff), BYTES(1, 2, 1), {1, 0}, COLLECTOR_REWRITTEN, 3, 6, {1, 2, 0, 16, 3, 0}},
+    {BYTES(4), nothing, 0, {1, 0}, COLLECTOR_REWRITTEN, 3, 6, {1, 2, 0, 16, 3, 0}},
+    {BYTES(0, 0x2e), BYTES(1), {2, 0}, 6, 0, 0, {0}},
+    {BYTES(0, 0x2e), BYTES(2), {0, 255}, 6, 0, 0, {0}},
+    {BYTES(4), BYTES(1), {1, 0}, 19, 0, 0, {0}},
+    {nothing, 0, BYTES(1), {1, 0}, 19, 0, 0, {0}},
+    {BYTES(0, 0x24), nothing, 0, {1, 0}, 19, 0, 0, {0}},
+    {BYTES(0, 0x24), BYTES(1, 1), {1, 0}, 19, 0, 0, {0}},
+    {BYTES(0, 0x24, 0, 0x2e), BYTES(1), {1, 0}, 19, 0, 0, {0}},
+    {BYTES(0, 0x24, 0), BYTES(1, 1), {1, 0}, 19, 0, 0, {0}},
+    {BYTES(0, 0x24), BYTES(0), {1, 0}, 19, 0, 0, {0}},
+    {BYTES(0, 0x24), BYTES(3), {1, 0}, 19, 0, 0, {0}},
+    {BYTES(0, 0x24), BYTES(255), {2, 0}, 19, 0, 0, {0}},
+    {BYTES(0, 0x25, 0, 0x24), BYTES(1, 3), {1, 0}, 19, 0, 0, {0}},
+    {BYTES(0, 0x24, 0, 0x24, 0, 0x25), BYTES(1, 1, 0), {1, 0}, 19, 0, 0, {0}},
+    {BYTES(0, 0x24, 0, 0x24), BYTES(1, 1), {1, 0}, 20, 0, 0, {0}},
+    {BYTES(0, 0x25, 0, 0x24), BYTES(1, 2), {2, 0}, 20, 0, 0, {0}},
+    {BYTES(1, 0, 0, 0xff), BYTES(2, 2), {1, 0}, 20, 0, 0, {0}},
+    {BYTES(0xff, 0xff, 0xff, 0xff), BYTES(1, 1), {1, 0}, 20, 0, 0, {0}},
+};
+
+/* Each through both calls; lists that are refused also with an empty section, with a header that is cut, and with
+ * little or nothing lent. */
+static void five_by_list(size_t i, int lent_tables)
+{
+    uint64_t answer = by_list[i].answer, kept = by_list[i].kept, length = by_list[i].length;
+    int is_refused = answer < COLLECTOR_UNTOUCHED;
+    struct bytes addresses = {(uint8_t *)by_list[i].addresses, 2}, lent[LENT], sections[SECTIONS] = FIVE(nothing, 0);
+    sections[4] = addresses;
+    sections[TAGS] = (struct bytes){by_list[i].tags, by_list[i].tags_length};
+    sections[TREATMENTS] = (struct bytes){by_list[i].treatments, by_list[i].treatments_length};
+    lend(lent, is_refused ? 5 * PLACE : (kept + 1) * PLACE, 8, is_refused ? 22 : 12 + length, COLLECTOR_COUNTS);
+    expect(either(lent_tables, sections, 0, lent), answer, "a keep list");
+    if (!is_refused)
+        expect(count(lent, 1), kept, "kept by a keep list");
+    if (answer == COLLECTOR_REWRITTEN) {
+        expect(big(lent[OUT].at, 1), 8 + length, "the length by a keep list");
+        expect((uint64_t)memcmp(lent[OUT].at + 4, unit + 4, 8), 0, "the header by a keep list");
+        expect((uint64_t)memcmp(lent[OUT].at + 12, by_list[i].body, length), 0, "output by a keep list");
+    }
+    give_back(lent);
+    if (answer != 19 && answer != 20)
+        return;
+    for (size_t n = 0; n < 12; n += 3) {
+        sections[0].length = n;
+        lend(lent, n, n, n, n * 7);
+        expect(either(lent_tables, sections, 0, lent), answer, "a keep list before the section");
+        give_back(lent);
+    }
+}
+
+/* A list and a variable at an address: by its treatment, or by the address where none is for it. */
+static void variable_by_list(uint8_t k, uint64_t address, uint64_t counts, int version, int lent_tables, int ways)
+{
+    static uint8_t declarations[] = {1, 0x11, 1, 0, 0, 2, 0x34, 0, 0x02, 0x18, 0, 0, 0};
+    int is_wide = ways % 2, is_big = ways / 2 % 2, live = k == 1 || (k == 0 && counts != 0 && address != 0);
+    uint8_t old[37], tags[] = {0, 0x34}, treatments[] = {k};
+    size_t first = header_of(old, 13, version, 8, is_wide, is_big);
+    memcpy(old + first, (const uint8_t[]){1, 2, 9, 3}, 4);
+    put(old + first + 4, address, 8, is_big);
+    old[first + 12] = 0;
+    struct bytes lent[LENT], sections[SECTIONS] = FIVE(all_dead, 2);
+    sections[0] = (struct bytes){old, first + 13};
+    sections[1] = (struct bytes){declarations, sizeof declarations};
+    if (k != 0) {
+        sections[TAGS] = (struct bytes){tags, sizeof tags};
+        sections[TREATMENTS] = (struct bytes){treatments, sizeof treatments};
+    }
+    lend(lent, 2 * PLACE, 0, first + 2, COLLECTOR_COUNTS);
+    uint64_t answer = either_by(lent_tables, sections, 0, (uint64_t)is_big, counts, lent);
+    expect(answer, live ? COLLECTOR_UNTOUCHED : COLLECTOR_REWRITTEN, "a variable by a keep list");
+    expect(count(lent, 1), live ? 2 : 1, "kept variables by a keep list");
+    give_back(lent);
+}
+
+/* The treatment of a tag in a list of all of them. That of units is 2. */
+static uint8_t treatment_of(uint64_t tag)
+{
+    return tag != 0x11 && (tag * 2654435761u >> 13) % 2 == 0 ? 1 : 2;
+}
 
 static size_t put_uleb(uint8_t *at, uint64_t n)
 {
@@ -825,6 +987,93 @@ static size_t put_uleb(uint8_t *at, uint64_t n)
     return i;
 }
 
+/* A list of all 65,536 tags, in memory that can't be written; and a unit whose entries have every tag above 0 that is a
+ * multiple of `step`: each by a declaration of its own, with the tag for its code. Those with treatment 1 are kept. */
+static void every_tag(uint64_t step, int lent_tables, int is_big)
+{
+    uint8_t *list = mmap(NULL, 196608, PROT_READ | PROT_WRITE, MAP_PRIVATE | MAP_ANONYMOUS, -1, 0);
+    if (list == MAP_FAILED)
+        fail("no memory");
+    for (uint64_t tag = 0; tag < 65536; tag++) {
+        put(list + 2 * tag, tag, 2, 1);
+        list[131072 + tag] = treatment_of(tag);
+    }
+    if (mprotect(list, 196608, PROT_READ) != 0)
+        fail("a list that can't be protected");
+
+    struct bytes old = block(12 + 3 * 65536 + 4), thinned = block(old.length), declarations = block(9 * 65536);
+    size_t at = 12, n = 12, d = 0, entries = 1, kept = 1;
+    memcpy(declarations.at, (const uint8_t[]){0x80, 0x80, 0x04, 0x11, 1, 0, 0}, 7); /* 65,536: the unit */
+    d = 7;
+    memcpy(old.at + at, declarations.at, 3);
+    memcpy(thinned.at + at, declarations.at, 3);
+    at += 3;
+    n += 3;
+    for (uint64_t tag = step; tag < 65536; tag += step) {
+        d += put_uleb(declarations.at + d, tag);
+        d += put_uleb(declarations.at + d, tag);
+        memset(declarations.at + d, 0, 3);
+        d += 3;
+        at += put_uleb(old.at + at, tag);
+        entries++;
+        if (treatment_of(tag) == 1) {
+            n += put_uleb(thinned.at + n, tag);
+            kept++;
+        }
+    }
+    declarations.at[d++] = 0;
+    old.at[at++] = 0;
+    thinned.at[n++] = 0;
+    uint8_t header[24];
+    memcpy(old.at, header, header_of(header, at - 12, 5, 8, 0, is_big));
+    memcpy(thinned.at, header, header_of(header, n - 12, 5, 8, 0, is_big));
+    struct bytes lent[LENT], s[SECTIONS] = {{old.at, at}, {declarations.at, d}, {nothing, 0}, {nothing, 0},
+                                            {nothing, 0}, {nothing, 0}, {list, 131072}, {list + 131072, 65536}};
+    size_t many[TABLES] = {entries, entries, entries, entries, entries, entries, 0, 0};
+    lend(lent, (kept + 1) * PLACE, 0, n, COLLECTOR_COUNTS);
+    uint64_t answer =
+        lent_tables ? call_lent(s, 0, 0, (uint64_t)is_big, 0, many, lent) : call_on(s, 0, 0, (uint64_t)is_big, 0, lent);
+    check_zeros(answer, lent);
+    expect(answer, COLLECTOR_REWRITTEN, "every tag");
+    expect(count(lent, 0), entries, "entries of every tag");
+    expect(count(lent, 1), kept, "kept of every tag");
+    expect((uint64_t)memcmp(lent[OUT].at, thinned.at, n), 0, "output of every tag");
+    give_back(lent);
+    free(old.at);
+    free(thinned.at);
+    free(declarations.at);
+    munmap(list, 196608);
+}
+
+static void check_lists(void)
+{
+    for (size_t i = 0; i < sizeof by_list / sizeof *by_list; i++)
+        for (int lent_tables = 0; lent_tables < 2; lent_tables++)
+            five_by_list(i, lent_tables);
+    for (int i = 0; i < 16; i++)
+        for (int j = 0; j < 12; j++)
+            variable_by_list(
+                (uint8_t)(j % 3), (uint64_t)(j / 3 % 2), j < 6 ? 0 : UINT64_MAX, 4 + i % 2, i / 2 % 2, i / 4);
+
+    /* of length 0 there is no list, whatever the pointers (never null) */
+    uint8_t *const shown[] = {none_dead, wrong, (uint8_t *)1, (uint8_t *)UINTPTR_MAX};
+    struct bytes lent[LENT], five_of[SECTIONS] = FIVE(one_dead, 2);
+    for (size_t i = 0; i < sizeof shown / sizeof *shown; i++) {
+        five_of[TAGS] = five_of[TREATMENTS] = (struct bytes){shown[i], 0};
+        lend(lent, 4 * PLACE, 0, 18, COLLECTOR_COUNTS);
+        expect(call_on(five_of, 0, 0, 0, 0, lent), COLLECTOR_REWRITTEN, "no keep list");
+        expect((uint64_t)memcmp(lent[OUT].at, thin, 18), 0, "output with no keep list");
+        give_back(lent);
+    }
+
+    for (int is_big = 0; is_big < 2; is_big++) {
+        every_tag(33, 0, is_big); /* 1,985 entries */
+        every_tag(1, 1, is_big);
+    }
+}
+
+/* ---- offsets above 4 GiB */
+
 /* 1 names an entry by ref8, 2 has a block, 3 names one by ref8 and has a sibling in ref8, 4 names one by ref_udata,
  * 5 has nothing, 6 names two by ref8. */
 static uint8_t above_declarations[] = {
@@ -833,7 +1082,8 @@ static uint8_t above_declarations[] = {
 };
 enum { BEHIND = 25 }; /* bytes of what stands behind the block */
 #define ABOVE(unit, length) \
-    {{unit, length}, {above_declarations, sizeof above_declarations}, {nothing, 0}, {nothing, 0}, {nothing, 0}, {nothing, 0}}
+    {{unit, length}, {above_declarations, sizeof above_declarations}, {nothing, 0}, {nothing, 0}, {nothing, 0}, \
+     {nothing, 0}, NO_LIST}
 
 /* So many bytes of zeros, which take no memory until they are touched. */
 static uint8_t *sparse(size_t length)
@@ -1044,7 +1294,8 @@ static void far_abbreviations(int which, int is_big)
     }
     if (mprotect(section.at, section.length, PROT_READ) != 0)
         fail("a section that can't be protected");
-    struct bytes s[SECTIONS] = {{wide, sizeof wide}, section, {nothing, 0}, {nothing, 0}, {nothing, 0}, {nothing, 0}};
+    struct bytes s[SECTIONS] = {{wide, sizeof wide}, section, {nothing, 0}, {nothing, 0}, {nothing, 0}, {nothing, 0},
+                                NO_LIST};
     far_calls(s, 0, is_big, which == 0 ? 26 : 0, -1, 0, "offset of abbreviations, above 4 GiB");
     munmap(section.at, section.length);
 }
@@ -1117,7 +1368,8 @@ static void far_list(const struct far *f, int which, int is_big)
 {
     uint8_t declarations[32], wide[64];
     uint64_t entries[2];
-    struct bytes s[SECTIONS] = {{wide, 0}, {declarations, 0}, {nothing, 0}, {nothing, 0}, {nothing, 0}, {nothing, 0}};
+    struct bytes s[SECTIONS] = {{wide, 0}, {declarations, 0}, {nothing, 0}, {nothing, 0}, {nothing, 0}, {nothing, 0},
+                                NO_LIST};
     s[0].length = far_unit(wide, f, is_big, entries);
     s[1].length = far_declarations(declarations, f);
     entries[1] = s[0].length - 2;
@@ -1232,6 +1484,7 @@ static void check_rules(void)
     check_wide();
     check_version_4();
     check_fixed();
+    check_lists();
     printf("the call's own rules hold\n");
 }
 
@@ -1264,7 +1517,8 @@ static uint64_t nested(size_t levels, int is_big)
     section.at[at++] = 0x00;
     put(section.at, at - 4, 4, is_big);
     put(section.at + at - 6, at - 1, 4, is_big);
-    struct bytes sections[SECTIONS] = {{section.at, at}, {declarations, sizeof declarations}, {nothing, 0}, {nothing, 0}, {nothing, 0}, {nothing, 0}};
+    struct bytes sections[SECTIONS] = {{section.at, at}, {declarations, sizeof declarations}, {nothing, 0},
+                                       {nothing, 0}, {nothing, 0}, {nothing, 0}, NO_LIST};
     struct bytes lent[LENT];
     lend(lent, 4 * PLACE, 0, at - 1, COLLECTOR_COUNTS);
     uint64_t answer = call(sections, 0, 0, (uint64_t)is_big, 0, lent);
@@ -1302,16 +1556,20 @@ int main(int argc, char **argv)
         check_rules();
         return 0;
     }
-    uint64_t big_endian = 0, fixed_addresses = 0;
+    struct told told = {0, 0, {block(0), block(0)}};
     for (int i = 1; i < argc; i++) {
-        if (strcmp(argv[i], "collect") == 0)
-            big_endian = fixed_addresses = 0;
-        else if (strcmp(argv[i], "--big-endian") == 0)
-            big_endian = 1;
-        else if (strcmp(argv[i], "--fixed-addresses") == 0)
-            fixed_addresses = 1;
-        else
-            run_file(argv[i], big_endian, fixed_addresses);
+        if (strcmp(argv[i], "collect") == 0) {
+            told.big_endian = told.fixed_addresses = 0;
+            keep_list("", told.keep);
+        } else if (strcmp(argv[i], "--big-endian") == 0) {
+            told.big_endian = 1;
+        } else if (strcmp(argv[i], "--fixed-addresses") == 0) {
+            told.fixed_addresses = 1;
+        } else if (strncmp(argv[i], "--keep-list=", 12) == 0) {
+            keep_list(argv[i] + 12, told.keep);
+        } else {
+            run_file(argv[i], &told);
+        }
     }
     return 0;
 }

@@ -7,17 +7,19 @@ has the notation), what it lends, and the answer that the specification gives, n
 written, and the files are compared with what would be. `collect.py names` prints the number of each case with what it
 is about.
 
-A case is seventeen numbers of eight bytes, big-endian (how much is lent of the index of the declarations, of the
+A case is nineteen numbers of eight bytes, big-endian (how much is lent of the index of the declarations, of the
 columns offsets, parents, roots, ends, marks, targets, pairs, of map, three lists and output; the ranges base; type
-units; the unit's byte order, 0 little-endian; whether fixed addresses count, 0 no), then a bundle. What is not said is
-lent with something to spare, so that zeros after the answer are seen. Each case stands in both byte orders, with the
-same number, and in both formats (wide.py), in a file for each; those of version 4 and those with fixed addresses have
+units; the unit's byte order, 0 little-endian; whether fixed addresses count, 0 no; how many bytes the tags of a keep
+list have, and its treatments), then the keep list's bytes and a bundle. What is not said is lent with something to
+spare, so that zeros after the answer are seen. Each case stands in both byte orders, with the same number, and in both
+formats (wide.py), in a file for each; those of version 4, with fixed addresses and with keep lists (keep_list.py) have
 files of their own, since one has at most 262,144 bytes."""
 import sys
 from functools import partial
 
 import failures
 import fixed
+import keep_list
 import older
 from units import (A5, BIG, CUT, CUT64, DANGLING, ESCAPE, FAR, FIVE, FIVE64, FIVE_4, FORMATS, HEADERS, LARGEST, ORDERS,
                    T, T64,
@@ -26,12 +28,12 @@ from units import (A5, BIG, CUT, CUT64, DANGLING, ESCAPE, FAR, FIVE, FIVE64, FIV
 from wide import OneFormat, Wide
 
 SETTINGS = ('index', 'offsets', 'parents', 'roots', 'ends', 'marks', 'targets', 'pairs', 'map', 'ranges', 'locations', 'strings', 'output', 'base',
-            'type_units', 'big_endian', 'fixed_addresses')
+            'type_units', 'big_endian', 'fixed_addresses', 'tags', 'treatments')
 ENTRY_COLUMNS = ('offsets', 'parents', 'roots', 'ends', 'marks')
 LISTS = ('ranges', 'locations', 'strings')
 PLACE = 24  # bytes of a place of the map
 MOST = 262144  # bytes of a file
-PARTS = ('', '-4', '-fixed')
+PARTS = ('', '-4', '-fixed', '-keep', '-search', '-trees', '-every')
 cases = {(part, wide, big): [] for part in PARTS for wide in FORMATS for big in ORDERS}  # big: as it is told
 part = ''  # which files the next cases are for
 
@@ -65,18 +67,21 @@ def kind_of(of_unit):
 
 
 def case(why, of_unit, table, answer, locations='', ranges='', addresses='', tail='', lend=None, wrong=False, told=1,
-         both=True, older=None, counts=0):
+         both=True, older=None, counts=0, keep='', orders=ORDERS):
     """lend: settings that matter, by name; `entries` and `references` for a whole table. wrong: the unit is of the
     order that is not told. told: the number that says big-endian; counts: the one that says whether fixed addresses
-    count. A unit `W ..` is of the 64-bit format alone; both says whether another stands in both."""
-    kind, lend = kind_of(of_unit), dict(lend or {}, fixed_addresses=counts)
+    count; keep: a keep list. A unit `W ..` is of the 64-bit format alone; both says whether another stands in both;
+    orders: the byte orders that it stands in."""
+    tags, treatments = keep_list.lent(keep)
+    kind, lend = kind_of(of_unit), dict(lend or {}, fixed_addresses=counts, tags=len(tags), treatments=len(treatments))
     alone = kind.startswith('W')
-    for big in ORDERS:
+    for big in orders:
         data = bundle_of(of_unit, table, locations, ranges, addresses, tail, big != wrong, older)
         out, places = b'', numbers('' if 'refused' in answer else answer['places'], 8)
         if answer.get('unit') is not None:
             out = header(octets(answer['unit'], big), kind, big)
-        add(why, alone, big, told, data, lent_and_left(why, answer, lend, places, out, len(unit(of_unit))))
+        left = lent_and_left(why, answer, lend, places, out, len(unit(of_unit)))
+        add(why, alone, big, told, tags + treatments + data, left)
         if not both or alone:
             continue
         try:
@@ -94,7 +99,8 @@ def case(why, of_unit, table, answer, locations='', ranges='', addresses='', tai
             lent['output'] += longer
         wide = made.bundle(addresses)
         if wide != data:
-            add(why, True, big, told, wide, lent_and_left(why, answer, lent, places, out, len(made.unit)))
+            left = lent_and_left(why, answer, lent, places, out, len(made.unit))
+            add(why, True, big, told, tags + treatments + wide, left)
 
 
 def add(why, wide, big, told, data, lent_and_lines):
@@ -107,7 +113,7 @@ def lent_and_left(why, answer, lend, places, out, length):
     """The settings of a case, and what it must print: its map and its new unit, if it has them; the unit's length."""
     refused = 'refused' in answer
     lists = {k: b'' if refused or answer[k] == 'absent' else numbers(answer[k], 8) for k in LISTS}
-    given = {'index': 16, 'targets': 8, 'pairs': 16, 'base': 0, 'type_units': 0, 'fixed_addresses': 0,
+    given = {'index': 16, 'targets': 8, 'pairs': 16, 'base': 0, 'type_units': 0,
              'map': 4 * PLACE + 5 if refused else len(places) + 5, 'output': (length if refused else len(out)) + 3}
     given.update({c: 8 if refused else answer['entries'] + 1 for c in ENTRY_COLUMNS})
     given.update({k: len(lists[k]) + 11 for k in LISTS})
@@ -909,6 +915,115 @@ twice('7: it in version 4', FIVE_4, A5, ONE_4, ONE_4, addresses='0100')
 twice('7: an empty section', '', A5, NOTHING, NOTHING)
 twice('7: told the wrong order', ONE_AT, V, no(1), no(1), wrong=True)
 
+# ---- document 02, point 10: keep lists
+part = '-keep'
+FEW = {'map': 1, 'output': 1, 'ranges': 1, 'locations': 1, 'strings': 1, 'entries': 1, 'references': 0, 'index': 1}
+
+
+def listed(why, keep, of_unit, table, answer, sections, **more):
+    """An answer as keep_list.py has it."""
+    if answer == ():
+        answer = NOTHING
+    elif not isinstance(answer, dict):
+        answer = no(answer) if isinstance(answer, int) else by_marks(*answer)
+    case(why, of_unit, table, answer, keep=keep, **sections, **more)
+
+
+def by_marks(marks, places=None, body=None):
+    entries = marks.split()
+    kept = [m for m in entries if not m.endswith('D')]
+    if body is None:
+        return untouched(len(entries))
+    return rewritten(len(entries), len(kept), places, body)
+
+
+for why, keep, of_unit, table, answer, sections in keep_list.HAND:
+    listed(why, keep, of_unit, table, answer, sections)
+for why, keep in keep_list.UNCHANGED:
+    listed(why, keep, FIVE, A5, ONE, {'addresses': '0100'})
+    listed(why + ', version 4', keep, FIVE_4, A5, ONE_4, {'addresses': '0100'})
+# a list is judged before all else: what would be refused with 1, 2, 3, 4, 6, 17, 10, 11, 12, 13, 14, and what would not
+for why, keep, number in keep_list.REFUSED:
+    listed(why, keep, FIVE, A5, number, {'addresses': '0100'})
+    for before, of_unit, table, addresses in (
+            ('an empty section', '', '', ''), ('no entries', 'H', A5, ''), ('1', '120000', A5, ''),
+            ('1, a length past the section', '4:13 2:5 01 08 4:0', A5, ''), ('2', '4:8 2:3 01 08 4:0', A5, ''),
+            ('3', 'H 03', A5[:-3], ''), ('4', 'H 63', A5, ''), ('6', FIVE, A5, '02'), ('17', FIVE, A5, '00'),
+            ('no entries of version 4', 'G', A5, ''), ('the wrong order', 'H 03', A5, '')):
+        listed('%s, before %s' % (why, before), keep, of_unit, table, number, {'addresses': addresses}, lend=FEW,
+               both=False, wrong=before == 'the wrong order')
+    listed(why + ', before 12', keep, 'H 01 00', '1 11 03/1a', number, {}, both=False, lend={'strings': 0})
+    listed(why + ', type units', keep, FIVE, A5, number, {}, both=False, lend=dict(FEW, type_units=1))
+for what, number, tag, of_unit, table, sections in keep_list.ENTRY_REFUSALS:
+    for keep in keep_list.around(tag):
+        listed('10.3: %s, by %s' % (what, keep), keep, of_unit, table, number, sections, both=False)
+for keep in keep_list.around('24'):
+    listed('10.3: 10, by %s' % keep, keep, 'H 01 02 00', '1 11 children; 2 24', 10, {}, lend={'entries': 1})
+    listed('10.3: 10 before 5, by %s' % keep, keep, 'H 01 02 01ff 00', '1 11 children; 2 24 02/18', 10, {},
+           lend={'entries': 1}, both=False)
+    listed('10.3: 11, by %s' % keep, keep, 'H 01 02 0c 00', '1 11 children; 2 24 49/11', 11, {}, lend={'references': 0})
+for why, keep, of_unit, table, off, on in keep_list.at_addresses():
+    judged(why + ', off', of_unit, table, off, keep=keep, both=of_unit.startswith(('H ', 'G ')))
+    judged(why + ', on', of_unit, table, on, keep=keep, counts=1, both=of_unit.startswith(('H ', 'G ')))
+judged('7.4: never, whatever its index', 'H 01 02 02a100 00', V, 'dead', addresses='01', keep='34=2')
+judged('7.4: always, whatever its index', 'H 01 02 02a100 00', V, 'live', addresses='00', keep='34=1')
+judged('7.4: 17 behind a fixed address that ends the test', 'H 01 02 09 03 8:1 02 a109 00', fixed.TWO, 'dead', counts=1,
+       addresses='00', keep='34=2')
+judged('7.4: and where it does not', 'H 01 02 09 03 8:1 02 a109 00', fixed.TWO, 17, addresses='00', keep='34=1')
+# what is lent, under a list: 24=1 keeps 3 entries of the five-entry unit, 4 places and 16 bytes; 2e=2 one, 2 and 14
+TYPES, KEPT_TYPES = '24=1', rewritten(5, 3, '12>12@0 16>13@1 17>14@1 21>15@1', '01 03 03 00')
+LESS_ROOM = {'entries': 5, 'references': 2, 'map': 4 * PLACE, 'output': 16, 'ranges': 0, 'locations': 0, 'strings': 0}
+for why, keep, addresses, room, answer in (
+        ('every length exactly full', TYPES, '0000', {}, KEPT_TYPES),
+        ('13', TYPES, '0000', {'map': 4 * PLACE - 1}, no(13)),
+        ('14', TYPES, '0000', {'output': 15}, no(14)), ('13 before 14', TYPES, '0000', {'map': 0, 'output': 0}, no(13)),
+        ('10', TYPES, '0000', {'entries': 4}, no(10)), ('11', TYPES, '0000', {'references': 1}, no(11)),
+        ('less than without it', '2e=2', '0101', {'map': 2 * PLACE, 'output': 14},
+         rewritten(5, 1, '12>12@0 21>13@1', '01 00')),
+        ('13, less than without it', '2e=2', '0101', {'map': 2 * PLACE - 1, 'output': 14}, no(13)),
+        ('14, less than without it', '2e=2', '0101', {'map': 2 * PLACE, 'output': 13}, no(14)),
+        ('untouched needs no map and no output', '11=1', '0000', {'map': 0, 'output': 0}, untouched(5)),
+        ('untouched by subprograms', '2e=1', '0000', {'map': 0, 'output': 0}, untouched(5))):
+    listed('10: lent lengths: ' + why, keep, FIVE, A5, answer, {'addresses': addresses}, lend=dict(LESS_ROOM, **room))
+STRINGS = '1 11 children; 2 24 03/1a; 3 28'
+DROPPED = rewritten(3, 1, '12>12@0 16>13@1', '01 00')
+for keep, room, answer in (('24=1', 11, rewritten(3, 2, '12>12@0 13>13@1 16>15@1', '01 02 00 00', strings='5')),
+                           ('24=1', 7, no(12)), ('24=2', 0, DROPPED), ('28=1', 0,
+                           rewritten(3, 2, '12>12@0 15>13@1 16>14@1', '01 03 00'))):
+    listed('10: strings of what is listed, %d bytes' % room, keep, 'H 01 02 05 03 00', STRINGS, answer, {},
+           lend={'strings': room})
+listed('10: type units', TYPES, FIVE, A5, rewritten(5, 3, '12>12@0 16>13@1 17>14@1 21>15@1', '01 03 03 00', 'absent',
+       'absent', 'absent'), {'addresses': '0000'}, lend={'type_units': 1})
+NAMES = '1 11 children; 2 24 49/11; 3 28'
+listed('10: 8 of an entry that is a root by its tag', '24=1', 'H 01 02 63 03 00', NAMES, 8, {})
+listed('10: no 8 of one that is none', '24=2', 'H 01 02 63 03 00', NAMES, DROPPED, {})
+LONG = 'H 01 02 14 %02x %s 03 00'
+OWNER = '1 11 children; 2 24 01/11 03/0a; 3 28'
+listed('10: 9 of a sibling of an entry that is a root by its tag', '24=1', LONG % (240, '00' * 240), OWNER, 9, {})
+listed('10: one that fits', '24=1', LONG % (239, '00' * 239), OWNER,
+       rewritten(3, 2, '12>12@0 13>13@1 256>255@1', '01 02 ff ef %s 00' % ('00' * 239)), {})
+listed('10: big-endian by the largest number', '24=1', FIVE, A5, KEPT_TYPES, {'addresses': '0000'}, told=2 ** 64 - 1)
+listed('10: what is behind the first unit', '24=1', FIVE, A5, KEPT_TYPES, {'addresses': '0000', 'tail': 'ffffffff 00'})
+
+# where a tag stands in a list
+part = '-search'
+for why, keep, tag, live in keep_list.searched():
+    judged('10: %s' % why, 'H 01 02 00', '1 3c children; 2 %x' % tag, 'live' if live else 'dead', keep=keep, both=False)
+
+# trees, each under lists of its tags; version 4 in the 32-bit format
+part = '-trees'
+for why, keep, of_unit, table, answer, sections in keep_list.trees('H'):
+    listed(why, keep, of_unit, table, answer, sections)
+for why, keep, of_unit, table, answer, sections in keep_list.trees('G'):
+    listed(why + ', version 4', keep, of_unit, table, answer, sections, both=False)
+
+# every tag: enumerations and tag 65,535 are roots, none else is
+part = '-every'
+listed('10: all 65,536 tags', keep_list.EVERY, 'H 01 0200 03 0405 00 06 03 07 00',
+       '1 11 children; 2 2e 11/1b; 3 24; 4 04 children; 5 28; 6 ffff; 7 fffe',
+       ('12R 13D 15D 16L 17L 19L 20D 21D', '12>12@0 16>13@1 17>14@2 18>15@2 19>16@1 22>17@1', '01 0405 00 06 00'),
+       {'addresses': '01'}, both=False, orders=ORDERS[:1])
+
 # ---- 50, and document 02's 3.1: padded numbers, in the order of crates/test_collect/src/main.rt: value, width, length, bytes or none where refused (15)
 PADDED = [(0, 1, 1, '00'), (16, 2, 3, '900000'), (127, 1, 3, '7f0000'), (128, 1, 3, None), (128, 2, 3, '800100'), (0, 0, 3, None), (0, 4, 3, None), (0, 3, 3, '808000'),
           (0, 1, 0, None), (0, 0, 0, None),
@@ -997,7 +1112,7 @@ def fixed_thin_cases(big, on):
             for name, of_unit, table, addresses, *lines in FIXED_THIN]
 
 
-FILES = {key: 'points%s%s%s.cases' % (key[0], '-64' * key[1], '-big' * key[2]) for key in cases}
+FILES = {key: 'points%s%s%s.cases' % (key[0], '-64' * key[1], '-big' * key[2]) for key, held in cases.items() if held}
 
 
 def files():
@@ -1030,7 +1145,8 @@ if __name__ == '__main__':
         sys.exit(0)
     wrong = write(files(), sys.argv[1:] == ['check'])
     print('collect: in each byte order %d cases of the 32-bit format and %d of the 64-bit one, for version 4 %d and '
-          '%d, with fixed addresses %d and %d; %d padded numbers; thin: %d files, %d of them big-endian' %
-          (*(len(cases[of, wide, False]) for of in PARTS for wide in FORMATS), len(PADDED),
+          '%d, with fixed addresses %d and %d, with keep lists %d and %d, by the place of a tag %d and %d, of '
+          'trees %d and %d; one with every tag; %d padded numbers; thin: %d files, %d of them big-endian' %
+          (*(len(cases[of, wide, False]) for of in PARTS[:-1] for wide in FORMATS), len(PADDED),
            len(thin_cases() + big_thin_cases()) + 2 * len(FIXED_THIN), len(big_thin_cases()) + len(FIXED_THIN)))
     sys.exit(wrong > 0)

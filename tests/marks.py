@@ -5,12 +5,14 @@ crates/marks too.
 Each case has the point that it is about (one with a dot is document 02's), its bytes (units.py has the notation) and
 the marks that the specification gives, never from a run. It stands in both byte orders, with the same marks, and in
 both formats, with the marks of the same entries (wide.py). Units with fixed addresses (fixed.py) have files of their
-own, which are marked twice: where these addresses do not count, and where they do. With `check` nothing is written, and
-the files are compared with what would be."""
+own, which are marked twice: where these addresses do not count, and where they do. So have units with keep lists
+(keep_list.py): a file for those that have a list in common, and one whose units are marked by many lists, one after
+another. With `check` nothing is written, and the files are compared with what would be."""
 import sys
 
 import failures
 import fixed
+import keep_list
 import older
 from units import (A5, BIG, CUT, DANGLING, ESCAPE, FAR, FIVE, FIVE64, FIVE_4, FORMATS, LARGEST, ORDERS, T, T64, Part,
                    asking, bundle_of, far, of_two, placed, unit, with_parts, write)
@@ -18,6 +20,8 @@ from wide import OneFormat, Wide
 
 points = {(wide, big): [] for wide in FORMATS for big in ORDERS}  # by the format, and the order that is told
 at_fixed = {key: [] for key in points}  # the same, with two answers
+by_list = {big: {} for big in ORDERS}  # of the 32-bit format, by the keep list
+by_lists = {key: [] for key in points}  # with an answer for each list, and then for each where fixed addresses count
 
 
 def ways(of_unit, table, expected, locations='', ranges='', addresses='', wrong=False, both=True, older=None):
@@ -394,10 +398,63 @@ twice('7: the five-entry unit', FIVE, A5, '12R 13L 16D 17L 18D', '12R 13L 16D 17
 twice('7: told the wrong order', 'H 01 02 09 03 8:1 00', V, 'refused 1', 'refused 1', wrong=True)
 
 
+# ---- document 02, point 10: keep lists
+def marks_of(answer):
+    """An answer of keep_list.py, as `case` has it."""
+    return 'refused %d' % answer if isinstance(answer, int) else ' '.join(answer[:1])
+
+
+for why, keep, of_unit, table, answer, sections in keep_list.HAND:
+    if isinstance(keep, str) and 'counts' not in sections:
+        for (_, big), data, (lines,) in ways(of_unit, table, [marks_of(answer)], both=False, **sections):
+            by_list[big].setdefault(keep, []).append((why, data, lines))
+for kind in 'HG':
+    for why, rows in keep_list.TREES.items():
+        tree = keep_list.Tree(rows, kind)
+        answers = [marks_of(tree.answer(keep, fixed)) for fixed in ORDERS for keep in keep_list.LISTS]
+        for way, data, lines in ways(tree.unit(), tree.table, answers, addresses='0001', both=kind == 'H'):
+            by_lists[way].append((why, data, lines))
+for why, number, _, of_unit, table, sections in keep_list.ENTRY_REFUSALS:
+    found = [keep_list.treatments_of(keep) for keep in keep_list.LISTS]
+    answers = ['refused %d' % (listed if isinstance(listed, int) else number) for listed in found]
+    for way, data, lines in ways(of_unit, table, answers * 2, **sections):
+        by_lists[way].append((why, data, lines))
+
+
+def list_parts():
+    """Parts and files of these. All lists in the first, some in the others."""
+    names = {}  # of the files, by what they hold: several lists may have the same units
+    for big in ORDERS:
+        words, text, made = [], '', {}
+        for keep, cases in by_list[big].items():
+            # a unit that has its list alone is marked twice: as one bundle it may be another crate's file
+            cases = [(data, lines) for _, data, lines in cases] * (1 + (len(cases) == 1))
+            units = b''.join(data for data, _ in cases)
+            name = names.setdefault(units, 'keep-%d%s.bundles' % (len(names) + 1, '-big' * big))
+            words += [keep_list.word(keep), name]
+            text += placed(name, cases)
+            made[name] = units
+        heading = '%sunits, each with its keep list' % ('big-endian ' * big)
+        yield Part(heading, 'marks', words, text, big), made
+    for (wide, big), cases in by_lists.items():
+        name = 'keep%s%s.bundles' % ('-64' * wide, '-big' * big)
+        for on in (False, True):
+            words, text = [], ''
+            for n, keep in list(enumerate(keep_list.LISTS))[::1 + 3 * (wide or big) + 4 * on]:
+                words += [keep_list.word(keep), name]
+                text += placed(name, [(data, lines[n + on * len(keep_list.LISTS)]) for _, data, lines in cases])
+            heading = '%sunits by keep lists%s%s' % ('big-endian ' * big, ', where fixed addresses count' * on,
+                                                     ', 64-bit format' * wide)
+            yield Part(heading, 'marks', words, text, big, on), {name: b''.join(data for _, data, _ in cases)}
+
+
 def main():
-    one = [(data, lines) for why, data, (_, lines) in at_fixed[False, True] if why.startswith('7: what it names')][0]
-    made, held = {'marks/stdin': one[0], 'marks/stdout': one[1].encode(),
-                  'marks/args': b'--fixed-addresses\n--big-endian\n'}, []
+    # the program that marks one bundle: it has each option
+    tree, keep = keep_list.Tree(keep_list.TREES['variables at fixed addresses']), '24=2 2e=1'
+    made = {'marks/stdin': bundle_of(tree.unit(), tree.table, addresses='0001', big=True),
+            'marks/stdout': letters(marks_of(tree.answer(keep, True))).encode(),
+            'marks/args': ('--fixed-addresses\n%s\n--big-endian\n' % keep_list.word(keep)).encode()}
+    held = []
     for (wide, big), cases in points.items():
         name = 'points%s%s.bundles' % ('-64' * wide, '-big' * big)
         heading = '%sunits made by hand%s' % ('big-endian ' * big, ', 64-bit format' * wide)
@@ -412,10 +469,16 @@ def main():
             text = placed(name, [(data, lines[on]) for _, data, lines in cases])
             held.append(Part(heading, 'marks', [name], text, big, on))
             made['test_marks/data/' + name] = b''.join(data for _, data, _ in cases)
+    for part, files in list_parts():
+        held.append(part)
+        made.update({'test_marks/data/' + name: data for name, data in files.items()})
     made.update(with_parts('test_marks', held))
     wrong = write(made, sys.argv[1:] == ['check'])
     print('marks: in each byte order %d points of the 32-bit format, %d of the 64-bit one; with fixed addresses %d '
-          'and %d' % tuple(len(held[wide, False]) for held in (points, at_fixed) for wide in FORMATS))
+          'and %d; with a keep list %d; %d and %d by %d lists' %
+          (*(len(held[wide, False]) for held in (points, at_fixed) for wide in FORMATS),
+           sum(map(len, by_list[False].values())),
+           *(len(by_lists[wide, False]) for wide in FORMATS), len(keep_list.LISTS)))
     sys.exit(wrong > 0)
 
 

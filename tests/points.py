@@ -15,6 +15,7 @@ import re
 import sys
 from functools import partial
 
+import keep_list
 from units import (A5, BIG, CUT, FAR, FIVE, FIVE64, FIVE_4, ORDERS, T, T64, Part, bundle, bundle_of, counted,
                    entry_values,
                    far, octets, ordered, parts, uleb, unit, with_parts, write)
@@ -836,6 +837,37 @@ for name, kind, size in (('p7', 'H', 8), ('p7', 'W', 8), ('v4-p7-32', 'G4', 4), 
     at_address(name + '-address', kind, size, 0xffffffff if size == 8 else 1, True)
     at_address(name + '-tombstone', kind, size, 256 ** size - 1, False)
 
+# ---- document 02, point 10: the five-entry unit with a keep list, which changes nothing of what dump prints; what thin
+# does: the letters of its entries, or a refusal
+BY_LIST = [('24=1', 'RLLLD'), ('2e=2', 'RDDDD'), ('11=1', 'RLLLL'), ('2e=1', 'RLLLL'), ('24=2', 'RLDLD'), ('24=3', 19),
+           ('24=1 2e=2', 'RDLLD'), ('2e=1 24=1', 20), ('', 'RLDLD')]
+FIVES = [('%sfive-entries', 12), ('64-%sfive-entries', 24), ('%sv4-five-entries', 11), ('64-%sv4-five-entries', 23)]
+
+
+def thinned_five(first, letters):
+    """What thin prints of the five-entry unit, by where it starts."""
+    if isinstance(letters, int):
+        return ['refused %d' % letters]
+    out, new = ['entries 5 kept %d' % (5 - letters.count('D'))], first
+    for old, size, letter in zip((0, 1, 4, 5, 6), (1, 3, 1, 1, 3), letters):
+        out.append('%d %s %s' % (first + old, letter, '-' if letter == 'D' else new))
+        new += size * (letter != 'D')
+    return out
+
+
+def by_list(big):
+    """Parts of dump, which has two of the lists, and of thin, by a byte order."""
+    files = [(name % ('big-' * big), first) for name, first in FIVES]
+    held = {name: text for name, _, _, text in cases[big]}
+    for what, lists in (('dump', BY_LIST[5:7]), ('thin', BY_LIST)):
+        words, text = [], ''
+        for keep, letters in lists:
+            words += [keep_list.word(keep)] + [name + '.bundle' for name, _ in files]
+            text += ''.join(held[name] if what == 'dump' else printed(name, thinned_five(first, letters))
+                            for name, first in files)
+        yield Part('%s with keep lists%s' % (what, ', big-endian' * big), what, words, text, big)
+
+
 # 6.8: references of an expression by the sizes that are told, in the order of crates/test_readers/src/main.rt
 SIZES = (0, 1, 2, 3, 4, 5, 7, 8, 9, 16, 255)
 
@@ -874,17 +906,20 @@ def main():
         for what, column in (('dump', 1), ('thin', 2)):
             text = ''.join(row[column] for row in at_fixed[big])
             held.append(Part('%s where fixed addresses count%s' % (what, word), what, names, text, big, True))
+        held += by_list(big)
     held.append(Part('references of an expression, by the sizes told', None, [], told_lines()))
     made.update(with_parts('test_readers', held))
-    # the program that reads one bundle: it has the five-entry unit, in big-endian
-    made.update({'dump/args': b'--big-endian\n', 'dump/stdin': bundle_of(FIVE, A5, addresses='01 00', big=True),
+    # the program that reads one bundle: it has the five-entry unit, in big-endian, and a list that is refused elsewhere
+    made.update({'dump/args': b'--big-endian\n--keep-list=46=2,0x24=3\n',
+                 'dump/stdin': bundle_of(FIVE, A5, addresses='01 00', big=True),
                  'dump/stdout': ''.join(line + '\n' for line in lines(FIVE_LINES)).encode()})
     wrong = write(made, sys.argv[1:] == ['check'])
     through = len(thinned[False] + thinned[True])
     wide = sum(name.startswith('64-') for held in cases.values() for name, _, _, _ in held)
     print('points: %d cases in little-endian, %d in big-endian, %d of them of the 64-bit format, %d through thin; '
-          '%d where fixed addresses count' % (len(cases[False]), len(cases[True]), wide, through,
-                                              sum(len(held) for held in at_fixed.values())))
+          '%d where fixed addresses count; %d by %d keep lists' %
+          (len(cases[False]), len(cases[True]), wide, through, sum(len(held) for held in at_fixed.values()),
+           len(ORDERS) * len(FIVES), len(BY_LIST)))
     sys.exit(wrong > 0)
 
 

@@ -27,7 +27,7 @@ pub struct Expected {
     /// Entries met, and the references of each whose references were read.
     pub met: usize,
     pub references: Vec<usize>,
-    /// A refusal of the reading, 1 to 7 or 17, or what comes after.
+    /// A refusal of the keep list, 19 or 20, or of the reading, 1 to 7 or 17, or what comes after.
     pub read: Result<Plan, u8>,
     /// The listed differences that the case can show.
     pub rules: BTreeSet<&'static str>,
@@ -221,8 +221,12 @@ fn plan(unit: &Unit, bytes: &[u8], marks: &[(usize, char)], type_units: bool) ->
 }
 
 /// What the port has to answer where the original answered so.
-pub fn expect(parts: Sections<'_>, setting: Setting, judged: &Judged) -> Expected {
+pub fn expect(parts: Sections<'_>, setting: Setting<'_>, judged: &Judged) -> Expected {
     let refused = |n: u8, rules| Expected { met: 0, references: vec![], read: Err(n), rules };
+    // Before the unit is looked at, so of an empty section too.
+    if let Some(n) = setting.keep.refusal() {
+        return refused(n, BTreeSet::new());
+    }
     let order = setting.order();
     if !parts[0].is_empty() {
         match header(parts[0], order) {

@@ -1,5 +1,6 @@
 //! One run of `gc_debug_info`, and what it let be seen.
 
+use crate::keep::KeepList;
 use crate::order::{order, Layout, Order};
 use crate::{error::Error, gc, gc::probe, plain, shims};
 use gimli::{
@@ -14,16 +15,18 @@ use std::panic::{self, AssertUnwindSafe};
 
 /// What a case leaves to the caller.
 #[derive(Clone, Copy, Default, Debug)]
-pub struct Setting {
+pub struct Setting<'a> {
     pub type_units: bool,
     pub ranges_base: usize,
     /// Fixed-width fields of the unit and its lists are big-endian, else little-endian.
     pub big_endian: bool,
     /// A DW_OP_addr in a variable's location that is no tombstone makes a root; gc.rs knows no such roots.
     pub fixed_addresses: bool,
+    /// Which tags are always roots, and which never; gc.rs knows no such list.
+    pub keep: KeepList<'a>,
 }
 
-impl Setting {
+impl Setting<'_> {
     pub fn order(&self) -> Order {
         order(self.big_endian)
     }
@@ -126,6 +129,16 @@ pub fn hex(bytes: &[u8]) -> String {
     })
 }
 
+/// Bytes of pairs of digits, with spaces anywhere.
+pub fn unhex(text: &str) -> Option<Vec<u8>> {
+    let digits: Vec<u8> =
+        text.chars().filter(|c| !c.is_whitespace()).map(|c| c.to_digit(16).map(|d| d as u8)).collect::<Option<_>>()?;
+    if digits.len() % 2 == 1 {
+        return None;
+    }
+    Some(digits.chunks(2).map(|d| d[0] << 4 | d[1]).collect())
+}
+
 pub fn or_dash(shown: String) -> String {
     if shown.is_empty() { "-".to_string() } else { shown }
 }
@@ -180,7 +193,7 @@ pub(crate) fn location_lists(section: EndianSlice<'_, Order>, older: bool) -> Lo
 /// the unit's version.
 macro_rules! original {
     ($module:ident, $parts:expr, $setting:expr, $resolver:expr) => {{
-        let (parts, setting): (Sections<'_>, Setting) = ($parts, $setting);
+        let (parts, setting): (Sections<'_>, Setting<'_>) = ($parts, $setting);
         let reader = |i: usize| EndianSlice::new(parts[i], setting.order());
         let older = Layout::of(setting.order(), parts[0]).older;
         $module::gc_debug_info(
@@ -196,7 +209,7 @@ macro_rules! original {
     }};
 }
 
-fn outcome(parts: Sections<'_>, setting: Setting, asked: &Cell<usize>) -> Outcome {
+fn outcome(parts: Sections<'_>, setting: Setting<'_>, asked: &Cell<usize>) -> Outcome {
     let resolver = |index: gimli::DebugAddrIndex<usize>| {
         asked.set(asked.get() + 1);
         resolved(parts[4], index.0)
@@ -212,16 +225,20 @@ fn outcome(parts: Sections<'_>, setting: Setting, asked: &Cell<usize>) -> Outcom
 }
 
 /// The original without the hook, its result freed: what is measured. The new unit's length, 0 where untouched, or none.
-/// Fixed addresses do not count here.
-pub fn measured(parts: Sections<'_>, setting: Setting) -> Option<usize> {
+/// Fixed addresses do not count here, and there is no keep list.
+pub fn measured(parts: Sections<'_>, setting: Setting<'_>) -> Option<usize> {
     let resolver = |index: gimli::DebugAddrIndex<usize>| resolved(parts[4], index.0);
     let answer = original!(plain, parts, setting, resolver).ok()?;
     Some(answer.rewritten.as_ref().map_or(0, |v| v.slice().len()))
 }
 
-/// Runs the original on the sections of a bundle.
-pub fn judge(parts: Sections<'_>, setting: Setting) -> Judged {
-    probe::begin(setting.fixed_addresses);
+/// Runs the original on the sections of a bundle; not where the keep list is refused, for that comes before the unit is looked at.
+pub fn judge(parts: Sections<'_>, setting: Setting<'_>) -> Judged {
+    if let Some(n) = setting.keep.refusal() {
+        let outcome = Outcome::Error(Some(n), if n == 19 { "Treatments" } else { "TagOrder" }.to_string());
+        return Judged { outcome, met: 0, references: vec![], marks: vec![], asked: 0 };
+    }
+    probe::begin(setting.fixed_addresses, setting.keep.by_tag());
     let asked = Cell::new(0);
     let outcome = panic::catch_unwind(AssertUnwindSafe(|| outcome(parts, setting, &asked)));
     let seen = probe::taken();

@@ -10,7 +10,7 @@ use std::ops::Range;
 
 pub struct Case<'a> {
     pub parts: Sections<'a>,
-    pub setting: Setting,
+    pub setting: Setting<'a>,
     /// How many entries were met.
     pub met: usize,
     /// Final marks, empty where something was refused before.

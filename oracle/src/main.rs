@@ -1,13 +1,14 @@
 //! The original collector as the judge: reads bundles and prints one line for each. README.md has the line's form.
 
 use oracle::cases::{sections, whole};
-use oracle::judge::{self, judge, or_dash, said, Judged, Sections, Setting};
+use oracle::judge::{self, judge, or_dash, said, unhex, Judged, Sections, Setting};
+use oracle::keep;
 use oracle::{listed, order};
 use std::io::{self, BufRead, BufReader, BufWriter, Read, Write};
 use std::panic::{self, AssertUnwindSafe};
 
-const USAGE: &str = "usage: oracle [--type-units] [--ranges-base N] [--big-endian] [--fixed-addresses] [--more]
-              [BUNDLE ..]
+const USAGE: &str = "usage: oracle [--type-units] [--ranges-base N] [--big-endian] [--fixed-addresses]
+              [--tags HEX --treatments HEX] [--more] [BUNDLE ..]
        oracle [--big-endian] --expression ADDRESS_SIZE OFFSET_SIZE HEX | --padded VALUE WIDTH | --tombstone ADDRESS ADDRESS_SIZE
 Without a file: bundles one after another from standard input.";
 
@@ -16,7 +17,7 @@ fn caught(job: impl FnOnce() -> String) -> String {
 }
 
 /// The line of a case. With `more` it says how far it came, and which listed differences the case can show.
-fn line(parts: Option<Sections<'_>>, setting: Setting, more: bool) -> String {
+fn line(parts: Option<Sections<'_>>, setting: Setting<'_>, more: bool) -> String {
     match parts {
         None => "bundle".to_string(),
         Some(parts) => {
@@ -31,14 +32,14 @@ fn line(parts: Option<Sections<'_>>, setting: Setting, more: bool) -> String {
 }
 
 /// What `--more` adds.
-fn added(parts: Sections<'_>, setting: Setting, judged: &Judged) -> String {
+fn added(parts: Sections<'_>, setting: Setting<'_>, judged: &Judged) -> String {
     let case = listed::Case { parts, setting, met: judged.met, marks: &judged.marks };
     let rules: Vec<&str> = listed::rules(&case).into_iter().collect();
     format!(" | met {} references {} listed {}", judged.met, judged.all_references(), or_dash(rules.join(",")))
 }
 
 /// Cases from standard input. Lines are handed out before the next case is waited for.
-fn stream(output: &mut impl Write, setting: Setting, more: bool) -> io::Result<()> {
+fn stream(output: &mut impl Write, setting: Setting<'_>, more: bool) -> io::Result<()> {
     let mut input = BufReader::with_capacity(1 << 16, io::stdin().lock());
     let mut rest = Vec::new();
     loop {
@@ -60,15 +61,6 @@ fn stream(output: &mut impl Write, setting: Setting, more: bool) -> io::Result<(
         }
         writeln!(output, "{}", line(sections(&rest), setting, more))?;
     }
-}
-
-fn unhex(text: &str) -> Option<Vec<u8>> {
-    let digits: Vec<u8> =
-        text.chars().filter(|c| !c.is_whitespace()).map(|c| c.to_digit(16).map(|d| d as u8)).collect::<Option<_>>()?;
-    if digits.len() % 2 == 1 {
-        return None;
-    }
-    Some(digits.chunks(2).map(|d| d[0] << 4 | d[1]).collect())
 }
 
 fn number(text: &str) -> Option<u64> {
@@ -128,7 +120,7 @@ fn run() -> io::Result<i32> {
         output.flush()?;
         return Ok(0);
     }
-    let mut setting = Setting::default();
+    let (mut setting, mut list) = (Setting::default(), keep::Owned::default());
     let mut more = false;
     let mut files = Vec::new();
     let mut args = args.into_iter();
@@ -145,6 +137,13 @@ fn run() -> io::Result<i32> {
                     return Ok(2);
                 }
             },
+            "--tags" | "--treatments" => match args.next().as_deref().and_then(unhex) {
+                Some(bytes) => *if arg == "--tags" { &mut list.tags } else { &mut list.treatments } = bytes,
+                None => {
+                    eprintln!("{USAGE}");
+                    return Ok(2);
+                }
+            },
             _ if arg.starts_with('-') => {
                 eprintln!("{USAGE}");
                 return Ok(2);
@@ -152,6 +151,7 @@ fn run() -> io::Result<i32> {
             _ => files.push(arg),
         }
     }
+    setting.keep = list.lent();
     if files.is_empty() {
         stream(&mut output, setting, more)?;
     }

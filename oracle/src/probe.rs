@@ -2,6 +2,7 @@
 
 use super::*;
 use std::cell::{Cell, RefCell};
+use std::collections::BTreeMap;
 
 /// What one run of `gc_debug_info` let be seen.
 #[derive(Clone, Default)]
@@ -17,6 +18,7 @@ pub(crate) struct Seen {
 thread_local! {
     static SEEN: RefCell<Seen> = RefCell::default();
     static FIXED_ADDRESSES: Cell<bool> = const { Cell::new(false) };
+    static KEEP_LIST: RefCell<BTreeMap<u16, u8>> = const { RefCell::new(BTreeMap::new()) };
 }
 
 /// What was taken down since a run began, or it was last taken.
@@ -24,15 +26,25 @@ pub(crate) fn taken() -> Seen {
     SEEN.take()
 }
 
-/// A run begins, in which fixed addresses count, or do not.
-pub(crate) fn begin(fixed_addresses: bool) {
+/// A run begins, in which fixed addresses count, or do not, and tags have these treatments.
+pub(crate) fn begin(fixed_addresses: bool, keep_list: BTreeMap<u16, u8>) {
     SEEN.take();
     FIXED_ADDRESSES.set(fixed_addresses);
+    KEEP_LIST.set(keep_list);
 }
 
 /// Whether fixed addresses count in this run: asked at each DW_OP_addr of a variable's location.
 pub(super) fn fixed_addresses() -> bool {
     FIXED_ADDRESSES.get()
+}
+
+/// Whether an entry with this tag is a root, where its root test says so.
+pub(super) fn treated(tag: gimli::DwTag, root: bool) -> bool {
+    match KEEP_LIST.with_borrow(|list| list.get(&tag.0).copied()) {
+        Some(1) => true,
+        Some(2) => false,
+        _ => root,
+    }
 }
 
 /// Called when an entry's attributes are read, before its root test.

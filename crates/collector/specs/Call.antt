@@ -8,6 +8,7 @@ use lib.Dec.{ltb}
 use Rattle.readers.specs.Choice.{pick, zeros}
 use Rattle.marking.specs.Columns.{padTo}
 use Rattle.marking.specs.Analysis.{sections}
+use Rattle.marking.specs.KeepList.{keepIn}
 use Rattle.marking.specs.declared.setting.Setting.{Setting}
 use Rattle.rewriting.specs.Written.{runBytes}
 use Rattle.rewriting.specs.Rewriting.{Collected, Room, collectOf}
@@ -71,9 +72,10 @@ settingOf base bigEndian fixedAddresses =
     record { «ranges_base» = base; «big_endian» = isYes bigEndian; «fixed_addresses» = isYes fixedAddresses }
 
 -- what collect makes of a call's sections and numbers
-abbrev pub collectedOf : List ℕ → List ℕ → List ℕ → List ℕ → List ℕ → List ℕ → ℕ → ℕ → ℕ → ℕ → Room → Collected
-collectedOf section abbreviations locations ranges addresses debugRanges base typeUnits bigEndian fixedAddresses room =
-    collectOf (sections abbreviations locations ranges addresses debugRanges (settingOf base bigEndian fixedAddresses))
+abbrev pub collectedOf : List ℕ → List ℕ → List ℕ → List ℕ → List ℕ → List ℕ → List ℕ → List ℕ → ℕ → ℕ → ℕ → ℕ → Room → Collected
+collectedOf section abbreviations locations ranges addresses debugRanges tags treatments base typeUnits bigEndian fixedAddresses room =
+    let setting = settingOf base bigEndian fixedAddresses in
+    collectOf (sections abbreviations locations ranges addresses debugRanges (keepIn tags treatments) setting)
     room (isYes typeUnits) section
 
 -- the room of the call's own tables, 2,048 entries and 8,192 references, with lent slices of some lengths

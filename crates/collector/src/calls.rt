@@ -17,6 +17,8 @@ pub extern "C" fn collector_collect_lent<'a>(
     ranges: &'a [u8],
     addresses: &[u8],
     debug_ranges: &'a [u8],
+    tags: &[u8],
+    treatments: &[u8],
     ranges_base: u64,
     type_units: u64,
     big_endian: u64,
@@ -43,8 +45,8 @@ pub extern "C" fn collector_collect_lent<'a>(
         (length (now (targets .entry))) (length (now (map .entry))) (length (now («range_list» .entry)))
         (length (now («location_list» .entry))) (length (now («string_list» .entry))) (length (now (out .entry))) in
         let answer = collectedOf (now (section .entry)) (now (abbreviations .entry)) (now (locations .entry))
-        (now (ranges .entry)) (now (addresses .entry)) (now («debug_ranges» .entry)) «ranges_base» «type_units»
-        «big_endian» «fixed_addresses» room in
+        (now (ranges .entry)) (now (addresses .entry)) (now («debug_ranges» .entry)) (now (tags .entry))
+        (now (treatments .entry)) «ranges_base» «type_units» «big_endian» «fixed_addresses» room in
         (r ≡ numberFor (length (now (counts .entry))) (answerFor answer))
         × (now (counts .exit) ≡ countsFor (length (now (counts .entry))) (answerFor answer))
         × (now (map .exit) ≡ mapFor (length (now (map .entry))) answer)
@@ -75,6 +77,8 @@ pub extern "C" fn collector_collect_lent<'a>(
         ranges,
         addresses,
         debug_ranges,
+        tags,
+        treatments,
         setting,
         type_units > 0,
         index,
@@ -104,6 +108,8 @@ pub extern "C" fn collector_collect<'a>(
     ranges: &'a [u8],
     addresses: &[u8],
     debug_ranges: &'a [u8],
+    tags: &[u8],
+    treatments: &[u8],
     ranges_base: u64,
     type_units: u64,
     big_endian: u64,
@@ -119,8 +125,8 @@ pub extern "C" fn collector_collect<'a>(
         let room = ownRoom (length (now (map .entry))) (length (now («range_list» .entry)))
         (length (now («location_list» .entry))) (length (now («string_list» .entry))) (length (now (out .entry))) in
         let answer = collectedOf (now (section .entry)) (now (abbreviations .entry)) (now (locations .entry))
-        (now (ranges .entry)) (now (addresses .entry)) (now («debug_ranges» .entry)) «ranges_base» «type_units»
-        «big_endian» «fixed_addresses» room in
+        (now (ranges .entry)) (now (addresses .entry)) (now («debug_ranges» .entry)) (now (tags .entry))
+        (now (treatments .entry)) «ranges_base» «type_units» «big_endian» «fixed_addresses» room in
         (r ≡ numberFor (length (now (counts .entry))) (answerFor answer))
         × (now (counts .exit) ≡ countsFor (length (now (counts .entry))) (answerFor answer))
         × (now (map .exit) ≡ mapFor (length (now (map .entry))) answer)
@@ -146,6 +152,8 @@ pub extern "C" fn collector_collect<'a>(
         ranges,
         addresses,
         debug_ranges,
+        tags,
+        treatments,
         ranges_base,
         type_units,
         big_endian,

@@ -9,3 +9,4 @@ pub mod ranges
 pub mod room
 pub mod tables
 pub mod fixed
+pub mod keep

@@ -8,3 +8,4 @@ pub mod MarkLaws
 pub mod UnitLaws
 pub mod MarkingSteps
 pub mod ClosedMarks
+pub mod RowsAt

@@ -17,12 +17,12 @@ use Rattle.marking.specs.Marks.{isKept}
 
 -- the same sections with another address table
 abbrev pub withTable : Sections → List ℕ → Sections
-withTable x table = sections (x .abbreviations) (x .locations) (x .ranges) table (x .debugRanges) (x .setting)
+withTable x table = sections (x .abbreviations) (x .locations) (x .ranges) table (x .debugRanges) (x .keep) (x .setting)
 
 -- the same sections where fixed addresses count, or do not (Point 7)
 abbrev pub withFixed : Sections → Bool → Sections
 withFixed x fixed =
-    sections (x .abbreviations) (x .locations) (x .ranges) (x .addresses) (x .debugRanges)
+    sections (x .abbreviations) (x .locations) (x .ranges) (x .addresses) (x .debugRanges) (x .keep)
     (record { «ranges_base» = x .setting .«ranges_base»; «big_endian» = x .setting .«big_endian»; «fixed_addresses» = fixed })
 
 -- a table of n indices, each of them live

@@ -4,7 +4,7 @@ use Rattle.marking.specs.Analysis.{Sections, sections}
 
 abbrev pub otherOrder : Sections → Sections
 otherOrder x =
-    sections (x .abbreviations) (x .locations) (x .ranges) (x .addresses) (x .debugRanges)
+    sections (x .abbreviations) (x .locations) (x .ranges) (x .addresses) (x .debugRanges) (x .keep)
     (record {
       «ranges_base» = x .setting .«ranges_base»;
       «big_endian» = not (x .setting .«big_endian»);

@@ -19,6 +19,8 @@ use Rattle.marking.specs.Addresses.{isTombstone}
 use Rattle.rewriting.specs.Written.{paddedAnswer, paddedOut}
 use Rattle.rewriting.specs.declared.numbers.Padded.the-variants.{Written, Refused as Padded′}
 use Rattle.rewriting.specs.Rewriting.{collectOf, Collected, Room, Lists, noLists, untouched, rewritten, refused}
+use Rattle.laws.specs.KeepLists.{noList}
+use Rattle.collector.specs.Call.{collectedOf}
 
 -- its abbreviations, by the form of its subprograms' addresses, as ULEB128, the form of its references and the
 -- attributes of its base types
@@ -55,7 +57,7 @@ abbrev pub told : Bool → Setting
 told big = record { «ranges_base» = 0; «big_endian» = big; «fixed_addresses» = false }
 
 abbrev pub five : List ℕ → Collected
-five table = collectOf (sections abbreviations5 [] [] table [] (told false)) room5 false unit5
+five table = collectOf (sections abbreviations5 [] [] table [] noList (told false)) room5 false unit5
 
 abbrev pub none3 : Lists
 none3 = record { ranges = some []; locations = some []; strings = some [] }
@@ -83,12 +85,53 @@ P1toP10 =
     × (five (1 ∷ 1 ∷ []) ≡ untouched 5 none3)
     × (five (2 ∷ 0 ∷ []) ≡ refused 6)
     × (five (1 ∷ []) ≡ refused 17)
-    × (collectOf (sections abbreviations5 [] [] [] [] (told false)) room5 false [] ≡ untouched 0 noLists)
+    × (collectOf (sections abbreviations5 [] [] [] [] noList (told false)) room5 false [] ≡ untouched 0 noLists)
     × ((paddedAnswer 0 1 1 ≡ Written) × (paddedOut 0 1 1 ≡ 0x00 ∷ [])
     × (paddedAnswer 16 2 2 ≡ Written) × (paddedOut 16 2 2 ≡ 0x90 ∷ 0x00 ∷ []))
     × (paddedAnswer 128 1 1 ≡ Padded′ 15)
     × ((isTombstone 0xffffffff 4 ≡ true) × (isTombstone 0xffffffff 8 ≡ false) × (isTombstone 0xffffffff 2 ≡ false))
     × (five [] ≡ untouched 5 none3)  -- document 02, Point 2
+
+-- ---- with keep lists (document 02, Point 10), as the C calls answer: by the bytes of their tags and their treatments
+
+abbrev pub keptBy : List ℕ → List ℕ → List ℕ → List ℕ → Collected
+keptBy tags treatments table section = collectedOf section abbreviations5 [] [] table [] tags treatments 0 0 0 0 room5
+
+-- the first entry alone, and both base types
+abbrev pub firstAlone : Collected
+firstAlone = rewrite5 1 (place 12 12 0 ∷ place 21 13 1 ∷ []) (header5 0x0a ++ 0x01 ∷ 0x00 ∷ [])
+
+abbrev pub baseTypes : Collected
+baseTypes =
+    rewrite5 3 (place 12 12 0 ∷ place 16 13 1 ∷ place 17 14 1 ∷ place 21 15 1 ∷ [])
+    (header5 0x0c ++ 0x01 ∷ 0x03 ∷ 0x03 ∷ 0x00 ∷ [])
+
+abbrev pub ByKeepLists : Type 0
+ByKeepLists =
+    -- base types always, subprograms always, never; a base type never, that P1 keeps by a reference
+    (keptBy (0x00 ∷ 0x24 ∷ []) (1 ∷ []) (0 ∷ 0 ∷ []) unit5 ≡ baseTypes)
+    × (keptBy (0x00 ∷ 0x2e ∷ []) (1 ∷ []) (0 ∷ 0 ∷ []) unit5 ≡ untouched 5 none3)
+    × (keptBy (0x00 ∷ 0x2e ∷ []) (2 ∷ []) (1 ∷ 1 ∷ []) unit5 ≡ firstAlone)
+    × (keptBy (0x00 ∷ 0x24 ∷ []) (2 ∷ []) (1 ∷ 0 ∷ []) unit5 ≡ p1)
+    -- the first, a middle and the last tag of a list; tags that no entry has
+    × (keptBy (0x00 ∷ 0x24 ∷ 0x00 ∷ 0x25 ∷ 0x00 ∷ 0x2e ∷ []) (1 ∷ 1 ∷ 2 ∷ []) (1 ∷ 1 ∷ []) unit5 ≡ baseTypes)
+    × (keptBy (0x00 ∷ 0x00 ∷ 0x00 ∷ 0x24 ∷ 0xff ∷ 0xff ∷ []) (2 ∷ 1 ∷ 1 ∷ []) (0 ∷ 0 ∷ []) unit5 ≡ baseTypes)
+    -- half a tag counts for nothing; the first of two bytes is the high one
+    × (keptBy (0x00 ∷ 0x24 ∷ 0x00 ∷ []) (1 ∷ []) (0 ∷ 0 ∷ []) unit5 ≡ baseTypes)
+    × (keptBy (0x24 ∷ 0x00 ∷ []) (1 ∷ []) (0 ∷ 0 ∷ []) unit5 ≡ firstAlone)
+    -- a root test that refuses
+    × (keptBy (0x00 ∷ 0x2e ∷ []) (2 ∷ []) (2 ∷ 0 ∷ []) unit5 ≡ refused 6)
+    × (keptBy (0x00 ∷ 0x2e ∷ []) (1 ∷ []) (1 ∷ []) unit5 ≡ refused 17)
+    -- 19: no treatment, another, not one for each tag; before 20 over the whole list, and before 1; 20
+    × (keptBy (0x00 ∷ 0x24 ∷ []) (0 ∷ []) (1 ∷ 0 ∷ []) unit5 ≡ refused 19)
+    × (keptBy (0x00 ∷ 0x24 ∷ []) (3 ∷ []) (1 ∷ 0 ∷ []) unit5 ≡ refused 19)
+    × (keptBy (0x00 ∷ 0x24 ∷ []) [] (1 ∷ 0 ∷ []) unit5 ≡ refused 19)
+    × (keptBy (0x24 ∷ []) (1 ∷ []) (1 ∷ 0 ∷ []) unit5 ≡ refused 19)
+    × (keptBy (0x00 ∷ 0x24 ∷ 0x00 ∷ 0x24 ∷ 0x00 ∷ 0x25 ∷ []) (1 ∷ 1 ∷ 0 ∷ []) (1 ∷ 0 ∷ []) unit5 ≡ refused 19)
+    × (keptBy (0x00 ∷ 0x24 ∷ 0x00 ∷ 0x24 ∷ []) (1 ∷ 1 ∷ []) (1 ∷ 0 ∷ []) unit5 ≡ refused 20)
+    × (keptBy (0x01 ∷ 0x00 ∷ 0x00 ∷ 0xff ∷ []) (1 ∷ 2 ∷ []) (1 ∷ 0 ∷ []) unit5 ≡ refused 20)
+    × (keptBy (0x00 ∷ 0x24 ∷ []) (0 ∷ []) [] (0x01 ∷ []) ≡ refused 19)
+    × (keptBy (0x00 ∷ 0x24 ∷ 0x00 ∷ 0x24 ∷ []) (1 ∷ 1 ∷ []) [] [] ≡ refused 20)
 
 -- ---- P1 by an encoding
 
@@ -120,7 +163,7 @@ abbrev pub addressIn : Encoding → List ℕ
 addressIn e = pick (eqb (e .version) 4) (0x81 ∷ 0x3e ∷ []) («DW_FORM_addrx» ∷ [])
 
 abbrev pub fiveIn : Encoding → List ℕ → List ℕ → List ℕ → Collected
-fiveIn e abbreviations body table = collectOf (sections abbreviations [] [] table [] (told (e .«big_endian»))) room5 false (unitIn e body)
+fiveIn e abbreviations body table = collectOf (sections abbreviations [] [] table [] noList (told (e .«big_endian»))) room5 false (unitIn e body)
 
 -- a subprogram, by its address index, that refers to a place in so many bytes
 module _ (e : Encoding) (width : ℕ) where

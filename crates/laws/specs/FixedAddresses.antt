@@ -1,16 +1,15 @@
 -- Variables at a fixed address (document 02, Point 7): the words of `as-live-index` (proofs/fixed/FixedOperations.antt),
 -- `fixed-roots-law`, `ended-law` (FixedRoots.antt) and `fixed-kept-law` (FixedSurvivors.antt).
-use Prim.Native.Nat.{ℕ, suc}
+use Prim.Native.Nat.{ℕ}
 use mathlib.Core.Path.{_≡_}
 use mathlib.Core.Bool.{false}
-use mathlib.Core.List.{List, _∷_}
+use mathlib.Core.List.{List}
 use mathlib.Core.Logic.{_⊎_}
 use lib.ListN.{getD}
 use Rattle.readers.specs.Codes.{«DW_AT_location», «DW_FORM_exprloc», «DW_OP_addr», «DW_TAG_variable»}
 use Rattle.readers.specs.EntryAttributes.{Valued}
 use Rattle.readers.specs.Fields.{partOf}
 use Rattle.readers.specs.Steps.{operationAt}
-use Rattle.readers.specs.Stream.{Item, entry, terminator}
 use Rattle.readers.specs.declared.cursor.Encoding.{Encoding}
 use Rattle.readers.specs.declared.entries.Entry.{Entry}
 use Rattle.readers.specs.declared.operations.Operation.{Operation}
@@ -58,9 +57,3 @@ pub record AlsoRoot (off on : Verdict) (Has : Type 0) : Type 0 where
   pub also : Has → on ≡ Dead → ⊥
   -- and by nothing else: the verdict, a refusal too, is the one without the choice, or it is live and this the reason
   pub only : (on ≡ off) ⊎ ((on ≡ Live) × Has)
-
--- an entry of a unit's items, and how many entries stand before it
-pub data EntryAt (y : Entry) : ℕ → List Item → Type 0 where
-  next : {rest : List Item} → EntryAt y 0 (entry y ∷ rest)
-  behind-entry : {k : ℕ} {z : Entry} {rest : List Item} → EntryAt y k rest → EntryAt y (suc k) (entry z ∷ rest)
-  behind-terminator : {k a b : ℕ} {rest : List Item} → EntryAt y k rest → EntryAt y k (terminator a b ∷ rest)

@@ -26,3 +26,4 @@ pub mod ByteOrders
 pub mod RangeSections
 pub mod Formats
 pub mod FixedAddresses
+pub mod KeepLists

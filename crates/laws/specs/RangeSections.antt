@@ -10,10 +10,10 @@ use Rattle.marking.specs.Analysis.{Sections, sections, Rooms, analysisOf}
 use Rattle.rewriting.specs.Rewriting.{Room, collectOf}
 
 abbrev pub withRanges : Sections → List ℕ → Sections
-withRanges x ranges = sections (x .abbreviations) (x .locations) ranges (x .addresses) (x .debugRanges) (x .setting)
+withRanges x ranges = sections (x .abbreviations) (x .locations) ranges (x .addresses) (x .debugRanges) (x .keep) (x .setting)
 
 abbrev pub withDebugRanges : Sections → List ℕ → Sections
-withDebugRanges x ranges = sections (x .abbreviations) (x .locations) (x .ranges) (x .addresses) ranges (x .setting)
+withDebugRanges x ranges = sections (x .abbreviations) (x .locations) (x .ranges) (x .addresses) ranges (x .keep) (x .setting)
 
 -- the same rows, so the same marks, with any room for them, and the same answer of collect
 pub record SameAnswers (x y : Sections) (section : List ℕ) : Type 0 where

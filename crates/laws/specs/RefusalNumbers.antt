@@ -1,4 +1,4 @@
--- The numbers that each call refuses with (document 01, "Operations and their numbers"; document 02, Point 5).
+-- The numbers that each call refuses with (document 01, "Operations and their numbers"; document 02, Points 5 and 10).
 use mathlib.Core.Path.{_≡_}
 use Prim.Native.Nat.{ℕ}
 use mathlib.Core.Logic.{_⊎_}
@@ -9,9 +9,19 @@ unfoldable pub OneOf : List ℕ → ℕ → Type 0
 OneOf [] n = ⊥
 OneOf (m ∷ ms) n = (n ≡ m) ⊎ OneOf ms n
 
+-- a keep list: "19, a treatment other than 1 or 2, or not one for each tag; 20, a tag not above the one before it"
+abbrev pub listNumbers : List ℕ
+listNumbers = 19 ∷ 20 ∷ []
+
+abbrev pub ListRefusal : ℕ → Type 0
+ListRefusal n = OneOf listNumbers n
+
 -- "Header in byte order: 1 cut short .., 2 a value outside the domain"
+abbrev pub headerNumbers : List ℕ
+headerNumbers = 1 ∷ 2 ∷ []
+
 abbrev pub HeaderRefusal : ℕ → Type 0
-HeaderRefusal n = OneOf (1 ∷ 2 ∷ []) n
+HeaderRefusal n = OneOf headerNumbers n
 
 -- "references of an expression. In this order 2 (address size not 4 or 8), 5, 7, 11"; 2 for an offset size, too
 abbrev pub ReferencesRefusal : ℕ → Type 0
@@ -38,15 +48,19 @@ abbrev pub EntriesRefusal : ℕ → Type 0
 EntriesRefusal n = OneOf entriesNumbers n
 
 -- the header's 1 and 2, "3 abbreviations", and those of the entries
+abbrev pub readNumbers : List ℕ
+readNumbers = 1 ∷ 2 ∷ 3 ∷ entriesNumbers
+
+-- before them a keep list's 19 and 20
 abbrev pub analysisNumbers : List ℕ
-analysisNumbers = 1 ∷ 2 ∷ 3 ∷ entriesNumbers
+analysisNumbers = 19 ∷ 20 ∷ readNumbers
 
 abbrev pub AnalysisRefusal : ℕ → Type 0
 AnalysisRefusal n = OneOf analysisNumbers n
 
 -- the same with tables that are long enough
 abbrev pub inputNumbers : List ℕ
-inputNumbers = 1 ∷ 2 ∷ 3 ∷ 4 ∷ 5 ∷ 6 ∷ 17 ∷ 7 ∷ []
+inputNumbers = 19 ∷ 20 ∷ 1 ∷ 2 ∷ 3 ∷ 4 ∷ 5 ∷ 6 ∷ 17 ∷ 7 ∷ []
 
 abbrev pub InputRefusal : ℕ → Type 0
 InputRefusal n = OneOf inputNumbers n
@@ -56,14 +70,14 @@ abbrev pub MarkRefusal : ℕ → Type 0
 MarkRefusal n = OneOf (16 ∷ []) n
 
 abbrev pub collectNumbers : List ℕ
-collectNumbers = 1 ∷ 2 ∷ 3 ∷ 4 ∷ 5 ∷ 6 ∷ 7 ∷ 8 ∷ 9 ∷ 10 ∷ 11 ∷ 12 ∷ 13 ∷ 14 ∷ 17 ∷ []
+collectNumbers = 1 ∷ 2 ∷ 3 ∷ 4 ∷ 5 ∷ 6 ∷ 7 ∷ 8 ∷ 9 ∷ 10 ∷ 11 ∷ 12 ∷ 13 ∷ 14 ∷ 17 ∷ 19 ∷ 20 ∷ []
 
 abbrev pub CollectRefusal : ℕ → Type 0
 CollectRefusal n = OneOf collectNumbers n
 
 -- the same with room enough
 abbrev pub roomyNumbers : List ℕ
-roomyNumbers = 1 ∷ 2 ∷ 3 ∷ 4 ∷ 5 ∷ 6 ∷ 7 ∷ 8 ∷ 9 ∷ 17 ∷ []
+roomyNumbers = 1 ∷ 2 ∷ 3 ∷ 4 ∷ 5 ∷ 6 ∷ 7 ∷ 8 ∷ 9 ∷ 17 ∷ 19 ∷ 20 ∷ []
 
 abbrev pub RoomyRefusal : ℕ → Type 0
 RoomyRefusal n = OneOf roomyNumbers n

@@ -6,13 +6,14 @@ use mathlib.Core.Bool.{Bool, true, false}
 use mathlib.Core.List.{List, []}
 use mathlib.Core.Option.{none, some}
 use lib.ListN.{length, take}
-use Rattle.laws.specs.RefusalNumbers.{HeaderRefusal, EntriesRefusal}
+use Rattle.laws.specs.RefusalNumbers.{ListRefusal, HeaderRefusal, EntriesRefusal}
 use Rattle.readers.specs.Abbreviations.{Placed, abbreviationsOf}
 use Rattle.readers.specs.Header.{headerOf}
 use Rattle.readers.specs.Layout.{Piece}
 use Rattle.readers.specs.declared.header.UnitHeader.{UnitHeader}
 use Rattle.readers.specs.declared.header.HeaderRead.the-variants.{Unit as Header′, Refused}
 use Rattle.marking.specs.Analysis.{Sections, EntryRow, analysed, refused as notAnalysed, analysisOf}
+use Rattle.marking.specs.KeepList.{keepRefusal}
 use Rattle.marking.specs.Marks.{keptCount}
 use Rattle.marking.specs.Resolution.{marksIn}
 use Rattle.rewriting.specs.Places.{NestedItem, keptFrom, placesFrom, sizeFrom}
@@ -47,13 +48,15 @@ module _ (x : Sections) (room : Room) (typeUnits : Bool) (section : List ℕ) wh
     pub dead : keptCount (marksIn (u .rows)) < length (marksIn (u .rows))
     pub listed : listsFit room (listsIn u) ≡ true
 
-  -- where a refusal comes from, and what was passed before it: "Header .. 1 .., 2 .. . 3 abbreviations. Then entry by entry
-  -- .. . Then 12 an index list too short .. . If something is dead: 13 map, 14 output too short, then in stream order 8 .. or 9"
+  -- where a refusal comes from, and what was passed before it: of the keep list "19 .., 20 ..; both before 1"; "Header .. 1
+  -- .., 2 .. . 3 abbreviations. Then entry by entry .. . Then 12 an index list too short .. . If something is dead: 13 map,
+  -- 14 output too short, then in stream order 8 .. or 9"
   pub data RefusedAt : ℕ → Type 0 where
-    at-header : {n : ℕ} → headerOf (x .setting .«big_endian») section ≡ Refused n → HeaderRefusal n → RefusedAt n
-    at-abbreviations : {h : UnitHeader} → headerOf (x .setting .«big_endian») section ≡ Header′ h
+    at-list : {n : ℕ} → keepRefusal (x .keep) ≡ n → ListRefusal n → RefusedAt n
+    at-header : {n : ℕ} → keepRefusal (x .keep) ≡ 0 → headerOf (x .setting .«big_endian») section ≡ Refused n → HeaderRefusal n → RefusedAt n
+    at-abbreviations : {h : UnitHeader} → keepRefusal (x .keep) ≡ 0 → headerOf (x .setting .«big_endian») section ≡ Header′ h
         → abbreviationsOf (x .abbreviations) (h .abbreviations) ≡ none → RefusedAt 3
-    at-entries : {h : UnitHeader} {ds : List Placed} {n : ℕ} → headerOf (x .setting .«big_endian») section ≡ Header′ h
+    at-entries : {h : UnitHeader} {ds : List Placed} {n : ℕ} → keepRefusal (x .keep) ≡ 0 → headerOf (x .setting .«big_endian») section ≡ Header′ h
         → abbreviationsOf (x .abbreviations) (h .abbreviations) ≡ some ds
         → analysisOf x section (room .tables) ≡ notAnalysed n → EntriesRefusal n → RefusedAt n
     at-lists : (u : UnitRead x room section) → 0 < length (u .rows) → listsFit room (listsIn u) ≡ false → RefusedAt 12

@@ -1,9 +1,9 @@
 -- The survivors of a unit, as demand 3 has them: the least set by the rows of its entries, what the rows say of the
 -- entries, the marks, their count, and single markings.
 use mathlib.Core.Path.{_≡_}
-use Prim.Native.Nat.{ℕ, _<_}
+use Prim.Native.Nat.{ℕ, suc, _<_}
 use mathlib.Core.Bool.{true}
-use mathlib.Core.List.{List, []}
+use mathlib.Core.List.{List, [], _∷_}
 use mathlib.Core.Option.{some}
 use mathlib.Core.Logic.{_⊎_, _↔_}
 use lib.ListN.{length, getD, take}
@@ -11,6 +11,8 @@ use lib.Dec.{T}
 use Rattle.readers.specs.Lists.{listBase}
 use Rattle.readers.specs.Abbreviations.{Placed, abbreviationsOf}
 use Rattle.readers.specs.Header.{headerOf, Known}
+use Rattle.readers.specs.Stream.{Item, entry, terminator}
+use Rattle.readers.specs.declared.entries.Entry.{Entry}
 use Rattle.readers.specs.declared.header.UnitHeader.{UnitHeader}
 use Rattle.readers.specs.declared.header.HeaderRead.the-variants.{Unit as Unit′}
 use Rattle.marking.specs.Members.{Member, Nth}
@@ -73,6 +75,12 @@ pub record FirstUnit (x : Sections) (section : List ℕ) (rows : List EntryRow) 
   pub whole : unitItems x section header declared .1 ≡ true
   pub each : RowsOf (header .encoding) x (take (header .end) section) 0 [] (listBase (header .encoding)) (listBase (header .encoding))
       (unitItems x section header declared .0) rows
+
+-- an entry of a unit's items, and how many entries stand before it
+pub data EntryAt (y : Entry) : ℕ → List Item → Type 0 where
+  next : {rest : List Item} → EntryAt y 0 (entry y ∷ rest)
+  behind-entry : {k : ℕ} {z : Entry} {rest : List Item} → EntryAt y k rest → EntryAt y (suc k) (entry z ∷ rest)
+  behind-terminator : {k a b : ℕ} {rest : List Item} → EntryAt y k rest → EntryAt y k (terminator a b ∷ rest)
 
 -- the graph that is marked says what the rows say
 pub record GraphSays (rows : List EntryRow) (g : Graph) : Type 0 where

@@ -23,6 +23,7 @@ use Rattle.marking.specs.declared.root_test.Verdict.the-variants.{Live, 
 use Rattle.marking.specs.Analysis.{Sections, Rooms, EntryRow, Analysed, analysed, onVerdict, onFound, Reached, reached, startOf, analyseItems, onDeclared, unitAnalysed, headerAnalysed, analysisOf, rootOf, namesOf, baseOf}
 use Rattle.marking.specs.EntryRows.{Tested, RowOf, RowsOf, unitItems}
 use Rattle.marking.proofs.Rows.{Gives, gives-of, gives-onto, gives-map, gives-refused, UnitRows, unit-rows}
+use Rattle.marking.proofs.ListedHeaders.{analysed-listed}
 
 gives-names : (P : List EntryRow → Type 0) (f : ReferencesFound) (k : List ℕ → Analysed) → ((names : List ℕ) → f ≡ found names → Gives P (k names)) → Gives P (onFound f k)
 unfolding Gives onFound
@@ -94,7 +95,7 @@ module _ (x : Sections) (section : List ℕ) (room : Rooms) (h : UnitHeader) (ds
 
   unit-analysed : unitAnalysed (h .encoding) x own room (h .abbreviations) (h .first .0) ≡ analysed rows
   unfolding analysisOf headerAnalysed
-  unit-analysed = sym (ap (headerAnalysed x section room) header) ∙ analysis
+  unit-analysed = sym (ap (headerAnalysed x section room) (analysed-listed x section room rows analysis ∙ header)) ∙ analysis
 
   items-analysed : analyseItems (h .encoding) x own room (startOf (h .encoding)) (unitItems x section h ds .0) (unitItems x section h ds .1) ≡ analysed rows
   unfolding unitAnalysed onDeclared

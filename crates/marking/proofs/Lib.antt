@@ -4,6 +4,7 @@ pub mod Lists
 pub mod RangePairs
 pub mod RangeSections
 pub mod RootTests
+pub mod ListedHeaders
 pub mod Placing
 pub mod NextOffsets
 pub mod Founds
@@ -27,6 +28,7 @@ pub mod Stages
 pub mod UnitAnalyses
 pub mod Rows
 pub mod Searches
+pub mod KeepLists
 pub mod Pairs
 pub mod Columned
 pub mod UnitMarkings

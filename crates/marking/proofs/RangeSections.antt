@@ -16,8 +16,9 @@ use Rattle.readers.specs.EntryAttributes.{Valued}
 use Rattle.readers.specs.Stream.{Item, entry, terminator, itemsFrom}
 use Rattle.readers.specs.declared.cursor.Encoding.{Encoding}
 use Rattle.readers.specs.declared.entries.Entry.{Entry}
-use Rattle.marking.specs.Analysis.{Sections, sections, rangesFor, Rooms, Reached, reached, startOf, Analysed, refused, onto, onVerdict, onFound, tagOf, valuesOfEntry, rootOf, namesOf, baseOf, analyseItems, onDeclared, unitAnalysed}
+use Rattle.marking.specs.Analysis.{Sections, sections, rangesFor, Rooms, Reached, reached, startOf, Analysed, refused, onto, onVerdict, onFound, tagOf, valuesOfEntry, testOf, rootOf, namesOf, baseOf, analyseItems, onDeclared, unitAnalysed}
 use Rattle.marking.specs.EntryReferences.{ReferencesFound, found, refused as refusedAfter}
+use Rattle.marking.specs.KeepList.{KeepList, treatmentOf, treated}
 use Rattle.marking.specs.Roots.{rangesBy, rootTest}
 use Rattle.marking.specs.declared.root_test.Verdict.{Verdict}
 use Rattle.marking.specs.declared.root_test.Verdict.the-variants.{Live, Dead, Refused as Failed}
@@ -52,23 +53,23 @@ found-same (found xs) k g h = h xs
 found-same (refusedAfter xs n) k g h = refl
 
 -- a root test in one section
-pub rooted : (e : Encoding) (ranges table : List ℕ) (rangesBase base : ℕ) (fixed : Bool) (unit : List ℕ) (tag : ℕ) (values : List Valued) (w : Verdict)
-    → w ≡ rootTest e (rangesBy ranges table rangesBase base) fixed unit tag values
-    → w ≡ rootTest e (rangesBy (rangesFor e ranges ranges) table rangesBase base) fixed unit tag values
-rooted e ranges table rangesBase base fixed unit tag values w q =
-    q ∙ ap (λ (z : List ℕ). rootTest e (rangesBy z table rangesBase base) fixed unit tag values) (sym (same-for e ranges))
+pub rooted : (k : ℕ) (e : Encoding) (ranges table : List ℕ) (rangesBase base : ℕ) (fixed : Bool) (unit : List ℕ) (tag : ℕ) (values : List Valued) (w : Verdict)
+    → w ≡ treated k (rootTest e (rangesBy ranges table rangesBase base) fixed unit tag values)
+    → w ≡ treated k (rootTest e (rangesBy (rangesFor e ranges ranges) table rangesBase base) fixed unit tag values)
+rooted k e ranges table rangesBase base fixed unit tag values w q =
+    q ∙ ap (λ (z : List ℕ). treated k (rootTest e (rangesBy z table rangesBase base) fixed unit tag values)) (sym (same-for e ranges))
 
-module _ (e : Encoding) (a l r t o : List ℕ) (setting : Setting) (unit : List ℕ) (room : Rooms) where
+module _ (e : Encoding) (a l r t o : List ℕ) (keep : KeepList) (setting : Setting) (unit : List ℕ) (room : Rooms) where
   -- all that is lent, and with the chosen section alone
   abbrev lent : Sections
-  lent = sections a l r t o setting
+  lent = sections a l r t o keep setting
 
   abbrev chosen : Sections
-  chosen = sections a l (rangesFor e r o) t (rangesFor e r o) setting
+  chosen = sections a l (rangesFor e r o) t (rangesFor e r o) keep setting
 
   root-same : (base : ℕ) (y : Entry) → rootOf e chosen unit base y ≡ rootOf e lent unit base y
-  unfolding rootOf rangesFor pick valuesOfEntry
-  root-same base y = sym (rooted e (rangesFor e r o) t (setting .«ranges_base») base (setting .«fixed_addresses») unit (tagOf y) (valuesOfEntry e lent unit y) _ refl)
+  unfolding rootOf testOf rangesFor pick valuesOfEntry
+  root-same base y = sym (rooted (treatmentOf keep (tagOf y)) e (rangesFor e r o) t (setting .«ranges_base») base (setting .«fixed_addresses») unit (tagOf y) (valuesOfEntry e lent unit y) _ refl)
 
   items-same : (p : Reached) (items : List Item) (whole : Bool) → analyseItems e chosen unit room p items whole ≡ analyseItems e lent unit room p items whole
   unfolding analyseItems baseOf namesOf valuesOfEntry

@@ -15,7 +15,6 @@ use Rattle.readers.proofs.Choice.{pick-either, All, all-some, all-none, all-pic
 use Rattle.readers.specs.Nesting.{noParent, opened, closed, top}
 use Rattle.readers.specs.Abbreviations.{Placed, declaredIn, abbreviationsOf}
 use Rattle.readers.specs.Entries.{stepAt}
-use Rattle.readers.specs.Header.{headerOf}
 use Rattle.readers.specs.declared.header.HeaderRead.{HeaderRead}
 use Rattle.readers.specs.declared.header.HeaderRead.the-variants.{Unit as Unit′, Empty, Refused}
 use Rattle.readers.specs.declared.cursor.Encoding.{Encoding}
@@ -29,7 +28,7 @@ use Rattle.marking.specs.declared.root_test.Verdict.{Verdict}
 use Rattle.marking.specs.declared.root_test.Verdict.the-variants.{Live, Dead, Refused as Failed}
 use Rattle.marking.proofs.Tests.{and-in, or-inl, or-inr}
 use Rattle.readers.specs.Stream.{Item, entry, terminator, Items, push, onStep, itemsWithin, itemsFrom}
-use Rattle.marking.specs.Analysis.{Sections, Rooms, EntryRow, Analysed, analysed, refused, onto, onVerdict, onFound, Reached, reached, startOf, analyseItems, onDeclared, unitAnalysed, headerAnalysed, analysisOf, rootOf, namesOf, baseOf}
+use Rattle.marking.specs.Analysis.{Sections, Rooms, EntryRow, Analysed, analysed, refused, onto, onVerdict, onFound, Reached, reached, startOf, analyseItems, onDeclared, unitAnalysed, headerBy, headerAnalysed, analysisOf, rootOf, namesOf, baseOf}
 use Rattle.marking.specs.Columns.{offsetsIn, parentsIn, rootsIn, namesIn}
 use Rattle.marking.specs.Resolution.{entryFrom, pairFor, pairsOfEntry, pairsFrom, pairsIn, graphOf, Ascending}
 use Rattle.readers.proofs.Streams.{EntryInside, step-inside, terminator-inside}
@@ -309,7 +308,7 @@ module _ (x : Sections) (section : List ℕ) (room : Rooms) (rows : List EntryRo
 
   pub analysis-rows : analysisOf x section room ≡ analysed rows → UnitRows section room 0 rows
   unfolding analysisOf
-  analysis-rows q = header-rows (headerOf (x .setting .«big_endian») section) q
+  analysis-rows q = header-rows (headerBy x section) q
 
 -- ---- their graph
 

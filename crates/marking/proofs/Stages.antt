@@ -32,7 +32,7 @@ use Rattle.readers.proofs.Nesting.{opened-is, closed-is, chain-closed, length-o
 use Rattle.readers.specs.inner.Nesting.{Chain}
 use Rattle.marking.specs.ReferenceTable.{written}
 use Rattle.readers.specs.Stream.{Items, push, onStep, itemsFrom}
-use Rattle.marking.specs.Analysis.{Sections, Rooms, EntryRow, Analysed, analysed, refused, onto, onVerdict, onFound, Reached, reached, startOf, valuesOfEntry, rootOf, namesOf, baseOf, analyseItems, onDeclared, unitAnalysed}
+use Rattle.marking.specs.Analysis.{Sections, Rooms, EntryRow, Analysed, analysed, refused, onto, onVerdict, onFound, Reached, reached, startOf, valuesOfEntry, testOf, rootOf, namesOf, baseOf, analyseItems, onDeclared, unitAnalysed}
 use Rattle.marking.specs.Columns.{offsetsIn, parentsIn, rootsIn, namesIn, endsIn, padTo, answerOf}
 use Rattle.marking.specs.inner.Columns.{Left, Outcome, AnalysisInput, headed, refusalOf, entryAnswer, entryTable}
 use Rattle.marking.specs.declared.analysis.EntryAnalysis.{EntryAnalysis}
@@ -461,7 +461,7 @@ module _ {e : Encoding} {x : Sections} {unit : List ℕ} {room : Rooms} {look : 
       head-size = ap length t ∙ length-entry-table targets to (rootOf e x unit rb′ (headed g)) (namesOf e x unit lb′ (headed g))
 
       pub head-refused : (n : ℕ) → NoRow n ≡ answerTo end → Ends (Refused′ n) targets′
-      unfolding entryTo valuesOfEntry rootOf namesOf baseOf
+      unfolding entryTo valuesOfEntry testOf rootOf namesOf baseOf
       head-refused n q = of end s q
         where
           of : (end′ : Moved) → entryTo g end′ ≡ stepAt e (x .abbreviations) look unit at → NoRow n ≡ answerTo end′ → Ends (Refused′ n) targets′
@@ -483,12 +483,12 @@ module _ {e : Encoding} {x : Sections} {unit : List ℕ} {room : Rooms} {look : 
         head-ahead = stage-ahead (entryOf g next) entered
 
         pub head-over : room .references < place → Ends (Refused′ 11) targets′
-        unfolding valuesOfEntry rootOf namesOf baseOf
+        unfolding valuesOfEntry testOf rootOf namesOf baseOf
         head-over o = stage-over (entryOf g next) entered l rb′ lb′ r b targets′ t root place (q ∙ ap answerTo there) o
 
         pub head-entry : place ≤ room .references → (nesting′ : Nesting) → nesting′ ≡ nestingOpened (g .declaration .children) count nesting
             → Stage e x unit room look whole offsets₀ parents₀ roots₀ ends₀ targets₀ (set offsets count (g .offset .0)) (set parents count (nesting .parent .0)) (set roots count root) (set ends count place) targets′ (next .at) (count + 1) place nesting′ rb′ lb′
-        unfolding valuesOfEntry rootOf namesOf baseOf
+        unfolding valuesOfEntry testOf rootOf namesOf baseOf
         head-entry f nesting′ n = stage-entry (entryOf g next) entered l rb′ lb′ r b targets′ t root place (q ∙ ap answerTo there) f nesting′ n
 
 -- ---- the start
@@ -509,7 +509,7 @@ module _ (e : Encoding) (x : Sections) (unit : List ℕ) (room : Rooms) (from fi
 
   pub stage-start : (offsets parents roots ends targets : List ℕ) (nesting : Nesting) (rb lb : ℕ) → nesting ≡ nestingOf [] → rb ≡ listBase e → lb ≡ listBase e
       → length offsets * 8 < 2 ^ 63
-      → AnalysisInput (x .abbreviations) index from unit (room .entries) (room .references) offsets parents roots ends targets
+      → AnalysisInput (x .abbreviations) index from unit (room .entries) (room .references) offsets parents roots ends targets (x .keep)
       → Stage e x unit room (findAt (x .abbreviations) from index) (unitAnalysed e x unit room from first)
       offsets parents roots ends targets offsets parents roots ends targets first 0 0 nesting rb lb
   unfolding checkedOf ontoAll offsetsIn parentsIn rootsIn namesIn endsIn Chain Below

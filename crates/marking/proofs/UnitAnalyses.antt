@@ -1,7 +1,6 @@
 -- The first unit of a section: its header, its declarations, then its entries; what the columns and the index hold in each case. Assumes nothing.
 use mathlib.Core.Path.{_≡_, refl, ap, ap₂, sym, _∙_, subst}
 use Prim.Native.Nat.{ℕ, _-_, _≤_, _<_}
-use mathlib.Core.Bool.{Bool}
 use mathlib.Core.Option.{Option, none, some}
 use mathlib.Core.List.{List, []}
 use native.Mathlib.Omega.{arith}
@@ -10,7 +9,6 @@ use lib.Dec.{leb}
 use mir.Facts.{leb-yes, leb-no}
 use Rattle.readers.specs.Choice.{zeros}
 use Rattle.readers.proofs.Choice.{pick-either}
-use Rattle.readers.specs.Header.{headerOf}
 use Rattle.readers.specs.Abbreviations.{Placed, abbreviationsOf, asChecked, checkedOf, indexFor, indexOf}
 use Rattle.readers.specs.declared.abbreviations.Checked.{Checked}
 use Rattle.readers.specs.declared.abbreviations.Checked.the-variants.{Accepted, Refused as Undeclared}
@@ -18,13 +16,15 @@ use Rattle.readers.specs.declared.header.UnitHeader.{UnitHeader}
 use Rattle.readers.specs.declared.header.HeaderRead.{HeaderRead}
 use Rattle.readers.specs.declared.header.HeaderRead.the-variants.{Unit as Unit′, Empty, Refused as Unheaded}
 use Rattle.readers.proofs.Declarations.{length-indexed}
-use Rattle.marking.specs.Analysis.{Sections, Rooms, rooms, EntryRow, Analysed, analysed, refused, onDeclared, unitAnalysed, headerAnalysed, analysisOf}
+use Rattle.marking.specs.Analysis.{Sections, Rooms, rooms, EntryRow, Analysed, analysed, refused, onDeclared, unitAnalysed, afterList, headerBy, headerAnalysed, analysisOf}
+use Rattle.marking.specs.KeepList.{KeepList, keepRefusal}
 use Rattle.marking.specs.Columns.{offsetsIn, parentsIn, rootsIn, namesIn, endsIn, padTo, column, least, roomsOf, indexAfter, answerOf}
 use Rattle.marking.specs.inner.Columns.{Left, Outcome, AnalysisInput, leftBy, unitChecked, unitFound}
 use Rattle.marking.specs.declared.analysis.Analysis.{Analysis}
 use Rattle.marking.specs.declared.analysis.Analysis.the-variants.{Entries, Refused as Refused′}
 use Rattle.marking.specs.declared.analysis.UnitFound.{UnitFound}
 use Rattle.marking.specs.declared.analysis.UnitFound.the-variants.{Unit as Found′, Answered as Answered′}
+use Rattle.marking.proofs.ListedHeaders.{after-listed}
 
 -- ---- columns that are left, and columns that are cleared
 
@@ -58,10 +58,10 @@ Filled′ w nf np nr ne nt offsets parents roots ends targets =
 
 -- ---- a unit
 
-pub ready-in : {abbreviations index : List ℕ} {from : ℕ} {unit unit′ : List ℕ} {n m : ℕ} {offsets parents roots ends targets : List ℕ}
-    → unit′ ≡ unit → AnalysisInput abbreviations index from unit n m offsets parents roots ends targets → AnalysisInput abbreviations index from unit′ n m offsets parents roots ends targets
-ready-in {abbreviations} {index} {from} {unit} {unit′} {n} {m} {offsets} {parents} {roots} {ends} {targets} e h =
-    subst (λ (u : List ℕ). AnalysisInput abbreviations index from u n m offsets parents roots ends targets) (sym e) h
+pub ready-in : {abbreviations index : List ℕ} {from : ℕ} {unit unit′ : List ℕ} {n m : ℕ} {offsets parents roots ends targets : List ℕ} {keep : KeepList}
+    → unit′ ≡ unit → AnalysisInput abbreviations index from unit n m offsets parents roots ends targets keep → AnalysisInput abbreviations index from unit′ n m offsets parents roots ends targets keep
+ready-in {abbreviations} {index} {from} {unit} {unit′} {n} {m} {offsets} {parents} {roots} {ends} {targets} {keep} e h =
+    subst (λ (u : List ℕ). AnalysisInput abbreviations index from u n m offsets parents roots ends targets keep) (sym e) h
 
 module _ {w w′ : Analysed} {offsets₀ parents₀ roots₀ ends₀ targets₀ offsets parents roots ends targets : List ℕ} (same : w ≡ w′)
     (h : Outcome w offsets₀ parents₀ roots₀ ends₀ targets₀ offsets parents roots ends targets) where
@@ -182,15 +182,15 @@ index-found : (abbreviations : List ℕ) (r : HeaderRead) (h : UnitHeader) (k : 
 unfolding indexAfter
 index-found abbreviations r h k index e i = i ∙ ap (λ (q : HeaderRead). indexAfter abbreviations q k) e
 
-pub unit-ready : (big : Bool) (abbreviations index section : List ℕ) (h : UnitHeader) (k : ℕ) {entries references n m : ℕ}
+pub unit-ready : (keep : KeepList) (own : HeaderRead) (abbreviations index section : List ℕ) (h : UnitHeader) (k : ℕ) {entries references n m : ℕ}
     (nf np nr ne nt : ℕ) (offsets parents roots ends targets : List ℕ)
-    → Found′ h ≡ unitFound abbreviations (headerOf big section) → index ≡ indexAfter abbreviations (headerOf big section) k
+    → Found′ h ≡ unitFound abbreviations (afterList (keepRefusal keep) own) → index ≡ indexAfter abbreviations (afterList (keepRefusal keep) own) k
     → Room entries references (length offsets) (length parents) (length roots) (length ends) (length targets) n m
     → Clear nf np nr ne nt offsets parents roots ends targets
-    → AnalysisInput abbreviations index (h .abbreviations) (take (h .end) section) n m offsets parents roots ends targets
-unit-ready big abbreviations index section h k {entries} {references} {n} {m} nf np nr ne nt offsets parents roots ends targets q i r c =
-    let u : (headerOf big section ≡ Unit′ h) × (checkedOf abbreviations (h .abbreviations) ≡ Accepted) = unit-found abbreviations (headerOf big section) h q in
-    let j : index ≡ indexOf abbreviations (h .abbreviations) k = index-found abbreviations (headerOf big section) h k index (u .0) i in
+    → AnalysisInput abbreviations index (h .abbreviations) (take (h .end) section) n m offsets parents roots ends targets keep
+unit-ready keep own abbreviations index section h k {entries} {references} {n} {m} nf np nr ne nt offsets parents roots ends targets q i r c =
+    let u : (afterList (keepRefusal keep) own ≡ Unit′ h) × (checkedOf abbreviations (h .abbreviations) ≡ Accepted) = unit-found abbreviations (afterList (keepRefusal keep) own) h q in
+    let j : index ≡ indexOf abbreviations (h .abbreviations) k = index-found abbreviations (afterList (keepRefusal keep) own) h k index (u .0) i in
     let e₁ : n ≡ least entries (least (least (length offsets) (length parents)) (least (length roots) (length ends))) = r .rows in
     let e₂ : m ≡ least references (length targets) = r .names in
     let front : ℕ = least (length offsets) (length parents) in
@@ -211,6 +211,7 @@ unit-ready big abbreviations index section h k {entries} {references} {n} {m} nf
       roots-clear = zeros-own nr roots (c .1 .1 .0);
       ends-clear = zeros-own ne ends (c .1 .1 .1 .0);
       targets-clear = zeros-own nt targets (c .1 .1 .1 .1);
+      listed = after-listed (keepRefusal keep) own h (u .0) .1;
     }
 
 -- ---- the section
@@ -219,14 +220,14 @@ module _ (x : Sections) (section : List ℕ) (room : Rooms) (k nf np nr ne nt : 
   abbrev pub Answered : Analysis → Type 0
   Answered r =
       (r ≡ answerOf (analysisOf x section room))
-      × ((index ≡ indexAfter (x .abbreviations) (headerOf (x .setting .«big_endian») section) k)
+      × ((index ≡ indexAfter (x .abbreviations) (headerBy x section) k)
       × Filled′ (analysisOf x section room) nf np nr ne nt offsets parents roots ends targets)
 
-  analysis-by : (r : HeaderRead) → headerOf (x .setting .«big_endian») section ≡ r → analysisOf x section room ≡ headerAnalysed x section room r
+  analysis-by : (r : HeaderRead) → headerBy x section ≡ r → analysisOf x section room ≡ headerAnalysed x section room r
   unfolding analysisOf
   analysis-by r e = ap (headerAnalysed x section room) e
 
-  module _ (i : index ≡ indexAfter (x .abbreviations) (headerOf (x .setting .«big_endian») section) k) where
+  module _ (i : index ≡ indexAfter (x .abbreviations) (headerBy x section) k) where
     module _ (c : Clear nf np nr ne nt offsets parents roots ends targets) where
       section-refused : (n : ℕ) → analysisOf x section room ≡ refused n → Answered (Refused′ n)
       unfolding answerOf
@@ -278,11 +279,11 @@ module _ (x : Sections) (section : List ℕ) (room : Rooms) (k nf np nr ne nt : 
       undeclared h a none q f = let e : a ≡ Refused′ 3 = cc in (e, refl)
       undeclared h a (some ds) q f = let z : _≡_ {A = ℕ} 0 1 = cc in absurd (omega arith)
 
-      pub section-answered : (a : Analysis) → Answered′ a ≡ unitFound (x .abbreviations) (headerOf (x .setting .«big_endian») section) → Answered a
+      pub section-answered : (a : Analysis) → Answered′ a ≡ unitFound (x .abbreviations) (headerBy x section) → Answered a
       unfolding headerAnalysed unitAnalysed checkedOf unitFound
-      section-answered a q = of (headerOf (x .setting .«big_endian») section) refl q
+      section-answered a q = of (headerBy x section) refl q
         where
-          of : (r : HeaderRead) → headerOf (x .setting .«big_endian») section ≡ r → Answered′ a ≡ unitFound (x .abbreviations) r → Answered a
+          of : (r : HeaderRead) → headerBy x section ≡ r → Answered′ a ≡ unitFound (x .abbreviations) r → Answered a
           of Empty e q′ =
               let s : a ≡ Entries 0 0 = cc in
               subst Answered (sym s) (section-empty (analysis-by Empty e))
@@ -293,14 +294,14 @@ module _ (x : Sections) (section : List ℕ) (room : Rooms) (k nf np nr ne nt : 
               let u = undeclared h a (abbreviationsOf (x .abbreviations) (h .abbreviations)) q′ _ in
               subst Answered (sym (u .0)) (section-refused 3 (analysis-by (Unit′ h) e ∙ u .1))
 
-    pub section-unit : (h : UnitHeader) → Found′ h ≡ unitFound (x .abbreviations) (headerOf (x .setting .«big_endian») section)
+    pub section-unit : (h : UnitHeader) → Found′ h ≡ unitFound (x .abbreviations) (headerBy x section)
         → (room′ : Rooms) (nf′ np′ nr′ ne′ nt′ : ℕ) (r : Analysis) → room′ ≡ room → nf′ ≡ nf → np′ ≡ np → nr′ ≡ nr → ne′ ≡ ne → nt′ ≡ nt
         → (r ≡ answerOf (unitAnalysed (h .encoding) x (take (h .end) section) room′ (h .abbreviations) (h .first .0)))
         × Filled′ (unitAnalysed (h .encoding) x (take (h .end) section) room′ (h .abbreviations) (h .first .0)) nf′ np′ nr′ ne′ nt′ offsets parents roots ends targets
         → Answered r
     unfolding headerAnalysed
     section-unit h u room′ nf′ np′ nr′ ne′ nt′ r m o p q s t f =
-        let e : headerOf (x .setting .«big_endian») section ≡ Unit′ h = unit-found (x .abbreviations) (headerOf (x .setting .«big_endian») section) h u .0 in
+        let e : headerBy x section ≡ Unit′ h = unit-found (x .abbreviations) (headerBy x section) h u .0 in
         let w : unitAnalysed (h .encoding) x (take (h .end) section) room′ (h .abbreviations) (h .first .0) ≡ analysisOf x section room =
         ap (λ (n : Rooms). unitAnalysed (h .encoding) x (take (h .end) section) n (h .abbreviations) (h .first .0)) m ∙ sym (analysis-by (Unit′ h) e) in (
           f .0 ∙ ap answerOf w,

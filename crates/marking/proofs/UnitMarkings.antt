@@ -7,12 +7,11 @@ use mathlib.Core.List.{List, [], _++_}
 use lib.ListN.{length, take, drop, replicate, length-append, length-drop, length-replicate, take-append-drop}
 use lib.Seq.{take-at}
 use Rattle.readers.specs.Choice.{pick, zeros}
-use Rattle.readers.specs.Header.{headerOf}
 use Rattle.readers.specs.declared.header.HeaderRead.{HeaderRead}
 use Rattle.readers.specs.declared.header.HeaderRead.the-variants.{Unit as Unit′, Empty, Refused as Unheaded}
 use Rattle.marking.specs.Graph.{Graph, graph, size}
 use Rattle.marking.specs.Marks.{marksOf, keptCount, markAnswer, endMarks}
-use Rattle.marking.specs.Analysis.{Sections, Rooms, EntryRow, Analysed, analysed, refused, headerAnalysed, analysisOf}
+use Rattle.marking.specs.Analysis.{Sections, Rooms, EntryRow, Analysed, analysed, refused, headerBy, headerAnalysed, analysisOf}
 use Rattle.marking.specs.Columns.{offsetsIn, parentsIn, rootsIn, namesIn, endsIn, padTo, column, least, roomsOf, unitRooms, indexAfter, answerOf}
 use Rattle.marking.specs.Resolution.{pairsIn, graphOf, marksIn, unitMarks}
 use Rattle.marking.specs.inner.Resolution.{UnitColumns, Markable}
@@ -104,7 +103,7 @@ record Bounded (room : Rooms) (rows : List EntryRow) : Type 0 where
   pub ruled : UnitRows unit room first rows
 
 module _ (x : Sections) (section : List ℕ) (room : Rooms) (rows : List EntryRow) where
-  header-bounded : (h : HeaderRead) → headerOf (x .setting .«big_endian») section ≡ h → headerAnalysed x section room h ≡ analysed rows → Bounded room rows
+  header-bounded : (h : HeaderRead) → headerBy x section ≡ h → headerAnalysed x section room h ≡ analysed rows → Bounded room rows
   unfolding headerAnalysed
   header-bounded Empty e q =
       let z : [] ≡ rows = cc in
@@ -118,7 +117,7 @@ module _ (x : Sections) (section : List ℕ) (room : Rooms) (rows : List EntryRo
 
   bounded : analysisOf x section room ≡ analysed rows → Bounded room rows
   unfolding analysisOf
-  bounded q = header-bounded (headerOf (x .setting .«big_endian») section) refl q
+  bounded q = header-bounded (headerBy x section) refl q
 
 record RowsOf (w : Analysed) (n : ℕ) : Type 0 where
   pub rows : List EntryRow
@@ -163,7 +162,7 @@ module _ (x : Sections) (section : List ℕ) (nm nq nf np nr ne nt k : ℕ) (ind
 
   abbrev UnitMarked : UnitMarks → List ℕ → List ℕ → Type 0
   UnitMarked r marks′ pairs′ =
-      (r ≡ unitMarks (analysisOf x section lent)) × ((index ≡ indexAfter (x .abbreviations) (headerOf (x .setting .«big_endian») section) k) × ((offsets ≡ column offsetsIn nf (analysisOf x section lent)) × (
+      (r ≡ unitMarks (analysisOf x section lent)) × ((index ≡ indexAfter (x .abbreviations) (headerBy x section) k) × ((offsets ≡ column offsetsIn nf (analysisOf x section lent)) × (
       (parents ≡ column parentsIn np (analysisOf x section lent)) × ((roots ≡ column rootsIn nr (analysisOf x section lent)) × ((ends ≡ column (endsIn 0) ne (analysisOf x section lent)) × (
       (marks′ ≡ column marksIn nm (analysisOf x section lent)) × ((targets ≡ column namesIn nt (analysisOf x section lent)) × (pairs′ ≡ column pairsIn nq (analysisOf x section lent)))))))))
 

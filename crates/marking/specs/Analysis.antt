@@ -1,6 +1,7 @@
--- The analysis of a unit (document 01, "collect"; document 02, Point 5): entry by entry 4 unreadable, 10 entry table
--- full, 5, 6 or 17 of the root test, 5 or 7 of the references in attribute order, 11 reference table full. "Full" is that
--- the count up to and including the present entry exceeds what is lent.
+-- The analysis of a unit (document 01, "collect"; document 02, Points 5 and 10): 19 and 20 of the keep list, 1 and 2 of
+-- the header, 3, then entry by entry 4 unreadable, 10 entry table full, 5, 6 or 17 of the root test, 5 or 7 of the
+-- references in attribute order, 11 reference table full. "Full" is that the count up to and including the present entry
+-- exceeds what is lent.
 use Prim.Native.Nat.{ℕ, suc, _+_}
 use mathlib.Core.Bool.{Bool, true, false}
 use mathlib.Core.List.{List, [], _∷_}
@@ -21,6 +22,7 @@ use Rattle.readers.specs.declared.entries.Entry.{Entry}
 use Rattle.readers.specs.declared.header.HeaderRead.{HeaderRead}
 use Rattle.readers.specs.declared.header.HeaderRead.the-variants.{Unit as Unit′, Empty, Refused}
 use Rattle.marking.specs.Roots.{rangesBy, rootTest, baseAfter}
+use Rattle.marking.specs.KeepList.{KeepList, keepRefusal, treatmentOf, treated}
 use Rattle.readers.specs.EntryAttributes.{Valued, entryValues}
 use Rattle.marking.specs.EntryReferences.{ReferencesFound, found, refused as refusedAfter, locationsBy, attributesFound}
 use Rattle.marking.specs.declared.root_test.Verdict.{Verdict}
@@ -28,19 +30,21 @@ use Rattle.marking.specs.declared.setting.Setting.{Setting}
 use Rattle.marking.specs.declared.root_test.Verdict.the-variants.{Live, Dead, Refused as Failed}
 use Rattle.readers.specs.Stream.{Item, entry, terminator, itemsFrom}
 
--- what a unit is read by: the other sections, already relocated, the address table, .debug_ranges, and what a call tells
--- beside them: the base of range lists that are named by an offset, the byte order, and whether fixed addresses count
+-- what a unit is read by: the other sections, already relocated, the address table, .debug_ranges, a keep list, and what a
+-- call tells beside them: the base of range lists that are named by an offset, the byte order, and whether fixed addresses
+-- count
 pub record Sections : Type 0 where
   pub abbreviations : List ℕ
   pub locations : List ℕ
   pub ranges : List ℕ
   pub addresses : List ℕ
   pub debugRanges : List ℕ
+  pub keep : KeepList
   pub setting : Setting
 
-abbrev pub sections : List ℕ → List ℕ → List ℕ → List ℕ → List ℕ → Setting → Sections
-sections a l r t o s =
-    record { abbreviations = a; locations = l; ranges = r; addresses = t; debugRanges = o; setting = s }
+abbrev pub sections : List ℕ → List ℕ → List ℕ → List ℕ → List ℕ → KeepList → Setting → Sections
+sections a l r t o k s =
+    record { abbreviations = a; locations = l; ranges = r; addresses = t; debugRanges = o; keep = k; setting = s }
 
 -- the one section that range lists are read in, by the unit's version: .debug_ranges in version 4, else .debug_rnglists
 -- (document 02, Point 4)
@@ -101,12 +105,16 @@ module _ (e : Encoding) (x : Sections) (unit : List ℕ) where
   unfoldable pub valuesOfEntry : Entry → List Valued
   valuesOfEntry y = entryValues e (x .abbreviations) (y .declaration .attributes .at) unit (y .values .at)
 
-  -- DW_AT_rnglists_base, DW_AT_loclists_base: from this entry's root test on
-  unfoldable pub rootOf : ℕ → Entry → Verdict
-  rootOf base y =
+  -- the root test of an entry; DW_AT_rnglists_base, DW_AT_loclists_base: from this entry's root test on
+  unfoldable pub testOf : ℕ → Entry → Verdict
+  testOf base y =
       let ranges = rangesFor e (x .ranges) (x .debugRanges) in
       let lists = rangesBy ranges (x .addresses) (x .setting .«ranges_base») base in
       rootTest e lists (x .setting .«fixed_addresses») unit (tagOf y) (valuesOfEntry y)
+
+  -- whether an entry is a root: by its root test and the treatment of its tag
+  unfoldable pub rootOf : ℕ → Entry → Verdict
+  rootOf base y = treated (treatmentOf (x .keep) (tagOf y)) (testOf base y)
 
   unfoldable pub namesOf : ℕ → Entry → ReferencesFound
   namesOf base y = attributesFound e (locationsBy unit (x .locations) base) (valuesOfEntry y)
@@ -151,7 +159,14 @@ unitAnalysed e x unit room from first =
     let items = itemsFrom e (x .abbreviations) (declaredIn ds) unit first in
     analyseItems e x unit room (startOf e) (items .0) (items .1))
 
--- an empty section has no entries; 1 and 2 of the header, then 3
+-- the header once a keep list was judged, by the list's refusal or 0: "both before 1", whatever the section holds
+unfoldable pub afterList : ℕ → HeaderRead → HeaderRead
+afterList n r = pick (eqb n 0) r (Refused n)
+
+unfoldable pub headerBy : Sections → List ℕ → HeaderRead
+headerBy x section = afterList (keepRefusal (x .keep)) (headerOf (x .setting .«big_endian») section)
+
+-- an empty section has no entries; 19 and 20 of the keep list, 1 and 2 of the header, then 3
 unfoldable pub headerAnalysed : Sections → List ℕ → Rooms → HeaderRead → Analysed
 headerAnalysed x section room Empty = analysed []
 headerAnalysed x section room (Refused n) = refused n
@@ -160,4 +175,4 @@ headerAnalysed x section room (Unit′ h) =
 
 -- THE analysis of the first unit of a section
 unfoldable pub analysisOf : Sections → List ℕ → Rooms → Analysed
-analysisOf x section room = headerAnalysed x section room (headerOf (x .setting .«big_endian») section)
+analysisOf x section room = headerAnalysed x section room (headerBy x section)

@@ -16,14 +16,14 @@ use Rattle.marking.specs.Analysis.{Sections, EntryRow, rootOf, namesOf, 
 use Rattle.marking.specs.declared.root_test.Verdict.{Verdict}
 use Rattle.marking.specs.declared.root_test.Verdict.the-variants.{Live, Dead}
 
--- a root test's verdict as a row has it: 1 for a root, 0 for none; a refusal has no row
+-- a verdict as a row has it: 1 for a root, 0 for none; a refusal has no row
 abbrev pub Tested : Verdict → ℕ → Type 0
 Tested v root = ((v ≡ Live) × (root ≡ 1)) ⊎ ((v ≡ Dead) × (root ≡ 0))
 
 module _ (e : Encoding) (x : Sections) (unit : List ℕ) where
   -- the row of an entry inside these open ones, rb and lb being the list bases before it: where it starts, the
-  -- innermost open entry as its parent, what the root test finds by table and lists, and all references that it
-  -- holds; by the list bases as its own DW_AT_rnglists_base and DW_AT_loclists_base leave them
+  -- innermost open entry as its parent, whether it is a root, by its root test and the treatment of its tag, and all
+  -- references that it holds; by the list bases as its own DW_AT_rnglists_base and DW_AT_loclists_base leave them
   pub record RowOf (stack : List ℕ) (rb lb : ℕ) (y : Entry) (r : EntryRow) : Type 0 where
     pub offset-is : r .offset ≡ y .offset .0
     pub parent-is : r .parent ≡ top stack

@@ -1,6 +1,7 @@
 pub mod Addresses
 pub mod Walking
 pub mod Roots
+pub mod KeepList
 pub mod EntryReferences
 pub mod ReferenceTable
 pub mod Below

@@ -4,10 +4,17 @@ ghost use lib.ListN.{length, take};
 ghost use Rattle.readers.specs.Choice.{zeros};
 ghost use Rattle.readers.specs.inner.Entries.{headEnd};
 ghost use Rattle.readers.specs.Header.{headerOf};
+ghost use Rattle.readers.specs.EntryAttributes.{entryValues};
+ghost use Rattle.marking.specs.KeepList.{keepIn, keepRefusal, treatmentOf, treated};
+ghost use Rattle.marking.specs.Roots.{rangesBy, rootTest};
 ghost use Rattle.marking.specs.Analysis.{sections, rangesFor, rooms, rootOf, namesOf, unitAnalysed, analysisOf};
+ghost use Rattle.marking.specs.Analysis.{afterList, headerBy};
 ghost use Rattle.marking.specs.Columns.{offsetsIn, parentsIn, rootsIn, endsIn, namesIn, column, least, roomsOf};
 ghost use Rattle.marking.specs.Columns.{indexAfter, answerOf};
 ghost use Rattle.marking.specs.inner.Columns.{AnalysisInput, Outcome, headed, refusalOf, entryAnswer, entryTable, leftBy, unitFound};
+use crate::keep_list::keep_refusal;
+use crate::keep_list::treat;
+use crate::keep_list::treatment;
 use crate::references::EntryScan;
 use crate::references::scan_live_die_attrs;
 use crate::root_test::Verdict;
@@ -70,7 +77,45 @@ fn refusal(unit: &[u8], abbreviations: &[u8], x: EntryHead, e: Encoding, n: u8) 
     }
 }
 
-// The root test of an entry, then its references. The scan also finds where the entry ends. In its contract, and in that
+// Whether an entry is a root: its root test, which no treatment spares it, then the treatment of its tag.
+fn root_of(
+    unit: &[u8],
+    abbreviations: &[u8],
+    x: EntryHead,
+    ranges: &[u8],
+    addresses: &[u8],
+    setting: Setting,
+    rnglists_base: u64,
+    e: Encoding,
+    tags: &[u8],
+    treatments: &[u8],
+) -> Verdict
+    requires { ⌜ keepRefusal (keepIn (now tags) (now treatments)) ≡ 0 ⌝ }
+    ensures { λ r. ⌜ (
+        let lists = rangesBy (now (ranges .entry)) (now (addresses .entry)) (setting .«ranges_base») «rnglists_base» in
+        let attributes = entryValues e (now (abbreviations .entry)) (x .declaration .attributes .at) (now (unit .entry))
+        (x .values .at) in
+        r ≡ treated (treatmentOf (keepIn (now (tags .entry)) (now (treatments .entry))) (x .declaration .tag))
+        (rootTest e lists (setting .«fixed_addresses») (now (unit .entry)) (x .declaration .tag) attributes)
+        ) ⌝ }
+{
+    let declaration = x.declaration;
+    let verdict = is_root(
+        unit,
+        abbreviations,
+        declaration.attributes,
+        x.values,
+        declaration.tag,
+        ranges,
+        addresses,
+        setting,
+        rnglists_base,
+        e,
+    );
+    treat(verdict, treatment(tags, treatments, declaration.tag))
+}
+
+// Whether an entry is a root, then its references. The scan also finds where the entry ends. In its contract, and in that
 // of `analyse_entries`, the range lists of the unit's version stand for both sections of them.
 fn analyse_entry(
     unit: &[u8],
@@ -85,10 +130,13 @@ fn analyse_entry(
     e: Encoding,
     targets: &mut [u64],
     at: usize,
+    tags: &[u8],
+    treatments: &[u8],
 ) -> EntryAnalysis
+    requires { ⌜ keepRefusal (keepIn (now tags) (now treatments)) ≡ 0 ⌝ }
     ensures { λ r. ⌜ (
         let lent = sections (now (abbreviations .entry)) (now (locations .entry)) (now (ranges .entry))
-        (now (addresses .entry)) (now (ranges .entry)) setting in
+        (now (addresses .entry)) (now (ranges .entry)) (keepIn (now (tags .entry)) (now (treatments .entry))) setting in
         let end = headEnd e (now (abbreviations .entry)) (now (unit .entry)) x in
         let root = rootOf e lent (now (unit .entry)) «rnglists_base» (headed x) in
         let names = namesOf e lent (now (unit .entry)) «loclists_base» (headed x) in
@@ -100,17 +148,17 @@ fn analyse_entry(
     let specs = declaration.attributes;
     let values = x.values;
     let mut root = 0u8;
-    match is_root(
+    match root_of(
         unit,
         abbreviations,
-        specs,
-        values,
-        declaration.tag,
+        x,
         ranges,
         addresses,
         setting,
         rnglists_base,
         e,
+        tags,
+        treatments,
     ) {
         Verdict::Live => {
             root = 1;
@@ -164,12 +212,15 @@ fn analyse_entries(
     roots: &mut [u8],
     reference_ends: &mut [u64],
     targets: &mut [u64],
+    tags: &[u8],
+    treatments: &[u8],
 ) -> Analysis
     requires { ⌜ AnalysisInput (now abbreviations) (now index) from (now unit) «entry_room» «reference_room»
-        (now offsets) (now parents) (now roots) (now «reference_ends») (now targets) ⌝ }
+        (now offsets) (now parents) (now roots) (now «reference_ends») (now targets)
+        (keepIn (now tags) (now treatments)) ⌝ }
     ensures { λ r. ⌜ (
         let lent = sections (now (abbreviations .entry)) (now (locations .entry)) (now (ranges .entry))
-        (now (addresses .entry)) (now (ranges .entry)) setting in
+        (now (addresses .entry)) (now (ranges .entry)) (keepIn (now (tags .entry)) (now (treatments .entry))) setting in
         let found = unitAnalysed e lent (now (unit .entry)) (rooms «entry_room» «reference_room») from (first .at) in
         (r ≡ answerOf found)
         × Outcome found
@@ -228,6 +279,8 @@ fn analyse_entries(
                     e,
                     targets,
                     to,
+                    tags,
+                    treatments,
                 ) {
                     EntryAnalysis::Refused(n) => {
                         return Analysis::Refused(n);
@@ -377,12 +430,16 @@ fn analyse_unit<'a>(
     reference_ends: &mut [u64],
     targets: &mut [u64],
     debug_ranges: &'a [u8],
+    tags: &[u8],
+    treatments: &[u8],
 ) -> Analysis
     requires { ⌜ AnalysisInput (now abbreviations) (now index) (h .abbreviations) (take (h .end) (now section))
-        «entry_room» «reference_room» (now offsets) (now parents) (now roots) (now «reference_ends») (now targets) ⌝ }
+        «entry_room» «reference_room» (now offsets) (now parents) (now roots) (now «reference_ends») (now targets)
+        (keepIn (now tags) (now treatments)) ⌝ }
     ensures { λ r. ⌜ (
         let lent = sections (now (abbreviations .entry)) (now (locations .entry)) (now (ranges .entry))
-        (now (addresses .entry)) (now («debug_ranges» .entry)) setting in
+        (now (addresses .entry)) (now («debug_ranges» .entry)) (keepIn (now (tags .entry)) (now (treatments .entry)))
+        setting in
         let found = unitAnalysed (h .encoding) lent (take (h .end) (now (section .entry)))
         (rooms «entry_room» «reference_room») (h .abbreviations) (h .first .0) in
         (r ≡ answerOf found)
@@ -415,12 +472,14 @@ fn analyse_unit<'a>(
         roots,
         reference_ends,
         targets,
+        tags,
+        treatments,
     );
     clear_refused(answer, offsets, parents, roots, reference_ends, targets)
 }
 
-// The unit of a header, its declarations checked and the index of them filled: 1 and 2 of the header, 3 of the
-// abbreviations. An empty section has no entries.
+// The unit of a header, its declarations checked and the index of them filled: a refusal of the header, or of the keep
+// list before it, then 3 of the abbreviations. An empty section has no entries.
 fn find_unit(header: HeaderRead, abbreviations: &[u8], index: &mut [u64]) -> UnitFound
     ensures { λ r. ⌜
         (r ≡ unitFound (now (abbreviations .entry)) header)
@@ -444,11 +503,25 @@ fn find_unit(header: HeaderRead, abbreviations: &[u8], index: &mut [u64]) -> Uni
     }
 }
 
+// The header of a section's first unit, before which the keep list is judged: 19 and 20 come before anything of the
+// unit.
+fn listed_header(section: &[u8], big_endian: bool, tags: &[u8], treatments: &[u8]) -> HeaderRead
+    ensures { λ r. ⌜ r ≡ afterList (keepRefusal (keepIn (now (tags .entry)) (now (treatments .entry))))
+        (headerOf «big_endian» (now (section .entry))) ⌝ }
+{
+    let n = keep_refusal(tags, treatments);
+    if n != 0 {
+        return HeaderRead::Refused(n);
+    }
+    unit_header(section, big_endian)
+}
+
 // The analysis of the first unit of a section, into the columns of an entry table (where each entry starts, its parent,
 // 1 for a root or 0, the number of references up to and with its own) and of a reference table (the offsets that are
 // named). At most so many entries and references, and as many as the shortest column has. The index of the declarations
-// is for finding them, and stays filled; its length changes no answer. A refusal leaves zeros in the columns: 1 and 2
-// of the header, 3 of the abbreviations, then entry by entry 4, 10, one of 5, 6 and 17, 5 or 7, 11.
+// is for finding them, and stays filled; its length changes no answer. A refusal leaves zeros in the columns: 19 and 20
+// of the keep list, 1 and 2 of the header, 3 of the abbreviations, then entry by entry 4, 10, one of 5, 6 and 17, 5 or
+// 7, 11. A keep list is tags, two big-endian bytes each, with a byte for each that is its treatment.
 pub fn analyse<'a>(
     section: &[u8],
     abbreviations: &[u8],
@@ -456,6 +529,8 @@ pub fn analyse<'a>(
     ranges: &'a [u8],
     addresses: &[u8],
     debug_ranges: &'a [u8],
+    tags: &[u8],
+    treatments: &[u8],
     setting: Setting,
     entries: usize,
     references: usize,
@@ -468,11 +543,12 @@ pub fn analyse<'a>(
 ) -> UnitAnalysis
     ensures { λ r. ⌜ (
         let lent = sections (now (abbreviations .entry)) (now (locations .entry)) (now (ranges .entry))
-        (now (addresses .entry)) (now («debug_ranges» .entry)) setting in
+        (now (addresses .entry)) (now («debug_ranges» .entry)) (keepIn (now (tags .entry)) (now (treatments .entry)))
+        setting in
         let room = roomsOf entries references (length (now (offsets .entry))) (length (now (parents .entry)))
         (length (now (roots .entry))) (length (now («reference_ends» .entry))) (length (now (targets .entry))) in
         let found = analysisOf lent (now (section .entry)) room in
-        let header = headerOf (setting .«big_endian») (now (section .entry)) in
+        let header = headerBy lent (now (section .entry)) in
         ((r .header ≡ header) × (r .analysis ≡ answerOf found))
         × ((now (index .exit) ≡ indexAfter (now (abbreviations .entry)) header (length (now (index .entry))))
         × ((now (offsets .exit) ≡ column offsetsIn (length (now (offsets .entry))) found)
@@ -482,7 +558,7 @@ pub fn analyse<'a>(
         × (now (targets .exit) ≡ column namesIn (length (now (targets .entry))) found))))))
         ) ⌝ }
 {
-    let header = unit_header(section, setting.big_endian);
+    let header = listed_header(section, setting.big_endian, tags, treatments);
     clear_columns(offsets, parents, roots, reference_ends, targets);
     match find_unit(header, abbreviations, index) {
         UnitFound::Answered(analysis) => UnitAnalysis { header, analysis },
@@ -511,6 +587,8 @@ pub fn analyse<'a>(
                 reference_ends,
                 targets,
                 debug_ranges,
+                tags,
+                treatments,
             );
             UnitAnalysis { header, analysis }
         }

@@ -2,6 +2,7 @@
 pub mod addresses;
 pub mod analysis;
 pub mod columns;
+mod keep_list;
 pub mod marks;
 pub mod references;
 pub mod root_test;

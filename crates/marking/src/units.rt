@@ -4,8 +4,8 @@ ghost use Prim.Native.Nat.{_+_, _*_, _-_};
 ghost use mathlib.Core.List.{List};
 ghost use lib.ListN.{length, take, drop};
 ghost use Rattle.readers.specs.Choice.{zeros, put};
-ghost use Rattle.readers.specs.Header.{headerOf};
-ghost use Rattle.marking.specs.Analysis.{EntryRow, analysed, sections, analysisOf};
+ghost use Rattle.marking.specs.KeepList.{keepIn};
+ghost use Rattle.marking.specs.Analysis.{EntryRow, analysed, sections, headerBy, analysisOf};
 ghost use Rattle.marking.specs.Columns.{padTo, column, offsetsIn, parentsIn, rootsIn, endsIn, namesIn, unitRooms};
 ghost use Rattle.marking.specs.Columns.{indexAfter};
 ghost use Rattle.marking.specs.Resolution.{entryFrom, pairsOfEntry, pairsIn, marksIn, unitMarks};
@@ -185,6 +185,8 @@ pub fn mark_unit<'a>(
     ranges: &'a [u8],
     addresses: &[u8],
     debug_ranges: &'a [u8],
+    tags: &[u8],
+    treatments: &[u8],
     setting: Setting,
     index: &mut [u64],
     offsets: &mut [u64],
@@ -198,12 +200,13 @@ pub fn mark_unit<'a>(
 ) -> UnitMarking
     ensures { λ r. ⌜ (
         let lent = sections (now (abbreviations .entry)) (now (locations .entry)) (now (ranges .entry))
-        (now (addresses .entry)) (now («debug_ranges» .entry)) setting in
+        (now (addresses .entry)) (now («debug_ranges» .entry)) (keepIn (now (tags .entry)) (now (treatments .entry)))
+        setting in
         let room = unitRooms (length (now (marks .entry))) (length (now (pairs .entry)))
         (length (now (offsets .entry))) (length (now (parents .entry))) (length (now (roots .entry)))
         (length (now («reference_ends» .entry))) (length (now (targets .entry))) in
         let found = analysisOf lent (now (section .entry)) room in
-        let header = headerOf (setting .«big_endian») (now (section .entry)) in
+        let header = headerBy lent (now (section .entry)) in
         ((r .header ≡ header) × (r .marks ≡ unitMarks found))
         × ((now (index .exit) ≡ indexAfter (now (abbreviations .entry)) header (length (now (index .entry))))
         × ((now (offsets .exit) ≡ column offsetsIn (length (now (offsets .entry))) found)
@@ -226,6 +229,8 @@ pub fn mark_unit<'a>(
         ranges,
         addresses,
         debug_ranges,
+        tags,
+        treatments,
         setting,
         marks.len(),
         pairs.len() / 2,

@@ -66,6 +66,8 @@ fn marked<'a>(
     ranges: &'a [u8],
     addresses: &[u8],
     debug_ranges: &'a [u8],
+    tags: &[u8],
+    treatments: &[u8],
     setting: Setting,
     map: &[u8],
     c: Counts,
@@ -80,6 +82,8 @@ fn marked<'a>(
         ranges,
         addresses,
         debug_ranges,
+        tags,
+        treatments,
         setting,
         &mut offsets,
         &mut marks,
@@ -197,6 +201,8 @@ fn unit<'a>(
     ranges: &'a [u8],
     addresses: &[u8],
     debug_ranges: &'a [u8],
+    tags: &[u8],
+    treatments: &[u8],
     setting: Setting,
     whole: bool,
 ) {
@@ -221,6 +227,8 @@ fn unit<'a>(
         ranges,
         addresses,
         debug_ranges,
+        tags,
+        treatments,
         setting,
         false,
         &mut index,
@@ -257,6 +265,8 @@ fn unit<'a>(
                     ranges,
                     addresses,
                     debug_ranges,
+                    tags,
+                    treatments,
                     setting,
                     &map,
                     c,
@@ -283,6 +293,8 @@ fn unit<'a>(
                     ranges,
                     addresses,
                     debug_ranges,
+                    tags,
+                    treatments,
                     setting,
                     &map,
                     c,
@@ -296,7 +308,7 @@ fn unit<'a>(
     }
 }
 
-fn of_bundle(s: &[u8], setting: Setting, whole: bool) {
+fn of_bundle(s: &[u8], setting: Setting, tags: &[u8], treatments: &[u8], whole: bool) {
     let BundleRead::Read(b) = bundle::read_bundle(s) else {
         text(b"bundle\n");
         return;
@@ -308,6 +320,8 @@ fn of_bundle(s: &[u8], setting: Setting, whole: bool) {
         section_bytes(s, b.ranges),
         section_bytes(s, b.addresses),
         section_bytes(s, b.debug_ranges),
+        tags,
+        treatments,
         setting,
         whole,
     );
@@ -315,11 +329,11 @@ fn of_bundle(s: &[u8], setting: Setting, whole: bool) {
 
 // Prints the entries of a bundle's unit, by what is told of it, with their marks and new offsets; `refused` and a
 // number; `bundle` where it is none.
-pub fn thin(s: &[u8], setting: Setting) {
-    of_bundle(s, setting, false);
+pub fn thin(s: &[u8], setting: Setting, tags: &[u8], treatments: &[u8]) {
+    of_bundle(s, setting, tags, treatments, false);
 }
 
 // Prints all that collect answers for a bundle's unit, on one line.
-pub fn answer(s: &[u8], setting: Setting) {
-    of_bundle(s, setting, true);
+pub fn answer(s: &[u8], setting: Setting, tags: &[u8], treatments: &[u8]) {
+    of_bundle(s, setting, tags, treatments, true);
 }

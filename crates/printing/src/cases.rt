@@ -1,5 +1,6 @@
-// Cases of collect that say what they lend: settings, then a bundle. Nothing that is lent holds zeros before the call;
-// after it all of the map, the lists and the output is printed.
+// Cases of collect that say what they lend: settings, the bytes of a keep list's tags and of its treatments, then a
+// bundle. Nothing that is written holds zeros before the call; after it all of the map, the lists and the output is
+// printed.
 ghost use Prim.Native.Nat.{_≤_};
 use crate::answers::hex;
 use crate::answers::refused;
@@ -53,7 +54,11 @@ const BIG_ENDIAN: usize = 120;
 
 const FIXED_ADDRESSES: usize = 128;
 
-const SETTINGS: usize = 136;
+const TAGS: usize = 136;
+
+const TREATMENTS: usize = 144;
+
+const SETTINGS: usize = 152;
 
 fn setting(settings: &[u8], at: usize) -> u64 {
     match (Cursor { at }).fixed(settings, 8, true) {
@@ -102,6 +107,8 @@ fn collect_bundle(
     string_list: &mut [u8],
     out: &mut [u8],
     b: Bundle,
+    tags: &[u8],
+    treatments: &[u8],
 ) -> Collected {
     let mut work = [0xa5a5_a5a5u32; 4096];
     rewriting::collect::collect(
@@ -111,6 +118,8 @@ fn collect_bundle(
         section_bytes(s, b.ranges),
         section_bytes(s, b.addresses),
         section_bytes(s, b.debug_ranges),
+        tags,
+        treatments,
         told(settings),
         setting(settings, TYPE_UNITS) != 0,
         index,
@@ -148,6 +157,8 @@ fn lend(
     string_list: &mut [u8],
     out: &mut [u8],
     b: Bundle,
+    tags: &[u8],
+    treatments: &[u8],
 ) -> Collected {
     let of_index = lent(settings, INDEX, index.len());
     let of_offsets = lent(settings, OFFSETS, offsets.len());
@@ -179,6 +190,8 @@ fn lend(
         &mut string_list[..of_string_list],
         &mut out[..of_out],
         b,
+        tags,
+        treatments,
     )
 }
 
@@ -356,7 +369,7 @@ fn lent_bytes(
 
 // ---- cases
 
-fn unit(settings: &[u8], s: &[u8], b: Bundle) {
+fn unit(settings: &[u8], tags: &[u8], treatments: &[u8], s: &[u8], b: Bundle) {
     let mut index = [0xa5a5_a5a5_a5a5_a5a5u64; 1024];
     let mut offsets = [0xa5a5_a5a5_a5a5_a5a5u64; 2048];
     let mut parents = [0xa5a5_a5a5_a5a5_a5a5u64; 2048];
@@ -387,6 +400,8 @@ fn unit(settings: &[u8], s: &[u8], b: Bundle) {
         &mut string_list,
         &mut out,
         b,
+        tags,
+        treatments,
     ));
     lent_bytes(
         settings,
@@ -431,38 +446,56 @@ fn word(tables: bool, outputs: bool) {
     text(b"clean\n");
 }
 
-fn case(settings: &[u8], s: &[u8]) {
+fn case(settings: &[u8], tags: &[u8], treatments: &[u8], s: &[u8]) {
     match bundle::read_bundle(s) {
         BundleRead::Wrong => {
             text(b"bundle\n");
         }
         BundleRead::Read(b) => {
-            unit(settings, s, b);
+            unit(settings, tags, treatments, s, b);
         }
     }
 }
 
-// Prints each case, after a line with its number in the file.
+// Prints the case that stands first, after a line with its number: how many bytes it has, 0 where there is none.
+fn first_case(s: &[u8], n: u64) -> usize {
+    if s.len() < SETTINGS {
+        return 0;
+    }
+    let settings = &s[0..SETTINGS];
+    let behind = &s[SETTINGS..];
+    let of_tags = lent(settings, TAGS, behind.len());
+    let tags = &behind[0..of_tags];
+    let rest = &behind[of_tags..];
+    let of_treatments = lent(settings, TREATMENTS, rest.len());
+    let treatments = &rest[0..of_treatments];
+    let held = &rest[of_treatments..];
+    let bytes = size(held, 0);
+    if bytes > held.len() {
+        return 0;
+    }
+    number(b"-- ", n);
+    text(b"\n");
+    case(settings, tags, treatments, &held[0..bytes]);
+    SETTINGS + of_tags + of_treatments + bytes
+}
+
+// Prints each case.
 pub fn list_all(s: &[u8]) {
     let mut at: usize = 0;
     let mut n: usize = 0;
     while n < 65536 {
-        if left(s, at) < SETTINGS {
+        if at >= s.len() {
             return;
         }
-        if at > s.len() - SETTINGS {
-            return;
-        }
-        let from = at + SETTINGS;
-        let bytes = size(s, from);
-        if bytes > s.len() - from {
-            return;
-        }
-        let end = from + bytes;
         n += 1;
-        number(b"-- ", n as u64);
-        text(b"\n");
-        case(&s[at..from], &s[from..end]);
-        at = end;
+        let bytes = first_case(&s[at..], n as u64);
+        if bytes == 0 {
+            return;
+        }
+        if bytes > s.len() - at {
+            return;
+        }
+        at += bytes;
     }
 }

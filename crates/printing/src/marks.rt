@@ -42,6 +42,8 @@ pub fn mark<'a>(
     ranges: &'a [u8],
     addresses: &[u8],
     debug_ranges: &'a [u8],
+    tags: &[u8],
+    treatments: &[u8],
     setting: Setting,
     offsets: &mut [u64],
     marks: &mut [u8],
@@ -60,6 +62,8 @@ pub fn mark<'a>(
         ranges,
         addresses,
         debug_ranges,
+        tags,
+        treatments,
         setting,
         &mut index,
         offsets,
@@ -82,6 +86,8 @@ fn unit<'a>(
     ranges: &'a [u8],
     addresses: &[u8],
     debug_ranges: &'a [u8],
+    tags: &[u8],
+    treatments: &[u8],
     setting: Setting,
 ) {
     let mut offsets = [0u64; 2048];
@@ -93,6 +99,8 @@ fn unit<'a>(
         ranges,
         addresses,
         debug_ranges,
+        tags,
+        treatments,
         setting,
         &mut offsets,
         &mut marks,
@@ -111,7 +119,7 @@ fn unit<'a>(
 }
 
 // Prints the marks of a bundle's unit, by what is told of it; `bundle` where it is none.
-pub fn list(s: &[u8], setting: Setting) {
+pub fn list(s: &[u8], setting: Setting, tags: &[u8], treatments: &[u8]) {
     let BundleRead::Read(b) = bundle::read_bundle(s) else {
         text(b"bundle\n");
         return;
@@ -123,6 +131,8 @@ pub fn list(s: &[u8], setting: Setting) {
         section_bytes(s, b.ranges),
         section_bytes(s, b.addresses),
         section_bytes(s, b.debug_ranges),
+        tags,
+        treatments,
         setting,
     );
 }

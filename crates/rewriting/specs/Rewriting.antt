@@ -11,7 +11,6 @@ use Rattle.readers.specs.Layout.{Role, reference, typeReference, sibling, index
 use Rattle.readers.specs.Layout.{Piece, verbatim, patchable, Read, RunOf, Patch, patchAll, readIn, writeAll}
 use Rattle.readers.specs.Expression.{expressionIn}
 use Rattle.readers.specs.Entries.{entryLayout}
-use Rattle.readers.specs.Header.{headerOf}
 use Rattle.readers.specs.Abbreviations.{Placed, declaredIn, abbreviationsOf}
 use Rattle.readers.specs.declared.cursor.Encoding.{Encoding}
 use Rattle.readers.specs.declared.header.UnitHeader.{UnitHeader}
@@ -19,7 +18,7 @@ use Rattle.readers.specs.declared.header.HeaderRead.{HeaderRead}
 use Rattle.readers.specs.declared.header.HeaderRead.the-variants.{Unit as Unit′, Empty, Refused}
 use Rattle.marking.specs.Marks.{keptCount}
 use Rattle.readers.specs.Stream.{Item, entry, terminator, itemsFrom}
-use Rattle.marking.specs.Analysis.{Sections, Rooms, EntryRow, Analysed, analysed, refused as notAnalysed, valuesOfEntry, analysisOf}
+use Rattle.marking.specs.Analysis.{Sections, Rooms, EntryRow, Analysed, analysed, refused as notAnalysed, valuesOfEntry, headerBy, analysisOf}
 use Rattle.marking.specs.Resolution.{marksIn}
 use Rattle.rewriting.specs.declared.map.Mapped.the-variants.{Nothing}
 use Rattle.rewriting.specs.declared.collect.Listed.the-variants.{Short}
@@ -237,4 +236,4 @@ module _ (x : Sections) (room : Room) where
 
   -- THE answer of collect
   unfoldable pub collectOf : Bool → List ℕ → Collected
-  collectOf typeUnits section = headerCollected typeUnits section (headerOf (x .setting .«big_endian») section)
+  collectOf typeUnits section = headerCollected typeUnits section (headerBy x section)

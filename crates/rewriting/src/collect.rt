@@ -4,6 +4,7 @@ ghost use mathlib.Core.List.{List, []};
 ghost use lib.ListN.{length};
 ghost use Rattle.readers.specs.Choice.{zeros};
 ghost use Rattle.readers.specs.Abbreviations.{Placed};
+ghost use Rattle.marking.specs.KeepList.{keepIn};
 ghost use Rattle.marking.specs.Analysis.{Sections, Rooms, EntryRow, sections};
 ghost use Rattle.rewriting.specs.Places.{keptFrom};
 ghost use Rattle.rewriting.specs.Rewriting.{Unit as Unit′, unitOf, Lists, Room, itemsIn, listsOf, noLists, untouched, rewriteOf, collectOf};
@@ -553,10 +554,13 @@ fn collect_unit<'a>(
     string_list: &mut [u8],
     out: &mut [u8],
     debug_ranges: &'a [u8],
+    tags: &[u8],
+    treatments: &[u8],
 ) -> Collected
     ensures { λ r. ⌜ (
         let x = sections (now (abbreviations .entry)) (now (locations .entry)) (now (ranges .entry))
-        (now (addresses .entry)) (now («debug_ranges» .entry)) setting in
+        (now (addresses .entry)) (now («debug_ranges» .entry)) (keepIn (now (tags .entry)) (now (treatments .entry)))
+        setting in
         let room = roomOf (length (now (marks .entry))) (length (now (pairs .entry))) (length (now (offsets .entry)))
         (length (now (parents .entry))) (length (now (roots .entry))) (length (now (ends .entry)))
         (length (now (targets .entry))) (length (now (map .entry))) (length (now («range_list» .entry)))
@@ -575,6 +579,8 @@ fn collect_unit<'a>(
         ranges,
         addresses,
         debug_ranges,
+        tags,
+        treatments,
         setting,
         index,
         offsets,
@@ -605,12 +611,13 @@ fn collect_unit<'a>(
     )
 }
 
-// Thins the first unit of a section, which is read with the other sections and the address table. The map has 24 bytes a
-// place (old offset, new offset, depth), a list 8 bytes a number, all big-endian. Refused with a number of document 01;
-// then map, lists and output are zeros. The tables are scratch, zeros on every answer: the index of the declarations,
-// those of the entries (`offsets`, `parents`, `roots`, `ends`, `marks`) and of the references (`targets`, `pairs`), and the
-// work column of the marking and of the search for siblings, best two numbers an entry. The lengths of the index and of
-// the work column change the time alone.
+// Thins the first unit of a section, which is read with the other sections and the address table. A keep list, tags of
+// two big-endian bytes with a treatment for each, 1 or 2, makes the entries of a tag roots or takes that from them. The
+// map has 24 bytes a place (old offset, new offset, depth), a list 8 bytes a number, all big-endian. Refused with a
+// number of documents 01 and 02; then map, lists and output are zeros. The tables are scratch, zeros on every answer:
+// the index of the declarations, those of the entries (`offsets`, `parents`, `roots`, `ends`, `marks`) and of the
+// references (`targets`, `pairs`), and the work column of the marking and of the search for siblings, best two numbers
+// an entry. The lengths of the index and of the work column change the time alone.
 pub fn collect<'a>(
     section: &[u8],
     abbreviations: &[u8],
@@ -618,6 +625,8 @@ pub fn collect<'a>(
     ranges: &'a [u8],
     addresses: &[u8],
     debug_ranges: &'a [u8],
+    tags: &[u8],
+    treatments: &[u8],
     setting: Setting,
     type_units: bool,
     index: &mut [u64],
@@ -637,7 +646,8 @@ pub fn collect<'a>(
 ) -> Collected
     ensures { λ r. ⌜ (
         let x = sections (now (abbreviations .entry)) (now (locations .entry)) (now (ranges .entry))
-        (now (addresses .entry)) (now («debug_ranges» .entry)) setting in
+        (now (addresses .entry)) (now («debug_ranges» .entry)) (keepIn (now (tags .entry)) (now (treatments .entry)))
+        setting in
         let room = roomOf (length (now (marks .entry))) (length (now (pairs .entry))) (length (now (offsets .entry)))
         (length (now (parents .entry))) (length (now (roots .entry))) (length (now (ends .entry)))
         (length (now (targets .entry))) (length (now (map .entry))) (length (now («range_list» .entry)))
@@ -683,6 +693,8 @@ pub fn collect<'a>(
         string_list,
         out,
         debug_ranges,
+        tags,
+        treatments,
     );
     clear_tables(
         index,

@@ -16,13 +16,15 @@ WORDS: --big-endian, --64-bit: the families' units are of that byte order and fo
 extern "C" {
     fn collector_collect(
         section: *const u8, _: usize, abbreviations: *const u8, _: usize, locations: *const u8, _: usize, ranges: *const u8, _: usize,
-        addresses: *const u8, _: usize, debug_ranges: *const u8, _: usize, ranges_base: u64, type_units: u64, big_endian: u64, fixed_addresses: u64,
+        addresses: *const u8, _: usize, debug_ranges: *const u8, _: usize, tags: *const u8, _: usize, treatments: *const u8, _: usize,
+        ranges_base: u64, type_units: u64, big_endian: u64, fixed_addresses: u64,
         map: *mut u8, _: usize, range_list: *mut u8, _: usize,
         location_list: *mut u8, _: usize, string_list: *mut u8, _: usize, out: *mut u8, _: usize, counts: *mut u8, _: usize,
     ) -> u64;
     fn collector_collect_lent(
         section: *const u8, _: usize, abbreviations: *const u8, _: usize, locations: *const u8, _: usize, ranges: *const u8, _: usize,
-        addresses: *const u8, _: usize, debug_ranges: *const u8, _: usize, ranges_base: u64, type_units: u64, big_endian: u64, fixed_addresses: u64,
+        addresses: *const u8, _: usize, debug_ranges: *const u8, _: usize, tags: *const u8, _: usize, treatments: *const u8, _: usize,
+        ranges_base: u64, type_units: u64, big_endian: u64, fixed_addresses: u64,
         index: *mut u64, _: usize, offsets: *mut u64, _: usize,
         parents: *mut u64, _: usize, roots: *mut u8, _: usize, ends: *mut u64, _: usize, marks: *mut u8, _: usize, targets: *mut u64, _: usize,
         pairs: *mut u64, _: usize, work: *mut u32, _: usize, map: *mut u8, _: usize, range_list: *mut u8, _: usize,
@@ -87,7 +89,7 @@ fn stack(call: &mut dyn FnMut()) -> usize {
 /// What is measured, and how it is to be read.
 struct Unit {
     parts: Parts,
-    setting: Setting,
+    setting: Setting<'static>,
 }
 
 impl Unit {
@@ -187,7 +189,7 @@ macro_rules! collect {
         unsafe {
             $f(
                 s[0].as_ptr(), s[0].len(), s[1].as_ptr(), s[1].len(), s[2].as_ptr(), s[2].len(), s[3].as_ptr(), s[3].len(),
-                s[4].as_ptr(), s[4].len(), s[5].as_ptr(), s[5].len(), 0, 0, $unit.setting.big_endian.into(), 0,
+                s[4].as_ptr(), s[4].len(), s[5].as_ptr(), s[5].len(), [].as_ptr(), 0, [].as_ptr(), 0, 0, 0, $unit.setting.big_endian.into(), 0,
                 $(l.$t.as_mut_ptr(), l.$t.len(),)* l.map.as_mut_ptr(), l.map.len(),
                 l.lists[0].as_mut_ptr(), l.lists[0].len(), l.lists[1].as_mut_ptr(), l.lists[1].len(), l.lists[2].as_mut_ptr(), l.lists[2].len(),
                 l.out.as_mut_ptr(), l.out.len(), l.counts.as_mut_ptr(), l.counts.len(),

@@ -3,7 +3,8 @@
 
 use oracle::cases::{bundle, slices, unbundle, Cases, Dice, Parts, FAMILIES, OF_FILES};
 use oracle::expected::{expect, Expected, Plan, Room};
-use oracle::judge::{hex, judge, said, Answer, Outcome, Setting};
+use oracle::judge::{hex, judge, said, unhex, Answer, Outcome, Setting};
+use oracle::keep;
 use oracle::order::{order, Layout, Order};
 use oracle::unit::header;
 use std::collections::{BTreeMap, BTreeSet};
@@ -14,26 +15,30 @@ use std::sync::atomic::{AtomicUsize, Ordering};
 use std::sync::Mutex;
 
 const USAGE: &str = "usage: differ [--seed N] [--count N] [--threads N] [--blocks] [--quiet | --save FOLDER]
-              [--big-endian] [--64-bit] [--version-4] [--fixed-addresses] [FAMILY .. | --only-files]
+              [--big-endian] [--64-bit] [--version-4] [--fixed-addresses] [--keep-lists] [FAMILY .. | --only-files]
               [-- BUNDLE .. [--big-endian BUNDLE ..]]
-       differ --lines [--type-units] [--ranges-base N] [--big-endian] [--fixed-addresses] < BUNDLES
+       differ --lines [--type-units] [--ranges-base N] [--big-endian] [--fixed-addresses]
+              [--tags HEX --treatments HEX] < BUNDLES
 So many cases of each family in each byte order of each format of each version (of many a fiftieth, of tables and
 damaged-files a fifth); all families if none is named. --big-endian: no little-endian ones; among the bundles: those
 behind it are big-endian. --64-bit: none of the 32-bit format, --version-4: none of version 5; bundles tell theirs.
-Each case is run with the choice of fixed addresses off, and then on; --fixed-addresses: only on.
+Each case is run with the choice of fixed addresses off, then on, and then with a keep list and the choice off or on;
+--fixed-addresses: only on; --keep-lists: only with a list.
 --blocks: what is lent is a block of memory of its own, nothing around it. --save: where cases that differ are left;
 --quiet: they are only counted. --lines: the port's answer for each of the bundles on standard input.";
 
 extern "C" {
     fn collector_collect(
         section: *const u8, _: usize, abbreviations: *const u8, _: usize, locations: *const u8, _: usize, ranges: *const u8, _: usize,
-        addresses: *const u8, _: usize, debug_ranges: *const u8, _: usize, ranges_base: u64, type_units: u64, big_endian: u64, fixed_addresses: u64,
+        addresses: *const u8, _: usize, debug_ranges: *const u8, _: usize, tags: *const u8, _: usize, treatments: *const u8, _: usize,
+        ranges_base: u64, type_units: u64, big_endian: u64, fixed_addresses: u64,
         map: *mut u8, _: usize, range_list: *mut u8, _: usize,
         location_list: *mut u8, _: usize, string_list: *mut u8, _: usize, out: *mut u8, _: usize, counts: *mut u8, _: usize,
     ) -> u64;
     fn collector_collect_lent(
         section: *const u8, _: usize, abbreviations: *const u8, _: usize, locations: *const u8, _: usize, ranges: *const u8, _: usize,
-        addresses: *const u8, _: usize, debug_ranges: *const u8, _: usize, ranges_base: u64, type_units: u64, big_endian: u64, fixed_addresses: u64,
+        addresses: *const u8, _: usize, debug_ranges: *const u8, _: usize, tags: *const u8, _: usize, treatments: *const u8, _: usize,
+        ranges_base: u64, type_units: u64, big_endian: u64, fixed_addresses: u64,
         index: *mut u64, _: usize, offsets: *mut u64, _: usize,
         parents: *mut u64, _: usize, roots: *mut u8, _: usize, ends: *mut u64, _: usize, marks: *mut u8, _: usize, targets: *mut u64, _: usize,
         pairs: *mut u64, _: usize, work: *mut u32, _: usize, map: *mut u8, _: usize,
@@ -165,10 +170,11 @@ struct Manner {
     yes: [u64; 3],
 }
 
-fn call(parts: &Parts, setting: Setting, lengths: &Lengths, manner: Manner) -> Left {
+fn call(parts: &Parts, setting: Setting<'_>, lengths: &Lengths, manner: Manner) -> Left {
     let Manner { around, fill, yes } = manner;
     let bytes = |n: usize| Lent::new(n, around, fill);
-    let mut s: Vec<Lent<u8>> = parts.iter().map(|p| Lent::of(p, around, fill)).collect();
+    let read: Vec<&[u8]> = parts.iter().map(|p| &p[..]).chain([setting.keep.tags, setting.keep.treatments]).collect();
+    let mut s: Vec<Lent<u8>> = read.iter().map(|p| Lent::of(p, around, fill)).collect();
     let (mut map, mut output, mut counts) = (bytes(lengths.map), bytes(lengths.output), bytes(lengths.counts));
     let mut lists = lengths.lists.map(bytes);
     let base = setting.ranges_base as u64;
@@ -180,7 +186,8 @@ fn call(parts: &Parts, setting: Setting, lengths: &Lengths, manner: Manner) -> L
             unsafe {
                 $f(
                     $s[0].start(), $s[0].length(), $s[1].start(), $s[1].length(), $s[2].start(), $s[2].length(), $s[3].start(), $s[3].length(),
-                    $s[4].start(), $s[4].length(), $s[5].start(), $s[5].length(), base, units, big, fixed,
+                    $s[4].start(), $s[4].length(), $s[5].start(), $s[5].length(), $s[6].start(), $s[6].length(), $s[7].start(), $s[7].length(),
+                    base, units, big, fixed,
                     $($t.start(), $t.length(),)* map.start(), map.length(),
                     lists[0].start(), lists[0].length(), lists[1].start(), lists[1].length(), lists[2].start(), lists[2].length(),
                     output.start(), output.length(), counts.start(), counts.length(),
@@ -212,8 +219,8 @@ fn call(parts: &Parts, setting: Setting, lengths: &Lengths, manner: Manner) -> L
             number
         }
     };
-    if s.iter().zip(parts).any(|(l, p)| l.inside() != p || !l.around_kept()) {
-        wrong = Some("a section changed");
+    if s.iter().zip(read).any(|(l, p)| l.inside() != p || !l.around_kept()) {
+        wrong = Some("a section or the keep list changed");
     }
     if [&map, &output, &counts, &lists[0], &lists[1], &lists[2]].iter().any(|l| !l.around_kept()) {
         wrong = Some("written beside what is lent");
@@ -349,13 +356,13 @@ fn name(answer: Result<&Plan, u8>) -> String {
 }
 
 /// One case; a panic, which neither side may show here, is a difference.
-fn one(parts: &Parts, setting: Setting, seed: u64, blocks: bool) -> Ended {
+fn one(parts: &Parts, setting: Setting<'_>, seed: u64, blocks: bool) -> Ended {
     panic::catch_unwind(|| compared(parts, setting, seed, blocks))
         .unwrap_or_else(|p| Ended { different: Some(format!("panic: {}", said(p))), ..Ended::default() })
 }
 
 /// The original, what follows from it, and two calls of the port.
-fn compared(parts: &Parts, setting: Setting, seed: u64, blocks: bool) -> Ended {
+fn compared(parts: &Parts, setting: Setting<'_>, seed: u64, blocks: bool) -> Ended {
     let judged = judge(slices(parts), setting);
     let expected = expect(slices(parts), setting, &judged);
     let dice = &mut Dice(seed);
@@ -390,7 +397,7 @@ fn compared(parts: &Parts, setting: Setting, seed: u64, blocks: bool) -> Ended {
 }
 
 /// A case under the other byte order than its own. Where its header is right in its own, both sides have to refuse the header.
-fn told_wrongly(parts: &Parts, with: Setting, seed: u64, blocks: bool) -> Ended {
+fn told_wrongly(parts: &Parts, with: Setting<'_>, seed: u64, blocks: bool) -> Ended {
     let told = Setting { big_endian: !with.big_endian, ..with };
     let mut ended = one(parts, told, seed, blocks);
     if header(&parts[0], with.order()) == 0 {
@@ -406,7 +413,7 @@ fn told_wrongly(parts: &Parts, with: Setting, seed: u64, blocks: bool) -> Ended 
 }
 
 /// The setting of a case: mostly as the program has it.
-fn setting(dice: &mut Dice, layout: Layout) -> Setting {
+fn setting(dice: &mut Dice, layout: Layout) -> Setting<'static> {
     let ranges_base = match dice.below(24) {
         0 => dice.below(40),
         1 => layout.version() + 8,
@@ -414,7 +421,7 @@ fn setting(dice: &mut Dice, layout: Layout) -> Setting {
         3 => usize::MAX - dice.below(40),
         _ => 0,
     };
-    Setting { type_units: dice.rare(8), ranges_base, big_endian: layout.order == Order::Big, fixed_addresses: false }
+    Setting { type_units: dice.rare(8), ranges_base, big_endian: layout.order == Order::Big, ..Setting::default() }
 }
 
 /// An address table, not empty, that fails from some place on: it ends there, or holds bytes above 1.
@@ -440,7 +447,7 @@ fn other_ranges(dice: &mut Dice, layout: Layout, base: usize, parts: &mut Parts)
 }
 
 /// Smaller parts that still differ: shorter, then with more zeros.
-fn reduced(parts: &Parts, with: Setting, seed: u64, blocks: bool) -> Parts {
+fn reduced(parts: &Parts, with: Setting<'_>, seed: u64, blocks: bool) -> Parts {
     let mut best = parts.clone();
     let mut tries = 0;
     let mut again = true;
@@ -484,6 +491,27 @@ fn reduced(parts: &Parts, with: Setting, seed: u64, blocks: bool) -> Parts {
     best
 }
 
+/// A shorter keep list with which the parts still differ: pair by pair, then a byte.
+fn reduced_list(parts: &Parts, with: Setting<'_>, seed: u64, blocks: bool) -> keep::Owned {
+    let mut best = keep::Owned { tags: with.keep.tags.to_vec(), treatments: with.keep.treatments.to_vec() };
+    let mut size = best.treatments.len();
+    while size > 0 {
+        let mut at = 0;
+        while at < best.treatments.len() {
+            let mut shorter = best.clone();
+            shorter.tags.drain((2 * at).min(best.tags.len())..(2 * (at + size)).min(best.tags.len()));
+            shorter.treatments.drain(at..(at + size).min(best.treatments.len()));
+            if one(parts, Setting { keep: shorter.lent(), ..with }, seed, blocks).different.is_some() {
+                best = shorter;
+            } else {
+                at += size;
+            }
+        }
+        size /= 2;
+    }
+    best
+}
+
 /// Counts of a family.
 #[derive(Default)]
 struct Tally {
@@ -498,8 +526,11 @@ struct Tally {
     asked: usize,
     /// Told the other byte order, by the port's answer. These are no cases.
     told: BTreeMap<String, usize>,
-    /// With the choice of fixed addresses on: by the port's answer off and on, where the original's is another.
+    /// With the choice of fixed addresses on: by the port's answer off and on, where the original's is another. With a keep list: by the
+    /// answer without one and with it.
     otherwise: BTreeMap<String, usize>,
+    /// Keep lists, by what they are.
+    lists: BTreeMap<String, usize>,
 }
 
 impl Tally {
@@ -513,6 +544,25 @@ impl Tally {
             self.different += 1;
         } else if let Some(rules) = &ended.listed {
             *self.listed.entry(rules.clone()).or_default() += 1;
+        }
+    }
+
+    /// Where the answer is another than it was.
+    fn add_other(&mut self, before: &Ended, now: &Ended) {
+        if before.line != now.line {
+            *self.otherwise.entry(format!("{} to {}", before.first, now.first)).or_default() += 1;
+        }
+    }
+
+    fn add_list(&mut self, list: keep::KeepList<'_>) {
+        let kinds = [
+            ("empty", list.tags.len() < 2 && list.treatments.is_empty()),
+            ("with half a tag", list.tags.len() % 2 == 1),
+            ("of every tag", list.refusal().is_none() && list.treatments.len() == 1 << 16),
+            ("out of order and refused by 19", list.refusal() == Some(19) && list.is_out_of_order()),
+        ];
+        for (kind, _) in kinds.iter().filter(|k| k.1) {
+            *self.lists.entry(kind.to_string()).or_default() += 1;
         }
     }
 
@@ -532,6 +582,7 @@ impl Tally {
             (&mut self.listed, &other.listed),
             (&mut self.told, &other.told),
             (&mut self.otherwise, &other.otherwise),
+            (&mut self.lists, &other.lists),
         ];
         for (into, from) in counts {
             for (k, n) in from {
@@ -551,6 +602,8 @@ struct Options {
     save: String,
     /// No case with the choice of fixed addresses off.
     only_fixed: bool,
+    /// No case without a keep list.
+    only_lists: bool,
 }
 
 /// The byte orders, formats and versions, and their names.
@@ -590,11 +643,11 @@ impl Group<'_> {
 /// Which case each thread is at, for one that ends the process.
 static AT: [AtomicUsize; 8] = [const { AtomicUsize::new(0) }; 8];
 
-/// The counts with the choice of fixed addresses off, and on.
-fn run_part(group: Group, options: &Options, thread: usize, saved: &Mutex<usize>) -> [Tally; 2] {
-    let (mut tally, mut fixed) = (Tally::default(), Tally::default());
+/// The counts with the choice of fixed addresses off, on, and with keep lists.
+fn run_part(group: Group, options: &Options, thread: usize, saved: &Mutex<usize>) -> [Tally; 3] {
+    let (mut tally, mut fixed, mut listed) = (Tally::default(), Tally::default(), Tally::default());
     let family = group.family;
-    let Some(mut cases) = group.cases(options.seed) else { return [tally, fixed] };
+    let Some(mut cases) = group.cases(options.seed) else { return [tally, fixed, listed] };
     // Large units: fewer.
     let count = match family {
         "many" => options.count.div_ceil(50),
@@ -627,7 +680,8 @@ fn run_part(group: Group, options: &Options, thread: usize, saved: &Mutex<usize>
             tables.extend([vec![], vec![1], vec![2], vec![1, 2]]);
         }
         let wrongly = dice.rare(8);
-        let note = |ended: &Ended, parts: &Parts, with: Setting| {
+        let mut list_dice = Dice(!seed ^ (group.which as u64) << 32);
+        let note = |ended: &Ended, parts: &Parts, with: Setting<'_>| {
             let Some(what) = &ended.different else { return };
             let mut saved = saved.lock().unwrap();
             *saved += 1;
@@ -637,20 +691,30 @@ fn run_part(group: Group, options: &Options, thread: usize, saved: &Mutex<usize>
         };
         for table in tables {
             parts[4] = table;
-            let off = (!options.only_fixed).then(|| one(&parts, with, seed, options.blocks));
+            let off = (!options.only_fixed && !options.only_lists).then(|| one(&parts, with, seed, options.blocks));
             if let Some(off) = &off {
                 tally.add(off);
                 note(off, &parts, with);
             }
             let chosen = Setting { fixed_addresses: true, ..with };
-            let on = one(&parts, chosen, seed, options.blocks);
-            fixed.add(&on);
-            note(&on, &parts, chosen);
-            if let Some(off) = off.filter(|off| off.line != on.line) {
-                *fixed.otherwise.entry(format!("{} to {}", off.first, on.first)).or_default() += 1;
+            let on = (!options.only_lists).then(|| one(&parts, chosen, seed, options.blocks));
+            if let Some(on) = &on {
+                fixed.add(on);
+                note(on, &parts, chosen);
+                off.iter().for_each(|off| fixed.add_other(off, on));
+            }
+            let list = keep::diced(&mut list_dice, &parts, with.order());
+            let is_on = list_dice.rare(2) || options.only_fixed;
+            let kept = Setting { fixed_addresses: is_on, keep: list.lent(), ..with };
+            let ended = one(&parts, kept, seed, options.blocks);
+            listed.add(&ended);
+            listed.add_list(kept.keep);
+            note(&ended, &parts, kept);
+            if let Some(without) = if is_on { &on } else { &off } {
+                listed.add_other(without, &ended);
             }
         }
-        if wrongly && !parts[0].is_empty() && !options.only_fixed {
+        if wrongly && !parts[0].is_empty() && !options.only_fixed && !options.only_lists {
             let layout = Layout::of(with.order(), &parts[0]);
             if dice.rare(4) && !layout.wide && header(&parts[0], with.order()) == 0 {
                 // A length that is the same in both byte orders, so that the version alone tells them apart. One of eight bytes that is
@@ -663,16 +727,19 @@ fn run_part(group: Group, options: &Options, thread: usize, saved: &Mutex<usize>
             note(&ended, &parts, Setting { big_endian: !with.big_endian, ..with });
         }
     }
-    [tally, fixed]
+    [tally, fixed, listed]
 }
 
-fn report(group: Group, i: usize, parts: &Parts, with: Setting, seed: u64, what: &str, options: &Options) {
+fn report(group: Group, i: usize, parts: &Parts, with: Setting<'_>, seed: u64, what: &str, options: &Options) {
+    let given = with;
+    let list = reduced_list(parts, with, seed, options.blocks);
+    let with = Setting { keep: list.lent(), ..given };
     let small = reduced(parts, with, seed, options.blocks);
     let why = one(&small, with, seed, options.blocks).different.unwrap_or_default();
     let text = format!(
-        "{} seed {} case {i} {with:?}\n  {what}\nreduced\n  unit {}\n  abbreviations {}\n  locations {}\n  ranges {}\n  addresses {}\n  \
+        "{} seed {} case {i} {given:?}\n  {what}\nreduced\n  keep list {:?}\n  unit {}\n  abbreviations {}\n  locations {}\n  ranges {}\n  addresses {}\n  \
          older ranges {}\n  {why}\n  original: {}\n",
-        group.name(), options.seed, hex(&small[0]), hex(&small[1]), hex(&small[2]), hex(&small[3]), hex(&small[4]), hex(&small[5]),
+        group.name(), options.seed, with.keep, hex(&small[0]), hex(&small[1]), hex(&small[2]), hex(&small[3]), hex(&small[4]), hex(&small[5]),
         judge(slices(&small), with).line(),
     );
     println!("{text}");
@@ -685,47 +752,79 @@ fn report(group: Group, i: usize, parts: &Parts, with: Setting, seed: u64, what:
 
 const FIRST: [&str; 14] = ["rewritten", "untouched", "1", "2", "3", "4", "5", "6", "17", "7", "8", "9", "10", "11"];
 const SECOND: [&str; 5] = ["10", "11", "12", "13", "14"];
+/// Of keep lists.
+const REFUSED: [&str; 2] = ["19", "20"];
 
-fn row(name: &str, tally: &Tally) -> String {
+fn row(name: &str, tally: &Tally, refused: &[&str]) -> String {
     let of = |counts: &BTreeMap<String, usize>, k: &str| counts.get(k).copied().unwrap_or(0);
     let mut cells = vec![name.to_string(), tally.cases.to_string()];
-    cells.extend(FIRST.iter().map(|k| of(&tally.first, k).to_string()));
+    cells.extend(FIRST.iter().chain(refused).map(|k| of(&tally.first, k).to_string()));
     cells.extend(SECOND.iter().map(|k| of(&tally.second, k).to_string()));
     cells.push(tally.listed.values().sum::<usize>().to_string());
     cells.push(tally.different.to_string());
     format!("| {} |", cells.join(" | "))
 }
 
-/// A table of rows; with the choice of fixed addresses on, one column more.
-fn table(rows: &[String], more: &[&str]) {
+/// A table of rows; with the choice of fixed addresses on, and with keep lists, one column more.
+fn table(rows: &[String], refused: &[&str], more: &[&str]) {
+    let first = [&FIRST[..], refused].concat();
     let columns = [&["listed", "different"], more].concat();
-    println!("| family | cases | {} | then {} | {} |", FIRST.join(" | "), SECOND.join(" | "), columns.join(" | "));
-    println!("|{}", "---|".repeat(2 + FIRST.len() + SECOND.len() + columns.len()));
+    println!("| family | cases | {} | then {} | {} |", first.join(" | "), SECOND.join(" | "), columns.join(" | "));
+    println!("|{}", "---|".repeat(2 + first.len() + SECOND.len() + columns.len()));
     for row in rows {
         println!("{row}");
     }
     println!();
 }
 
-/// A row of the table with fixed addresses: last in how many cases the answer is another than with the choice off.
-fn fixed_row(name: &str, tally: &Tally) -> String {
-    format!("{} {} |", row(name, tally), tally.otherwise.values().sum::<usize>())
+/// A row of the table with fixed addresses, or of that with keep lists: last in how many cases the answer is another than without.
+fn other_row(name: &str, tally: &Tally, refused: &[&str]) -> String {
+    format!("{} {} |", row(name, tally, refused), tally.otherwise.values().sum::<usize>())
 }
 
 fn counts(of: &BTreeMap<String, usize>) -> String {
     of.iter().map(|(k, n)| format!("{k} {n}")).collect::<Vec<_>>().join(", ")
 }
 
+/// Counts of cases that are run in another way too: by family, and by byte order, format and version.
+#[derive(Default)]
+struct Others<'a> {
+    families: Vec<(&'a str, Tally)>,
+    layouts: [Tally; LAYOUTS.len()],
+}
+
+impl<'a> Others<'a> {
+    fn merge(&mut self, group: &Group<'a>, tally: Tally) {
+        self.layouts[group.which].merge(&tally);
+        match self.families.last_mut() {
+            Some((last, held)) if *last == group.family => held.merge(&tally),
+            _ => self.families.push((group.family, tally)),
+        }
+    }
+
+    /// Prints the table; the counts of all.
+    fn table(&self, refused: &[&str]) -> Tally {
+        let mut total = Tally::default();
+        let mut rows: Vec<String> = self.families.iter().map(|(family, tally)| other_row(family, tally, refused)).collect();
+        for ((_, name), tally) in LAYOUTS.iter().zip(&self.layouts) {
+            rows.push(other_row(&format!("all {name}"), tally, refused));
+            total.merge(tally);
+        }
+        rows.push(other_row("all", &total, refused));
+        table(&rows, refused, &["otherwise"]);
+        total
+    }
+}
+
 fn run(groups: &[Group], options: &Options) -> bool {
     let (mut rows, mut empty) = (Vec::new(), Vec::new());
     let mut tallies: [Tally; LAYOUTS.len()] = Default::default();
-    // With the choice of fixed addresses on: by family, and by byte order, format and version.
-    let mut families: Vec<(&str, Tally)> = Vec::new();
-    let mut fixed_tallies: [Tally; LAYOUTS.len()] = Default::default();
+    // With the choice of fixed addresses on, and with keep lists.
+    let (mut on, mut kept) = (Others::default(), Others::default());
     let saved = Mutex::new(0);
     for group in groups {
         let started = std::time::Instant::now();
-        let (mut tally, mut fixed) = (Tally::default(), Tally::default());
+        let (mut tally, mut fixed, mut listed) = (Tally::default(), Tally::default(), Tally::default());
         std::thread::scope(|scope| {
             let saved = &saved;
             let parts: Vec<_> = (0..options.threads)
@@ -737,9 +836,10 @@ fn run(groups: &[Group], options: &Options) -> bool {
                 .collect();
             for part in parts {
                 match part.join() {
-                    Ok([off, on]) => {
-                        tally.merge(&off);
-                        fixed.merge(&on);
+                    Ok(counted) => {
+                        for (into, from) in [&mut tally, &mut fixed, &mut listed].into_iter().zip(&counted) {
+                            into.merge(from);
+                        }
                     }
                     Err(p) => {
                         println!("{}: {} (about case {:?})", group.name(), said(p), AT[0]);
@@ -749,30 +849,30 @@ fn run(groups: &[Group], options: &Options) -> bool {
             }
         });
         let name = group.name();
-        eprintln!("{} and on {} {:?}", row(&name, &tally), fixed_row("", &fixed), started.elapsed());
-        rows.push(row(&name, &tally));
+        let others = [other_row("", &fixed, &[]), other_row("", &listed, &REFUSED)];
+        eprintln!("{} and on {} and with keep lists {} {:?}", row(&name, &tally, &[]), others[0], others[1], started.elapsed());
+        rows.push(row(&name, &tally, &[]));
         empty.push(format!("{name} {} {}", tally.empty, tally.asked));
         tallies[group.which].merge(&tally);
-        fixed_tallies[group.which].merge(&fixed);
-        match families.last_mut() {
-            Some((last, held)) if *last == group.family => held.merge(&fixed),
-            _ => families.push((group.family, fixed)),
-        }
+        on.merge(group, fixed);
+        kept.merge(group, listed);
     }
-    let (mut total, mut fixed) = (Tally::default(), Tally::default());
-    let mut fixed_rows: Vec<String> = families.iter().map(|(family, tally)| fixed_row(family, tally)).collect();
-    for ((_, name), (off, on)) in LAYOUTS.iter().zip(tallies.iter().zip(&fixed_tallies)) {
-        rows.push(row(&format!("all {name}"), off));
-        fixed_rows.push(fixed_row(&format!("all {name}"), on));
-        total.merge(off);
-        fixed.merge(on);
+    let mut total = Tally::default();
+    for ((_, name), tally) in LAYOUTS.iter().zip(&tallies) {
+        rows.push(row(&format!("all {name}"), tally, &[]));
+        total.merge(tally);
     }
-    rows.push(row("all", &total));
-    fixed_rows.push(fixed_row("all", &fixed));
-    table(&rows, &[]);
+    rows.push(row("all", &total, &[]));
+    table(&rows, &[], &[]);
     println!("with the choice of fixed addresses on, and last how many answers are others than with it off:");
-    table(&fixed_rows, &["otherwise"]);
+    let fixed = on.table(&[]);
     println!("otherwise, by the answers off and on: {}", counts(&fixed.otherwise));
+    println!();
+    println!("with keep lists, and last how many answers are others than without:");
+    let listed = kept.table(&REFUSED);
+    println!("otherwise, by the answers without a list and with it: {}", counts(&listed.otherwise));
+    println!("lists: {}", counts(&listed.lists));
+    println!();
     let mut by_rule: BTreeMap<&str, usize> = BTreeMap::new();
     for (rules, n) in &total.listed {
         for rule in rules.split(',') {
@@ -787,13 +887,15 @@ fn run(groups: &[Group], options: &Options) -> bool {
         println!("{name}: {} cases, {} different; and told the other byte order, by answer: {told}", tally.cases, tally.different);
     }
     println!("fixed addresses: {} cases, {} different", fixed.cases, fixed.different);
+    println!("keep lists: {} cases, {} different", listed.cases, listed.different);
     total.merge(&fixed);
+    total.merge(&listed);
     println!("differ: {} cases, {} different", total.cases, total.different);
     total.different == 0
 }
 
 /// The port's answer in words, with room for everything.
-fn line(parts: &Parts, with: Setting) -> String {
+fn line(parts: &Parts, with: Setting<'_>) -> String {
     let size = parts[0].len() + 1;
     let lengths = Lengths { map: PLACE * size, lists: [8 * size; 3], output: size, counts: COUNTS, tables: None };
     let left = call(parts, with, &lengths, Manner { around: 16, fill: 0xa5, yes: [1; 3] });
@@ -821,7 +923,7 @@ fn line(parts: &Parts, with: Setting) -> String {
     format!("{kind} entries {} kept {} {}", count(0), count(1), answer.shown())
 }
 
-fn lines(with: Setting) -> io::Result<()> {
+fn lines(with: Setting<'_>) -> io::Result<()> {
     let mut all = Vec::new();
     io::stdin().read_to_end(&mut all)?;
     let mut rest = &all[..];
@@ -872,13 +974,13 @@ fn main() {
         eprintln!("{USAGE}");
         std::process::exit(2)
     };
-    let mut options = Options { seed: 1, count: 1000, threads: 2, blocks: false, quiet: false, save: "different".to_string(), only_fixed: false };
+    let mut options = Options { seed: 1, count: 1000, threads: 2, blocks: false, quiet: false, save: "different".to_string(), only_fixed: false, only_lists: false };
     let mut families: Vec<String> = Vec::new();
     let mut given: [Vec<Parts>; LAYOUTS.len()] = Default::default();
     let (mut only_wide, mut only_older) = (false, false);
     let mut big_files = false;
     let (mut files, mut only, mut in_lines) = (false, false, false);
-    let mut with = Setting::default();
+    let (mut with, mut list) = (Setting::default(), keep::Owned::default());
     let mut args = std::env::args().skip(1);
     while let Some(arg) = args.next() {
         let mut number = || args.next().and_then(|n| n.parse().ok()).unwrap_or_else(|| usage());
@@ -898,6 +1000,9 @@ fn main() {
             "--type-units" => with.type_units = true,
             "--big-endian" => with.big_endian = true,
             "--fixed-addresses" => (with.fixed_addresses, options.only_fixed) = (true, true),
+            "--keep-lists" => options.only_lists = true,
+            "--tags" => list.tags = args.next().as_deref().and_then(unhex).unwrap_or_else(|| usage()),
+            "--treatments" => list.treatments = args.next().as_deref().and_then(unhex).unwrap_or_else(|| usage()),
             "--64-bit" => only_wide = true,
             "--version-4" => only_older = true,
             "--ranges-base" => with.ranges_base = number() as usize,
@@ -914,7 +1019,7 @@ fn main() {
         }
     }
     if in_lines {
-        let child = std::thread::Builder::new().stack_size(1 << 30).spawn(move || lines(with)).expect("a thread");
+        let child = std::thread::Builder::new().stack_size(1 << 30).spawn(move || lines(Setting { keep: list.lent(), ..with })).expect("a thread");
         std::process::exit(i32::from(!matches!(child.join(), Ok(Ok(())))))
     }
     if families.is_empty() {

@@ -8,7 +8,7 @@ use lib.ListN.{take, length}
 use Rattle.readers.specs.Abbreviations.{Placed, declaredIn, abbreviationsOf}
 use Rattle.readers.specs.Stream.{itemsFrom}
 use Rattle.readers.specs.declared.header.UnitHeader.{UnitHeader}
-use Rattle.marking.specs.Analysis.{Sections, EntryRow, Analysed, analysed, refused as notAnalysed, headerAnalysed, analysisOf}
+use Rattle.marking.specs.Analysis.{Sections, EntryRow, Analysed, analysed, refused as notAnalysed, headerAnalysed, analysisOf, headerBy}
 use Rattle.marking.proofs.EachRow.{items-whole}
 use Rattle.rewriting.specs.Rewriting.{Room, unitOf, Unit as Unit′, Lists, noLists, listsOf, refusalFrom, unitBytes, Rewrite, Collected, untouched, rewritten, refused, listsFit, orRefused, rewriteOf, marksCollected, rowsCollected, analysedCollected, declaredCollected, headerCollected, collectOf}
 use Rattle.readers.proofs.HeaderLaws.{HeaderLaw, header-laws}
@@ -29,6 +29,7 @@ use Rattle.marking.specs.Resolution.{marksIn}
 use Rattle.marking.proofs.UnitMarkings.{marks-each}
 use Rattle.rewriting.specs.Places.{NestedItem, Place, placesFrom, sizeFrom}
 use Rattle.laws.specs.LeftOut.{survivorsIn}
+use Rattle.marking.proofs.ListedHeaders.{unit-listed}
 
 module _ (x : Sections) (room : Room) (section : List ℕ) (h : UnitHeader) (ds : List Placed) (rows : List EntryRow) (a : Accepted x room section h ds rows) where
   -- the items end at the unit's end
@@ -169,15 +170,15 @@ module _ (x : Sections) (room : Room) (typeUnits : Bool) (section : List ℕ) wh
   declared-told h q none d = tt
   declared-told h q (some ds) d = analysed-told h ds q d (analysisOf x section (room .tables)) refl
 
-  header-told : (o : HeaderRead) → headerOf (x .setting .«big_endian») section ≡ o → Told (headerCollected x room typeUnits section o)
+  header-told : (o : HeaderRead) → headerBy x section ≡ o → Told (headerCollected x room typeUnits section o)
   unfolding headerCollected Told analysisOf headerAnalysed
   header-told Empty q = (λ n. absurd (omega arith), λ z. (ap (headerAnalysed x section (room .tables)) q, refl))
   header-told (Refused n) q = tt
-  header-told (Header′ h) q = declared-told h q (abbreviationsOf (x .abbreviations) (h .abbreviations)) refl
+  header-told (Header′ h) q = declared-told h (unit-listed x section h q .0) (abbreviationsOf (x .abbreviations) (h .abbreviations)) refl
 
   told : Told (collectOf x room typeUnits section)
   unfolding collectOf
-  told = header-told (headerOf (x .setting .«big_endian») section) refl
+  told = header-told (headerBy x section) refl
 
   -- "An accepted unit is rewritten exactly when it has a dead entry."
   pub was-rewritten : (w : Rewrite) → collectOf x room typeUnits section ≡ rewritten w → WasRewritten w

@@ -36,14 +36,15 @@ use Rattle.marking.specs.EntryReferences.{after, andThen, targets, walkFound, e
 use Rattle.marking.specs.Below.{any, every, count, tab}
 use Rattle.marking.specs.Graph.{isParent, isRoot, references, names, parentFits, pairFits, rootFits, wellFormed, takes}
 use Rattle.marking.specs.Markings.{climbs, isDescendant, namedBy, isTop, isLive, justified}
-use Rattle.laws.specs.FiveEntries.{P1toP10, P1In, BytesIn}
+use Rattle.laws.specs.FiveEntries.{P1toP10, P1In, BytesIn, ByKeepLists}
 use Rattle.laws.specs.Markings.{accepts, step, run, nothing}
 use Rattle.marking.specs.Marks.{has, round, rounds, keptOf, markOf, marksOf, isKept, keptCount, markAnswer, endMarks}
 use Rattle.readers.specs.Stream.{push as push′Stream, onStep, itemsWithin, itemsFrom}
-use Rattle.marking.specs.Analysis.{onto, onVerdict, onFound, valuesOfEntry, rangesFor, rootOf, namesOf as namesOf′Analysis, baseOf, analyseItems, onDeclared, unitAnalysed, headerAnalysed, analysisOf}
+use Rattle.marking.specs.Analysis.{onto, onVerdict, onFound, valuesOfEntry, rangesFor, testOf, rootOf, afterList, headerBy, namesOf as namesOf′Analysis, baseOf, analyseItems, onDeclared, unitAnalysed, headerAnalysed, analysisOf}
 use Rattle.marking.specs.Columns.{offsetsIn, parentsIn, rootsIn, namesIn as namesIn′Columns, endsIn, padTo, column}
 use Rattle.marking.specs.Resolution.{entryFrom, pairFor, pairsOfEntry, pairsFrom, pairsIn, graphOf, marksIn, unitMarks, Ascending}
 use Rattle.marking.specs.inner.Resolution.{asEntry}
+use Rattle.marking.specs.KeepList.{tagsIn, isTreatment, eachTreats, ascends, keepRefusal, treatmentIn, treated}
 use Rattle.rewriting.specs.Places.{innermost, withIf, keptFrom, offsetOf, sizeOf, placesFrom, sizeFrom, newOf, firstFrom, orElse as orElse′Places, siblingOf}
 use Rattle.rewriting.specs.Indices.{insert, insertAll, rankIn, indexIn, indicesIn, readIndices, declares, rankOr, countOf}
 use Rattle.rewriting.specs.Emission.{headerBytes}
@@ -61,7 +62,8 @@ computed : P1toP10
     × P1In (encodingOf true 5 4 4) × P1In (encodingOf true 5 4 8)
     × P1In (encodingOf true 5 8 4) × P1In (encodingOf true 5 8 8)
     × BytesIn
-unfolding groupsFit paddedAnswer paddedOut pick _and_ _or_ check bind All below groups unsigned64 uleb negative signed64 sleb padded littleBytes littleValue ordered fixedBytes fixedValue asBytes width kindOf asLeb stringIn within16 short afterForm formsWithin formsIn copy asNumber asLink asBounded asForms asSigned asString asBlock asExpression before numberIn tokenIn readIn numberBytes pieceBytes bytesOf writeAll patchPiece patchPieces patchRead patchAll FitPiece FitPieces FitAll numberAs tokenOf unreadableRow rows rowOf rowLayout operations rowAmong operationRow operation rangeEntries locationEntries locationEntries4 listRow push onTurn scanWithin scan Goes allPieces andRest expressionWithin expressionIn formTokens tokenAmong formToken useOf inVersion valueToken attributeLayout asGroups groupsAt asLebNumber lebAt asFixed fixedAt skipAt asMoved stringAt asFormNumber formsAt linkedValue size fieldOf asField rowOfReads asRow tokenAt fieldAt rowAt numberField boundedField blockField numberAt partOf exprlocAt rowOperation operationOfReads asOperation operationAt listEntry rowEntry entryOfReads asListStep listEntryAt nameIn namesIn isAbsolute anyAbsolute asWalk walkOf named namedType referenceOf counted ownWalk yieldTurn operationTurn walkTurn yielded nextReference namesOf flatOperation flatTurn flat flattened flatFrom walkAnswer referencesAnswer numbersOf namesOr referencesIn answerTable referencesTable present right lengthBytes encodingOf headerMade fields4 fields5 headerFields headerIn headerOf listBase listStart fromBase listOffset numberSpec implicitSpec specAt specTurn attributesFrom scannedTo pastAttributes numberDeclaration movedDeclaration headAt wholeDeclaration declarationAt declarationTurn declarationsFrom declaredIn isFound distinct checkDistinct abbreviationsOf asChecked checkedOf indexed indexFor indexOf searchTurn foundBy searchAt declarationFound findAt attributeOfReads asAttribute attributeAt then attributesLayout specsLayout asPast valuesAt foundLayout entryLayout entryFound stepOfReads asStep stepAt opened closed top nestingOf nestingOpened nestingClosed isTombstone byteLiveness lookupAt onNext walkWithin walk Forward orElse onLookup turnOf rangeEntry rangeStep rangesLive operationLive operationStep locationLive olderStep olderLive rangePair pairStep pairsLive offsetLive lowPc onAttribute valuesOf onSpec specsWithin specsFrom entryValues taken takenBy nextAttribute lowPcs locations otherRanges rangesOf firstRanges rootTest baseFrom baseAfter after andThen targets walkFound expressionFound locationFound onLocation locationStep listFound attributeFound attributesFound any every count tab isParent isRoot references names parentFits pairFits rootFits wellFormed takes climbs isDescendant namedBy isTop isLive justified accepts step run nothing has round rounds keptOf markOf marksOf isKept keptCount markAnswer endMarks push′Stream onStep itemsWithin itemsFrom onto onVerdict onFound valuesOfEntry rangesFor rootOf namesOf′Analysis baseOf analyseItems onDeclared unitAnalysed headerAnalysed analysisOf offsetsIn parentsIn rootsIn namesIn′Columns endsIn padTo column entryFrom pairFor pairsOfEntry pairsFrom pairsIn graphOf marksIn unitMarks asEntry Ascending innermost withIf keptFrom offsetOf sizeOf placesFrom sizeFrom newOf firstFrom orElse′Places siblingOf insert insertAll rankIn indexIn indicesIn readIndices declares rankOr countOf itemsIn readsOr readsAt indicesFrom itemDeclares anyDeclares listOf listsOf orSelf isSome listAt newValue hasPlace fits pieceRefusal orNext piecesRefusal readsRefusal refusalFrom bytesFrom headerBytes unitBytes listsFit orRefused rewriteOf marksCollected rowsCollected analysedCollected declaredCollected headerCollected collectOf
+    × ByKeepLists
+unfolding groupsFit paddedAnswer paddedOut pick _and_ _or_ check bind All below groups unsigned64 uleb negative signed64 sleb padded littleBytes littleValue ordered fixedBytes fixedValue asBytes width kindOf asLeb stringIn within16 short afterForm formsWithin formsIn copy asNumber asLink asBounded asForms asSigned asString asBlock asExpression before numberIn tokenIn readIn numberBytes pieceBytes bytesOf writeAll patchPiece patchPieces patchRead patchAll FitPiece FitPieces FitAll numberAs tokenOf unreadableRow rows rowOf rowLayout operations rowAmong operationRow operation rangeEntries locationEntries locationEntries4 listRow push onTurn scanWithin scan Goes allPieces andRest expressionWithin expressionIn formTokens tokenAmong formToken useOf inVersion valueToken attributeLayout asGroups groupsAt asLebNumber lebAt asFixed fixedAt skipAt asMoved stringAt asFormNumber formsAt linkedValue size fieldOf asField rowOfReads asRow tokenAt fieldAt rowAt numberField boundedField blockField numberAt partOf exprlocAt rowOperation operationOfReads asOperation operationAt listEntry rowEntry entryOfReads asListStep listEntryAt nameIn namesIn isAbsolute anyAbsolute asWalk walkOf named namedType referenceOf counted ownWalk yieldTurn operationTurn walkTurn yielded nextReference namesOf flatOperation flatTurn flat flattened flatFrom walkAnswer referencesAnswer numbersOf namesOr referencesIn answerTable referencesTable present right lengthBytes encodingOf headerMade fields4 fields5 headerFields headerIn headerOf listBase listStart fromBase listOffset numberSpec implicitSpec specAt specTurn attributesFrom scannedTo pastAttributes numberDeclaration movedDeclaration headAt wholeDeclaration declarationAt declarationTurn declarationsFrom declaredIn isFound distinct checkDistinct abbreviationsOf asChecked checkedOf indexed indexFor indexOf searchTurn foundBy searchAt declarationFound findAt attributeOfReads asAttribute attributeAt then attributesLayout specsLayout asPast valuesAt foundLayout entryLayout entryFound stepOfReads asStep stepAt opened closed top nestingOf nestingOpened nestingClosed isTombstone byteLiveness lookupAt onNext walkWithin walk Forward orElse onLookup turnOf rangeEntry rangeStep rangesLive operationLive operationStep locationLive olderStep olderLive rangePair pairStep pairsLive offsetLive lowPc onAttribute valuesOf onSpec specsWithin specsFrom entryValues taken takenBy nextAttribute lowPcs locations otherRanges rangesOf firstRanges rootTest baseFrom baseAfter after andThen targets walkFound expressionFound locationFound onLocation locationStep listFound attributeFound attributesFound any every count tab isParent isRoot references names parentFits pairFits rootFits wellFormed takes climbs isDescendant namedBy isTop isLive justified accepts step run nothing has round rounds keptOf markOf marksOf isKept keptCount markAnswer endMarks push′Stream onStep itemsWithin itemsFrom onto onVerdict onFound valuesOfEntry rangesFor testOf rootOf treated tagsIn treatmentIn keepRefusal isTreatment eachTreats ascends afterList headerBy namesOf′Analysis baseOf analyseItems onDeclared unitAnalysed headerAnalysed analysisOf offsetsIn parentsIn rootsIn namesIn′Columns endsIn padTo column entryFrom pairFor pairsOfEntry pairsFrom pairsIn graphOf marksIn unitMarks asEntry Ascending innermost withIf keptFrom offsetOf sizeOf placesFrom sizeFrom newOf firstFrom orElse′Places siblingOf insert insertAll rankIn indexIn indicesIn readIndices declares rankOr countOf itemsIn readsOr readsAt indicesFrom itemDeclares anyDeclares listOf listsOf orSelf isSome listAt newValue hasPlace fits pieceRefusal orNext piecesRefusal readsRefusal refusalFrom bytesFrom headerBytes unitBytes listsFit orRefused rewriteOf marksCollected rowsCollected analysedCollected declaredCollected headerCollected collectOf
 computed = (
   (refl, refl, refl, refl, refl, refl, refl, (refl, refl, refl, refl), refl, (refl, refl, refl), refl),
   record { one = refl; four = refl; eight = refl; named = refl },
@@ -81,6 +83,7 @@ computed = (
   record { one = refl; four = refl; eight = refl; named = refl },
   record { one = refl; four = refl; eight = refl; named = refl },
   (refl, refl, refl, refl, refl, refl, refl, refl, refl, refl, refl, refl, refl, refl),
+  (refl, refl, refl, refl, refl, refl, refl, refl, refl, refl, refl, refl, refl, refl, refl, refl, refl, refl, refl),
 )
 
 pub p1-to-p10 : P1toP10
@@ -102,6 +105,10 @@ each-order true = (((computed .9, computed .10), (computed .11, computed .12)), 
 -- the bytes of the five-entry unit in four encodings
 pub bytes-in : BytesIn
 bytes-in = computed .17
+
+-- the five-entry unit with keep lists
+pub by-keep-lists : ByKeepLists
+by-keep-lists = computed .18
 
 -- what holds at each of two numbers holds at one of them
 at-either : (P : ℕ → Type 0) (a b n : ℕ) → (n ≡ a) ⊎ (n ≡ b) → P a → P b → P n

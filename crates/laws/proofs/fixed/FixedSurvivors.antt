@@ -1,30 +1,34 @@
 -- What survives where fixed addresses count (document 02, Point 7): each variable that has one, and all that survives where they do not.
 -- Assumes nothing.
-use mathlib.Core.Path.{_≡_, refl, sym, subst}
-use Prim.Native.Nat.{ℕ, suc}
+use mathlib.Core.Path.{_≡_, refl, ap, sym, _∙_, subst}
+use Prim.Native.Nat.{ℕ}
 use mathlib.Core.Bool.{Bool, true, false, not}
-use mathlib.Core.List.{List, [], _∷_}
+use mathlib.Core.List.{List}
 use mathlib.Core.Logic.{inl, inr}
 use lib.ListN.{take}
-use Rattle.readers.specs.Stream.{Item, entry, terminator}
 use Rattle.readers.specs.declared.cursor.Encoding.{Encoding}
 use Rattle.readers.specs.declared.entries.Entry.{Entry}
 use Rattle.marking.specs.declared.root_test.Verdict.{Verdict}
-use Rattle.marking.specs.declared.root_test.Verdict.the-variants.{Live, Dead}
-use Rattle.marking.specs.Members.{Nth, now, later}
+use Rattle.marking.specs.declared.root_test.Verdict.the-variants.{Live, Dead, Refused}
 use Rattle.marking.specs.Survivors.{Survivor}
-use Rattle.marking.specs.Analysis.{Sections, Rooms, EntryRow, analysed, analysisOf}
-use Rattle.marking.specs.EntryRows.{Tested, RowOf, RowsOf, unitItems}
+use Rattle.marking.specs.Analysis.{Sections, Rooms, EntryRow, analysed, analysisOf, rootOf}
+use Rattle.marking.specs.EntryRows.{Tested, unitItems}
 use Rattle.marking.specs.Resolution.{graphOf}
 use Rattle.laws.specs.AddressTables.{withFixed, NoneLost}
-use Rattle.laws.specs.FixedAddresses.{FixedVariable, EntryAt, next, behind-entry, behind-terminator}
-use Rattle.laws.specs.UnitSurvivors.{FirstUnit}
+use Rattle.laws.specs.FixedAddresses.{FixedVariable}
+use Rattle.laws.specs.UnitSurvivors.{FirstUnit, EntryAt}
+use Rattle.laws.specs.KeepLists.{Treats}
 use Rattle.laws.proofs.survivors.UnitLaws.{unit-survivors}
+use Rattle.laws.proofs.survivors.RowsAt.{RowAt, row-at}
 use Rattle.laws.proofs.tables.BySeveralTables.{Verdicts}
 use Rattle.laws.proofs.tables.LiveVerdicts.{Held, held-live, held-same, held-else}
 use Rattle.laws.proofs.tables.NoneLost.{all-kept}
 use Rattle.laws.proofs.fixed.FixedLocations.{Counted, location-counted}
 use Rattle.laws.proofs.fixed.FixedRoots.{fixed-roots-law}
+use Rattle.marking.specs.KeepList.{treatmentOf, treated, neverRoot}
+use Rattle.marking.proofs.KeepLists.{still-live, still-refused}
+use Rattle.readers.specs.Codes.{«DW_TAG_variable»}
+use Rattle.laws.proofs.keep.Treatments.{treatment-listed}
 
 -- ---- the variables
 
@@ -33,38 +37,22 @@ not-dead-root : (v : Verdict) (root : ℕ) → Tested v root → (v ≡ Dead →
 not-dead-root v root (inl q) n = q .1
 not-dead-root v root (inr q) n = absurd (n (q .0))
 
-module _ (e : Encoding) (x : Sections) (unit : List ℕ) where
-  -- the row of an entry
-  record RowAt (y : Entry) (k : ℕ) (rows : List EntryRow) : Type 0 where
-    pub row : EntryRow
-    pub at : Nth row k rows
-    pub stack : List ℕ
-    pub rnglistsBase : ℕ
-    pub loclistsBase : ℕ
-    pub of : RowOf e x unit stack rnglistsBase loclistsBase y row
+-- a verdict that is not dead is not made so but by treatment 2
+not-dead-treated : (k : ℕ) (v : Verdict) → (k ≡ neverRoot → ⊥) → (v ≡ Dead → ⊥) → treated k v ≡ Dead → ⊥
+not-dead-treated k Live n d q = d (still-live k Live refl n ∙ q)
+not-dead-treated k Dead n d q = d refl
+not-dead-treated k (Refused m) n d q = d (still-refused k (Refused m) m refl ∙ q)
 
-  further : {y : Entry} {k : ℕ} {r : EntryRow} {rows : List EntryRow} → RowAt y k rows → RowAt y (suc k) (r ∷ rows)
-  further w =
-      record { row = w .row; at = later (w .at); stack = w .stack; rnglistsBase = w .rnglistsBase; loclistsBase = w .loclistsBase; of = w .of }
-
-  row-at : (y : Entry) (k n : ℕ) (stack : List ℕ) (rb lb : ℕ) (items : List Item) (rows : List EntryRow) → EntryAt y k items
-      → RowsOf e x unit n stack rb lb items rows → RowAt y k rows
-  unfolding RowsOf
-  row-at y k n stack rb lb (entry z ∷ rest) [] at q = absurd q
-  row-at y k n stack rb lb (entry z ∷ rest) (r ∷ rows) next q =
-      record { row = r; at = now refl; stack = stack; rnglistsBase = rb; loclistsBase = lb; of = q .0 }
-  row-at y k n stack rb lb (entry z ∷ rest) (r ∷ rows) (behind-entry at) q = further (row-at y _ _ _ _ _ rest rows at (q .1))
-  row-at y k n stack rb lb (terminator a b ∷ rest) rows (behind-terminator at) q = row-at y k n _ rb lb rest rows at q
-
--- THE variables at a fixed address: where they count, each is a survivor of its unit
+-- THE variables at a fixed address: where they count, each is a survivor of its unit, but for a keep list by which no variable is a root
 pub fixed-kept-law : (x : Sections) (section : List ℕ) (room : Rooms) (rows : List EntryRow) → analysisOf (withFixed x true) section room ≡ analysed rows
-    → (u : FirstUnit (withFixed x true) section rows) (k : ℕ) (y : Entry) → EntryAt y k (unitItems x section (u .header) (u .declared) .0)
+    → (Treats (x .keep) «DW_TAG_variable» neverRoot → ⊥) → (u : FirstUnit (withFixed x true) section rows) (k : ℕ) (y : Entry) → EntryAt y k (unitItems x section (u .header) (u .declared) .0)
     → FixedVariable (u .header .encoding) x (take (u .header .end) section) y → Survivor (graphOf rows) k
-fixed-kept-law x section room rows q u k y at f =
+unfolding rootOf
+fixed-kept-law x section room rows q n u k y at f =
     let e : Encoding = u .header .encoding in
     let unit : List ℕ = take (u .header .end) section in
     let w : RowAt e (withFixed x true) unit y k rows = row-at e (withFixed x true) unit y k _ _ _ _ _ rows at (u .each) in
-    let r : w .row .root ≡ 1 = not-dead-root _ _ (w .of .root-is) (fixed-roots-law e x unit _ y .also f) in
+    let r : w .row .root ≡ 1 = not-dead-root _ _ (w .of .root-is) (not-dead-treated _ _ (λ z. n (treatment-listed (x .keep) _ 1 (ap (treatmentOf (x .keep)) (sym (f .tag)) ∙ z))) (fixed-roots-law e x unit _ y .also f)) in
     unit-survivors (withFixed x true) section room rows q .least .closed .has-roots k (record { row = w .row; at = w .at; is = r })
 
 -- ---- all that survives without

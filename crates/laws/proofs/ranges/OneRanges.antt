@@ -10,10 +10,11 @@ use Rattle.readers.specs.declared.cursor.Encoding.{Encoding}
 use Rattle.readers.specs.declared.header.UnitHeader.{UnitHeader}
 use Rattle.readers.specs.declared.header.HeaderRead.{HeaderRead}
 use Rattle.readers.specs.declared.header.HeaderRead.the-variants.{Unit as Unit′, Empty, Refused}
-use Rattle.marking.specs.Analysis.{Sections, sections, rangesFor, Rooms, Analysed, headerAnalysed, unitAnalysed, analysisOf}
+use Rattle.marking.specs.Analysis.{Sections, sections, rangesFor, Rooms, Analysed, headerAnalysed, unitAnalysed, analysisOf, headerBy}
 use Rattle.marking.proofs.RangeSections.{debug-ranges-for, rnglists-for, unit-same}
 use Rattle.laws.specs.RangeSections.{withRanges, withDebugRanges, SameAnswers, OneRanges}
 use Rattle.laws.proofs.tables.SameRewriting.{same-collected}
+use Rattle.marking.proofs.ListedHeaders.{by-list}
 
 module _ (x : Sections) (section : List ℕ) (h : UnitHeader) (header : headerOf (x .setting .«big_endian») section ≡ Unit′ h) where
   abbrev e : Encoding
@@ -22,32 +23,35 @@ module _ (x : Sections) (section : List ℕ) (h : UnitHeader) (header : headerOf
   -- the analysis, with one section of range lists in place of both
   within : (y : Sections) (lists : List ℕ) (room : Rooms) → Analysed
   within y lists room =
-      unitAnalysed e (sections (y .abbreviations) (y .locations) lists (y .addresses) lists (y .setting)) (take (h .end) section)
+      unitAnalysed e (sections (y .abbreviations) (y .locations) lists (y .addresses) lists (y .keep) (y .setting)) (take (h .end) section)
       room (h .abbreviations) (h .first .0)
 
   -- it is that with the chosen one
   chosen : (y : Sections) (room : Rooms) → headerOf (y .setting .«big_endian») section ≡ Unit′ h
-      → analysisOf y section room ≡ within y (rangesFor e (y .ranges) (y .debugRanges)) room
-  unfolding analysisOf headerAnalysed within
+      → headerAnalysed y section room (headerOf (y .setting .«big_endian») section) ≡ within y (rangesFor e (y .ranges) (y .debugRanges)) room
+  unfolding headerAnalysed within
   chosen y room q =
       ap (headerAnalysed y section room) q
-      ∙ sym (unit-same e (y .abbreviations) (y .locations) (y .ranges) (y .addresses) (y .debugRanges) (y .setting)
+      ∙ sym (unit-same e (y .abbreviations) (y .locations) (y .ranges) (y .addresses) (y .debugRanges) (y .keep) (y .setting)
       (take (h .end) section) room (h .abbreviations) (h .first .0))
 
   module _ (rnglists ranges : List ℕ) (same : rangesFor e rnglists ranges ≡ rangesFor e (x .ranges) (x .debugRanges)) where
     abbrev other : Sections
-    other = sections (x .abbreviations) (x .locations) rnglists (x .addresses) ranges (x .setting)
+    other = sections (x .abbreviations) (x .locations) rnglists (x .addresses) ranges (x .keep) (x .setting)
 
     same-rows : (room : Rooms) → analysisOf other section room ≡ analysisOf x section room
-    unfolding within
-    same-rows room = chosen other room header ∙ ap (λ (lists : List ℕ). within x lists room) same ∙ sym (chosen x room header)
+    unfolding analysisOf headerBy headerAnalysed within
+    same-rows room =
+        by-list x section (λ (o : HeaderRead). headerAnalysed other section room o ≡ headerAnalysed x section room o)
+        (λ _. chosen other room header ∙ ap (λ (lists : List ℕ). within x lists room) same ∙ sym (chosen x room header)) (λ _. refl)
 
     same-answers : SameAnswers other x section
+    unfolding headerBy
     same-answers =
         record {
           rows = same-rows;
           collected = (λ room typeUnits.
-              same-collected other (x .locations) (x .ranges) (x .addresses) (x .debugRanges) room typeUnits section (same-rows (room .tables)));
+              same-collected other (x .locations) (x .ranges) (x .addresses) (x .debugRanges) (x .keep) room typeUnits section (same-rows (room .tables)) refl);
         }
 
   of-unit : OneRanges x section (Unit′ h)
@@ -66,14 +70,17 @@ module _ (x : Sections) (section : List ℕ) where
   without : (r : HeaderRead) → headerOf (x .setting .«big_endian») section ≡ r
       → ((y z : Sections) (room : Rooms) → headerAnalysed y section room r ≡ headerAnalysed z section room r)
       → (a b : List ℕ) → SameAnswers (withDebugRanges (withRanges x a) b) x section
-  unfolding analysisOf
+  unfolding analysisOf headerBy headerAnalysed
   without r q same a b =
       let rows : (room : Rooms) → analysisOf (withDebugRanges (withRanges x a) b) section room ≡ analysisOf x section room =
-      (λ room. ap (headerAnalysed (withDebugRanges (withRanges x a) b) section room) q ∙ same _ x room ∙ sym (ap (headerAnalysed x section room) q)) in
+      (λ room. by-list x section
+      (λ (o : HeaderRead). headerAnalysed (withDebugRanges (withRanges x a) b) section room o ≡ headerAnalysed x section room o)
+      (λ _. ap (headerAnalysed (withDebugRanges (withRanges x a) b) section room) q ∙ same _ x room ∙ sym (ap (headerAnalysed x section room) q))
+      (λ _. refl)) in
       record {
         rows = rows;
         collected = (λ room typeUnits.
-            same-collected (withDebugRanges (withRanges x a) b) (x .locations) (x .ranges) (x .addresses) (x .debugRanges) room typeUnits section (rows (room .tables)));
+            same-collected (withDebugRanges (withRanges x a) b) (x .locations) (x .ranges) (x .addresses) (x .debugRanges) (x .keep) room typeUnits section (rows (room .tables)) refl);
       }
 
   by-header : (r : HeaderRead) → headerOf (x .setting .«big_endian») section ≡ r → OneRanges x section r

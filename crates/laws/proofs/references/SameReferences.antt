@@ -34,6 +34,7 @@ use Rattle.rewriting.proofs.kept_pass.ItemDepths.{EveryItem, Stands, items-stan
 use Rattle.rewriting.proofs.kept_pass.ReadableItems.{Is, JudgedStep, step-deep}
 use Rattle.marking.specs.EntryRows.{RowsOf}
 use Rattle.rewriting.proofs.whole.AcceptedUnits.{accepted-follow, Accepted}
+use Rattle.marking.proofs.ListedHeaders.{analysed-listed}
 
 module _ (x : Sections) (u : Unit′) where
   abbrev deepAt : ℕ → Option RunOf
@@ -166,7 +167,7 @@ module _ (x : Sections) (section : List ℕ) (room : Rooms) (rows : List EntryRo
       → UnitReferences x section rows
   unfolding analysisOf headerAnalysed unitAnalysed onDeclared
   by-declared q h p none d =
-      absurd (not-analysed 3 (sym (ap (headerAnalysed x section room) p
+      absurd (not-analysed 3 (sym (ap (headerAnalysed x section room) (analysed-listed x section room rows q ∙ p)
       ∙ ap (λ (o : Option (List Placed)). onDeclared o (λ ds. analyseItems (h .encoding) x (take (h .end) section) room (startOf (h .encoding))
       (itemsFrom (h .encoding) (x .abbreviations) (declaredIn ds) (take (h .end) section) (h .first .0) .0)
       (itemsFrom (h .encoding) (x .abbreviations) (declaredIn ds) (take (h .end) section) (h .first .0) .1))) d) ∙ q))
@@ -184,8 +185,8 @@ module _ (x : Sections) (section : List ℕ) (room : Rooms) (rows : List EntryRo
   by-header : analysisOf x section room ≡ analysed rows → (o : HeaderRead) → headerOf (x .setting .«big_endian») section ≡ o
       → ((headerOf (x .setting .«big_endian») section ≡ Empty) × (rows ≡ [])) ⊎ UnitReferences x section rows
   unfolding analysisOf headerAnalysed
-  by-header q Empty p = let z : analysed [] ≡ analysed rows = sym (ap (headerAnalysed x section room) p) ∙ q in inl (p, cc)
-  by-header q (Refused n) p = absurd (not-analysed n (sym (ap (headerAnalysed x section room) p) ∙ q))
+  by-header q Empty p = let z : analysed [] ≡ analysed rows = sym (ap (headerAnalysed x section room) (analysed-listed x section room rows q ∙ p)) ∙ q in inl (p, cc)
+  by-header q (Refused n) p = absurd (not-analysed n (sym (ap (headerAnalysed x section room) (analysed-listed x section room rows q ∙ p)) ∙ q))
   by-header q (Header′ h) p = inr (by-declared q h p (abbreviationsOf (x .abbreviations) (h .abbreviations)) refl)
 
   -- THE LAW: where a unit is analysed, what keeps entries and what is patched are the same references; an empty section has no rows

@@ -47,6 +47,7 @@ use Rattle.laws.proofs.references.EntryRoles.{readsSought, useSought, o
 use Rattle.rewriting.proofs.kept_pass.ItemDepths.{EveryItem, Stands, items-stand}
 use Rattle.rewriting.proofs.kept_pass.ReadableItems.{Is, JudgedStep, step-deep}
 use Rattle.rewriting.proofs.whole.AcceptedUnits.{accepted-follow, Accepted}
+use Rattle.marking.proofs.ListedHeaders.{analysed-listed}
 
 -- ---- indices
 
@@ -409,7 +410,7 @@ module _ (x : Sections) (section : List ℕ) (room : Rooms) (rows : List EntryRo
       → UnitRoles x section
   unfolding analysisOf headerAnalysed unitAnalysed onDeclared
   by-declared q h p none d =
-      absurd (not-analysed 3 (sym (ap (headerAnalysed x section room) p
+      absurd (not-analysed 3 (sym (ap (headerAnalysed x section room) (analysed-listed x section room rows q ∙ p)
       ∙ ap (λ (o : Option (List Placed)). onDeclared o (λ ds. analyseItems (h .encoding) x (take (h .end) section) room (startOf (h .encoding))
       (itemsFrom (h .encoding) (x .abbreviations) (declaredIn ds) (take (h .end) section) (h .first .0) .0)
       (itemsFrom (h .encoding) (x .abbreviations) (declaredIn ds) (take (h .end) section) (h .first .0) .1))) d) ∙ q))
@@ -420,7 +421,7 @@ module _ (x : Sections) (section : List ℕ) (room : Rooms) (rows : List EntryRo
       → (headerOf (x .setting .«big_endian») section ≡ Empty) ⊎ UnitRoles x section
   unfolding analysisOf headerAnalysed
   by-header q Empty p = inl p
-  by-header q (Refused n) p = absurd (not-analysed n (sym (ap (headerAnalysed x section room) p) ∙ q))
+  by-header q (Refused n) p = absurd (not-analysed n (sym (ap (headerAnalysed x section room) (analysed-listed x section room rows q ∙ p)) ∙ q))
   by-header q (Header′ h) p = inr (by-declared q h p (abbreviationsOf (x .abbreviations) (h .abbreviations)) refl)
 
   -- THE LAW: where a unit is analysed, what is patched by roles is what its attributes hold by names and forms

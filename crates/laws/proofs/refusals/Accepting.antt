@@ -16,6 +16,7 @@ use Rattle.rewriting.specs.Places.{NestedItem, keptFrom, Place, placesFrom, siz
 use Rattle.rewriting.specs.Rewriting.{Unit as Unit′, itemsIn, Lists, noLists, refusalFrom, Room, untouched, rewritten, listsFit, orRefused, rewriteOf, marksCollected, rowsCollected, analysedCollected, declaredCollected, headerCollected, collectOf}
 use Rattle.laws.specs.RefusalStages.{UnitRead, unitRead, keptIn, listsIn, Acceptable, rewriteIn, AcceptedAs}
 use Rattle.laws.proofs.refusals.ValueRefusals.{none-means}
+use Rattle.marking.proofs.ListedHeaders.{analysed-listed}
 
 so : (b : Bool) → b ≡ true → T b
 so true q = tt
@@ -53,7 +54,7 @@ module _ (x : Sections) (room : Room) (typeUnits : Bool) (section : List ℕ) (u
   pub read-on : collectOf x room typeUnits section ≡ rowsCollected x room typeUnits unit (u .rows)
   unfolding collectOf headerCollected declaredCollected analysedCollected
   read-on =
-      ap (headerCollected x room typeUnits section) (u .header-is) ∙ ap (declaredCollected x room typeUnits section (u .header)) (u .declared-are)
+      ap (headerCollected x room typeUnits section) (analysed-listed x section (room .tables) (u .rows) (u .rows-are) ∙ u .header-is) ∙ ap (declaredCollected x room typeUnits section (u .header)) (u .declared-are)
       ∙ ap (analysedCollected x room typeUnits unit) (u .rows-are)
 
   pub marks-on : 0 < length (u .rows) → collectOf x room typeUnits section ≡ marksCollected x room typeUnits unit marks kept

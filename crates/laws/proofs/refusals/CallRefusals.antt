@@ -19,9 +19,9 @@ number-of n (rewritten w) h = pick-either CallNumber (isUncounted n) 259 257 (λ
 number-of n (refused k) h = wider collectNumbers _ k tt (h k refl)
 
 -- n is how many bytes the counts have
-pub call-number : (section abbreviations locations ranges addresses debugRanges : List ℕ) (base typeUnits bigEndian fixedAddresses : ℕ) (room : Room) (n : ℕ)
+pub call-number : (section abbreviations locations ranges addresses debugRanges tags treatments : List ℕ) (base typeUnits bigEndian fixedAddresses : ℕ) (room : Room) (n : ℕ)
     → CallNumber (numberFor n
-    (answerFor (collectedOf section abbreviations locations ranges addresses debugRanges base typeUnits bigEndian fixedAddresses room)))
-call-number section abbreviations locations ranges addresses debugRanges base typeUnits bigEndian fixedAddresses room n =
-    number-of n (collectedOf section abbreviations locations ranges addresses debugRanges base typeUnits bigEndian fixedAddresses room)
+    (answerFor (collectedOf section abbreviations locations ranges addresses debugRanges tags treatments base typeUnits bigEndian fixedAddresses room)))
+call-number section abbreviations locations ranges addresses debugRanges tags treatments base typeUnits bigEndian fixedAddresses room n =
+    number-of n (collectedOf section abbreviations locations ranges addresses debugRanges tags treatments base typeUnits bigEndian fixedAddresses room)
     (λ k q. collect-refusal _ room _ section k q)

@@ -12,15 +12,15 @@ use lib.Dec.{T, leb, eqb}
 use mir.Facts.{eqb-no, leb-yes, leb-no, no-eqb, yes-leb, no-leb}
 use Rattle.readers.specs.Choice.{_and_, _or_}
 use Rattle.readers.proofs.Choice.{pick-either, pick-no, pick-yes}
-use Rattle.laws.specs.RefusalNumbers.{OneOf, entriesNumbers, EntriesRefusal, CollectRefusal, PaddedRefusal}
+use Rattle.laws.specs.RefusalNumbers.{OneOf, entriesNumbers, EntriesRefusal, CollectRefusal, PaddedRefusal, listNumbers, headerNumbers}
 use Rattle.readers.specs.Abbreviations.{Placed, abbreviationsOf}
 use Rattle.readers.specs.Header.{headerOf}
 use Rattle.readers.specs.Layout.{Piece, verbatim, patchable, Read}
 use Rattle.readers.specs.declared.header.UnitHeader.{UnitHeader}
 use Rattle.readers.specs.declared.header.HeaderRead.{HeaderRead}
 use Rattle.readers.specs.declared.header.HeaderRead.the-variants.{Unit as Header′, Empty, Refused}
-use Rattle.laws.proofs.refusals.ReaderRefusals.{isOneOf, areOf, one-of, wider, areApart, apart, header-refusal}
-use Rattle.marking.specs.Analysis.{Sections, EntryRow, Analysed, analysed, refused as notAnalysed, analysisOf}
+use Rattle.laws.proofs.refusals.ReaderRefusals.{isOneOf, areOf, one-of, wider, areApart, apart, header-refusal, list-refusal, not-one-of}
+use Rattle.marking.specs.Analysis.{Sections, EntryRow, Analysed, analysed, refused as notAnalysed, analysisOf, headerBy}
 use Rattle.marking.specs.Marks.{keptCount}
 use Rattle.marking.specs.Resolution.{marksIn}
 use Rattle.laws.proofs.refusals.MarkingRefusals.{entries-refusal}
@@ -30,10 +30,12 @@ use Rattle.laws.specs.ValueRefusals.{Unplaced, TooWide}
 use Rattle.rewriting.specs.Written.{groupsFit, paddedAnswer}
 use Rattle.rewriting.specs.declared.numbers.Padded.{Padded}
 use Rattle.rewriting.specs.declared.numbers.Padded.the-variants.{Written, Refused as Refused′}
-use Rattle.laws.specs.RefusalStages.{UnitRead, unitRead, keptIn, listsIn, Thinnable, RefusedNumber, RefusedAt, at-header, at-abbreviations, at-entries, at-lists, at-map, at-output, at-place, at-width}
+use Rattle.laws.specs.RefusalStages.{UnitRead, unitRead, keptIn, listsIn, Thinnable, RefusedNumber, RefusedAt, at-header, at-abbreviations, at-entries, at-lists, at-map, at-output, at-place, at-width, at-list}
 use Rattle.laws.proofs.again.Accepted.{kept-most}
 use Rattle.laws.proofs.refusals.ValueRefusals.{eight-means, nine-means, refused-number}
 use Rattle.laws.proofs.refusals.Accepting.{marks-on, dead-on, room-on}
+use Rattle.marking.specs.KeepList.{keepRefusal}
+use Rattle.marking.proofs.ListedHeaders.{by-list, header-taken}
 
 -- ---- 8 and 9: 0 where nothing is refused
 
@@ -160,7 +162,7 @@ module _ (x : Sections) (room : Room) (typeUnits : Bool) (section : List ℕ) wh
   abbrev asRead : UnitHeader → List Placed → Unit′
   asRead h ds = record { header = h; bytes = take (h .end) section; declared = ds }
 
-  module _ (h : UnitHeader) (header : headerOf (x .setting .«big_endian») section ≡ Header′ h) where
+  module _ (taken : keepRefusal (x .keep) ≡ 0) (h : UnitHeader) (header : headerOf (x .setting .«big_endian») section ≡ Header′ h) where
     rows-staged : (ds : List Placed) → abbreviationsOf (x .abbreviations) (h .abbreviations) ≡ some ds → (rows : List EntryRow) → analysisOf x section (room .tables) ≡ analysed rows
         → Staged (rowsCollected x room typeUnits (asRead h ds) rows)
     unfolding rowsCollected
@@ -171,23 +173,31 @@ module _ (x : Sections) (room : Room) (typeUnits : Bool) (section : List ℕ) wh
         → Staged (analysedCollected x room typeUnits (asRead h ds) o)
     unfolding analysedCollected
     analysed-staged ds d (analysed rows) a = rows-staged ds d rows a
-    analysed-staged ds d (notAnalysed n) a = staged-refused n (at-entries header d a (entries-refusal x section (room .tables) h ds n header d a))
+    analysed-staged ds d (notAnalysed n) a = staged-refused n (at-entries taken header d a (entries-refusal x section (room .tables) h ds n taken header d a))
 
     declared-staged : (o : Option (List Placed)) → abbreviationsOf (x .abbreviations) (h .abbreviations) ≡ o → Staged (declaredCollected x room typeUnits section h o)
     unfolding declaredCollected
-    declared-staged none d = staged-refused 3 (at-abbreviations header d)
+    declared-staged none d = staged-refused 3 (at-abbreviations taken header d)
     declared-staged (some ds) d = analysed-staged ds d (analysisOf x section (room .tables)) refl
 
-  header-staged : (o : HeaderRead) → headerOf (x .setting .«big_endian») section ≡ o → Staged (headerCollected x room typeUnits section o)
+  header-staged : keepRefusal (x .keep) ≡ 0 → (o : HeaderRead) → headerOf (x .setting .«big_endian») section ≡ o
+      → Staged (headerCollected x room typeUnits section o)
   unfolding headerCollected
-  header-staged Empty q = staged-untouched _ _
-  header-staged (Refused n) q = staged-refused n (at-header q (header-refusal (x .setting .«big_endian») section n q))
-  header-staged (Header′ h) q = declared-staged h q (abbreviationsOf (x .abbreviations) (h .abbreviations)) refl
+  header-staged z Empty q = staged-untouched _ _
+  header-staged z (Refused n) q = staged-refused n (at-header z q (header-refusal (x .setting .«big_endian») section n q))
+  header-staged z (Header′ h) q = declared-staged z h q (abbreviationsOf (x .abbreviations) (h .abbreviations)) refl
+
+  list-staged : Staged (headerCollected x room typeUnits section (headerBy x section))
+  unfolding headerCollected
+  list-staged =
+      by-list x section (λ (o : HeaderRead). Staged (headerCollected x room typeUnits section o))
+      (λ z. header-staged z (headerOf (x .setting .«big_endian») section) refl)
+      (λ n. staged-refused _ (at-list refl (list-refusal (x .keep) n)))
 
   -- THE refusals of collect, by where they come from
   pub refusal-law : (n : ℕ) → collectOf x room typeUnits section ≡ refused n → RefusedAt x room typeUnits section n
   unfolding collectOf Staged
-  refusal-law n q = subst Staged q (header-staged (headerOf (x .setting .«big_endian») section) refl)
+  refusal-law n q = subst Staged q list-staged
 
   not-so : (b : Bool) → b ≡ false → T (not b)
   not-so true q = absurd (false≢true (sym q))
@@ -205,11 +215,14 @@ module _ (x : Sections) (room : Room) (typeUnits : Bool) (section : List ℕ) wh
 
   -- and each of them is answered so
   pub refused-law : (n : ℕ) → RefusedAt x room typeUnits section n → collectOf x room typeUnits section ≡ refused n
-  unfolding collectOf headerCollected declaredCollected analysedCollected marksCollected rewriteOf
-  refused-law n (at-header q r) = ap (headerCollected x room typeUnits section) q
-  refused-law n (at-abbreviations {h} q d) = ap (headerCollected x room typeUnits section) q ∙ ap (declaredCollected x room typeUnits section h) d
-  refused-law n (at-entries {h} {ds} q d a r) =
-      ap (headerCollected x room typeUnits section) q ∙ ap (declaredCollected x room typeUnits section h) d
+  unfolding collectOf headerCollected declaredCollected analysedCollected marksCollected rewriteOf isOneOf _or_
+  refused-law n (at-list q r) = ap (headerCollected x room typeUnits section) (by-list x section (λ (o : HeaderRead). o ≡ Refused n)
+      (λ z. absurd (not-one-of listNumbers n 0 (sym q ∙ z) tt r)) (λ _. ap Refused q))
+  refused-law n (at-header z q r) = ap (headerCollected x room typeUnits section) (header-taken x section z ∙ q)
+  refused-law n (at-abbreviations {h} z q d) =
+      ap (headerCollected x room typeUnits section) (header-taken x section z ∙ q) ∙ ap (declaredCollected x room typeUnits section h) d
+  refused-law n (at-entries {h} {ds} z q d a r) =
+      ap (headerCollected x room typeUnits section) (header-taken x section z ∙ q) ∙ ap (declaredCollected x room typeUnits section h) d
       ∙ ap (analysedCollected x room typeUnits (asRead h ds)) a
   refused-law n (at-lists u m l) = marks-on x room typeUnits section u m ∙ pick-no (listsFit room (lists u)) _ _ (not-so _ l)
   refused-law n (at-map u d p) =
@@ -225,16 +238,17 @@ module _ (x : Sections) (room : Room) (typeUnits : Bool) (section : List ℕ) wh
 
   -- a refusal by its number: the entries', 8, 9, or another
   pub data StageOf (n : ℕ) : Type 0 where
-    elsewhere : OneOf (1 ∷ 2 ∷ 3 ∷ 12 ∷ 13 ∷ 14 ∷ []) n → StageOf n
+    elsewhere : OneOf (19 ∷ 20 ∷ 1 ∷ 2 ∷ 3 ∷ 12 ∷ 13 ∷ 14 ∷ []) n → StageOf n
     of-entries : analysisOf x section (room .tables) ≡ notAnalysed n → EntriesRefusal n → StageOf n
     of-place : n ≡ 8 → RefusedNumber x room typeUnits section Unplaced → StageOf n
     of-width : n ≡ 9 → RefusedNumber x room typeUnits section TooWide → StageOf n
 
   pub stage-of : (n : ℕ) → RefusedAt x room typeUnits section n → StageOf n
   unfolding isOneOf areOf _or_ _and_
-  stage-of n (at-header q r) = elsewhere (wider (1 ∷ 2 ∷ []) _ n tt r)
-  stage-of n (at-abbreviations q d) = elsewhere (one-of _ 3 tt)
-  stage-of n (at-entries q d a r) = of-entries a r
+  stage-of n (at-list q r) = elsewhere (wider listNumbers _ n tt r)
+  stage-of n (at-header z q r) = elsewhere (wider headerNumbers _ n tt r)
+  stage-of n (at-abbreviations z q d) = elsewhere (one-of _ 3 tt)
+  stage-of n (at-entries z q d a r) = of-entries a r
   stage-of n (at-lists u m l) = elsewhere (one-of _ 12 tt)
   stage-of n (at-map u d p) = elsewhere (one-of _ 13 tt)
   stage-of n (at-output u d p b) = elsewhere (one-of _ 14 tt)
@@ -247,7 +261,7 @@ module _ (x : Sections) (room : Room) (typeUnits : Bool) (section : List ℕ) wh
   late-stage : (n : ℕ) → OneOf (8 ∷ 9 ∷ []) n → StageOf n
       → ((n ≡ 8) × RefusedNumber x room typeUnits section Unplaced) ⊎ ((n ≡ 9) × RefusedNumber x room typeUnits section TooWide)
   unfolding isOneOf areApart _or_ _and_
-  late-stage n o (elsewhere r) = absurd (apart (8 ∷ 9 ∷ []) (1 ∷ 2 ∷ 3 ∷ 12 ∷ 13 ∷ 14 ∷ []) n tt o r)
+  late-stage n o (elsewhere r) = absurd (apart (8 ∷ 9 ∷ []) (19 ∷ 20 ∷ 1 ∷ 2 ∷ 3 ∷ 12 ∷ 13 ∷ 14 ∷ []) n tt o r)
   late-stage n o (of-entries a r) = absurd (apart (8 ∷ 9 ∷ []) entriesNumbers n tt o r)
   late-stage n o (of-place e r) = inl (e, r)
   late-stage n o (of-width e r) = inr (e, r)
@@ -266,12 +280,12 @@ module _ (x : Sections) (room : Room) (typeUnits : Bool) (section : List ℕ) wh
 
   number-at : (n : ℕ) → StageOf n → CollectRefusal n
   unfolding isOneOf areOf _or_ _and_
-  number-at n (elsewhere r) = wider (1 ∷ 2 ∷ 3 ∷ 12 ∷ 13 ∷ 14 ∷ []) _ n tt r
+  number-at n (elsewhere r) = wider (19 ∷ 20 ∷ 1 ∷ 2 ∷ 3 ∷ 12 ∷ 13 ∷ 14 ∷ []) _ n tt r
   number-at n (of-entries a r) = wider entriesNumbers _ n tt r
   number-at n (of-place e r) = subst CollectRefusal (sym e) (one-of _ 8 tt)
   number-at n (of-width e r) = subst CollectRefusal (sym e) (one-of _ 9 tt)
 
-  -- "A refusal carries a number of document 01", or of 02: 1 to 14, or 17
+  -- "A refusal carries a number of document 01", or of 02: 1 to 14, 17, 19 or 20
   pub collect-refusal : (n : ℕ) → collectOf x room typeUnits section ≡ refused n → CollectRefusal n
   collect-refusal n q = number-at n (stage-of n (refusal-law n q))
 

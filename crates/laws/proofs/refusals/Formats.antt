@@ -24,6 +24,8 @@ use Rattle.readers.proofs.HeaderLaws.{header-laws}
 use Rattle.marking.specs.Analysis.{Sections}
 use Rattle.rewriting.specs.Rewriting.{Room, refused, headerCollected, collectOf}
 use Rattle.laws.specs.Formats.{start, lengthSaid}
+use Rattle.marking.specs.KeepList.{keepRefusal}
+use Rattle.marking.proofs.ListedHeaders.{header-taken}
 
 -- ---- what the header is, by the first four bytes
 
@@ -75,28 +77,28 @@ module _ (x : Sections) (section : List ℕ) where
   -- "Number 2 still stands for 0xfffffff0 to 0xfffffffe."
   pub reserved-law : 4 ≤ length section → 0xfffffff0 ≤ start (x .setting .«big_endian») section
       → start (x .setting .«big_endian») section < 0xffffffff
-      → (room : Room) (typeUnits : Bool) → collectOf x room typeUnits section ≡ refused 2
+      → keepRefusal (x .keep) ≡ 0 → (room : Room) (typeUnits : Bool) → collectOf x room typeUnits section ≡ refused 2
   unfolding collectOf headerCollected
-  reserved-law there lo hi room typeUnits =
+  reserved-law there lo hi z room typeUnits =
       ap (headerCollected x room typeUnits section)
-      (length-reserved big section (λ z. absurd (omega (arith, z))) _ (cursor 4) (read4 big section there) (λ z. absurd (omega (arith, z))) lo)
+      (header-taken x section z ∙ length-reserved big section (λ z. absurd (omega (arith, z))) _ (cursor 4) (read4 big section there) (λ z. absurd (omega (arith, z))) lo)
 
   -- a length past the section is 1
   pub length-past-law : (w : ℕ) → SaysWidth (start (x .setting .«big_endian») section) w → lengthBytes w ≤ length section
       → length section < lengthBytes w + lengthSaid (x .setting .«big_endian») section w
-      → (room : Room) (typeUnits : Bool) → collectOf x room typeUnits section ≡ refused 1
+      → keepRefusal (x .keep) ≡ 0 → (room : Room) (typeUnits : Bool) → collectOf x room typeUnits section ≡ refused 1
   unfolding collectOf headerCollected
-  length-past-law w says there over room typeUnits =
+  length-past-law w says there over z room typeUnits =
       ap (headerCollected x room typeUnits section)
-      (length-said-law w says there
+      (header-taken x section z ∙ length-said-law w says there
       ∙ pick-either (λ (r : HeaderRead). r ≡ Refused 1) (ltb (lengthBytes w + lengthSaid big section w) (2 ^ 64)) _ _
       (λ _. in-over big w section (lengthBytes w) refl (lengthSaid big section w) (omega arith)) (λ _. refl))
 
   -- and so is a length of the 64-bit format that is cut short
   pub cut-law : 4 ≤ length section → start (x .setting .«big_endian») section ≡ 0xffffffff → length section < lengthBytes 8
-      → (room : Room) (typeUnits : Bool) → collectOf x room typeUnits section ≡ refused 1
+      → keepRefusal (x .keep) ≡ 0 → (room : Room) (typeUnits : Bool) → collectOf x room typeUnits section ≡ refused 1
   unfolding collectOf headerCollected
-  cut-law there is short room typeUnits =
+  cut-law there is short z room typeUnits =
       ap (headerCollected x room typeUnits section)
-      (eight-none big section (λ z. absurd (omega (arith, z))) _ (cursor 4) (read4 big section there) is
+      (header-taken x section z ∙ eight-none big section (λ z. absurd (omega (arith, z))) _ (cursor 4) (read4 big section there) is
       (fixed-short big 8 section 4 (omega (arith, eight-bytes))))

@@ -7,7 +7,7 @@ use mathlib.Core.Bool.{Bool}
 use mathlib.Core.List.{List, _∷_}
 use mathlib.Core.Option.{Option, none, some}
 use lib.ListN.{take}
-use lib.Dec.{T}
+use lib.Dec.{T, eqb}
 use Rattle.readers.specs.Choice.{_and_, _or_}
 use Rattle.readers.proofs.Choice.{pick-either}
 use Rattle.laws.specs.AddressTables.{Failure}
@@ -31,7 +31,7 @@ use Rattle.marking.specs.Roots.{Ranges, rootTest}
 use Rattle.readers.specs.EntryAttributes.{Valued}
 use Rattle.marking.specs.EntryReferences.{ReferencesFound, found, refused as refusedAfter}
 use Rattle.marking.specs.Analysis.{Sections, Rooms, EntryRow, Analysed, analysed, refused as notAnalysed, onto, onVerdict}
-use Rattle.marking.specs.Analysis.{onFound, startOf, rootOf, namesOf, analyseItems, onDeclared, unitAnalysed, headerAnalysed, analysisOf}
+use Rattle.marking.specs.Analysis.{onFound, startOf, testOf, rootOf, namesOf, analyseItems, onDeclared, unitAnalysed, headerAnalysed, analysisOf}
 use Rattle.marking.specs.Graph.{Graph, takes}
 use Rattle.marking.specs.Marks.{keptCount, marksOf, markAnswer}
 use Rattle.marking.specs.Resolution.{unitMarks}
@@ -40,6 +40,8 @@ use Rattle.laws.proofs.tables.BySeveralTables.{entryNumbersButTable, ro
 use Rattle.laws.proofs.tables.FromLookups.{NoRefusal, verdicts-told, items-told, analysis-told}
 use Rattle.laws.proofs.tables.Failures.{failure-number}
 use Rattle.laws.proofs.tables.FirstFailure.{settling, settled-of}
+use Rattle.marking.specs.KeepList.{keepRefusal, treated}
+use Rattle.marking.proofs.ListedHeaders.{header-taken}
 
 -- ---- the root test: 5, and the table's own numbers
 
@@ -109,6 +111,12 @@ verdict-of ms Live k q h = h 1
 verdict-of ms Dead k q h = h 0
 verdict-of ms (Failed n) k q h = none-of ms n q
 
+treated-of : (ms : List ℕ) (k : ℕ) (v : Verdict) → VerdictOf ms v → VerdictOf ms (treated k v)
+unfolding treated VerdictOf
+treated-of ms k Live q = pick-either (VerdictOf ms) (eqb k 2) Dead Live (λ _. tt) (λ _. tt)
+treated-of ms k Dead q = pick-either (VerdictOf ms) (eqb k 1) Live Dead (λ _. tt) (λ _. tt)
+treated-of ms k (Failed n) q = q
+
 pub names-of : (ms : List ℕ) → ((n : ℕ) → ScanRefusal n → OneOf ms n) → (f : ReferencesFound) (k : List ℕ → Analysed) → FoundNumbered f
     → ((xs : List ℕ) → f ≡ found xs → AnalysedOf ms (k xs)) → AnalysedOf ms (onFound f k)
 unfolding onFound FoundNumbered
@@ -117,8 +125,8 @@ names-of ms t (refusedAfter xs n) k q h = none-of ms n (t n q)
 
 module _ (e : Encoding) (x : Sections) (unit : List ℕ) where
   pub root-of : (ms : List ℕ) → OneOf ms 5 → FailuresOf ms (x .addresses) → (base : ℕ) (y : Entry′) → VerdictOf ms (rootOf e x unit base y)
-  unfolding rootOf
-  root-of ms five fails base y = root-numbered ms five e _ fails _ unit _ _
+  unfolding testOf rootOf
+  root-of ms five fails base y = treated-of ms _ _ (root-numbered ms five e _ fails _ unit _ _)
 
   pub references-of : (base : ℕ) (y : Entry′) → FoundNumbered (namesOf e x unit base y)
   unfolding namesOf
@@ -130,7 +138,7 @@ analysed-fine ms (notAnalysed n) never = absurd (never n refl)
 
 -- some numbers, among them all but the table's
 abbrev AnalysisOthers : List ℕ → Type 0
-AnalysisOthers ms = (n : ℕ) → OneOf (1 ∷ 2 ∷ 3 ∷ entryNumbersButTable) n → OneOf ms n
+AnalysisOthers ms = (n : ℕ) → OneOf (19 ∷ 20 ∷ 1 ∷ 2 ∷ 3 ∷ entryNumbersButTable) n → OneOf ms n
 
 pub analysis-of : (ms : List ℕ) → AnalysisOthers ms → (x : Sections) → FailuresOf ms (x .addresses) → (section : List ℕ) (room : Rooms)
     → AnalysedOf ms (analysisOf x section room)
@@ -141,7 +149,7 @@ analysis-of ms others x fails section room =
 analysis-numbered : (x : Sections) (section : List ℕ) (room : Rooms) → AnalysedOf analysisNumbers (analysisOf x section room)
 unfolding isOneOf areOf _or_ _and_
 analysis-numbered x section room =
-    analysis-of analysisNumbers (λ n o. wider (1 ∷ 2 ∷ 3 ∷ entryNumbersButTable) analysisNumbers n tt o) x
+    analysis-of analysisNumbers (λ n o. wider (19 ∷ 20 ∷ 1 ∷ 2 ∷ 3 ∷ entryNumbersButTable) analysisNumbers n tt o) x
     (either-failure analysisNumbers (x .addresses) tt) section room
 
 -- "A refusal carries a number of document 01"
@@ -168,11 +176,11 @@ declared-entries x section room h (some es) ds q =
     (take (h .end) section) room (startOf (h .encoding)) _ _)
 
 pub entries-refusal : (x : Sections) (section : List ℕ) (room : Rooms) (h : UnitHeader) (ds : List Placed) (n : ℕ)
-    → headerOf (x .setting .«big_endian») section ≡ Unit′ h → abbreviationsOf (x .abbreviations) (h .abbreviations) ≡ some ds → analysisOf x section room ≡ notAnalysed n → EntriesRefusal n
+    → keepRefusal (x .keep) ≡ 0 → headerOf (x .setting .«big_endian») section ≡ Unit′ h → abbreviationsOf (x .abbreviations) (h .abbreviations) ≡ some ds → analysisOf x section room ≡ notAnalysed n → EntriesRefusal n
 unfolding analysisOf headerAnalysed unitAnalysed
-entries-refusal x section room h ds n q d a =
+entries-refusal x section room h ds n z q d a =
     analysed-of entriesNumbers _ n (declared-entries x section room h (abbreviationsOf (x .abbreviations) (h .abbreviations)) ds d)
-    (sym (ap (headerAnalysed x section room) q) ∙ a)
+    (sym (ap (headerAnalysed x section room) (header-taken x section z ∙ q)) ∙ a)
 
 -- ---- marks
 

@@ -1,23 +1,26 @@
 -- "A refusal carries a number of document 01": the header's is 1 or 2, that of the references of an expression 2, 5, 7 or 11. Assumes nothing.
-use mathlib.Core.Path.{_≡_, sym, _∙_, subst}
+use mathlib.Core.Path.{_≡_, sym, _∙_, subst, refl}
 use Prim.Native.Nat.{ℕ, _/_}
 use mathlib.Core.Bool.{Bool, true, false, not}
 use mathlib.Core.List.{List, [], _∷_}
 use mathlib.Core.Logic.{_⊎_, inl, inr, ⊎-elim}
 use lib.Dec.{T, eqb, leb}
 use mir.Facts.{eqb-yes, yes-eqb}
-use Rattle.readers.specs.Choice.{_and_, _or_}
+use Rattle.readers.specs.Choice.{_and_, _or_, pick}
 use Rattle.readers.proofs.Choice.{pick-either, and-both}
 use Rattle.readers.specs.Header.{sizeKnown, encodingOf, headerOf}
 use Rattle.readers.proofs.HeaderLaws.{header-cases}
 use Rattle.readers.specs.References.{walkOf, walkAnswer, referencesAnswer}
-use Rattle.laws.specs.RefusalNumbers.{OneOf, HeaderRefusal, ReferencesRefusal}
+use Rattle.laws.specs.RefusalNumbers.{OneOf, HeaderRefusal, ReferencesRefusal, listNumbers, headerNumbers, ListRefusal}
 use Rattle.readers.specs.declared.header.HeaderRead.{HeaderRead}
 use Rattle.readers.specs.declared.header.HeaderRead.the-variants.{Unit as Unit′, Empty, Refused}
 use Rattle.readers.specs.declared.expressions.Walk.{Walk}
 use Rattle.readers.specs.declared.expressions.Walk.the-variants.{Walked, Unreadable as NoWalk}
 use Rattle.readers.specs.declared.expressions.References.{References}
 use Rattle.readers.specs.declared.expressions.References.the-variants.{Count, Refused as Refused′}
+use Rattle.marking.specs.Analysis.{headerBy, Sections}
+use Rattle.marking.specs.KeepList.{keepRefusal, KeepList}
+use Rattle.marking.proofs.ListedHeaders.{by-list}
 
 -- ---- one of some numbers
 
@@ -83,26 +86,50 @@ alone m n (inr o) = absurd o
 
 -- ---- the header: 1 or 2
 
-unfoldable pub HeaderNumbered : HeaderRead → Type 0
-HeaderNumbered Empty = Unit {0}
-HeaderNumbered (Refused n) = HeaderRefusal n
-HeaderNumbered (Unit′ h) = Unit {0}
+unfoldable pub HeaderNumbered : List ℕ → HeaderRead → Type 0
+HeaderNumbered ms Empty = Unit {0}
+HeaderNumbered ms (Refused n) = OneOf ms n
+HeaderNumbered ms (Unit′ h) = Unit {0}
 
-one-numbered : HeaderNumbered (Refused 1)
-unfolding HeaderNumbered isOneOf _or_
-one-numbered = one-of _ 1 tt
-
-two-numbered : HeaderNumbered (Refused 2)
-unfolding HeaderNumbered isOneOf _or_
-two-numbered = one-of _ 2 tt
-
-pub header-numbered : (big : Bool) (s : List ℕ) → HeaderNumbered (headerOf big s)
+refused-numbered : (ms : List ℕ) (n : ℕ) → OneOf ms n → HeaderNumbered ms (Refused n)
 unfolding HeaderNumbered
-header-numbered big s = header-cases big s HeaderNumbered (λ _. tt) one-numbered two-numbered (λ h l. tt)
+refused-numbered ms n o = o
+
+header-among : (ms : List ℕ) → OneOf ms 1 → OneOf ms 2 → (big : Bool) (s : List ℕ) → HeaderNumbered ms (headerOf big s)
+unfolding HeaderNumbered
+header-among ms one two big s =
+    header-cases big s (HeaderNumbered ms) (λ _. tt) (refused-numbered ms 1 one) (refused-numbered ms 2 two) (λ h l. tt)
 
 pub header-refusal : (big : Bool) (s : List ℕ) (n : ℕ) → headerOf big s ≡ Refused n → HeaderRefusal n
+unfolding HeaderNumbered isOneOf _or_
+header-refusal big s n q = subst (HeaderNumbered headerNumbers) q (header-among headerNumbers (one-of _ 1 tt) (one-of _ 2 tt) big s)
+
+-- ---- behind a keep list: 19 or 20 too
+
+list-number : (a b : Bool) → (_≡_ {A = ℕ} (pick a (pick b 0 20) 19) 0 → ⊥) → ListRefusal (pick a (pick b 0 20) 19)
+unfolding pick isOneOf _or_
+list-number true true n = absurd (n refl)
+list-number true false n = one-of _ 20 tt
+list-number false b n = one-of _ 19 tt
+
+pub list-refusal : (keep : KeepList) → (keepRefusal keep ≡ 0 → ⊥) → ListRefusal (keepRefusal keep)
+unfolding keepRefusal
+list-refusal keep n = list-number _ _ n
+
+-- the numbers of a header that is read behind a keep list
+abbrev pub earlyNumbers : List ℕ
+earlyNumbers = 19 ∷ 20 ∷ 1 ∷ 2 ∷ []
+
+pub early-numbered : (x : Sections) (s : List ℕ) → HeaderNumbered earlyNumbers (headerBy x s)
+unfolding isOneOf areOf _or_ _and_
+early-numbered x s =
+    by-list x s (HeaderNumbered earlyNumbers)
+    (λ _. header-among earlyNumbers (one-of _ 1 tt) (one-of _ 2 tt) (x .setting .«big_endian») s)
+    (λ n. refused-numbered earlyNumbers _ (wider listNumbers earlyNumbers _ tt (list-refusal (x .keep) n)))
+
+pub early-refusal : (x : Sections) (s : List ℕ) (n : ℕ) → headerBy x s ≡ Refused n → OneOf earlyNumbers n
 unfolding HeaderNumbered
-header-refusal big s n q = subst HeaderNumbered q (header-numbered big s)
+early-refusal x s n q = subst (HeaderNumbered earlyNumbers) q (early-numbered x s)
 
 -- ---- the references of an expression: 2, 5, 7 or 11
 

@@ -13,7 +13,7 @@ use lib.Dec.{T, leb, ltb, eqb}
 use mir.Facts.{leb-yes, leb-no, yes-leb, no-leb, yes-eqb, no-eqb}
 use Rattle.readers.specs.Choice.{pick, _and_, _or_}
 use Rattle.readers.proofs.Choice.{pick-either, pick-yes, pick-no, either}
-use Rattle.laws.specs.RefusalNumbers.{inputNumbers, roomyNumbers, RoomyRefusal}
+use Rattle.laws.specs.RefusalNumbers.{inputNumbers, roomyNumbers, RoomyRefusal, listNumbers, headerNumbers}
 use Rattle.readers.specs.Abbreviations.{Placed, abbreviationsOf}
 use Rattle.readers.specs.Header.{headerOf}
 use Rattle.readers.specs.Stream.{Item, entry, terminator}
@@ -21,8 +21,8 @@ use Rattle.readers.specs.declared.header.UnitHeader.{UnitHeader}
 use Rattle.readers.specs.declared.header.HeaderRead.{HeaderRead}
 use Rattle.readers.specs.declared.header.HeaderRead.the-variants.{Unit as Header′, Empty, Refused}
 use Rattle.readers.specs.Nesting.{opened, closed}
-use Rattle.laws.proofs.refusals.ReaderRefusals.{isOneOf, areOf, one-of, wider, areApart, apart, header-refusal}
-use Rattle.marking.specs.Analysis.{Sections, Rooms, EntryRow, Analysed, analysed, refused as notAnalysed, onDeclared, unitAnalysed, headerAnalysed, analysisOf}
+use Rattle.laws.proofs.refusals.ReaderRefusals.{isOneOf, areOf, one-of, wider, areApart, apart, header-refusal, list-refusal}
+use Rattle.marking.specs.Analysis.{Sections, Rooms, EntryRow, Analysed, analysed, refused as notAnalysed, onDeclared, unitAnalysed, headerAnalysed, analysisOf, headerBy}
 use Rattle.marking.specs.Columns.{namesIn}
 use Rattle.marking.specs.Marks.{isKept, keptCount}
 use Rattle.marking.specs.Resolution.{marksIn}
@@ -39,6 +39,7 @@ use Rattle.laws.proofs.again.Accepted.{WasRewritten, WasUntouched, was-
 use Rattle.marking.proofs.UnitMarkings.{marks-each}
 use Rattle.laws.proofs.again.CollectLaws.{it, again-law}
 use Rattle.laws.proofs.refusals.CollectRefusals.{values-late, late-value}
+use Rattle.marking.proofs.ListedHeaders.{by-list, analysed-listed}
 
 -- ---- tests
 
@@ -132,9 +133,13 @@ module _ (x : Sections) (typeUnits : Bool) (section : List ℕ) (h : UnitHeader)
   abbrev needed : ℕ → ℕ → Room
   needed p b = roomFor (length rows) (length (namesIn rows)) lists p b
 
+  -- its tables say that its entries are analysed, so the keep list is taken
+  listed : headerBy x section ≡ headerOf (x .setting .«big_endian») section
+  listed = analysed-listed x section (tablesFor rows) rows (tables .enough (tablesFor rows) (record { entries = omega arith; references = omega arith }))
+
   by-analysis : (lent : Room) → collectOf x lent typeUnits section ≡ analysedCollected x lent typeUnits unit (analysisOf x section (lent .tables))
   unfolding collectOf headerCollected declaredCollected
-  by-analysis lent = ap (headerCollected x lent typeUnits section) header ∙ ap (declaredCollected x lent typeUnits section h) declared
+  by-analysis lent = ap (headerCollected x lent typeUnits section) (listed ∙ header) ∙ ap (declaredCollected x lent typeUnits section h) declared
 
   by-refusal : (lent : Room) (n : ℕ) → analysisOf x section (lent .tables) ≡ notAnalysed n → collectOf x lent typeUnits section ≡ refused n
   unfolding analysedCollected
@@ -214,7 +219,7 @@ module _ (x : Sections) (typeUnits : Bool) (section : List ℕ) (h : UnitHeader)
 -- ---- a unit without entries
 
 module _ (x : Sections) (typeUnits : Bool) (section : List ℕ) (lent : Room) where
-  declared-empty : (h : UnitHeader) (o : Option (List Placed)) → abbreviationsOf (x .abbreviations) (h .abbreviations) ≡ o → headerOf (x .setting .«big_endian») section ≡ Header′ h
+  declared-empty : (h : UnitHeader) (o : Option (List Placed)) → abbreviationsOf (x .abbreviations) (h .abbreviations) ≡ o → headerBy x section ≡ Header′ h
       → analysisOf x section (lent .tables) ≡ analysed [] → declaredCollected x lent typeUnits section h o ≡ untouched 0 noLists
   unfolding declaredCollected analysedCollected rowsCollected analysisOf headerAnalysed unitAnalysed onDeclared
   declared-empty h none d q a =
@@ -222,7 +227,7 @@ module _ (x : Sections) (typeUnits : Bool) (section : List ℕ) (lent : Room) wh
       let z : _≡_ {A = ℕ} 0 1 = cc in absurd (omega arith)
   declared-empty h (some ds) d q a = ap (analysedCollected x lent typeUnits (unitOf h section ds)) a
 
-  header-empty : (o : HeaderRead) → headerOf (x .setting .«big_endian») section ≡ o → analysisOf x section (lent .tables) ≡ analysed [] → headerCollected x lent typeUnits section o ≡ untouched 0 noLists
+  header-empty : (o : HeaderRead) → headerBy x section ≡ o → analysisOf x section (lent .tables) ≡ analysed [] → headerCollected x lent typeUnits section o ≡ untouched 0 noLists
   unfolding headerCollected analysisOf headerAnalysed
   header-empty Empty q a = refl
   header-empty (Refused n) q a =
@@ -232,7 +237,7 @@ module _ (x : Sections) (typeUnits : Bool) (section : List ℕ) (lent : Room) wh
 
   collected-empty : analysisOf x section (lent .tables) ≡ analysed [] → collectOf x lent typeUnits section ≡ untouched 0 noLists
   unfolding collectOf
-  collected-empty a = header-empty (headerOf (x .setting .«big_endian») section) refl a
+  collected-empty a = header-empty (headerBy x section) refl a
 
 no-names : (n m : ℕ) → m < length (namesIn (take n [])) → ⊥
 unfolding namesIn
@@ -532,13 +537,19 @@ module _ (x : Sections) (lent : Room) (typeUnits : Bool) (section : List ℕ) wh
   header-roomy : (o : HeaderRead) → headerOf (x .setting .«big_endian») section ≡ o → Within (headerRoom x section o) lent → Roomy (headerCollected x lent typeUnits section o)
   unfolding headerCollected headerRoom Roomy areOf isOneOf _or_ _and_
   header-roomy Empty q w = tt
-  header-roomy (Refused n) q w = wider (1 ∷ 2 ∷ []) roomyNumbers n tt (header-refusal (x .setting .«big_endian») section n q)
+  header-roomy (Refused n) q w = wider headerNumbers roomyNumbers n tt (header-refusal (x .setting .«big_endian») section n q)
   header-roomy (Header′ h) q w = declared-roomy h (abbreviationsOf (x .abbreviations) (h .abbreviations)) w
+
+  list-roomy : Within (enoughRoom x section) lent → Roomy (headerCollected x lent typeUnits section (headerBy x section))
+  unfolding headerCollected enoughRoom Roomy areOf isOneOf _or_ _and_
+  list-roomy w =
+      by-list x section (λ (o : HeaderRead). Roomy (headerCollected x lent typeUnits section o))
+      (λ _. header-roomy (headerOf (x .setting .«big_endian») section) refl w) (λ n. wider listNumbers roomyNumbers _ tt (list-refusal (x .keep) n))
 
   -- "with enough room 10 to 14 never come"
   pub enough-law : Within (enoughRoom x section) lent → (n : ℕ) → collectOf x lent typeUnits section ≡ refused n → RoomyRefusal n
-  unfolding collectOf enoughRoom Roomy
-  enough-law w n q = subst Roomy q (header-roomy (headerOf (x .setting .«big_endian») section) refl w)
+  unfolding collectOf Roomy
+  enough-law w n q = subst Roomy q (list-roomy w)
 
 -- ---- every room: an accepted answer stays, or something is too short
 

@@ -22,17 +22,18 @@ use Rattle.readers.specs.declared.entries.Entry.{Entry}
 use Rattle.readers.specs.declared.header.UnitHeader.{UnitHeader}
 use Rattle.readers.specs.declared.header.HeaderRead.{HeaderRead}
 use Rattle.readers.specs.declared.header.HeaderRead.the-variants.{Unit as Unit′, Empty, Refused}
-use Rattle.laws.proofs.refusals.ReaderRefusals.{isOneOf, areOf, one-of, wider, HeaderNumbered, header-numbered}
+use Rattle.laws.proofs.refusals.ReaderRefusals.{isOneOf, areOf, one-of, wider, HeaderNumbered, list-refusal, early-numbered, earlyNumbers}
 use Rattle.marking.specs.EntryReferences.{ReferencesFound, found, refused as refusedAfter}
 use Rattle.marking.specs.declared.root_test.Verdict.{Verdict}
 use Rattle.marking.specs.declared.root_test.Verdict.the-variants.{Live, Dead, Refused as Failed}
-use Rattle.marking.specs.Analysis.{Sections, Rooms, EntryRow, Analysed, analysed, refused, onto, onVerdict, onFound, Reached, reached, startOf, rootOf, namesOf, baseOf, analyseItems, onDeclared, unitAnalysed, headerAnalysed, analysisOf}
+use Rattle.marking.specs.Analysis.{Sections, Rooms, EntryRow, Analysed, analysed, refused, onto, onVerdict, onFound, Reached, reached, startOf, rootOf, namesOf, baseOf, analyseItems, onDeclared, unitAnalysed, headerAnalysed, analysisOf, headerBy}
 use Rattle.marking.specs.Columns.{namesIn}
-use Rattle.laws.specs.RefusalNumbers.{inputNumbers, InputRefusal}
+use Rattle.laws.specs.RefusalNumbers.{inputNumbers, InputRefusal, listNumbers}
 use Rattle.laws.specs.TableRoom.{TablesWithin, tablesFor, TableLaw, foundCount, referenceCount, declaredTables, headerTables, enoughTables}
 use Rattle.marking.proofs.Rows.{Gives, gives-of, gives-onto, gives-map, gives-refused, UnitRows, analysis-rows}
 use Rattle.laws.proofs.refusals.MarkingRefusals.{either-failure, AnalysedOf, analysed-of, none-of, rows-of, onto-of, verdict-of}
 use Rattle.laws.proofs.refusals.MarkingRefusals.{names-of, root-of, references-of, declaredAnalysed}
+use Rattle.marking.proofs.ListedHeaders.{by-list, header-taken}
 
 -- the references of the first entries
 abbrev pub namesOfFirst : ℕ → List EntryRow → ℕ
@@ -205,7 +206,7 @@ module _ (x : Sections) (w r : Rooms) where
 
   rooms-told : (section : List ℕ) (rows : List EntryRow) → analysisOf x section w ≡ analysed rows → Told 0 0 rows r (analysisOf x section r)
   unfolding analysisOf
-  rooms-told section rows q = gives-of _ _ rows (header-told section (headerOf (x .setting .«big_endian») section)) q
+  rooms-told section rows q = gives-of _ _ rows (header-told section (headerBy x section)) q
 
 -- THE law of lent tables
 pub table-law : (x : Sections) (w : Rooms) (section : List ℕ) (rows : List EntryRow) → analysisOf x section w ≡ analysed rows → TableLaw x section rows
@@ -266,12 +267,19 @@ module _ (x : Sections) (section : List ℕ) (room : Rooms) where
   declared-input h (some ds) t =
       items-input (h .encoding) x (take (h .end) section) room (startOf (h .encoding)) _ _ (omega (arith, t .entries)) (omega (arith, t .references))
 
-  header-input : (h : HeaderRead) → HeaderNumbered h → TablesWithin (headerTables x section h) room → AnalysedOf inputNumbers (headerAnalysed x section room h)
+  header-input : (h : HeaderRead) → HeaderNumbered earlyNumbers h → TablesWithin (headerTables x section h) room → AnalysedOf inputNumbers (headerAnalysed x section room h)
   unfolding headerAnalysed unitAnalysed headerTables HeaderNumbered isOneOf areOf _or_ _and_
   header-input Empty q t = rows-of inputNumbers []
-  header-input (Refused n) q t = none-of inputNumbers n (wider (1 ∷ 2 ∷ []) inputNumbers n tt q)
+  header-input (Refused n) q t = none-of inputNumbers n (wider earlyNumbers inputNumbers n tt q)
   header-input (Unit′ h) q t = declared-input h (abbreviationsOf (x .abbreviations) (h .abbreviations)) t
 
+  list-input : TablesWithin (enoughTables x section) room → AnalysedOf inputNumbers (headerAnalysed x section room (headerBy x section))
+  unfolding headerAnalysed enoughTables isOneOf areOf _or_ _and_
+  list-input t =
+      by-list x section (λ (o : HeaderRead). AnalysedOf inputNumbers (headerAnalysed x section room o))
+      (λ z. header-input (headerOf (x .setting .«big_endian») section) (subst (HeaderNumbered earlyNumbers) (header-taken x section z) (early-numbered x section)) t)
+      (λ n. none-of inputNumbers _ (wider listNumbers inputNumbers _ tt (list-refusal (x .keep) n)))
+
   pub enough-tables : TablesWithin (enoughTables x section) room → (n : ℕ) → analysisOf x section room ≡ refused n → InputRefusal n
-  unfolding analysisOf enoughTables
-  enough-tables t n q = analysed-of inputNumbers (analysisOf x section room) n (header-input (headerOf (x .setting .«big_endian») section) (header-numbered (x .setting .«big_endian») section) t) q
+  unfolding analysisOf
+  enough-tables t n q = analysed-of inputNumbers (analysisOf x section room) n (list-input t) q

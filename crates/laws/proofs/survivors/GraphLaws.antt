@@ -43,7 +43,7 @@ nth-parent r i [] m = elim m [ ]
 nth-parent r i (x ∷ rows) (now e) = ap (λ (z : EntryRow). z .parent) (sym e)
 nth-parent r i (x ∷ rows) (later {n = j} m) = nth-parent r j rows m
 
-nth-root : (r : EntryRow) (i : ℕ) (rows : List EntryRow) → Nth r i rows → getD (rootsIn rows) i 0 ≡ r .root
+pub nth-root : (r : EntryRow) (i : ℕ) (rows : List EntryRow) → Nth r i rows → getD (rootsIn rows) i 0 ≡ r .root
 unfolding rootsIn
 nth-root r i [] m = elim m [ ]
 nth-root r i (x ∷ rows) (now e) = ap (λ (z : EntryRow). z .root) (sym e)

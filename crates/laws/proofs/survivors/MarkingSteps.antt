@@ -60,7 +60,7 @@ accepts-law g v m i = (
 -- ---- the same reasons by the rows
 
 module _ (rows : List EntryRow) (g : Graph) (says : GraphSays rows g) where
-  below-out : {r d : ℕ} → Descendant g r d → Below rows r d
+  pub below-out : {r d : ℕ} → Descendant g r d → Below rows r d
   below-out (child′ {r = r} {d = d} q) = child (says .parents r d .0 q)
   below-out (deeper′ {p = p} {d = d} u q) = deeper (below-out u) (says .parents p d .0 q)
 

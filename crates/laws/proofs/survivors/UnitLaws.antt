@@ -42,6 +42,7 @@ use Rattle.laws.proofs.survivors.GraphLaws.{parent-law, root-law, names
 use Rattle.laws.proofs.survivors.UnitSurvivors.{rows-least}
 use Rattle.marking.proofs.EachRow.{items-whole, items-rows, own-rows}
 use Rattle.marking.proofs.UnitMarkings.{graph-size, marks-each}
+use Rattle.marking.proofs.ListedHeaders.{analysed-listed}
 
 -- ---- only an empty section has no header
 
@@ -90,7 +91,7 @@ module _ (x : Sections) (section : List ℕ) (room : Rooms) (rows : List EntryRo
   undeclared : (h : UnitHeader) → headerOf (x .setting .«big_endian») section ≡ Unit′ h → abbreviationsOf (x .abbreviations) (h .abbreviations) ≡ none → ⊥
   unfolding analysisOf headerAnalysed unitAnalysed onDeclared
   undeclared h q d =
-      let p = sym (ap (headerAnalysed x section room) q) ∙ analysis in
+      let p = sym (ap (headerAnalysed x section room) (analysed-listed x section room rows analysis ∙ q)) ∙ analysis in
       let z : _≡_ {A = ℕ} 0 1 = cc in omega arith
 
   declared-unit : (h : UnitHeader) → headerOf (x .setting .«big_endian») section ≡ Unit′ h
@@ -116,7 +117,9 @@ module _ (x : Sections) (section : List ℕ) (room : Rooms) (rows : List EntryRo
 
   first-unit : ((section ≡ []) × (rows ≡ [])) ⊎ FirstUnit x section rows
   unfolding analysisOf
-  first-unit = header-unit (headerOf (x .setting .«big_endian») section) refl analysis
+  first-unit =
+      header-unit (headerOf (x .setting .«big_endian») section) refl
+      (sym (ap (headerAnalysed x section room) (analysed-listed x section room rows analysis)) ∙ analysis)
 
   few-rows : length rows < noParent
   few-rows =
@@ -174,7 +177,7 @@ module _ (e : Encoding) (x : Sections) (unit : List ℕ) where
       (same-root _ (a .root) (b .root) (p .root-is) (q .root-is))
       (let z : found (a .names) ≡ found (b .names) = sym (p .names-are) ∙ q .names-are in cc)
 
-  same-rows : (k : ℕ) (stack : List ℕ) (rb lb : ℕ) (items : List Item) (a b : List EntryRow)
+  pub same-rows : (k : ℕ) (stack : List ℕ) (rb lb : ℕ) (items : List Item) (a b : List EntryRow)
       → RowsOf e x unit k stack rb lb items a → RowsOf e x unit k stack rb lb items b → a ≡ b
   unfolding RowsOf
   same-rows k stack rb lb [] a b p q = p ∙ sym q

@@ -1,5 +1,5 @@
--- Root tests and analyses of one unit by several address tables, where fixed addresses count or do not: what holds of their parts holds of
--- the whole. Assumes nothing.
+-- Root tests and analyses of one unit by several address tables and keep lists, where fixed addresses count or do not: what holds of their
+-- parts holds of the whole. Assumes nothing.
 use Prim.Native.Nat.{ℕ, _+_}
 use mathlib.Core.Bool.{Bool, true, false}
 use mathlib.Core.List.{List, [], _∷_}
@@ -11,7 +11,6 @@ use Rattle.readers.specs.Codes.{«DW_AT_low_pc», «DW_AT_location», «DW_AT_r
 use Rattle.readers.specs.Codes.{«DW_FORM_sec_offset», «DW_TAG_subprogram», «DW_TAG_variable», «DW_AT_loclists_base», «DW_AT_rnglists_base»}
 use Rattle.readers.specs.EntryAttributes.{Valued}
 use Rattle.readers.specs.Fields.{partOf}
-use Rattle.readers.specs.Header.{headerOf}
 use Rattle.readers.specs.Abbreviations.{Placed, abbreviationsOf}
 use Rattle.readers.specs.Stream.{Item, entry, terminator}
 use Rattle.readers.specs.declared.attributes.Attribute.{Attribute}
@@ -25,12 +24,14 @@ use Rattle.marking.specs.EntryReferences.{ReferencesFound, found, refused as re
 use Rattle.marking.specs.Roots.{rangesBy, orElse, rangesLive, locationLive, offsetLive, lowPc, lowPcs, locations}
 use Rattle.marking.specs.Roots.{otherRanges, rangesOf, firstRanges, rootTest}
 use Rattle.marking.specs.Analysis.{Sections, Rooms, Analysed, analysed, refused as notAnalysed, onto}
-use Rattle.marking.specs.Analysis.{onVerdict, onFound, Reached, startOf, tagOf, valuesOfEntry, rangesFor, rootOf, namesOf}
+use Rattle.marking.specs.Analysis.{onVerdict, onFound, Reached, startOf, tagOf, valuesOfEntry, rangesFor, testOf, rootOf, namesOf}
 use Rattle.marking.specs.Analysis.{baseOf}
-use Rattle.marking.specs.Analysis.{analyseItems, onDeclared, unitAnalysed, headerAnalysed, analysisOf}
+use Rattle.marking.specs.Analysis.{analyseItems, onDeclared, unitAnalysed, headerBy, headerAnalysed, analysisOf}
+use Rattle.marking.specs.KeepList.{KeepList, treatmentOf, treated}
 use Rattle.laws.specs.AddressTables.{withTable, withFixed}
+use Rattle.laws.specs.KeepLists.{withKeep}
 use Rattle.laws.specs.RefusalNumbers.{OneOf}
-use Rattle.laws.proofs.refusals.ReaderRefusals.{isOneOf, areOf, one-of, wider, HeaderNumbered, header-numbered}
+use Rattle.laws.proofs.refusals.ReaderRefusals.{isOneOf, areOf, one-of, wider, HeaderNumbered, earlyNumbers, early-numbered}
 use Rattle.laws.proofs.refusals.ScanRefusals.{FoundNumbered, attributes-numbered}
 
 -- the numbers of the entries of a unit, but for the table's own 6 and 17
@@ -99,8 +100,12 @@ module _ {I : Type 0} (fixed : I → Bool) (table : I → List ℕ) where
 
   -- ---- the analysis
 
-  module _ {P : (I → Verdict) → Type 0} {N : (I → ℕ) → Type 0} {Q : (I → Analysed) → Type 0} (v : Verdicts fixed table P) (a : Analyses P N Q)
-      (x : Sections) where
+  -- P is what holds of root tests, R of them once they are treated
+  module _ {P R : (I → Verdict) → Type 0} {N : (I → ℕ) → Type 0} {Q : (I → Analysed) → Type 0} (v : Verdicts fixed table P) (a : Analyses R N Q)
+      (keep : I → KeepList) (treats : (tag : ℕ) (w : I → Verdict) → P w → R (λ i. treated (treatmentOf (keep i) tag) (w i))) (x : Sections) where
+    abbrev by : I → Sections
+    by i = withKeep (withFixed (withTable x (table i)) (fixed i)) (keep i)
+
     found-by : (f : ReferencesFound) → FoundNumbered f → (k : I → List ℕ → Analysed) → ((names : List ℕ) → Q (λ i. k i names))
         → Q (λ i. onFound f (k i))
     unfolding onFound FoundNumbered isOneOf areOf _or_ _and_
@@ -108,38 +113,44 @@ module _ {I : Type 0} (fixed : I → Bool) (table : I → List ℕ) where
     found-by (refusedAfter names n) q k each = a .of-refused n (wider (5 ∷ 7 ∷ []) entryNumbersButTable n tt q)
 
     pub items-by : (e : Encoding) (unit : List ℕ) (room : Rooms) (p : Reached) (is : List Item) (whole : Bool)
-        → Q (λ i. analyseItems e (withFixed (withTable x (table i)) (fixed i)) unit room p is whole)
-    unfolding analyseItems rootOf namesOf baseOf valuesOfEntry isOneOf _or_
+        → Q (λ i. analyseItems e (by i) unit room p is whole)
+    unfolding analyseItems testOf rootOf namesOf baseOf valuesOfEntry isOneOf _or_
     items-by e unit room p [] true = a .of-end
     items-by e unit room p [] false = a .of-refused 4 (one-of entryNumbersButTable 4 tt)
     items-by e unit room p (terminator s t ∷ is) whole = items-by e unit room _ is whole
     items-by e unit room p (entry y ∷ is) whole =
         pick-of Q (ltb (p .count) (room .entries)) _ _
         (a .of-verdict _
+        (treats (tagOf y) _
         (root-by v e (rangesFor e (x .ranges) (x .debugRanges)) (x .setting .«ranges_base») (baseOf e x unit «DW_AT_rnglists_base» (p .rnglistsBase) y) unit (tagOf y)
-        (valuesOfEntry e x unit y)) _
+        (valuesOfEntry e x unit y))) _
         (λ root r. found-by (namesOf e x unit (baseOf e x unit «DW_AT_loclists_base» (p .loclistsBase) y) y) (attributes-numbered e _ _) _
         (λ names. pick-of Q (leb (p .references + length names) (room .references)) _ _
         (a .of-onto _ _ names root r _ (items-by e unit room _ is whole)) (a .of-refused 11 (one-of entryNumbersButTable 11 tt)))))
         (a .of-refused 10 (one-of entryNumbersButTable 10 tt))
 
-    -- the header's 1 and 2, and 3
-    module _ (early : (n : ℕ) → OneOf (1 ∷ 2 ∷ 3 ∷ []) n → Q (λ i. notAnalysed n)) where
+    -- a keep list's 19 and 20, the header's 1 and 2, and 3
+    module _ (early : (n : ℕ) → OneOf (19 ∷ 20 ∷ 1 ∷ 2 ∷ 3 ∷ []) n → Q (λ i. notAnalysed n)) where
       declared-by : (o : Option (List Placed)) (k : I → List Placed → Analysed) → ((ds : List Placed) → Q (λ i. k i ds))
           → Q (λ i. onDeclared o (k i))
       unfolding onDeclared isOneOf _or_
       declared-by none k each = early 3 (one-of _ 3 tt)
       declared-by (some ds) k each = each ds
 
-      header-by : (section : List ℕ) (room : Rooms) (h : HeaderRead) → HeaderNumbered h
-          → Q (λ i. headerAnalysed (withFixed (withTable x (table i)) (fixed i)) section room h)
+      pub header-by : (section : List ℕ) (room : Rooms) (h : HeaderRead) → HeaderNumbered earlyNumbers h
+          → Q (λ i. headerAnalysed (by i) section room h)
       unfolding headerAnalysed unitAnalysed HeaderNumbered isOneOf areOf _or_ _and_
       header-by section room Empty q = a .of-end
-      header-by section room (Refused n) q = early n (wider (1 ∷ 2 ∷ []) _ n tt q)
+      header-by section room (Refused n) q = early n (wider earlyNumbers _ n tt q)
       header-by section room (Unit′ h) q =
           declared-by (abbreviationsOf (x .abbreviations) (h .abbreviations)) _
           (λ ds. items-by (h .encoding) (take (h .end) section) room (startOf (h .encoding)) _ _)
 
-      pub analysis-by : (section : List ℕ) (room : Rooms) → Q (λ i. analysisOf (withFixed (withTable x (table i)) (fixed i)) section room)
-      unfolding analysisOf
-      analysis-by section room = header-by section room (headerOf (x .setting .«big_endian») section) (header-numbered (x .setting .«big_endian») section)
+  -- by one keep list
+  module _ {P : (I → Verdict) → Type 0} {N : (I → ℕ) → Type 0} {Q : (I → Analysed) → Type 0} (v : Verdicts fixed table P) (a : Analyses P N Q)
+      (treats : (k : ℕ) (w : I → Verdict) → P w → P (λ i. treated k (w i))) (x : Sections)
+      (early : (n : ℕ) → OneOf (19 ∷ 20 ∷ 1 ∷ 2 ∷ 3 ∷ []) n → Q (λ i. notAnalysed n)) where
+    pub analysis-by : (section : List ℕ) (room : Rooms) → Q (λ i. analysisOf (withFixed (withTable x (table i)) (fixed i)) section room)
+    unfolding analysisOf headerBy
+    analysis-by section room =
+        header-by v a (λ i. x .keep) (λ tag. treats (treatmentOf (x .keep) tag)) x early section room (headerBy x section) (early-numbered x section)

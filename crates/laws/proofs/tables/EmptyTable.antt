@@ -1,10 +1,10 @@
 -- "A table of length 0 means that no address is known, and each one counts as live" (document 02, Point 2): the answer by the empty
 -- table is that by every table of ones that is long enough. Assumes nothing.
-use mathlib.Core.Path.{_≡_}
+use mathlib.Core.Path.{_≡_, refl}
 use Prim.Native.Nat.{ℕ}
 use mathlib.Core.Bool.{Bool}
 use mathlib.Core.List.{List, []}
-use Rattle.marking.specs.Analysis.{Sections, Rooms, analysisOf}
+use Rattle.marking.specs.Analysis.{Sections, Rooms, headerBy, analysisOf}
 use Rattle.marking.specs.Columns.{column}
 use Rattle.marking.specs.Resolution.{marksIn}
 use Rattle.rewriting.specs.Rewriting.{Room, collectOf}
@@ -28,6 +28,11 @@ module _ (x : Sections) where
 -- THE answer by the empty table: that by every table of ones that is long enough
 pub all-live-law : (x : Sections) (room : Room) (typeUnits : Bool) (section : List ℕ)
     → Eventually (λ n. collectOf (withTable x (ones n)) room typeUnits section ≡ collectOf (withTable x []) room typeUnits section)
+unfolding headerBy
 all-live-law x room typeUnits section =
     let a = all-live-analysis x section (room .tables) in
-    record { from = a .from; holds = λ n l. same-collected (withTable x (ones n)) (x .locations) (x .ranges) [] (x .debugRanges) room typeUnits section (a .holds n l) }
+    record {
+      from = a .from;
+      holds = λ n l.
+          same-collected (withTable x (ones n)) (x .locations) (x .ranges) [] (x .debugRanges) (x .keep) room typeUnits section (a .holds n l) refl;
+    }

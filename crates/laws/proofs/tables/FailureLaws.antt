@@ -9,7 +9,6 @@ use mathlib.Core.Option.{Option, none, some}
 use Rattle.readers.specs.Choice.{_and_, _or_}
 use Rattle.readers.specs.Abbreviations.{Placed, abbreviationsOf}
 use Rattle.readers.specs.EntryAttributes.{Valued}
-use Rattle.readers.specs.Header.{headerOf}
 use Rattle.readers.specs.declared.cursor.Encoding.{Encoding}
 use Rattle.readers.specs.declared.attributes.Attribute.{Attribute}
 use Rattle.readers.specs.declared.header.UnitHeader.{UnitHeader}
@@ -21,7 +20,7 @@ use Rattle.marking.specs.declared.root_test.Verdict.the-variants.{Refused as Fa
 use Rattle.marking.specs.declared.units.UnitMarks.{UnitMarks}
 use Rattle.marking.specs.declared.units.UnitMarks.the-variants.{Refused}
 use Rattle.marking.specs.Roots.{rangesBy, lowPc, locationLive, rangesLive, rootTest}
-use Rattle.marking.specs.Analysis.{Sections, Rooms, Analysed, analysed, refused as notAnalysed, onDeclared, unitAnalysed, headerAnalysed, analysisOf}
+use Rattle.marking.specs.Analysis.{Sections, Rooms, Analysed, analysed, refused as notAnalysed, onDeclared, unitAnalysed, headerBy, headerAnalysed, analysisOf}
 use Rattle.marking.specs.Resolution.{unitMarks}
 use Rattle.rewriting.specs.Rewriting.{unitOf, Room, refused, analysedCollected, declaredCollected, headerCollected, collectOf}
 use Rattle.laws.specs.AddressTables.{withTable, FailedBy, AnsweredBy}
@@ -36,7 +35,7 @@ use Rattle.laws.proofs.tables.SameRewriting.{same-collected}
 
 -- the numbers of an analysis that are not the table's
 abbrev others : List ℕ
-others = 1 ∷ 2 ∷ 3 ∷ entryNumbersButTable
+others = 19 ∷ 20 ∷ 1 ∷ 2 ∷ 3 ∷ entryNumbersButTable
 
 none-other : (n : ℕ) → OneOf tableNumbers n → OneOf others n → ⊥
 unfolding isOneOf areApart _or_ _and_
@@ -120,7 +119,7 @@ module _ (x : Sections) (section : List ℕ) (room : Rooms) where
 
 module _ (x : Sections) (room : Room) (typeUnits : Bool) (section : List ℕ) where
   module _ (n : ℕ) (q : analysisOf x section (room .tables) ≡ notAnalysed n) where
-    by-declared : (h : UnitHeader) → headerOf (x .setting .«big_endian») section ≡ Header′ h → (o : Option (List Placed))
+    by-declared : (h : UnitHeader) → headerBy x section ≡ Header′ h → (o : Option (List Placed))
         → abbreviationsOf (x .abbreviations) (h .abbreviations) ≡ o → declaredCollected x room typeUnits section h o ≡ refused n
     unfolding declaredCollected analysedCollected analysisOf headerAnalysed unitAnalysed onDeclared
     by-declared h e (some ds) d = ap (analysedCollected x room typeUnits (unitOf h section ds)) q
@@ -128,7 +127,7 @@ module _ (x : Sections) (room : Room) (typeUnits : Bool) (section : List ℕ) wh
         let three : headerAnalysed x section (room .tables) (Header′ h) ≡ notAnalysed 3 = rw d in
         ap refused (same-refusal 3 n (sym (ap (headerAnalysed x section (room .tables)) e ∙ three) ∙ q))
 
-    by-header : (h : HeaderRead) → headerOf (x .setting .«big_endian») section ≡ h → headerCollected x room typeUnits section h ≡ refused n
+    by-header : (h : HeaderRead) → headerBy x section ≡ h → headerCollected x room typeUnits section h ≡ refused n
     unfolding headerCollected analysisOf headerAnalysed
     by-header Empty e =
         let r : analysed [] ≡ notAnalysed n = sym (ap (headerAnalysed x section (room .tables)) e) ∙ q in
@@ -137,13 +136,13 @@ module _ (x : Sections) (room : Room) (typeUnits : Bool) (section : List ℕ) wh
     by-header (Header′ h) e = by-declared h e (abbreviationsOf (x .abbreviations) (h .abbreviations)) refl
 
     -- an analysis that is refused is collect's refusal
-    analysis-refused : collectOf x room typeUnits section ≡ refused n
+    pub analysis-refused : collectOf x room typeUnits section ≡ refused n
     unfolding collectOf
-    analysis-refused = by-header (headerOf (x .setting .«big_endian») section) refl
+    analysis-refused = by-header (headerBy x section) refl
 
   at-table : (n : ℕ) → OneOf tableNumbers n → StageOf x room typeUnits section n → analysisOf x section (room .tables) ≡ notAnalysed n
   unfolding isOneOf areApart _or_ _and_
-  at-table n o (elsewhere r) = absurd (apart tableNumbers (1 ∷ 2 ∷ 3 ∷ 12 ∷ 13 ∷ 14 ∷ []) n tt o r)
+  at-table n o (elsewhere r) = absurd (apart tableNumbers (19 ∷ 20 ∷ 1 ∷ 2 ∷ 3 ∷ 12 ∷ 13 ∷ 14 ∷ []) n tt o r)
   at-table n o (of-entries a r) = a
   at-table n o (of-place e r) = absurd (not-one-of tableNumbers n 8 e tt o)
   at-table n o (of-width e r) = absurd (not-one-of tableNumbers n 9 e tt o)
@@ -166,12 +165,13 @@ module _ (x : Sections) (room : Room) (typeUnits : Bool) (section : List ℕ) wh
   -- any other answer goes by indices at which the table does not fail
   pub answer-law : ((n : ℕ) → OneOf tableNumbers n → collectOf x room typeUnits section ≡ refused n → ⊥)
       → AnsweredBy (λ t. collectOf (withTable x t) room typeUnits section) (x .addresses)
+  unfolding headerBy
   answer-law never =
       let a = answer-analysis x section (room .tables) (λ n o q. never n o (analysis-refused x room typeUnits section n q)) in
       record {
         asked = a .asked;
         fine = a .fine;
-        decides = λ table s. same-collected (withTable x table) (x .locations) (x .ranges) (x .addresses) (x .debugRanges) room typeUnits section (a .decides table s);
+        decides = λ table s. same-collected (withTable x table) (x .locations) (x .ranges) (x .addresses) (x .debugRanges) (x .keep) room typeUnits section (a .decides table s) refl;
       }
 
 -- ---- the empty table (Point 2)

@@ -38,6 +38,8 @@ use Rattle.laws.specs.AddressTables.{withTable}
 use Rattle.laws.specs.RefusalNumbers.{OneOf}
 use Rattle.laws.proofs.refusals.ReaderRefusals.{isOneOf, areOf, one-of, wider}
 use Rattle.laws.proofs.tables.BySeveralTables.{pick-of, entryNumbersButTable, Verdicts, Analyses, items-by, analysis-by}
+use Rattle.marking.specs.KeepList.{treatmentOf, treated}
+use Rattle.laws.proofs.keep.Treatments.{was-refused}
 
 -- a value that is no refusal
 abbrev pub NoRefusal : {X : Type 0} → (ℕ → X) → X → Type 0
@@ -246,6 +248,14 @@ module _ {I : Type 0} {table : I → List ℕ} {others : List ℕ} {Holds : (X :
         of-offset = λ e s o. offset-told five e s o;
       }
 
+  -- a verdict that is treated
+  by-treatment : (k : ℕ) (v : Verdict) → NoRefusal Refused v → Holds Verdict Refused (λ i. treated k v)
+  by-treatment k v never = c .of-value Refused (treated k v) (λ n q. never n (was-refused k v n q))
+
+  treatment-told : (k : ℕ) (v : I → Verdict) → Holds Verdict Refused v → Holds Verdict Refused (λ i. treated k (v i))
+  unfolding treated
+  treatment-told k v p = c .of-then Refused Refused v (λ i w. treated k w) p (λ i n. refl) (by-treatment k)
+
   -- ---- the analysis: an entry is a root by each of the tables, or by none
 
   record Constant (root : I → ℕ) : Type 0 where
@@ -285,13 +295,14 @@ module _ {I : Type 0} {table : I → List ℕ} {others : List ℕ} {Holds : (X :
   unfolding isOneOf _or_
   items-told among x =
       let counted : Bool = x .setting .«fixed_addresses» in
-      items-by (λ i. counted) table (verdicts-told counted (among 5 (one-of entryNumbersButTable 5 tt))) (rows-told among) x
+      items-by (λ i. counted) table (verdicts-told counted (among 5 (one-of entryNumbersButTable 5 tt))) (rows-told among) (λ i. x .keep)
+      (λ tag. treatment-told (treatmentOf (x .keep) tag)) x
 
-  -- 1 to 3, and those of the entries
-  pub analysis-told : ((n : ℕ) → OneOf (1 ∷ 2 ∷ 3 ∷ entryNumbersButTable) n → OneOf others n) → (x : Sections) (section : List ℕ) (room : Rooms)
+  -- 19, 20, 1 to 3, and those of the entries
+  pub analysis-told : ((n : ℕ) → OneOf (19 ∷ 20 ∷ 1 ∷ 2 ∷ 3 ∷ entryNumbersButTable) n → OneOf others n) → (x : Sections) (section : List ℕ) (room : Rooms)
       → Holds Analysed notAnalysed (λ i. analysisOf (withTable x (table i)) section room)
   unfolding isOneOf areOf _or_ _and_
   analysis-told among x section room =
       let counted : Bool = x .setting .«fixed_addresses» in
-      analysis-by (λ i. counted) table (verdicts-told counted (among 5 (one-of _ 5 tt))) (rows-told (λ n o. among n (wider entryNumbersButTable _ n tt o))) x
-      (λ n o. c .of-refusal notAnalysed n (among n (wider (1 ∷ 2 ∷ 3 ∷ []) _ n tt o))) section room
+      analysis-by (λ i. counted) table (verdicts-told counted (among 5 (one-of _ 5 tt))) (rows-told (λ n o. among n (wider entryNumbersButTable _ n tt o)))
+      treatment-told x (λ n o. c .of-refusal notAnalysed n (among n (wider (19 ∷ 20 ∷ 1 ∷ 2 ∷ 3 ∷ []) _ n tt o))) section room

@@ -3,7 +3,7 @@ use mathlib.Core.Path.{_≡_, refl, sym, subst}
 use Prim.Native.Nat.{ℕ, zero, suc}
 use mathlib.Core.Bool.{Bool, true, false, false≢true}
 use mathlib.Core.List.{List, []}
-use mathlib.Core.Logic.{_⊎_, inl, inr}
+use mathlib.Core.Logic.{_⊎_, inl, inr, ⊎-elim}
 use lib.ListN.{length}
 use Rattle.readers.specs.Choice.{pick}
 use Rattle.readers.specs.Steps.{operationAt, listEntryAt}
@@ -27,6 +27,10 @@ use Rattle.marking.specs.Walking.{go, stop, onNext, walkWithin, walk}
 use Rattle.marking.specs.Roots.{Flagged, place, RootTurn, toward, orElse, onLookup, rangeEntry}
 use Rattle.marking.specs.Roots.{rangeStep, rangesLive, operationLive, operationStep, locationLive, lowPc}
 use Rattle.laws.proofs.tables.BySeveralTables.{Verdicts}
+use Rattle.marking.specs.KeepList.{treated}
+use lib.Dec.{eqb}
+use borrow.Author.Tests.{eqb-true}
+use Rattle.marking.proofs.Tests.{either}
 
 -- ---- verdicts
 
@@ -51,6 +55,24 @@ held-same (Refused n) = tt
 held-refused : (n : ℕ) (w : Verdict) → Held (Refused n) w
 unfolding Held
 held-refused n w = tt
+
+refused-treated : (n k : ℕ) (w : Verdict) → Held (treated k (Refused n)) (treated k w)
+unfolding Held treated
+refused-treated n k w = tt
+
+held-either : (k : ℕ) → Held (treated k Dead) (treated k Live)
+unfolding Held treated pick
+held-either k =
+    ⊎-elim (λ a. let z : k ≡ 1 = eqb-true k 1 a in rw z refl)
+    (λ a. rw a (⊎-elim (λ b. rw b (inr refl)) (λ b. rw b (inl refl)) (either (eqb k 2)))) (either (eqb k 1))
+
+-- a treatment takes nothing from the second alone
+pub held-treated : (k : ℕ) (v w : Verdict) → Held v w → Held (treated k v) (treated k w)
+unfolding Held
+held-treated k Live w q = subst (λ (z : Verdict). Held (treated k Live) (treated k z)) (sym q) (held-same (treated k Live))
+held-treated k Dead w (inl q) = subst (λ (z : Verdict). Held (treated k Dead) (treated k z)) (sym q) (held-either k)
+held-treated k Dead w (inr q) = subst (λ (z : Verdict). Held (treated k Dead) (treated k z)) (sym q) (held-same (treated k Dead))
+held-treated k (Refused n) w q = refused-treated n k w
 
 pub held-else : (v w v′ w′ : Verdict) → Held v v′ → Held w w′ → Held (orElse v w) (orElse v′ w′)
 unfolding Held orElse

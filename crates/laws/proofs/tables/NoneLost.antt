@@ -19,7 +19,7 @@ use Rattle.laws.specs.AddressTables.{withTable, withFixed, NoneLost}
 use Rattle.laws.specs.UnitSurvivors.{ParentIn, RootIn, NamesIn, Below, child, deeper, ClosedRows, SurvivorsOf}
 use Rattle.laws.proofs.survivors.UnitLaws.{unit-survivors}
 use Rattle.laws.proofs.tables.BySeveralTables.{Verdicts, Analyses, analysis-by}
-use Rattle.laws.proofs.tables.LiveVerdicts.{Held, held}
+use Rattle.laws.proofs.tables.LiveVerdicts.{Held, held, held-treated}
 use Rattle.readers.specs.Choice.{pick}
 
 -- ---- rows
@@ -146,7 +146,7 @@ module _ (x : Sections) (fixed : Bool → Bool) (table : Bool → List ℕ) (v :
   unfolding AnalysedHeld
   analysis-held rows q =
       subst (λ (a : Analysed). AnalysedHeld a (analysisOf (by false) section room)) q
-      (analysis-by fixed table v rows-held x (λ n o. refused-held n (notAnalysed n)) section room)
+      (analysis-by fixed table v rows-held (λ k w. held-treated k (w true) (w false)) x (λ n o. refused-held n (notAnalysed n)) section room)
 
   -- where each root test by the ones holds by the others, their survivors survive
   pub all-kept : (rows : List EntryRow) → analysisOf (by true) section room ≡ analysed rows → NoneLost (by false) section room rows

@@ -1,5 +1,5 @@
--- What is rewritten of a unit's rows is read by its abbreviations alone: where the rows are the same with other sections
--- and another address table, so is the answer. Assumes nothing.
+-- What is rewritten of a unit's rows is read by its abbreviations alone: where header and rows are the same with other
+-- sections, another address table and another keep list, so is the answer. Assumes nothing.
 use mathlib.Core.Path.{_≡_, refl, ap, ap₂, _∙_}
 use Prim.Native.Nat.{ℕ}
 use mathlib.Core.Bool.{Bool}
@@ -10,11 +10,11 @@ use Rattle.readers.specs.Codes.{«DW_AT_location», «DW_AT_ranges»}
 use Rattle.readers.specs.Layout.{Read, RunOf, patchAll, writeAll}
 use Rattle.readers.specs.Stream.{Item, entry, terminator}
 use Rattle.readers.specs.Abbreviations.{Placed, abbreviationsOf}
-use Rattle.readers.specs.Header.{headerOf}
 use Rattle.readers.specs.declared.header.UnitHeader.{UnitHeader}
 use Rattle.readers.specs.declared.header.HeaderRead.{HeaderRead}
 use Rattle.readers.specs.declared.header.HeaderRead.the-variants.{Unit as Unit′, Empty, Refused}
-use Rattle.marking.specs.Analysis.{Sections, sections, EntryRow, Analysed, analysed, refused as notAnalysed, valuesOfEntry, analysisOf}
+use Rattle.marking.specs.Analysis.{Sections, sections, EntryRow, Analysed, analysed, refused as notAnalysed, valuesOfEntry, headerBy, analysisOf}
+use Rattle.marking.specs.KeepList.{KeepList}
 use Rattle.marking.specs.Resolution.{marksIn}
 use Rattle.rewriting.specs.Places.{NestedItem, Place, offsetOf}
 use Rattle.rewriting.specs.Indices.{readIndices}
@@ -24,12 +24,12 @@ use Rattle.rewriting.specs.Rewriting.{bytesFrom, unitBytes, Room, orRefused, re
 use Rattle.rewriting.specs.Rewriting.{analysedCollected, declaredCollected, headerCollected, collectOf}
 
 -- the same unit with other sections
-abbrev others : Sections → List ℕ → List ℕ → List ℕ → List ℕ → Sections
-others x l r t o = sections (x .abbreviations) l r t o (x .setting)
+abbrev others : Sections → List ℕ → List ℕ → List ℕ → List ℕ → KeepList → Sections
+others x l r t o keep = sections (x .abbreviations) l r t o keep (x .setting)
 
-module _ (x : Sections) (l r t o : List ℕ) (u : Unit) where
+module _ (x : Sections) (l r t o : List ℕ) (keep : KeepList) (u : Unit) where
   abbrev y : Sections
-  y = others x l r t o
+  y = others x l r t o keep
 
   same-or : (o : Option RunOf) → readsOr x u o ≡ readsOr y u o
   unfolding readsOr
@@ -94,14 +94,14 @@ module _ (x : Sections) (l r t o : List ℕ) (u : Unit) where
     same-rows typeUnits [] = refl
     same-rows typeUnits (z ∷ rows) = same-marks typeUnits (marksIn (z ∷ rows)) _
 
-module _ (x : Sections) (l r t o : List ℕ) (room : Room) (typeUnits : Bool) (section : List ℕ) where
+module _ (x : Sections) (l r t o : List ℕ) (keep : KeepList) (room : Room) (typeUnits : Bool) (section : List ℕ) where
   abbrev other : Sections
-  other = others x l r t o
+  other = others x l r t o keep
 
   same-analysed : (u : Unit) (z : Analysed)
       → analysedCollected x room typeUnits u z ≡ analysedCollected other room typeUnits u z
   unfolding analysedCollected
-  same-analysed u (analysed rows) = same-rows x l r t o u room typeUnits rows
+  same-analysed u (analysed rows) = same-rows x l r t o keep u room typeUnits rows
   same-analysed u (notAnalysed n) = refl
 
   module _ (q : analysisOf x section (room .tables) ≡ analysisOf other section (room .tables)) where
@@ -117,6 +117,7 @@ module _ (x : Sections) (l r t o : List ℕ) (room : Room) (typeUnits : Bool) (s
     same-headers (Refused n) = refl
     same-headers (Unit′ h) = same-declared h (abbreviationsOf (x .abbreviations) (h .abbreviations))
 
-    pub same-collected : collectOf x room typeUnits section ≡ collectOf other room typeUnits section
+    pub same-collected : headerBy x section ≡ headerBy other section
+        → collectOf x room typeUnits section ≡ collectOf other room typeUnits section
     unfolding collectOf
-    same-collected = same-headers (headerOf (x .setting .«big_endian») section)
+    same-collected h = same-headers (headerBy x section) ∙ ap (headerCollected other room typeUnits section) h

@@ -24,11 +24,10 @@ use Rattle.readers.specs.declared.cursor.Encoding.{Encoding}
 use Rattle.readers.specs.declared.header.UnitHeader.{UnitHeader}
 use Rattle.readers.specs.declared.header.HeaderRead.{HeaderRead}
 use Rattle.readers.specs.declared.header.HeaderRead.the-variants.{Unit as Header′, Empty, Refused}
-use Rattle.readers.specs.Header.{headerOf}
 use Rattle.readers.proofs.Nesting.{length-opened, length-closed}
 use Rattle.readers.specs.Nesting.{opened, closed}
 use Rattle.marking.specs.Marks.{isKept, keptCount}
-use Rattle.marking.specs.Analysis.{Sections, Rooms, EntryRow, Analysed, analysed, refused as notAnalysed, analysisOf}
+use Rattle.marking.specs.Analysis.{Sections, Rooms, EntryRow, Analysed, analysed, refused as notAnalysed, analysisOf, headerBy}
 use Rattle.marking.specs.Resolution.{marksIn, Ascending as From}
 use Rattle.marking.specs.Columns.{padTo}
 use Rattle.rewriting.specs.Places.{NestedItem, innermost, withIf, keptFrom, offsetOf, sizeOf, Place, placesFrom, sizeFrom, oldOffsets}
@@ -54,6 +53,7 @@ use Rattle.laws.proofs.again.Accepted.{accepted-header, WasRewritten}
 use Rattle.marking.proofs.UnitMarkings.{marks-each}
 use Rattle.laws.proofs.again.IndexMembers.{IndexKept}
 use Rattle.laws.proofs.again.CollectLaws.{it, unit, marks, kept, start, again-law, bytes-law, map-law, list-law, whole, whole-list-law}
+use Rattle.marking.proofs.ListedHeaders.{analysed-listed}
 
 -- ---- what is at a place of a list
 
@@ -368,7 +368,7 @@ module _ (x : Sections) (room : Room) (typeUnits : Bool) (section : List ℕ) wh
 
   roomed : Roomed (collectOf x room typeUnits section)
   unfolding collectOf
-  roomed = header-roomed (headerOf (x .setting .«big_endian») section)
+  roomed = header-roomed (headerBy x section)
 
   rewritten-fit : (w : Rewrite) → collectOf x room typeUnits section ≡ rewritten w → T (listsFit room (w .lists))
   unfolding Roomed
@@ -388,7 +388,7 @@ module _ (x : Sections) (room : Room) (typeUnits : Bool) (section : List ℕ) wh
       → collectOf x room typeUnits section ≡ marksCollected x room typeUnits (unitOf h section ds) (marksIn rows) (survivorsIn x (unitOf h section ds) rows)
   unfolding collectOf headerCollected declaredCollected analysedCollected
   collect-is h ds rows a n =
-      ap (headerCollected x room typeUnits section) (a .header)
+      ap (headerCollected x room typeUnits section) (analysed-listed x section (room .tables) rows (a .analysis) ∙ a .header)
       ∙ ap (declaredCollected x room typeUnits section h) (a .declared)
       ∙ ap (analysedCollected x room typeUnits (unitOf h section ds)) (a .analysis)
       ∙ rows-are (unitOf h section ds) rows n

@@ -22,6 +22,7 @@ use Rattle.marking.specs.EntryReferences.{ReferencesFound, found, refuse
 use Rattle.marking.specs.declared.root_test.Verdict.{Verdict}
 use Rattle.marking.specs.declared.root_test.Verdict.the-variants.{Live, Dead, Refused as Failed}
 use Rattle.marking.specs.ReferenceTable.{placed, tableAfter}
+use Rattle.marking.specs.KeepList.{KeepList, keepRefusal}
 use Rattle.marking.specs.Analysis.{EntryRow, Analysed, analysed, refused}
 use Rattle.marking.specs.declared.analysis.EntryAnalysis.{EntryAnalysis}
 use Rattle.marking.specs.declared.analysis.EntryAnalysis.the-variants.{Found as RowFound, Refused as NoRow}
@@ -45,9 +46,10 @@ pub record Outcome (a : Analysed) (offsets₀ parents₀ roots₀ ends₀ target
   pub ends-left : Left (endsIn 0) (length ends₀) a ends
   pub targets-left : Left namesIn (length targets₀) a targets
 
--- cleared columns with room for so many entries and references, and the index of declarations that were checked
+-- cleared columns with room for so many entries and references, the index of declarations that were checked, and a keep
+-- list that was taken
 pub record AnalysisInput (abbreviations index : List ℕ) (from : ℕ) (unit : List ℕ) (entryRoom referenceRoom : ℕ)
-    (offsets parents roots ends targets : List ℕ) : Type 0 where
+    (offsets parents roots ends targets : List ℕ) (keep : KeepList) : Type 0 where
   pub accepted : checkedOf abbreviations from ≡ Accepted
   pub indexed : index ≡ indexOf abbreviations from (length index)
   pub offsets-room : entryRoom ≤ length offsets
@@ -60,6 +62,7 @@ pub record AnalysisInput (abbreviations index : List ℕ) (from : ℕ) (unit : L
   pub roots-clear : roots ≡ zeros (length roots)
   pub ends-clear : ends ≡ zeros (length ends)
   pub targets-clear : targets ≡ zeros (length targets)
+  pub listed : keepRefusal keep ≡ 0
 
 -- what an answer leaves of a column: zeros after a refusal
 unfoldable pub leftBy : Analysis → List ℕ → List ℕ

@@ -1,18 +1,18 @@
 -- `arguments` is safe and ends: the measure is what is left. Assumes nothing.
 use Prim.Native.Nat.{_-_}
-use lib.ListN.{length}
 use borrow.Author.Needs.{needs}
 use Rattle.printing.proofs.arguments.Statement.{statement}
 use Rattle.printing.proofs.arguments.Tie as tie
 use Rattle.printing.proofs.arguments.Reads as reads
 use Rattle.printing.proofs.arguments.Lts as lts
 use Rattle.printing.proofs.argument_at.Reads as argument-at-reads
+use Rattle.printing.proofs.untold.Reads as untold-reads
 
 abbrev Inv-loop : tie.InvT-loop
-Inv-loop what₀ i₀ what i = Unit {0}
+Inv-loop a₀ i₀ a i = Unit {0}
 
 abbrev μ-loop : tie.MeasureT-loop
-μ-loop what₀ i₀ what i = 10000 - i
+μ-loop a₀ i₀ a i = 10000 - i
 
 untold-requires : tie.Need-untold-requires Inv-loop μ-loop
 untold-requires c κs = search needs

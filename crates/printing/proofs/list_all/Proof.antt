@@ -12,10 +12,10 @@ use Rattle.printing.proofs.text.number.Reads as number-reads
 use Rattle.printing.proofs.text.text.Reads as text-reads
 
 abbrev Inv-loop : tie.InvT-loop
-Inv-loop s what setting at₀ t6 t7 at = Unit {0}
+Inv-loop s what setting tags treatments at₀ t8 t9 at = Unit {0}
 
 abbrev μ-loop : tie.MeasureT-loop
-μ-loop s what setting at₀ t6 t7 at = length s - at
+μ-loop s what setting tags treatments at₀ t8 t9 at = length s - at
 
 loop-holds : tie.Need-loop-holds Inv-loop μ-loop
 loop-holds c = search needs

@@ -11,11 +11,10 @@ use mir.Facts.{leb-yes, leb-no, eqb-yes, eqb-no, yes-eqb, no-eqb}
 use Rattle.readers.specs.Choice.{zeros}
 use Rattle.readers.proofs.Choice.{pick-yes, pick-no, pick-either}
 use Rattle.readers.specs.Abbreviations.{Placed, abbreviationsOf}
-use Rattle.readers.specs.Header.{headerOf}
 use Rattle.readers.specs.declared.header.UnitHeader.{UnitHeader}
 use Rattle.readers.specs.declared.header.HeaderRead.{HeaderRead}
 use Rattle.readers.specs.declared.header.HeaderRead.the-variants.{Unit as Header′, Empty, Refused as NoHeader}
-use Rattle.marking.specs.Analysis.{Sections, Rooms, EntryRow, Analysed, analysed, refused as notAnalysed, onDeclared, unitAnalysed, headerAnalysed, analysisOf}
+use Rattle.marking.specs.Analysis.{Sections, Rooms, EntryRow, Analysed, analysed, refused as notAnalysed, onDeclared, unitAnalysed, headerBy, headerAnalysed, analysisOf}
 use Rattle.marking.specs.Columns.{column, parentsIn, indexAfter, least, roomsOf, unitRooms}
 use Rattle.marking.specs.Marks.{keptCount}
 use Rattle.marking.specs.Resolution.{marksIn, unitMarks}
@@ -29,6 +28,7 @@ use Rattle.rewriting.specs.declared.collect.Collected.{Collected as Answ
 use Rattle.rewriting.specs.declared.collect.Collected.the-variants.{Untouched, Rewritten, Refused}
 use Rattle.rewriting.specs.declared.collect.Task.{Task}
 use Rattle.rewriting.specs.declared.collect.Task.the-variants.{Done, Rewrite}
+use Rattle.marking.proofs.ListedHeaders.{unit-listed}
 use Rattle.marking.proofs.UnitMarkings.{marks-each}
 
 -- ---- slices that were cleared
@@ -136,21 +136,21 @@ module _ (x : Sections) (room : Room) (t : Bool) (section : List ℕ) where
   abbrev tables : Rooms
   tables = room .tables
 
-  analysis-undeclared : (h : UnitHeader) → headerOf (x .setting .«big_endian») section ≡ Header′ h → abbreviationsOf (x .abbreviations) (h .abbreviations) ≡ none → analysisOf x section tables ≡ notAnalysed 3
+  analysis-undeclared : (h : UnitHeader) → headerBy x section ≡ Header′ h → abbreviationsOf (x .abbreviations) (h .abbreviations) ≡ none → analysisOf x section tables ≡ notAnalysed 3
   unfolding analysisOf headerAnalysed unitAnalysed
   analysis-undeclared h q d = ap (headerAnalysed x section tables) q ∙ undeclared (abbreviationsOf (x .abbreviations) (h .abbreviations)) _ d
 
   -- by its header
-  pub collected-empty : headerOf (x .setting .«big_endian») section ≡ Empty → collectOf x room t section ≡ untouched 0 noLists
+  pub collected-empty : headerBy x section ≡ Empty → collectOf x room t section ≡ untouched 0 noLists
   unfolding collectOf headerCollected
   collected-empty q = ap (headerCollected x room t section) q
 
-  pub collected-no : (k : ℕ) → headerOf (x .setting .«big_endian») section ≡ NoHeader k → collectOf x room t section ≡ refused k
+  pub collected-no : (k : ℕ) → headerBy x section ≡ NoHeader k → collectOf x room t section ≡ refused k
   unfolding collectOf headerCollected
   collected-no k q = ap (headerCollected x room t section) q
 
   -- by its analysis
-  by-declared : (h : UnitHeader) → headerOf (x .setting .«big_endian») section ≡ Header′ h → (o : Option (List Placed)) → abbreviationsOf (x .abbreviations) (h .abbreviations) ≡ o
+  by-declared : (h : UnitHeader) → headerBy x section ≡ Header′ h → (o : Option (List Placed)) → abbreviationsOf (x .abbreviations) (h .abbreviations) ≡ o
       → ((k : ℕ) → analysisOf x section tables ≡ notAnalysed k → declaredCollected x room t section h o ≡ refused k)
       × (analysisOf x section tables ≡ analysed [] → declaredCollected x room t section h o ≡ untouched 0 noLists)
   unfolding declaredCollected analysedCollected rowsCollected
@@ -160,7 +160,7 @@ module _ (x : Sections) (room : Room) (t : Bool) (section : List ℕ) where
   by-declared h q (some ds) d =
       (λ k e. ap (analysedCollected x room t (unitOf h section ds)) e, λ e. ap (analysedCollected x room t (unitOf h section ds)) e)
 
-  by-header : (o : HeaderRead) → headerOf (x .setting .«big_endian») section ≡ o
+  by-header : (o : HeaderRead) → headerBy x section ≡ o
       → ((k : ℕ) → analysisOf x section tables ≡ notAnalysed k → headerCollected x room t section o ≡ refused k)
       × (analysisOf x section tables ≡ analysed [] → headerCollected x room t section o ≡ untouched 0 noLists)
   unfolding headerCollected analysisOf headerAnalysed
@@ -174,13 +174,13 @@ module _ (x : Sections) (room : Room) (t : Bool) (section : List ℕ) where
 
   pub collected-refused : (k : ℕ) → unitMarks (analysisOf x section tables) ≡ NotMarked k → collectOf x room t section ≡ refused k
   unfolding collectOf
-  collected-refused k q = by-header (headerOf (x .setting .«big_endian») section) refl .0 k (marks-refused (analysisOf x section tables) k q)
+  collected-refused k q = by-header (headerBy x section) refl .0 k (marks-refused (analysisOf x section tables) k q)
 
   pub collected-none : (entries kept : ℕ) → unitMarks (analysisOf x section tables) ≡ Marked entries kept → entries ≡ 0 → collectOf x room t section ≡ untouched 0 noLists
   unfolding collectOf
   collected-none entries kept q z =
       let w : Counted (analysisOf x section tables) entries kept = marks-counted (analysisOf x section tables) entries kept q in
-      by-header (headerOf (x .setting .«big_endian») section) refl .1 (w .is ∙ ap (λ (rows : List EntryRow). analysed rows) (no-rows (w .rows) (sym z ∙ w .entries-are)))
+      by-header (headerBy x section) refl .1 (w .is ∙ ap (λ (rows : List EntryRow). analysed rows) (no-rows (w .rows) (sym z ∙ w .entries-are)))
 
   -- a unit that has entries
   pub record Marking (h : UnitHeader) (entries kept : ℕ) : Type 0 where
@@ -197,7 +197,7 @@ module _ (x : Sections) (room : Room) (t : Bool) (section : List ℕ) where
   of-rows h ds [] e = absurd (e refl)
   of-rows h ds (r ∷ rows) e = refl
 
-  marking-declared : (h : UnitHeader) → headerOf (x .setting .«big_endian») section ≡ Header′ h → (entries kept : ℕ) → Counted (analysisOf x section tables) entries kept → (entries ≡ 0 → ⊥)
+  marking-declared : (h : UnitHeader) → headerBy x section ≡ Header′ h → (entries kept : ℕ) → Counted (analysisOf x section tables) entries kept → (entries ≡ 0 → ⊥)
       → (o : Option (List Placed)) → abbreviationsOf (x .abbreviations) (h .abbreviations) ≡ o → Marking h entries kept
   unfolding collectOf headerCollected declaredCollected analysedCollected
   marking-declared h q entries kept w n none d =
@@ -217,7 +217,7 @@ module _ (x : Sections) (room : Room) (t : Bool) (section : List ℕ) where
             ∙ of-rows h ds (w .rows) (λ e. n (w .entries-are ∙ sym e));
       }
 
-  pub marking : (h : UnitHeader) → headerOf (x .setting .«big_endian») section ≡ Header′ h → (entries kept : ℕ) → unitMarks (analysisOf x section tables) ≡ Marked entries kept → (entries ≡ 0 → ⊥) → Marking h entries kept
+  pub marking : (h : UnitHeader) → headerBy x section ≡ Header′ h → (entries kept : ℕ) → unitMarks (analysisOf x section tables) ≡ Marked entries kept → (entries ≡ 0 → ⊥) → Marking h entries kept
   marking h q entries kept m n =
       marking-declared h q entries kept (marks-counted (analysisOf x section tables) entries kept m) n (abbreviationsOf (x .abbreviations) (h .abbreviations)) refl
 
@@ -298,7 +298,7 @@ module _ (x : Sections) (tables : Rooms) (t : Bool) (section : List ℕ) (task :
   no-entries q a e =
       nothing-answers _ _ _ _ _ _ _ _ _ _ _ _ q (let z : a ≡ answerFor (untouched 0 noLists) = cc in z) (b .map-blank) (b .ranges-blank) (b .locations-blank) (b .strings-blank) (b .out-blank)
 
-  by-task : (m : UnitMarks) → unitMarks (analysisOf x section tables) ≡ m → (o : HeaderRead) → headerOf (x .setting .«big_endian») section ≡ o → (a : Answer) → taskOf o m ≡ Done a → Answered a map ranges locations strings out
+  by-task : (m : UnitMarks) → unitMarks (analysisOf x section tables) ≡ m → (o : HeaderRead) → headerBy x section ≡ o → (a : Answer) → taskOf o m ≡ Done a → Answered a map ranges locations strings out
   unfolding taskOf headerTask
   by-task (NotMarked k) u o q a = no-unit k (collected-refused x room t section k u) a
   by-task (Marked n k) u Empty q a =
@@ -312,12 +312,12 @@ module _ (x : Sections) (tables : Rooms) (t : Bool) (section : List ℕ) (task :
       (λ y. no-entries (collected-none x room t section n k u (eqb-yes {a = n} {b = 0} y)) a) (λ y e. let z : _≡_ {A = ℕ} 0 1 = cc in absurd (omega arith))
 
   done-answers : (a : Answer) → task ≡ Done a → Answered a map ranges locations strings out
-  done-answers a e = by-task (unitMarks (analysisOf x section tables)) refl (headerOf (x .setting .«big_endian») section) refl a (sym (w .task-is) ∙ e)
+  done-answers a e = by-task (unitMarks (analysisOf x section tables)) refl (headerBy x section) refl a (sym (w .task-is) ∙ e)
 
   -- a unit that has entries
   module _ (h : UnitHeader) (entries kept : ℕ) (e : task ≡ Rewrite h entries kept) where
-    task-parts : (headerOf (x .setting .«big_endian») section ≡ Header′ h) × (unitMarks (analysisOf x section tables) ≡ Marked entries kept) × (entries ≡ 0 → ⊥)
-    task-parts = task-rewrite (headerOf (x .setting .«big_endian») section) (unitMarks (analysisOf x section tables)) h entries kept (sym (w .task-is) ∙ e)
+    task-parts : (headerBy x section ≡ Header′ h) × (unitMarks (analysisOf x section tables) ≡ Marked entries kept) × (entries ≡ 0 → ⊥)
+    task-parts = task-rewrite (headerBy x section) (unitMarks (analysisOf x section tables)) h entries kept (sym (w .task-is) ∙ e)
 
     marked : Marking x room t section h entries kept
     marked = marking x room t section h (task-parts .0) entries kept (task-parts .1) (task-parts .2)
@@ -327,7 +327,7 @@ module _ (x : Sections) (tables : Rooms) (t : Bool) (section : List ℕ) (task :
     tabled =
         record {
           abbreviations-are = w .abbreviations-are;
-          header-is = task-parts .0;
+          header-is = unit-listed x section h (task-parts .0) .0;
           declared-are = marked .declared-are;
           analysis-is = marked .analysis-is;
           index-is = w .index-is ∙ ap (λ (o : HeaderRead). indexAfter (x .abbreviations) o (length index)) (task-parts .0);
@@ -383,8 +383,8 @@ by-lengths f a map′ ranges′ locations′ strings′ out′ m m₀ r r₀ l l
 -- the answer for marked tables and cleared outputs
 pub unit-answers : (x : Sections) (tables : Rooms) (t : Bool) (section : List ℕ) (task : Task) (h : HeaderRead) (u : UnitMarks) (n p e k m r l s o : ℕ)
     (index parents ends marks map ranges locations strings out map′ ranges′ locations′ strings′ out′ : List ℕ) (a : Answer)
-    → task ≡ taskOf h u → h ≡ headerOf (x .setting .«big_endian») section → u ≡ unitMarks (analysisOf x section tables)
-    → index ≡ indexAfter (x .abbreviations) (headerOf (x .setting .«big_endian») section) n → length index ≡ n
+    → task ≡ taskOf h u → h ≡ headerBy x section → u ≡ unitMarks (analysisOf x section tables)
+    → index ≡ indexAfter (x .abbreviations) (headerBy x section) n → length index ≡ n
     → parents ≡ column parentsIn p (analysisOf x section tables) → length parents ≡ p
     → length ends ≡ e → tables .entries ≤ e
     → marks ≡ column marksIn k (analysisOf x section tables) → length marks ≡ k
@@ -400,7 +400,7 @@ unit-answers x tables t section task h u n p e k m r l s o index parents ends ma
     (record {
       abbreviations-are = refl;
       task-is = q ∙ ap₂ taskOf hq uq;
-      index-is = by-own (indexAfter (x .abbreviations) (headerOf (x .setting .«big_endian») section)) n index i il;
+      index-is = by-own (indexAfter (x .abbreviations) (headerBy x section)) n index i il;
       parents-are = by-own (λ (z : ℕ). column parentsIn z (analysisOf x section tables)) p parents ps pl;
       marks-are = by-own (λ (z : ℕ). column marksIn z (analysisOf x section tables)) k marks ms ml;
       ends-room = let g : tables .entries ≤ length ends = omega (arith, en) in g;

@@ -18,6 +18,7 @@ use Rattle.readers.proofs.Declarations.{find-plain}
 use Rattle.marking.specs.Analysis.{Sections, Rooms, EntryRow, analysed, unitAnalysed, headerAnalysed, analysisOf}
 use Rattle.marking.specs.Columns.{padTo, parentsIn}
 use Rattle.marking.proofs.Rows.{unit-rows}
+use Rattle.marking.proofs.ListedHeaders.{analysed-listed}
 use Rattle.marking.specs.Marks.{isKept, keptCount}
 use Rattle.marking.specs.Resolution.{marksIn}
 use Rattle.rewriting.specs.Places.{NestedItem, withIf, innermost, keptFrom}
@@ -118,7 +119,8 @@ module _ (x : Sections) (tables : Rooms) (section : List ℕ) (h : UnitHeader) (
 
   unit-analysed : unitAnalysed (h .encoding) x (take (h .end) section) tables (h .abbreviations) (h .first .0) ≡ analysed rows
   unfolding analysisOf headerAnalysed
-  unit-analysed = sym (ap (headerAnalysed x section tables) (w .header-is)) ∙ w .analysis-is
+  unit-analysed =
+      sym (ap (headerAnalysed x section tables) (analysed-listed x section tables rows (w .analysis-is) ∙ w .header-is)) ∙ w .analysis-is
 
   parents-there : HoldsFrom parents 0 (parentsFrom 0 [] (itemsIn x own))
   unfolding itemsIn

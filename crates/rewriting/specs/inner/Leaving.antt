@@ -13,7 +13,7 @@ use Rattle.readers.specs.Header.{lengthSize, headerOf}
 use Rattle.readers.specs.declared.header.UnitHeader.{UnitHeader}
 use Rattle.readers.specs.declared.header.HeaderRead.{HeaderRead}
 use Rattle.readers.specs.declared.header.HeaderRead.the-variants.{Unit as Header′, Empty, Refused as NoHeader}
-use Rattle.marking.specs.Analysis.{Sections, Rooms, rooms, EntryRow, analysed, analysisOf}
+use Rattle.marking.specs.Analysis.{Sections, Rooms, rooms, EntryRow, analysed, headerBy, analysisOf}
 use Rattle.marking.specs.Columns.{padTo, column, parentsIn, indexAfter}
 use Rattle.marking.specs.Marks.{keptCount}
 use Rattle.marking.specs.Resolution.{marksIn, unitMarks}
@@ -71,8 +71,8 @@ taskOf o (Marked entries kept) = pick (eqb entries 0) (Done (answerFor (untouche
 pub record MarkedTables (x : Sections) (tables : Rooms) (section : List ℕ) (task : Task)
     (abbreviations index parents ends marks : List ℕ) : Type 0 where
   pub abbreviations-are : x .abbreviations ≡ abbreviations
-  pub task-is : task ≡ taskOf (headerOf (x .setting .«big_endian») section) (unitMarks (analysisOf x section tables))
-  pub index-is : index ≡ indexAfter (x .abbreviations) (headerOf (x .setting .«big_endian») section) (length index)
+  pub task-is : task ≡ taskOf (headerBy x section) (unitMarks (analysisOf x section tables))
+  pub index-is : index ≡ indexAfter (x .abbreviations) (headerBy x section) (length index)
   pub parents-are : parents ≡ column parentsIn (length parents) (analysisOf x section tables)
   pub marks-are : marks ≡ column marksIn (length marks) (analysisOf x section tables)
   pub ends-room : tables .entries ≤ length ends

@@ -2,6 +2,7 @@
 use mathlib.Core.Path.{sym, _∙_}
 use lib.ListN.{length}
 use borrow.Author.Needs.{needs}
+use Rattle.marking.specs.Analysis.{headerBy}
 use Rattle.marking.proofs.UnitAnalyses.{rooms-by, found-by, unit-ready, section-answered, section-unit}
 use Rattle.marking.proofs.analysis.analyse.Statement.{statement}
 use Rattle.marking.proofs.analysis.analyse.Tie as tie
@@ -10,13 +11,13 @@ use Rattle.marking.proofs.analysis.analyse.Tie as tie
 abbrev cleared : tie.After-find-unit → tie.After-clear-columns
 cleared c = c .before .before .before .before .before .before .before .before .before .before .before .before
 
-abbrev header-read : tie.After-find-unit → tie.After-unit-header
+abbrev header-read : tie.After-find-unit → tie.After-listed-header
 header-read c =
     c .before .before .before .before .before .before .before .before .before .before .before .before .before
     .before .before .before .before .before
 
 abbrev start : tie.After-find-unit → tie.Start
-start c = header-read c .before .before .before .before .before .before .before .before .before .before .before .before .before
+start c = header-read c .before .before .before .before .before .before .before .before .before .before .before .before .before .before .before
 
 abbrev found-none : tie.After-known-told → tie.After-find-unit
 found-none c = c .before .before .before .before .before
@@ -39,8 +40,8 @@ unit-call c = c .before .before .before .before .before .before .before .before 
 abbrev unit-args : tie.After-slice-known17 → tie.After-analyse-unit-arg6
 unit-args c = unit-call c .before
 
-unit-header-requires : tie.Need-unit-header-requires
-unit-header-requires c κs = tt
+listed-header-requires : tie.Need-listed-header-requires
+listed-header-requires c κs = tt
 
 clear-columns-requires : tie.Need-clear-columns-requires
 clear-columns-requires c κs = tt
@@ -64,8 +65,8 @@ analyse-unit-requires : tie.Need-analyse-unit-requires
 analyse-unit-requires c κs =
     let s = start (found-unit c) in
     let f =
-    found-by _ _ _ _ _ _ (sym (header-read (found-unit c) .unit-header .ensures)) (found-unit c .find-unit .ensures) in
-    unit-ready _ _ _ _ _ _
+    found-by _ _ _ _ _ _ (sym (header-read (found-unit c) .listed-header .ensures)) (found-unit c .find-unit .ensures) in
+    unit-ready _ _ _ _ _ _ _
     (length (s .args .offsets .now)) (length (s .args .parents .now)) (length (s .args .roots .now))
     (length (s .args .reference-ends .now)) (length (s .args .targets .now)) _ _ _ _ _
     (sym (found-header c .h .given .1) ∙ f .0) (f .1) (record { rows = entries-room c .entry-room .ensures; names = references-room c .least-of .ensures })
@@ -90,8 +91,9 @@ same-length-6 : tie.Need-same-length-6
 same-length-6 c = cleared (found-none c) .clear-columns .kept .1 .1 .1 .1 .0
 
 returns : tie.Need-returns
+unfolding headerBy
 returns c =
-    let u = header-read (found-none c) .unit-header .ensures in
+    let u = header-read (found-none c) .listed-header .ensures in
     let f = found-by _ _ _ _ _ _ (sym u) (found-none c .find-unit .ensures) in
     let a =
     section-answered _ _ _ _ _ _ _ _ _ _ _ _ _ _ _ (f .1) (cleared (found-none c) .clear-columns .ensures) _
@@ -127,8 +129,9 @@ same-length-12 c =
     ∙ cleared (found-unit (unit-args c)) .clear-columns .kept .1 .1 .1 .1 .0
 
 returns-2 : tie.Need-returns-2
+unfolding headerBy
 returns-2 c =
-    let u = header-read (found-unit (unit-args c)) .unit-header .ensures in
+    let u = header-read (found-unit (unit-args c)) .listed-header .ensures in
     let f = found-by _ _ _ _ _ _ (sym u) (found-unit (unit-args c) .find-unit .ensures) in
     let k = cleared (found-unit (unit-args c)) .clear-columns .kept in
     let a =
@@ -142,7 +145,7 @@ pub analyse-spec : {M : Type 1} → statement M
 analyse-spec =
     tie.close
     (tie.spec
-    unit-header-requires
+    listed-header-requires
     clear-columns-requires
     find-unit-requires
     enum-known-analysis

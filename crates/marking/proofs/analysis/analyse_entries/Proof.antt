@@ -5,6 +5,7 @@ use native.Mathlib.Omega.{arith}
 use borrow.Author.Needs.{needs}
 use lib.ListN.{length}
 use Rattle.readers.specs.Abbreviations.{findAt}
+use Rattle.marking.specs.KeepList.{keepIn}
 use Rattle.marking.specs.Analysis.{sections, rooms, unitAnalysed, valuesOfEntry, baseOf}
 use Rattle.marking.proofs.EntryAnswers.{length-entry-table}
 use Rattle.readers.proofs.Streams.{terminator-inside}
@@ -14,13 +15,13 @@ use Rattle.marking.proofs.analysis.analyse_entries.Statement.{statement
 use Rattle.marking.proofs.analysis.analyse_entries.Tie as tie
 
 abbrev Inv-loop : tie.InvT-loop
-Inv-loop unit abbreviations from index e locations ranges addresses setting entry-room reference-room offsets₀ parents₀ roots₀ ends₀ targets₀ c₀ count₀ to₀ nesting₀ rnglists-base₀ loclists-base₀ offsets parents roots ends targets c count to nesting rnglists-base loclists-base =
-    Stage e (sections abbreviations locations ranges addresses ranges setting) unit (rooms entry-room reference-room) (findAt abbreviations from index)
-    (unitAnalysed e (sections abbreviations locations ranges addresses ranges setting) unit (rooms entry-room reference-room) from (c₀ .at))
+Inv-loop unit abbreviations from index e locations ranges addresses setting entry-room reference-room offsets₀ parents₀ roots₀ ends₀ targets₀ tags treatments c₀ count₀ to₀ nesting₀ rnglists-base₀ loclists-base₀ offsets parents roots ends targets c count to nesting rnglists-base loclists-base =
+    Stage e (sections abbreviations locations ranges addresses ranges (keepIn tags treatments) setting) unit (rooms entry-room reference-room) (findAt abbreviations from index)
+    (unitAnalysed e (sections abbreviations locations ranges addresses ranges (keepIn tags treatments) setting) unit (rooms entry-room reference-room) from (c₀ .at))
     offsets₀ parents₀ roots₀ ends₀ targets₀ offsets parents roots ends targets (c .at) count to nesting rnglists-base loclists-base
 
 abbrev μ-loop : tie.MeasureT-loop
-μ-loop unit abbreviations from index e locations ranges addresses setting entry-room reference-room offsets₀ parents₀ roots₀ ends₀ targets₀ c₀ count₀ to₀ nesting₀ rnglists-base₀ loclists-base₀ offsets parents roots ends targets c count to nesting rnglists-base loclists-base =
+μ-loop unit abbreviations from index e locations ranges addresses setting entry-room reference-room offsets₀ parents₀ roots₀ ends₀ targets₀ tags treatments c₀ count₀ to₀ nesting₀ rnglists-base₀ loclists-base₀ offsets parents roots ends targets c count to nesting rnglists-base loclists-base =
     length unit - c .at
 
 outside-requires : tie.Need-outside-requires Inv-loop μ-loop
@@ -35,8 +36,8 @@ list-base-requires-2 c κs = tt
 loop-holds : tie.Need-loop-holds Inv-loop μ-loop
 loop-holds c =
     stage-start _ _ _ _ _ _ _ _ _ _ _ _ _ _ _ (c .before .before .outside .ensures) (c .before .list-base .ensures) (c .list-base2 .ensures)
-    (c .before .before .before .before .before .before .before .before .before .before .before .before .before .before .good .1 .1 .1 .1 .1 .1 .1 .1 .1 .1 .1 .1 .0 .1)
-    (c .before .before .before .before .before .before .before .before .before .before .before .before .before .before .pre)
+    (c .before .before .before .before .before .before .before .before .before .before .before .before .before .before .before .before .good .1 .1 .1 .1 .1 .1 .1 .1 .1 .1 .1 .1 .0 .1)
+    (c .before .before .before .before .before .before .before .before .before .before .before .before .before .before .before .before .pre)
 
 entry-head-requires : tie.Need-entry-head-requires Inv-loop μ-loop
 entry-head-requires c κs = tt
@@ -72,7 +73,7 @@ base-after-requires-2 : tie.Need-base-after-requires-2 Inv-loop μ-loop
 base-after-requires-2 c κs = tt
 
 analyse-entry-requires : tie.Need-analyse-entry-requires Inv-loop μ-loop
-analyse-entry-requires c κs = tt
+analyse-entry-requires c κs = c .before .before .before .before .before .before .before .before .before .before .before .before .before .before .before .before .before .before .before .before .before .before .before .before .before .before .before .before .before .pre .listed
 
 enum-known-n : tie.Need-enum-known-n Inv-loop μ-loop
 enum-known-n c = search needs
@@ -164,7 +165,7 @@ after-terminator-requires : tie.Need-after-terminator-requires Inv-loop μ-loop
 after-terminator-requires c κs = tt
 
 loop-less-2 : tie.Need-loop-less-2 Inv-loop μ-loop
-loop-less-2 c = let a = terminator-inside (c .before .before .before .before .before .before .before .before .before .before .before .before .before .before .before .before .before .before .before .before .before .args .e) _ _ _ _ _ (sym (headed-terminator (c .before .before .before .before .before .before .before .before .before .before .before .before .before .before .before .before .before .before .before .before .before .args .e) _ _ _ _ _ (entry-headed _ _ _ _ _ _ _ (c .before .before .before .before .before .entry-head .ensures)) _ (c .before .before .before .next .given .1))) in omega (arith, a .0, a .1)
+loop-less-2 c = let a = terminator-inside (c .before .before .before .before .before .before .before .before .before .before .before .before .before .before .before .before .before .before .before .before .before .before .before .args .e) _ _ _ _ _ (sym (headed-terminator (c .before .before .before .before .before .before .before .before .before .before .before .before .before .before .before .before .before .before .before .before .before .before .before .args .e) _ _ _ _ _ (entry-headed _ _ _ _ _ _ _ (c .before .before .before .before .before .entry-head .ensures)) _ (c .before .before .before .next .given .1))) in omega (arith, a .0, a .1)
 
 loop-again-2 : tie.Need-loop-again-2 Inv-loop μ-loop
 loop-again-2 c = stage-terminator (c .before .before .before .before .before .before .loop .inv) _ (headed-terminator _ _ _ _ _ _ (entry-headed _ _ _ _ _ _ _ (c .before .before .before .before .before .entry-head .ensures)) _ (c .before .before .before .next .given .1)) _ (c .after-terminator .ensures)

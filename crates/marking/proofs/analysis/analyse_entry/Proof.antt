@@ -2,14 +2,14 @@
 use mathlib.Core.Path.{sym, _∙_}
 use mathlib.Core.Logic.{⊎-elim}
 use borrow.Author.Needs.{needs}
-use Rattle.marking.specs.Analysis.{valuesOfEntry, rootOf, namesOf}
+use Rattle.marking.specs.Analysis.{valuesOfEntry, testOf, rootOf, namesOf}
 use Rattle.marking.proofs.RangeSections.{rooted}
 use Rattle.marking.proofs.EntryAnswers.{no-root, judged-live, judged-dead, row-found, row-unread, row-refused}
 use Rattle.marking.proofs.analysis.analyse_entry.Statement.{statement}
 use Rattle.marking.proofs.analysis.analyse_entry.Tie as tie
 
-is-root-requires : tie.Need-is-root-requires
-is-root-requires c κs = search needs
+root-of-requires : tie.Need-root-of-requires
+root-of-requires c κs = search needs
 
 enum-told : tie.Need-enum-told
 enum-told c = search needs
@@ -24,8 +24,8 @@ refusal-requires : tie.Need-refusal-requires
 refusal-requires c κs = search needs
 
 returns : tie.Need-returns
-unfolding valuesOfEntry rootOf namesOf
-returns c = no-root _ _ _ _ _ _ _ (sym (rooted _ _ _ _ _ _ _ _ _ _ (c .before .before .before .before .is-root .ensures)) ∙ c .before .before .n .given .1) (c .refusal .ensures)
+unfolding valuesOfEntry testOf rootOf namesOf
+returns c = no-root _ _ _ _ _ _ _ (sym (rooted _ _ _ _ _ _ _ _ _ _ _ (c .before .before .before .before .root-of .ensures)) ∙ c .before .before .n .given .1) (c .refusal .ensures)
 
 scan-live-die-attrs-requires : tie.Need-scan-live-die-attrs-requires
 scan-live-die-attrs-requires c κs = search needs
@@ -49,28 +49,28 @@ same-length : tie.Need-same-length
 same-length c = search needs
 
 returns-2 : tie.Need-returns-2
-unfolding valuesOfEntry rootOf namesOf
-returns-2 c = row-found _ _ _ _ _ _ (⊎-elim (λ w. judged-live _ _ (sym (rooted _ _ _ _ _ _ _ _ _ _ (c .before .before .before .before .before .before .before .before .before .before .before .is-root .ensures)) ∙ w .1 .given .1) (w .2)) (λ w. judged-dead _ _ (sym (rooted _ _ _ _ _ _ _ _ _ _ (c .before .before .before .before .before .before .before .before .before .before .before .is-root .ensures)) ∙ w .1 .given .1) (w .2)) (c .before .before .before .before .before .before .before .before .before .before .match .came)) _ (c .before .before .before .before .before .before .before .before .scan-live-die-attrs .ensures .1) _ _ (sym (c .before .before .before .before .place .given .1) ∙ c .before .before .before .before .before .before .before .before .scan-live-die-attrs .ensures .0) _ (c .before .end .given .1)
+unfolding valuesOfEntry testOf rootOf namesOf
+returns-2 c = row-found _ _ _ _ _ _ (⊎-elim (λ w. judged-live _ _ (sym (rooted _ _ _ _ _ _ _ _ _ _ _ (c .before .before .before .before .before .before .before .before .before .before .before .root-of .ensures)) ∙ w .1 .given .1) (w .2)) (λ w. judged-dead _ _ (sym (rooted _ _ _ _ _ _ _ _ _ _ _ (c .before .before .before .before .before .before .before .before .before .before .before .root-of .ensures)) ∙ w .1 .given .1) (w .2)) (c .before .before .before .before .before .before .before .before .before .before .match .came)) _ (c .before .before .before .before .before .before .before .before .scan-live-die-attrs .ensures .1) _ _ (sym (c .before .before .before .before .place .given .1) ∙ c .before .before .before .before .before .before .before .before .scan-live-die-attrs .ensures .0) _ (c .before .end .given .1)
 
 same-length-2 : tie.Need-same-length-2
 same-length-2 c = search needs
 
 returns-3 : tie.Need-returns-3
-unfolding valuesOfEntry rootOf namesOf
-returns-3 c = row-unread _ _ _ _ _ _ (⊎-elim (λ w. judged-live _ _ (sym (rooted _ _ _ _ _ _ _ _ _ _ (c .before .before .before .before .before .before .before .before .before .before .is-root .ensures)) ∙ w .1 .given .1) (w .2)) (λ w. judged-dead _ _ (sym (rooted _ _ _ _ _ _ _ _ _ _ (c .before .before .before .before .before .before .before .before .before .before .is-root .ensures)) ∙ w .1 .given .1) (w .2)) (c .before .before .before .before .before .before .before .before .before .match .came)) _ (c .before .before .before .before .before .before .before .scan-live-die-attrs .ensures .1) _ _ (sym (c .before .before .before .place .given .1) ∙ c .before .before .before .before .before .before .before .scan-live-die-attrs .ensures .0) (c .enum-told3 .given .1)
+unfolding valuesOfEntry testOf rootOf namesOf
+returns-3 c = row-unread _ _ _ _ _ _ (⊎-elim (λ w. judged-live _ _ (sym (rooted _ _ _ _ _ _ _ _ _ _ _ (c .before .before .before .before .before .before .before .before .before .before .root-of .ensures)) ∙ w .1 .given .1) (w .2)) (λ w. judged-dead _ _ (sym (rooted _ _ _ _ _ _ _ _ _ _ _ (c .before .before .before .before .before .before .before .before .before .before .root-of .ensures)) ∙ w .1 .given .1) (w .2)) (c .before .before .before .before .before .before .before .before .before .match .came)) _ (c .before .before .before .before .before .before .before .scan-live-die-attrs .ensures .1) _ _ (sym (c .before .before .before .place .given .1) ∙ c .before .before .before .before .before .before .before .scan-live-die-attrs .ensures .0) (c .enum-told3 .given .1)
 
 same-length-3 : tie.Need-same-length-3
 same-length-3 c = search needs
 
 returns-4 : tie.Need-returns-4
-unfolding valuesOfEntry rootOf namesOf
-returns-4 c = row-refused _ _ _ _ _ _ (⊎-elim (λ w. judged-live _ _ (sym (rooted _ _ _ _ _ _ _ _ _ _ (c .before .before .before .before .before .before .before .before .before .is-root .ensures)) ∙ w .1 .given .1) (w .2)) (λ w. judged-dead _ _ (sym (rooted _ _ _ _ _ _ _ _ _ _ (c .before .before .before .before .before .before .before .before .before .is-root .ensures)) ∙ w .1 .given .1) (w .2)) (c .before .before .before .before .before .before .before .before .match .came)) _ (c .before .before .before .before .before .before .scan-live-die-attrs .ensures .1) _ _ (sym (c .before .before .n2 .given .1) ∙ c .before .before .before .before .before .before .scan-live-die-attrs .ensures .0) (c .refusal2 .ensures)
+unfolding valuesOfEntry testOf rootOf namesOf
+returns-4 c = row-refused _ _ _ _ _ _ (⊎-elim (λ w. judged-live _ _ (sym (rooted _ _ _ _ _ _ _ _ _ _ _ (c .before .before .before .before .before .before .before .before .before .root-of .ensures)) ∙ w .1 .given .1) (w .2)) (λ w. judged-dead _ _ (sym (rooted _ _ _ _ _ _ _ _ _ _ _ (c .before .before .before .before .before .before .before .before .before .root-of .ensures)) ∙ w .1 .given .1) (w .2)) (c .before .before .before .before .before .before .before .before .match .came)) _ (c .before .before .before .before .before .before .scan-live-die-attrs .ensures .1) _ _ (sym (c .before .before .n2 .given .1) ∙ c .before .before .before .before .before .before .scan-live-die-attrs .ensures .0) (c .refusal2 .ensures)
 
 pub analyse-entry-spec : {M : Type 1} → statement M
 analyse-entry-spec =
     tie.close
     (tie.spec
-    is-root-requires
+    root-of-requires
     enum-told
     enum-told-2
     enum-known-n

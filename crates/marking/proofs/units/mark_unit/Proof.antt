@@ -33,7 +33,7 @@ abbrev pairs-cleared : tie.After-analyse → tie.After-clear
 pairs-cleared c = marks-cleared c .before .before .before .before
 
 abbrev start : tie.After-analyse → tie.Start
-start c = pairs-cleared c .before .before .before .before .before .before .before .before .before .before .before .before .before .before .before .before .before
+start c = pairs-cleared c .before .before .before .before .before .before .before .before .before .before .before .before .before .before .before .before .before .before .before
 
 clear-requires : tie.Need-clear-requires
 clear-requires c κs = tt
@@ -56,7 +56,7 @@ enum-known-analysis-2 c = search needs
 mark-rows-requires : tie.Need-mark-rows-requires
 mark-rows-requires c κs =
     let a = analysis-call c in
-    let k = a .analyse .kept .1 .1 .1 .1 .1 .1 .1 .1 .1 .1 in
+    let k = a .analyse .kept .1 .1 .1 .1 .1 .1 .1 .1 .1 .1 .1 .1 in
     unit-markable _ _ (length (start a .args .marks .now)) (length (start a .args .pairs .now)) _ _ _ _ _ _ _ _ _ _ _ _ _ _
     (marks-cleared a .clear-bytes .ensures) (pairs-cleared a .clear .ensures)
     (k .0) (k .1 .0) (k .1 .1 .0) (k .1 .1 .1 .0) (k .1 .1 .1 .1 .0) _ _
@@ -130,7 +130,7 @@ same-length-18 c = rows-call c .mark-rows .kept .1 .1 .1 .1 .1 .1 .1 .1 .0 ∙ w
 returns-2 : tie.Need-returns-2
 returns-2 c =
     let a = analysis-call (rows-call c .before) in
-    let k = a .analyse .kept .1 .1 .1 .1 .1 .1 .1 .1 .1 .1 in
+    let k = a .analyse .kept .1 .1 .1 .1 .1 .1 .1 .1 .1 .1 .1 .1 in
     let m = rows-call c .mark-rows .ensures in
     let w =
     with-last

@@ -37,31 +37,31 @@ outputs-call c =
     .before .before .before .before .before .before .before
 
 same-length : tie.Need-same-length
-same-length c = marks-call c .mark-unit .kept .1 .1 .1 .1 .1 .1 .1 .0
+same-length c = marks-call c .mark-unit .kept .1 .1 .1 .1 .1 .1 .1 .1 .1 .0
 
 same-length-2 : tie.Need-same-length-2
-same-length-2 c = marks-call c .mark-unit .kept .1 .1 .1 .1 .1 .1 .1 .1 .0
+same-length-2 c = marks-call c .mark-unit .kept .1 .1 .1 .1 .1 .1 .1 .1 .1 .1 .0
 
 same-length-3 : tie.Need-same-length-3
-same-length-3 c = marks-call c .mark-unit .kept .1 .1 .1 .1 .1 .1 .1 .1 .1 .0
+same-length-3 c = marks-call c .mark-unit .kept .1 .1 .1 .1 .1 .1 .1 .1 .1 .1 .1 .0
 
 same-length-4 : tie.Need-same-length-4
-same-length-4 c = marks-call c .mark-unit .kept .1 .1 .1 .1 .1 .1 .1 .1 .1 .1 .0
+same-length-4 c = marks-call c .mark-unit .kept .1 .1 .1 .1 .1 .1 .1 .1 .1 .1 .1 .1 .0
 
 same-length-5 : tie.Need-same-length-5
-same-length-5 c = marked-call c .collect-marked .kept .1 .1 .1 .1 .1 .0 ∙ marks-call c .mark-unit .kept .1 .1 .1 .1 .1 .1 .1 .1 .1 .1 .1 .0
+same-length-5 c = marked-call c .collect-marked .kept .1 .1 .1 .1 .1 .0 ∙ marks-call c .mark-unit .kept .1 .1 .1 .1 .1 .1 .1 .1 .1 .1 .1 .1 .1 .0
 
 same-length-6 : tie.Need-same-length-6
-same-length-6 c = marks-call c .mark-unit .kept .1 .1 .1 .1 .1 .1 .1 .1 .1 .1 .1 .1 .0
+same-length-6 c = marks-call c .mark-unit .kept .1 .1 .1 .1 .1 .1 .1 .1 .1 .1 .1 .1 .1 .1 .0
 
 same-length-7 : tie.Need-same-length-7
-same-length-7 c = marks-call c .mark-unit .kept .1 .1 .1 .1 .1 .1 .1 .1 .1 .1 .1 .1 .1 .0
+same-length-7 c = marks-call c .mark-unit .kept .1 .1 .1 .1 .1 .1 .1 .1 .1 .1 .1 .1 .1 .1 .1 .0
 
 same-length-8 : tie.Need-same-length-8
-same-length-8 c = marks-call c .mark-unit .kept .1 .1 .1 .1 .1 .1 .1 .1 .1 .1 .1 .1 .1 .1 .0
+same-length-8 c = marks-call c .mark-unit .kept .1 .1 .1 .1 .1 .1 .1 .1 .1 .1 .1 .1 .1 .1 .1 .1 .0
 
 same-length-9 : tie.Need-same-length-9
-same-length-9 c = marked-call c .collect-marked .kept .1 .1 .1 .1 .1 .1 .1 .1 .0 ∙ marks-call c .mark-unit .kept .1 .1 .1 .1 .1 .1 .1 .1 .1 .1 .1 .1 .1 .1 .1 .0
+same-length-9 c = marked-call c .collect-marked .kept .1 .1 .1 .1 .1 .1 .1 .1 .0 ∙ marks-call c .mark-unit .kept .1 .1 .1 .1 .1 .1 .1 .1 .1 .1 .1 .1 .1 .1 .1 .1 .1 .0
 
 same-length-10 : tie.Need-same-length-10
 same-length-10 c = marked-call c .collect-marked .kept .1 .1 .1 .1 .1 .1 .1 .1 .1 .0 ∙ outputs-call c .clear-outputs .kept .0
@@ -83,8 +83,8 @@ returns c =
     let m = marks-call c .mark-unit in
     let o = outputs-call c .clear-outputs in
     unit-answers _ _ _ _ _ _ _ _ _ _ _ _ _ _ _ _ _ _ _ _ _ _ _ _ _ _ _ _ _ _ _
-    (task-call c .task-of .ensures) (m .ensures .0 .0) (m .ensures .0 .1) (m .ensures .1 .0) (m .kept .1 .1 .1 .1 .1 .1 .1 .0) (m .ensures .1 .1 .1 .0) (m .kept .1 .1 .1 .1 .1 .1 .1 .1 .1 .0)
-    (m .kept .1 .1 .1 .1 .1 .1 .1 .1 .1 .1 .1 .0) (ends-enough _ _ _ _ _ _ _) (m .ensures .1 .1 .1 .1 .1 .1 .0) (m .kept .1 .1 .1 .1 .1 .1 .1 .1 .1 .1 .1 .1 .0)
+    (task-call c .task-of .ensures) (m .ensures .0 .0) (m .ensures .0 .1) (m .ensures .1 .0) (m .kept .1 .1 .1 .1 .1 .1 .1 .1 .1 .0) (m .ensures .1 .1 .1 .0) (m .kept .1 .1 .1 .1 .1 .1 .1 .1 .1 .1 .1 .0)
+    (m .kept .1 .1 .1 .1 .1 .1 .1 .1 .1 .1 .1 .1 .1 .0) (ends-enough _ _ _ _ _ _ _) (m .ensures .1 .1 .1 .1 .1 .1 .0) (m .kept .1 .1 .1 .1 .1 .1 .1 .1 .1 .1 .1 .1 .1 .1 .0)
     (o .ensures .0) (o .kept .0)
     (o .ensures .1 .0) (o .kept .1 .0)
     (o .ensures .1 .1 .0) (o .kept .1 .1 .0)
