@@ -95,16 +95,16 @@ pub record SameButRoots (a b : Analysed) : Type 0 where
   pub refusals : (n : ℕ) → a ≡ notAnalysed n → b ≡ notAnalysed n
   pub entries : (rows : List EntryRow) → a ≡ analysed rows → AlsoAnalysed rows b
 
--- two lists have the same treatment for the tag of each entry of a section's first unit
-abbrev pub TreatAlike : Sections → List ℕ → KeepList → KeepList → Type 0
-TreatAlike x section one other =
+-- what holds of each entry of a section's first unit
+abbrev pub EachEntry : Sections → List ℕ → (Entry → Type 0) → Type 0
+EachEntry x section P =
     (h : UnitHeader) (ds : List Placed) → headerOf (x .setting .«big_endian») section ≡ Unit′ h
     → abbreviationsOf (x .abbreviations) (h .abbreviations) ≡ some ds → (k : ℕ) (y : Entry)
-    → EntryAt y k (unitItems x section h ds .0) → treatmentOf one (tagOf y) ≡ treatmentOf other (tagOf y)
+    → EntryAt y k (unitItems x section h ds .0) → P y
 
--- a list has the tag of none of them
+-- two lists have the same treatment for the tag of each of them, and a list has the tag of none
+abbrev pub TreatAlike : Sections → List ℕ → KeepList → KeepList → Type 0
+TreatAlike x section one other = EachEntry x section (λ y. treatmentOf one (tagOf y) ≡ treatmentOf other (tagOf y))
+
 abbrev pub ListsNone : Sections → List ℕ → KeepList → Type 0
-ListsNone x section keep =
-    (h : UnitHeader) (ds : List Placed) → headerOf (x .setting .«big_endian») section ≡ Unit′ h
-    → abbreviationsOf (x .abbreviations) (h .abbreviations) ≡ some ds → (k : ℕ) (y : Entry)
-    → EntryAt y k (unitItems x section h ds .0) → (treatment : ℕ) → Treats keep (tagOf y) treatment → ⊥
+ListsNone x section keep = EachEntry x section (λ y. (k : ℕ) → Treats keep (tagOf y) k → ⊥)

@@ -974,7 +974,9 @@ fn main() {
         eprintln!("{USAGE}");
         std::process::exit(2)
     };
-    let mut options = Options { seed: 1, count: 1000, threads: 2, blocks: false, quiet: false, save: "different".to_string(), only_fixed: false, only_lists: false };
+    let save = "different".to_string();
+    let mut options =
+        Options { seed: 1, count: 1000, threads: 2, blocks: false, quiet: false, save, only_fixed: false, only_lists: false };
     let mut families: Vec<String> = Vec::new();
     let mut given: [Vec<Parts>; LAYOUTS.len()] = Default::default();
     let (mut only_wide, mut only_older) = (false, false);

@@ -12,14 +12,14 @@ use Rattle.marking.specs.declared.root_test.Verdict.{Verdict}
 use Rattle.marking.specs.declared.root_test.Verdict.the-variants.{Live, Dead, Refused}
 use Rattle.marking.specs.Survivors.{Survivor}
 use Rattle.marking.specs.Analysis.{Sections, Rooms, EntryRow, analysed, analysisOf, rootOf}
-use Rattle.marking.specs.EntryRows.{Tested, unitItems}
+use Rattle.marking.specs.EntryRows.{unitItems}
 use Rattle.marking.specs.Resolution.{graphOf}
 use Rattle.laws.specs.AddressTables.{withFixed, NoneLost}
 use Rattle.laws.specs.FixedAddresses.{FixedVariable}
 use Rattle.laws.specs.UnitSurvivors.{FirstUnit, EntryAt}
 use Rattle.laws.specs.KeepLists.{Treats}
 use Rattle.laws.proofs.survivors.UnitLaws.{unit-survivors}
-use Rattle.laws.proofs.survivors.RowsAt.{RowAt, row-at}
+use Rattle.laws.proofs.survivors.RowsAt.{RowAt, row-at, not-dead-root}
 use Rattle.laws.proofs.tables.BySeveralTables.{Verdicts}
 use Rattle.laws.proofs.tables.LiveVerdicts.{Held, held-live, held-same, held-else}
 use Rattle.laws.proofs.tables.NoneLost.{all-kept}
@@ -31,11 +31,6 @@ use Rattle.readers.specs.Codes.{«DW_TAG_variable»}
 use Rattle.laws.proofs.keep.Treatments.{treatment-listed}
 
 -- ---- the variables
-
--- a row of an entry that is not dead is that of a root
-not-dead-root : (v : Verdict) (root : ℕ) → Tested v root → (v ≡ Dead → ⊥) → root ≡ 1
-not-dead-root v root (inl q) n = q .1
-not-dead-root v root (inr q) n = absurd (n (q .0))
 
 -- a verdict that is not dead is not made so but by treatment 2
 not-dead-treated : (k : ℕ) (v : Verdict) → (k ≡ neverRoot → ⊥) → (v ≡ Dead → ⊥) → treated k v ≡ Dead → ⊥

@@ -4,23 +4,23 @@ use mathlib.Core.Path.{_≡_, sym, _∙_, subst}
 use Prim.Native.Nat.{ℕ, _<_}
 use native.Mathlib.Omega.{arith}
 use mathlib.Core.List.{List}
-use mathlib.Core.Logic.{_↔_, inl, inr}
+use mathlib.Core.Logic.{_↔_}
 use lib.ListN.{take}
 use Rattle.readers.specs.Codes.{«DW_AT_rnglists_base»}
 use Rattle.readers.specs.declared.entries.Entry.{Entry}
 use Rattle.marking.specs.declared.root_test.Verdict.{Verdict}
-use Rattle.marking.specs.declared.root_test.Verdict.the-variants.{Live, Dead, Refused}
+use Rattle.marking.specs.declared.root_test.Verdict.the-variants.{Live}
 use Rattle.marking.specs.KeepList.{alwaysRoot, neverRoot}
 use Rattle.marking.specs.Survivors.{Survivor, first, root, parent, named, under-root, under-named}
 use Rattle.marking.specs.Analysis.{Sections, Rooms, EntryRow, analysed, tagOf, testOf, rootOf, baseOf, analysisOf}
-use Rattle.marking.specs.EntryRows.{Tested, unitItems}
+use Rattle.marking.specs.EntryRows.{unitItems}
 use Rattle.marking.specs.Resolution.{graphOf}
 use Rattle.laws.specs.KeepLists.{Treats, Decided, TreatedBy, KeptThrough, as-first, as-parent, by-reference, below-root, below-named}
 use Rattle.laws.specs.UnitSurvivors.{RootIn, FirstUnit, EntryAt, SurvivorsOf}
 use Rattle.laws.proofs.survivors.UnitLaws.{unit-survivors}
 use Rattle.laws.proofs.survivors.GraphLaws.{nth-root}
 use Rattle.laws.proofs.survivors.MarkingSteps.{below-out}
-use Rattle.laws.proofs.survivors.RowsAt.{RowAt, row-at}
+use Rattle.laws.proofs.survivors.RowsAt.{RowAt, row-at, live-not-dead, not-dead-root, dead-no-root, tested-decided}
 use Rattle.laws.proofs.keep.Treatments.{treatment-law}
 use Rattle.marking.proofs.ListedHeaders.{analysed-taken}
 
@@ -28,21 +28,6 @@ use Rattle.marking.proofs.ListedHeaders.{analysed-taken}
 
 not-both : (r : ℕ) → r ≡ 0 → r ≡ 1 → ⊥
 not-both r p q = omega arith
-
-live-not-dead : Live ≡ Dead → ⊥
-live-not-dead q = let z : _≡_ {A = ℕ} 0 1 = cc in omega arith
-
-refused-untested : (v : Verdict) (r n : ℕ) → Tested v r → v ≡ Refused n → ⊥
-refused-untested v r n (inl t) q = let p : Live ≡ Refused n = sym (t .0) ∙ q in let z : _≡_ {A = ℕ} 0 1 = cc in omega arith
-refused-untested v r n (inr t) q = let p : Dead ≡ Refused n = sym (t .0) ∙ q in let z : _≡_ {A = ℕ} 0 1 = cc in omega arith
-
-root-live : (v : Verdict) (r : ℕ) → Tested v r → v ≡ Live → r ≡ 1
-root-live v r (inl t) q = t .1
-root-live v r (inr t) q = absurd (live-not-dead (sym q ∙ t .0))
-
-root-dead : (v : Verdict) (r : ℕ) → Tested v r → v ≡ Dead → r ≡ 0
-root-dead v r (inl t) q = absurd (live-not-dead (sym (t .0) ∙ q))
-root-dead v r (inr t) q = t .1
 
 module _ (x : Sections) (section : List ℕ) (room : Rooms) (rows : List EntryRow) (analysis : analysisOf x section room ≡ analysed rows)
     (u : FirstUnit x section rows) (k : ℕ) (y : Entry) (at : EntryAt y k (unitItems x section (u .header) (u .declared) .0)) where
@@ -65,18 +50,20 @@ module _ (x : Sections) (section : List ℕ) (room : Rooms) (rows : List EntryRo
   by-list = treatment-law (u .header .encoding) x unit base y (analysed-taken x section room rows analysis)
 
   decided : Decided test
-  decided n q = refused-untested _ _ n (own .of .root-is) (by-list .refused n q)
+  decided n q = tested-decided _ _ (own .of .root-is) n (by-list .refused n q)
 
   -- THE entries that are always roots: each is one, so it survives
   pub always-law : Treats (x .keep) (tagOf y) alwaysRoot → RootIn rows k × Survivor (graphOf rows) k
   always-law t =
-      let r : RootIn rows k = record { row = own .row; at = own .at; is = root-live _ _ (own .of .root-is) (by-list .always t decided) } in
+      let live : rootOf (u .header .encoding) x unit base y ≡ Live = by-list .always t decided in
+      let is : own .row .root ≡ 1 = not-dead-root _ _ (own .of .root-is) (λ d. live-not-dead (sym live ∙ d)) in
+      let r : RootIn rows k = record { row = own .row; at = own .at; is = is } in
       (r, survivors .least .closed .has-roots k r)
 
   -- "2 never a root"
   no-root : Treats (x .keep) (tagOf y) neverRoot → RootIn rows k → ⊥
   no-root t r =
-      not-both _ (nth-root (own .row) k rows (own .at) ∙ root-dead _ _ (own .of .root-is) (by-list .never t decided))
+      not-both _ (nth-root (own .row) k rows (own .at) ∙ dead-no-root _ _ (own .of .root-is) (by-list .never t decided))
       (nth-root (r .row) k rows (r .at) ∙ r .is)
 
   -- an entry that is no root survives in these ways

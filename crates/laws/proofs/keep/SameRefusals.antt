@@ -2,30 +2,27 @@
 -- still goes through the root test"). Assumes nothing.
 use mathlib.Core.Path.{_≡_, refl, ap, ap₂, sym, _∙_, subst}
 use Prim.Native.Nat.{ℕ}
-use native.Mathlib.Omega.{arith}
 use mathlib.Core.Bool.{Bool, true, false}
 use mathlib.Core.List.{List, [], _∷_}
 use Rattle.readers.specs.Choice.{pick, _and_, _or_}
 use Rattle.readers.specs.Header.{headerOf}
 use Rattle.readers.specs.declared.header.HeaderRead.{HeaderRead}
-use Rattle.readers.specs.declared.header.HeaderRead.the-variants.{Unit as Header′}
 use Rattle.marking.specs.declared.root_test.Verdict.{Verdict}
 use Rattle.marking.specs.declared.root_test.Verdict.the-variants.{Live, Dead, Refused}
 use Rattle.marking.specs.Roots.{orElse}
 use Rattle.marking.specs.KeepList.{KeepList, keepRefusal, treated}
 use Rattle.marking.specs.Analysis.{Sections, Rooms, EntryRow, Analysed, analysed, refused as notAnalysed, onto, onVerdict, headerBy, headerAnalysed}
-use Rattle.marking.specs.Analysis.{onDeclared, unitAnalysed, analysisOf}
+use Rattle.marking.specs.Analysis.{analysisOf}
 use Rattle.marking.proofs.ListedHeaders.{header-taken}
 use Rattle.marking.proofs.KeepLists.{still-refused}
 use Rattle.rewriting.specs.Rewriting.{Room, refused, collectOf}
 use Rattle.laws.specs.KeepLists.{withKeep, no-entries, entry-and, AlsoAnalysed, SameButRoots}
 use Rattle.laws.specs.RefusalNumbers.{OneOf, listNumbers, readNumbers}
-use Rattle.laws.specs.RefusalStages.{RefusedAt, at-list, at-header, at-abbreviations, at-entries, at-lists, at-map, at-output, at-place, at-width}
 use Rattle.laws.proofs.refusals.ReaderRefusals.{isOneOf, areApart, apart, not-one-of, HeaderNumbered, earlyNumbers, early-numbered}
-use Rattle.laws.proofs.refusals.CollectRefusals.{refusal-law}
+use Rattle.laws.proofs.refusals.CollectRefusals.{refusal-law, StageOf, of-list, of-reading, of-room, of-place, of-width, stage-of}
 use Rattle.laws.proofs.tables.BySeveralTables.{Verdicts, Analyses, header-by}
 use Rattle.laws.proofs.tables.FailureLaws.{analysis-refused}
-use Rattle.laws.proofs.keep.Treatments.{was-refused}
+use Rattle.laws.proofs.keep.Treatments.{live-decided, dead-decided, was-refused}
 
 -- ---- verdicts by two lists
 
@@ -80,20 +77,14 @@ onto-beside offset parent r s names (analysed rows) b f =
     }
 onto-beside offset parent r s names (notAnalysed n) b f = ap (onto (record { offset = offset; parent = parent; root = s; names = names })) f
 
-live-refused : (n : ℕ) → Live ≡ Refused n → ⊥
-live-refused n q = let z : _≡_ {A = ℕ} 0 1 = cc in omega arith
-
-dead-refused : (n : ℕ) → Dead ≡ Refused n → ⊥
-dead-refused n q = let z : _≡_ {A = ℕ} 0 1 = cc in omega arith
-
 verdict-beside : (v w : Verdict) → Alike v w → (k h : ℕ → Analysed) → ((r s : ℕ) → Beside (k r) (h s)) → Beside (onVerdict v k) (onVerdict w h)
 unfolding onVerdict
 verdict-beside Live Live a k h each = each 1 1
 verdict-beside Live Dead a k h each = each 1 0
 verdict-beside Dead Live a k h each = each 0 1
 verdict-beside Dead Dead a k h each = each 0 0
-verdict-beside Live (Refused n) a k h each = absurd (live-refused n (a .back n refl))
-verdict-beside Dead (Refused n) a k h each = absurd (dead-refused n (a .back n refl))
+verdict-beside Live (Refused n) a k h each = absurd (live-decided n (a .back n refl))
+verdict-beside Dead (Refused n) a k h each = absurd (dead-decided n (a .back n refl))
 verdict-beside (Refused n) w a k h each =
     subst (λ (z : Verdict). Beside (notAnalysed n) (onVerdict z h)) (sym (a .there n refl)) (refused-beside n)
 
@@ -138,7 +129,8 @@ module _ (x : Sections) (one other : KeepList) (taken : keepRefusal one ≡ 0) (
   unfolding analysisOf
   same-refusals-law room =
       same-but-roots _ _
-      (subst (λ (h : HeaderRead). Beside (headerAnalysed (withKeep x one) section room h) (headerAnalysed (withKeep x other) section room (headerBy (withKeep x other) section)))
+      (subst (λ (h : HeaderRead).
+      Beside (headerAnalysed (withKeep x one) section room h) (headerAnalysed (withKeep x other) section room (headerBy (withKeep x other) section)))
       (sym (header-taken (withKeep x one) section taken))
       (subst (λ (h : HeaderRead). Beside (headerAnalysed (withKeep x one) section room header) (headerAnalysed (withKeep x other) section room h))
       (sym (header-taken (withKeep x other) section too)) (by-header room)))
@@ -146,19 +138,13 @@ module _ (x : Sections) (one other : KeepList) (taken : keepRefusal one ≡ 0) (
 -- ---- collect
 
 module _ (x : Sections) (room : Room) (typeUnits : Bool) (section : List ℕ) where
-  at-analysis : (n : ℕ) → OneOf readNumbers n → RefusedAt x room typeUnits section n → analysisOf x section (room .tables) ≡ notAnalysed n
-  unfolding isOneOf areApart _or_ _and_ analysisOf headerAnalysed unitAnalysed onDeclared
-  at-analysis n o (at-list q r) = absurd (apart readNumbers listNumbers n tt o r)
-  at-analysis n o (at-header z q r) = ap (headerAnalysed x section (room .tables)) (header-taken x section z ∙ q)
-  at-analysis n o (at-abbreviations {h} z q d) =
-      ap (headerAnalysed x section (room .tables)) (header-taken x section z ∙ q)
-      ∙ (let three : headerAnalysed x section (room .tables) (Header′ h) ≡ notAnalysed 3 = rw d in three)
-  at-analysis n o (at-entries z q d a r) = a
-  at-analysis n o (at-lists u m l) = absurd (not-one-of readNumbers n 12 refl tt o)
-  at-analysis n o (at-map u d p) = absurd (not-one-of readNumbers n 13 refl tt o)
-  at-analysis n o (at-output u d p b) = absurd (not-one-of readNumbers n 14 refl tt o)
-  at-analysis n o (at-place u d p b f) = absurd (not-one-of readNumbers n 8 refl tt o)
-  at-analysis n o (at-width u d p b f) = absurd (not-one-of readNumbers n 9 refl tt o)
+  at-analysis : (n : ℕ) → OneOf readNumbers n → StageOf x room typeUnits section n → analysisOf x section (room .tables) ≡ notAnalysed n
+  unfolding isOneOf areApart _or_ _and_
+  at-analysis n o (of-list q r) = absurd (apart readNumbers listNumbers n tt o r)
+  at-analysis n o (of-reading a r) = a
+  at-analysis n o (of-room r) = absurd (apart readNumbers (12 ∷ 13 ∷ 14 ∷ []) n tt o r)
+  at-analysis n o (of-place e r) = absurd (not-one-of readNumbers n 8 e tt o)
+  at-analysis n o (of-width e r) = absurd (not-one-of readNumbers n 9 e tt o)
 
 -- THE refusals of collect up to 11 are the same by every list that is taken
 pub same-collect-refusals : (x : Sections) (one other : KeepList) → keepRefusal one ≡ 0 → keepRefusal other ≡ 0 → (room : Room) (typeUnits : Bool)
@@ -167,4 +153,5 @@ pub same-collect-refusals : (x : Sections) (one other : KeepList) → keepRefusa
 same-collect-refusals x one other taken too room typeUnits section n o q =
     analysis-refused (withKeep x other) room typeUnits section n
     (same-refusals-law x one other taken too section (room .tables) .refusals n
-    (at-analysis (withKeep x one) room typeUnits section n o (refusal-law (withKeep x one) room typeUnits section n q)))
+    (at-analysis (withKeep x one) room typeUnits section n o
+    (stage-of (withKeep x one) room typeUnits section n (refusal-law (withKeep x one) room typeUnits section n q))))

@@ -15,13 +15,13 @@ use Rattle.marking.specs.declared.root_test.Verdict.{Verdict}
 use Rattle.marking.specs.KeepList.{KeepList, keepRefusal, eachTreats, ascends, treatmentIn, treatmentOf, treated}
 use Rattle.marking.specs.Analysis.{Sections, Rooms, EntryRow, Analysed, analysed, refused as notAnalysed, tagOf, valuesOfEntry, testOf, rootOf, namesOf}
 use Rattle.marking.specs.Analysis.{baseOf, analysisOf}
-use Rattle.marking.specs.EntryRows.{Tested, RowOf, RowsOf, unitItems}
+use Rattle.marking.specs.EntryRows.{Tested, RowsOf, unitItems}
 use Rattle.marking.proofs.EachRow.{items-rows}
 use Rattle.marking.proofs.ListedHeaders.{header-taken}
 use Rattle.rewriting.specs.Rewriting.{Room, collectOf}
 use Rattle.readers.specs.Choice.{pick, _and_}
-use Rattle.laws.specs.KeepLists.{withKeep, noList, SameEntries, no-entries, entry-and, SameButRoots, TreatAlike, ListsNone}
-use Rattle.laws.specs.UnitSurvivors.{FirstUnit, EntryAt, next, behind-entry, behind-terminator}
+use Rattle.laws.specs.KeepLists.{withKeep, noList, SameEntries, no-entries, TreatAlike, ListsNone}
+use Rattle.laws.specs.UnitSurvivors.{EntryAt, next, behind-entry, behind-terminator}
 use Rattle.laws.proofs.survivors.UnitLaws.{unit-survivors, same-rows}
 use Rattle.laws.proofs.tables.SameRewriting.{same-collected}
 use Rattle.laws.proofs.keep.SameRefusals.{same-refusals-law}
@@ -65,7 +65,8 @@ module _ (x : Sections) (one other : KeepList) (taken : keepRefusal one ≡ 0) (
   rows-same room rows others a b same =
       ⊎-elim
       (λ z. none-beside others (subst (λ (l : List EntryRow). SameEntries l others) (z .1) same) ∙ sym (z .1))
-      (λ u. same-rows (u .header .encoding) (withKeep x other) (take (u .header .end) section) 0 [] (listBase (u .header .encoding)) (listBase (u .header .encoding))
+      (λ u. same-rows (u .header .encoding) (withKeep x other) (take (u .header .end) section) 0 []
+      (listBase (u .header .encoding)) (listBase (u .header .encoding))
       (unitItems x section (u .header) (u .declared) .0) others rows
       (items-rows (withKeep x other) section room (u .header) (u .declared) others (u .header-is) (u .declared-is) b)
       (rows-alike (u .header .encoding) x one other (take (u .header .end) section) _ _ _ _ _ rows

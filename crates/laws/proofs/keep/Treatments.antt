@@ -64,10 +64,10 @@ never-root Live d = refl
 never-root Dead d = refl
 never-root (Refused n) d = absurd (d n refl)
 
-live-decided : Decided Live
+pub live-decided : Decided Live
 live-decided n q = let z : _≡_ {A = ℕ} 0 1 = cc in omega arith
 
-dead-decided : Decided Dead
+pub dead-decided : Decided Dead
 dead-decided n q = let z : _≡_ {A = ℕ} 0 1 = cc in omega arith
 
 pub was-refused : (k : ℕ) (v : Verdict) (n : ℕ) → treated k v ≡ Refused n → v ≡ Refused n

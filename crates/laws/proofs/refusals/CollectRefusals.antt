@@ -12,7 +12,7 @@ use lib.Dec.{T, leb, eqb}
 use mir.Facts.{eqb-no, leb-yes, leb-no, no-eqb, yes-leb, no-leb}
 use Rattle.readers.specs.Choice.{_and_, _or_}
 use Rattle.readers.proofs.Choice.{pick-either, pick-no, pick-yes}
-use Rattle.laws.specs.RefusalNumbers.{OneOf, entriesNumbers, EntriesRefusal, CollectRefusal, PaddedRefusal, listNumbers, headerNumbers}
+use Rattle.laws.specs.RefusalNumbers.{OneOf, entriesNumbers, CollectRefusal, PaddedRefusal, listNumbers, headerNumbers, ListRefusal, readNumbers}
 use Rattle.readers.specs.Abbreviations.{Placed, abbreviationsOf}
 use Rattle.readers.specs.Header.{headerOf}
 use Rattle.readers.specs.Layout.{Piece, verbatim, patchable, Read}
@@ -20,7 +20,7 @@ use Rattle.readers.specs.declared.header.UnitHeader.{UnitHeader}
 use Rattle.readers.specs.declared.header.HeaderRead.{HeaderRead}
 use Rattle.readers.specs.declared.header.HeaderRead.the-variants.{Unit as Header′, Empty, Refused}
 use Rattle.laws.proofs.refusals.ReaderRefusals.{isOneOf, areOf, one-of, wider, areApart, apart, header-refusal, list-refusal, not-one-of}
-use Rattle.marking.specs.Analysis.{Sections, EntryRow, Analysed, analysed, refused as notAnalysed, analysisOf, headerBy}
+use Rattle.marking.specs.Analysis.{Sections, EntryRow, Analysed, analysed, refused as notAnalysed, analysisOf, headerBy, headerAnalysed, unitAnalysed, onDeclared}
 use Rattle.marking.specs.Marks.{keptCount}
 use Rattle.marking.specs.Resolution.{marksIn}
 use Rattle.laws.proofs.refusals.MarkingRefusals.{entries-refusal}
@@ -236,22 +236,26 @@ module _ (x : Sections) (room : Room) (typeUnits : Bool) (section : List ℕ) wh
   refused-law n (at-place u d p b f) = value-refused u d p b 8 (omega arith) (eight-means x (unit u) (lists u) (u .header .first .0) (kept u) .1 f)
   refused-law n (at-width u d p b f) = value-refused u d p b 9 (omega arith) (nine-means x (unit u) (lists u) (u .header .first .0) (kept u) .1 f)
 
-  -- a refusal by its number: the entries', 8, 9, or another
+  -- a refusal by its number: the list's, the analysis's, that of a slice which is too short, 8 or 9
   pub data StageOf (n : ℕ) : Type 0 where
-    elsewhere : OneOf (19 ∷ 20 ∷ 1 ∷ 2 ∷ 3 ∷ 12 ∷ 13 ∷ 14 ∷ []) n → StageOf n
-    of-entries : analysisOf x section (room .tables) ≡ notAnalysed n → EntriesRefusal n → StageOf n
+    of-list : keepRefusal (x .keep) ≡ n → ListRefusal n → StageOf n
+    of-reading : analysisOf x section (room .tables) ≡ notAnalysed n → OneOf readNumbers n → StageOf n
+    of-room : OneOf (12 ∷ 13 ∷ 14 ∷ []) n → StageOf n
     of-place : n ≡ 8 → RefusedNumber x room typeUnits section Unplaced → StageOf n
     of-width : n ≡ 9 → RefusedNumber x room typeUnits section TooWide → StageOf n
 
   pub stage-of : (n : ℕ) → RefusedAt x room typeUnits section n → StageOf n
-  unfolding isOneOf areOf _or_ _and_
-  stage-of n (at-list q r) = elsewhere (wider listNumbers _ n tt r)
-  stage-of n (at-header z q r) = elsewhere (wider headerNumbers _ n tt r)
-  stage-of n (at-abbreviations z q d) = elsewhere (one-of _ 3 tt)
-  stage-of n (at-entries z q d a r) = of-entries a r
-  stage-of n (at-lists u m l) = elsewhere (one-of _ 12 tt)
-  stage-of n (at-map u d p) = elsewhere (one-of _ 13 tt)
-  stage-of n (at-output u d p b) = elsewhere (one-of _ 14 tt)
+  unfolding isOneOf areOf _or_ _and_ analysisOf headerAnalysed unitAnalysed onDeclared
+  stage-of n (at-list q r) = of-list q r
+  stage-of n (at-header z q r) =
+      of-reading (ap (headerAnalysed x section (room .tables)) (header-taken x section z ∙ q)) (wider headerNumbers readNumbers n tt r)
+  stage-of n (at-abbreviations {h} z q d) =
+      let three : headerAnalysed x section (room .tables) (Header′ h) ≡ notAnalysed 3 = rw d in
+      of-reading (ap (headerAnalysed x section (room .tables)) (header-taken x section z ∙ q) ∙ three) (one-of readNumbers 3 tt)
+  stage-of n (at-entries z q d a r) = of-reading a (wider entriesNumbers readNumbers n tt r)
+  stage-of n (at-lists u m l) = of-room (one-of _ 12 tt)
+  stage-of n (at-map u d p) = of-room (one-of _ 13 tt)
+  stage-of n (at-output u d p b) = of-room (one-of _ 14 tt)
   stage-of n (at-place u d p b f) =
       of-place refl (record { u = u; thinnable = d; number = refused-number x (unit u) (lists u) (u .header .first .0) (kept u) _ f })
   stage-of n (at-width u d p b f) =
@@ -261,8 +265,9 @@ module _ (x : Sections) (room : Room) (typeUnits : Bool) (section : List ℕ) wh
   late-stage : (n : ℕ) → OneOf (8 ∷ 9 ∷ []) n → StageOf n
       → ((n ≡ 8) × RefusedNumber x room typeUnits section Unplaced) ⊎ ((n ≡ 9) × RefusedNumber x room typeUnits section TooWide)
   unfolding isOneOf areApart _or_ _and_
-  late-stage n o (elsewhere r) = absurd (apart (8 ∷ 9 ∷ []) (19 ∷ 20 ∷ 1 ∷ 2 ∷ 3 ∷ 12 ∷ 13 ∷ 14 ∷ []) n tt o r)
-  late-stage n o (of-entries a r) = absurd (apart (8 ∷ 9 ∷ []) entriesNumbers n tt o r)
+  late-stage n o (of-list q r) = absurd (apart (8 ∷ 9 ∷ []) listNumbers n tt o r)
+  late-stage n o (of-reading a r) = absurd (apart (8 ∷ 9 ∷ []) readNumbers n tt o r)
+  late-stage n o (of-room r) = absurd (apart (8 ∷ 9 ∷ []) (12 ∷ 13 ∷ 14 ∷ []) n tt o r)
   late-stage n o (of-place e r) = inl (e, r)
   late-stage n o (of-width e r) = inr (e, r)
 
@@ -280,8 +285,9 @@ module _ (x : Sections) (room : Room) (typeUnits : Bool) (section : List ℕ) wh
 
   number-at : (n : ℕ) → StageOf n → CollectRefusal n
   unfolding isOneOf areOf _or_ _and_
-  number-at n (elsewhere r) = wider (19 ∷ 20 ∷ 1 ∷ 2 ∷ 3 ∷ 12 ∷ 13 ∷ 14 ∷ []) _ n tt r
-  number-at n (of-entries a r) = wider entriesNumbers _ n tt r
+  number-at n (of-list q r) = wider listNumbers _ n tt r
+  number-at n (of-reading a r) = wider readNumbers _ n tt r
+  number-at n (of-room r) = wider (12 ∷ 13 ∷ 14 ∷ []) _ n tt r
   number-at n (of-place e r) = subst CollectRefusal (sym e) (one-of _ 8 tt)
   number-at n (of-width e r) = subst CollectRefusal (sym e) (one-of _ 9 tt)
 

@@ -24,9 +24,9 @@ use Rattle.marking.specs.Analysis.{Sections, Rooms, Analysed, analysed, refused
 use Rattle.marking.specs.Resolution.{unitMarks}
 use Rattle.rewriting.specs.Rewriting.{unitOf, Room, refused, analysedCollected, declaredCollected, headerCollected, collectOf}
 use Rattle.laws.specs.AddressTables.{withTable, FailedBy, AnsweredBy}
-use Rattle.laws.specs.RefusalNumbers.{OneOf, tableNumbers}
+use Rattle.laws.specs.RefusalNumbers.{OneOf, listNumbers, tableNumbers}
 use Rattle.laws.proofs.refusals.ReaderRefusals.{isOneOf, one-of, not-one-of, areApart, apart}
-use Rattle.laws.proofs.refusals.CollectRefusals.{refusal-law, StageOf, elsewhere, of-entries, of-place, of-width, stage-of}
+use Rattle.laws.proofs.refusals.CollectRefusals.{refusal-law, StageOf, of-list, of-reading, of-room, of-place, of-width, stage-of}
 use Rattle.laws.proofs.tables.BySeveralTables.{entryNumbersButTable, root-by}
 use Rattle.laws.proofs.tables.FromLookups.{verdicts-told, analysis-told}
 use Rattle.laws.proofs.tables.Failures.{failure-number, no-failure}
@@ -142,8 +142,9 @@ module _ (x : Sections) (room : Room) (typeUnits : Bool) (section : List ℕ) wh
 
   at-table : (n : ℕ) → OneOf tableNumbers n → StageOf x room typeUnits section n → analysisOf x section (room .tables) ≡ notAnalysed n
   unfolding isOneOf areApart _or_ _and_
-  at-table n o (elsewhere r) = absurd (apart tableNumbers (19 ∷ 20 ∷ 1 ∷ 2 ∷ 3 ∷ 12 ∷ 13 ∷ 14 ∷ []) n tt o r)
-  at-table n o (of-entries a r) = a
+  at-table n o (of-list q r) = absurd (apart tableNumbers listNumbers n tt o r)
+  at-table n o (of-reading a r) = a
+  at-table n o (of-room r) = absurd (apart tableNumbers (12 ∷ 13 ∷ 14 ∷ []) n tt o r)
   at-table n o (of-place e r) = absurd (not-one-of tableNumbers n 8 e tt o)
   at-table n o (of-width e r) = absurd (not-one-of tableNumbers n 9 e tt o)
 

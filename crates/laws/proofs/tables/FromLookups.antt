@@ -39,7 +39,7 @@ use Rattle.laws.specs.RefusalNumbers.{OneOf}
 use Rattle.laws.proofs.refusals.ReaderRefusals.{isOneOf, areOf, one-of, wider}
 use Rattle.laws.proofs.tables.BySeveralTables.{pick-of, entryNumbersButTable, Verdicts, Analyses, items-by, analysis-by}
 use Rattle.marking.specs.KeepList.{treatmentOf, treated}
-use Rattle.laws.proofs.keep.Treatments.{was-refused}
+use Rattle.laws.proofs.keep.Treatments.{live-decided, dead-decided, was-refused}
 
 -- a value that is no refusal
 abbrev pub NoRefusal : {X : Type 0} → (ℕ → X) → X → Type 0
@@ -61,10 +61,10 @@ not-alive-no-failure : NoRefusal Fails NotAlive
 not-alive-no-failure n q = let z : _≡_ {A = ℕ} 0 1 = cc in omega arith
 
 pub live-no-refusal : NoRefusal Refused Live
-live-no-refusal n q = let z : _≡_ {A = ℕ} 0 1 = cc in omega arith
+live-no-refusal = live-decided
 
 pub dead-no-refusal : NoRefusal Refused Dead
-dead-no-refusal n q = let z : _≡_ {A = ℕ} 0 1 = cc in omega arith
+dead-no-refusal = dead-decided
 
 pub rows-no-refusal : (rows : List EntryRow) → NoRefusal notAnalysed (analysed rows)
 rows-no-refusal rows n q = let z : _≡_ {A = ℕ} 0 1 = cc in omega arith

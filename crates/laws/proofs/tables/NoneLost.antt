@@ -16,6 +16,7 @@ use Rattle.marking.specs.Analysis.{analysisOf}
 use Rattle.marking.specs.Columns.{offsetsIn}
 use Rattle.marking.specs.Resolution.{graphOf}
 use Rattle.laws.specs.AddressTables.{withTable, withFixed, NoneLost}
+use Rattle.laws.specs.KeepLists.{SameEntry}
 use Rattle.laws.specs.UnitSurvivors.{ParentIn, RootIn, NamesIn, Below, child, deeper, ClosedRows, SurvivorsOf}
 use Rattle.laws.proofs.survivors.UnitLaws.{unit-survivors}
 use Rattle.laws.proofs.tables.BySeveralTables.{Verdicts, Analyses, analysis-by}
@@ -26,9 +27,7 @@ use Rattle.readers.specs.Choice.{pick}
 
 -- a row of an entry by the ones, and by the others: a root stays one
 record RowHeld (r s : EntryRow) : Type 0 where
-  pub offset-is : r .offset ≡ s .offset
-  pub parent-is : r .parent ≡ s .parent
-  pub names-are : r .names ≡ s .names
+  pub entry : SameEntry r s
   pub root-held : r .root ≡ 1 → s .root ≡ 1
 
 data RowsHeld : List EntryRow → List EntryRow → Type 0 where
@@ -76,7 +75,7 @@ rows-held =
       of-refused = λ n o. refused-held n _;
       of-verdict = λ v p k each. verdict-held (v true) (v false) p (k true) (k false) (λ r s q. each (λ i. pick i r s) q);
       of-onto = λ offset parent names root r a q.
-          onto-held _ _ (record { offset-is = refl; parent-is = refl; names-are = refl; root-held = r }) (a true) (a false) q;
+          onto-held _ _ (record { entry = record { offset-is = refl; parent-is = refl; names-are = refl }; root-held = r }) (a true) (a false) q;
     }
 
 -- ---- survivors
@@ -84,7 +83,7 @@ rows-held =
 same-offsets : {rows all : List EntryRow} → RowsHeld rows all → offsetsIn all ≡ offsetsIn rows
 unfolding offsetsIn
 same-offsets no-rows = refl
-same-offsets (one-more h hs) = ap₂ (λ (n : ℕ) (ns : List ℕ). n ∷ ns) (sym (h .offset-is)) (same-offsets hs)
+same-offsets (one-more h hs) = ap₂ (λ (n : ℕ) (ns : List ℕ). n ∷ ns) (sym (h .entry .offset-is)) (same-offsets hs)
 
 same-length : {rows all : List EntryRow} → RowsHeld rows all → length rows ≡ length all
 same-length no-rows = refl
@@ -106,7 +105,7 @@ module _ {rows all : List EntryRow} (h : RowsHeld rows all) where
   parent-in : {p i : ℕ} → ParentIn rows p i → ParentIn all p i
   parent-in r =
       let n = nth-held h (r .at) in
-      record { row = n .row; at = n .at; is = sym (n .held .parent-is) ∙ r .is; some-parent = r .some-parent }
+      record { row = n .row; at = n .at; is = sym (n .held .entry .parent-is) ∙ r .is; some-parent = r .some-parent }
 
   names-in : {s t : ℕ} → NamesIn rows s t → NamesIn all s t
   names-in r =
@@ -117,8 +116,8 @@ module _ {rows all : List EntryRow} (h : RowsHeld rows all) where
         at = n .at;
         named = m .row;
         named-at = m .at;
-        among = subst (λ (o : ℕ). Member o (n .row .names)) (m .held .offset-is)
-            (subst (λ (ns : List ℕ). Member (r .named .offset) ns) (n .held .names-are) (r .among));
+        among = subst (λ (o : ℕ). Member o (n .row .names)) (m .held .entry .offset-is)
+            (subst (λ (ns : List ℕ). Member (r .named .offset) ns) (n .held .entry .names-are) (r .among));
       }
 
   below-in : {r d : ℕ} → Below rows r d → Below all r d
