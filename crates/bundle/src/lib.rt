@@ -1,4 +1,6 @@
 // A bundle: the sections of one unit in one run of bytes, as the programs read it from standard input.
+#![tactic(auto)]
+
 ghost use Rattle.std.specs.Prelude.{◌≡◌};
 ghost use Rattle.readers.specs.Fields.{part_of};
 ghost use Rattle.bundle.specs.Bundle.{bundle_of, frame_of, version_of, part, debug_ranges_part, sections_of};
@@ -11,7 +13,7 @@ use readers::layouts::BLOCK4;
 pub const MOST: usize = 65536;
 
 // Where each section stands in the bundle.
-#[derive(Drop)]
+#[derive(Clone, Copy)]
 pub struct Bundle {
     pub unit: Field,
     pub abbreviations: Field,
@@ -21,7 +23,7 @@ pub struct Bundle {
     pub debug_ranges: Field,
 }
 
-#[derive(Drop)]
+#[derive(Clone, Copy)]
 pub enum BundleRead {
     Read(Bundle),
     Wrong,

@@ -3,7 +3,7 @@ ghost use Rattle.std.specs.Prelude.{◌≡◌};
 ghost use Rattle.marking.specs.Addresses.{is_tombstone, lookup_at};
 
 // What the address table says of an index: what gc.rs's `is_addr_live` answers. A failure carries its number of refusal.
-#[derive(Drop)]
+#[derive(Clone, Copy)]
 pub enum AddressLookup {
     Live,
     Dead,

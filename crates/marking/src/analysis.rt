@@ -27,28 +27,28 @@ use readers::tables::{clear, clear_bytes};
 
 // What is found of an entry: 1 for a root, else 0, the place past its references in the table, and the cursor past it;
 // or the number of a refusal.
-#[derive(Drop)]
+#[derive(Clone, Copy)]
 pub enum EntryAnalysis {
     Found { root: u8, to: usize, next: Cursor },
     Refused(u8),
 }
 
 // What an analysis answers: how many entries and references there are, or the number of a refusal.
-#[derive(Drop)]
+#[derive(Clone, Copy)]
 pub enum Analysis {
     Entries { entries: usize, references: usize },
     Refused(u8),
 }
 
 // The header of a section's first unit, as it was read, and the analysis of its entries.
-#[derive(Drop)]
+#[derive(Clone, Copy)]
 pub struct UnitAnalysis {
     pub header: HeaderRead,
     pub analysis: Analysis,
 }
 
 // What is to be analysed: a unit whose declarations were checked, or the answer where there is none.
-#[derive(Drop)]
+#[derive(Clone, Copy)]
 pub enum UnitFound {
     Unit(UnitHeader),
     Answered(Analysis),

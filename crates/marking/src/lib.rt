@@ -1,4 +1,6 @@
 // Which entries of a unit survive: addresses, the root test, references, the analysis of a unit, and marking.
+#![tactic(auto)]
+
 pub mod addresses;
 pub mod analysis;
 pub mod columns;

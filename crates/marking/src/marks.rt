@@ -217,7 +217,7 @@ fn count_kept(marks: &[u8]) -> usize
 }
 
 // How many entries are kept, or the number of the refusal.
-#[derive(Drop)]
+#[derive(Clone, Copy)]
 pub enum Marked {
     Kept(usize),
     Refused(u8),

@@ -27,14 +27,14 @@ use readers::operations::{ListEntry, ListStep};
 
 // What a scan finds: the place past its last reference in the table, past the table's end where it has no room for all;
 // or the number of a refusal.
-#[derive(Drop)]
+#[derive(Clone, Copy)]
 pub enum Scanned {
     To(usize),
     Refused(u8),
 }
 
 // What the scan of an entry finds: that place, and where the values of its attributes end; or the number of a refusal.
-#[derive(Drop)]
+#[derive(Clone, Copy)]
 pub enum EntryScan {
     Through { place: usize, end: Moved },
     Refused(u8),

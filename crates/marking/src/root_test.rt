@@ -28,7 +28,7 @@ use readers::operations::{ListEntry, ListStep, Operation, OperationRead};
 // ---- an address, a list, an expression
 
 // What a test of liveness finds: live, dead, or the number of a refusal.
-#[derive(Drop)]
+#[derive(Clone, Copy)]
 pub enum Verdict {
     Live,
     Dead,
@@ -36,7 +36,7 @@ pub enum Verdict {
 }
 
 // What an entry of a range list does: the list goes on, and whether its latest base is dead; or it is decided.
-#[derive(Drop)]
+#[derive(Clone, Copy)]
 pub enum RangeTurn {
     On(bool),
     Decided(Verdict),

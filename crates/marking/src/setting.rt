@@ -1,5 +1,5 @@
 // What a call tells of a unit beside its sections.
-#[derive(Drop)]
+#[derive(Clone, Copy)]
 pub struct Setting {
     // added to a ranges attribute in sec_offset
     pub ranges_base: u64,

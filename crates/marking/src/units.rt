@@ -16,21 +16,21 @@ use readers::offsets::{EntryIndex, UnitOffset};
 use readers::tables::{clear, clear_bytes, clear_indexes};
 
 // What marking a unit answers: how many entries it has and how many are kept, or the number of a refusal.
-#[derive(Drop)]
+#[derive(Clone, Copy)]
 pub enum UnitMarks {
     Marked { entries: usize, kept: usize },
     Refused(u8),
 }
 
 // The header of a section's first unit, as it was read, and the marks of its entries.
-#[derive(Drop)]
+#[derive(Clone, Copy)]
 pub struct UnitMarking {
     pub header: HeaderRead,
     pub marks: UnitMarks,
 }
 
 // An entry, by its index.
-#[derive(Drop)]
+#[derive(Clone, Copy)]
 pub enum EntryFound {
     Entry(EntryIndex),
     Nothing,

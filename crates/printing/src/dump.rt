@@ -19,7 +19,7 @@ use readers::lists::ListOffset;
 use readers::operations::{ListEntry, ListStep};
 
 // Where the walk through the entries stands: the next entry or terminator, its depth, and the list bases.
-#[derive(Drop)]
+#[derive(Clone, Copy)]
 struct Place {
     done: bool,
     next: Cursor,
@@ -29,7 +29,7 @@ struct Place {
 }
 
 // Where the walk through an entry's attributes stands: the next value and the next specification.
-#[derive(Drop)]
+#[derive(Clone, Copy)]
 struct Values {
     done: bool,
     value: Cursor,

@@ -21,7 +21,7 @@ const X: u8 = 0x78;
 // ---- numbers
 
 // A number, and where it ends.
-#[derive(Drop)]
+#[derive(Clone, Copy)]
 enum NumberRead {
     Value(u64, usize),
     Nothing,
@@ -112,7 +112,7 @@ fn number_at(s: &[u8], at: usize) -> NumberRead {
 
 // ---- tags and treatments
 
-#[derive(Drop)]
+#[derive(Clone, Copy)]
 enum Pair {
     Of {
         tag: u64,
@@ -152,7 +152,7 @@ fn put(bytes: &mut [u8], at: usize, n: u64) {
 }
 
 // How many tags a list has.
-#[derive(Drop)]
+#[derive(Clone, Copy)]
 pub(crate) enum ListRead {
     Tags(usize),
     Nothing,

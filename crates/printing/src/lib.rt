@@ -1,4 +1,6 @@
 // What the programs print of bundles: of one on standard input, or of many that their arguments name.
+#![tactic(auto)]
+
 use crate::keep_list::{ListRead, MOST, is_keep_list, read_list};
 use crate::lengths::size;
 use crate::text::{number, text};
@@ -27,7 +29,7 @@ const CASES: u8 = 5;
 // ---- options: what is told of a unit
 
 // The setting, and which argument has the keep list: 0, the program's own name, where none has.
-#[derive(Drop)]
+#[derive(Clone, Copy)]
 struct Options {
     setting: Setting,
     keep: usize,
@@ -73,7 +75,7 @@ fn keep_list_at(i: usize, o: Options) -> Options {
 }
 
 // What a word tells beside what was told before; Unknown where it is no option, or the same one again.
-#[derive(Drop)]
+#[derive(Clone, Copy)]
 enum Told {
     By(Options),
     Unknown,
@@ -244,7 +246,7 @@ fn file_at(path: &[u8], what: u8, o: Options) {
 // ---- arguments
 
 // What is asked for: what is printed of the files that follow, and what is told of their units.
-#[derive(Drop)]
+#[derive(Clone, Copy)]
 struct Asked {
     what: u8,
     options: Options,

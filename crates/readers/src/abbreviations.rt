@@ -13,7 +13,7 @@ use crate::slots::{Arranged, order, slot_code, slot_of};
 use crate::tables::clear;
 
 // An attribute specification: its name, its form, the value of an implicit_const (else 0), and the cursor past it.
-#[derive(Drop)]
+#[derive(Clone, Copy)]
 pub struct AttributeSpec {
     pub name: u64,
     pub form: u64,
@@ -22,7 +22,7 @@ pub struct AttributeSpec {
 }
 
 // One step through a declaration's attribute specifications: one more, or the pair of zeros that closes them.
-#[derive(Drop)]
+#[derive(Clone, Copy)]
 pub enum SpecStep {
     Attribute(AttributeSpec),
     Last(Cursor),
@@ -30,7 +30,7 @@ pub enum SpecStep {
 }
 
 // A declaration: its code, its tag, whether its entries have children, and where its attribute specifications start.
-#[derive(Drop)]
+#[derive(Clone, Copy)]
 pub struct Declaration {
     pub code: u64,
     pub tag: u64,
@@ -39,7 +39,7 @@ pub struct Declaration {
 }
 
 // One step through the declarations: one more and the cursor past it, or the zero that closes them.
-#[derive(Drop)]
+#[derive(Clone, Copy)]
 pub enum DeclarationStep {
     Declaration(Declaration, Cursor),
     Last(Cursor),
@@ -47,20 +47,20 @@ pub enum DeclarationStep {
 }
 
 // Whether a list of declarations is as document 01 wants it.
-#[derive(Drop)]
+#[derive(Clone, Copy)]
 pub enum Checked {
     Accepted,
     Refused,
 }
 
 // How many declarations there are.
-#[derive(Drop)]
+#[derive(Clone, Copy)]
 enum Count {
     Of(usize),
     Unreadable,
 }
 
-#[derive(Drop)]
+#[derive(Clone, Copy)]
 pub enum DeclarationFound {
     Declaration(Declaration),
     Nothing,

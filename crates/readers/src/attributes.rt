@@ -16,13 +16,13 @@ use crate::fields::{Field, FieldRead, number_field};
 use crate::layouts::*;
 
 // The value of an attribute: the form that it has, behind DW_FORM_indirect too, and its field.
-#[derive(Drop)]
+#[derive(Clone, Copy)]
 pub struct Attribute {
     pub form: u64,
     pub field: Field,
 }
 
-#[derive(Drop)]
+#[derive(Clone, Copy)]
 pub enum AttributeRead {
     Read(Attribute),
     Unreadable,

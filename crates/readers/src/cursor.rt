@@ -8,7 +8,7 @@ ghost use Rattle.readers.specs.Cursors.{groups_at, leb_at, fixed_at, skip_at, st
 use crate::codes::DW_FORM_indirect;
 
 // What a unit's fields are read by; the header makes it.
-#[derive(Drop)]
+#[derive(Clone, Copy)]
 pub struct Encoding {
     pub version: u16,
     pub offset_size: u8,
@@ -17,13 +17,13 @@ pub struct Encoding {
 }
 
 // A place in a slice.
-#[derive(Drop)]
+#[derive(Clone, Copy)]
 pub struct Cursor {
     pub at: usize,
 }
 
 // A number, and the cursor past it.
-#[derive(Drop)]
+#[derive(Clone, Copy)]
 pub enum Number {
     Value(u64, Cursor),
     Unreadable,
@@ -31,7 +31,7 @@ pub enum Number {
 
 // The groups of a LEB128 number of at most ten bytes: its value is low + high * 2^63, and weight is 128 to the number
 // of bytes before the last.
-#[derive(Drop)]
+#[derive(Clone, Copy)]
 pub enum Groups {
     Whole {
         low: u64,
@@ -43,7 +43,7 @@ pub enum Groups {
 }
 
 // The cursor past some bytes.
-#[derive(Drop)]
+#[derive(Clone, Copy)]
 pub enum Moved {
     To(Cursor),
     Unreadable,

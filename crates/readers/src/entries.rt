@@ -9,7 +9,7 @@ use crate::cursor::{Cursor, Encoding, Moved, Number};
 use crate::offsets::{EntryIndex, NO_PARENT, UnitOffset};
 
 // An entry: where it starts, its declaration, where the values of its attributes start, and the cursor past it.
-#[derive(Drop)]
+#[derive(Clone, Copy)]
 pub struct Entry {
     pub offset: UnitOffset,
     pub declaration: Declaration,
@@ -18,7 +18,7 @@ pub struct Entry {
 }
 
 // One step through a unit. A terminator closes a list of children, or none.
-#[derive(Drop)]
+#[derive(Clone, Copy)]
 pub enum Step {
     Entry(Entry),
     Terminator(Cursor),
@@ -27,7 +27,7 @@ pub enum Step {
 }
 
 // The head of an entry: where it starts, its declaration, and where the values of its attributes start.
-#[derive(Drop)]
+#[derive(Clone, Copy)]
 pub struct EntryHead {
     pub offset: UnitOffset,
     pub declaration: Declaration,
@@ -35,7 +35,7 @@ pub struct EntryHead {
 }
 
 // One step through a unit that leaves the values of an entry unread.
-#[derive(Drop)]
+#[derive(Clone, Copy)]
 pub enum HeadStep {
     Entry(EntryHead),
     Terminator(Cursor),
@@ -44,7 +44,7 @@ pub enum HeadStep {
 }
 
 // How deep the next entry or terminator stands, and the entry whose children are open; NO_PARENT where there is none.
-#[derive(Drop)]
+#[derive(Clone, Copy)]
 pub struct Nesting {
     pub depth: u64,
     pub parent: EntryIndex,

@@ -8,7 +8,7 @@ use crate::cursor::{Cursor, Encoding};
 
 // An attribute of an entry: its name, the form that it is declared with, its value, the cursor past its
 // specification, and the cursor past its value.
-#[derive(Drop)]
+#[derive(Clone, Copy)]
 pub struct EntryAttribute {
     pub name: u64,
     pub declared: u64,
@@ -17,7 +17,7 @@ pub struct EntryAttribute {
     pub values: Cursor,
 }
 
-#[derive(Drop)]
+#[derive(Clone, Copy)]
 pub enum NextAttribute {
     More(EntryAttribute),
     NoMore,

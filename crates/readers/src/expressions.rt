@@ -16,7 +16,7 @@ use crate::tables::clear;
 
 // What a walk of a whole expression finds, nested ones included: how many references it holds, and whether it names
 // anything by an offset in the section.
-#[derive(Drop)]
+#[derive(Clone, Copy)]
 pub enum Walk {
     Walked { references: usize, absolute: bool },
     Unreadable,
@@ -24,7 +24,7 @@ pub enum Walk {
 
 // A reference of an expression: where its operand stands, the offset that it names, how its operand is written
 // (`leb`: as a ULEB128 number) and in how many bytes, and where the walk goes on.
-#[derive(Drop)]
+#[derive(Clone, Copy)]
 pub struct Reference {
     pub place: usize,
     pub target: UnitOffset,
@@ -33,14 +33,14 @@ pub struct Reference {
     pub next: Cursor,
 }
 
-#[derive(Drop)]
+#[derive(Clone, Copy)]
 pub enum Yield {
     Reference(Reference),
     End,
 }
 
 // The answer of references_of_expression: how many there are, or the number of a refusal.
-#[derive(Drop)]
+#[derive(Clone, Copy)]
 pub enum References {
     Count(usize),
     Refused(u8),

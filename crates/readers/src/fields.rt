@@ -9,28 +9,28 @@ use crate::layouts::*;
 
 // What a token read: its number (0 where it is none), and where its payload starts and ends. The payload of a block
 // or an expression follows its length.
-#[derive(Drop)]
+#[derive(Clone, Copy)]
 pub struct Field {
     pub value: u64,
     pub start: usize,
     pub end: usize,
 }
 
-#[derive(Drop)]
+#[derive(Clone, Copy)]
 pub enum FieldRead {
     Read(Field),
     Unreadable,
 }
 
 // The three fields of a row.
-#[derive(Drop)]
+#[derive(Clone, Copy)]
 pub struct Operands {
     pub first: Field,
     pub second: Field,
     pub third: Field,
 }
 
-#[derive(Drop)]
+#[derive(Clone, Copy)]
 pub enum OperandsRead {
     Read(Operands),
     Unreadable,

@@ -9,7 +9,7 @@ use crate::offsets::UnitOffset;
 
 // A unit's header: what its fields are read by, its type, where its abbreviations start in their section, where its
 // first entry starts, and where the unit ends in the section.
-#[derive(Drop)]
+#[derive(Clone, Copy)]
 pub struct UnitHeader {
     pub encoding: Encoding,
     pub unit_type: u8,
@@ -20,7 +20,7 @@ pub struct UnitHeader {
 
 // The header of the first unit of a section, or why it is refused: 1 where it is cut short, 2 for a value outside the
 // domain.
-#[derive(Drop)]
+#[derive(Clone, Copy)]
 pub enum HeaderRead {
     Unit(UnitHeader),
     Empty,

@@ -1,5 +1,7 @@
 // Readers of DWARF 5 units: numbers, headers, abbreviations, attributes, entries, expressions and lists, over lent
 // slices.
+#![tactic(auto)]
+
 pub mod abbreviations;
 pub mod attributes;
 pub mod codes;

@@ -12,7 +12,7 @@ pub fn list_base(e: Encoding) -> u64
     (length_bytes(e.offset_size) + 8) as u64
 }
 
-#[derive(Drop)]
+#[derive(Clone, Copy)]
 pub enum ListOffset {
     At(Cursor),
     Unresolved,

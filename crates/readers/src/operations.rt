@@ -309,7 +309,7 @@ const LOCATION_ENTRIES_4: [u8; 5] = [
 ];
 
 // An operation: its row, its first two operands, and the cursor past it.
-#[derive(Drop)]
+#[derive(Clone, Copy)]
 pub struct Operation {
     pub row: u8,
     pub first: Field,
@@ -317,14 +317,14 @@ pub struct Operation {
     pub next: Cursor,
 }
 
-#[derive(Drop)]
+#[derive(Clone, Copy)]
 pub enum OperationRead {
     Read(Operation),
     Unreadable,
 }
 
 // A list entry: its kind, its operands, and the cursor past it.
-#[derive(Drop)]
+#[derive(Clone, Copy)]
 pub struct ListEntry {
     pub kind: u8,
     pub first: Field,
@@ -334,7 +334,7 @@ pub struct ListEntry {
 }
 
 // One step through a list: an entry, or the list's end (its end entry, or the section's end between two entries).
-#[derive(Drop)]
+#[derive(Clone, Copy)]
 pub enum ListStep {
     Entry(ListEntry),
     End,

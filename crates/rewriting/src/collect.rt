@@ -33,7 +33,7 @@ use readers::tables::{clear, clear_bytes, clear_indexes};
 
 // What an accepted answer counts: entries, kept ones, map places, output bytes (both 0 where untouched), and the numbers
 // of each list.
-#[derive(Drop)]
+#[derive(Clone, Copy)]
 pub struct Counts {
     pub entries: usize,
     pub kept: usize,
@@ -44,7 +44,7 @@ pub struct Counts {
     pub strings: ListCount,
 }
 
-#[derive(Drop)]
+#[derive(Clone, Copy)]
 pub enum Collected {
     Untouched(Counts),
     Rewritten(Counts),
@@ -126,7 +126,7 @@ fn clear_tables(
 }
 
 // The counts of a unit's lists, or a list has no room.
-#[derive(Drop)]
+#[derive(Clone, Copy)]
 pub enum Listed {
     Made {
         ranges: ListCount,
@@ -442,7 +442,7 @@ fn nothing() -> Collected
 }
 
 // What is to be done once a unit's entries are marked: nothing more, or the unit of a header is rewritten.
-#[derive(Drop)]
+#[derive(Clone, Copy)]
 pub enum Task {
     Done(Collected),
     Rewrite {

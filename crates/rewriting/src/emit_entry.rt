@@ -40,7 +40,7 @@ use readers::fields::Field;
 use readers::offsets::UnitOffset;
 
 // How many bytes were written, or the number of a refusal.
-#[derive(Drop)]
+#[derive(Clone, Copy)]
 pub enum Emitted {
     To(usize),
     Refused(u8),
@@ -312,7 +312,7 @@ fn emit_attribute(
 
 // What is to be done with the next attribute: a value that is copied, by the cursors past it and past its specification;
 // one that may change; none.
-#[derive(Drop)]
+#[derive(Clone, Copy)]
 pub enum Plan {
     Copy(Cursor, Cursor),
     Change(EntryAttribute),

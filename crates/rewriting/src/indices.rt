@@ -108,7 +108,7 @@ fn any_declares(
 
 // How many numbers each list has, more than it has room for where it is too short; and whether a slot has the place of
 // each string.
-#[derive(Drop)]
+#[derive(Clone, Copy)]
 pub struct Lengths {
     pub ranges: usize,
     pub locations: usize,
@@ -169,7 +169,7 @@ fn put_by_kind(
 }
 
 // What is found of an entry: how many numbers the lists have then, and where its values end.
-#[derive(Drop)]
+#[derive(Clone, Copy)]
 pub struct EntryGathered {
     pub lengths: Lengths,
     pub end: Moved,
@@ -410,7 +410,7 @@ pub(crate) fn sorted_lists(
 }
 
 // Which attributes of index lists are declared in sec_offset.
-#[derive(Drop)]
+#[derive(Clone, Copy)]
 pub struct Declared {
     pub ranges: bool,
     pub locations: bool,
@@ -440,7 +440,7 @@ fn declared_too(d: Declared, name: u64, form: u64) -> Declared
 }
 
 // What is declared with some specifications too, and the cursor past them.
-#[derive(Drop)]
+#[derive(Clone, Copy)]
 pub struct SpecsDeclared {
     pub declared: Declared,
     pub past: Moved,

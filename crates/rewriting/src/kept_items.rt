@@ -12,14 +12,14 @@ use readers::entries::{Nesting, Step};
 use readers::offsets::{EntryIndex, UnitOffset};
 
 // How a unit is read: where its declarations start, and by what encoding.
-#[derive(Drop)]
+#[derive(Clone, Copy)]
 pub struct Reading {
     pub from: u64,
     pub encoding: Encoding,
 }
 
 // Where a pass through the kept items stands: the next place, the index of the next entry, and the open ones.
-#[derive(Drop)]
+#[derive(Clone, Copy)]
 pub struct PassPosition {
     pub at: Cursor,
     pub count: EntryIndex,
@@ -28,7 +28,7 @@ pub struct PassPosition {
 
 // A kept item: its offset, the cursor past it, its depth, for an entry where its specifications and its values start, and
 // where the pass goes on.
-#[derive(Drop)]
+#[derive(Clone, Copy)]
 pub struct KeptItem {
     pub start: UnitOffset,
     pub end: Cursor,
@@ -39,7 +39,7 @@ pub struct KeptItem {
     pub next: PassPosition,
 }
 
-#[derive(Drop)]
+#[derive(Clone, Copy)]
 pub enum KeptStep {
     Item(KeptItem),
     End,

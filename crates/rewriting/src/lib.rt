@@ -1,4 +1,6 @@
 // Rewriting, by its passes: the kept items of a unit, index lists, new offsets (the map), emission; and collect.
+#![tactic(auto)]
+
 pub mod collect;
 pub mod emit_entry;
 pub mod emit_unit;

@@ -16,7 +16,7 @@ pub const NUMBER_SIZE: usize = 8;
 // The bytes of a place: three numbers.
 pub const PLACE_SIZE: usize = 24;
 
-#[derive(Drop)]
+#[derive(Clone, Copy)]
 pub enum Mapped {
     To(UnitOffset),
     Nothing,

@@ -11,7 +11,7 @@ use readers::cursor::{Cursor, Number};
 use readers::tables::clear_bytes;
 
 // The answer of write_uleb128_padded.
-#[derive(Drop)]
+#[derive(Clone, Copy)]
 pub enum Padded {
     Written,
     Refused(u8),

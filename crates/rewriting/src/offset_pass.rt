@@ -10,7 +10,7 @@ use readers::cursor::Cursor;
 use readers::entries::Nesting;
 use readers::offsets::{EntryIndex, UnitOffset};
 
-#[derive(Drop)]
+#[derive(Clone, Copy)]
 pub struct Size {
     pub places: usize,
     pub bytes: usize,

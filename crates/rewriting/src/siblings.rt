@@ -94,7 +94,7 @@ fn shallowest(map: &[u8], places: usize, from: usize, to: usize) -> u64
 }
 
 // Where a block ends, in eights, and a depth that none of its places is below.
-#[derive(Drop)]
+#[derive(Clone, Copy)]
 pub struct Bound {
     pub end: u32,
     pub least: u32,

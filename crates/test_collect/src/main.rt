@@ -1,5 +1,7 @@
 // Prints what the arguments ask for, of kept cases, cases made by hand and bundles that thin reads; then padded
 // numbers.
+#![tactic(auto)]
+
 use printing::text::{number, text};
 use rewriting::numbers::Padded;
 

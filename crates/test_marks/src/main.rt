@@ -1,4 +1,6 @@
 // Prints what the arguments ask for, of units made by hand; then the marks of small graphs.
+#![tactic(auto)]
+
 mod graphs;
 
 fn main() {

@@ -1,5 +1,7 @@
 // Prints what the arguments ask for, of bundles made by hand and of units of compilers; then how many references
 // expressions have, by the sizes that are told.
+#![tactic(auto)]
+
 use printing::text::{number, text};
 use readers::expressions::{References, references_of_expression};
 

@@ -1,0 +1,23 @@
+-- `fill_index` meets its contract. Assumes nothing.
+use mathlib.Core.Path.{sym, ◌∙◌}
+use lib.Seq.{length-take-le}
+use Rattle.readers.proofs.Declarations.{refused-not, unreadable-refused, over-filled, filled-index}
+use Rattle.readers.proofs.abbreviations.fill_index.Goals as goal
+
+pub returns-in_default : goal.returns-in_default
+returns-in_default c = record {
+  answer = unreadable-refused _ _ (sym c.in_default.is ∙ c.gather.ensures.counted);
+  filled = λ a. absurd (refused-not a);
+}
+
+pub returns-then-count-index : goal.returns-then-count-index
+returns-then-count-index c = record {
+  answer = c.check_plain.ensures;
+  filled = λ _. over-filled _ _ _ c.args.index.now c.gather.new.index c.gather.auto.index (sym c.in-Of.is ∙ c.gather.ensures.counted) _ c.if-count-index.true c.clear.ensures;
+}
+
+pub slice_bounds-order-end-2 : goal.slice_bounds-order-end-2
+slice_bounds-order-end-2 c = sym (length-take-le _ _ c.if-count-index.false)
+
+pub returns : goal.returns
+returns c = filled-index _ _ _ c.args.index.now c.gather.new.index c.gather.auto.index (sym c.in-Of.is ∙ c.gather.ensures.counted) _ _ _ c.requires c.gather.ensures.gathered c.if-count-index.false c.order.ensures c.accept.ensures

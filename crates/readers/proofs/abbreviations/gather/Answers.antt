@@ -1,0 +1,36 @@
+-- `gather` meets its contract. The invariant: the slots hold the declarations before this place, as far as there is room. Assumes nothing.
+use Prim.Native.Nat.{◌-◌}
+use mathlib.Core.Path.{sym, ◌∙◌}
+use native.Mathlib.Omega.{arith}
+use Rattle.readers.proofs.Declarations.{declaration-ahead, gathering-none, gathering-count, gathering-more, gathering-over, gathering-last, gathering-bad}
+use Rattle.readers.proofs.abbreviations.gather.Goals as goal
+
+pub loop-next-init : goal.loop-next-init
+loop-next-init c = gathering-none _ _ _
+
+pub overflow_add-index : goal.overflow_add-index
+overflow_add-index c = omega (arith, declaration-ahead _ _ _ _ (sym c.declaration.ensures ∙ c.in-Declaration.is))
+
+pub overflow_add-count : goal.overflow_add-count
+overflow_add-count c = omega (arith, declaration-ahead _ _ _ _ (sym c.declaration.ensures ∙ c.in-Declaration.is), gathering-count _ _ _ _ _ _ c.loop-next.invariant)
+
+pub loop-next-smaller-then-count-index : goal.loop-next-smaller-then-count-index
+loop-next-smaller-then-count-index c = omega (arith, declaration-ahead _ _ _ _ (sym c.declaration.ensures ∙ c.in-Declaration.is))
+
+pub loop-next-preserved-then-count-index : goal.loop-next-preserved-then-count-index
+loop-next-preserved-then-count-index c = gathering-more _ _ _ _ _ _ c.loop-next.invariant _ _ (sym c.declaration.ensures ∙ c.in-Declaration.is) c.if-count-index.true
+
+pub overflow_add-count-else-count-index : goal.overflow_add-count-else-count-index
+overflow_add-count-else-count-index c = omega (arith, declaration-ahead _ _ _ _ (sym c.declaration.ensures ∙ c.in-Declaration.is), gathering-count _ _ _ _ _ _ c.loop-next.invariant)
+
+pub loop-next-smaller : goal.loop-next-smaller
+loop-next-smaller c = omega (arith, declaration-ahead _ _ _ _ (sym c.declaration.ensures ∙ c.in-Declaration.is))
+
+pub loop-next-preserved : goal.loop-next-preserved
+loop-next-preserved c = gathering-over _ _ _ _ _ _ c.loop-next.invariant _ _ (sym c.declaration.ensures ∙ c.in-Declaration.is) c.if-count-index.false
+
+pub returns-in-Last : goal.returns-in-Last
+returns-in-Last c = gathering-last _ _ _ _ _ _ c.loop-next.invariant _ (sym c.declaration.ensures ∙ c.in-Last.is)
+
+pub returns-in-Unreadable : goal.returns-in-Unreadable
+returns-in-Unreadable c = gathering-bad _ _ _ _ _ _ c.loop-next.invariant (sym c.declaration.ensures ∙ c.in-Unreadable.is)

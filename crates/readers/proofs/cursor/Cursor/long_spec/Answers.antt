@@ -1,0 +1,22 @@
+-- `Cursor::long_spec` meets its contract. Assumes nothing.
+use mathlib.Core.Path.{sym, ◌∙◌}
+use Rattle.readers.proofs.Specs.{spec-no-name, spec-no-form, spec-last, spec-half, spec-unformed, spec-whole}
+use Rattle.readers.proofs.cursor.Cursor.long_spec.Goals as goal
+
+pub returns-in_default : goal.returns-in_default
+returns-in_default c = spec-no-name _ _ (sym c.short.ensures ∙ c.in_default.is)
+
+pub returns-in_default-short : goal.returns-in_default-short
+returns-in_default-short c = spec-no-form _ _ _ _ (sym c.short.ensures ∙ c.in-Value.is) (sym c.short-2.ensures ∙ c.in_default-short.is)
+
+pub returns-then-form-eq0 : goal.returns-then-form-eq0
+returns-then-form-eq0 c = spec-last _ _ _ _ (sym c.short.ensures ∙ c.in-Value.is) _ _ (sym c.short-2.ensures ∙ c.in-Value-short.is) c.if-name-eq0.true c.if-form-eq0.true
+
+pub returns-then-name-eq0 : goal.returns-then-name-eq0
+returns-then-name-eq0 c = spec-half _ _ _ _ (sym c.short.ensures ∙ c.in-Value.is) _ _ (sym c.short-2.ensures ∙ c.in-Value-short.is) c.if-name-eq0.true c.if-form-eq0.false
+
+pub returns-then-form-eq0-2 : goal.returns-then-form-eq0-2
+returns-then-form-eq0-2 c = spec-unformed _ _ _ _ (sym c.short.ensures ∙ c.in-Value.is) _ _ (sym c.short-2.ensures ∙ c.in-Value-short.is) c.if-name-eq0.false c.if-form-eq0-2.true
+
+pub returns : goal.returns
+returns c = c.implicit_spec.ensures ∙ spec-whole _ _ _ _ (sym c.short.ensures ∙ c.in-Value.is) _ _ (sym c.short-2.ensures ∙ c.in-Value-short.is) c.if-name-eq0.false c.if-form-eq0-2.false

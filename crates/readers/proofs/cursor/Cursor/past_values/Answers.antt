@@ -1,0 +1,36 @@
+-- `Cursor::past_values` meets its contract: whatever was passed, the answer from here on is the whole answer. Each specification takes bytes, so what is
+-- left of the abbreviations falls. Assumes nothing.
+use mathlib.Core.Path.{refl, sym, ◌∙◌}
+use Prim.Native.Nat.{◌-◌}
+use native.Mathlib.Omega.{arith}
+use Rattle.readers.proofs.Specs.{attribute-inside}
+use Rattle.readers.proofs.Values.{values-past, values-stuck, values-last, values-bad}
+use Rattle.readers.proofs.cursor.Cursor.past_values.Goals as goal
+
+pub loop-a-init : goal.loop-a-init
+loop-a-init c = refl
+
+pub returns-in_default : goal.returns-in_default
+returns-in_default c = values-stuck _ _ _ _ _ _
+    (sym c.attribute_spec.ensures ∙ c.in-Attribute.is)
+    _ refl _ c.past_attribute.ensures c.in_default.is
+    ∙ sym c.loop-a.invariant
+
+pub loop-a-smaller : goal.loop-a-smaller
+loop-a-smaller c = omega (
+  arith,
+  attribute-inside _ _ _
+      (sym c.attribute_spec.ensures ∙ c.in-Attribute.is),
+)
+
+pub loop-a-preserved : goal.loop-a-preserved
+loop-a-preserved c = c.loop-a.invariant
+    ∙ values-past _ _ _ _ _ _
+    (sym c.attribute_spec.ensures ∙ c.in-Attribute.is)
+    _ refl _ c.past_attribute.ensures _ c.in-To.is
+
+pub returns-in-Last : goal.returns-in-Last
+returns-in-Last c = values-last _ _ _ _ _ _ (sym c.attribute_spec.ensures ∙ c.in-Last.is) ∙ sym c.loop-a.invariant
+
+pub returns-in-Unreadable : goal.returns-in-Unreadable
+returns-in-Unreadable c = values-bad _ _ _ _ _ (sym c.attribute_spec.ensures ∙ c.in-Unreadable.is) ∙ sym c.loop-a.invariant

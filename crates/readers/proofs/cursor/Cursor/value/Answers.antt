@@ -1,0 +1,24 @@
+-- `Cursor::value` meets its contract: what is refused is as the definition says, and any other value is read by the token of its form. Assumes nothing.
+use mathlib.Core.Path.{◌≡◌, ap, sym, ◌∙◌, subst}
+use mathlib.Core.Bool.{true, false}
+use lib.Dec.{T}
+use Rattle.readers.specs.Fields.{field_at}
+use borrow.Author.Tests.{not-true, not-false}
+use Rattle.readers.proofs.Values.{value-sibling, value-implicit, value-foreign, value-other}
+use Rattle.readers.proofs.cursor.Cursor.value.Goals as goal
+
+pub returns-then-form-eq-DW_FORM_exprloc : goal.returns-then-form-eq-DW_FORM_exprloc
+returns-then-form-eq-DW_FORM_exprloc c = search value-sibling
+
+pub returns-then-form-eq-DW_FORM_implicit_const : goal.returns-then-form-eq-DW_FORM_implicit_const
+returns-then-form-eq-DW_FORM_implicit_const c = search value-implicit
+
+pub returns-then-not-in_version : goal.returns-then-not-in_version
+returns-then-not-in_version c = value-foreign _ _ _ _ _ _ (sym c.in_version.ensures ∙ not-true _ c.if-not-in_version.true)
+
+pub returns : goal.returns
+returns c = c.field.ensures
+    ∙ ap (field_at _ _ _) c.form_token.ensures
+    ∙ sym (value-other _ _ _ _ _ _ (sym c.in_version.ensures ∙ not-false _ c.if-not-in_version.false)
+    (⊎_elim (λ w h k. w.1.left k) (λ w h k. w.left h) c.if-name-eq-DW_AT_sibling.branch)
+    (⊎_elim (λ w h k. w.1.left k) (λ w h k. let z : true ≡ false = sym h ∙ w.left in absurd (subst T z tt)) c.if-indirect.branch))

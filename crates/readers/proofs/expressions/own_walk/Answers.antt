@@ -1,0 +1,14 @@
+use Rattle.readers.proofs.OwnReferences.{section-20, section-21, own-one, own-none}
+use Rattle.readers.proofs.expressions.own_walk.Goals as goal
+
+pub returns-then-row-eq-ROW_OFFSET : goal.returns-then-row-eq-ROW_OFFSET
+returns-then-row-eq-ROW_OFFSET c = section-20 _ c.if-row-eq-ROW_OFFSET.true
+
+pub returns-then-row-eq-ROW_OFFSET_SLEB128 : goal.returns-then-row-eq-ROW_OFFSET_SLEB128
+returns-then-row-eq-ROW_OFFSET_SLEB128 c = section-21 _ c.if-row-eq-ROW_OFFSET_SLEB128.true
+
+pub returns-in-Reference : goal.returns-in-Reference
+returns-in-Reference c = own-one _ c.if-row-eq-ROW_OFFSET.false c.if-row-eq-ROW_OFFSET_SLEB128.false _ c.reference_of.ensures _ c.in-Reference.is
+
+pub returns-in-End : goal.returns-in-End
+returns-in-End c = own-none _ c.if-row-eq-ROW_OFFSET.false c.if-row-eq-ROW_OFFSET_SLEB128.false _ c.reference_of.ensures c.in-End.is

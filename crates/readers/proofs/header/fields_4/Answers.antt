@@ -1,0 +1,20 @@
+-- `fields_4` meets its contract: after each field the answer is that of the fields from there on. Assumes nothing.
+use mathlib.Core.Path.{sym, ◌∙◌}
+use mathlib.Core.Logic.{inl, inr}
+use Rattle.readers.specs.Header.{header_made, encoding_of}
+use Rattle.readers.proofs.Headers.{offset-none, size4-none, size4-other, size4-known}
+use Rattle.readers.proofs.header.fields_4.Goals as goal
+
+pub returns-in_default : goal.returns-in_default
+returns-in_default c = sym (offset-none _ _ _ _ (sym c.fixed.ensures ∙ c.in_default.is))
+
+pub returns-then-unit-size_at : goal.returns-then-unit-size_at
+returns-then-unit-size_at c = sym (size4-none _ _ _ _ _ _ (sym c.fixed.ensures ∙ c.in-Value.is) c.if-unit-size_at.true)
+
+pub returns-then-address_size-ne8 : goal.returns-then-address_size-ne8
+returns-then-address_size-ne8 c = sym (size4-other _ _ _ _ _ _ (sym c.fixed.ensures ∙ c.in-Value.is) c.if-unit-size_at.false c.if-address_size-ne4.true c.if-address_size-ne8.true)
+
+pub returns : goal.returns
+unfolding header_made encoding_of
+returns c = sym (size4-known _ _ _ _ _ _ (sym c.fixed.ensures ∙ c.in-Value.is) c.if-unit-size_at.false
+    (⊎_elim (λ w. inr w.1.left) (λ w. inl w.left) c.if-address_size-ne4.branch))
