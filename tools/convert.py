@@ -193,8 +193,12 @@ def turn_body(fn, body, env, goal_place, helpers, notes):
 def by_clause(body, clauses):
     """A tuple for several clauses becomes a record by their names."""
     fields = clauses
-    if len(fields) < 2 or not body.startswith("(") or not body.endswith(")"):
+    if len(fields) < 2:
         return body
+    if not body.startswith("(") or not body.endswith(")"):
+        if body.startswith("record") or body.startswith("search"):
+            return body
+        return "let p = " + body + " in record { " + "; ".join(f"{f} = p.{i}" for i, f in enumerate(fields)) + " }"
     parts, depth, cur = [], 0, ""
     for i, ch in enumerate(body):
         if ch in "([{":
@@ -241,7 +245,7 @@ def used(names, text):
             op = base.replace("◌", "").strip()
             if op in text:
                 keep.append(n)
-        elif base in toks:
+        elif base in toks or (not re.fullmatch(r"[\w'-]+", base) and base in text) or re.search(rf"(?<![\w.'-]){re.escape(base)}(?![\w'-])", text):
             keep.append(n)
     return keep
 
@@ -386,6 +390,9 @@ def convert(crate, folder, fn_path, rec, contracts, root):
         try:
             env = {params[0]: place} if params else {}
             b = turn_body(fn, body, env, place, helpers, notes)
+            b = re.sub(r"not-(?:true|false) _ (c\.[\w.-]+\.(?:true|false))", r"\1", b)
+            if ".branch" in b:
+                b = b.replace(".branch", ".branch-raw")
             if new.startswith("returns"):
                 own = fn_path.split(".proofs.")[0].split(".")[1] + "::" + fn_path.split(".proofs.")[1].replace(".", "::")
                 b = by_clause(b, contracts.get(own, []))

@@ -30,7 +30,7 @@ pub loop-next-preserved : goal.loop-next-preserved
 loop-next-preserved c = gathering-over _ _ _ _ _ _ c.loop-next.invariant _ _ (sym c.declaration.ensures ∙ c.in-Declaration.is) c.if-count-index.false
 
 pub returns-in-Last : goal.returns-in-Last
-returns-in-Last c = gathering-last _ _ _ _ _ _ c.loop-next.invariant _ (sym c.declaration.ensures ∙ c.in-Last.is)
+returns-in-Last c = let p = gathering-last _ _ _ _ _ _ c.loop-next.invariant _ (sym c.declaration.ensures ∙ c.in-Last.is) in record { counted = p.0; gathered = p.1 }
 
 pub returns-in-Unreadable : goal.returns-in-Unreadable
-returns-in-Unreadable c = gathering-bad _ _ _ _ _ _ c.loop-next.invariant (sym c.declaration.ensures ∙ c.in-Unreadable.is)
+returns-in-Unreadable c = let p = gathering-bad _ _ _ _ _ _ c.loop-next.invariant (sym c.declaration.ensures ∙ c.in-Unreadable.is) in record { counted = p.0; gathered = p.1 }

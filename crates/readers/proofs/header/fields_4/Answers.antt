@@ -1,4 +1,5 @@
 -- `fields_4` meets its contract: after each field the answer is that of the fields from there on. Assumes nothing.
+use mathlib.Core.Logic.{inl, inr, ⊎_elim}
 use mathlib.Core.Path.{sym, ◌∙◌}
 use mathlib.Core.Logic.{inl, inr}
 use Rattle.readers.specs.Header.{header_made, encoding_of}
@@ -17,4 +18,4 @@ returns-then-address_size-ne8 c = sym (size4-other _ _ _ _ _ _ (sym c.fixed.ensu
 pub returns : goal.returns
 unfolding header_made encoding_of
 returns c = sym (size4-known _ _ _ _ _ _ (sym c.fixed.ensures ∙ c.in-Value.is) c.if-unit-size_at.false
-    (⊎_elim (λ w. inr w.1.left) (λ w. inl w.left) c.if-address_size-ne4.branch))
+    (⊎_elim (λ w. inr w.if-address_size-ne8.false) (λ w. inl w.if-address_size-ne4.false) c.if-address_size-ne4.branch-raw))

@@ -14,10 +14,10 @@ pub returns-then-token-lt-ULEB128 : goal.returns-then-token-lt-ULEB128
 returns-then-token-lt-ULEB128 c = c.attribute_of.ensures ∙ ap (attribute_of _) c.number_field.ensures ∙ fixed-value _ _ _ _ _ _ c.form_token-token.ensures (omega arith) c.if-token-lt-ULEB128.true _ c.width_of.ensures _ c.fixed-n.ensures
 
 pub returns-then-not-in_version : goal.returns-then-not-in_version
-returns-then-not-in_version c = foreign-none _ _ _ _ _ _ c.form_token-token.ensures c.if-token-eq-ULEB128.true (sym c.in_version.ensures ∙ not-true _ c.if-not-in_version.true)
+returns-then-not-in_version c = foreign-none _ _ _ _ _ _ c.form_token-token.ensures c.if-token-eq-ULEB128.true (sym c.in_version.ensures ∙ c.if-not-in_version.true)
 
 pub returns-then-token-eq-ULEB128 : goal.returns-then-token-eq-ULEB128
-returns-then-token-eq-ULEB128 c = c.attribute_of-then-token-eq-ULEB128.ensures ∙ ap (attribute_of _) c.number_field-then-token-eq-ULEB128.ensures ∙ uleb-value _ _ _ _ _ _ c.form_token-token.ensures c.if-token-eq-ULEB128.true (sym c.in_version.ensures ∙ not-false _ c.if-not-in_version.false) _ c.uleb.ensures
+returns-then-token-eq-ULEB128 c = c.attribute_of-then-token-eq-ULEB128.ensures ∙ ap (attribute_of _) c.number_field-then-token-eq-ULEB128.ensures ∙ uleb-value _ _ _ _ _ _ c.form_token-token.ensures c.if-token-eq-ULEB128.true (sym c.in_version.ensures ∙ c.if-not-in_version.false) _ c.uleb.ensures
 
 pub returns-then-name-eq-DW_AT_sibling : goal.returns-then-name-eq-DW_AT_sibling
 returns-then-name-eq-DW_AT_sibling c = exprloc-sibling _ _ _ _ _ c.if-form-eq-DW_FORM_exprloc.true c.if-name-eq-DW_AT_sibling.true

@@ -1,4 +1,5 @@
 -- `Cursor::bytewise` meets its contract. The invariant: the value is that of the bytes that were read, the most significant ones of the number.
+use mathlib.Core.Logic.{⊎_elim}
 use Rattle.readers.proofs.Widths.{partial-none, partial-inside, partial-low, partial-more, partial-all, place-big, place-little, fixed-over, fixed-short}
 use mathlib.Core.Path.{sym}
 use Prim.Native.Nat.{◌-◌}
@@ -18,7 +19,7 @@ pub overflow_mul-value : goal.overflow_mul-value
 overflow_mul-value c = omega (arith, partial-low _ _ _ _ _ _ c.loop-i.invariant c.loop-i-test.true)
 
 pub bounds-s-k : goal.bounds-s-k
-bounds-s-k c = partial-inside _ _ _ _ _ _ c.loop-i.invariant _ ((⊎_elim (λ b. place-big _ _ _ _ _ b.0.taken b.1) (λ b. place-little _ _ _ _ _ b.0.left b.1) c.if-big_endian.branch)) c.loop-i-test.true
+bounds-s-k c = partial-inside _ _ _ _ _ _ c.loop-i.invariant _ ((⊎_elim (λ b. place-big _ _ _ _ _ b.if-big_endian.true b.k-is) (λ b. place-little _ _ _ _ _ b.if-big_endian.false b.k-is) c.if-big_endian.branch-raw)) c.loop-i-test.true
 
 pub overflow_cast-value : goal.overflow_cast-value
 overflow_cast-value c = omega (arith, c.type_inv.s c.if-big_endian.k)
@@ -27,7 +28,7 @@ pub overflow_add-value : goal.overflow_add-value
 overflow_add-value c = omega (arith, c.type_inv.s c.if-big_endian.k, partial-low _ _ _ _ _ _ c.loop-i.invariant c.loop-i-test.true)
 
 pub loop-i-preserved : goal.loop-i-preserved
-loop-i-preserved c = partial-more _ _ _ _ _ _ c.loop-i.invariant _ ((⊎_elim (λ b. place-big _ _ _ _ _ b.0.taken b.1) (λ b. place-little _ _ _ _ _ b.0.left b.1) c.if-big_endian.branch)) c.loop-i-test.true (omega (arith, c.type_inv.s c.if-big_endian.k))
+loop-i-preserved c = partial-more _ _ _ _ _ _ c.loop-i.invariant _ ((⊎_elim (λ b. place-big _ _ _ _ _ b.if-big_endian.true b.k-is) (λ b. place-little _ _ _ _ _ b.if-big_endian.false b.k-is) c.if-big_endian.branch-raw)) c.loop-i-test.true (omega (arith, c.type_inv.s c.if-big_endian.k))
 
 pub returns : goal.returns
 returns c = partial-all _ _ _ _ _ _ c.loop-i.invariant c.loop-i-test.false

@@ -17,10 +17,10 @@ pub returns-then-token-eq-SLEB128 : goal.returns-then-token-eq-SLEB128
 returns-then-token-eq-SLEB128 c = c.past_number.ensures ∙ past-signed _ _ _ _ _ _ c.form_token-token.ensures c.if-token-eq-SLEB128.true _ c.sleb.ensures
 
 pub returns-then-not-in_version : goal.returns-then-not-in_version
-returns-then-not-in_version c = past-unread _ (foreign-none _ _ _ _ _ _ c.form_token-token.ensures c.if-token-eq-ULEB128.true (sym c.in_version.ensures ∙ not-true _ c.if-not-in_version.true))
+returns-then-not-in_version c = past-unread _ (foreign-none _ _ _ _ _ _ c.form_token-token.ensures c.if-token-eq-ULEB128.true (sym c.in_version.ensures ∙ c.if-not-in_version.true))
 
 pub returns-then-token-eq-ULEB128 : goal.returns-then-token-eq-ULEB128
-returns-then-token-eq-ULEB128 c = c.past_number-then-token-eq-ULEB128.ensures ∙ past-uleb _ _ _ _ _ _ c.form_token-token.ensures c.if-token-eq-ULEB128.true (sym c.in_version.ensures ∙ not-false _ c.if-not-in_version.false) _ c.uleb.ensures
+returns-then-token-eq-ULEB128 c = c.past_number-then-token-eq-ULEB128.ensures ∙ past-uleb _ _ _ _ _ _ c.form_token-token.ensures c.if-token-eq-ULEB128.true (sym c.in_version.ensures ∙ c.if-not-in_version.false) _ c.uleb.ensures
 
 pub returns-then-name-eq-DW_AT_sibling : goal.returns-then-name-eq-DW_AT_sibling
 returns-then-name-eq-DW_AT_sibling c = past-unread _ (exprloc-sibling _ _ _ _ _ c.if-form-eq-DW_FORM_exprloc.true c.if-name-eq-DW_AT_sibling.true)

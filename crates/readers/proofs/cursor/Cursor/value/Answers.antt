@@ -1,4 +1,5 @@
 -- `Cursor::value` meets its contract: what is refused is as the definition says, and any other value is read by the token of its form. Assumes nothing.
+use mathlib.Core.Logic.{⊎_elim}
 use mathlib.Core.Path.{◌≡◌, ap, sym, ◌∙◌, subst}
 use mathlib.Core.Bool.{true, false}
 use lib.Dec.{T}
@@ -14,11 +15,11 @@ pub returns-then-form-eq-DW_FORM_implicit_const : goal.returns-then-form-eq-DW_F
 returns-then-form-eq-DW_FORM_implicit_const c = search value-implicit
 
 pub returns-then-not-in_version : goal.returns-then-not-in_version
-returns-then-not-in_version c = value-foreign _ _ _ _ _ _ (sym c.in_version.ensures ∙ not-true _ c.if-not-in_version.true)
+returns-then-not-in_version c = value-foreign _ _ _ _ _ _ (sym c.in_version.ensures ∙ c.if-not-in_version.true)
 
 pub returns : goal.returns
 returns c = c.field.ensures
     ∙ ap (field_at _ _ _) c.form_token.ensures
-    ∙ sym (value-other _ _ _ _ _ _ (sym c.in_version.ensures ∙ not-false _ c.if-not-in_version.false)
-    (⊎_elim (λ w h k. w.1.left k) (λ w h k. w.left h) c.if-name-eq-DW_AT_sibling.branch)
-    (⊎_elim (λ w h k. w.1.left k) (λ w h k. let z : true ≡ false = sym h ∙ w.left in absurd (subst T z tt)) c.if-indirect.branch))
+    ∙ sym (value-other _ _ _ _ _ _ (sym c.in_version.ensures ∙ c.if-not-in_version.false)
+    (⊎_elim (λ w h k. w.if-form-eq-DW_FORM_exprloc.false k) (λ w h k. w.if-name-eq-DW_AT_sibling.false h) c.if-name-eq-DW_AT_sibling.branch-raw)
+    (⊎_elim (λ w h k. w.if-form-eq-DW_FORM_implicit_const.false k) (λ w h k. let z : true ≡ false = sym h ∙ w.if-indirect.false in absurd (subst T z tt)) c.if-indirect.branch-raw))
