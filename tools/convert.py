@@ -57,14 +57,24 @@ class Trouble(Exception):
     pass
 
 
+def nth(path, n):
+    """Which of n clauses a path of pairs names, and what is left of the path."""
+    k = 0
+    while k < n - 1 and path and path[0] == "1":
+        k += 1
+        path = path[1:]
+    if k < n - 1 and path and path[0] == "0":
+        path = path[1:]
+    return k, path
+
+
 def resolve(fn, place, comps, goal_place, notes):
     """comps behind a place variable: ('place', name) or ('path', text without the leading c.)."""
     cur = place
     comps = list(comps)
     while comps and comps[0] == "before":
-        cur = fn.places[cur][1]
-        if cur is None:
-            raise Trouble("before the start")
+        if fn.places[cur][1] is not None:
+            cur = fn.places[cur][1]
         comps.pop(0)
     if not comps:
         return ("place", cur)
@@ -72,6 +82,11 @@ def resolve(fn, place, comps, goal_place, notes):
     rest = comps[1:]
     i, parent, pair, callee, extra = fn.places[cur]
     if parent is None:
+        if step == "requires" and rest and rest[0].isdigit():
+            names = fn.contracts.get("requires " + fn.own, [])
+            if len(names) > 1:
+                k, tail = nth(rest, len(names))
+                return ("path", ".".join(["requires", names[k]] + tail))
         if step == "args":
             return ("path", ".".join(["args"] + [norm(rest[0])] + rest[1:] if rest else ["args"]))
         return ("path", ".".join([step] + rest))
@@ -105,18 +120,24 @@ def resolve(fn, place, comps, goal_place, notes):
         if key in arms and n > 0:
             arm, field = arms[key]
             return ("path", ".".join([arm, field] + rest[n:]))
-    if callee or rest[:1] in (["new"], ["ensures"], ["auto"]):
+    if callee or rest[:1] in (["new"], ["ensures"], ["auto"], ["kept"]):
         params = fn.rec["params"].get(callee or "", [])
+        if rest[:1] == ["kept"]:
+            rest = ["auto"] + rest[1:]
         if rest[:1] in (["new"], ["auto"]) and len(rest) > 1:
             k = 1
             while k < len(rest) and rest[k] == "1":
                 k += 1
             if k < len(rest) and rest[k] == "0" and params and k - 1 < len(params):
                 return ("path", ".".join([new, rest[0], params[k - 1]] + rest[k + 1:]))
+        if rest == ["ensures"] and len(fn.contracts.get(callee or "", [])) > 1:
+            xs = [f"c.{new}.ensures.{x}" for x in fn.contracts[callee]]
+            return ("whole", ", ".join("(" + x for x in xs[:-1]) + ", " + xs[-1] + ")" * (len(xs) - 1))
         if rest[:1] == ["ensures"] and len(rest) > 1 and rest[1].isdigit():
             names = fn.contracts.get(callee or "", [])
-            if len(names) > 1 and int(rest[1]) < len(names):
-                return ("path", ".".join([new, "ensures", names[int(rest[1])]] + rest[2:]))
+            if len(names) > 1:
+                k, tail = nth(rest[1:], len(names))
+                return ("path", ".".join([new, "ensures", names[k]] + tail))
     if step.startswith("loop") and rest and rest[0] not in ("invariant", "auto", "test", "true", "false"):
         rest = [norm(rest[0])] + rest[1:]
     if step.startswith("if") and rest and rest[0] not in ("true", "false", "branch"):
@@ -126,6 +147,64 @@ def resolve(fn, place, comps, goal_place, notes):
 
 def turn_body(fn, body, env, goal_place, helpers, notes):
     """env: variable -> place. Paths from these become paths of c."""
+    env = dict(env)
+    count = 0
+    # names of paths
+    again = True
+    while again:
+        again = False
+        body = re.sub(rf"\(({NAMEPAT}(?:{PATH})+)\)", r"\1", body)
+        for m in re.finditer(rf"let ({NAMEPAT}) = ({NAMEPAT})((?:{PATH})+) in\s*", body):
+            if m.group(2) in env and m.group(1) not in env:
+                rest = re.sub(rf"(?<![\w.'-]){re.escape(m.group(1))}(?![\w'-])", m.group(2) + m.group(3), body[m.end():])
+                body = body[:m.start()] + rest
+                again = True
+                break
+        for name, spec in helpers.items():
+            if spec[1] == "macro":
+                m = re.search(rf"\({re.escape(name)}\s+({NAMEPAT}(?:{PATH})*)\)", body)
+                if m:
+                    inner = re.sub(rf"(?<![\w.'-]){re.escape(spec[0][0])}(?![\w'-])", m.group(1), spec[3])
+                    body = body[:m.start()] + "(" + inner + ")" + body[m.end():]
+                    again = True
+    # functions from a place to a place
+    rounds = True
+    while rounds:
+        rounds = False
+        body = re.sub(rf"\(({NAMEPAT}(?:{PATH})*)\)", lambda m: m.group(1) if m.group(1).split(".")[0] in env else m.group(0), body)
+        for name, spec in helpers.items():
+            if spec[1] != "to":
+                continue
+            for pat in (rf"\({re.escape(name)}\s+({NAMEPAT})((?:{PATH})*)\)", rf"(?<=[=(] ){re.escape(name)}\s+({NAMEPAT})((?:{PATH})*)(?= in\b)", rf"(?<![\w.'(-]){re.escape(name)}\s+({NAMEPAT})((?:{PATH})*)(?=\s+in\b)"):
+                m = re.search(pat, body)
+                while m and m.group(1) in env:
+                    count += 1
+                    mark = f"place{count}q"
+                    env[mark] = spec[2]
+                    body = body[:m.start()] + mark + body[m.end():]
+                    rounds = True
+                    m = re.search(pat, body)
+        m = re.search(rf"let ({NAMEPAT}) = ({NAMEPAT}) in\s*", body)
+        if m and m.group(2) in env:
+            env[m.group(1)] = env[m.group(2)]
+            body = body[:m.start()] + body[m.end():]
+            rounds = True
+        for m in re.finditer(rf"let ({NAMEPAT}) = ({NAMEPAT})((?:\.before)+) in\s*", body):
+            if m.group(2) in env:
+                kind, val = resolve(fn, env[m.group(2)], m.group(3).split(".")[1:], goal_place, notes)
+                if kind == "place":
+                    env[m.group(1)] = val
+                    body = body[:m.start()] + body[m.end():]
+                    rounds = True
+                    break
+    # tuples of kept lengths and of clauses, by their paths
+    while True:
+        m = re.search(rf"let ({NAMEPAT}) = ({NAMEPAT}(?:{PATH})*\.(?:auto|kept|ensures)(?:\.1)*) in\s*", body)
+        if not m:
+            break
+        rest = body[m.end():]
+        rest = re.sub(rf"(?<![\w.'-]){re.escape(m.group(1))}(?![\w'-])", m.group(2), rest)
+        body = body[:m.start()] + rest
     # helpers first
     changed = True
     rounds = 0
@@ -133,6 +212,8 @@ def turn_body(fn, body, env, goal_place, helpers, notes):
         changed = False
         rounds += 1
         for name, (params, kind, place, hbody) in helpers.items():
+            if kind in ("to", "macro"):
+                continue
             pat = re.compile(rf"(?<![\w.'-]){re.escape(name)}(?![\w'-])((?:\s+(?:\({NAMEPAT}{PATH}*\)|{NAMEPAT}{PATH}*))?)")
             m = pat.search(body)
             if not m:
@@ -171,6 +252,8 @@ def turn_body(fn, body, env, goal_place, helpers, notes):
         if var not in env:
             return m.group(0)
         kind, val = resolve(fn, env[var], comps, goal_place, notes)
+        if kind == "whole":
+            return val
         if kind == "place":
             notes.append(f"a place as a value: {m.group(0)}")
             return "c"
@@ -190,11 +273,46 @@ def turn_body(fn, body, env, goal_place, helpers, notes):
     return body
 
 
+def split_tuple(text):
+    parts, depth, cur = [], 0, ""
+    for i, ch in enumerate(text):
+        if ch in "([{":
+            depth += 1
+            if depth == 1:
+                continue
+        if ch in ")]}":
+            depth -= 1
+            if depth == 0:
+                if i != len(text) - 1:
+                    return None
+                continue
+        if ch == "," and depth == 1:
+            parts.append(cur.strip())
+            cur = ""
+        else:
+            cur += ch
+    if cur.strip():
+        parts.append(cur.strip())
+    return parts
+
+
 def by_clause(body, clauses):
     """A tuple for several clauses becomes a record by their names."""
     fields = clauses
     if len(fields) < 2:
         return body
+    if body.startswith("let ") and body.endswith(")"):
+        depth, cut = 0, -1
+        for i, ch in enumerate(body):
+            if ch in "([{":
+                depth += 1
+            elif ch in ")]}":
+                depth -= 1
+            elif depth == 0 and re.match(r"\sin\s", body[i:i + 4]):
+                cut = i + 3
+        tail = body[cut:].strip()
+        if cut > 0 and tail.startswith("("):
+            return body[:cut].rstrip() + " " + by_clause(tail, clauses)
     if not body.startswith("(") or not body.endswith(")"):
         if body.startswith("record") or body.startswith("search"):
             return body
@@ -218,6 +336,11 @@ def by_clause(body, clauses):
             cur += ch
     if cur.strip():
         parts.append(cur.strip())
+    while len(parts) < len(fields) and len(parts) > 1 and parts[-1].startswith("("):
+        more = split_tuple(parts[-1])
+        if not more or len(more) < 2:
+            break
+        parts = parts[:-1] + more
     if len(parts) != len(fields):
         return body
     return "record {\n" + "\n".join(f"  {f} = {x};" for f, x in zip(fields, parts)) + "\n}"
@@ -286,6 +409,9 @@ def source_contracts(root):
             m = re.match(r"\s*ensures (\w+) \{", line)
             if m and fn:
                 out[fn].append(m.group(1))
+            m = re.match(r"\s*requires (\w+) \{", line)
+            if m and fn:
+                out.setdefault("requires " + fn, []).append(m.group(1))
     return out
 
 
@@ -308,6 +434,7 @@ def convert(crate, folder, fn_path, rec, contracts, root):
             body_lines.append(l)
     bs = blocks("\n".join(body_lines))
     fn = Fn(rec, contracts)
+    fn.own = fn_path.split(".proofs.")[0].split(".")[1] + "::" + fn_path.split(".proofs.")[1].replace(".", "::")
     troubles, notes = [], []
     # the order of the goals
     last = bs[-1]
@@ -349,12 +476,26 @@ def convert(crate, folder, fn_path, rec, contracts, root):
         if name in goals or name in invs:
             continue
         clause = "\n".join(l for l in ls)
+        to = re.fullmatch(r"(?:tie|lts)\.([\w'-]+)[^→]*→ (?:tie|lts)\.([\w'-]+).*", " ".join(ty.split()))
+        if to and fn.place(to.group(2)):
+            helpers[name] = ([], "to", fn.place(to.group(2)), "")
+            continue
         m = re.match(rf"{re.escape(name)}((?:\s+{NAMEPAT})*)\s*=\s*(.*)$", clause, re.S)
+        if to and m and len(m.group(1).split()) == 1:
+            helpers[name] = (m.group(1).split(), "macro", None, m.group(2).strip())
+            continue
         pm = re.search(r"(?:tie|lts)\.([\w'-]+)", ty)
         if m and pm and fn.place(pm.group(1)) and m.group(1).split():
             if re.search(r"^unfolding", clause, re.M):
                 troubles.append(f"helper {name} unfolds")
-            helpers[name] = (m.group(1).split(), "place", fn.place(pm.group(1)), m.group(2))
+            hb = m.group(2).strip()
+            if re.match(r"(omega|search|grind|simp|let)\b", hb) and len(m.group(1).split()) == 1 and "→" in ty:
+                goal_type = " ".join(ty.split("→", 1)[1].split())
+                bound = re.match(r"\((\S+)\s*:", ty)
+                if bound and bound.group(1) != m.group(1).split()[0]:
+                    goal_type = re.sub(rf"(?<![\w.'-]){re.escape(bound.group(1))}(?![\w'-])", m.group(1).split()[0], goal_type)
+                hb = f"let z : {goal_type} = {hb} in z"
+            helpers[name] = (m.group(1).split(), "place", fn.place(pm.group(1)), hb)
     answers = []
     for k, g in enumerate(goals):
         if g not in sigs:

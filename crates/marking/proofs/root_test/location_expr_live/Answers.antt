@@ -1,0 +1,31 @@
+-- `location_expr_live` answers by the operations. The invariant: the answer is that from here on, with the flag so far. Assumes nothing.
+use Prim.Native.Nat.{◌-◌}
+use Rattle.marking.proofs.Lists.{location-start, location-live, location-dead, location-none, location-less, operation-met, operation-passed, operation-refused}
+use Rattle.marking.proofs.root_test.location_expr_live.Goals as goal
+
+pub loop-c-init : goal.loop-c-init
+loop-c-init c = search location-start
+
+pub returns-in_default : goal.returns-in_default
+returns-in_default c = search location-none
+
+pub returns-in-Fails : goal.returns-in-Fails
+returns-in-Fails c = search operation-refused
+
+pub loop-c-smaller-in-Live : goal.loop-c-smaller-in-Live
+loop-c-smaller-in-Live c = search location-less
+
+pub loop-c-preserved-in-Live : goal.loop-c-preserved-in-Live
+loop-c-preserved-in-Live c = search operation-met
+
+pub loop-c-smaller : goal.loop-c-smaller
+loop-c-smaller c = search location-less
+
+pub loop-c-preserved : goal.loop-c-preserved
+loop-c-preserved c = search operation-passed
+
+pub returns-then-live : goal.returns-then-live
+returns-then-live c = search location-live
+
+pub returns : goal.returns
+returns c = search location-dead

@@ -1,0 +1,22 @@
+-- `pairs_live` answers by the list's pairs. The invariant: the answer from the start is the answer from here on. Assumes nothing.
+use Prim.Native.Nat.{◌-◌}
+use Rattle.marking.proofs.RangePairs.{pairs_start, pairs_end, pairs-none, pairs-on, pairs-less, pairs-decided}
+use Rattle.marking.proofs.root_test.pairs_live.Goals as goal
+
+pub loop-c-init : goal.loop-c-init
+loop-c-init c = pairs_start _ _ _
+
+pub returns-in_default : goal.returns-in_default
+returns-in_default c = search pairs-none
+
+pub loop-c-smaller : goal.loop-c-smaller
+loop-c-smaller c = search pairs-less
+
+pub loop-c-preserved : goal.loop-c-preserved
+loop-c-preserved c = search pairs-on
+
+pub returns-in-Decided : goal.returns-in-Decided
+returns-in-Decided c = search pairs-decided
+
+pub returns : goal.returns
+returns c = search pairs_end
