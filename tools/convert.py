@@ -92,8 +92,16 @@ def resolve(fn, place, comps, goal_place, notes):
         return ("path", ".".join([step] + rest))
     if step != norm(pair[0]):
         # a field that the record opens from below
-        if step.endswith("_lem"):
-            step = step[:-4]
+        have = set()
+        walk = goal_place
+        while walk is not None:
+            have.add(norm(fn.places[walk][2][0]))
+            walk = fn.places[walk][1]
+        alias = {"in_kept": "is_kept", "header_written": "header_bytes", "by_root": "is_root", "by_parent": "is_parent", "without_lists": "no_lists"}
+        for other in (step, re.sub("_lem$", "", step), alias.get(step, step), step.lower(), alias.get(step.lower(), step.lower()), step.rstrip("0123456789"), *(step + str(k) for k in range(2, 10))):
+            if other in have:
+                step = other
+                break
         probe = cur
         while probe is not None and norm(fn.places[probe][2][0]) != step:
             probe = fn.places[probe][1]
@@ -140,16 +148,15 @@ def resolve(fn, place, comps, goal_place, notes):
                 return ("path", ".".join([new, "ensures", names[k]] + tail))
     if step.startswith("loop") and rest and rest[0] not in ("invariant", "auto", "test", "true", "false"):
         rest = [norm(rest[0])] + rest[1:]
+    if step.startswith("if") and rest:
+        rest = [{"taken": "true", "left": "false"}.get(rest[0], rest[0])] + rest[1:]
     if step.startswith("if") and rest and rest[0] not in ("true", "false", "branch"):
         rest = [norm(rest[0])] + rest[1:]
     return ("path", ".".join([new] + rest))
 
 
-def turn_body(fn, body, env, goal_place, helpers, notes):
-    """env: variable -> place. Paths from these become paths of c."""
-    env = dict(env)
-    count = 0
-    # names of paths
+def name_paths(body, env, helpers):
+    """A let that names a path is written out."""
     again = True
     while again:
         again = False
@@ -167,6 +174,14 @@ def turn_body(fn, body, env, goal_place, helpers, notes):
                     inner = re.sub(rf"(?<![\w.'-]){re.escape(spec[0][0])}(?![\w'-])", m.group(1), spec[3])
                     body = body[:m.start()] + "(" + inner + ")" + body[m.end():]
                     again = True
+    return body
+
+
+def turn_body(fn, body, env, goal_place, helpers, notes):
+    """env: variable -> place. Paths from these become paths of c."""
+    env = dict(env)
+    count = 0
+    body = name_paths(body, env, helpers)
     # functions from a place to a place
     rounds = True
     while rounds:
@@ -197,6 +212,7 @@ def turn_body(fn, body, env, goal_place, helpers, notes):
                     body = body[:m.start()] + body[m.end():]
                     rounds = True
                     break
+    body = name_paths(body, env, helpers)
     # tuples of kept lengths and of clauses, by their paths
     while True:
         m = re.search(rf"let ({NAMEPAT}) = ({NAMEPAT}(?:{PATH})*\.(?:auto|kept|ensures)(?:\.1)*) in\s*", body)

@@ -1,0 +1,11 @@
+-- `fill_ends`: what the column will hold from here on makes it hold all. Assumes nothing.
+use Prim.Native.Nat.{◌-◌}
+use lib.ListN.{length}
+use Rattle.rewriting.proofs.KeptPass.EndsFilled.{Ending}
+use Rattle.rewriting.proofs.kept_items.fill_ends.Given as goal
+
+abbrev pub invariant-loop-x : goal.invariant-loop-x
+invariant-loop-x l = Ending l.r l.abbreviations l.index l.unit l.initial.at.at l.initial.ends l.ends l.at.at l.count.0
+
+abbrev pub decreases-loop-x : goal.decreases-loop-x
+decreases-loop-x l = length l.unit - l.at.at
