@@ -1,0 +1,9 @@
+-- `is_full` asks for 10, then for 11. Assumes nothing.
+use Rattle.collector.proofs.Tiers.{ten-full, others-full}
+use Rattle.collector.proofs.own_tables.is_full.Goals as goal
+
+pub returns-then-answer-eq-FULL : goal.returns-then-answer-eq-FULL
+returns-then-answer-eq-FULL c = search ten-full
+
+pub returns : goal.returns
+returns c = search others-full
