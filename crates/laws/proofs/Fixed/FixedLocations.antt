@@ -243,6 +243,7 @@ module _ (e : Encoding) (table unit : List ℕ) where
   among-found : (f : Valued) → is_location f ≡ true → FixedAddress e (part_of unit f.value.field) → (vs : List Valued) → Member f vs
       → rest true vs ≡ Dead → ⊥
   unfolding locations pick
+  among-found f t h [] m q = elim m [ ]
   among-found f t h (a ∷ vs) (here s) q =
       let r : over true f vs ≡ Dead =
       subst (λ (c : Bool). pick c (over true f vs) (rest true vs) ≡ Dead) t

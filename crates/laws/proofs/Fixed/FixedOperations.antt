@@ -71,6 +71,7 @@ module _ (r : ℕ) (ks : List ℕ) (readable : row_unreadable ≡ r → ⊥) (c 
 
 only_one : (c k : ℕ) → Member c (k ∷ []) → c ≡ k
 only_one c k (here q) = q
+only_one c k (there m) = elim m [ ]
 
 -- the row of DW_OP_addr is its alone
 pub address-code : (c : ℕ) → operation_row c ≡ row_address → c ≡ DW_OP_addr
@@ -90,6 +91,7 @@ pub code-index : (c : ℕ) → Member c (DW_OP_addrx ∷ DW_OP_GNU_addr_index �
 unfolding operation_row operations row_among pick ◌and◌
 code-index c (here q) = ap operation_row q
 code-index c (there (here q)) = ap operation_row q
+code-index c (there (there m)) = elim m [ ]
 
 -- ---- an operation
 

@@ -35,26 +35,27 @@ module _ (e : Encoding) (x : Sections) (one other : KeepList) (unit : List ℕ) 
   unfolding root_of test_of values_of_entry
   root-same base y q = ap (λ (n : ℕ). treated n (test_of e x unit base y)) q
 
-  rows_alike : (k : ℕ) (stack : List ℕ) (rb lb : ℕ) (items : List Item) (rows : List EntryRow)
+  rows_alike : (items : List Item) (k : ℕ) (stack : List ℕ) (rb lb : ℕ) (rows : List EntryRow)
       → ((n : ℕ) (y : Entry) → EntryAt y n items → treatment_of one (tag_of y) ≡ treatment_of other (tag_of y))
       → RowsOf e (with_keep x one) unit k stack rb lb items rows → RowsOf e (with_keep x other) unit k stack rb lb items rows
   unfolding RowsOf base_of names_of values_of_entry
-  rows_alike k stack rb lb [] rows same q = q
-  rows_alike k stack rb lb (terminator a b ∷ rest) rows same q =
-      rows_alike k (closed stack) rb lb rest rows (λ n y at. same n y (behind_terminator at)) q
-  rows_alike k stack rb lb (entry y ∷ rest) [] same q = q
-  rows_alike k stack rb lb (entry y ∷ rest) (r ∷ rows) same q = (
+  rows_alike [] k stack rb lb rows same q = q
+  rows_alike (terminator a b ∷ rest) k stack rb lb rows same q =
+      rows_alike rest k (closed stack) rb lb rows (λ n y at. same n y (behind_terminator at)) q
+  rows_alike (entry y ∷ rest) k stack rb lb [] same q = q
+  rows_alike (entry y ∷ rest) k stack rb lb (r ∷ rows) same q = (
     record {
       offset_is = q.0.offset_is;
       parent_is = q.0.parent_is;
       root_is = subst (λ (v : Verdict). Tested v r.root) (root-same _ y (same 0 y next)) q.0.root_is;
       names_are = q.0.names_are;
     },
-    rows_alike _ _ _ _ rest rows (λ n z at. same (suc n) z (behind_entry at)) q.1,
+    rows_alike rest _ _ _ _ rows (λ n z at. same (suc n) z (behind_entry at)) q.1,
   )
 
 none_beside : (others : List EntryRow) → SameEntries [] others → others ≡ []
 none_beside [] no_entries = refl
+none_beside (_ ∷ _) m = elim m [ ]
 
 -- ---- the answer
 

@@ -119,6 +119,7 @@ top-before k [] h n = absurd (n refl)
 top-before k (p ∷ stack) h n = h.0
 
 nth_inside : {A : Type 0} (a : A) (n : ℕ) (xs : List A) → Nth a n xs → n < length xs
+nth_inside a n [] m = elim m [ ]
 nth_inside a n (x ∷ xs) (now q) = omega arith
 nth_inside a n (x ∷ xs) (later {n = k} h) = omega (arith, nth_inside a k xs h)
 

@@ -33,10 +33,11 @@ module _ (e : Encoding) (x : Sections) (unit : List ℕ) where
   pub row_at : (y : Entry) (k n : ℕ) (stack : List ℕ) (rb lb : ℕ) (items : List Item) (rows : List EntryRow) → EntryAt y k items
       → RowsOf e x unit n stack rb lb items rows → RowAt y k rows
   unfolding RowsOf
+  row_at y k n stack rb lb [] rows at q = elim at [ ]
   row_at y k n stack rb lb (entry z ∷ rest) [] at q = absurd q
   row_at y k n stack rb lb (entry z ∷ rest) (r ∷ rows) next q =
       record { row = r; at = now refl; stack = stack; rnglists_base = rb; loclists_base = lb; of = q.0 }
-  row_at y k n stack rb lb (entry z ∷ rest) (r ∷ rows) (behind_entry at) q = further (row_at y _ _ _ _ _ rest rows at q.1)
+  row_at y _ n stack rb lb (entry z ∷ rest) (r ∷ rows) (behind_entry {k = k'} at) q = further (row_at y k' _ _ _ _ rest rows at q.1)
   row_at y k n stack rb lb (terminator a b ∷ rest) rows (behind_terminator at) q = row_at y k n _ rb lb rest rows at q
 
 -- ---- the verdict of a row

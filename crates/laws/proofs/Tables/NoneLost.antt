@@ -95,6 +95,7 @@ record NthHeld (r : EntryRow) (i : ℕ) (all : List EntryRow) : Type 0 where
   pub held : RowHeld r row
 
 nth-held : {rows all : List EntryRow} → RowsHeld rows all → {r : EntryRow} {i : ℕ} → Nth r i rows → NthHeld r i all
+nth-held no_rows m = elim m [ ]
 nth-held (one_more {s = s} h hs) (now q) = record { row = s; at = now refl; held = subst (λ (t : EntryRow). RowHeld t s) (sym q) h }
 nth-held (one_more h hs) (later n) = let m = nth-held hs n in record { row = m.row; at = later m.at; held = m.held }
 
