@@ -1,6 +1,7 @@
 // The calls of include/collector.h, exported to hosts in C: each is the function of crates/collector with its name, and
 // promises the same.
 #![tactic(auto)]
+
 ghost use Rattle.std.specs.Prelude.{◌≡◌, length};
 ghost use Rattle.readers.specs.Choice.{zeros};
 ghost use Rattle.rewriting.specs.Outputs.{room_of, answer_for, map_for, list_for, output_for, ranges_in, locations_in, strings_in};
