@@ -1,4 +1,4 @@
-/* The unit collector, for hosts in C. Link libcollector.a, which `rt staticlib collector` writes (x86-64 Linux).
+/* The unit collector, for hosts in C. Link libcollector.a, which `tests/archive` writes (x86-64 Linux).
  *
  * A call thins the first unit of a section: it drops the debugging entries that nothing live needs and writes the unit
  * anew. Every slice is a pointer and the number of its elements. A pointer is never null, also where the number is 0.

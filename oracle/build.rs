@@ -100,7 +100,7 @@ fn main() {
         println!("cargo:rerun-if-env-changed=COLLECTOR");
         let archive = env::var("COLLECTOR").unwrap_or_else(|_| format!("{here}/../target/staticlib/libcollector.a"));
         if !Path::new(&archive).exists() {
-            stop(&format!("no archive {archive}: rt staticlib collector writes it; COLLECTOR names another"));
+            stop(&format!("no archive {archive}: tests/archive writes it; COLLECTOR names another"));
         }
         println!("cargo:rerun-if-changed={archive}");
         for program in ["differ", "bench"] {

@@ -1,4 +1,4 @@
-// The calls for hosts in C.
+// The calls that crates/collector_c exports to hosts in C, and that laws speak of.
 ghost use Rattle.std.specs.Prelude.{◌≡◌, length};
 ghost use Rattle.readers.specs.Choice.{zeros};
 ghost use Rattle.rewriting.specs.Outputs.{room_of, answer_for, map_for, list_for, output_for, ranges_in, locations_in, strings_in};
@@ -10,8 +10,7 @@ use marking::setting::Setting;
 use rewriting::collect::collect;
 
 // Thins the first unit of a section with tables that are lent. They are scratch, and zeros after the call.
-#[unsafe(no_mangle)]
-pub extern "C" fn collector_collect_lent<'a>(
+pub fn collector_collect_lent<'a>(
     section: &[u8],
     abbreviations: &[u8],
     locations: &[u8],
@@ -100,8 +99,7 @@ pub extern "C" fn collector_collect_lent<'a>(
 
 // The same with tables of its own, of 2,048 entries and 8,192 references. Shorter ones are tried first where they may
 // do: an answer that is neither 10 nor 11 is the same with longer ones.
-#[unsafe(no_mangle)]
-pub extern "C" fn collector_collect<'a>(
+pub fn collector_collect<'a>(
     section: &[u8],
     abbreviations: &[u8],
     locations: &[u8],
