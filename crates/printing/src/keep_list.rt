@@ -188,10 +188,7 @@ fn pairs(s: &[u8], from: usize, tags: &mut [u8], treatments: &mut [u8]) -> ListR
 
 // The list that a word tells: its tags, two big-endian bytes each, and its treatments.
 pub(crate) fn read_list(word: &[u8], tags: &mut [u8], treatments: &mut [u8]) -> ListRead {
-    if word.len() < BEFORE {
-        return ListRead::Nothing;
-    }
-    if !check::same(&word[0..BEFORE], b"--keep-list=") {
+    if !word.starts_with(b"--keep-list=") {
         return ListRead::Nothing;
     }
     if word.len() == BEFORE {
