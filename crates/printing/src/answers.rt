@@ -53,19 +53,11 @@ fn entries(
     number(to, b"entries ", c.entries as u64)?;
     number(to, b" kept ", c.kept as u64)?;
     text(to, b"\n")?;
-    let mut i: usize = 0;
-    while i < c.entries {
-        if i >= offsets.len() {
-            return Ok(());
-        }
-        if i >= marks.len() {
-            return Ok(());
-        }
-        number(to, b"", offsets[i])?;
-        letter(to, marks[i])?;
-        new_offset(to, map, c, rewritten, offsets[i])?;
+    for (offset, mark) in offsets.iter().zip(marks.iter()).take(c.entries) {
+        number(to, b"", *offset)?;
+        letter(to, *mark)?;
+        new_offset(to, map, c, rewritten, *offset)?;
         text(to, b"\n")?;
-        i += 1;
     }
     Ok(())
 }
@@ -132,13 +124,11 @@ fn list(to: &mut impl Write, name: &[u8], bytes: &[u8], count: ListCount) -> io:
 
 fn numbers(to: &mut impl Write, bytes: &[u8], n: usize) -> io::Result<()> {
     text(to, b"[")?;
-    let mut i: usize = 0;
-    while i < n {
+    for i in 0..n {
         if i > 0 {
             text(to, b",")?;
         }
         number(to, b"", rewriting::lists::number_at(bytes, i))?;
-        i += 1;
     }
     text(to, b"]")
 }
@@ -149,15 +139,13 @@ fn places(to: &mut impl Write, map: &[u8], n: usize) -> io::Result<()> {
         text(to, b"-")?;
         return Ok(());
     }
-    let mut i: usize = 0;
-    while i < n {
+    for i in 0..n {
         if i > 0 {
             text(to, b",")?;
         }
         number(to, b"", rewriting::map::old_at(map, i).0)?;
         number(to, b">", rewriting::map::new_at(map, i).0)?;
         number(to, b"@", rewriting::map::depth_at(map, i))?;
-        i += 1;
     }
     Ok(())
 }
@@ -173,13 +161,8 @@ pub fn hex(to: &mut impl Write, name: &[u8], bytes: &[u8], n: usize) -> io::Resu
         text(to, b"-")?;
         return Ok(());
     }
-    let mut i: usize = 0;
-    while i < n {
-        if i >= bytes.len() {
-            return Ok(());
-        }
-        two_digits(to, bytes[i])?;
-        i += 1;
+    for byte in bytes.iter().take(n) {
+        two_digits(to, *byte)?;
     }
     Ok(())
 }

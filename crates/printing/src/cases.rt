@@ -194,37 +194,11 @@ fn lend(
 // ---- what it leaves: a table's lent part zeros, and behind it what was there
 
 fn numbers_end(a: &[u64], n: usize) -> bool {
-    let mut i: usize = 0;
-    while i < a.len() {
-        if i < n {
-            if a[i] != 0 {
-                return false;
-            }
-        } else {
-            if a[i] != 0xa5a5_a5a5_a5a5_a5a5 {
-                return false;
-            }
-        }
-        i += 1;
-    }
-    true
+    a.iter().take(n).all(|x| *x == 0) && a.iter().skip(n).all(|x| *x == 0xa5a5_a5a5_a5a5_a5a5)
 }
 
 fn bytes_end(a: &[u8], n: usize) -> bool {
-    let mut i: usize = 0;
-    while i < a.len() {
-        if i < n {
-            if a[i] != 0 {
-                return false;
-            }
-        } else {
-            if a[i] != 0xa5 {
-                return false;
-            }
-        }
-        i += 1;
-    }
-    true
+    a.iter().take(n).all(|x| *x == 0) && rest_kept(a, n)
 }
 
 fn tables_end(
@@ -264,14 +238,7 @@ fn tables_end(
 
 // Whether what lies behind the lent part is as it was.
 fn rest_kept(a: &[u8], n: usize) -> bool {
-    let mut i = n;
-    while i < a.len() {
-        if a[i] != 0xa5 {
-            return false;
-        }
-        i += 1;
-    }
-    true
+    a.iter().skip(n).all(|x| *x == 0xa5)
 }
 
 fn outputs_end(
@@ -499,13 +466,11 @@ fn first_case(to: &mut impl Write, s: &[u8], n: u64) -> io::Result<usize> {
 // Prints each case.
 pub fn list_all(to: &mut impl Write, s: &[u8]) -> io::Result<()> {
     let mut at: usize = 0;
-    let mut n: usize = 0;
-    while n < 65536 {
+    for n in 1..65537u64 {
         if at >= s.len() {
             return Ok(());
         }
-        n += 1;
-        let bytes = first_case(to, &s[at..], n as u64)?;
+        let bytes = first_case(to, &s[at..], n)?;
         if bytes == 0 {
             return Ok(());
         }

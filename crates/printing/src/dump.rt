@@ -37,6 +37,9 @@ struct Values {
     spec: Cursor,
 }
 
+// More than a list, an entry or a unit of a bundle has steps.
+const MOST_TURNS: usize = 65537;
+
 // A number that was read as a signed one, from the bits of its two's complement.
 fn signed_number(to: &mut impl Write, s: &[u8], n: u64) -> io::Result<()> {
     text(to, s)?;
@@ -91,8 +94,7 @@ fn value(to: &mut impl Write, form: u64, f: Field, implicit: u64) -> io::Result<
 // ---- expressions
 
 fn reference_lines(to: &mut impl Write, table: &[u64], count: usize) -> io::Result<()> {
-    let mut i: usize = 0;
-    while i < count {
+    for i in 0..count {
         if table.len() / 3 <= i {
             return Ok(());
         }
@@ -100,7 +102,6 @@ fn reference_lines(to: &mut impl Write, table: &[u64], count: usize) -> io::Resu
         number(to, b" to ", table[3 * i + 1])?;
         number(to, b" width ", table[3 * i + 2])?;
         text(to, b"\n")?;
-        i += 1;
     }
     Ok(())
 }
@@ -245,13 +246,11 @@ fn list(
     number(to, b"  list at ", first.at as u64)?;
     text(to, b"\n")?;
     let mut c = first;
-    let mut turns: usize = 65537;
-    while turns > 0 {
+    for _ in 0..MOST_TURNS {
         let Moved::To(next) = list_step(to, s, c, location, e)? else {
             return Ok(());
         };
         c = next;
-        turns -= 1;
     }
     Ok(())
 }
@@ -385,13 +384,11 @@ fn attributes(
     e: Encoding,
 ) -> io::Result<()> {
     let mut v = first;
-    let mut turns: usize = 65537;
-    while turns > 0 {
+    for _ in 0..MOST_TURNS {
         v = attribute_step(to, unit, abbreviations, locations, ranges, p, v, e)?;
         if v.done {
             return Ok(());
         }
-        turns -= 1;
     }
     Ok(())
 }
@@ -415,8 +412,7 @@ fn bases(unit: &[u8], abbreviations: &[u8], p: Place, first: Values, e: Encoding
     let mut q = p;
     let mut c = first.value;
     let mut spec = first.spec;
-    let mut turns: usize = 65537;
-    while turns > 0 {
+    for _ in 0..MOST_TURNS {
         let SpecStep::Attribute(a) = spec.attribute_spec(abbreviations) else {
             return q;
         };
@@ -427,7 +423,6 @@ fn bases(unit: &[u8], abbreviations: &[u8], p: Place, first: Values, e: Encoding
         q = with_base(q, a.name, r.form, field.value);
         c = field.next();
         spec = a.next;
-        turns -= 1;
     }
     q
 }
@@ -541,13 +536,11 @@ fn entries(
         range_base: readers::lists::list_base(h.encoding),
         location_base: readers::lists::list_base(h.encoding),
     };
-    let mut turns: usize = 65537;
-    while turns > 0 {
+    for _ in 0..MOST_TURNS {
         p = place_step(to, unit, abbreviations, locations, ranges, index, h, p)?;
         if p.done {
             return Ok(());
         }
-        turns -= 1;
     }
     Ok(())
 }

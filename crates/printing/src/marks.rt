@@ -18,18 +18,10 @@ pub fn letter(to: &mut impl Write, mark: u8) -> io::Result<()> {
 }
 
 fn lines(to: &mut impl Write, offsets: &[u64], marks: &[u8], entries: usize) -> io::Result<()> {
-    let mut i: usize = 0;
-    while i < entries {
-        if i >= offsets.len() {
-            return Ok(());
-        }
-        if i >= marks.len() {
-            return Ok(());
-        }
-        number(to, b"", offsets[i])?;
-        letter(to, marks[i])?;
+    for (offset, mark) in offsets.iter().zip(marks.iter()).take(entries) {
+        number(to, b"", *offset)?;
+        letter(to, *mark)?;
         text(to, b"\n")?;
-        i += 1;
     }
     Ok(())
 }
