@@ -256,7 +256,7 @@ fn print(
     }
 }
 
-// The first bytes of an input, as many as there are up to so many.
+// The first bytes of an input, as many as there are up to so many; a read that fails is an error.
 fn first_bytes<R: Alloc>(rt: &R, input: impl Read + Drop, most: u64) -> io::Result<Vec<u8, R::A>> {
     let mut bytes = Vec::new(rt.alloc());
     input.take(most).read_to_end(&mut bytes)?;
@@ -285,7 +285,7 @@ pub fn standard_input<R: Env + Input + Alloc>(
     }
 }
 
-// Prints a file, after a line with its name.
+// Prints a file, after a line with its name. What can't be opened is no file, and so is a name that is not UTF-8.
 fn file_at<R: Files + Env + Alloc>(
     rt: &R,
     to: &mut impl Write,
