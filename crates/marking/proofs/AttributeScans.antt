@@ -5,41 +5,24 @@ use native.Mathlib.Omega.{arith}
 use mathlib.Core.Bool.{Bool, true, false}
 use mathlib.Core.List.{List, [], ◌∷◌, ◌++◌, append-nil}
 use lib.ListN.{length, set}
-use mathlib.Core.Logic.{⊎_elim}
-use lib.Dec.{ltb, leb, eqb}
-use borrow.Author.Tests.{eq-eqb, ne_eqb, le-ltb, le-leb, lt-leb}
-use mir.Facts.{eqb_yes, eqb_no, leb_yes, leb_no, ltb_yes, ltb_no}
-use Rattle.readers.proofs.Choice.{either}
-use Rattle.readers.specs.Cursors.{cursor}
+use lib.Dec.{leb}
+use borrow.Author.Tests.{eq-eqb, ne_eqb, le-leb, lt-leb}
 use Rattle.readers.specs.Choice.{pick, ◌and◌}
 use Rattle.readers.specs.Abbreviations.{spec_at}
-use Rattle.readers.specs.Entries.{attribute_at, attribute_end, values_at}
+use Rattle.readers.specs.Entries.{values_at}
 use Rattle.readers.specs.Lists.{list_offset, list_start}
-use Rattle.readers.specs.declared.abbreviations.AttributeSpec.{AttributeSpec}
-use Rattle.readers.specs.declared.abbreviations.SpecStep.{SpecStep}
-use Rattle.readers.specs.declared.abbreviations.SpecStep.TheVariants.{Attribute as Spec, Last as LastSpec, Unreadable as NoSpec}
-use Rattle.readers.specs.declared.attributes.Attribute.{Attribute}
-use Rattle.readers.specs.declared.attributes.AttributeRead.TheVariants.{Read as Attribute'}
-use Rattle.readers.specs.declared.fields.FieldRead.{FieldRead}
-use Rattle.readers.specs.declared.fields.FieldRead.TheVariants.{Read as Field', Unreadable as NoField}
-use Rattle.readers.specs.declared.cursor.Cursor.{Cursor}
 use Rattle.readers.specs.declared.cursor.Moved.{Moved}
-use Rattle.readers.specs.declared.cursor.Moved.TheVariants.{To as EndsAt, Unreadable as Nowhere}
 use Rattle.readers.specs.declared.cursor.Encoding.{Encoding}
 use Rattle.readers.specs.declared.lists.ListOffset.{ListOffset}
-use Rattle.readers.specs.EntryAttributes.{Valued, entry_values, next_attribute, taken, taken_by}
+use Rattle.readers.specs.EntryAttributes.{Valued, entry_values, next_attribute}
 use Rattle.readers.specs.Inner.EntryAttributes.{end_by}
 use Rattle.marking.specs.EntryReferences.{ReferencesFound, found, refused, after, and_then, expression_found, part_of, list_found, Locations, attribute_found, attributes_found}
 use Rattle.readers.specs.declared.entry_attributes.EntryAttribute.{EntryAttribute}
 use Rattle.readers.specs.declared.entry_attributes.NextAttribute.{NextAttribute}
 use Rattle.readers.specs.declared.entry_attributes.NextAttribute.TheVariants.{More, NoMore}
-use Rattle.readers.proofs.Specs.{attribute-inside}
-use Rattle.readers.proofs.Values as Values
-use Rattle.readers.proofs.Values.{attribute-direct}
-use Rattle.readers.proofs.EntryAttributes.{stepped, stepped-on, ends_on, no_more, stop-end, taken-last, taken-bad, taken_none, taken_more, end_more, end-last, end-bad}
-use Rattle.marking.proofs.NamedAttributes.{passed, unread}
+use Rattle.readers.proofs.EntryAttributes.{stepped, stepped-on, ends_on, no_more, stop-end}
 use Rattle.marking.specs.ReferenceTable.{next_place, written, table_after, scanned_to, entry_scanned}
-use Rattle.marking.specs.Inner.ReferenceTable.{valued_by, may_name}
+use Rattle.marking.specs.Inner.ReferenceTable.{valued_by}
 use Rattle.marking.specs.declared.references.Scanned.{Scanned}
 use Rattle.marking.specs.declared.references.Scanned.TheVariants.{To, Refused}
 use Rattle.marking.specs.declared.references.EntryScan.{EntryScan}
@@ -135,63 +118,6 @@ module _ (e : Encoding) (l : Locations) (a : Valued) (table : List ℕ) (at : �
                 ne_eqb a.value.form 0x17 g',
               ))
 
--- ---- an attribute that may name nothing
-
-module _ (name form : ℕ) where
-  clash : may_name name form ≡ true → may_name name form ≡ false → ⊥
-  clash y n = let z : true ≡ false = sym y ∙ n in let w : ◌≡◌ {A = ℕ} 0 1 = cc in omega arith
-
-  module _ (k : name ≡ 0x01 → ⊥) (g : 0x10 ≤ form) (m : may_name name form ≡ false) where
-    unnamed-above : 0x16 < form
-    unfolding may_name pick
-    unnamed-above =
-        ⊎_elim
-        (λ t. absurd (clash (rw (le-ltb form 0x10 g, ne_eqb name 0x01 k, le-leb form 0x16 (leb_yes {a = form} {b = 0x16} t))) m))
-        (λ t. leb_no {a = form} {b = 0x16} t)
-        (either (leb form 0x16))
-
-    unnamed-form : form ≡ 0x18 → ⊥
-    unfolding may_name pick
-    unnamed-form z = clash (rw (le-ltb form 0x10 g, ne_eqb name 0x01 k, lt-leb form 0x16 unnamed-above, eq-eqb form 0x18 z)) m
-
-    unnamed-name : name ≡ 0x02 → ⊥
-    unfolding may_name pick
-    unnamed-name z =
-        clash (rw (le-ltb form 0x10 g, ne_eqb name 0x01 k, lt-leb form 0x16 unnamed-above, ne_eqb form 0x18 unnamed-form, eq-eqb name 0x02 z)) m
-
-module _ (e : Encoding) (l : Locations) (a : Valued) (table : List ℕ) (at : ℕ) (m : may_name a.name a.declared ≡ false)
-    (w : (a.declared ≡ 0x16 → ⊥) → a.value.form ≡ a.declared) where
-  unnamed-below : (a.name ≡ 0x01 → ⊥) → a.declared < 0x10 → Scans table at (attribute_found e l a) (To at) table
-  unnamed-below k g =
-      let i : a.value.form ≡ a.declared = w (λ z. omega arith) in
-      ⊎_elim
-      (λ t. attribute-plain e l a table at k (λ z. omega arith) (λ z. omega arith) (form-below a.value.form (omega arith)) (eqb_yes {a = a.name} {b = 0x02} t) (λ z. omega arith) (λ z. omega arith))
-      (λ t. attribute-other e l a table at k (λ z. omega arith) (λ z. omega arith) (form-below a.value.form (omega arith)) (eqb_no {a = a.name} {b = 0x02} t))
-      (either (eqb a.name 0x02))
-
-  unnamed-beyond : (a.name ≡ 0x01 → ⊥) → 0x10 ≤ a.declared → Scans table at (attribute_found e l a) (To at) table
-  unnamed-beyond k g =
-      let b : 0x16 < a.declared = unnamed-above a.name a.declared k g m in
-      let i : a.value.form ≡ a.declared = w (λ z. omega arith) in
-      attribute-other e l a table at k (λ z. omega arith) (λ z. unnamed-form a.name a.declared k g m (sym i ∙ z)) (form-above a.value.form (omega arith))
-      (unnamed-name a.name a.declared k g m)
-
-  attribute-unnamed : Scans table at (attribute_found e l a) (To at) table
-  attribute-unnamed =
-      ⊎_elim
-      (λ t. attribute-sibling e l a table at (eqb_yes {a = a.name} {b = 0x01} t))
-      (λ t. ⊎_elim
-      (λ u. unnamed-below (eqb_no {a = a.name} {b = 0x01} t) (ltb_yes {a = a.declared} {b = 0x10} u))
-      (λ u. unnamed-beyond (eqb_no {a = a.name} {b = 0x01} t) (ltb_no {a = a.declared} {b = 0x10} u))
-      (either (ltb a.declared 0x10)))
-      (either (eqb a.name 0x01))
-
--- a value in a form other than indirect has that form
-form_of : (form : ℕ) (r : FieldRead) (v : Attribute) → Values.valued form r ≡ Attribute' v → v.form ≡ form
-unfolding Values.valued
-form_of form (Field' f) v g = let z : record { form = form; field = f } ≡ v = cc in ap (λ (a : Attribute). a.form) (sym z)
-form_of form NoField v g = let z : ◌≡◌ {A = ℕ} 0 1 = cc in absurd (omega arith)
-
 -- ---- the loop over the attributes: what is in the table, and what is found from here on
 
 -- a scan whose values end there
@@ -272,38 +198,3 @@ module _ (e : Encoding) (l : Locations) (s table₀ : List ℕ) (p₀ from₀ at
                 whole = whole-turn (found b.0) b.1 ∙ after-after h.sofar b.0 rest;
                 ends = h.ends ∙ ends_on e s p l.unit from x (sym q ∙ r);
               }
-
-    -- by the specification there
-    module _ (r : SpecStep) (q : r ≡ spec_at s p) where
-      pub scanning-last : (c : Cursor) → r ≡ LastSpec c → EntryScans table₀ at all past (Through to (EndsAt (cursor from))) table
-      scanning-last c k = scanning-end NoMore (taken-last e s p l.unit from r q c k) refl _ (end-last s p from r q c k)
-
-      pub scanning-bad : r ≡ NoSpec → EntryScans table₀ at all past (Through to Nowhere) table
-      scanning-bad k = scanning-end NoMore (taken-bad e s p l.unit from r q k) refl _ (end-bad s p from r q k)
-
-      module _ (a : AttributeSpec) (k : r ≡ Spec a) where
-        pub specs-less : length s - a.next.at < length s - p
-        specs-less = omega (arith, (attribute-inside s p a (sym q ∙ k)).0, (attribute-inside s p a (sym q ∙ k)).1)
-
-        -- read
-        module _ (n : NextAttribute) (y : n ≡ taken a (attribute_at e l.unit from a.name a.form)) where
-          pub next_is : n ≡ next_attribute e s p l.unit from
-          unfolding next_attribute taken_by
-          next_is = y ∙ rw (sym q ∙ k)
-
-          pub scanning-unread : n ≡ NoMore → EntryScans table₀ at all past (Through to Nowhere) table
-          scanning-unread z = scanning-end n next_is z _ (end_more s p from r q a k)
-
-        -- stepped over
-        module _ (d : may_name a.name a.form ≡ false) (m : Moved) (y : m ≡ attribute_end (attribute_at e l.unit from a.name a.form)) where
-          pub scanning-none : m ≡ Nowhere → EntryScans table₀ at all past (Through to Nowhere) table
-          scanning-none z =
-              scanning-end NoMore (taken_none e s p l.unit from r q a k _ refl (unread e l.unit from a m y z)) refl _ (end_more s p from r q a k)
-
-          pub scanning-past : (c : Cursor) → m ≡ EndsAt c → Scanning e l s table₀ p₀ from₀ at table a.next.at c.at to
-          scanning-past c z =
-              let v = passed e l.unit from a m y c z in
-              let x : EntryAttribute = record { name = a.name; declared = a.form; value = v.value; next = a.next; values = c } in
-              scanning-on (More x) (taken_more e s p l.unit from r q a k _ refl v.value v.read c v.past) x refl (To to) table
-              (attribute-unnamed e l (valued_by x) table to d (λ i. form_of a.form _ v.value (sym (attribute-direct e l.unit from a.name a.form i) ∙ v.read)))
-              to refl

@@ -1,25 +1,26 @@
 // The references of an entry, into a lent table of offsets. scan_live_die_attrs and scan_loclist_for_refs have the
 // names of their originals in gc.rs.
 ghost use Rattle.std.specs.Prelude.{◌≡◌, length, set};
+ghost use Rattle.readers.specs.Abbreviations.{spec_at};
 ghost use Rattle.readers.specs.Entries.{values_at};
 ghost use Rattle.readers.specs.References.{flat_from};
 ghost use Rattle.marking.specs.EntryReferences.{targets as offsets_of, expression_found, location_found, list_found};
 ghost use Rattle.marking.specs.EntryReferences.{locations_by, attribute_found, attributes_found};
 ghost use Rattle.marking.specs.ReferenceTable.{next_place, placed, written, scanned_to, table_after};
-ghost use Rattle.marking.specs.Inner.ReferenceTable.{valued_by, may_name};
+ghost use Rattle.marking.specs.Inner.ReferenceTable.{valued_by};
 ghost use Rattle.marking.specs.ReferenceTable.{entry_scanned};
 ghost use Rattle.readers.specs.EntryAttributes.{entry_values};
+ghost use Rattle.readers.specs.Inner.EntryAttributes.{end_by};
 ghost use Rattle.readers.specs.declared.lists.ListOffset.TheVariants.{At};
 
-use crate::named::attribute_of;
 use readers::abbreviations::SpecStep;
 use readers::codes::{
-    DW_AT_location, DW_AT_sibling, DW_FORM_exprloc, DW_FORM_indirect, DW_FORM_loclistx,
-    DW_FORM_ref_addr, DW_FORM_ref_udata, DW_FORM_ref1, DW_FORM_sec_offset, DW_LLE_base_address,
-    DW_LLE_base_addressx, DW_LLE_default_location,
+    DW_AT_location, DW_AT_sibling, DW_FORM_exprloc, DW_FORM_loclistx, DW_FORM_ref_addr,
+    DW_FORM_ref_udata, DW_FORM_ref1, DW_FORM_sec_offset, DW_LLE_base_address, DW_LLE_base_addressx,
+    DW_LLE_default_location,
 };
 use readers::cursor::{Cursor, Encoding, Moved};
-use readers::entry_attributes::{EntryAttribute, NextAttribute};
+use readers::entry_attributes::{EntryAttribute, NextAttribute, next_attribute};
 use readers::expressions::{Walk, Yield, walk_expression};
 use readers::lists::{ListOffset, list_offset, list_start};
 use readers::offsets::UnitOffset;
@@ -224,24 +225,16 @@ fn scan_attribute(
     Scanned::To(at)
 }
 
-// Whether an attribute of a name and a declared form may name something: a sibling never; another in a reference form,
-// behind indirect too, in exprloc, and a location in other forms.
-fn may_name(name: u64, form: u64) -> bool
-    ensures { result ≡ may_name name form }
+// Where the values of an entry end, by the place that no attribute was read at: there, if its specifications end there
+// too; else it is unreadable.
+fn values_end(abbreviations: &[u8], specs: Cursor, values: Cursor) -> Moved
+    ensures { result ≡ end_by values.at (spec_at abbreviations.now specs.at) }
 {
-    if form < DW_FORM_ref_addr {
-        return false;
+    match specs.attribute_spec(abbreviations) {
+        SpecStep::Attribute(_) => Moved::Unreadable,
+        SpecStep::Last(_) => Moved::To(values),
+        SpecStep::Unreadable => Moved::Unreadable,
     }
-    if name == DW_AT_sibling {
-        return false;
-    }
-    if form <= DW_FORM_indirect {
-        return true;
-    }
-    if form == DW_FORM_exprloc {
-        return true;
-    }
-    name == DW_AT_location
 }
 
 // The references of an entry, in attribute order: each as a 64-bit offset, repeats and dangling ones included. 5 and 7
@@ -268,51 +261,23 @@ pub fn scan_live_die_attrs(
     let mut c = values;
     let mut to = at;
     loop {
-        match p.attribute_spec(abbreviations) {
-            SpecStep::Attribute(a) => {
-                if may_name(a.name, a.form) {
-                    let NextAttribute::More(x) = attribute_of(unit, a, c, e) else {
-                        return EntryScan::Through {
-                            place: to,
-                            end: Moved::Unreadable,
-                        };
-                    };
-                    let next = x.next;
-                    let past = x.values;
-                    match scan_attribute(unit, locations, loclists_base, x, e, targets, to) {
-                        Scanned::To(place) => {
-                            to = place;
-                        }
-                        Scanned::Refused(n) => {
-                            return EntryScan::Refused(n);
-                        }
-                    }
-                    c = past;
-                    p = next;
-                } else {
-                    let next = a.next;
-                    let Moved::To(past) = c.past_attribute(unit, a.name, a.form, e) else {
-                        return EntryScan::Through {
-                            place: to,
-                            end: Moved::Unreadable,
-                        };
-                    };
-                    c = past;
-                    p = next;
-                }
+        let NextAttribute::More(a) = next_attribute(unit, abbreviations, p, c, e) else {
+            return EntryScan::Through {
+                place: to,
+                end: values_end(abbreviations, p, c),
+            };
+        };
+        let next = a.next;
+        let past = a.values;
+        match scan_attribute(unit, locations, loclists_base, a, e, targets, to) {
+            Scanned::To(place) => {
+                to = place;
             }
-            SpecStep::Last(_) => {
-                return EntryScan::Through {
-                    place: to,
-                    end: Moved::To(c),
-                };
-            }
-            SpecStep::Unreadable => {
-                return EntryScan::Through {
-                    place: to,
-                    end: Moved::Unreadable,
-                };
+            Scanned::Refused(n) => {
+                return EntryScan::Refused(n);
             }
         }
+        c = past;
+        p = next;
     }
 }

@@ -11,4 +11,3 @@ pub mod DeepReads
 pub mod FormTokens
 pub mod EntryReads
 pub mod UnitKept
-pub mod WholeUnits

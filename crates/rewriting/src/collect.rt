@@ -1,15 +1,12 @@
 // Thins the first unit of a section (gc.rs: `gc_debug_info`): analysis, marks, index lists, map, output.
-ghost use Rattle.std.specs.Prelude.{◌≡◌, ◌≤◌, List, [], length};
+ghost use Rattle.std.specs.Prelude.{◌≡◌, List, [], length};
 ghost use Rattle.readers.specs.Choice.{zeros};
 ghost use Rattle.readers.specs.Abbreviations.{Placed};
-ghost use Rattle.readers.specs.Stream.{entry_count};
 ghost use Rattle.marking.specs.KeepList.{keep_in};
 ghost use Rattle.marking.specs.Analysis.{Sections, Rooms, EntryRow, sections};
 ghost use Rattle.rewriting.specs.Places.{kept_from};
 ghost use Rattle.rewriting.specs.Rewriting.{Unit as Unit', unit_of, Lists, Room, items_in, lists_of, no_lists, untouched, rewrite_of, collect_of};
-ghost use Rattle.rewriting.specs.Inner.Ends.{EndsHeld};
-ghost use Rattle.rewriting.specs.Inner.NextKept.{items_by};
-ghost use Rattle.rewriting.specs.Inner.IndexLists.{PassInput, ListInput};
+ghost use Rattle.rewriting.specs.Inner.IndexLists.{PassInput};
 ghost use Rattle.rewriting.specs.Inner.Emission.{ListsLent};
 ghost use Rattle.rewriting.specs.Outputs.{room_by, room_of, answer_for, map_for, list_for, output_for, ranges_in, locations_in, strings_in};
 ghost use Rattle.rewriting.specs.Inner.Leaving.{Answers, Tabled, Blank, marked_of, ListsAnswer, Writable, WriteAnswer};
@@ -17,7 +14,7 @@ ghost use Rattle.rewriting.specs.Inner.Leaving.{left_by, task_of, MarkedTables};
 
 use crate::emit_entry::Emitted;
 use crate::emit_unit::{emit_dies, emit_header};
-use crate::indices::{is_short, settle, sorted_lists, table_declares};
+use crate::indices::{is_short, settle, sorted_lists};
 use crate::kept_items::{Reading, fill_ends};
 use crate::lists::ListCount;
 use crate::map::PLACE_SIZE;
@@ -136,27 +133,24 @@ pub enum Listed {
     Short,
 }
 
-// The lists of a unit, and the column of the ends of its entries. The slots serve to gather the strings, whatever they
-// hold, best zeros.
+// The lists of a unit.
 fn index_lists(
     unit: &[u8],
     abbreviations: &[u8],
     r: Reading,
     index: &[u64],
+    parents: &[u64],
+    ends: &[u64],
     marks: &[u8],
     first: UnitOffset,
     type_units: bool,
     range_list: &mut [u8],
     location_list: &mut [u8],
     string_list: &mut [u8],
-    ends: &mut [u64],
-    slots: &mut [u32],
 ) -> Listed
-    ensures ends { let items = items_by r abbreviations.now index.now unit.now first.0 in
-        entry_count items ≤ length ends.old → EndsHeld ends.new 0 items }
-    ensures lists { (x : Sections) (u : Unit')
-        → ListInput x u (length ends.old) r abbreviations.now index.now
-        unit.now marks.now first.0
+    ensures { (x : Sections) (u : Unit')
+        → PassInput x u r abbreviations.now index.now unit.now parents.now
+        ends.now marks.now first.0
         → first.0 ≡ u.header.first.0
         → range_list.old ≡ zeros (length range_list.old)
         → location_list.old ≡ zeros (length location_list.old)
@@ -166,7 +160,6 @@ fn index_lists(
         result range_list.new location_list.new string_list.new }
 {
     if type_units {
-        fill_ends(unit, abbreviations, r, index, first, ends);
         return Listed::Made {
             ranges: ListCount::Absent,
             locations: ListCount::Absent,
@@ -178,15 +171,14 @@ fn index_lists(
         abbreviations,
         r,
         index,
+        parents,
+        ends,
         marks,
         first,
         range_list,
         location_list,
         string_list,
-        ends,
-        slots,
     );
-    let d = table_declares(abbreviations, r.from);
     let ranges = settle(
         unit,
         abbreviations,
@@ -194,7 +186,6 @@ fn index_lists(
         index,
         first,
         DW_AT_ranges,
-        d.ranges,
         g.ranges,
         range_list,
     );
@@ -208,7 +199,6 @@ fn index_lists(
         index,
         first,
         DW_AT_location,
-        d.locations,
         g.locations,
         location_list,
     );
@@ -222,7 +212,6 @@ fn index_lists(
         index,
         first,
         0,
-        false,
         g.strings,
         string_list,
     );
@@ -332,7 +321,7 @@ fn write_unit(
     }
 }
 
-// The unit of marked tables: lists and the ends of its entries, then map and output where something is dead.
+// The unit of marked tables: the ends of its entries, lists, then map and output where something is dead.
 fn rewrite_unit(
     section: &[u8],
     h: UnitHeader,
@@ -370,19 +359,20 @@ fn rewrite_unit(
     };
     let unit = unit_part(section, h);
     let first = h.first;
+    fill_ends(unit, abbreviations, r, index, first, ends);
     match index_lists(
         unit,
         abbreviations,
         r,
         index,
+        parents,
+        ends,
         marks,
         first,
         type_units,
         range_list,
         location_list,
         string_list,
-        ends,
-        work,
     ) {
         Listed::Short => Collected::Refused(12),
         Listed::Made {
@@ -616,7 +606,7 @@ fn collect_unit<'a>(
 // map has 24 bytes a place (old offset, new offset, depth), a list 8 bytes a number, all big-endian. Refused with a
 // number of documents 01 and 02; then map, lists and output are zeros. The tables are scratch, zeros on every answer:
 // the index of the declarations, those of the entries (`offsets`, `parents`, `roots`, `ends`, `marks`) and of the
-// references (`targets`, `pairs`), and the work column of the marking, of the strings and of the emission's searches,
+// references (`targets`, `pairs`), and the work column of the marking and of the emission's searches,
 // best two numbers an entry. The lengths of the index and of the work column change the time alone.
 pub fn collect<'a>(
     section: &[u8],

@@ -1,4 +1,4 @@
-// The kept entries and terminators of a unit, one after the other: the walk that measuring and writing share.
+// The kept entries and terminators of a unit, one after the other: the walk that every pass shares.
 ghost use Rattle.std.specs.Prelude.{◌≡◌, ℕ, ◌^◌, ◌≤◌, ◌<◌, length, get_or};
 ghost use Rattle.marking.specs.Marks.{is_kept};
 ghost use Rattle.readers.specs.Stream.{entry_count};
@@ -46,7 +46,7 @@ pub enum KeptStep {
 }
 
 // Whether the entry with an index is kept.
-pub(crate) fn is_kept(marks: &[u8], i: EntryIndex) -> bool
+fn is_kept(marks: &[u8], i: EntryIndex) -> bool
     ensures { result ≡ is_kept marks.now i.0 }
 {
     let k = place(i);
@@ -68,7 +68,7 @@ fn closes_kept(marks: &[u8], nesting: Nesting) -> bool
 }
 
 // The number of an entry that ends at a place below 2^63: twice the place, and one more where it has children.
-pub(crate) fn end_number(past: Cursor, children: bool) -> u64
+fn end_number(past: Cursor, children: bool) -> u64
     ensures { past.at < 2 ^ 63 → result ≡ end_number past.at children }
 {
     let end = past.at as u64;
@@ -82,7 +82,7 @@ pub(crate) fn end_number(past: Cursor, children: bool) -> u64
 }
 
 // Puts a 0 after the numbers of a column, if it goes on.
-pub(crate) fn end_column(ends: &mut [u64], count: EntryIndex)
+fn end_column(ends: &mut [u64], count: EntryIndex)
     ensures ends { get_or ends.new count.0 0 ≡ 0 }
     ensures others { (i : ℕ) → i < count.0 → get_or ends.new i 0 ≡ get_or ends.old i 0 }
 {
@@ -92,8 +92,7 @@ pub(crate) fn end_column(ends: &mut [u64], count: EntryIndex)
     }
 }
 
-// Fills a column with the ends of a unit's entries, so that a pass need not step over their values again. With lists to
-// be gathered the pass that does so fills it.
+// Fills a column with the ends of a unit's entries, so that a pass need not step over their values again.
 pub(crate) fn fill_ends(
     unit: &[u8],
     abbreviations: &[u8],

@@ -112,13 +112,14 @@ module _ {I : Type 0} (fixed : I → Bool) (table : I → List ℕ) where
     found-by (found names) q k each = each names
     found-by (refused_after names n) q k each = a.of-refused n (wider (5 ∷ 7 ∷ []) entry_numbers_but_table n tt q)
 
-    pub items-by : (e : Encoding) (unit : List ℕ) (room : Rooms) (is : List Item) (p : Reached) (whole : Bool)
+    -- by the entries
+    by-items : (e : Encoding) (unit : List ℕ) (room : Rooms) (is : List Item) (p : Reached) (whole : Bool)
         → Q (λ i. analyse_items e (by i) unit room p is whole)
     unfolding analyse_items test_of root_of names_of base_of values_of_entry is_one_of ◌or◌
-    items-by e unit room [] p true = a.of_end
-    items-by e unit room [] p false = a.of-refused 4 (one_of entry_numbers_but_table 4 tt)
-    items-by e unit room (terminator s t ∷ is) p whole = items-by e unit room is _ whole
-    items-by e unit room (entry y ∷ is) p whole =
+    by-items e unit room [] p true = a.of_end
+    by-items e unit room [] p false = a.of-refused 4 (one_of entry_numbers_but_table 4 tt)
+    by-items e unit room (terminator s t ∷ is) p whole = by-items e unit room is _ whole
+    by-items e unit room (entry y ∷ is) p whole =
         pick-of Q (ltb p.count room.entries) _ _
         (a.of-verdict _
         (treats (tag_of y) _
@@ -126,8 +127,12 @@ module _ {I : Type 0} (fixed : I → Bool) (table : I → List ℕ) where
         (values_of_entry e x unit y))) _
         (λ root r. found-by (names_of e x unit (base_of e x unit DW_AT_loclists_base p.loclists_base y) y) (attributes-numbered e _ _) _
         (λ names. pick-of Q (leb (p.references + length names) room.references) _ _
-        (a.of-onto _ _ names root r _ (items-by e unit room is _ whole)) (a.of-refused 11 (one_of entry_numbers_but_table 11 tt)))))
+        (a.of-onto _ _ names root r _ (by-items e unit room is _ whole)) (a.of-refused 11 (one_of entry_numbers_but_table 11 tt)))))
         (a.of-refused 10 (one_of entry_numbers_but_table 10 tt))
+
+    pub items-by : (e : Encoding) (unit : List ℕ) (room : Rooms) (p : Reached) (is : List Item) (whole : Bool)
+        → Q (λ i. analyse_items e (by i) unit room p is whole)
+    items-by e unit room p is whole = by-items e unit room is p whole
 
     -- a keep list's 19 and 20, the header's 1 and 2, and 3
     module _ (early : (n : ℕ) → OneOf (19 ∷ 20 ∷ 1 ∷ 2 ∷ 3 ∷ []) n → Q (λ i. not_analysed n)) where
@@ -144,7 +149,7 @@ module _ {I : Type 0} (fixed : I → Bool) (table : I → List ℕ) where
       header-by section room (Refused n) q = early n (wider early_numbers _ n tt q)
       header-by section room (Unit' h) q =
           declared-by (abbreviations_of x.abbreviations h.abbreviations) _
-          (λ ds. items-by h.encoding (take h.end section) room _ (start_of h.encoding) _)
+          (λ ds. items-by h.encoding (take h.end section) room (start_of h.encoding) _ _)
 
   -- by one keep list
   module _ {P : (I → Verdict) → Type 0} {N : (I → ℕ) → Type 0} {Q : (I → Analysed) → Type 0} (v : Verdicts fixed table P) (a : Analyses P N Q)

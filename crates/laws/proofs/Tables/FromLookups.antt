@@ -293,10 +293,10 @@ module _ {I : Type 0} {table : I → List ℕ} {others : List ℕ} {Holds : (X :
   pub items-told : ((n : ℕ) → OneOf entry_numbers_but_table n → OneOf others n) → (x : Sections) (e : Encoding) (unit : List ℕ) (room : Rooms) (p : Reached)
       (is : List Item) (whole : Bool) → Holds Analysed not_analysed (λ i. analyse_items e (with_table x (table i)) unit room p is whole)
   unfolding is_one_of ◌or◌
-  items-told among x e unit room p is whole =
+  items-told among x =
       let counted : Bool = x.setting.fixed_addresses in
       items-by (λ i. counted) table (verdicts-told counted (among 5 (one_of entry_numbers_but_table 5 tt))) (rows_told among) (λ i. x.keep)
-      (λ tag. treatment-told (treatment_of x.keep tag)) x e unit room is p whole
+      (λ tag. treatment-told (treatment_of x.keep tag)) x
 
   -- 19, 20, 1 to 3, and those of the entries
   pub analysis-told : ((n : ℕ) → OneOf (19 ∷ 20 ∷ 1 ∷ 2 ∷ 3 ∷ entry_numbers_but_table) n → OneOf others n) → (x : Sections) (section : List ℕ) (room : Rooms)

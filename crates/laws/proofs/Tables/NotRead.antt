@@ -231,14 +231,20 @@ module _ (n : ℕ) where
   onto-stays r (analysed rows) b f q = absurd (rows-no-refusal _ n q)
   onto-stays r (not_analysed m) b f q = ap (onto r) (f q)
 
-  -- an entry, whatever entries stand behind it, readable or not
-  pub behind-entries : OneOf table_numbers n → (e : Encoding) (x : Sections) (unit : List ℕ) (room : Rooms) (is : List Item) (p : Reached) (more : List Item)
+  -- by the entries
+  behind-items : OneOf table_numbers n → (e : Encoding) (x : Sections) (unit : List ℕ) (room : Rooms) (is : List Item) (p : Reached) (more : List Item)
       (whole whole' : Bool) → analyse_items e x unit room p is whole ≡ not_analysed n → analyse_items e x unit room p (is ++ more) whole' ≡ not_analysed n
   unfolding analyse_items is_one_of ◌or◌
-  behind-entries o e x unit room [] p more true whole' q = absurd (rows-no-refusal _ n q)
-  behind-entries o e x unit room [] p more false whole' q = let four : n ≡ 4 = cc in absurd (not-one-of table_numbers n 4 four tt o)
-  behind-entries o e x unit room (terminator a b ∷ is) p more whole whole' q = behind-entries o e x unit room is _ more whole whole' q
-  behind-entries o e x unit room (entry y ∷ is) p more whole whole' q =
+  behind-items o e x unit room [] p more true whole' q = absurd (rows-no-refusal _ n q)
+  behind-items o e x unit room [] p more false whole' q = let four : n ≡ 4 = cc in absurd (not-one-of table_numbers n 4 four tt o)
+  behind-items o e x unit room (terminator a b ∷ is) p more whole whole' q = behind-items o e x unit room is _ more whole whole' q
+  behind-items o e x unit room (entry y ∷ is) p more whole whole' q =
       pick-stays (not_analysed n) (ltb p.count room.entries) _ _ _ _
       (verdict-stays _ _ _ (λ root. found-stays _ _ _ (λ names. pick-stays (not_analysed n) (leb (p.references + length names) room.references) _ _ _ _
-      (onto-stays _ _ _ (behind-entries o e x unit room is _ more whole whole')) (λ r. r)))) (λ r. r) q
+      (onto-stays _ _ _ (behind-items o e x unit room is _ more whole whole')) (λ r. r)))) (λ r. r) q
+
+
+  -- an entry, whatever entries stand behind it, readable or not
+  pub behind-entries : OneOf table_numbers n → (e : Encoding) (x : Sections) (unit : List ℕ) (room : Rooms) (p : Reached) (is more : List Item)
+      (whole whole' : Bool) → analyse_items e x unit room p is whole ≡ not_analysed n → analyse_items e x unit room p (is ++ more) whole' ≡ not_analysed n
+  behind-entries o e x unit room p is more whole whole' q = behind-items o e x unit room is p more whole whole' q

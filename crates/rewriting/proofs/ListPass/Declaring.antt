@@ -13,15 +13,13 @@ use Rattle.readers.specs.Choice.{◌and◌, ◌or◌, bind, check}
 use Rattle.readers.proofs.Choice.{pick-either, pick_yes, pick_no, either}
 use Rattle.readers.specs.Layout.{Read, RunOf}
 use Rattle.readers.specs.Scan.{Scanned, push}
-use Rattle.readers.specs.Abbreviations.{Placed, spec_at, past_attributes, head_at, declaration_at, declarations_from, distinct, check_distinct, abbreviations_of, declared_in, find_at}
+use Rattle.readers.specs.Abbreviations.{Placed, spec_at, declaration_at, declarations_from, distinct, check_distinct, abbreviations_of, declared_in, find_at}
 use Rattle.readers.specs.Entries.{attribute_at, entry_found, step_of_reads, as_step, step_at}
 use Rattle.readers.specs.Stream.{Item, entry, terminator}
-use Rattle.readers.proofs.Specs.{attribute-inside, past_more, past-last, past-bad}
-use Rattle.readers.proofs.Declarations.{declaration-none, declaration-last, declaration-no-attributes, declaration-whole, declaration-ahead, declarations-more, declarations-last, declarations-bad}
+use Rattle.readers.proofs.Specs.{attribute-inside}
+use Rattle.readers.proofs.Declarations.{declaration-ahead, declarations-more, declarations-last, declarations-bad}
 use Rattle.readers.specs.declared.cursor.Encoding.{Encoding}
 use Rattle.readers.specs.declared.cursor.Cursor.{Cursor}
-use Rattle.readers.specs.declared.cursor.Moved.{Moved}
-use Rattle.readers.specs.declared.cursor.Moved.TheVariants.{To, Unreadable as Nowhere}
 use Rattle.readers.specs.declared.abbreviations.AttributeSpec.{AttributeSpec}
 use Rattle.readers.specs.declared.abbreviations.SpecStep.{SpecStep}
 use Rattle.readers.specs.declared.abbreviations.SpecStep.TheVariants.{Attribute as Spec, Last as LastSpec, Unreadable as NoSpec}
@@ -46,128 +44,94 @@ use Rattle.rewriting.specs.declared.kept_items.Reading.{Reading}
 use Rattle.rewriting.proofs.KeptPass.ItemDepths.{EveryItem, Stands, items-stand}
 use Rattle.rewriting.proofs.ListPass.IndexTurns.{item-declares, absent-named}
 
--- ---- the specifications from a place on, after others that declare b
+-- ---- the specifications from a place on
 
-or-more : (a b c : Bool) → a or (b or c) ≡ (a or b) or c
-unfolding ◌or◌
-or-more true b c = refl
-or-more false b c = refl
+module _ (s : List ℕ) (name p₀ p : ℕ) (h : specs_declare name (specs_from s p₀) ≡ specs_declare name (specs_from s p)) (o : SpecStep) (q : o ≡ spec_at s p) where
+  specs-turn : specs_declare name (specs_from s p₀) ≡ specs_declare name (on_spec o (λ a. a ∷ specs_from s a.next.at))
+  specs-turn = h ∙ ap (specs_declare name) (specs-step s p ∙ ap (λ (o : SpecStep). on_spec o (λ a. a ∷ specs_from s a.next.at)) (sym q))
 
-or-none : (b : Bool) → b or false ≡ b
-unfolding ◌or◌
-or-none true = refl
-or-none false = refl
+  pub specs-last : (c : Cursor) → o ≡ LastSpec c → false ≡ specs_declare name (specs_from s p₀)
+  unfolding specs_declare on_spec
+  specs-last c r = sym (specs-turn ∙ ap (λ (o : SpecStep). specs_declare name (on_spec o (λ a. a ∷ specs_from s a.next.at))) r)
 
-module _ (s : List ℕ) (p : ℕ) (o : SpecStep) (q : o ≡ spec_at s p) where
-  pub specs-less : (a : AttributeSpec) → o ≡ Spec a → length s - a.next.at < length s - p
-  specs-less a r = let i = attribute-inside s p a (sym q ∙ r) in omega (arith, i.0, i.1)
+  pub specs-bad : o ≡ NoSpec → false ≡ specs_declare name (specs_from s p₀)
+  unfolding specs_declare on_spec
+  specs-bad r = sym (specs-turn ∙ ap (λ (o : SpecStep). specs_declare name (on_spec o (λ a. a ∷ specs_from s a.next.at))) r)
 
-  -- the place past them
-  module _ (p₀ : ℕ) (h : past_attributes s p₀ ≡ past_attributes s p) where
-    pub past-on : (a : AttributeSpec) → o ≡ Spec a → past_attributes s p₀ ≡ past_attributes s a.next.at
-    past-on a r = h ∙ past_more s p a (sym q ∙ r)
+  module _ (a : AttributeSpec) (r : o ≡ Spec a) where
+    pub specs-less : length s - a.next.at < length s - p
+    specs-less = let i = attribute-inside s p a (sym q ∙ r) in omega (arith, i.0, i.1)
 
-    pub past_end : (c : Cursor) → o ≡ LastSpec c → To c ≡ past_attributes s p₀
-    past_end c r = past-last s p c (sym q ∙ r) ∙ sym h
-
-    pub past-none : o ≡ NoSpec → Nowhere ≡ past_attributes s p₀
-    past-none r = past-bad s p (sym q ∙ r) ∙ sym h
-
-  -- what they declare
-  module _ (name p₀ : ℕ) (b₀ b : Bool) (h : b₀ or specs_declare name (specs_from s p₀) ≡ b or specs_declare name (specs_from s p)) where
-    specs-turn : b₀ or specs_declare name (specs_from s p₀) ≡ b or specs_declare name (on_spec o (λ a. a ∷ specs_from s a.next.at))
-    specs-turn = h ∙ ap (λ (l : List AttributeSpec). b or specs_declare name l) (specs-step s p ∙ ap (λ (o : SpecStep). on_spec o (λ a. a ∷ specs_from s a.next.at)) (sym q))
-
-    pub specs-last : (c : Cursor) → o ≡ LastSpec c → b ≡ b₀ or specs_declare name (specs_from s p₀)
+    specs-more : specs_declare name (specs_from s p₀) ≡ (eqb a.name name and eqb a.form 0x17) or specs_declare name (specs_from s a.next.at)
     unfolding specs_declare on_spec
-    specs-last c r = sym (specs-turn ∙ ap (λ (o : SpecStep). b or specs_declare name (on_spec o (λ a. a ∷ specs_from s a.next.at))) r ∙ or-none b)
+    specs-more = specs-turn ∙ ap (λ (o : SpecStep). specs_declare name (on_spec o (λ a. a ∷ specs_from s a.next.at))) r
 
-    pub specs-bad : o ≡ NoSpec → b ≡ b₀ or specs_declare name (specs_from s p₀)
-    unfolding specs_declare on_spec
-    specs-bad r = sym (specs-turn ∙ ap (λ (o : SpecStep). b or specs_declare name (on_spec o (λ a. a ∷ specs_from s a.next.at))) r ∙ or-none b)
+    pub specs-yes : a.name ≡ name → a.form ≡ 0x17 → true ≡ specs_declare name (specs_from s p₀)
+    unfolding ◌and◌ ◌or◌
+    specs-yes k l = sym (specs-more ∙ rw (eq-eqb a.name name k, eq-eqb a.form 0x17 l))
 
-    pub specs-more : (a : AttributeSpec) → o ≡ Spec a → (d : Bool) → d ≡ b or (eqb a.name name and eqb a.form 0x17)
-        → b₀ or specs_declare name (specs_from s p₀) ≡ d or specs_declare name (specs_from s a.next.at)
-    unfolding specs_declare on_spec
-    specs-more a r d w =
-        specs-turn ∙ ap (λ (o : SpecStep). b or specs_declare name (on_spec o (λ a. a ∷ specs_from s a.next.at))) r
-        ∙ or-more b (eqb a.name name and eqb a.form 0x17) (specs_declare name (specs_from s a.next.at))
-        ∙ ap (λ (c : Bool). c or specs_declare name (specs_from s a.next.at)) (sym w)
+    pub specs-form : a.name ≡ name → (a.form ≡ 0x17 → ⊥) → specs_declare name (specs_from s p₀) ≡ specs_declare name (specs_from s a.next.at)
+    unfolding ◌and◌ ◌or◌
+    specs-form k l = specs-more ∙ rw (eq-eqb a.name name k, ne_eqb a.form 0x17 l)
 
--- ---- one specification
+    pub specs-name : (a.name ≡ name → ⊥) → specs_declare name (specs_from s p₀) ≡ specs_declare name (specs_from s a.next.at)
+    unfolding ◌and◌ ◌or◌
+    specs-name k = specs-more ∙ rw (ne_eqb a.name name k)
 
-module _ (b : Bool) (name wanted form : ℕ) where
-  pub other-form : (form ≡ 0x17 → ⊥) → b ≡ b or (eqb name wanted and eqb form 0x17)
-  unfolding ◌and◌
-  other-form h = sym (ap (λ (c : Bool). b or (eqb name wanted and c)) (ne_eqb form 0x17 h) ∙ ap (λ (c : Bool). b or c) (no-and (eqb name wanted)) ∙ or-none b)
-    where
-      no-and : (a : Bool) → (a and false) ≡ false
-      no-and true = refl
-      no-and false = refl
-
-  pub other_name : (name ≡ wanted → ⊥) → b ≡ b or (eqb name wanted and eqb form 0x17)
-  unfolding ◌and◌
-  other_name h = sym (ap (λ (c : Bool). b or (c and eqb form 0x17)) (ne_eqb name wanted h) ∙ or-none b)
-
-  pub that-name : name ≡ wanted → form ≡ 0x17 → true ≡ b or (eqb name wanted and eqb form 0x17)
-  unfolding ◌and◌ ◌or◌
-  that-name h k = sym (ap (λ (c : Bool). b or (c and eqb form 0x17)) (eq-eqb name wanted h) ∙ ap (λ (c : Bool). b or c) (eq-eqb form 0x17 k) ∙ or_yes b)
-    where
-      or_yes : (a : Bool) → a or true ≡ true
-      or_yes true = refl
-      or_yes false = refl
-
--- ---- the declarations from a place on, after others that declare b
+-- ---- the declarations from a place on
 
 module _ (s : List ℕ) (name : ℕ) where
   -- these are left
-  pub record Left (ds : List Placed) (at : ℕ) (b : Bool) : Type 0 where
+  pub record Left (ds : List Placed) (at : ℕ) : Type 0 where
     pub rest : Scanned Placed ℕ
     pub is : declarations_from s at ≡ some rest
-    pub same : table_declares s name ds ≡ b or table_declares s name rest.0
+    pub same : table_declares s name ds ≡ table_declares s name rest.0
 
-  abbrev pub Declaring : ℕ → ℕ → Bool → Type 0
-  Declaring from at b = (ds : List Placed) → abbreviations_of s from ≡ some ds → Left ds at b
+  abbrev pub Declaring : ℕ → ℕ → Type 0
+  Declaring from at = (ds : List Placed) → abbreviations_of s from ≡ some ds → Left ds at
 
   checked : (ds : List Placed) (r : Scanned Placed ℕ) (b : Bool) → check b (some r.0) ≡ some ds → r.0 ≡ ds
   unfolding check
   checked ds r true q = cc
   checked ds r false q = let z : ◌≡◌ {A = ℕ} 0 1 = cc in absurd (omega arith)
 
-  scanned : (ds : List Placed) (at : ℕ) (o : Option (Scanned Placed ℕ)) → declarations_from s at ≡ o → bind o check_distinct ≡ some ds → Left ds at false
-  unfolding bind check_distinct ◌or◌
+  scanned : (ds : List Placed) (at : ℕ) (o : Option (Scanned Placed ℕ)) → declarations_from s at ≡ o → bind o check_distinct ≡ some ds → Left ds at
+  unfolding bind check_distinct
   scanned ds at none e q = let z : ◌≡◌ {A = ℕ} 0 1 = cc in absurd (omega arith)
   scanned ds at (some r) e q = record { rest = r; is = e; same = ap (table_declares s name) (sym (checked ds r (distinct r.0) q)) }
 
-  pub declaring-start : (from : ℕ) → Declaring from from false
+  pub declaring-start : (from : ℕ) → Declaring from from
   unfolding abbreviations_of
   declaring-start from ds q = scanned ds from (declarations_from s from) refl q
 
-  module _ (from at : ℕ) (b : Bool) (g : Declaring from at b) (o : DeclarationStep) (q : o ≡ head_at s at) where
-    pub table-last : (c : Cursor) → o ≡ Last c → (ds : List Placed) → abbreviations_of s from ≡ some ds → b ≡ table_declares s name ds
+  module _ (from at : ℕ) (g : Declaring from at) (o : DeclarationStep) (q : o ≡ declaration_at s at) where
+    pub table-last : (c : Cursor) → o ≡ Last c → (ds : List Placed) → abbreviations_of s from ≡ some ds → false ≡ table_declares s name ds
     unfolding table_declares
     table-last c r ds k =
-        let l : Left ds at b = g ds k in
-        let e : some l.rest ≡ some ([], c.at) = sym l.is ∙ declarations-last s at c (sym (declaration-last s at o q c r)) in
+        let l : Left ds at = g ds k in
+        let e : some l.rest ≡ some ([], c.at) = sym l.is ∙ declarations-last s at c (sym q ∙ r) in
         let z : l.rest ≡ ([], c.at) = cc in
-        sym (l.same ∙ ap (λ (t : Scanned Placed ℕ). b or table_declares s name t.0) z ∙ or-none b)
+        sym (l.same ∙ ap (λ (t : Scanned Placed ℕ). table_declares s name t.0) z)
 
-    unread : {P : Type 0} → declaration_at s at ≡ NoDeclaration → (ds : List Placed) → abbreviations_of s from ≡ some ds → P
-    unread r ds k =
-        let l : Left ds at b = g ds k in
-        let e : some l.rest ≡ none = sym l.is ∙ declarations-bad s at r in
+    pub table-bad : o ≡ NoDeclaration → (ds : List Placed) → abbreviations_of s from ≡ some ds → false ≡ table_declares s name ds
+    table-bad r ds k =
+        let l : Left ds at = g ds k in
+        let e : some l.rest ≡ none = sym l.is ∙ declarations-bad s at (sym q ∙ r) in
         let z : ◌≡◌ {A = ℕ} 0 1 = cc in
         absurd (omega arith)
 
-    pub table-bad : {d : Bool} → o ≡ NoDeclaration → (ds : List Placed) → abbreviations_of s from ≡ some ds → d ≡ table_declares s name ds
-    table-bad r ds k = unread (sym (declaration-none s at o q r)) ds k
+    module _ (d : Declaration) (c : Cursor) (r : o ≡ Declared d c) where
+      pub table-less : length s - c.at < length s - at
+      table-less = let i = declaration-ahead s at d c (sym q ∙ r) in omega (arith, i.0, i.1)
 
-    module _ (d : Declaration) (c : Cursor) (r : o ≡ Declared d c) (m : Moved) (w : m ≡ past_attributes s d.attributes.at) where
-      pub table-unread : {b : Bool} → m ≡ Nowhere → (ds : List Placed) → abbreviations_of s from ≡ some ds → b ≡ table_declares s name ds
-      table-unread k ds z = unread (sym (declaration-no-attributes s at o q d c r m w k)) ds z
+      module _ (b : Bool) (w : b ≡ specs_declare name (specs_from s d.attributes.at)) where
+        -- what is left after it
+        record After (ds : List Placed) : Type 0 where
+          pub rest : Scanned Placed ℕ
+          pub is : declarations_from s c.at ≡ some rest
+          pub same : table_declares s name ds ≡ b or table_declares s name rest.0
 
-      module _ (n : Cursor) (t : m ≡ To n) (b' : Bool) (v : b' ≡ b or specs_declare name (specs_from s d.attributes.at)) where
-        popped : (ds : List Placed) (l : Left ds at b) (p : Option (Scanned Placed ℕ)) → declarations_from s n.at ≡ p → bind p (push (at, d)) ≡ some l.rest → Left ds n.at b'
+        popped : (ds : List Placed) (l : Left ds at) (p : Option (Scanned Placed ℕ)) → declarations_from s c.at ≡ p → bind p (push (at, d)) ≡ some l.rest → After ds
         unfolding bind push table_declares
         popped ds l none e k = let z : ◌≡◌ {A = ℕ} 0 1 = cc in absurd (omega arith)
         popped ds l (some t) e k =
@@ -175,20 +139,21 @@ module _ (s : List ℕ) (name : ℕ) where
             record {
               rest = t;
               is = e;
-              same =
-                  l.same ∙ ap (λ (t : Scanned Placed ℕ). b or table_declares s name t.0) (sym z)
-                  ∙ or-more b (specs_declare name (specs_from s d.attributes.at)) (table_declares s name t.0)
-                  ∙ ap (λ (b : Bool). b or table_declares s name t.0) (sym v);
+              same = l.same ∙ ap (λ (t : Scanned Placed ℕ). table_declares s name t.0) (sym z) ∙ ap (λ (b : Bool). b or table_declares s name t.0) (sym w);
             }
 
-        pub table_more : Declaring from n.at b'
-        table_more ds k =
-            let l : Left ds at b = g ds k in
-            popped ds l (declarations_from s n.at) refl (sym (declarations-more s at d n (sym (declaration-whole s at o q d c r m w n t))) ∙ l.is)
+        after : (ds : List Placed) → abbreviations_of s from ≡ some ds → After ds
+        after ds k = let l : Left ds at = g ds k in popped ds l (declarations_from s c.at) refl (sym (declarations-more s at d c (sym q ∙ r)) ∙ l.is)
 
-pub table-less : (s : List ℕ) (at : ℕ) (o : DeclarationStep) → o ≡ head_at s at → (d : Declaration) (c : Cursor) → o ≡ Declared d c → (m : Moved) → m ≡ past_attributes s d.attributes.at
-    → (n : Cursor) → m ≡ To n → length s - n.at < length s - at
-table-less s at o q d c r m w n t = let i = declaration-ahead s at d n (sym (declaration-whole s at o q d c r m w n t)) in omega (arith, i.0, i.1)
+        pub table-yes : b ≡ true → (ds : List Placed) → abbreviations_of s from ≡ some ds → true ≡ table_declares s name ds
+        unfolding ◌or◌
+        table-yes h ds k = let a : After ds = after ds k in sym (a.same ∙ ap (λ (b : Bool). b or table_declares s name a.rest.0) h)
+
+        pub table-no : b ≡ false → Declaring from c.at
+        unfolding ◌or◌
+        table-no h ds k =
+            let a : After ds = after ds k in
+            record { rest = a.rest; is = a.is; same = a.same ∙ ap (λ (b : Bool). b or table_declares s name a.rest.0) h }
 
 -- ---- where no declaration does, no entry does
 

@@ -2,7 +2,7 @@
 use mathlib.Core.Path.{◌≡◌, refl, ap, sym, ◌∙◌, subst}
 use Prim.Native.Nat.{ℕ, ◌/◌, ◌<◌}
 use native.Mathlib.Omega.{arith}
-use mathlib.Core.Bool.{Bool, true, false}
+use mathlib.Core.Bool.{Bool}
 use mathlib.Core.List.{List, [], ◌∷◌, ◌++◌, append_assoc, append-nil}
 use lib.ListN.{length}
 use borrow.Author.Tests.{eq-eqb, ne_eqb}
@@ -34,16 +34,6 @@ module _ (n : ℕ) (list : List ℕ) where
 
     pub puts-apart : (j : ℕ) → i ≡ j → (j ≡ k → ⊥) → Gathers (kind_index k i v) n list n list
     puts-apart j e q = puts-other (λ h. q (sym e ∙ h))
-
-  -- of an entry that is kept, and of one that is not
-  module _ (ws : List ℕ) (b : Bool) where
-    pub puts-kept : b ≡ true → (m : ℕ) (after : List ℕ) → Gathers ws n list m after → Gathers (pick b ws []) n list m after
-    unfolding pick
-    puts-kept q m after p = subst (λ (b : Bool). Gathers (pick b ws []) n list m after) (sym q) p
-
-    pub puts-dead : b ≡ false → Gathers (pick b ws []) n list n list
-    unfolding pick
-    puts-dead q = subst (λ (b : Bool). Gathers (pick b ws []) n list n list) (sym q) puts_none
 
 -- ---- a loop that puts values
 

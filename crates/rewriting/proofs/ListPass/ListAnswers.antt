@@ -42,27 +42,15 @@ module _ (x : Sections) (u : Unit') where
   all_read (s ∷ kept) h = (record { run = h.0.run; is = h.0.is }, all_read kept h.1)
 
   module _ (r : Reading) (s table unit : List ℕ) (w : ReadAs x u r s unit) (f : TablesFound u r s table) where
-    same-items : items_from r.encoding s (find_at s r.from table) unit u.header.first.0
-        ≡ items_from u.header.encoding x.abbreviations (declared_in u.declared) u.bytes u.header.first.0
-    same-items =
-        let first : ℕ = u.header.first.0 in
-        items-look r.encoding s (find_at s r.from table) (declared_in u.declared) f unit first
-        ∙ ap (λ (e : Encoding). items_from e s (declared_in u.declared) unit first) (sym w.encoding_is)
-        ∙ ap (λ (l : List ℕ). items_from u.header.encoding l (declared_in u.declared) unit first) (sym w.abbreviations_are)
-        ∙ ap (λ (l : List ℕ). items_from u.header.encoding x.abbreviations (declared_in u.declared) l first) (sym w.bytes_are)
-
     -- its items
     pub items-are : items_by r s table unit u.header.first.0 ≡ items_in x u
     unfolding items_in
-    items-are = ap (λ (i : Items). i.0) same-items
-
-    pub items-from : (first : ℕ) → first ≡ u.header.first.0 → items_by r s table unit first ≡ items_in x u
-    items-from first q = ap (λ (n : ℕ). items_by r s table unit n) q ∙ items-are
-
-    -- and whether it is readable to its end
-    pub whole-as : (items_from r.encoding s (find_at s r.from table) unit u.header.first.0).1
-        ≡ (items_from u.header.encoding x.abbreviations (declared_in u.declared) u.bytes u.header.first.0).1
-    whole-as = ap (λ (i : Items). i.1) same-items
+    items-are =
+        let first : ℕ = u.header.first.0 in
+        ap (λ (i : Items). i.0) (items-look r.encoding s (find_at s r.from table) (declared_in u.declared) f unit first)
+        ∙ ap (λ (e : Encoding). (items_from e s (declared_in u.declared) unit first).0) (sym w.encoding_is)
+        ∙ ap (λ (l : List ℕ). (items_from u.header.encoding l (declared_in u.declared) unit first).0) (sym w.abbreviations_are)
+        ∙ ap (λ (l : List ℕ). (items_from u.header.encoding x.abbreviations (declared_in u.declared) l first).0) (sym w.bytes_are)
 
     -- what a pass asks for, of the unit's own items
     pub passable : (parents ends marks : List ℕ) → HoldsFrom parents 0 (parents_from 0 [] (items_in x u)) → EndsHeld ends 0 (items_in x u)

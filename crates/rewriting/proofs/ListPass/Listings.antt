@@ -9,7 +9,6 @@ use lib.ListN.{length}
 use lib.Dec.{ltb, leb}
 use borrow.Author.Tests.{ltb-true, ltb-false, leb-true, le-leb, lt-leb}
 use Rattle.readers.specs.Choice.{◌and◌, zeros}
-use Rattle.readers.specs.Abbreviations.{Placed, abbreviations_of}
 use Rattle.readers.specs.Stream.{Item}
 use Rattle.marking.specs.Analysis.{Sections}
 use Rattle.marking.specs.Columns.{pad_to}
@@ -19,8 +18,7 @@ use Rattle.rewriting.specs.Rewriting.{Unit as Unit', Lists, items_in, list_of, l
 use Rattle.rewriting.specs.Inner.NextKept.{items_by}
 use Rattle.rewriting.specs.Written.{run_bytes}
 use Rattle.rewriting.specs.Inner.Written.{ListHeld}
-use Rattle.rewriting.specs.Inner.Indices.{table_declares}
-use Rattle.rewriting.specs.Inner.IndexLists.{ListInput, Listing, is_absent, ListAnswer, Known, Settles}
+use Rattle.rewriting.specs.Inner.IndexLists.{PassInput, Listing, is_absent, ListAnswer, Settles}
 use Rattle.rewriting.specs.Inner.Emission.{Lent}
 use Rattle.rewriting.specs.Outputs.{list_count, list_or, ranges_in, locations_in, strings_in}
 use Rattle.rewriting.specs.Inner.Leaving.{list_room, ListsAnswer}
@@ -31,7 +29,7 @@ use Rattle.rewriting.specs.declared.collect.Listed.{Listed}
 use Rattle.rewriting.specs.declared.collect.Listed.TheVariants.{Made, Short}
 use Rattle.rewriting.proofs.ListPass.Tables.{length_run}
 use Rattle.rewriting.proofs.ListPass.Held.{list-none}
-use Rattle.rewriting.proofs.ListPass.ListAnswers.{items-from, ranges-are, locations-are, strings-are, no-ranges, no-locations, no-strings, answer-short, answer-held, answer-absent}
+use Rattle.rewriting.proofs.ListPass.ListAnswers.{items-are, ranges-are, locations-are, strings-are, no-ranges, no-locations, no-strings, answer-short, answer-held, answer-absent}
 
 -- ---- three tests
 
@@ -84,16 +82,16 @@ made_list (some ys) list c after h l z t =
 
 -- ---- the three
 
-module _ (t : Bool) (room : ℕ) (r : Reading) (s table unit marks : List ℕ) (first : ℕ) where
+module _ (t : Bool) (r : Reading) (s table unit parents ends marks : List ℕ) (first : ℕ) where
   abbrev items : List Item
   items = items_by r s table unit first
 
-  items-here : (x : Sections) (u : Unit') → ListInput x u room r s table unit marks first → first ≡ u.header.first.0 → items ≡ items_in x u
-  items-here x u p f = items-from x u r s table unit p.read p.found first f
+  pub items-here : (x : Sections) (u : Unit') → PassInput x u r s table unit parents ends marks first → first ≡ u.header.first.0 → items ≡ items_in x u
+  items-here x u p f = ap (λ (n : ℕ). items_by r s table unit n) f ∙ items-are x u r s table unit p.read p.found
 
   -- what is known of one
   abbrev Answered : (Lists → Option (List ℕ)) → List ℕ → ListCount → List ℕ → Type 0
-  Answered field list c after = (x : Sections) (u : Unit') → ListInput x u room r s table unit marks first → first ≡ u.header.first.0
+  Answered field list c after = (x : Sections) (u : Unit') → PassInput x u r s table unit parents ends marks first → first ≡ u.header.first.0
       → list ≡ zeros (length list) → ListAnswer (field (lists_of x u t (kept_from marks 0 [] (items_in x u)))) list c after
 
   -- it is absent with type units
@@ -113,31 +111,25 @@ module _ (t : Bool) (room : ℕ) (r : Reading) (s table unit marks : List ℕ) (
 
   -- it was gathered and settled
   module _ (h : t ≡ false) (list : List ℕ) (n : ℕ) (mid : List ℕ) (l : length mid ≡ length list) (c : ListCount) (after : List ℕ) where
-    settled : (k name : ℕ) (d : Bool) → ((u : Unit') → abbreviations_of s r.from ≡ some u.declared → Known u s name d)
-        → Listing k room r s table unit marks first list n mid → Settles r s table unit first name d n mid c after
-        → (x : Sections) (u : Unit') → ListInput x u room r s table unit marks first → first ≡ u.header.first.0 → list ≡ zeros (length list)
+    settled : (k name : ℕ) → Listing k r s table unit parents ends marks first list n mid → Settles r s table unit first name n mid c after
+        → (x : Sections) (u : Unit') → PassInput x u r s table unit parents ends marks first → first ≡ u.header.first.0 → list ≡ zeros (length list)
         → ListAnswer (list_of x u (is_absent x u name (items_in x u)) k (kept_from marks 0 [] (items_in x u))) list c after
     unfolding list_of
-    settled k name d w g s x u p f z =
+    settled k name g s x u p f z =
         subst (λ (is : List Item). ListAnswer (list_of x u (is_absent x u name is) k (kept_from marks 0 [] is)) list c after) (items-here x u p f)
-        (s x u _ list p.read p.found (w u p.read.declared_are) (z ∙ ap zeros (sym l)) (g x u p (subst (ListHeld []) (sym z) (list-none (length list)))))
+        (s x u _ list p.read p.found (z ∙ ap zeros (sym l)) (g x u p (subst (ListHeld []) (sym z) (list-none (length list)))))
 
-    -- by what the declarations have
-    module _ (d : Bool) where
-      abbrev Tells : ℕ → Type 0
-      Tells name = (ds : List Placed) → abbreviations_of s r.from ≡ some ds → d ≡ table_declares s name ds
+    pub settled-ranges : Listing 0 r s table unit parents ends marks first list n mid → Settles r s table unit first 0x55 n mid c after → Answered ranges_in list c after
+    settled-ranges g s x u p f z = subst (λ (o : Option (List ℕ)). ListAnswer o list c after) (ranges-are x u t _ h) (settled 0 0x55 g s x u p f z)
 
-      pub settled-ranges : Tells 0x55 → Listing 0 room r s table unit marks first list n mid → Settles r s table unit first 0x55 d n mid c after → Answered ranges_in list c after
-      settled-ranges w g s x u p f z = subst (λ (o : Option (List ℕ)). ListAnswer o list c after) (ranges-are x u t _ h) (settled 0 0x55 d (λ u e _. w u.declared e) g s x u p f z)
+    pub settled-locations : Listing 1 r s table unit parents ends marks first list n mid → Settles r s table unit first 0x02 n mid c after → Answered locations_in list c after
+    settled-locations g s x u p f z = subst (λ (o : Option (List ℕ)). ListAnswer o list c after) (locations-are x u t _ h) (settled 1 0x02 g s x u p f z)
 
-      pub settled-locations : Tells 0x02 → Listing 1 room r s table unit marks first list n mid → Settles r s table unit first 0x02 d n mid c after → Answered locations_in list c after
-      settled-locations w g s x u p f z = subst (λ (o : Option (List ℕ)). ListAnswer o list c after) (locations-are x u t _ h) (settled 1 0x02 d (λ u e _. w u.declared e) g s x u p f z)
-
-      pub settled-strings : Listing 2 room r s table unit marks first list n mid → Settles r s table unit first 0 d n mid c after → Answered strings_in list c after
-      settled-strings g s x u p f z = subst (λ (o : Option (List ℕ)). ListAnswer o list c after) (strings-are x u t _ h) (settled 2 0 d (λ u e k. absurd (k refl)) g s x u p f z)
+    pub settled-strings : Listing 2 r s table unit parents ends marks first list n mid → Settles r s table unit first 0 n mid c after → Answered strings_in list c after
+    settled-strings g s x u p f z = subst (λ (o : Option (List ℕ)). ListAnswer o list c after) (strings-are x u t _ h) (settled 2 0 g s x u p f z)
 
   abbrev Wanted : List ℕ → List ℕ → List ℕ → Listed → List ℕ → List ℕ → List ℕ → Type 0
-  Wanted ranges locations strings c ranges' locations' strings' = (x : Sections) (u : Unit') → ListInput x u room r s table unit marks first → first ≡ u.header.first.0
+  Wanted ranges locations strings c ranges' locations' strings' = (x : Sections) (u : Unit') → PassInput x u r s table unit parents ends marks first → first ≡ u.header.first.0
       → ranges ≡ zeros (length ranges) → locations ≡ zeros (length locations) → strings ≡ zeros (length strings)
       → ListsAnswer (lists_of x u t (kept_from marks 0 [] (items_in x u))) (length ranges) (length locations) (length strings) c ranges' locations' strings'
 

@@ -28,7 +28,7 @@ use Rattle.rewriting.specs.Inner.Parents.{parents_from, HoldsFrom}
 use Rattle.rewriting.specs.Inner.Ends.{EndsHeld}
 use Rattle.rewriting.specs.Inner.NextKept.{items_by}
 use Rattle.rewriting.specs.Rewriting.{Unit as Unit', unit_of, Lists, Room, Collected, untouched, refused, items_in, lists_of, lists_fit, or_refused, rewrite_of, marks_collected}
-use Rattle.rewriting.specs.Inner.IndexLists.{ReadAs, TablesFound, PassInput, ListInput}
+use Rattle.rewriting.specs.Inner.IndexLists.{ReadAs, TablesFound, PassInput}
 use Rattle.rewriting.specs.Inner.Emission.{ListsLent}
 use Rattle.rewriting.specs.Outputs.{room_by, list_count, answer_for, map_for, output_for, list_or, list_for, ranges_in, locations_in, strings_in}
 use Rattle.rewriting.specs.Inner.Leaving.{Accepts, Answers, Tabled, Blank, marked_of, list_room, ListsAnswer, Writable, WriteAnswer}
@@ -44,8 +44,7 @@ use Rattle.rewriting.proofs.Whole.AcceptedUnits.{Accepted}
 use Rattle.rewriting.proofs.KeptPass.ReadableItems.{accepted-readable}
 use Rattle.rewriting.proofs.KeptPass.ParentsOf.{parents-held, parents-of}
 use Rattle.rewriting.proofs.KeptPass.UnitKept.{reading, items-read}
-use Rattle.rewriting.proofs.KeptPass.WholeUnits.{unit-whole}
-use Rattle.rewriting.proofs.ListPass.ListAnswers.{items-are, whole-as, passable}
+use Rattle.rewriting.proofs.ListPass.ListAnswers.{items-are, passable}
 use Rattle.rewriting.proofs.Whole.Answering.{refused-answers}
 
 -- ---- marks with zeros after them
@@ -157,18 +156,6 @@ module _ (x : Sections) (tables : Rooms) (section : List ℕ) (h : UnitHeader) (
       (subst (EndsHeld ends' 0) (items-are x own how s index unit read_as found) (fe entries_fit))
       (accepted-readable x (room_by tables 0 0 0 0 0) section h ds rows (accepted (room_by tables 0 0 0 0 0) refl) marks)
 
-  -- what the pass that gathers asks for
-  pub unit-gathers : (ends' : List ℕ) → FilledBy ends' → ListInput x own (length ends) how s index unit marks h.first.0
-  unit-gathers ends' fe =
-      record {
-        read = read_as;
-        found = found;
-        fits = entries_fit;
-        whole = whole-as x own how s index unit read_as found
-            ∙ unit-whole h.encoding x (take h.end section) tables h.abbreviations h.first.0 ds rows w.declared_are unit-analysed;
-        deep = (unit-passes ends' fe).deep;
-      }
-
   pub unit-writable : (map ranges locations strings out : List ℕ) → Blank map ranges locations strings out
       → Writable own (room_by tables (length map) (length ranges) (length locations) (length strings) (length out)) unit h.first.0 map out
   unit-writable map ranges locations strings out b =
@@ -204,7 +191,7 @@ module _ (t : Bool) (section : List ℕ) (h : UnitHeader) (s index parents ends 
     (ends' : List ℕ)
     (fe : entry_count (items_by (reading h.abbreviations h.encoding) s index unit h.first.0) ≤ length ends → EndsHeld ends' 0 (items_by (reading h.abbreviations h.encoding) s index unit h.first.0))
     (listed : Listed) (ranges' locations' strings' : List ℕ)
-    (il : (x : Sections) (u : Unit') → ListInput x u (length ends) (reading h.abbreviations h.encoding) s index unit marks h.first.0 → h.first.0 ≡ u.header.first.0
+    (il : (x : Sections) (u : Unit') → PassInput x u (reading h.abbreviations h.encoding) s index unit parents ends' marks h.first.0 → h.first.0 ≡ u.header.first.0
     → ranges ≡ zeros (length ranges) → locations ≡ zeros (length locations) → strings ≡ zeros (length strings)
     → ListsAnswer (lists_of x u t (kept_from marks 0 [] (items_in x u))) (length ranges) (length locations) (length strings) listed ranges' locations' strings') where
   abbrev Goal : Answer → List ℕ → List ℕ → Type 0
@@ -229,7 +216,7 @@ module _ (t : Bool) (section : List ℕ) (h : UnitHeader) (s index parents ends 
     those =
         subst (λ (k : List NestedItem). ListsAnswer (lists_of x u t k) (length ranges) (length locations) (length strings) listed ranges' locations' strings')
         (kept_here x tables section h ds rows s index parents ends marks entries kept w unit is)
-        (il x u (unit-gathers x tables section h ds rows s index parents ends marks entries kept w unit is ends' fe) refl b.ranges_blank b.locations_blank b.strings_blank)
+        (il x u (unit-passes x tables section h ds rows s index parents ends marks entries kept w unit is ends' fe) refl b.ranges_blank b.locations_blank b.strings_blank)
 
     abbrev fit : Bool
     fit = lists_fit (list_room (length ranges) (length locations) (length strings)) l

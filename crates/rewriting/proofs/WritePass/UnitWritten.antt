@@ -52,7 +52,7 @@ use Rattle.rewriting.proofs.ListPass.Tables.{length_run}
 use Rattle.rewriting.proofs.MapPass.Places.{length-columns}
 use Rattle.rewriting.proofs.MapPass.MapFills.{length-places}
 use Rattle.rewriting.proofs.KeptPass.UnitKept.{map-held}
-use Rattle.rewriting.proofs.ListPass.ListAnswers.{items-from}
+use Rattle.rewriting.proofs.ListPass.Listings.{items-here}
 use Rattle.rewriting.proofs.Whole.UnitAnswers.{pick_is, pick-else}
 
 -- ---- widths: what is written anew is as wide as it was, whether its values fit or not
@@ -171,7 +171,7 @@ module _ (r : Reading) (s table unit parents ends marks : List ℕ) (first entri
         → WriteAnswer (rewrite_of x room u entries kept lists (kept_from marks 0 [] (items_in x u))) a (length map) (length out) map' out'
     by-items a out' h =
         subst (λ (is : List Item). WriteAnswer (rewrite_of x room u entries kept lists (kept_from marks 0 [] is)) a (length map) (length out) map' out')
-        (items-from x u r s table unit p.read p.found first w.first_is) h
+        (items-here true r s table unit parents ends marks first x u p w.first_is) h
 
     no-map : length map' / place_size < z.places → WriteAnswer (rewrite_of x room u entries kept lists items) (Refused 13) (length map) (length out) map' out
     no-map k =
@@ -236,14 +236,14 @@ module _ (r : Reading) (s table unit parents ends marks : List ℕ) (first entri
       it : EmitsAt (refusal_from x u lists ps items) body out₁ first emitted out₂
       it =
           subst (λ (is : List Item). EmitsAt (refusal_from x u lists ps (kept_from marks 0 [] is)) (bytes_from x u lists ps (kept_from marks 0 [] is)) out₁ first emitted out₂)
-          (sym (items-from x u r s table unit p.read p.found first w.first_is))
+          (sym (items-here true r s table unit parents ends marks first x u p w.first_is))
           (subst (λ (n : ℕ). EmitsAt (refusal_from x u lists ps (kept_from marks 0 [] (items_in x u))) (bytes_from x u lists ps (kept_from marks 0 [] (items_in x u))) out₁ n emitted out₂) header-there.0
           (emits x u lists ps p w.first_is held places (bounded ps held places) l))
 
       stand : Every (StandsThere x u) items
       unfolding items_in
       stand =
-          subst (λ (is : List Item). Every (StandsThere x u) (kept_from marks 0 [] is)) (sym (items-from x u r s table unit p.read p.found first w.first_is))
+          subst (λ (is : List Item). Every (StandsThere x u) (kept_from marks 0 [] is)) (sym (items-here true r s table unit parents ends marks first x u p w.first_is))
           (every-kept (Stands u.header.encoding x.abbreviations (declared_in u.declared) u.bytes) marks 0 [] (items_in x u)
           (items-stand u.header.encoding x.abbreviations (declared_in u.declared) u.bytes u.header.first.0))
 

@@ -1,5 +1,5 @@
 -- What the functions of the index lists answer.
-use Rattle.std.specs.Prelude.{◌≡◌, ℕ, ◌≤◌, Bool, true, false, List, [], ◌∷◌, ◌++◌, length, drop, eqb}
+use Rattle.std.specs.Prelude.{◌≡◌, ℕ, Bool, false, List, [], ◌∷◌, ◌++◌, length, drop, eqb}
 use Rattle.std.proofs.Math.Option.{Option, none, some}
 use Rattle.readers.specs.Choice.{pick, zeros}
 use Rattle.readers.specs.Layout.{RunOf, read_in}
@@ -7,7 +7,7 @@ use Rattle.readers.specs.Expression.{expression_in}
 use Rattle.readers.specs.Entries.{entry_layout}
 use Rattle.readers.specs.Forms.{use_of}
 use Rattle.readers.specs.Abbreviations.{abbreviations_of, declared_in, find_at}
-use Rattle.readers.specs.Stream.{Item, entry_count, items_from}
+use Rattle.readers.specs.Stream.{Item}
 use Rattle.readers.specs.declared.attributes.Attribute.{Attribute}
 use Rattle.readers.specs.EntryAttributes.{Valued}
 use Rattle.marking.specs.Analysis.{Sections}
@@ -16,7 +16,6 @@ use Rattle.rewriting.specs.Rewriting.{Unit as Unit', any_declares, indices_from}
 use Rattle.rewriting.specs.Places.{NestedItem, kept_from, offset_of}
 use Rattle.rewriting.specs.Inner.Parents.{parents_from, HoldsFrom}
 use Rattle.rewriting.specs.Inner.Ends.{EndsHeld}
-use Rattle.rewriting.specs.Inner.Indices.{table_declares}
 use Rattle.rewriting.specs.Inner.NextKept.{items_by}
 use Rattle.rewriting.specs.Inner.Written.{ListHeld}
 use Rattle.rewriting.specs.Inner.Gathering.{Gathered, Filled}
@@ -79,24 +78,18 @@ pub record PassInput (x : Sections) (u : Unit') (r : Reading) (abbreviations tab
 
 -- ---- one list
 
--- what the pass that gathers asks for: so many entries at most, the unit readable to its end, each kept item too
-pub record ListInput (x : Sections) (u : Unit') (room : ℕ) (r : Reading) (abbreviations table unit marks : List ℕ) (first : ℕ) : Type 0 where
-  pub read : ReadAs x u r abbreviations unit
-  pub found : TablesFound u r abbreviations table
-  pub fits : entry_count (items_by r abbreviations table unit first) ≤ room
-  pub whole : (items_from r.encoding abbreviations (find_at abbreviations r.from table) unit first).1 ≡ true
-  pub deep : AllRead x u (kept_from marks 0 [] (items_by r abbreviations table unit first))
-
--- what it puts into the list of a kind
-abbrev pub Puts : ℕ → ℕ → Reading → List ℕ → List ℕ → List ℕ → List ℕ → ℕ → List ℕ → ℕ → List ℕ → Type 0
-Puts k room r abbreviations table unit marks first list count after =
-    (x : Sections) (u : Unit') → ListInput x u room r abbreviations table unit marks first → ListHeld [] list
+-- what a pass puts into the list of a kind
+abbrev pub Puts : ℕ → Reading → List ℕ → List ℕ → List ℕ → List ℕ → List ℕ → List ℕ → ℕ → List ℕ → ℕ → List ℕ
+    → Type 0
+Puts k r abbreviations table unit parents ends marks first list count after =
+    (x : Sections) (u : Unit') → PassInput x u r abbreviations table unit parents ends marks first → ListHeld [] list
     → Gathered (indices_from x u k (kept_from marks 0 [] (items_by r abbreviations table unit first))) after count
 
 -- what the list of a kind is at the end
-abbrev pub Listing : ℕ → ℕ → Reading → List ℕ → List ℕ → List ℕ → List ℕ → ℕ → List ℕ → ℕ → List ℕ → Type 0
-Listing k room r abbreviations table unit marks first list count after =
-    (x : Sections) (u : Unit') → ListInput x u room r abbreviations table unit marks first → ListHeld [] list
+abbrev pub Listing : ℕ → Reading → List ℕ → List ℕ → List ℕ → List ℕ → List ℕ → List ℕ → ℕ → List ℕ → ℕ → List ℕ
+    → Type 0
+Listing k r abbreviations table unit parents ends marks first list count after =
+    (x : Sections) (u : Unit') → PassInput x u r abbreviations table unit parents ends marks first → ListHeld [] list
     → Filled (insert_all (indices_from x u k (kept_from marks 0 [] (items_by r abbreviations table unit first))) [])
     list count after
 
@@ -110,13 +103,9 @@ ListAnswer none list (Present n) after = ⊥
 ListAnswer (some ys) list Absent after = ⊥
 ListAnswer (some ys) list (Present n) after = Filled ys list n after
 
--- what is known of the attribute of a name, if there is one: whether any declaration has it in sec_offset
-abbrev pub Known : Unit' → List ℕ → ℕ → Bool → Type 0
-Known u abbreviations name declared = (name ≡ 0 → ⊥) → declared ≡ table_declares abbreviations name u.declared
-
 -- what is answered for a list that was gathered into zeros: absent, and zeros again, or its count
-abbrev pub Settles : Reading → List ℕ → List ℕ → List ℕ → ℕ → ℕ → Bool → ℕ → List ℕ → ListCount → List ℕ → Type 0
-Settles r abbreviations table unit first name declared count list c after =
+abbrev pub Settles : Reading → List ℕ → List ℕ → List ℕ → ℕ → ℕ → ℕ → List ℕ → ListCount → List ℕ → Type 0
+Settles r abbreviations table unit first name count list c after =
     (x : Sections) (u : Unit') (ys list₀ : List ℕ) → ReadAs x u r abbreviations unit → TablesFound u r abbreviations table
-    → Known u abbreviations name declared → list₀ ≡ zeros (length list) → Filled ys list₀ count list
+    → list₀ ≡ zeros (length list) → Filled ys list₀ count list
     → ListAnswer (pick (is_absent x u name (items_by r abbreviations table unit first)) none (some ys)) list₀ c after

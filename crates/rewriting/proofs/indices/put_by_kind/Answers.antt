@@ -10,7 +10,7 @@ pub returns-then-kind-eq1 : goal.returns-then-kind-eq1
 returns-then-kind-eq1 c = (puts-apart _ _ _ 0 _ 1 c.if-kind-eq1.true (λ q. omega arith), (puts-kind _ _ _ 1 _ c.if-kind-eq1.true _ _ c.add-then-kind-eq1.ensures, puts-apart _ _ _ 2 _ 1 c.if-kind-eq1.true (λ q. omega arith)))
 
 pub returns-then-kind-eq2 : goal.returns-then-kind-eq2
-returns-then-kind-eq2 c = (puts-apart _ _ _ 0 _ 2 c.if-kind-eq2.true (λ q. omega arith), (puts-apart _ _ _ 1 _ 2 c.if-kind-eq2.true (λ q. omega arith), puts-kind _ _ _ 2 _ c.if-kind-eq2.true _ _ c.add_slotted-n.ensures))
+returns-then-kind-eq2 c = (puts-apart _ _ _ 0 _ 2 c.if-kind-eq2.true (λ q. omega arith), (puts-apart _ _ _ 1 _ 2 c.if-kind-eq2.true (λ q. omega arith), puts-kind _ _ _ 2 _ c.if-kind-eq2.true _ _ c.add-then-kind-eq2.ensures))
 
 pub returns : goal.returns
 returns c = (puts-other _ _ _ 0 _ c.if-kind-eq0.false, (puts-other _ _ _ 1 _ c.if-kind-eq1.false, puts-other _ _ _ 2 _ c.if-kind-eq2.false))

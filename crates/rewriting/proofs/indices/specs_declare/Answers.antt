@@ -1,22 +1,29 @@
--- `specs_declare`: what is declared with all specifications is what is declared so far, with those from here on. Assumes
--- nothing.
+-- `specs_declare`: what all specifications declare is what those from here on do. Assumes nothing.
 use mathlib.Core.Path.{refl}
 use Prim.Native.Nat.{◌-◌}
-use Rattle.readers.specs.Choice.{◌or◌}
-use Rattle.rewriting.proofs.ListPass.Declaring.{specs-less, past-on, past_end, past-none, specs-last, specs-bad, specs-more}
+use Rattle.rewriting.proofs.ListPass.Declaring.{specs-last, specs-bad, specs-less, specs-yes, specs-form, specs-name}
 use Rattle.rewriting.proofs.indices.specs_declare.Goals as goal
 
 pub loop-a-init : goal.loop-a-init
-loop-a-init c = (refl, refl, refl)
+loop-a-init c = refl
+
+pub returns-then-a-eq-DW_FORM_sec_offset : goal.returns-then-a-eq-DW_FORM_sec_offset
+returns-then-a-eq-DW_FORM_sec_offset c = search specs-yes
+
+pub loop-a-smaller-else-a-eq-DW_FORM_sec_offset : goal.loop-a-smaller-else-a-eq-DW_FORM_sec_offset
+loop-a-smaller-else-a-eq-DW_FORM_sec_offset c = search specs-less
+
+pub loop-a-preserved-else-a-eq-DW_FORM_sec_offset : goal.loop-a-preserved-else-a-eq-DW_FORM_sec_offset
+loop-a-preserved-else-a-eq-DW_FORM_sec_offset c = search specs-form
 
 pub loop-a-smaller : goal.loop-a-smaller
 loop-a-smaller c = search specs-less
 
 pub loop-a-preserved : goal.loop-a-preserved
-loop-a-preserved c = (search specs-more, search specs-more, search past-on)
+loop-a-preserved c = search specs-name
 
 pub returns-in-Last : goal.returns-in-Last
-returns-in-Last c = (search specs-last, search specs-last, search past_end)
+returns-in-Last c = search specs-last
 
 pub returns-in-Unreadable : goal.returns-in-Unreadable
-returns-in-Unreadable c = (search specs-bad, search specs-bad, search past-none)
+returns-in-Unreadable c = search specs-bad

@@ -1,22 +1,22 @@
--- `table_declares`: what all declarations declare is what is declared so far, with those from here on. Assumes nothing.
+-- `table_declares`: what all declarations declare is what those from here on do. Assumes nothing.
 use Prim.Native.Nat.{◌-◌}
-use Rattle.rewriting.proofs.ListPass.Declaring.{declaring-start, table-last, table-bad, table-unread, table-less, table_more}
+use Rattle.rewriting.proofs.ListPass.Declaring.{declaring-start, table-last, table-bad, table-less, table-yes, table-no}
 use Rattle.rewriting.proofs.indices.table_declares.Goals as goal
 
-pub loop-h-init : goal.loop-h-init
-loop-h-init c = (declaring-start _ _ _, declaring-start _ _ _)
+pub loop-d-init : goal.loop-d-init
+loop-d-init c = declaring-start _ _ _
 
-pub returns-in_default : goal.returns-in_default
-returns-in_default c = λ ds k. (search table-unread, search table-unread)
+pub returns-then-specs_declare : goal.returns-then-specs_declare
+returns-then-specs_declare c = search table-yes
 
-pub loop-h-smaller : goal.loop-h-smaller
-loop-h-smaller c = search table-less
+pub loop-d-smaller : goal.loop-d-smaller
+loop-d-smaller c = search table-less
 
-pub loop-h-preserved : goal.loop-h-preserved
-loop-h-preserved c = (search table_more, search table_more)
+pub loop-d-preserved : goal.loop-d-preserved
+loop-d-preserved c = search table-no
 
 pub returns-in-Last : goal.returns-in-Last
-returns-in-Last c = λ ds k. (search table-last, search table-last)
+returns-in-Last c = search table-last
 
 pub returns-in-Unreadable : goal.returns-in-Unreadable
-returns-in-Unreadable c = λ ds k. (search table-bad, search table-bad)
+returns-in-Unreadable c = search table-bad

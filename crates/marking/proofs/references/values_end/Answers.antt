@@ -1,6 +1,6 @@
 -- `values_end` answers by what the specification there is. Assumes nothing.
 use Rattle.readers.proofs.EntryAttributes.{end_more, end-last, end-bad}
-use Rattle.rewriting.proofs.indices.values_end.Goals as goal
+use Rattle.marking.proofs.references.values_end.Goals as goal
 
 pub returns-in-Attribute : goal.returns-in-Attribute
 returns-in-Attribute c = search end_more
