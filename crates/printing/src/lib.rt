@@ -111,22 +111,28 @@ fn option(word: &[u8], i: usize, o: Options) -> Told {
     Told::Unknown
 }
 
-// What all the arguments tell: each is an option, and none is there twice. One that is too long is no option.
+// What argument i tells after these options: one that is too long is no option. None where there is no argument i.
+fn option_at(rt: &impl Env, i: usize, o: Options) -> Option<Told> {
+    let mut word = [0u8; LONGEST];
+    match rt.arg(i, &mut word) {
+        Ok(length) => Some(option(&word[..length], i, o)),
+        Err(FillError::TooLong) => Some(Told::Unknown),
+        Err(FillError::NotPresent) => None,
+    }
+}
+
+// What all the arguments tell: each is an option, and none is there twice.
 fn all_options(rt: &impl Env) -> Told {
     let mut told = untold();
     for i in 1..usize::MAX {
-        let mut word = [0u8; LONGEST];
-        match rt.arg(i, &mut word) {
-            Ok(length) => {
-                let Told::By(next) = option(&word[..length], i, told) else {
-                    return Told::Unknown;
-                };
+        match option_at(rt, i, told) {
+            Some(Told::By(next)) => {
                 told = next;
             }
-            Err(FillError::TooLong) => {
+            Some(Told::Unknown) => {
                 return Told::Unknown;
             }
-            Err(FillError::NotPresent) => {
+            None => {
                 return Told::By(told);
             }
         }
