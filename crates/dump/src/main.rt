@@ -1,6 +1,11 @@
 // Prints what a bundle on standard input holds.
 #![tactic(auto)]
 
-fn main() {
-    printing::standard_input(printing::DUMP);
+use std::io;
+use std::io::{BufWriter, Write};
+
+fn main(rt: HostRuntime) -> io::Result<()> {
+    let mut out = BufWriter::new(rt.alloc(), io::writer(&rt))?;
+    printing::standard_input(&rt, &mut out, printing::DUMP)?;
+    out.flush()
 }

@@ -1,6 +1,11 @@
 // Prints the marks of the bundle on standard input.
 #![tactic(auto)]
 
-fn main() {
-    printing::standard_input(printing::MARKS);
+use std::io;
+use std::io::{BufWriter, Write};
+
+fn main(rt: HostRuntime) -> io::Result<()> {
+    let mut out = BufWriter::new(rt.alloc(), io::writer(&rt))?;
+    printing::standard_input(&rt, &mut out, printing::MARKS)?;
+    out.flush()
 }

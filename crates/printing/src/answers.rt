@@ -2,60 +2,69 @@
 use crate::marks::{letter, mark};
 use crate::text::{number, text};
 use bundle::{BundleRead, section_bytes};
-use libc::STDOUT_FILENO;
 use marking::setting::Setting;
 use marking::units::UnitMarks;
 use readers::offsets::UnitOffset;
 use rewriting::collect::{Collected, Counts};
 use rewriting::lists::ListCount;
 use rewriting::map::Mapped;
+use std::io;
+use std::io::Write;
 
-pub fn refused(n: u8) {
-    number(b"refused ", n as u64);
-    text(b"\n");
+pub fn refused(to: &mut impl Write, n: u8) -> io::Result<()> {
+    number(to, b"refused ", n as u64)?;
+    text(to, b"\n")
 }
 
 // ---- the printout
 
 // The new offset of an entry: of an untouched unit the old one, and `-` of a dead one.
-fn new_offset(map: &[u8], c: Counts, rewritten: bool, old: u64) {
+fn new_offset(
+    to: &mut impl Write,
+    map: &[u8],
+    c: Counts,
+    rewritten: bool,
+    old: u64,
+) -> io::Result<()> {
     if !rewritten {
-        number(b" ", old);
-        return;
+        number(to, b" ", old)?;
+        return Ok(());
     }
     match rewriting::map::new_offset(map, c.places, UnitOffset(old)) {
         Mapped::To(n) => {
-            number(b" ", n.0);
+            number(to, b" ", n.0)?;
         }
         Mapped::Nothing => {
-            text(b" -");
+            text(to, b" -")?;
         }
     }
+    Ok(())
 }
 
 // The counts, then a line an entry: its offset, its mark, its new offset.
-fn entries(offsets: &[u64], marks: &[u8], map: &[u8], c: Counts, rewritten: bool) {
-    number(b"entries ", c.entries as u64);
-    number(b" kept ", c.kept as u64);
-    text(b"\n");
-    let mut i: usize = 0;
-    while i < c.entries {
-        if i >= offsets.len() {
-            return;
-        }
-        if i >= marks.len() {
-            return;
-        }
-        number(b"", offsets[i]);
-        letter(marks[i]);
-        new_offset(map, c, rewritten, offsets[i]);
-        text(b"\n");
-        i += 1;
+fn entries(
+    to: &mut impl Write,
+    offsets: &[u64],
+    marks: &[u8],
+    map: &[u8],
+    c: Counts,
+    rewritten: bool,
+) -> io::Result<()> {
+    number(to, b"entries ", c.entries as u64)?;
+    number(to, b" kept ", c.kept as u64)?;
+    text(to, b"\n")?;
+    for (offset, mark) in offsets.iter().zip(marks.iter()).take(c.entries) {
+        number(to, b"", *offset)?;
+        letter(to, *mark)?;
+        new_offset(to, map, c, rewritten, *offset)?;
+        text(to, b"\n")?;
     }
+    Ok(())
 }
 
 // The marks of the unit, beside what collect answered.
 fn marked<'a>(
+    to: &mut impl Write,
     section: &[u8],
     abbreviations: &[u8],
     locations: &[u8],
@@ -68,7 +77,7 @@ fn marked<'a>(
     map: &[u8],
     c: Counts,
     rewritten: bool,
-) {
+) -> io::Result<()> {
     let mut offsets = [0u64; 2048];
     let mut marks = [0u8; 2048];
     match mark(
@@ -88,82 +97,78 @@ fn marked<'a>(
             entries: _,
             kept: _,
         } => {
-            entries(&offsets, &marks, map, c, rewritten);
+            entries(to, &offsets, &marks, map, c, rewritten)?;
         }
         UnitMarks::Refused(n) => {
-            refused(n);
+            refused(to, n)?;
         }
     }
+    Ok(())
 }
 
 // ---- the whole answer on one line
 
 // Numbers in brackets, or that the list is absent.
-fn list(name: &[u8], bytes: &[u8], count: ListCount) {
-    text(name);
+fn list(to: &mut impl Write, name: &[u8], bytes: &[u8], count: ListCount) -> io::Result<()> {
+    text(to, name)?;
     match count {
         ListCount::Absent => {
-            text(b"absent");
+            text(to, b"absent")?;
         }
         ListCount::Present(n) => {
-            numbers(bytes, n);
+            numbers(to, bytes, n)?;
         }
     }
+    Ok(())
 }
 
-fn numbers(bytes: &[u8], n: usize) {
-    text(b"[");
-    let mut i: usize = 0;
-    while i < n {
+fn numbers(to: &mut impl Write, bytes: &[u8], n: usize) -> io::Result<()> {
+    text(to, b"[")?;
+    for i in 0..n {
         if i > 0 {
-            text(b",");
+            text(to, b",")?;
         }
-        number(b"", rewriting::lists::number_at(bytes, i));
-        i += 1;
+        number(to, b"", rewriting::lists::number_at(bytes, i))?;
     }
-    text(b"]");
+    text(to, b"]")
 }
 
-fn places(map: &[u8], n: usize) {
-    text(b" map ");
+fn places(to: &mut impl Write, map: &[u8], n: usize) -> io::Result<()> {
+    text(to, b" map ")?;
     if n == 0 {
-        text(b"-");
-        return;
+        text(to, b"-")?;
+        return Ok(());
     }
-    let mut i: usize = 0;
-    while i < n {
+    for i in 0..n {
         if i > 0 {
-            text(b",");
+            text(to, b",")?;
         }
-        number(b"", rewriting::map::old_at(map, i).0);
-        number(b">", rewriting::map::new_at(map, i).0);
-        number(b"@", rewriting::map::depth_at(map, i));
-        i += 1;
+        number(to, b"", rewriting::map::old_at(map, i).0)?;
+        number(to, b">", rewriting::map::new_at(map, i).0)?;
+        number(to, b"@", rewriting::map::depth_at(map, i))?;
     }
+    Ok(())
 }
 
-fn two_digits(b: u8) {
-    io::print_hex(STDOUT_FILENO, b as u64, 2);
+fn two_digits(to: &mut impl Write, b: u8) -> io::Result<()> {
+    write!(to, "{b:02x}")
 }
 
 // Bytes after a name, `-` where there are none.
-pub fn hex(name: &[u8], bytes: &[u8], n: usize) {
-    text(name);
+pub fn hex(to: &mut impl Write, name: &[u8], bytes: &[u8], n: usize) -> io::Result<()> {
+    text(to, name)?;
     if n == 0 {
-        text(b"-");
-        return;
+        text(to, b"-")?;
+        return Ok(());
     }
-    let mut i: usize = 0;
-    while i < n {
-        if i >= bytes.len() {
-            return;
-        }
-        two_digits(bytes[i]);
-        i += 1;
+    for byte in bytes.iter().take(n) {
+        two_digits(to, *byte)?;
     }
+    Ok(())
 }
 
 fn line(
+    to: &mut impl Write,
     answer: &[u8],
     c: Counts,
     map: &[u8],
@@ -171,19 +176,19 @@ fn line(
     locations: &[u8],
     strings: &[u8],
     out: &[u8],
-) {
+) -> io::Result<()> {
     let ranges_count = c.ranges;
     let locations_count = c.locations;
     let strings_count = c.strings;
-    text(answer);
-    number(b" entries ", c.entries as u64);
-    number(b" kept ", c.kept as u64);
-    places(map, c.places);
-    list(b" ranges ", ranges, ranges_count);
-    list(b" locations ", locations, locations_count);
-    list(b" strings ", strings, strings_count);
-    hex(b" bytes ", out, c.bytes);
-    text(b"\n");
+    text(to, answer)?;
+    number(to, b" entries ", c.entries as u64)?;
+    number(to, b" kept ", c.kept as u64)?;
+    places(to, map, c.places)?;
+    list(to, b" ranges ", ranges, ranges_count)?;
+    list(to, b" locations ", locations, locations_count)?;
+    list(to, b" strings ", strings, strings_count)?;
+    hex(to, b" bytes ", out, c.bytes)?;
+    text(to, b"\n")
 }
 
 // ---- bundles
@@ -191,6 +196,7 @@ fn line(
 // The unit of given sections: tables of 2,048 entries and 8,192 references, 4,096 map places, 8,192 numbers a list,
 // 65,536 output bytes. What is lent for the answer holds no zeros before the call.
 fn unit<'a>(
+    to: &mut impl Write,
     section: &[u8],
     abbreviations: &[u8],
     locations: &[u8],
@@ -201,7 +207,7 @@ fn unit<'a>(
     treatments: &[u8],
     setting: Setting,
     whole: bool,
-) {
+) -> io::Result<()> {
     let mut index = [0u64; 1024];
     let mut offsets = [0u64; 2048];
     let mut parents = [0u64; 2048];
@@ -245,6 +251,7 @@ fn unit<'a>(
         Collected::Untouched(c) => {
             if whole {
                 line(
+                    to,
                     b"untouched",
                     c,
                     &map,
@@ -252,9 +259,10 @@ fn unit<'a>(
                     &location_list,
                     &string_list,
                     &out,
-                );
+                )?;
             } else {
                 marked(
+                    to,
                     section,
                     abbreviations,
                     locations,
@@ -267,12 +275,13 @@ fn unit<'a>(
                     &map,
                     c,
                     false,
-                );
+                )?;
             }
         }
         Collected::Rewritten(c) => {
             if whole {
                 line(
+                    to,
                     b"rewritten",
                     c,
                     &map,
@@ -280,9 +289,10 @@ fn unit<'a>(
                     &location_list,
                     &string_list,
                     &out,
-                );
+                )?;
             } else {
                 marked(
+                    to,
                     section,
                     abbreviations,
                     locations,
@@ -295,21 +305,30 @@ fn unit<'a>(
                     &map,
                     c,
                     true,
-                );
+                )?;
             }
         }
         Collected::Refused(n) => {
-            refused(n);
+            refused(to, n)?;
         }
     }
+    Ok(())
 }
 
-fn of_bundle(s: &[u8], setting: Setting, tags: &[u8], treatments: &[u8], whole: bool) {
+fn of_bundle(
+    to: &mut impl Write,
+    s: &[u8],
+    setting: Setting,
+    tags: &[u8],
+    treatments: &[u8],
+    whole: bool,
+) -> io::Result<()> {
     let BundleRead::Read(b) = bundle::read_bundle(s) else {
-        text(b"bundle\n");
-        return;
+        text(to, b"bundle\n")?;
+        return Ok(());
     };
     unit(
+        to,
         section_bytes(s, b.unit),
         section_bytes(s, b.abbreviations),
         section_bytes(s, b.locations),
@@ -320,16 +339,28 @@ fn of_bundle(s: &[u8], setting: Setting, tags: &[u8], treatments: &[u8], whole: 
         treatments,
         setting,
         whole,
-    );
+    )
 }
 
 // Prints the entries of a bundle's unit, by what is told of it, with their marks and new offsets; `refused` and a
 // number; `bundle` where it is none.
-pub fn thin(s: &[u8], setting: Setting, tags: &[u8], treatments: &[u8]) {
-    of_bundle(s, setting, tags, treatments, false);
+pub fn thin(
+    to: &mut impl Write,
+    s: &[u8],
+    setting: Setting,
+    tags: &[u8],
+    treatments: &[u8],
+) -> io::Result<()> {
+    of_bundle(to, s, setting, tags, treatments, false)
 }
 
 // Prints all that collect answers for a bundle's unit, on one line.
-pub fn answer(s: &[u8], setting: Setting, tags: &[u8], treatments: &[u8]) {
-    of_bundle(s, setting, tags, treatments, true);
+pub fn answer(
+    to: &mut impl Write,
+    s: &[u8],
+    setting: Setting,
+    tags: &[u8],
+    treatments: &[u8],
+) -> io::Result<()> {
+    of_bundle(to, s, setting, tags, treatments, true)
 }

@@ -11,6 +11,8 @@ use marking::setting::Setting;
 use readers::cursor::{Cursor, Number, left};
 use rewriting::collect::{Collected, Counts};
 use rewriting::lists::ListCount;
+use std::io;
+use std::io::Write;
 
 // ---- settings: numbers of eight bytes, big-endian. Where each stands:
 
@@ -192,37 +194,11 @@ fn lend(
 // ---- what it leaves: a table's lent part zeros, and behind it what was there
 
 fn numbers_end(a: &[u64], n: usize) -> bool {
-    let mut i: usize = 0;
-    while i < a.len() {
-        if i < n {
-            if a[i] != 0 {
-                return false;
-            }
-        } else {
-            if a[i] != 0xa5a5_a5a5_a5a5_a5a5 {
-                return false;
-            }
-        }
-        i += 1;
-    }
-    true
+    a.iter().take(n).all(|x| *x == 0) && a.iter().skip(n).all(|x| *x == 0xa5a5_a5a5_a5a5_a5a5)
 }
 
 fn bytes_end(a: &[u8], n: usize) -> bool {
-    let mut i: usize = 0;
-    while i < a.len() {
-        if i < n {
-            if a[i] != 0 {
-                return false;
-            }
-        } else {
-            if a[i] != 0xa5 {
-                return false;
-            }
-        }
-        i += 1;
-    }
-    true
+    a.iter().take(n).all(|x| *x == 0) && rest_kept(a, n)
 }
 
 fn tables_end(
@@ -262,14 +238,7 @@ fn tables_end(
 
 // Whether what lies behind the lent part is as it was.
 fn rest_kept(a: &[u8], n: usize) -> bool {
-    let mut i = n;
-    while i < a.len() {
-        if a[i] != 0xa5 {
-            return false;
-        }
-        i += 1;
-    }
-    true
+    a.iter().skip(n).all(|x| *x == 0xa5)
 }
 
 fn outputs_end(
@@ -297,73 +266,90 @@ fn outputs_end(
 
 // ---- lines
 
-fn count(name: &[u8], c: ListCount) {
+fn count(to: &mut impl Write, name: &[u8], c: ListCount) -> io::Result<()> {
     match c {
         ListCount::Absent => {
-            text(name);
-            text(b"absent");
+            text(to, name)?;
+            text(to, b"absent")?;
         }
         ListCount::Present(n) => {
-            number(name, n as u64);
+            number(to, name, n as u64)?;
         }
     }
+    Ok(())
 }
 
-fn counts(answer: &[u8], c: Counts) {
+fn counts(to: &mut impl Write, answer: &[u8], c: Counts) -> io::Result<()> {
     let ranges = c.ranges;
     let locations = c.locations;
     let strings = c.strings;
-    number(answer, c.entries as u64);
-    number(b" kept ", c.kept as u64);
-    number(b" places ", c.places as u64);
-    number(b" bytes ", c.bytes as u64);
-    count(b" ranges ", ranges);
-    count(b" locations ", locations);
-    count(b" strings ", strings);
-    text(b"\n");
+    number(to, answer, c.entries as u64)?;
+    number(to, b" kept ", c.kept as u64)?;
+    number(to, b" places ", c.places as u64)?;
+    number(to, b" bytes ", c.bytes as u64)?;
+    count(to, b" ranges ", ranges)?;
+    count(to, b" locations ", locations)?;
+    count(to, b" strings ", strings)?;
+    text(to, b"\n")
 }
 
-fn answered(answer: Collected) {
+fn answered(to: &mut impl Write, answer: Collected) -> io::Result<()> {
     match answer {
         Collected::Untouched(c) => {
-            counts(b"untouched entries ", c);
+            counts(to, b"untouched entries ", c)?;
         }
         Collected::Rewritten(c) => {
-            counts(b"rewritten entries ", c);
+            counts(to, b"rewritten entries ", c)?;
         }
         Collected::Refused(n) => {
-            refused(n);
+            refused(to, n)?;
         }
     }
+    Ok(())
 }
 
 fn lent_bytes(
+    to: &mut impl Write,
     settings: &[u8],
     map: &[u8],
     ranges: &[u8],
     locations: &[u8],
     strings: &[u8],
     out: &[u8],
-) {
-    hex(b"map ", map, lent(settings, MAP, map.len()));
-    hex(b"\nranges ", ranges, lent(settings, RANGES, ranges.len()));
+) -> io::Result<()> {
+    hex(to, b"map ", map, lent(settings, MAP, map.len()))?;
     hex(
+        to,
+        b"\nranges ",
+        ranges,
+        lent(settings, RANGES, ranges.len()),
+    )?;
+    hex(
+        to,
         b"\nlocations ",
         locations,
         lent(settings, LOCATIONS, locations.len()),
-    );
+    )?;
     hex(
+        to,
         b"\nstrings ",
         strings,
         lent(settings, STRINGS, strings.len()),
-    );
-    hex(b"\noutput ", out, lent(settings, OUTPUT, out.len()));
-    text(b"\n");
+    )?;
+    hex(to, b"\noutput ", out, lent(settings, OUTPUT, out.len()))?;
+    text(to, b"\n")
 }
 
 // ---- cases
 
-fn unit(settings: &[u8], tags: &[u8], treatments: &[u8], s: &[u8], b: Bundle) {
+fn unit(
+    to: &mut impl Write,
+    settings: &[u8],
+    tags: &[u8],
+    treatments: &[u8],
+    s: &[u8],
+    b: Bundle,
+) -> io::Result<()> {
     let mut index = [0xa5a5_a5a5_a5a5_a5a5u64; 1024];
     let mut offsets = [0xa5a5_a5a5_a5a5_a5a5u64; 2048];
     let mut parents = [0xa5a5_a5a5_a5a5_a5a5u64; 2048];
@@ -377,34 +363,38 @@ fn unit(settings: &[u8], tags: &[u8], treatments: &[u8], s: &[u8], b: Bundle) {
     let mut location_list = [0xa5u8; 65536];
     let mut string_list = [0xa5u8; 65536];
     let mut out = [0xa5u8; 65536];
-    answered(lend(
-        settings,
-        s,
-        &mut index,
-        &mut offsets,
-        &mut parents,
-        &mut roots,
-        &mut ends,
-        &mut marks,
-        &mut targets,
-        &mut pairs,
-        &mut map,
-        &mut range_list,
-        &mut location_list,
-        &mut string_list,
-        &mut out,
-        b,
-        tags,
-        treatments,
-    ));
+    answered(
+        to,
+        lend(
+            settings,
+            s,
+            &mut index,
+            &mut offsets,
+            &mut parents,
+            &mut roots,
+            &mut ends,
+            &mut marks,
+            &mut targets,
+            &mut pairs,
+            &mut map,
+            &mut range_list,
+            &mut location_list,
+            &mut string_list,
+            &mut out,
+            b,
+            tags,
+            treatments,
+        ),
+    )?;
     lent_bytes(
+        to,
         settings,
         &map,
         &range_list,
         &location_list,
         &string_list,
         &out,
-    );
+    )?;
     let tables = tables_end(
         settings, &index, &offsets, &parents, &roots, &ends, &marks, &targets, &pairs,
     );
@@ -416,37 +406,44 @@ fn unit(settings: &[u8], tags: &[u8], treatments: &[u8], s: &[u8], b: Bundle) {
         &string_list,
         &out,
     );
-    word(tables, outputs);
+    word(to, tables, outputs)
 }
 
 // One word: whether tables and what was not lent are as they must be.
-fn word(tables: bool, outputs: bool) {
+fn word(to: &mut impl Write, tables: bool, outputs: bool) -> io::Result<()> {
     if !tables {
-        text(b"tables\n");
-        return;
+        text(to, b"tables\n")?;
+        return Ok(());
     }
     if !outputs {
-        text(b"behind\n");
-        return;
+        text(to, b"behind\n")?;
+        return Ok(());
     }
-    text(b"clean\n");
+    text(to, b"clean\n")
 }
 
-fn case(settings: &[u8], tags: &[u8], treatments: &[u8], s: &[u8]) {
+fn case(
+    to: &mut impl Write,
+    settings: &[u8],
+    tags: &[u8],
+    treatments: &[u8],
+    s: &[u8],
+) -> io::Result<()> {
     match bundle::read_bundle(s) {
         BundleRead::Wrong => {
-            text(b"bundle\n");
+            text(to, b"bundle\n")?;
         }
         BundleRead::Read(b) => {
-            unit(settings, tags, treatments, s, b);
+            unit(to, settings, tags, treatments, s, b)?;
         }
     }
+    Ok(())
 }
 
 // Prints the case that stands first, after a line with its number: how many bytes it has, 0 where there is none.
-fn first_case(s: &[u8], n: u64) -> usize {
+fn first_case(to: &mut impl Write, s: &[u8], n: u64) -> io::Result<usize> {
     if s.len() < SETTINGS {
-        return 0;
+        return Ok(0);
     }
     let settings = &s[0..SETTINGS];
     let behind = &s[SETTINGS..];
@@ -458,30 +455,29 @@ fn first_case(s: &[u8], n: u64) -> usize {
     let held = &rest[of_treatments..];
     let bytes = size(held, 0);
     if bytes > held.len() {
-        return 0;
+        return Ok(0);
     }
-    number(b"-- ", n);
-    text(b"\n");
-    case(settings, tags, treatments, &held[0..bytes]);
-    SETTINGS + of_tags + of_treatments + bytes
+    number(to, b"-- ", n)?;
+    text(to, b"\n")?;
+    case(to, settings, tags, treatments, &held[0..bytes])?;
+    Ok(SETTINGS + of_tags + of_treatments + bytes)
 }
 
 // Prints each case.
-pub fn list_all(s: &[u8]) {
+pub fn list_all(to: &mut impl Write, s: &[u8]) -> io::Result<()> {
     let mut at: usize = 0;
-    let mut n: usize = 0;
-    while n < 65536 {
+    for n in 1..65537u64 {
         if at >= s.len() {
-            return;
+            return Ok(());
         }
-        n += 1;
-        let bytes = first_case(&s[at..], n as u64);
+        let bytes = first_case(to, &s[at..], n)?;
         if bytes == 0 {
-            return;
+            return Ok(());
         }
         if bytes > s.len() - at {
-            return;
+            return Ok(());
         }
         at += bytes;
     }
+    Ok(())
 }

@@ -1,7 +1,6 @@
 // What the readers read of a bundle's unit: header, entries with their attributes, references of expressions, lists.
 use crate::text::{number, text};
 use bundle::BundleRead;
-use libc::STDOUT_FILENO;
 use readers::abbreviations::{AttributeSpec, Checked, SpecStep};
 use readers::attributes::{Attribute, AttributeRead};
 use readers::codes::{
@@ -17,6 +16,8 @@ use readers::header::{HeaderRead, UnitHeader};
 use readers::layouts::ROW_ADDRESS_ADDRESS;
 use readers::lists::ListOffset;
 use readers::operations::{ListEntry, ListStep};
+use std::io;
+use std::io::Write;
 
 // Where the walk through the entries stands: the next entry or terminator, its depth, and the list bases.
 #[derive(Clone, Copy)]
@@ -36,20 +37,22 @@ struct Values {
     spec: Cursor,
 }
 
+// More than a list, an entry or a unit of a bundle has steps.
+const MOST_TURNS: usize = 65537;
+
 // A number that was read as a signed one, from the bits of its two's complement.
-fn signed_number(s: &[u8], n: u64) {
-    io::write_all(STDOUT_FILENO, s);
+fn signed_number(to: &mut impl Write, s: &[u8], n: u64) -> io::Result<()> {
+    text(to, s)?;
     if n >= 0x8000_0000_0000_0000 {
-        text(b"-");
-        io::print_decimal(STDOUT_FILENO, 0xffff_ffff_ffff_ffff - n + 1);
+        number(to, b"-", 0xffff_ffff_ffff_ffff - n + 1)
     } else {
-        io::print_decimal(STDOUT_FILENO, n);
+        number(to, b"", n)
     }
 }
 
-fn refused(n: u64) {
-    number(b"refused ", n);
-    text(b"\n");
+fn refused(to: &mut impl Write, n: u64) -> io::Result<()> {
+    number(to, b"refused ", n)?;
+    text(to, b"\n")
 }
 
 // ---- values
@@ -62,49 +65,48 @@ fn is_bytes(form: u64) -> bool {
     }
 }
 
-fn value(form: u64, f: Field, implicit: u64) {
+fn value(to: &mut impl Write, form: u64, f: Field, implicit: u64) -> io::Result<()> {
     if is_bytes(form) {
-        number(b" bytes ", f.start as u64);
-        number(b" to ", f.end as u64);
-        text(b"\n");
-        return;
+        number(to, b" bytes ", f.start as u64)?;
+        number(to, b" to ", f.end as u64)?;
+        text(to, b"\n")?;
+        return Ok(());
     }
     if form == DW_FORM_implicit_const {
-        signed_number(b" value ", implicit);
-        text(b"\n");
-        return;
+        signed_number(to, b" value ", implicit)?;
+        text(to, b"\n")?;
+        return Ok(());
     }
     if form == DW_FORM_sdata {
-        signed_number(b" value ", f.value);
-        text(b"\n");
-        return;
+        signed_number(to, b" value ", f.value)?;
+        text(to, b"\n")?;
+        return Ok(());
     }
     if form == DW_FORM_flag_present {
-        number(b" value ", 1);
-        text(b"\n");
-        return;
+        number(to, b" value ", 1)?;
+        text(to, b"\n")?;
+        return Ok(());
     }
-    number(b" value ", f.value);
-    text(b"\n");
+    number(to, b" value ", f.value)?;
+    text(to, b"\n")
 }
 
 // ---- expressions
 
-fn reference_lines(table: &[u64], count: usize) {
-    let mut i: usize = 0;
-    while i < count {
+fn reference_lines(to: &mut impl Write, table: &[u64], count: usize) -> io::Result<()> {
+    for i in 0..count {
         if table.len() / 3 <= i {
-            return;
+            return Ok(());
         }
-        number(b"  reference at ", table[3 * i]);
-        number(b" to ", table[3 * i + 1]);
-        number(b" width ", table[3 * i + 2]);
-        text(b"\n");
-        i += 1;
+        number(to, b"  reference at ", table[3 * i])?;
+        number(to, b" to ", table[3 * i + 1])?;
+        number(to, b" width ", table[3 * i + 2])?;
+        text(to, b"\n")?;
     }
+    Ok(())
 }
 
-fn expression(s: &[u8], e: Encoding) {
+fn expression(to: &mut impl Write, s: &[u8], e: Encoding) -> io::Result<()> {
     let mut table = [0u64; 6144];
     match readers::expressions::references_of_expression(
         s,
@@ -114,13 +116,14 @@ fn expression(s: &[u8], e: Encoding) {
         &mut table,
     ) {
         References::Count(n) => {
-            reference_lines(&table, n);
+            reference_lines(to, &table, n)?;
         }
         References::Refused(n) => {
-            text(b"  expression ");
-            refused(n as u64);
+            text(to, b"  expression ")?;
+            refused(to, n as u64)?;
         }
     }
+    Ok(())
 }
 
 // ---- lists
@@ -141,98 +144,115 @@ fn location_field(entry: ListEntry) -> Field {
     entry.third
 }
 
-fn list_line(entry: ListEntry) {
+fn list_line(to: &mut impl Write, entry: ListEntry) -> io::Result<()> {
     let first = entry.first;
     let second = entry.second;
-    number(b"  kind ", entry.kind as u64);
-    number(b" ", first.value);
-    number(b" ", second.value);
+    number(to, b"  kind ", entry.kind as u64)?;
+    number(to, b" ", first.value)?;
+    number(to, b" ", second.value)
 }
 
 // The rest of an entry's line, and of a location list's entry the expression.
-fn list_lines(s: &[u8], entry: ListEntry, location: bool, e: Encoding) {
-    list_line(entry);
+fn list_lines(
+    to: &mut impl Write,
+    s: &[u8],
+    entry: ListEntry,
+    location: bool,
+    e: Encoding,
+) -> io::Result<()> {
+    list_line(to, entry)?;
     if location {
         if has_expression(entry.kind) {
             let f = location_field(entry);
-            number(b" bytes ", f.start as u64);
-            number(b" to ", f.end as u64);
-            text(b"\n");
-            expression(f.expression(s), e);
-            return;
+            number(to, b" bytes ", f.start as u64)?;
+            number(to, b" to ", f.end as u64)?;
+            text(to, b"\n")?;
+            expression(to, f.expression(s), e)?;
+            return Ok(());
         }
     }
-    text(b"\n");
+    text(to, b"\n")
 }
 
 // One pair of a range list of version 4; answers where the next one is, or nowhere at the list's end. A begin of all ones
 // makes its end the base of the pairs after it.
-fn pair_step(s: &[u8], c: Cursor, e: Encoding) -> Moved {
+fn pair_step(to: &mut impl Write, s: &[u8], c: Cursor, e: Encoding) -> io::Result<Moved> {
     if c.at >= s.len() {
-        text(b"  end\n");
-        return Moved::Unreadable;
+        text(to, b"  end\n")?;
+        return Ok(Moved::Unreadable);
     }
     let OperandsRead::Read(r) = c.row(s, ROW_ADDRESS_ADDRESS, e) else {
-        text(b"  list ");
-        refused(5);
-        return Moved::Unreadable;
+        text(to, b"  list ")?;
+        refused(to, 5)?;
+        return Ok(Moved::Unreadable);
     };
     let begin = r.first;
     let end = r.second;
     let third = r.third;
     if begin.value == 0 {
         if end.value == 0 {
-            text(b"  end\n");
-            return Moved::Unreadable;
+            text(to, b"  end\n")?;
+            return Ok(Moved::Unreadable);
         }
     }
-    number(b"  pair ", begin.value);
-    number(b" ", end.value);
-    text(b"\n");
-    Moved::To(third.next())
+    number(to, b"  pair ", begin.value)?;
+    number(to, b" ", end.value)?;
+    text(to, b"\n")?;
+    Ok(Moved::To(third.next()))
 }
 
 // One entry of a list; answers where the next one is, or nowhere at the list's end. A range list of version 4 has pairs.
-fn list_step(s: &[u8], c: Cursor, location: bool, e: Encoding) -> Moved {
+fn list_step(
+    to: &mut impl Write,
+    s: &[u8],
+    c: Cursor,
+    location: bool,
+    e: Encoding,
+) -> io::Result<Moved> {
     if !location {
         if e.version == 4 {
-            return pair_step(s, c, e);
+            return pair_step(to, s, c, e);
         }
     }
     match c.list_entry(s, location, e) {
         ListStep::Entry(entry) => {
-            list_lines(s, entry, location, e);
+            list_lines(to, s, entry, location, e)?;
             let next = entry.next;
-            Moved::To(next)
+            Ok(Moved::To(next))
         }
         ListStep::End => {
-            text(b"  end\n");
-            Moved::Unreadable
+            text(to, b"  end\n")?;
+            Ok(Moved::Unreadable)
         }
         ListStep::Unreadable => {
-            text(b"  list ");
-            refused(5);
-            Moved::Unreadable
+            text(to, b"  list ")?;
+            refused(to, 5)?;
+            Ok(Moved::Unreadable)
         }
     }
 }
 
-fn list(s: &[u8], start: ListOffset, location: bool, e: Encoding) {
+fn list(
+    to: &mut impl Write,
+    s: &[u8],
+    start: ListOffset,
+    location: bool,
+    e: Encoding,
+) -> io::Result<()> {
     let ListOffset::At(first) = start else {
-        text(b"  list unresolved\n");
-        return;
+        text(to, b"  list unresolved\n")?;
+        return Ok(());
     };
-    number(b"  list at ", first.at as u64);
-    text(b"\n");
+    number(to, b"  list at ", first.at as u64)?;
+    text(to, b"\n")?;
     let mut c = first;
-    let mut turns: usize = 65537;
-    while turns > 0 {
-        let Moved::To(next) = list_step(s, c, location, e) else {
-            return;
+    for _ in 0..MOST_TURNS {
+        let Moved::To(next) = list_step(to, s, c, location, e)? else {
+            return Ok(());
         };
         c = next;
-        turns -= 1;
     }
+    Ok(())
 }
 
 // Whether an attribute can name a location list (DWARF 5, 7.5.4, class loclist).
@@ -251,36 +271,55 @@ fn names_ranges(name: u64) -> bool {
     }
 }
 
-fn lists(locations: &[u8], ranges: &[u8], p: Place, name: u64, form: u64, v: u64, e: Encoding) {
+fn lists(
+    to: &mut impl Write,
+    locations: &[u8],
+    ranges: &[u8],
+    p: Place,
+    name: u64,
+    form: u64,
+    v: u64,
+    e: Encoding,
+) -> io::Result<()> {
     if form == DW_FORM_rnglistx {
         list(
+            to,
             ranges,
             readers::lists::list_offset(ranges, p.range_base, v, e),
             false,
             e,
-        );
+        )?;
     }
     if form == DW_FORM_loclistx {
         list(
+            to,
             locations,
             readers::lists::list_offset(locations, p.location_base, v, e),
             true,
             e,
-        );
+        )?;
     }
     if form == DW_FORM_sec_offset {
         if names_ranges(name) {
-            list(ranges, readers::lists::list_start(ranges, v), false, e);
+            list(to, ranges, readers::lists::list_start(ranges, v), false, e)?;
         }
         if names_locations(name) {
-            list(locations, readers::lists::list_start(locations, v), true, e);
+            list(
+                to,
+                locations,
+                readers::lists::list_start(locations, v),
+                true,
+                e,
+            )?;
         }
     }
+    Ok(())
 }
 
 // ---- attributes
 
 fn attribute_lines(
+    to: &mut impl Write,
     unit: &[u8],
     locations: &[u8],
     ranges: &[u8],
@@ -288,15 +327,15 @@ fn attribute_lines(
     a: AttributeSpec,
     v: Attribute,
     e: Encoding,
-) {
+) -> io::Result<()> {
     let field = v.field;
-    number(b" attribute ", a.name);
-    number(b" form ", v.form);
-    value(v.form, field, a.implicit);
+    number(to, b" attribute ", a.name)?;
+    number(to, b" form ", v.form)?;
+    value(to, v.form, field, a.implicit)?;
     if v.form == DW_FORM_exprloc {
-        expression(field.expression(unit), e);
+        expression(to, field.expression(unit), e)?;
     }
-    lists(locations, ranges, p, a.name, v.form, field.value, e);
+    lists(to, locations, ranges, p, a.name, v.form, field.value, e)
 }
 
 fn ended(v: Values) -> Values {
@@ -307,6 +346,7 @@ fn ended(v: Values) -> Values {
 
 // One attribute of an entry.
 fn attribute_step(
+    to: &mut impl Write,
     unit: &[u8],
     abbreviations: &[u8],
     locations: &[u8],
@@ -314,26 +354,27 @@ fn attribute_step(
     p: Place,
     v: Values,
     e: Encoding,
-) -> Values {
+) -> io::Result<Values> {
     let spec = v.spec;
     let place = v.value;
     let SpecStep::Attribute(a) = spec.attribute_spec(abbreviations) else {
-        return ended(v);
+        return Ok(ended(v));
     };
     let AttributeRead::Read(r) = place.attribute(unit, a.name, a.form, e) else {
-        return ended(v);
+        return Ok(ended(v));
     };
-    attribute_lines(unit, locations, ranges, p, a, r, e);
+    attribute_lines(to, unit, locations, ranges, p, a, r, e)?;
     let field = r.field;
     let next = a.next;
-    Values {
+    Ok(Values {
         done: false,
         value: field.next(),
         spec: next,
-    }
+    })
 }
 
 fn attributes(
+    to: &mut impl Write,
     unit: &[u8],
     abbreviations: &[u8],
     locations: &[u8],
@@ -341,16 +382,15 @@ fn attributes(
     p: Place,
     first: Values,
     e: Encoding,
-) {
+) -> io::Result<()> {
     let mut v = first;
-    let mut turns: usize = 65537;
-    while turns > 0 {
-        v = attribute_step(unit, abbreviations, locations, ranges, p, v, e);
+    for _ in 0..MOST_TURNS {
+        v = attribute_step(to, unit, abbreviations, locations, ranges, p, v, e)?;
         if v.done {
-            return;
+            return Ok(());
         }
-        turns -= 1;
     }
+    Ok(())
 }
 
 // ---- list bases: DW_AT_rnglists_base and DW_AT_loclists_base of a compile unit entry, from that entry on
@@ -372,8 +412,7 @@ fn bases(unit: &[u8], abbreviations: &[u8], p: Place, first: Values, e: Encoding
     let mut q = p;
     let mut c = first.value;
     let mut spec = first.spec;
-    let mut turns: usize = 65537;
-    while turns > 0 {
+    for _ in 0..MOST_TURNS {
         let SpecStep::Attribute(a) = spec.attribute_spec(abbreviations) else {
             return q;
         };
@@ -384,24 +423,23 @@ fn bases(unit: &[u8], abbreviations: &[u8], p: Place, first: Values, e: Encoding
         q = with_base(q, a.name, r.form, field.value);
         c = field.next();
         spec = a.next;
-        turns -= 1;
     }
     q
 }
 
 // ---- entries
 
-fn entry_line(entry: Entry, depth: u64) {
+fn entry_line(to: &mut impl Write, entry: Entry, depth: u64) -> io::Result<()> {
     let d = entry.declaration;
     let offset = entry.offset;
-    number(b"entry ", offset.0);
-    number(b" depth ", depth);
-    number(b" code ", d.code);
-    number(b" tag ", d.tag);
+    number(to, b"entry ", offset.0)?;
+    number(to, b" depth ", depth)?;
+    number(to, b" code ", d.code)?;
+    number(to, b" tag ", d.tag)?;
     if d.children {
-        text(b" children");
+        text(to, b" children")?;
     }
-    text(b"\n");
+    text(to, b"\n")
 }
 
 fn stopped(p: Place) -> Place {
@@ -412,6 +450,7 @@ fn stopped(p: Place) -> Place {
 
 // An entry, its attributes, and the place after it.
 fn entry(
+    to: &mut impl Write,
     unit: &[u8],
     abbreviations: &[u8],
     locations: &[u8],
@@ -419,8 +458,8 @@ fn entry(
     p: Place,
     x: Entry,
     e: Encoding,
-) -> Place {
-    entry_line(x, p.depth);
+) -> io::Result<Place> {
+    entry_line(to, x, p.depth)?;
     let d = x.declaration;
     let specs = d.attributes;
     let values = x.values;
@@ -434,18 +473,19 @@ fn entry(
     if d.tag == DW_TAG_compile_unit {
         q = bases(unit, abbreviations, p, first, e);
     }
-    attributes(unit, abbreviations, locations, ranges, q, first, e);
+    attributes(to, unit, abbreviations, locations, ranges, q, first, e)?;
     q.next = next;
     if d.children {
         if q.depth < 65537 {
             q.depth += 1;
         }
     }
-    q
+    Ok(q)
 }
 
 // One entry or terminator.
 fn place_step(
+    to: &mut impl Write,
     unit: &[u8],
     abbreviations: &[u8],
     locations: &[u8],
@@ -453,38 +493,39 @@ fn place_step(
     index: &[u64],
     h: UnitHeader,
     p: Place,
-) -> Place {
+) -> io::Result<Place> {
     let e = h.encoding;
     let c = p.next;
     match c.step(unit, abbreviations, h.abbreviations, index, e) {
-        Step::Entry(x) => entry(unit, abbreviations, locations, ranges, p, x, e),
+        Step::Entry(x) => entry(to, unit, abbreviations, locations, ranges, p, x, e),
         Step::Terminator(next) => {
-            number(b"terminator ", c.at as u64);
-            number(b" depth ", p.depth);
-            text(b"\n");
+            number(to, b"terminator ", c.at as u64)?;
+            number(to, b" depth ", p.depth)?;
+            text(to, b"\n")?;
             let mut q = p;
             q.next = next;
             if 0 < q.depth {
                 q.depth -= 1;
             }
-            q
+            Ok(q)
         }
-        Step::End => stopped(p),
+        Step::End => Ok(stopped(p)),
         Step::Unreadable => {
-            refused(4);
-            stopped(p)
+            refused(to, 4)?;
+            Ok(stopped(p))
         }
     }
 }
 
 fn entries(
+    to: &mut impl Write,
     unit: &[u8],
     abbreviations: &[u8],
     locations: &[u8],
     ranges: &[u8],
     index: &[u64],
     h: UnitHeader,
-) {
+) -> io::Result<()> {
     let first = h.first;
     let mut p = Place {
         done: false,
@@ -495,71 +536,74 @@ fn entries(
         range_base: readers::lists::list_base(h.encoding),
         location_base: readers::lists::list_base(h.encoding),
     };
-    let mut turns: usize = 65537;
-    while turns > 0 {
-        p = place_step(unit, abbreviations, locations, ranges, index, h, p);
+    for _ in 0..MOST_TURNS {
+        p = place_step(to, unit, abbreviations, locations, ranges, index, h, p)?;
         if p.done {
-            return;
+            return Ok(());
         }
-        turns -= 1;
     }
+    Ok(())
 }
 
-fn header_line(h: UnitHeader) {
+fn header_line(to: &mut impl Write, h: UnitHeader) -> io::Result<()> {
     let e = h.encoding;
     let first = h.first;
-    number(b"version ", e.version as u64);
-    number(b" unit type ", h.unit_type as u64);
-    number(b" address_size ", e.address_size as u64);
-    number(b" abbreviations ", h.abbreviations);
-    number(b" first ", first.0);
-    number(b" end ", h.end as u64);
-    text(b"\n");
+    number(to, b"version ", e.version as u64)?;
+    number(to, b" unit type ", h.unit_type as u64)?;
+    number(to, b" address_size ", e.address_size as u64)?;
+    number(to, b" abbreviations ", h.abbreviations)?;
+    number(to, b" first ", first.0)?;
+    number(to, b" end ", h.end as u64)?;
+    text(to, b"\n")
 }
 
 fn unit_lines(
+    to: &mut impl Write,
     section: &[u8],
     abbreviations: &[u8],
     locations: &[u8],
     ranges: &[u8],
     h: UnitHeader,
-) {
+) -> io::Result<()> {
     let mut index = [0u64; 1024];
     match readers::abbreviations::check_abbreviations(abbreviations, h.abbreviations, &mut index) {
         Checked::Accepted => {
-            header_line(h);
+            header_line(to, h)?;
             entries(
+                to,
                 readers::header::unit_part(section, h),
                 abbreviations,
                 locations,
                 ranges,
                 &index,
                 h,
-            );
+            )?;
         }
         Checked::Refused => {
-            refused(3);
+            refused(to, 3)?;
         }
     }
+    Ok(())
 }
 
 // Prints what a bundle holds, by the byte order of its unit; `bundle` where it is none, `refused` and a number where its
 // unit can't be read.
-pub fn dump(s: &[u8], big_endian: bool) {
+pub fn dump(to: &mut impl Write, s: &[u8], big_endian: bool) -> io::Result<()> {
     let BundleRead::Read(b) = bundle::read_bundle(s) else {
-        text(b"bundle\n");
-        return;
+        text(to, b"bundle\n")?;
+        return Ok(());
     };
     let unit = bundle::section_bytes(s, b.unit);
     match readers::header::unit_header(unit, big_endian) {
         HeaderRead::Empty => {
-            text(b"empty\n");
+            text(to, b"empty\n")?;
         }
         HeaderRead::Refused(n) => {
-            refused(n as u64);
+            refused(to, n as u64)?;
         }
         HeaderRead::Unit(h) => {
             unit_lines(
+                to,
                 unit,
                 bundle::section_bytes(s, b.abbreviations),
                 bundle::section_bytes(s, b.locations),
@@ -569,7 +613,8 @@ pub fn dump(s: &[u8], big_endian: bool) {
                     bundle::section_bytes(s, b.debug_ranges),
                 ),
                 h,
-            );
+            )?;
         }
     }
+    Ok(())
 }

@@ -161,8 +161,7 @@ pub(crate) enum ListRead {
 // Reads the list from a place of a word on.
 fn pairs(s: &[u8], from: usize, tags: &mut [u8], treatments: &mut [u8]) -> ListRead {
     let mut at = from;
-    let mut n: usize = 0;
-    while n < MOST {
+    for n in 0..MOST {
         let Pair::Of {
             tag,
             treatment,
@@ -174,9 +173,8 @@ fn pairs(s: &[u8], from: usize, tags: &mut [u8], treatments: &mut [u8]) -> ListR
         put(tags, 2 * n, tag / 256);
         put(tags, 2 * n + 1, tag);
         put(treatments, n, treatment);
-        n += 1;
         if end >= s.len() {
-            return ListRead::Tags(n);
+            return ListRead::Tags(n + 1);
         }
         if s[end] != COMMA {
             return ListRead::Nothing;
@@ -188,10 +186,7 @@ fn pairs(s: &[u8], from: usize, tags: &mut [u8], treatments: &mut [u8]) -> ListR
 
 // The list that a word tells: its tags, two big-endian bytes each, and its treatments.
 pub(crate) fn read_list(word: &[u8], tags: &mut [u8], treatments: &mut [u8]) -> ListRead {
-    if word.len() < BEFORE {
-        return ListRead::Nothing;
-    }
-    if !check::same(&word[0..BEFORE], b"--keep-list=") {
+    if !word.starts_with(b"--keep-list=") {
         return ListRead::Nothing;
     }
     if word.len() == BEFORE {

@@ -5,6 +5,10 @@ use crate::keep_list::{ListRead, MOST, is_keep_list, read_list};
 use crate::lengths::size;
 use crate::text::{number, text};
 use marking::setting::Setting;
+use std::env::FillError;
+use std::io::{Read, Write};
+use std::rt::{Env, Files};
+use std::{fs, io, str};
 
 pub mod answers;
 pub mod cases;
@@ -25,6 +29,9 @@ pub const THIN: u8 = 3;
 const COLLECT: u8 = 4;
 
 const CASES: u8 = 5;
+
+// Bytes of the longest argument that is read.
+const LONGEST: usize = 4096;
 
 // ---- options: what is told of a unit
 
@@ -83,13 +90,13 @@ enum Told {
 
 // Argument i, after these options.
 fn option(word: &[u8], i: usize, o: Options) -> Told {
-    if check::same(word, b"--big-endian") {
+    if word == b"--big-endian".as_slice() {
         if o.setting.big_endian {
             return Told::Unknown;
         }
         return Told::By(big_endian(o));
     }
-    if check::same(word, b"--fixed-addresses") {
+    if word == b"--fixed-addresses".as_slice() {
         if o.setting.fixed_addresses {
             return Told::Unknown;
         }
@@ -104,34 +111,44 @@ fn option(word: &[u8], i: usize, o: Options) -> Told {
     Told::Unknown
 }
 
-fn option_at(i: usize, o: Options) -> Told {
-    let mut word = io::buffer();
-    let length = os::arg(i, &mut word);
-    option(&word[..length], i, o)
+// What argument i tells after these options: one that is too long is no option. None where there is no argument i.
+fn option_at(rt: &impl Env, i: usize, o: Options) -> Option<Told> {
+    let mut word = [0u8; LONGEST];
+    match rt.arg(i, &mut word) {
+        Ok(length) => Some(option(&word[..length], i, o)),
+        Err(FillError::TooLong) => Some(Told::Unknown),
+        Err(FillError::NotPresent) => None,
+    }
 }
 
 // What all the arguments tell: each is an option, and none is there twice.
-fn all_options() -> Told {
-    let count = os::arg_count();
+fn all_options(rt: &impl Env) -> Told {
     let mut told = untold();
-    let mut i: usize = 1;
-    while i < count {
-        let Told::By(next) = option_at(i, told) else {
-            return Told::Unknown;
-        };
-        told = next;
-        i += 1;
+    for i in 1..usize::MAX {
+        match option_at(rt, i, told) {
+            Some(Told::By(next)) => {
+                told = next;
+            }
+            Some(Told::Unknown) => {
+                return Told::Unknown;
+            }
+            None => {
+                return Told::By(told);
+            }
+        }
     }
     Told::By(told)
 }
 
 // The keep list of argument i, in the first bytes of these: how many tags it has; none of argument 0.
-fn keep_list_of(i: usize, tags: &mut [u8], treatments: &mut [u8]) -> usize {
+fn keep_list_of(rt: &impl Env, i: usize, tags: &mut [u8], treatments: &mut [u8]) -> usize {
     if i == 0 {
         return 0;
     }
-    let mut word = io::buffer();
-    let length = os::arg(i, &mut word);
+    let mut word = [0u8; LONGEST];
+    let Ok(length) = rt.arg(i, &mut word) else {
+        return 0;
+    };
     match read_list(&word[..length], tags, treatments) {
         ListRead::Tags(n) => n,
         ListRead::Nothing => 0,
@@ -141,106 +158,158 @@ fn keep_list_of(i: usize, tags: &mut [u8], treatments: &mut [u8]) -> usize {
 // ---- bundles
 
 // Of one bundle: what it holds, its marks, or what becomes of it.
-fn bundle(s: &[u8], what: u8, setting: Setting, tags: &[u8], treatments: &[u8]) {
+fn bundle(
+    to: &mut impl Write,
+    s: &[u8],
+    what: u8,
+    setting: Setting,
+    tags: &[u8],
+    treatments: &[u8],
+) -> io::Result<()> {
     if what == DUMP {
-        dump::dump(s, setting.big_endian);
+        dump::dump(to, s, setting.big_endian)
     } else if what == MARKS {
-        marks::list(s, setting, tags, treatments);
+        marks::list(to, s, setting, tags, treatments)
     } else {
-        answers::thin(s, setting, tags, treatments);
+        answers::thin(to, s, setting, tags, treatments)
     }
 }
 
 // Of one bundle of many, the whole answer of collect too.
-fn list(s: &[u8], what: u8, setting: Setting, tags: &[u8], treatments: &[u8]) {
+fn list(
+    to: &mut impl Write,
+    s: &[u8],
+    what: u8,
+    setting: Setting,
+    tags: &[u8],
+    treatments: &[u8],
+) -> io::Result<()> {
     if what == COLLECT {
-        answers::answer(s, setting, tags, treatments);
+        answers::answer(to, s, setting, tags, treatments)
     } else {
-        bundle(s, what, setting, tags, treatments);
+        bundle(to, s, what, setting, tags, treatments)
     }
 }
 
 // Prints each bundle, after a line with its place in the file.
-fn list_all(s: &[u8], what: u8, setting: Setting, tags: &[u8], treatments: &[u8]) {
+fn list_all(
+    to: &mut impl Write,
+    s: &[u8],
+    what: u8,
+    setting: Setting,
+    tags: &[u8],
+    treatments: &[u8],
+) -> io::Result<()> {
     let mut at: usize = 0;
     while at < s.len() {
         let n = size(s, at);
         if n == 0 {
-            return;
+            return Ok(());
         }
         if n > s.len() - at {
-            return;
+            return Ok(());
         }
         let end = at + n;
-        number(b"-- ", at as u64);
-        text(b"\n");
-        list(&s[at..end], what, setting, tags, treatments);
+        number(to, b"-- ", at as u64)?;
+        text(to, b"\n")?;
+        list(to, &s[at..end], what, setting, tags, treatments)?;
         at = end;
     }
+    Ok(())
 }
 
 // A file is one bundle to dump and thin, bundles one after another to marks and collect, cases of collect to cases;
 // these say themselves what is told of their units.
-fn file(s: &[u8], what: u8, setting: Setting, tags: &[u8], treatments: &[u8]) {
+fn file(
+    to: &mut impl Write,
+    s: &[u8],
+    what: u8,
+    setting: Setting,
+    tags: &[u8],
+    treatments: &[u8],
+) -> io::Result<()> {
     if what == CASES {
-        cases::list_all(s);
+        cases::list_all(to, s)
     } else if what == MARKS {
-        list_all(s, what, setting, tags, treatments);
+        list_all(to, s, what, setting, tags, treatments)
     } else if what == COLLECT {
-        list_all(s, what, setting, tags, treatments);
+        list_all(to, s, what, setting, tags, treatments)
     } else {
-        bundle(s, what, setting, tags, treatments);
+        bundle(to, s, what, setting, tags, treatments)
     }
 }
 
 // Of a file, or of one bundle, by options.
-fn print(s: &[u8], is_file: bool, what: u8, o: Options) {
+fn print(
+    rt: &impl Env,
+    to: &mut impl Write,
+    s: &[u8],
+    is_file: bool,
+    what: u8,
+    o: Options,
+) -> io::Result<()> {
     let mut tags = [0u8; 2048];
     let mut treatments = [0u8; 1024];
-    let n = keep_list_of(o.keep, &mut tags, &mut treatments);
+    let n = keep_list_of(rt, o.keep, &mut tags, &mut treatments);
     if n > MOST {
-        return;
+        return Ok(());
     }
     let setting = o.setting;
     if is_file {
-        file(s, what, setting, &tags[0..2 * n], &treatments[0..n]);
+        file(to, s, what, setting, &tags[0..2 * n], &treatments[0..n])
     } else {
-        bundle(s, what, setting, &tags[0..2 * n], &treatments[0..n]);
+        bundle(to, s, what, setting, &tags[0..2 * n], &treatments[0..n])
     }
+}
+
+// The first bytes of an input, as many as there are up to so many; a read that fails is an error.
+fn first_bytes<R: Alloc>(rt: &R, input: impl Read + Drop, most: u64) -> io::Result<Vec<u8, R::A>> {
+    let mut bytes = Vec::new(rt.alloc());
+    input.take(most).read_to_end(&mut bytes)?;
+    Ok(bytes)
 }
 
 // Prints what is asked of the bundle on standard input. Its unit is little-endian, with the argument `--big-endian`
 // big-endian; with `--fixed-addresses` a variable's location can make it a root by an address too; with `--keep-list=`
 // and tags, entries with these are always roots, or never. With any other arguments nothing is read.
-pub fn standard_input(what: u8) {
-    match all_options() {
+pub fn standard_input<R: Env + Input + Alloc>(
+    rt: &R,
+    to: &mut impl Write,
+    what: u8,
+) -> io::Result<()> {
+    match all_options(rt) {
         Told::Unknown => {
             text(
+                to,
                 b"arguments: none, or some of --big-endian, --fixed-addresses, --keep-list=TAG=TREATMENT,..\n",
-            );
+            )
         }
         Told::By(o) => {
-            let mut input = [0u8; 65537];
-            let n = io::read_full(0, &mut input);
-            print(&input[..n], false, what, o);
+            let input = first_bytes(rt, rt.reader(), 65537)?;
+            print(rt, to, &input, false, what, o)
         }
     }
 }
 
-// Prints a file, after a line with its name.
-fn file_at(path: &[u8], what: u8, o: Options) {
-    text(b"== ");
-    text(path);
-    text(b"\n");
-    let fd = os::open_read(path);
-    if fd < 0 {
-        text(b"no such file\n");
-        return;
-    }
-    let mut input = [0u8; 262144];
-    let n = io::read_full(fd, &mut input);
-    libc::close(fd);
-    print(&input[..n], true, what, o);
+// Prints a file, after a line with its name. What can't be opened is no file, and so is a name that is not UTF-8.
+fn file_at<R: Files + Env + Alloc>(
+    rt: &R,
+    to: &mut impl Write,
+    path: &[u8],
+    what: u8,
+    o: Options,
+) -> io::Result<()> {
+    text(to, b"== ")?;
+    text(to, path)?;
+    text(to, b"\n")?;
+    let Ok(name) = str::from_utf8(path) else {
+        return text(to, b"no such file\n");
+    };
+    let Ok(file) = fs::open(rt, name) else {
+        return text(to, b"no such file\n");
+    };
+    let input = first_bytes(rt, file, 262144)?;
+    print(rt, to, &input, true, what, o)
 }
 
 // ---- arguments
@@ -254,22 +323,14 @@ struct Asked {
 
 // What a word asks to be printed; 0 where it is none of the words.
 fn kind_of(word: &[u8]) -> u8 {
-    if check::same(word, b"dump") {
-        return DUMP;
+    match word {
+        b"dump" => DUMP,
+        b"marks" => MARKS,
+        b"thin" => THIN,
+        b"collect" => COLLECT,
+        b"cases" => CASES,
+        _ => 0,
     }
-    if check::same(word, b"marks") {
-        return MARKS;
-    }
-    if check::same(word, b"thin") {
-        return THIN;
-    }
-    if check::same(word, b"collect") {
-        return COLLECT;
-    }
-    if check::same(word, b"cases") {
-        return CASES;
-    }
-    0
 }
 
 // `#` comes first.
@@ -282,67 +343,76 @@ fn is_heading(word: &[u8]) -> bool {
 
 // Argument i after those before it: a heading, an option, a word, or a file. Answers what is asked for from then on. A
 // keep list holds up to the next one.
-fn argument(word: &[u8], i: usize, a: Asked) -> Asked {
+fn argument<R: Files + Env + Alloc>(
+    rt: &R,
+    to: &mut impl Write,
+    word: &[u8],
+    i: usize,
+    a: Asked,
+) -> io::Result<Asked> {
     if is_heading(word) {
-        text(word);
-        text(b"\n");
-        return a;
+        text(to, word)?;
+        text(to, b"\n")?;
+        return Ok(a);
     }
     let o = a.options;
     if let Told::By(options) = option(word, i, o) {
-        return Asked {
+        return Ok(Asked {
             what: a.what,
             options,
-        };
+        });
     }
     if is_keep_list(word) {
-        return Asked {
+        return Ok(Asked {
             what: a.what,
             options: keep_list_at(i, o),
-        };
+        });
     }
     let next = kind_of(word);
     if next != 0 {
-        return Asked {
+        return Ok(Asked {
             what: next,
             options: untold(),
-        };
+        });
     }
-    file_at(word, a.what, o);
-    a
+    file_at(rt, to, word, a.what, o)?;
+    Ok(a)
 }
 
 // The same for argument i; nothing is asked for from where there is none.
-fn argument_at(i: usize, a: Asked) -> Asked {
+fn argument_at<R: Files + Env + Alloc>(
+    rt: &R,
+    to: &mut impl Write,
+    i: usize,
+    a: Asked,
+) -> io::Result<Asked> {
     let none = Asked {
         what: 0,
         options: untold(),
     };
-    let mut word = io::buffer();
-    let length = os::arg(i, &mut word);
-    if os::errno() != 0 {
-        return none;
-    }
+    let mut word = [0u8; LONGEST];
+    let Ok(length) = rt.arg(i, &mut word) else {
+        return Ok(none);
+    };
     if length == 0 {
-        return none;
+        return Ok(none);
     }
-    argument(&word[..length], i, a)
+    argument(rt, to, &word[..length], i, a)
 }
 
 // Prints what the program's arguments ask for: `# ..` is a heading, printed as it is; `dump`, `marks`, `thin`,
 // `collect` or `cases` says what is printed of the files that the arguments after it name; options after it what is
 // told of their units.
-pub fn arguments() {
+pub fn arguments<R: Files + Env + Alloc>(rt: &R, to: &mut impl Write) -> io::Result<()> {
     let mut a = Asked {
         what: DUMP,
         options: untold(),
     };
-    let mut i: usize = 1;
-    while i < 10000 {
-        a = argument_at(i, a);
+    for i in 1..10000 {
+        a = argument_at(rt, to, i, a)?;
         if a.what == 0 {
-            return;
+            return Ok(());
         }
-        i += 1;
     }
+    Ok(())
 }

@@ -4,31 +4,26 @@ use crate::text::{number, text};
 use bundle::{BundleRead, section_bytes};
 use marking::setting::Setting;
 use marking::units::UnitMarks;
+use std::io;
+use std::io::Write;
 
 // R retained, L live, D dead.
-pub fn letter(mark: u8) {
+pub fn letter(to: &mut impl Write, mark: u8) -> io::Result<()> {
     match mark {
-        3 => text(b" L"),
-        2 => text(b" R"),
-        1 => text(b" D"),
-        _ => text(b" -"),
+        3 => text(to, b" L"),
+        2 => text(to, b" R"),
+        1 => text(to, b" D"),
+        _ => text(to, b" -"),
     }
 }
 
-fn lines(offsets: &[u64], marks: &[u8], entries: usize) {
-    let mut i: usize = 0;
-    while i < entries {
-        if i >= offsets.len() {
-            return;
-        }
-        if i >= marks.len() {
-            return;
-        }
-        number(b"", offsets[i]);
-        letter(marks[i]);
-        text(b"\n");
-        i += 1;
+fn lines(to: &mut impl Write, offsets: &[u64], marks: &[u8], entries: usize) -> io::Result<()> {
+    for (offset, mark) in offsets.iter().zip(marks.iter()).take(entries) {
+        number(to, b"", *offset)?;
+        letter(to, *mark)?;
+        text(to, b"\n")?;
     }
+    Ok(())
 }
 
 // Marks the unit of given sections, with tables of 8,192 references and as many entries as the caller has offsets and
@@ -78,6 +73,7 @@ pub fn mark<'a>(
 
 // The marks of the unit of given sections.
 fn unit<'a>(
+    to: &mut impl Write,
     section: &[u8],
     abbreviations: &[u8],
     locations: &[u8],
@@ -87,7 +83,7 @@ fn unit<'a>(
     tags: &[u8],
     treatments: &[u8],
     setting: Setting,
-) {
+) -> io::Result<()> {
     let mut offsets = [0u64; 2048];
     let mut marks = [0u8; 2048];
     match mark(
@@ -104,25 +100,33 @@ fn unit<'a>(
         &mut marks,
     ) {
         UnitMarks::Marked { entries, kept } => {
-            number(b"entries ", entries as u64);
-            number(b" kept ", kept as u64);
-            text(b"\n");
-            lines(&offsets, &marks, entries);
+            number(to, b"entries ", entries as u64)?;
+            number(to, b" kept ", kept as u64)?;
+            text(to, b"\n")?;
+            lines(to, &offsets, &marks, entries)?;
         }
         UnitMarks::Refused(n) => {
-            number(b"refused ", n as u64);
-            text(b"\n");
+            number(to, b"refused ", n as u64)?;
+            text(to, b"\n")?;
         }
     }
+    Ok(())
 }
 
 // Prints the marks of a bundle's unit, by what is told of it; `bundle` where it is none.
-pub fn list(s: &[u8], setting: Setting, tags: &[u8], treatments: &[u8]) {
+pub fn list(
+    to: &mut impl Write,
+    s: &[u8],
+    setting: Setting,
+    tags: &[u8],
+    treatments: &[u8],
+) -> io::Result<()> {
     let BundleRead::Read(b) = bundle::read_bundle(s) else {
-        text(b"bundle\n");
-        return;
+        text(to, b"bundle\n")?;
+        return Ok(());
     };
     unit(
+        to,
         section_bytes(s, b.unit),
         section_bytes(s, b.abbreviations),
         section_bytes(s, b.locations),
@@ -132,5 +136,5 @@ pub fn list(s: &[u8], setting: Setting, tags: &[u8], treatments: &[u8]) {
         tags,
         treatments,
         setting,
-    );
+    )
 }

@@ -1,11 +1,12 @@
-// Text and numbers on standard output.
-use libc::STDOUT_FILENO;
+// Text and numbers, as they are printed.
+use std::io;
+use std::io::Write;
 
-pub fn text(s: &[u8]) {
-    io::write_all(STDOUT_FILENO, s);
+pub fn text(to: &mut impl Write, s: &[u8]) -> io::Result<()> {
+    to.write_all(s)
 }
 
-pub fn number(s: &[u8], n: u64) {
-    io::write_all(STDOUT_FILENO, s);
-    io::print_decimal(STDOUT_FILENO, n);
+pub fn number(to: &mut impl Write, s: &[u8], n: u64) -> io::Result<()> {
+    to.write_all(s)?;
+    write!(to, "{n}")
 }

@@ -1,6 +1,11 @@
 // Prints what becomes of the unit of the bundle on standard input.
 #![tactic(auto)]
 
-fn main() {
-    printing::standard_input(printing::THIN);
+use std::io;
+use std::io::{BufWriter, Write};
+
+fn main(rt: HostRuntime) -> io::Result<()> {
+    let mut out = BufWriter::new(rt.alloc(), io::writer(&rt))?;
+    printing::standard_input(&rt, &mut out, printing::THIN)?;
+    out.flush()
 }
