@@ -11,7 +11,6 @@ use Rattle.readers.specs.declared.fields.Field.{Field}
 use Rattle.readers.specs.declared.fields.FieldRead.{FieldRead}
 use Rattle.readers.specs.declared.fields.FieldRead.TheVariants.{Read, Unreadable}
 use Rattle.bundle.specs.Bundle.{frame_of, version_of, part, debug_ranges_part, on_part, sections_of, bundle_of}
-use Rattle.bundle.specs.declared.Bundle.{Bundle}
 use Rattle.bundle.specs.declared.BundleRead.{BundleRead}
 use Rattle.bundle.specs.declared.BundleRead.TheVariants.{Read as Bundle', Wrong}
 

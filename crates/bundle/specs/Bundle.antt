@@ -10,7 +10,6 @@ use Rattle.readers.specs.declared.cursor.Number.TheVariants.{Value, Unreadable}
 use Rattle.readers.specs.declared.fields.Field.{Field}
 use Rattle.readers.specs.declared.fields.FieldRead.{FieldRead}
 use Rattle.readers.specs.declared.fields.FieldRead.TheVariants.{Read, Unreadable as NoField}
-use Rattle.bundle.specs.declared.Bundle.{Bundle}
 use Rattle.bundle.specs.declared.BundleRead.{BundleRead}
 use Rattle.bundle.specs.declared.BundleRead.TheVariants.{Read as Bundle', Wrong}
 

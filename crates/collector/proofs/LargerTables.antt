@@ -15,7 +15,6 @@ use Rattle.readers.specs.Abbreviations.{Placed, declared_in, abbreviations_of}
 use Rattle.readers.specs.Nesting.{opened, closed, top}
 use Rattle.readers.specs.Stream.{Item, entry, terminator, items_from}
 use Rattle.readers.specs.declared.cursor.Encoding.{Encoding}
-use Rattle.readers.specs.declared.entries.Entry.{Entry}
 use Rattle.readers.specs.declared.header.UnitHeader.{UnitHeader}
 use Rattle.readers.specs.declared.header.HeaderRead.{HeaderRead}
 use Rattle.readers.specs.declared.header.HeaderRead.TheVariants.{Unit as Header', Empty, Refused}

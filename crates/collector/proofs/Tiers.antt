@@ -1,5 +1,5 @@
 -- What a call leaves with shorter tables is what it leaves with its longest, where none is full. Assumes nothing.
-use mathlib.Core.Path.{◌≡◌, ap, sym, subst, ◌∙◌}
+use mathlib.Core.Path.{◌≡◌, ap, subst, ◌∙◌}
 use Prim.Native.Nat.{ℕ, ◌*◌, ◌≤◌}
 use native.Mathlib.Omega.{arith}
 use mathlib.Core.Bool.{true, false}
@@ -13,7 +13,7 @@ use Rattle.marking.specs.Columns.{least, rooms_of, unit_rooms}
 use Rattle.marking.specs.KeepList.{keep_in}
 use Rattle.rewriting.specs.Rewriting.{Room, Collected, refused}
 use Rattle.rewriting.specs.Outputs.{room_by, answer_for}
-use Rattle.collector.specs.Call.{number_for, is_yes, setting_of, collected_of, own_room}
+use Rattle.collector.specs.Call.{number_for, is_yes, setting_of, collected_of}
 use Rattle.collector.specs.Inner.Tiers.{Left, is_full}
 use Rattle.collector.proofs.LargerTables.{OrFull, larger-tables}
 

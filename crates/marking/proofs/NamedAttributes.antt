@@ -7,7 +7,6 @@ use mathlib.Core.Logic.{⊎_elim}
 use lib.ListN.{length}
 use lib.Dec.{eqb}
 use mir.Facts.{yes_eqb, no_eqb, eqb_no}
-use Rattle.readers.specs.Choice.{pick}
 use Rattle.readers.proofs.Choice.{either, pick_yes, pick_no}
 use Rattle.readers.specs.Cursors.{cursor}
 use Rattle.readers.specs.Abbreviations.{spec_at}
@@ -29,7 +28,7 @@ use Rattle.readers.specs.declared.entry_attributes.NextAttribute.TheVariants.{Mo
 use Rattle.readers.proofs.Specs.{attribute-inside}
 use Rattle.readers.proofs.EntryAttributes.{stepped, stepped-on, no_more, values-last, values-bad, values-none, values-more}
 use Rattle.marking.specs.Inner.ReferenceTable.{valued_by}
-use Rattle.marking.specs.Inner.Named.{of_name, FirstNamed, NamedAt}
+use Rattle.marking.specs.Inner.Named.{of_name, NamedAt}
 
 -- ---- the attribute of a specification
 

@@ -7,7 +7,7 @@ use mathlib.Core.List.{List, ◌++◌}
 use native.Mathlib.Omega.{arith}
 use lib.ListN.{length, length-replicate}
 use lib.Dec.{T, leb, eqb}
-use mir.Facts.{yes_eqb, no_eqb, yes_leb, no_leb}
+use mir.Facts.{no_eqb, yes_leb, no_leb}
 use Rattle.readers.specs.Choice.{pick, ◌and◌, ◌or◌, zeros}
 use Rattle.readers.proofs.Choice.{pick_yes, pick_no}
 use Rattle.readers.specs.Layout.{Piece}

@@ -6,7 +6,7 @@ use mathlib.Core.Logic.{⊎_elim, ◌≢◌}
 use mathlib.Core.List.{List, [], ◌∷◌, ◌++◌, append_assoc, append-nil}
 use native.Mathlib.Omega.{arith}
 use lib.ListN.{length, length-append}
-use lib.Dec.{T, leb, ltb, eqb}
+use lib.Dec.{T, ltb, eqb}
 use mir.Facts.{ltb_yes, eqb_yes, eqb_no}
 use Rattle.readers.specs.Choice.{pick, bind, ◌and◌, ◌or◌}
 use Rattle.readers.proofs.Choice.{pick-either, either, All, all-some, all_none, all-check, all-bind, all-triv}

@@ -10,7 +10,7 @@ use mir.Facts.{eqb_yes}
 use Rattle.readers.specs.Choice.{pick, ◌and◌}
 use Rattle.readers.proofs.Choice.{and_both}
 use Rattle.readers.specs.Numbers.{uleb, sleb}
-use Rattle.readers.specs.Operations.{rows, row_of, unreadable_row, operation_row, list_row}
+use Rattle.readers.specs.Operations.{rows, row_of, operation_row, list_row}
 use Rattle.readers.specs.Cursors.{cursor, leb_at, fixed_at}
 use Rattle.readers.specs.Fields.{field_at, row_at, exprloc_at}
 use Rattle.readers.specs.Steps.{row_operation, operation_at, row_entry, list_entry_at}
@@ -28,7 +28,7 @@ use Rattle.readers.specs.declared.fields.OperandsRead.{OperandsRead}
 use Rattle.readers.specs.declared.fields.OperandsRead.TheVariants.{Read as Row', Unreadable as NoRow}
 use Rattle.readers.specs.declared.operations.OperationRead.TheVariants.{Read as Operation', Unreadable as NoOperation}
 use Rattle.readers.specs.declared.operations.ListStep.{ListStep}
-use Rattle.readers.specs.declared.operations.ListStep.TheVariants.{Entry, End, Unreadable as NoEntry}
+use Rattle.readers.specs.declared.operations.ListStep.TheVariants.{Entry, Unreadable as NoEntry}
 use Rattle.readers.proofs.Tokens.{a_field, a_row, on_field, on-field, on_same, row_step, field-nothing, field-number, field-signed, field-exprloc, number-address, number-leb, number_read, number-unread, row_none, row-none2, row-none3, row_read}
 use Rattle.readers.proofs.Steps.{operation-step, entry-step}
 

@@ -1,5 +1,5 @@
 -- Values that are read, or stepped over, at once by the tokens of their forms. Assumes nothing.
-use Prim.Native.Nat.{ℕ, suc, ◌+◌, ◌-◌, ◌≤◌, ◌<◌}
+use Prim.Native.Nat.{ℕ, ◌+◌, ◌-◌, ◌≤◌, ◌<◌}
 use mathlib.Core.Path.{◌≡◌, refl, ap, sym, ◌∙◌, subst}
 use mathlib.Core.Logic.{⊎_elim}
 use mathlib.Core.Bool.{Bool, true, false}
@@ -7,7 +7,7 @@ use mathlib.Core.List.{List}
 use native.Mathlib.Omega.{arith}
 use lib.ListN.{length}
 use lib.Dec.{T, leb, eqb}
-use mir.Facts.{yes_leb, no_leb, leb_yes, leb_no, yes_eqb, no_eqb, eqb_yes, eqb_no}
+use mir.Facts.{yes_leb, no_leb, leb_yes, leb_no, no_eqb, eqb_yes, eqb_no}
 use Rattle.readers.specs.Choice.{pick}
 use Rattle.readers.proofs.Choice.{pick_yes, pick_no, either}
 use Rattle.readers.specs.Numbers.{uleb, sleb}

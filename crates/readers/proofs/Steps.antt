@@ -28,7 +28,7 @@ use Rattle.readers.specs.declared.fields.OperandsRead.TheVariants.{Read as Row',
 use Rattle.readers.specs.declared.operations.Operation.{Operation}
 use Rattle.readers.specs.declared.operations.OperationRead.TheVariants.{Read as Operation', Unreadable as NoOperation}
 use Rattle.readers.specs.declared.operations.ListEntry.{ListEntry}
-use Rattle.readers.specs.declared.operations.ListStep.TheVariants.{Entry, End, Unreadable as NoEntry}
+use Rattle.readers.specs.declared.operations.ListStep.TheVariants.{Entry, End}
 use Rattle.readers.proofs.Widths.{value-one}
 use Rattle.readers.proofs.Tokens.{Inside, inside-slice, row_inside}
 

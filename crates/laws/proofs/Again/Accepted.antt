@@ -1,5 +1,4 @@
 -- An accepted unit: its header and rows, and the answer of collect, taken apart. Assumes nothing.
-use mathlib.Core.Logic.{inl}
 use mathlib.Core.Path.{◌≡◌, refl, ap, ◌∙◌, subst}
 use Prim.Native.Nat.{ℕ, zero, suc, ◌+◌, ◌≤◌, ◌<◌}
 use mathlib.Core.Bool.{true, Bool}

@@ -11,7 +11,7 @@ use lib.Seq.{drop_at, drop-drop}
 use lib.Dec.{T, eqb}
 use Rattle.readers.specs.Choice.{bind}
 use Rattle.readers.proofs.Choice.{pick_yes, pick_no, either, bind-at, All, all-some, all_of, all-bind, all-triv}
-use Rattle.readers.specs.Layout.{Token, number, forms, expression, Layout, done, field, Read, RunOf, ExpressionReader, as_bytes, token_in, read_in, before, bytes_of, write_all, Patch, patch_pieces, patch_read, patch_all}
+use Rattle.readers.specs.Layout.{Token, forms, expression, Layout, done, field, Read, RunOf, ExpressionReader, as_bytes, token_in, read_in, before, bytes_of, write_all, Patch, patch_pieces, patch_read, patch_all}
 use Rattle.readers.proofs.LayoutLaws.{TokenLaw, token-law, ReadLaw, read-law, FitAll, same_size}
 use Rattle.readers.specs.Expression.{expression_in}
 use Rattle.readers.proofs.Expression.{expression-law}

@@ -13,7 +13,7 @@ use mir.Facts.{leb_yes, eqb_yes, eqb_no, no_eqb}
 use Rattle.readers.specs.Choice.{pick, ◌and◌, ◌or◌, bind}
 use Rattle.readers.proofs.Choice.{pick_no, pick-either, either, bind-at, check-yes, All, all-some, all_none, all_of, all-bind, all-check, all_map, all-triv, and_both}
 use Rattle.readers.specs.Numbers.{uleb, sleb}
-use Rattle.readers.specs.Layout.{Kind, leb128, reference, sibling, Token, nothing, number, bounded, forms, signed, link, string, run, block, expression, unknown, field, verbatim, Read, ReadOf, RunOf, ExpressionReader, as_bytes, copy, as_number, as_bounded, as_forms, as_signed, as_link, as_string, as_block, as_expression, number_in, forms_in, string_in, token_in, read_in, bytes_of, piece_bytes}
+use Rattle.readers.specs.Layout.{Kind, leb128, reference, sibling, Token, nothing, number, bounded, forms, signed, link, string, run, block, expression, unknown, verbatim, Read, ReadOf, RunOf, ExpressionReader, as_bytes, copy, as_number, as_bounded, as_forms, as_signed, as_link, as_string, as_block, as_expression, number_in, forms_in, string_in, token_in, read_in, bytes_of, piece_bytes}
 use Rattle.readers.proofs.LayoutLaws.{LebLaw, uleb-law}
 use Rattle.readers.specs.Expression.{expression_in}
 use Rattle.readers.specs.Tokens.{Use, plain, as', number_as, token_of}

@@ -243,7 +243,6 @@ module _ (n : ℕ) where
       (verdict-stays _ _ _ (λ root. found-stays _ _ _ (λ names. pick-stays (not_analysed n) (leb (p.references + length names) room.references) _ _ _ _
       (onto-stays _ _ _ (behind-items o e x unit room is _ more whole whole')) (λ r. r)))) (λ r. r) q
 
-
   -- an entry, whatever entries stand behind it, readable or not
   pub behind-entries : OneOf table_numbers n → (e : Encoding) (x : Sections) (unit : List ℕ) (room : Rooms) (p : Reached) (is more : List Item)
       (whole whole' : Bool) → analyse_items e x unit room p is whole ≡ not_analysed n → analyse_items e x unit room p (is ++ more) whole' ≡ not_analysed n

@@ -1,5 +1,5 @@
 -- What the parts of an analysis ask of the lent columns, answer, and leave in them.
-use Rattle.std.specs.Prelude.{◌≡◌, ℕ, ◌≤◌, ◌<◌, List, length}
+use Rattle.std.specs.Prelude.{◌≡◌, ℕ, ◌≤◌, List, length}
 use Rattle.readers.specs.Choice.{zeros}
 use Rattle.readers.specs.Abbreviations.{checked_of, index_of}
 use Rattle.readers.specs.Inner.Entries.{entry_of}

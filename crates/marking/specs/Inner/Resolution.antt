@@ -1,5 +1,5 @@
 -- What the parts of `mark_unit` ask of the lent columns.
-use Rattle.std.specs.Prelude.{◌≡◌, ℕ, ◌+◌, ◌*◌, ◌-◌, ◌^◌, ◌≤◌, ◌<◌, true, List, length, take}
+use Rattle.std.specs.Prelude.{◌≡◌, ℕ, ◌+◌, ◌*◌, ◌-◌, ◌≤◌, true, List, length, take}
 use Rattle.std.proofs.Math.Option.{Option, none, some}
 use Rattle.readers.specs.Choice.{zeros}
 use Rattle.marking.specs.Graph.{takes}

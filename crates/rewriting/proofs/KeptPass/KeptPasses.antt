@@ -1,6 +1,6 @@
 -- Passes through the kept items: what the next answer says, and how many items and bytes there are. Assumes nothing.
 use mathlib.Core.Path.{◌≡◌, refl, ap, sym, subst}
-use Prim.Native.Nat.{ℕ, suc, ◌+◌, ◌-◌, ◌^◌, ◌≤◌, ◌<◌}
+use Prim.Native.Nat.{ℕ, suc, ◌+◌, ◌-◌, ◌≤◌, ◌<◌}
 use native.Mathlib.Omega.{arith}
 use mathlib.Core.List.{List, []}
 use lib.ListN.{length}

@@ -20,7 +20,6 @@ use Rattle.readers.proofs.Lebs.{uleb-inside}
 use Rattle.readers.proofs.Values.{entry_step, found_step, code_step, step_by, step-none, step-terminator, step-unknown}
 use Rattle.readers.specs.Nesting.{no_parent, opened, closed, top, nesting_of, nesting_opened, nesting_closed}
 use Rattle.readers.proofs.Nesting.{opened-is, closed_is, chain-opened, chain-closed, length-opened, length-closed}
-use Rattle.readers.specs.Inner.Nesting.{Chain}
 use Rattle.readers.specs.Stream.{Item, entry, terminator, Items, push, on_step, items_from}
 use Rattle.readers.proofs.Streams.{EntryInside, step-inside, terminator-inside, items-step}
 use Rattle.readers.specs.declared.cursor.Encoding.{Encoding}

@@ -1,16 +1,14 @@
 -- Tables that hold nothing yet, and maps.
 use Prim.Native.Nat.{ℕ, ◌-◌, ◌*◌, ◌≤◌}
 use mathlib.Core.Path.{◌≡◌, ap}
-use mathlib.Core.List.{List, []}
+use mathlib.Core.List.{[]}
 use native.Mathlib.Omega.{arith}
 use native.Mathlib.Nat.{mul-zero}
 use lib.ListN.{length, length-replicate}
 use Rattle.readers.specs.Choice.{zeros}
-use Rattle.rewriting.specs.Ascending.{Ascending}
 use Rattle.marking.specs.Resolution.{Ascending as From}
-use Rattle.rewriting.specs.Places.{Place, old_offsets}
-use Rattle.rewriting.specs.Written.{number_size, run_bytes, columns}
-use Rattle.rewriting.specs.Inner.Written.{NumbersHeld, ListHeld, MapHeld}
+use Rattle.rewriting.specs.Written.{number_size, run_bytes}
+use Rattle.rewriting.specs.Inner.Written.{NumbersHeld, ListHeld}
 use Rattle.marking.proofs.Members.{nothing-in}
 
 held_none : (width n : ℕ) → NumbersHeld width [] (zeros n)

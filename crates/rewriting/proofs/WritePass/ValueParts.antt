@@ -10,7 +10,7 @@ use lib.ListN.{length, take, drop, length-drop}
 use lib.Seq.{take-add, drop-drop}
 use lib.Dec.{eqb}
 use mir.Facts.{eqb_yes, eqb_no}
-use Rattle.readers.specs.Choice.{◌and◌, ◌or◌, pick, bind}
+use Rattle.readers.specs.Choice.{pick, bind}
 use Rattle.readers.proofs.Choice.{pick_yes, pick_no, either, All, all-some, all_of, all-bind, all-triv}
 use Rattle.readers.specs.Layout.{forms, done, field, verbatim, Read, ReadOf, RunOf, ExpressionReader, forms_in, as_forms, copy, token_in, read_in, before, bytes_of, piece_bytes, write_all, Patch, patch_piece, patch_pieces, patch_read, patch_all}
 use Rattle.readers.proofs.LayoutLaws.{FormsLaw, forms-law}

@@ -1,6 +1,5 @@
 -- `put_run` meets its contract. The invariant: the numbers so far stand from the place on.
 use native.Mathlib.Omega.{arith}
-use Prim.Native.Nat.{◌-◌}
 use Rattle.rewriting.proofs.WritePass.Putting.{put-room}
 use Rattle.collector.proofs.Runs.{run-start, run_more, run_inside, run-done}
 use Rattle.collector.proofs.answers.put_run.Goals as goal

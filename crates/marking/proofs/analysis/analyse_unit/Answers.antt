@@ -1,6 +1,5 @@
 -- `analyse_unit` answers as `analyse_entries` does, and clears the columns after a refusal. Assumes nothing.
 use mathlib.Core.Path.{◌≡◌, ap, ◌∙◌}
-use lib.ListN.{take}
 use Prim.Native.Nat.{ℕ}
 use mathlib.Core.List.{List}
 use Rattle.readers.specs.declared.header.UnitHeader.{UnitHeader}

@@ -1,5 +1,4 @@
 -- `tags_ascend` asks for each tag: what is left decides. Assumes nothing.
-use Prim.Native.Nat.{◌-◌}
 use mathlib.Core.Path.{refl}
 use native.Mathlib.Omega.{arith}
 use Rattle.marking.proofs.KeepLists.{tag_below, ascends-end, ascends-no, ascends-more}

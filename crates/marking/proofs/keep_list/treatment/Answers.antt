@@ -1,5 +1,4 @@
 -- `treatment` halves the tags, which ascend. Assumes nothing.
-use Prim.Native.Nat.{◌-◌}
 use mathlib.Core.Path.{◌∙◌}
 use native.Mathlib.Omega.{arith}
 use Rattle.marking.proofs.Searches.{halving-start, halving-up, halving-down}

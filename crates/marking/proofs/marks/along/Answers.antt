@@ -1,5 +1,4 @@
 -- `along` meets its contract: the turns so far are one pass, and find nothing to do where none of them did. Assumes nothing.
-use Prim.Native.Nat.{◌-◌}
 use mathlib.Core.Path.{refl, ◌∙◌}
 use mathlib.Core.Logic.{⊎_elim}
 use native.Mathlib.Omega.{arith}

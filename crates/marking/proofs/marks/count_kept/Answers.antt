@@ -1,5 +1,4 @@
 -- `count_kept` meets its contract: n of the marks before i are kept. Assumes nothing.
-use Prim.Native.Nat.{◌-◌}
 use mathlib.Core.Logic.{⊎_elim}
 use native.Mathlib.Omega.{arith}
 use Rattle.marking.specs.Marks.{kept_count}

@@ -2,10 +2,10 @@
 use mathlib.Core.Path.{refl, sym, ap, ◌∙◌}
 use native.Mathlib.Omega.{arith}
 use lib.ListN.{length}
-use Rattle.marking.specs.Graph.{Graph, graph}
-use Rattle.marking.specs.Inner.Passes.{Sound, end_first}
+use Rattle.marking.specs.Graph.{graph}
+use Rattle.marking.specs.Inner.Passes.{end_first}
 use Rattle.marking.proofs.Starts.{start-sound}
-use Rattle.marking.proofs.Answers.{Taken, taken, parents-fit, pairs-fit, sound-sum, refused-answer, refused-marks, marked-answer, marked-marks}
+use Rattle.marking.proofs.Answers.{taken, parents-fit, pairs-fit, sound-sum, refused-answer, refused-marks, marked-answer, marked-marks}
 use Rattle.marking.proofs.marks.mark_with.Goals as goal
 
 pub returns-then-not-takes : goal.returns-then-not-takes

@@ -1,5 +1,4 @@
 -- `names_first` meets its contract: no reference before j is one. Assumes nothing.
-use Prim.Native.Nat.{◌-◌}
 use mathlib.Core.Logic.{⊎_elim}
 use native.Mathlib.Omega.{arith}
 use Rattle.marking.specs.Inner.Passes.{names_first}

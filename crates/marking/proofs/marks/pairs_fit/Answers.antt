@@ -1,5 +1,4 @@
 -- `pairs_fit` meets its contract: the pairs before j fit. Assumes nothing.
-use Prim.Native.Nat.{◌-◌}
 use native.Mathlib.Omega.{arith}
 use Rattle.marking.proofs.Tests.{every-none, every_more, every-fails, every-all}
 use Rattle.marking.proofs.Answers.{pair-good, holder-bad, target-bad}

@@ -1,5 +1,4 @@
 -- `parents_fit` meets its contract: the parents before i fit. Assumes nothing.
-use Prim.Native.Nat.{◌-◌}
 use mathlib.Core.Logic.{⊎_elim}
 use native.Mathlib.Omega.{arith}
 use Rattle.marking.proofs.Tests.{every-none, every_more, every-fails, every-all}

@@ -1,5 +1,4 @@
 -- `roots_fit` meets its contract: the roots before i fit. Assumes nothing.
-use Prim.Native.Nat.{◌-◌}
 use native.Mathlib.Omega.{arith}
 use Rattle.marking.proofs.Tests.{every-none, every_more, every-fails, every-all}
 use Rattle.marking.proofs.Answers.{root-good, root-bad}

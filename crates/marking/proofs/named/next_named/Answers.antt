@@ -1,6 +1,5 @@
 -- `next_named`: the invariant is that those of the name from the start are those from here on. Assumes nothing.
 use mathlib.Core.Path.{refl}
-use Prim.Native.Nat.{◌-◌}
 use native.Mathlib.Omega.{arith}
 use Rattle.marking.proofs.NamedAttributes.{named-last, named-bad, named-less, named-on, named-read, named-unread, named_past}
 use Rattle.marking.proofs.named.next_named.Goals as goal

@@ -1,5 +1,4 @@
 -- `put_references`: the invariant is that what is put, and what is named from here on, is the whole. Assumes nothing.
-use Prim.Native.Nat.{◌-◌}
 use Rattle.marking.proofs.NextOffsets.{putting-start, putting-end, putting-more, next-less}
 use Rattle.marking.proofs.references.put_references.Goals as goal
 

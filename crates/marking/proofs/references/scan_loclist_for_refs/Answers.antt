@@ -1,5 +1,4 @@
 -- `scan_loclist_for_refs`: the invariant is that the whole is what is found from here on, after what is in the table. Assumes nothing.
-use Prim.Native.Nat.{◌-◌}
 use mathlib.Core.List.{[]}
 use Rattle.marking.proofs.LocationLists.{listing_start, listing-refused, list-less, listing-on, listing-end, listing_none}
 use Rattle.marking.proofs.references.scan_loclist_for_refs.Goals as goal

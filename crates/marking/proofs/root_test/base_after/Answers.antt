@@ -1,6 +1,5 @@
 -- `base_after` takes each base in turn. The invariant: the base after all attributes is that after those from here on, from the latest. Assumes nothing.
 use mathlib.Core.Path.{refl}
-use Prim.Native.Nat.{◌-◌}
 use Rattle.marking.proofs.RootTests.{attributes-less, base-end, base-form, base-met, base_kept}
 use Rattle.marking.proofs.root_test.base_after.Goals as goal
 

@@ -1,7 +1,6 @@
 -- `first_ranges` answers by the first ranges. The outer invariant: the answer over all attributes is that over those from here on, and no verdict is found yet.
 -- The inner one: the answer of the list from its start is that from its place on. Assumes nothing.
 use mathlib.Core.Path.{refl, ◌∙◌}
-use Prim.Native.Nat.{◌-◌}
 use Rattle.marking.proofs.RootTests.{first-last, first-bad, first-less, first-unpassed, first_past, first-unread, first-form, first-unresolved, first-decided}
 use Rattle.marking.proofs.Lists.{range-less, range-on, range-decided, range-end, range_none}
 use borrow.Author.Rules.{rules}

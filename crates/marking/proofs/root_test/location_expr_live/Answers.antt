@@ -1,5 +1,4 @@
 -- `location_expr_live` answers by the operations. The invariant: the answer is that from here on, with the flag so far. Assumes nothing.
-use Prim.Native.Nat.{◌-◌}
 use Rattle.marking.proofs.Lists.{location-start, location-live, location-dead, location-none, location-less, operation-met, operation-passed, operation-refused}
 use Rattle.marking.proofs.root_test.location_expr_live.Goals as goal
 

@@ -1,6 +1,5 @@
 -- `locations_live` asks each location in turn. The invariant: the answer over all attributes is that over those from here on. Assumes nothing.
 use mathlib.Core.Path.{refl}
-use Prim.Native.Nat.{◌-◌}
 use Rattle.marking.proofs.RootTests.{attributes-less, locations-end, locations-list, locations-live, locations-refused, locations-dead}
 use Rattle.marking.proofs.root_test.locations_live.Goals as goal
 

@@ -1,7 +1,6 @@
 -- `low_pcs` asks each low_pc in turn. The invariant: the answer over all attributes is that over those from here on. Each specification takes bytes, so what
 -- is left of the abbreviations falls. Assumes nothing.
 use mathlib.Core.Path.{refl}
-use Prim.Native.Nat.{◌-◌}
 use Rattle.marking.proofs.RootTests.{attributes-less, low_end, low-live, low-refused, low-dead}
 use Rattle.marking.proofs.root_test.low_pcs.Goals as goal
 

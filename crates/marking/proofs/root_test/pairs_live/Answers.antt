@@ -1,5 +1,4 @@
 -- `pairs_live` answers by the list's pairs. The invariant: the answer from the start is the answer from here on. Assumes nothing.
-use Prim.Native.Nat.{◌-◌}
 use Rattle.marking.proofs.RangePairs.{pairs_start, pairs_end, pairs-none, pairs-on, pairs-less, pairs-decided}
 use Rattle.marking.proofs.root_test.pairs_live.Goals as goal
 

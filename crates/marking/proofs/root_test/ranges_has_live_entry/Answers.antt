@@ -1,6 +1,5 @@
 -- `ranges_has_live_entry` answers by the list's entries. The invariant: the answer from the start is the answer from here on. Assumes nothing.
 use mathlib.Core.Path.{refl}
-use Prim.Native.Nat.{◌-◌}
 use Rattle.marking.proofs.Lists.{older-on, older-less, older-other, older-end, older-none}
 use Rattle.marking.proofs.root_test.ranges_has_live_entry.Goals as goal
 

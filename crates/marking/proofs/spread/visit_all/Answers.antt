@@ -1,5 +1,4 @@
 -- `visit_all` meets its contract: the marks so far are sound where those at the start were. Assumes nothing.
-use Prim.Native.Nat.{◌-◌}
 use native.Mathlib.Omega.{arith}
 use borrow.Author.Rules.{rules}
 use Rattle.marking.proofs.Passes.{pairs-fit-still}

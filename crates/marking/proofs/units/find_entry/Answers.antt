@@ -1,5 +1,4 @@
 -- `find_entry` halves the offsets, which ascend. Assumes nothing.
-use Prim.Native.Nat.{◌-◌}
 use native.Mathlib.Omega.{arith}
 use Rattle.marking.proofs.Searches.{halving-start, halving-end, halving-found, halving-up, halving-down}
 use Rattle.marking.proofs.units.find_entry.Goals as goal

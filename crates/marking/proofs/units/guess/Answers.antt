@@ -1,5 +1,4 @@
 -- `guess` is safe, and ends: the place is inside the offsets. Assumes nothing.
-use Prim.Native.Nat.{◌-◌}
 use native.Mathlib.Omega.{arith}
 use Rattle.marking.proofs.units.guess.Goals as goal
 

@@ -1,4 +1,3 @@
-use Prim.Native.Nat.{◌-◌}
 use native.Mathlib.Omega.{arith}
 use Rattle.marking.proofs.Columned.{turning-start, turning-end, turning-ready, turning-more, ends-inside}
 use Rattle.marking.proofs.units.resolve.Goals as goal

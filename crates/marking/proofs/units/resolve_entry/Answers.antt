@@ -1,5 +1,4 @@
 use mathlib.Core.Logic.{⊎_elim}
-use Prim.Native.Nat.{◌-◌}
 use native.Mathlib.Omega.{arith}
 use lib.ListN.{length-set}
 use Rattle.marking.proofs.Pairs.{pairing-start, pairing-end, pairing-room, pairing-as, pairing-none, pairing-more}

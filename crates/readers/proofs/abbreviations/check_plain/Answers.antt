@@ -1,5 +1,4 @@
 -- `check_plain` meets its contract. The invariant: the declarations before this place have no code twice. Assumes nothing.
-use Prim.Native.Nat.{◌-◌}
 use mathlib.Core.Path.{sym, ◌∙◌}
 use native.Mathlib.Omega.{arith}
 use Rattle.readers.proofs.Declarations.{declaration-ahead, checking-none, checking-found, checking-more, checking-last, checking-bad}

@@ -1,5 +1,4 @@
 -- `walk_expression` meets its contract: each nested expression is shorter than the one that holds it. Assumes nothing.
-use Prim.Native.Nat.{◌-◌}
 use mathlib.Core.Path.{refl}
 use native.Mathlib.Omega.{arith}
 use Rattle.readers.proofs.Walks.{walking_start, walking-none, within, part-less, walking-entry, entry-fall, walking-own, own-fall, walking-end}

@@ -1,4 +1,3 @@
-use Prim.Native.Nat.{◌-◌}
 use native.Mathlib.Omega.{arith}
 use lib.ListN.{length-set}
 use Rattle.readers.proofs.ReferenceTables.{fill_start, fill-never, fill_more, fill_done}

@@ -1,5 +1,4 @@
 -- `clear_indexes` meets its contract. Assumes nothing.
-use Prim.Native.Nat.{◌-◌}
 use native.Mathlib.Omega.{arith}
 use lib.ListN.{length-set}
 use Rattle.readers.proofs.ReferenceTables.{clear-start, clear-more, clear-done}

@@ -1,6 +1,5 @@
 -- `fill_runs` is safe and ends. Assumes nothing.
 use mathlib.Core.Path.{refl, ◌∙◌}
-use Prim.Native.Nat.{◌-◌}
 use native.Mathlib.Omega.{arith}
 use lib.ListN.{length-set}
 use Rattle.rewriting.proofs.hints.fill_runs.Goals as goal

@@ -1,6 +1,5 @@
 -- `entry_declares`: what all attributes declare is what those from here on do. Assumes nothing.
 use mathlib.Core.Path.{refl}
-use Prim.Native.Nat.{◌-◌}
 use Rattle.rewriting.proofs.ListPass.IndexTurns.{attributes-less, declares-end, declares-yes, declares-form, declares-name}
 use Rattle.rewriting.proofs.indices.entry_declares.Goals as goal
 

@@ -1,6 +1,5 @@
 -- `entry_gather`: each list has the entry's indices so far, and is to get those from here on. Assumes nothing.
 use mathlib.Core.Path.{refl, ◌∙◌}
-use Prim.Native.Nat.{◌-◌}
 use Rattle.rewriting.proofs.ListPass.IndexTurns.{attributes-less, indices-end, indices-more}
 use Rattle.readers.proofs.FormKinds.{form-list}
 use Rattle.rewriting.proofs.ListPass.Holdings.{onward-start, onward-more, onward-end}

@@ -1,5 +1,4 @@
 -- `gather`: each list has the indices of the kept items so far, and is to get those of the items from here on. Assumes nothing.
-use Prim.Native.Nat.{◌-◌}
 use native.Mathlib.Omega.{arith}
 use Rattle.rewriting.proofs.Whole.CollectTurns.{collecting-start, collect-end, collect-less, collect-terminator, collect-entry}
 use Rattle.rewriting.proofs.indices.gather.Goals as goal

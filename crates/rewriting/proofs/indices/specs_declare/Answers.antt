@@ -1,6 +1,5 @@
 -- `specs_declare`: what all specifications declare is what those from here on do. Assumes nothing.
 use mathlib.Core.Path.{refl}
-use Prim.Native.Nat.{◌-◌}
 use Rattle.rewriting.proofs.ListPass.Declaring.{specs-last, specs-bad, specs-less, specs-yes, specs-form, specs-name}
 use Rattle.rewriting.proofs.indices.specs_declare.Goals as goal
 

@@ -1,5 +1,4 @@
 -- `table_declares`: what all declarations declare is what those from here on do. Assumes nothing.
-use Prim.Native.Nat.{◌-◌}
 use Rattle.rewriting.proofs.ListPass.Declaring.{declaring-start, table-last, table-bad, table-less, table-yes, table-no}
 use Rattle.rewriting.proofs.indices.table_declares.Goals as goal
 

@@ -1,5 +1,4 @@
 -- `fill_ends`: what the column will hold from here on makes it hold all. Assumes nothing.
-use Prim.Native.Nat.{◌-◌}
 use native.Mathlib.Omega.{arith}
 use Rattle.rewriting.proofs.KeptPass.EndsFilled.{ending-start, ending-end, ending-bad, ending-terminator-less, ending-terminator, ending-full, ending-entry-less, ending-entry}
 use Rattle.rewriting.proofs.kept_items.fill_ends.Goals as goal

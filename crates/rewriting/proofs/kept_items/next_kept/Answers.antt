@@ -1,6 +1,5 @@
 -- `next_kept`: what is kept from the start on is what is kept from here on. Assumes nothing.
 use mathlib.Core.Path.{sym, ◌∙◌}
-use Prim.Native.Nat.{◌-◌}
 use native.Mathlib.Omega.{arith}
 use Rattle.readers.proofs.Declarations.{found_at}
 use Rattle.readers.proofs.Values.{step_end}

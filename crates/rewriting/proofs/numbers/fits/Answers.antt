@@ -1,5 +1,4 @@
 -- `fits` meets its contract: each turn takes a digit away.
-use Prim.Native.Nat.{◌-◌}
 use native.Mathlib.Omega.{arith}
 use Rattle.rewriting.proofs.WritePass.Putting.{shortened-start, shortened-more, shortened-done}
 use Rattle.rewriting.proofs.numbers.fits.Goals as goal

@@ -1,5 +1,4 @@
 -- `put_bytes` meets its contract.
-use Prim.Native.Nat.{◌-◌}
 use native.Mathlib.Omega.{arith}
 use Rattle.rewriting.proofs.WritePass.Putting.{putting-start, copy_more, copy_done, over_none, over-all}
 use Rattle.rewriting.proofs.numbers.put_bytes.Goals as goal

@@ -1,6 +1,5 @@
 -- `put_groups` meets its contract.
 use mathlib.Core.Path.{sym, ◌∙◌}
-use Prim.Native.Nat.{◌-◌}
 use native.Mathlib.Omega.{arith}
 use Rattle.rewriting.proofs.WritePass.Putting.{refused, accepted, fit-some}
 use Rattle.rewriting.proofs.WritePass.Putting.{grouping-start, grouping-more, grouping-low, grouping-room, grouping-done}

@@ -1,5 +1,4 @@
 -- `put_little_endian` meets its contract.
-use Prim.Native.Nat.{◌-◌}
 use native.Mathlib.Omega.{arith}
 use Rattle.rewriting.proofs.WritePass.Putting.{fixing-start, fixing-more, fixing-done}
 use Rattle.rewriting.proofs.numbers.put_little_endian.Goals as goal

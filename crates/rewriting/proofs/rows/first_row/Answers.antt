@@ -1,8 +1,6 @@
 -- `first_row` meets its contract: the halving of all rows ends where that of those from low to high does.
 use mathlib.Core.Path.{refl}
-use Prim.Native.Nat.{◌-◌}
 use native.Mathlib.Omega.{arith}
-use Rattle.rewriting.specs.Written.{row_number}
 use Rattle.rewriting.proofs.ListPass.Ranks.{halving-start, halving-right, halving-left, halving-done}
 use Rattle.rewriting.proofs.rows.first_row.Goals as goal
 

@@ -1,5 +1,4 @@
 -- `hinted_row` meets its contract: what it reads at a row and before it shows the rank, whatever the guess was.
-use Prim.Native.Nat.{◌-◌}
 use Rattle.rewriting.proofs.ListPass.Ranks.{rank-here, rank-first, rank_between, rank-halved}
 use Rattle.rewriting.proofs.rows.hinted_row.Goals as goal
 

@@ -1,5 +1,4 @@
 -- `fill_bounds` meets its contract: the blocks from the loop's on have bounds.
-use Prim.Native.Nat.{◌-◌}
 use Rattle.rewriting.proofs.MapPass.Bounded.{Filling}
 use Rattle.rewriting.proofs.siblings.fill_bounds.Given as goal
 

@@ -1,5 +1,4 @@
 -- `shallowest` meets its contract.
-use Prim.Native.Nat.{◌-◌}
 use native.Mathlib.Omega.{arith}
 use Rattle.rewriting.proofs.MapPass.Bounded.{least_start, least_more, least-all, least-done}
 use Rattle.rewriting.proofs.MapPass.Places.{depth-there}

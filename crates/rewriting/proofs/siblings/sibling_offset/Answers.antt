@@ -1,7 +1,6 @@
 -- `sibling_offset` meets its contract: the places from the start on are deeper, or over.
 use mathlib.Core.Path.{refl, sym, ◌∙◌}
 use mathlib.Core.Logic.{⊎_elim}
-use Prim.Native.Nat.{◌-◌}
 use native.Mathlib.Omega.{arith}
 use Rattle.rewriting.proofs.MapPass.Places.{old-there, new-there, depth-there, found-new, other_none, beyond-none, sibling-to}
 use Rattle.rewriting.proofs.MapPass.Bounded.{seeking-start, seeking-skip, seeking-here, seeking-more, seeking-done}

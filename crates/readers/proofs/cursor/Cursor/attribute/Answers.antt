@@ -1,7 +1,6 @@
 -- `Cursor::attribute` meets its contract, by the token of its form. Assumes nothing.
 use mathlib.Core.Path.{sym, ap, ◌∙◌}
 use native.Mathlib.Omega.{arith}
-use borrow.Author.Tests.{not-true, not-false}
 use Rattle.readers.specs.Inner.Values.{attribute_of}
 use Rattle.readers.proofs.Values.{fixed_in, foreign-none, plain-nothing}
 use Rattle.readers.proofs.ShortValues.{fixed-value, uleb-value, exprloc-value, exprloc-sibling}

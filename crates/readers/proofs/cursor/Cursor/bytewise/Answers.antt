@@ -2,7 +2,6 @@
 use mathlib.Core.Logic.{⊎_elim}
 use Rattle.readers.proofs.Widths.{partial-none, partial-inside, partial-low, partial-more, partial-all, place-big, place-little, fixed-over, fixed-short}
 use mathlib.Core.Path.{sym}
-use Prim.Native.Nat.{◌-◌}
 use native.Mathlib.Omega.{arith}
 use Rattle.readers.proofs.cursor.Cursor.bytewise.Goals as goal
 

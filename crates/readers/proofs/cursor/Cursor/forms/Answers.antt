@@ -1,7 +1,6 @@
 -- `Cursor::forms` meets its contract: whatever was passed, the answer from here on is the whole answer. Each number takes bytes, so what is left falls.
 -- Assumes nothing.
 use mathlib.Core.Path.{refl, sym, ◌∙◌}
-use Prim.Native.Nat.{◌-◌}
 use native.Mathlib.Omega.{arith}
 use Rattle.readers.proofs.Lebs.{short-inside, forms-more, forms-last, forms-none}
 use Rattle.readers.proofs.cursor.Cursor.forms.Goals as goal

@@ -1,4 +1,3 @@
-use Prim.Native.Nat.{◌-◌}
 use mathlib.Core.Path.{refl}
 use Rattle.readers.proofs.Yields.{onward-end, onward-none, onward-entry, less-entry, less-next, onward-own, onward-pass}
 use Rattle.readers.proofs.cursor.Cursor.next_reference.Goals as goal

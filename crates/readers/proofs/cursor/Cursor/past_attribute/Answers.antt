@@ -1,7 +1,6 @@
 -- `Cursor::past_attribute` meets its contract: so many bytes on, past a string or a number, or to the end of the value
 -- that is read. Assumes nothing.
 use mathlib.Core.Path.{sym, ap, ◌∙◌}
-use borrow.Author.Tests.{not-true, not-false}
 use Rattle.readers.specs.Entries.{attribute_end}
 use Rattle.readers.proofs.Values.{foreign-none}
 use Rattle.readers.proofs.ShortValues.{past-width, past-string, past-signed, past-uleb, past-exprloc, past-unread, exprloc-sibling}

@@ -1,5 +1,4 @@
 -- `Cursor::past_attributes` meets its contract. The invariant: past the specifications from here on is past them all. Assumes nothing.
-use Prim.Native.Nat.{◌-◌}
 use mathlib.Core.Path.{refl, sym, ◌∙◌}
 use native.Mathlib.Omega.{arith}
 use Rattle.readers.proofs.Specs.{attribute-inside, past_more, past-last, past-bad}

@@ -1,7 +1,6 @@
 -- `Cursor::past_values` meets its contract: whatever was passed, the answer from here on is the whole answer. Each specification takes bytes, so what is
 -- left of the abbreviations falls. Assumes nothing.
 use mathlib.Core.Path.{refl, sym, ◌∙◌}
-use Prim.Native.Nat.{◌-◌}
 use native.Mathlib.Omega.{arith}
 use Rattle.readers.proofs.Specs.{attribute-inside}
 use Rattle.readers.proofs.Values.{values-past, values-stuck, values-last, values-bad}

@@ -1,5 +1,4 @@
 -- `Cursor::search` meets its contract. The invariant: the search from here on finds what the whole one does. Assumes nothing.
-use Prim.Native.Nat.{◌-◌}
 use mathlib.Core.Path.{refl, sym, ◌∙◌}
 use native.Mathlib.Omega.{arith}
 use Rattle.readers.proofs.Declarations.{declaration-ahead, search-hit, search-more, search-last, search-bad, search-end}

@@ -1,7 +1,6 @@
 -- `Cursor::string` meets its contract. The invariant: the string from here on ends where the whole one does.
 use Rattle.readers.proofs.Widths.{string-end, string-zero, string-more}
 use mathlib.Core.Path.{refl, sym, ◌∙◌}
-use Prim.Native.Nat.{◌-◌}
 use Rattle.readers.proofs.cursor.Cursor.string.Goals as goal
 
 pub loop-at-init : goal.loop-at-init

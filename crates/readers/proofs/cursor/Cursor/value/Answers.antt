@@ -4,7 +4,6 @@ use mathlib.Core.Path.{◌≡◌, ap, sym, ◌∙◌, subst}
 use mathlib.Core.Bool.{true, false}
 use lib.Dec.{T}
 use Rattle.readers.specs.Fields.{field_at}
-use borrow.Author.Tests.{not-true, not-false}
 use Rattle.readers.proofs.Values.{value-sibling, value-implicit, value-foreign, value-other}
 use Rattle.readers.proofs.cursor.Cursor.value.Goals as goal
 
