@@ -10,8 +10,7 @@ use borrow.Author.Tests.{lt-leb, le-leb, eq-eqb, ne_eqb}
 use Rattle.readers.specs.Choice.{◌and◌, ◌or◌}
 use Rattle.readers.specs.Cursors.{fixed_at}
 use Rattle.readers.specs.declared.cursor.Cursor.{Cursor}
-use Rattle.readers.specs.declared.cursor.Number.{Number}
-use Rattle.readers.specs.declared.cursor.Number.TheVariants.{Value, Unreadable}
+use Rattle.std.specs.Prelude.{None, Option, Some}
 use Rattle.bundle.specs.Bundle.{version_of, frame_of, number_is}
 
 and-false : (a b : Bool) → b ≡ false → (a and b) ≡ false
@@ -34,8 +33,8 @@ module _ (s : List ℕ) where
   unfolding frame_of ◌and◌
   too_long h = rw (lt-leb (length s) 65536 h)
 
-  module _ (n : Number) (e : n ≡ fixed_at true 4 s 0) where
-    pub no_length : n ≡ Unreadable → false ≡ frame_of s
+  module _ (n : Option (ℕ × Cursor)) (e : n ≡ fixed_at true 4 s 0) where
+    pub no_length : n ≡ None → false ≡ frame_of s
     unfolding frame_of number_is ◌and◌
     no_length k = sym (rw (← e, k) (and-false (leb (length s) 65536) _ refl))
 
@@ -44,11 +43,11 @@ module _ (s : List ℕ) where
     too_short h =
         sym (rw (lt-leb 5 (length s) h) (and-false (leb (length s) 65536) _ (and-false (number_is (fixed_at true 4 s 0) (length s - 4)) _ refl)))
 
-    pub wrong-length : (v : ℕ) (c : Cursor) → n ≡ Value v c → (v ≡ length s - 4 → ⊥) → false ≡ frame_of s
+    pub wrong-length : (v : ℕ) (c : Cursor) → n ≡ Some (v, c) → (v ≡ length s - 4 → ⊥) → false ≡ frame_of s
     unfolding frame_of number_is ◌and◌
     wrong-length v c k h = sym (rw (← e, k, ne_eqb v (length s - 4) h) (and-false (leb (length s) 65536) _ refl))
 
-    module _ (v : ℕ) (c : Cursor) (k : n ≡ Value v c) (l : length s ≤ 65536) (h : v ≡ length s - 4) (m : 5 ≤ length s) (b : ℕ) (q : b ≡ version_of s) where
+    module _ (v : ℕ) (c : Cursor) (k : n ≡ Some (v, c)) (l : length s ≤ 65536) (h : v ≡ length s - 4) (m : 5 ≤ length s) (b : ℕ) (q : b ≡ version_of s) where
       pub version-one : b ≡ 1 → true ≡ frame_of s
       unfolding frame_of number_is ◌and◌ ◌or◌
       version-one z = sym (rw (← e, k, le-leb (length s) 65536 l, eq-eqb v (length s - 4) h, le-leb 5 (length s) m, sym q ∙ z))

@@ -8,8 +8,7 @@ use lib.Dec.{eqb}
 use borrow.Author.Tests.{eq-eqb, ne_eqb}
 use Rattle.readers.specs.Choice.{pick}
 use Rattle.readers.specs.declared.fields.Field.{Field}
-use Rattle.readers.specs.declared.fields.FieldRead.{FieldRead}
-use Rattle.readers.specs.declared.fields.FieldRead.TheVariants.{Read, Unreadable}
+use Rattle.std.specs.Prelude.{None, Option, Some}
 use Rattle.bundle.specs.Bundle.{frame_of, version_of, part, debug_ranges_part, on_part, sections_of, bundle_of}
 use Rattle.bundle.specs.declared.BundleRead.{BundleRead}
 use Rattle.bundle.specs.declared.BundleRead.TheVariants.{Read as Bundle', Wrong}
@@ -22,11 +21,11 @@ pub unframed : (s : List ℕ) (b : Bool) → b ≡ frame_of s → b ≡ false �
 unfolding bundle_of pick
 unframed s b e k = rw (← e, k)
 
-on_read : (x r : FieldRead) (f : Field) (k : Field → BundleRead) → x ≡ r → x ≡ Read f → on_part r k ≡ k f
+on_read : (x r : Option Field) (f : Field) (k : Field → BundleRead) → x ≡ r → x ≡ Some f → on_part r k ≡ k f
 unfolding on_part
 on_read x r f k e t = ap (λ z. on_part z k) (sym e ∙ t)
 
-on_none : (x r : FieldRead) (k : Field → BundleRead) → x ≡ r → x ≡ Unreadable → on_part r k ≡ Wrong
+on_none : (x r : Option Field) (k : Field → BundleRead) → x ≡ r → x ≡ None → on_part r k ≡ Wrong
 unfolding on_part
 on_none x r k e t = ap (λ z. on_part z k) (sym e ∙ t)
 
@@ -55,46 +54,46 @@ module _ (s : List ℕ) where
   unfolding sections_of
   sections = refl
 
-  module _ (x1 : FieldRead) (e1 : x1 ≡ part s 5) where
-    pub no-unit : x1 ≡ Unreadable → Wrong ≡ sections_of s
+  module _ (x1 : Option Field) (e1 : x1 ≡ part s 5) where
+    pub no-unit : x1 ≡ None → Wrong ≡ sections_of s
     no-unit t = sym (sections ∙ on_none x1 _ _ e1 t)
 
-    module _ (u : Field) (t1 : x1 ≡ Read u) (x2 : FieldRead) (e2 : x2 ≡ part s u.end) where
+    module _ (u : Field) (t1 : x1 ≡ Some u) (x2 : Option Field) (e2 : x2 ≡ part s u.end) where
       to-2 : sections_of s ≡ from-unit u
       to-2 = sections ∙ on_read x1 _ u _ e1 t1
 
-      pub no-abbreviations : x2 ≡ Unreadable → Wrong ≡ sections_of s
+      pub no-abbreviations : x2 ≡ None → Wrong ≡ sections_of s
       no-abbreviations t = sym (to-2 ∙ on_none x2 _ _ e2 t)
 
-      module _ (a : Field) (t2 : x2 ≡ Read a) (x3 : FieldRead) (e3 : x3 ≡ part s a.end) where
+      module _ (a : Field) (t2 : x2 ≡ Some a) (x3 : Option Field) (e3 : x3 ≡ part s a.end) where
         to-3 : sections_of s ≡ from-abbreviations u a
         to-3 = to-2 ∙ on_read x2 _ a _ e2 t2
 
-        pub no-locations : x3 ≡ Unreadable → Wrong ≡ sections_of s
+        pub no-locations : x3 ≡ None → Wrong ≡ sections_of s
         no-locations t = sym (to-3 ∙ on_none x3 _ _ e3 t)
 
-        module _ (l : Field) (t3 : x3 ≡ Read l) (x4 : FieldRead) (e4 : x4 ≡ part s l.end) where
+        module _ (l : Field) (t3 : x3 ≡ Some l) (x4 : Option Field) (e4 : x4 ≡ part s l.end) where
           to-4 : sections_of s ≡ from-locations u a l
           to-4 = to-3 ∙ on_read x3 _ l _ e3 t3
 
-          pub no-ranges : x4 ≡ Unreadable → Wrong ≡ sections_of s
+          pub no-ranges : x4 ≡ None → Wrong ≡ sections_of s
           no-ranges t = sym (to-4 ∙ on_none x4 _ _ e4 t)
 
-          module _ (r : Field) (t4 : x4 ≡ Read r) (x5 : FieldRead) (e5 : x5 ≡ part s r.end) where
+          module _ (r : Field) (t4 : x4 ≡ Some r) (x5 : Option Field) (e5 : x5 ≡ part s r.end) where
             to-5 : sections_of s ≡ from-ranges u a l r
             to-5 = to-4 ∙ on_read x4 _ r _ e4 t4
 
-            pub no-addresses : x5 ≡ Unreadable → Wrong ≡ sections_of s
+            pub no-addresses : x5 ≡ None → Wrong ≡ sections_of s
             no-addresses t = sym (to-5 ∙ on_none x5 _ _ e5 t)
 
-            module _ (d : Field) (t5 : x5 ≡ Read d) (x6 : FieldRead) (e6 : x6 ≡ debug_ranges_part s d.end) where
+            module _ (d : Field) (t5 : x5 ≡ Some d) (x6 : Option Field) (e6 : x6 ≡ debug_ranges_part s d.end) where
               to-6 : sections_of s ≡ from-addresses u a l r d
               to-6 = to-5 ∙ on_read x5 _ d _ e5 t5
 
-              pub no-debug-ranges : x6 ≡ Unreadable → Wrong ≡ sections_of s
+              pub no-debug-ranges : x6 ≡ None → Wrong ≡ sections_of s
               no-debug-ranges t = sym (to-6 ∙ on_none x6 _ _ e6 t)
 
-              module _ (o : Field) (t6 : x6 ≡ Read o) where
+              module _ (o : Field) (t6 : x6 ≡ Some o) where
                 abbrev ended : Bool → BundleRead
                 ended z = pick z (Bundle' (record { unit = u; abbreviations = a; locations = l; ranges = r; addresses = d; debug_ranges = o })) Wrong
 
@@ -113,10 +112,10 @@ module _ (s : List ℕ) where
 -- ---- .debug_ranges, by the version byte
 
 module _ (s : List ℕ) (at b : ℕ) (q : b ≡ version_of s) where
-  pub section-there : b ≡ 2 → (r : FieldRead) → r ≡ part s at → r ≡ debug_ranges_part s at
+  pub section-there : b ≡ 2 → (r : Option Field) → r ≡ part s at → r ≡ debug_ranges_part s at
   unfolding debug_ranges_part pick
   section-there z r p = p ∙ rw (sym q ∙ z)
 
-  pub section-empty : (b ≡ 2 → ⊥) → Read (record { value = 0; start = at; end = at }) ≡ debug_ranges_part s at
+  pub section-empty : (b ≡ 2 → ⊥) → Some (record { value = 0; start = at; end = at }) ≡ debug_ranges_part s at
   unfolding debug_ranges_part pick
   section-empty z = rw (← q, ne_eqb b 2 z)

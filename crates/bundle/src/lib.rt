@@ -5,8 +5,8 @@ ghost use Rattle.std.specs.Prelude.{◌≡◌};
 ghost use Rattle.readers.specs.Fields.{part_of};
 ghost use Rattle.bundle.specs.Bundle.{bundle_of, frame_of, version_of, part, debug_ranges_part, sections_of};
 
-use readers::cursor::{Cursor, Encoding, Number};
-use readers::fields::{Field, FieldRead};
+use readers::cursor::{Cursor, Encoding};
+use readers::fields::Field;
 use readers::layouts::BLOCK4;
 
 // The most bytes that a bundle may have, its first length included.
@@ -30,7 +30,7 @@ pub enum BundleRead {
 }
 
 // A section of the bundle: a big-endian length of four bytes, and so many bytes.
-fn section(s: &[u8], at: usize) -> FieldRead
+fn section(s: &[u8], at: usize) -> Option<Field>
     ensures { result ≡ part s.now at }
 {
     let e = Encoding {
@@ -59,7 +59,7 @@ fn frame(s: &[u8]) -> bool
     if s.len() > MOST {
         return false;
     }
-    let Number::Value(length, _) = (Cursor { at: 0 }).fixed(s, 4, true) else {
+    let Some((length, _)) = (Cursor { at: 0 }).fixed(s, 4, true) else {
         return false;
     };
     if s.len() < 5 {
@@ -76,13 +76,13 @@ fn frame(s: &[u8]) -> bool
 }
 
 // The last section, .debug_ranges, which version 2 has; in version 1 it is empty.
-fn debug_ranges_section(s: &[u8], at: usize) -> FieldRead
+fn debug_ranges_section(s: &[u8], at: usize) -> Option<Field>
     ensures { result ≡ debug_ranges_part s.now at }
 {
     if version(s) == 2 {
         return section(s, at);
     }
-    FieldRead::Read(Field {
+    Some(Field {
         value: 0,
         start: at,
         end: at,
@@ -93,22 +93,22 @@ fn debug_ranges_section(s: &[u8], at: usize) -> FieldRead
 fn sections(s: &[u8]) -> BundleRead
     ensures { result ≡ sections_of s.now }
 {
-    let FieldRead::Read(unit) = section(s, 5) else {
+    let Some(unit) = section(s, 5) else {
         return BundleRead::Wrong;
     };
-    let FieldRead::Read(abbreviations) = section(s, unit.end) else {
+    let Some(abbreviations) = section(s, unit.end) else {
         return BundleRead::Wrong;
     };
-    let FieldRead::Read(locations) = section(s, abbreviations.end) else {
+    let Some(locations) = section(s, abbreviations.end) else {
         return BundleRead::Wrong;
     };
-    let FieldRead::Read(ranges) = section(s, locations.end) else {
+    let Some(ranges) = section(s, locations.end) else {
         return BundleRead::Wrong;
     };
-    let FieldRead::Read(addresses) = section(s, ranges.end) else {
+    let Some(addresses) = section(s, ranges.end) else {
         return BundleRead::Wrong;
     };
-    let FieldRead::Read(debug_ranges) = debug_ranges_section(s, addresses.end) else {
+    let Some(debug_ranges) = debug_ranges_section(s, addresses.end) else {
         return BundleRead::Wrong;
     };
     if debug_ranges.end != s.len() {

@@ -5,7 +5,7 @@ use native.Mathlib.Omega.{arith}
 use mathlib.Core.Bool.{Bool, true, false}
 use mathlib.Core.List.{List, [], ◌∷◌}
 use mathlib.Core.Logic.{◌⊎◌, inl, inr, ⊎_elim}
-use mathlib.Core.Option.{Option, none, some}
+use Rattle.std.specs.Prelude.{Err, None, Ok, Option, Result, Some}
 use lib.ListN.{length, take}
 use lib.Dec.{T, ltb, leb}
 use mir.Facts.{ltb_yes, leb_yes, yes_ltb, yes_leb}
@@ -16,8 +16,6 @@ use Rattle.readers.specs.Nesting.{opened, closed, top}
 use Rattle.readers.specs.Stream.{Item, entry, terminator, items_from}
 use Rattle.readers.specs.declared.cursor.Encoding.{Encoding}
 use Rattle.readers.specs.declared.header.UnitHeader.{UnitHeader}
-use Rattle.readers.specs.declared.header.HeaderRead.{HeaderRead}
-use Rattle.readers.specs.declared.header.HeaderRead.TheVariants.{Unit as Header', Empty, Refused}
 use Rattle.marking.specs.EntryReferences.{ReferencesFound, found, refused as refused_after}
 use Rattle.marking.specs.declared.root_test.Verdict.{Verdict}
 use Rattle.marking.specs.declared.root_test.Verdict.TheVariants.{Live, Dead, Refused as Failed}
@@ -97,14 +95,14 @@ module _ (x : Sections) (small large : Rooms) (entries : small.entries ≤ large
         → AnalysedOrFull (on_declared o (λ ds. analyse_items e x unit small (start_of e) (items_from e x.abbreviations (declared_in ds) unit first).0 (items_from e x.abbreviations (declared_in ds) unit first).1))
         (on_declared o (λ ds. analyse_items e x unit large (start_of e) (items_from e x.abbreviations (declared_in ds) unit first).0 (items_from e x.abbreviations (declared_in ds) unit first).1))
     unfolding on_declared
-    declared-full first none = inl refl
-    declared-full first (some ds) = items-full (start_of e) (items_from e x.abbreviations (declared_in ds) unit first).0 (items_from e x.abbreviations (declared_in ds) unit first).1
+    declared-full first None = inl refl
+    declared-full first (Some ds) = items-full (start_of e) (items_from e x.abbreviations (declared_in ds) unit first).0 (items_from e x.abbreviations (declared_in ds) unit first).1
 
-  header-full : (section : List ℕ) (o : HeaderRead) → AnalysedOrFull (header_analysed x section small o) (header_analysed x section large o)
+  header-full : (section : List ℕ) (o : Result (Option UnitHeader) ℕ) → AnalysedOrFull (header_analysed x section small o) (header_analysed x section large o)
   unfolding header_analysed unit_analysed
-  header-full section Empty = inl refl
-  header-full section (Refused n) = inl refl
-  header-full section (Header' h) = declared-full h.encoding (take h.end section) h.first.0 (abbreviations_of x.abbreviations h.abbreviations)
+  header-full section (Ok None) = inl refl
+  header-full section (Err n) = inl refl
+  header-full section (Ok (Some h)) = declared-full h.encoding (take h.end section) h.first.0 (abbreviations_of x.abbreviations h.abbreviations)
 
   analysis-full : (section : List ℕ) → AnalysedOrFull (analysis_of x section small) (analysis_of x section large)
   unfolding analysis_of
@@ -131,15 +129,15 @@ module _ (x : Sections) (small large : Rooms) (entries : small.entries ≤ large
     unit-full : (section : List ℕ) (h : UnitHeader) (o : Option (List Placed))
         → OrFull (declared_collected x (room_by small map ranges locations strings out) type_units section h o) (declared_collected x (room_by large map ranges locations strings out) type_units section h o)
     unfolding declared_collected
-    unit-full section h none = inl refl
-    unit-full section h (some ds) = after-full (unit_of h section ds) (analysis_of x section small) (analysis_of x section large) (analysis-full section)
+    unit-full section h None = inl refl
+    unit-full section h (Some ds) = after-full (unit_of h section ds) (analysis_of x section small) (analysis_of x section large) (analysis-full section)
 
-    by-header : (section : List ℕ) (o : HeaderRead)
+    by-header : (section : List ℕ) (o : Result (Option UnitHeader) ℕ)
         → OrFull (header_collected x (room_by small map ranges locations strings out) type_units section o) (header_collected x (room_by large map ranges locations strings out) type_units section o)
     unfolding header_collected
-    by-header section Empty = inl refl
-    by-header section (Refused n) = inl refl
-    by-header section (Header' h) = unit-full section h (abbreviations_of x.abbreviations h.abbreviations)
+    by-header section (Ok None) = inl refl
+    by-header section (Err n) = inl refl
+    by-header section (Ok (Some h)) = unit-full section h (abbreviations_of x.abbreviations h.abbreviations)
 
     -- THE law of larger tables
     pub larger-tables : (section : List ℕ)

@@ -1,8 +1,7 @@
 -- The attributes of a kept entry, read at its new place by the public reader of attributes (`attribute_at`, one after the other
 -- in `values_of_entry`): the same attributes in the same order, with the same names, forms, widths and values, but for the
 -- numbers that rewriting changes.
-use Rattle.std.specs.Prelude.{◌≡◌, ℕ, ◌+◌, List, [], ◌∷◌, length, T}
-use Rattle.std.proofs.Math.Option.{some}
+use Rattle.std.specs.Prelude.{◌≡◌, ℕ, ◌+◌, List, [], ◌∷◌, length, T, Some}
 use Rattle.std.proofs.Math.Pow.{are_bytes}
 use Rattle.readers.specs.Codes.{DW_FORM_exprloc}
 use Rattle.readers.specs.Layout.{Piece, Patch, bytes_of, patch_pieces}
@@ -40,8 +39,8 @@ module _ (f : Patch) where
     -- written at its own width; all other bytes are copied
     pub record SameOperations (old new : List ℕ) : Type 0 where
       pub pieces : List Piece
-      pub were : expression_in e old ≡ some pieces
-      pub are : expression_in e new ≡ some (patch_pieces f pieces)
+      pub were : expression_in e old ≡ Some pieces
+      pub are : expression_in e new ≡ Some (patch_pieces f pieces)
       pub old_bytes : T (are_bytes old) → old ≡ bytes_of e.big_endian pieces
       pub new_bytes : new ≡ bytes_of e.big_endian (patch_pieces f pieces)
 

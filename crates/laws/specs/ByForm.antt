@@ -1,6 +1,5 @@
 -- The numbers of a kept entry's attributes, read again at its new place, by the forms that document 01, "Rewriting", names.
-use Rattle.std.specs.Prelude.{◌≡◌, ℕ, ◌≤◌, ◌<◌, Bool, List, ◌⊎◌, length}
-use Rattle.std.proofs.Math.Option.{none, some}
+use Rattle.std.specs.Prelude.{◌≡◌, ℕ, ◌≤◌, ◌<◌, Bool, List, ◌⊎◌, length, None, Some}
 use Rattle.readers.specs.Codes.{DW_AT_sibling, DW_FORM_exprloc, DW_FORM_ref1, DW_FORM_ref_addr}
 use Rattle.readers.specs.Codes.{DW_FORM_ref_udata}
 use Rattle.readers.specs.Stream.{entry}
@@ -37,8 +36,8 @@ module _ (x : Sections) (u new : Unit') (lists : Lists) (map : List Place) (kept
     pub sibling : a.name ≡ DW_AT_sibling → RefersInUnit (form_of a)
         → LandsOn x u new lists map kept (number_of a) (number_of b) ⊎ FirstFrom x u new lists map kept depth (number_of a) (number_of b)
     -- rnglistx 0; loclistx 1; strx, strx1 to strx4 and GNU_str_index 2: the place in the list of the index that it was, if there is such a list
-    pub unlisted : (k : ℕ) → k < 3 → list_form (form_of a) ≡ k → list_at lists k ≡ none → number_of b ≡ number_of a
-    pub listed : (k : ℕ) → k < 3 → list_form (form_of a) ≡ k → (xs : List ℕ) → list_at lists k ≡ some xs → Nth (number_of a) (number_of b) xs
+    pub unlisted : (k : ℕ) → k < 3 → list_form (form_of a) ≡ k → list_at lists k ≡ None → number_of b ≡ number_of a
+    pub listed : (k : ℕ) → k < 3 → list_form (form_of a) ≡ k → (xs : List ℕ) → list_at lists k ≡ Some xs → Nth (number_of a) (number_of b) xs
     -- any other form: the same number, and but for ref_addr and exprloc (its operations are in SameAttribute) the same bytes
     pub stays : (RefersInUnit (form_of a) → ⊥) → list_form (form_of a) ≡ 3 → number_of b ≡ number_of a
     pub bytes : (RefersInUnit (form_of a) → ⊥) → list_form (form_of a) ≡ 3 → (form_of a ≡ DW_FORM_ref_addr → ⊥) → (form_of a ≡ DW_FORM_exprloc → ⊥)

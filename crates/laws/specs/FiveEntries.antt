@@ -1,7 +1,6 @@
 -- The five-entry unit of document 01, and the answers for it that P1 to P10 name (proofs/examples/FiveEntries.antt,
 -- `p1-to-p10`); P1 in each encoding that is read (`p1-in-every-encoding`).
-use Rattle.std.specs.Prelude.{◌≡◌, List, [], ◌∷◌, ◌++◌, Bool, true, false, ℕ, ◌+◌, ◌-◌, length, eqb}
-use Rattle.std.proofs.Math.Option.{some}
+use Rattle.std.specs.Prelude.{◌≡◌, List, [], ◌∷◌, ◌++◌, Bool, true, false, ℕ, ◌+◌, ◌-◌, length, eqb, Some}
 use Rattle.readers.specs.Choice.{pick}
 use Rattle.readers.specs.Numbers.{fixed_bytes}
 use Rattle.readers.specs.Codes.{DW_FORM_addrx, DW_FORM_strp, DW_FORM_ref1, DW_FORM_ref4, DW_FORM_ref8}
@@ -55,7 +54,7 @@ abbrev pub five : List ℕ → Collected
 five table = collect_of (sections abbreviations5 [] [] table [] no_list (told false)) room5 false unit5
 
 abbrev pub none3 : Lists
-none3 = record { ranges = some []; locations = some []; strings = some [] }
+none3 = record { ranges = Some []; locations = Some []; strings = Some [] }
 
 abbrev pub place : ℕ → ℕ → ℕ → Place
 place o n d = record { old = o; new = n; depth = d }

@@ -1,6 +1,6 @@
 -- Variables at a fixed address (document 02, Point 7): the words of `as-live-index` (proofs/fixed/FixedOperations.antt),
 -- `fixed-roots-law`, `ended-law` (FixedRoots.antt) and `fixed-kept-law` (FixedSurvivors.antt).
-use Rattle.std.specs.Prelude.{ℕ, ◌≡◌, false, List, ◌⊎◌, get_or}
+use Rattle.std.specs.Prelude.{ℕ, ◌≡◌, false, List, ◌⊎◌, get_or, Some}
 use Rattle.readers.specs.Codes.{DW_AT_location, DW_FORM_exprloc, DW_OP_addr, DW_TAG_variable}
 use Rattle.readers.specs.EntryAttributes.{Valued}
 use Rattle.readers.specs.Fields.{part_of}
@@ -8,7 +8,6 @@ use Rattle.readers.specs.Steps.{operation_at}
 use Rattle.readers.specs.declared.cursor.Encoding.{Encoding}
 use Rattle.readers.specs.declared.entries.Entry.{Entry}
 use Rattle.readers.specs.declared.operations.Operation.{Operation}
-use Rattle.readers.specs.declared.operations.OperationRead.TheVariants.{Read as Operation'}
 use Rattle.marking.specs.Addresses.{is_tombstone}
 use Rattle.marking.specs.Analysis.{Sections, tag_of, values_of_entry}
 use Rattle.marking.specs.Members.{Member}
@@ -18,7 +17,7 @@ use Rattle.marking.specs.declared.root_test.Verdict.TheVariants.{Live, Dead}
 -- the places at which operations of an expression start, and its end: those nested in an operand are not among them
 pub data Outermost (e : Encoding) (s : List ℕ) : ℕ → Type 0 where
   start : Outermost e s 0
-  past : {at : ℕ} {op : Operation} → Outermost e s at → operation_at e s at ≡ Operation' op → Outermost e s op.next.at
+  past : {at : ℕ} {op : Operation} → Outermost e s at → operation_at e s at ≡ Some op → Outermost e s op.next.at
 
 -- an operation's address, its first operand, is no tombstone of the unit's address size
 abbrev pub NoTombstone : Encoding → Operation → Type 0
@@ -30,7 +29,7 @@ pub record FixedAddress (e : Encoding) (s : List ℕ) : Type 0 where
   pub outermost : Outermost e s at
   pub code : get_or s at 0 ≡ DW_OP_addr
   pub op : Operation
-  pub read : operation_at e s at ≡ Operation' op
+  pub read : operation_at e s at ≡ Some op
   pub live : NoTombstone e op
 
 -- "its exprloc location" has one: an entry's attributes, whose values stand in a unit

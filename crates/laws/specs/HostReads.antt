@@ -1,7 +1,6 @@
 -- What a host reads in the slices that it lent (include/collector.h): numbers of eight big-endian bytes each, three a map
 -- place: old offset, new offset and depth.
-use Rattle.std.specs.Prelude.{◌≡◌, ℕ, ◌+◌, ◌*◌, ◌-◌, ◌^◌, ◌≤◌, ◌<◌, List, length, take, drop}
-use Rattle.std.proofs.Math.Option.{Option, none, some}
+use Rattle.std.specs.Prelude.{◌≡◌, ℕ, ◌+◌, ◌*◌, ◌-◌, ◌^◌, ◌≤◌, ◌<◌, List, length, take, drop, None, Option, Some}
 use Rattle.readers.specs.Choice.{zeros}
 use Rattle.rewriting.specs.Places.{Place}
 use Rattle.marking.specs.Members.{Member, Nth}
@@ -40,8 +39,8 @@ pub record ListReads (size : ℕ) (numbers list : List ℕ) : Type 0 where
 
 -- an absent list is zeros
 unfoldable pub PresentReads : ℕ → Option (List ℕ) → List ℕ → Type 0
-PresentReads size none list = list ≡ zeros size
-PresentReads size (some numbers) list = ListReads size numbers list
+PresentReads size None list = list ≡ zeros size
+PresentReads size (Some numbers) list = ListReads size numbers list
 
 -- a slice of `size` bytes as the output: the new unit stands at its start, and zeros follow
 pub record OutputReads (size : ℕ) (output out : List ℕ) : Type 0 where

@@ -1,11 +1,9 @@
 -- Keep lists (document 02, Point 10): the words of the laws in proofs/keep.
-use Rattle.std.specs.Prelude.{◌≡◌, ℕ, suc, ◌≤◌, ◌<◌, List, [], ◌∷◌, length, get_or}
-use Rattle.std.proofs.Math.Option.{some}
+use Rattle.std.specs.Prelude.{◌≡◌, ℕ, suc, ◌≤◌, ◌<◌, List, [], ◌∷◌, length, get_or, Ok, Some}
 use Rattle.readers.specs.Abbreviations.{Placed, abbreviations_of}
 use Rattle.readers.specs.Header.{header_of}
 use Rattle.readers.specs.declared.entries.Entry.{Entry}
 use Rattle.readers.specs.declared.header.UnitHeader.{UnitHeader}
-use Rattle.readers.specs.declared.header.HeaderRead.TheVariants.{Unit as Unit'}
 use Rattle.marking.specs.EntryRows.{unit_items}
 use Rattle.marking.specs.KeepList.{KeepList, always_root, never_root, treatment_of}
 use Rattle.marking.specs.Analysis.{Sections, sections, EntryRow, tag_of, Analysed, analysed, refused as not_analysed}
@@ -95,8 +93,8 @@ pub record SameButRoots (a b : Analysed) : Type 0 where
 -- what holds of each entry of a section's first unit
 abbrev pub EachEntry : Sections → List ℕ → (Entry → Type 0) → Type 0
 EachEntry x section P =
-    (h : UnitHeader) (ds : List Placed) → header_of x.setting.big_endian section ≡ Unit' h
-    → abbreviations_of x.abbreviations h.abbreviations ≡ some ds → (k : ℕ) (y : Entry)
+    (h : UnitHeader) (ds : List Placed) → header_of x.setting.big_endian section ≡ Ok (Some h)
+    → abbreviations_of x.abbreviations h.abbreviations ≡ Some ds → (k : ℕ) (y : Entry)
     → EntryAt y k (unit_items x section h ds).0 → P y
 
 -- two lists have the same treatment for the tag of each of them, and a list has the tag of none

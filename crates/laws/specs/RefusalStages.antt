@@ -1,13 +1,11 @@
 -- The numbers that the calls of this crate refuse with (document 01, "Operations and their numbers"), and for collect
 -- where each comes from.
-use Rattle.std.specs.Prelude.{◌≡◌, ℕ, ◌+◌, ◌≤◌, ◌<◌, Bool, true, false, List, [], length, take}
-use Rattle.std.proofs.Math.Option.{none, some}
+use Rattle.std.specs.Prelude.{◌≡◌, ℕ, ◌+◌, ◌≤◌, ◌<◌, Bool, true, false, List, [], length, take, Err, None, Ok, Some}
 use Rattle.laws.specs.RefusalNumbers.{ListRefusal, HeaderRefusal, EntriesRefusal}
 use Rattle.readers.specs.Abbreviations.{Placed, abbreviations_of}
 use Rattle.readers.specs.Header.{header_of}
 use Rattle.readers.specs.Layout.{Piece}
 use Rattle.readers.specs.declared.header.UnitHeader.{UnitHeader}
-use Rattle.readers.specs.declared.header.HeaderRead.TheVariants.{Unit as Header', Refused}
 use Rattle.marking.specs.Analysis.{Sections, EntryRow, analysed, refused as not_analysed, analysis_of}
 use Rattle.marking.specs.KeepList.{keep_refusal}
 use Rattle.marking.specs.Marks.{kept_count}
@@ -24,8 +22,8 @@ pub record UnitRead (x : Sections) (room : Room) (section : List ℕ) : Type 0 w
   pub header : UnitHeader
   pub declared : List Placed
   pub rows : List EntryRow
-  pub header_is : header_of x.setting.big_endian section ≡ Header' header
-  pub declared_are : abbreviations_of x.abbreviations header.abbreviations ≡ some declared
+  pub header_is : header_of x.setting.big_endian section ≡ Ok (Some header)
+  pub declared_are : abbreviations_of x.abbreviations header.abbreviations ≡ Some declared
   pub rows_are : analysis_of x section room.tables ≡ analysed rows
 
 module _ (x : Sections) (room : Room) (type_units : Bool) (section : List ℕ) where
@@ -49,11 +47,11 @@ module _ (x : Sections) (room : Room) (type_units : Bool) (section : List ℕ) w
   -- 14 output too short, then in stream order 8 .. or 9"
   pub data RefusedAt : ℕ → Type 0 where
     at_list : {n : ℕ} → keep_refusal x.keep ≡ n → ListRefusal n → RefusedAt n
-    at_header : {n : ℕ} → keep_refusal x.keep ≡ 0 → header_of x.setting.big_endian section ≡ Refused n → HeaderRefusal n → RefusedAt n
-    at_abbreviations : {h : UnitHeader} → keep_refusal x.keep ≡ 0 → header_of x.setting.big_endian section ≡ Header' h
-        → abbreviations_of x.abbreviations h.abbreviations ≡ none → RefusedAt 3
-    at_entries : {h : UnitHeader} {ds : List Placed} {n : ℕ} → keep_refusal x.keep ≡ 0 → header_of x.setting.big_endian section ≡ Header' h
-        → abbreviations_of x.abbreviations h.abbreviations ≡ some ds
+    at_header : {n : ℕ} → keep_refusal x.keep ≡ 0 → header_of x.setting.big_endian section ≡ Err n → HeaderRefusal n → RefusedAt n
+    at_abbreviations : {h : UnitHeader} → keep_refusal x.keep ≡ 0 → header_of x.setting.big_endian section ≡ Ok (Some h)
+        → abbreviations_of x.abbreviations h.abbreviations ≡ None → RefusedAt 3
+    at_entries : {h : UnitHeader} {ds : List Placed} {n : ℕ} → keep_refusal x.keep ≡ 0 → header_of x.setting.big_endian section ≡ Ok (Some h)
+        → abbreviations_of x.abbreviations h.abbreviations ≡ Some ds
         → analysis_of x section room.tables ≡ not_analysed n → EntriesRefusal n → RefusedAt n
     at_lists : (u : UnitRead x room section) → 0 < length u.rows → lists_fit room (lists_in u) ≡ false → RefusedAt 12
     at_map : (u : UnitRead x room section) → Thinnable u → room.places < length (kept_in u) → RefusedAt 13

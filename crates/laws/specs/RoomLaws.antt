@@ -1,14 +1,11 @@
 -- What collect asks of lent room (document 01, "collect"): each "short" means exactly that the finished count exceeds the
 -- lent length. The laws are in proofs/room/RoomLaws.antt: `needs-law`, `larger-law`, `enough-law`, `every-room-law`.
-use Rattle.std.specs.Prelude.{◌≡◌, ℕ, ◌+◌, ◌≤◌, ◌<◌, Bool, List, [], ◌∷◌, ◌⊎◌, length, take}
-use Rattle.std.proofs.Math.Option.{Option, none, some}
+use Rattle.std.specs.Prelude.{◌≡◌, ℕ, ◌+◌, ◌≤◌, ◌<◌, Bool, List, [], ◌∷◌, ◌⊎◌, length, take, Err, None, Ok, Option, Result, Some}
 use Rattle.laws.specs.RefusalNumbers.{OneOf}
 use Rattle.readers.specs.Abbreviations.{Placed, abbreviations_of}
 use Rattle.readers.specs.Header.{header_of}
 use Rattle.readers.specs.Stream.{Item}
 use Rattle.readers.specs.declared.header.UnitHeader.{UnitHeader}
-use Rattle.readers.specs.declared.header.HeaderRead.{HeaderRead}
-use Rattle.readers.specs.declared.header.HeaderRead.TheVariants.{Unit as Header', Empty, Refused}
 use Rattle.marking.specs.Analysis.{Sections, Rooms, rooms, EntryRow, analysed, analysis_of}
 use Rattle.marking.specs.Columns.{names_in}
 use Rattle.laws.specs.TableRoom.{TablesWithin, enough_tables}
@@ -115,14 +112,14 @@ module _ (x : Sections) (u : Unit') where
 
 module _ (x : Sections) (section : List ℕ) where
   unfoldable pub declared_room : UnitHeader → Option (List Placed) → Room
-  declared_room h none = no_room (enough_tables x section)
-  declared_room h (some ds) =
+  declared_room h None = no_room (enough_tables x section)
+  declared_room h (Some ds) =
       unit_room x (record { header = h; bytes = take h.end section; declared = ds }) (enough_tables x section)
 
-  unfoldable pub header_room : HeaderRead → Room
-  header_room Empty = no_room (enough_tables x section)
-  header_room (Refused n) = no_room (enough_tables x section)
-  header_room (Header' h) = declared_room h (abbreviations_of x.abbreviations h.abbreviations)
+  unfoldable pub header_room : Result (Option UnitHeader) ℕ → Room
+  header_room (Ok None) = no_room (enough_tables x section)
+  header_room (Err n) = no_room (enough_tables x section)
+  header_room (Ok (Some h)) = declared_room h (abbreviations_of x.abbreviations h.abbreviations)
 
   -- THE room that is enough
   unfoldable pub enough_room : Room

@@ -1,8 +1,7 @@
 -- What keeps entries and what is patched are the same references (document 01, "References" and "Rewriting"). An entry
 -- names offsets by the forms of its attributes and by the operations of its expressions; a rewriting patches numbers by
 -- their roles. The two agree. Location lists name offsets too: they are in another section, and nothing there is patched.
-use Rattle.std.specs.Prelude.{ℕ, ◌≤◌, ◌≡◌, true, List, [], ◌∷◌, ◌⊎◌, ◌↔◌, eqb}
-use Rattle.std.proofs.Math.Option.{some}
+use Rattle.std.specs.Prelude.{ℕ, ◌≤◌, ◌≡◌, true, List, [], ◌∷◌, ◌⊎◌, ◌↔◌, eqb, None, Ok, Option, Some}
 use Rattle.readers.specs.Lists.{list_base}
 use Rattle.readers.specs.Abbreviations.{Placed, abbreviations_of}
 use Rattle.readers.specs.Choice.{pick}
@@ -21,10 +20,7 @@ use Rattle.readers.specs.declared.cursor.Cursor.{Cursor}
 use Rattle.readers.specs.declared.cursor.Encoding.{Encoding}
 use Rattle.readers.specs.declared.entries.Entry.{Entry}
 use Rattle.readers.specs.declared.fields.Field.{Field}
-use Rattle.readers.specs.declared.header.HeaderRead.TheVariants.{Unit as Header'}
 use Rattle.readers.specs.declared.header.UnitHeader.{UnitHeader}
-use Rattle.readers.specs.declared.lists.ListOffset.{ListOffset}
-use Rattle.readers.specs.declared.lists.ListOffset.TheVariants.{At, Unresolved}
 use Rattle.readers.specs.declared.operations.ListEntry.{ListEntry}
 use Rattle.readers.specs.declared.operations.ListStep.TheVariants.{Entry as Entry'}
 use Rattle.readers.specs.EntryAttributes.{Valued}
@@ -83,7 +79,7 @@ module _ (e : Encoding) (s : List ℕ) (v : ℕ) where
   -- an expression, read operation by operation, entry values included, holds v
   pub record InExpression (f : Field) : Type 0 where
     pub pieces : List Piece
-    pub read : expression_in e (part_of s f) ≡ some pieces
+    pub read : expression_in e (part_of s f) ≡ Some pieces
     pub held : NamedIn pieces v
 
   -- 7.7.3: base_addressx 1 and base_address 6 have no expression, default_location 5 has it first, the others third
@@ -94,20 +90,20 @@ module _ (e : Encoding) (s : List ℕ) (v : ℕ) where
 
   -- an entry of the list from a place on does
   pub data InList : ℕ → Type 0 where
-    this : {at : ℕ} (x : ListEntry) → list_entry_at e true s at ≡ Entry' x → InEntry x → InList at
-    later : {at : ℕ} (x : ListEntry) → list_entry_at e true s at ≡ Entry' x → InList x.next.at → InList at
+    this : {at : ℕ} (x : ListEntry) → list_entry_at e true s at ≡ Some (Entry' x) → InEntry x → InList at
+    later : {at : ℕ} (x : ListEntry) → list_entry_at e true s at ≡ Some (Entry' x) → InList x.next.at → InList at
 
   -- where a value's list starts: loclistx by its index, sec_offset by its offset
-  unfoldable pub location_list : ℕ → Attribute → ListOffset
+  unfoldable pub location_list : ℕ → Attribute → Option Cursor
   location_list base a =
       pick (eqb a.form DW_FORM_loclistx) (list_offset e s base a.field.value)
-      (pick (eqb a.form DW_FORM_sec_offset) (list_start s a.field.value) Unresolved)
+      (pick (eqb a.form DW_FORM_sec_offset) (list_start s a.field.value) None)
 
   -- the list of a DW_AT_location
   pub record ListedBy (base : ℕ) (a : Valued) : Type 0 where
     pub location : a.name ≡ DW_AT_location
     pub start : Cursor
-    pub starts : location_list base a.value ≡ At start
+    pub starts : location_list base a.value ≡ Some start
     pub inside : InList start.at
 
   pub record ListReference (base : ℕ) (values : List Valued) : Type 0 where
@@ -156,8 +152,8 @@ module _ (x : Sections) (u : Unit') where
 pub record UnitReferences (x : Sections) (section : List ℕ) (rows : List EntryRow) : Type 0 where
   pub header : UnitHeader
   pub declared : List Placed
-  pub header_is : header_of x.setting.big_endian section ≡ Header' header
-  pub declared_is : abbreviations_of x.abbreviations header.abbreviations ≡ some declared
+  pub header_is : header_of x.setting.big_endian section ≡ Ok (Some header)
+  pub declared_is : abbreviations_of x.abbreviations header.abbreviations ≡ Some declared
   -- row by row, from the default list base on
   pub rows_are : RowsReferences x (unit_of header section declared) (list_base header.encoding) (items_in x (unit_of header section declared)) rows
   -- and of every entry

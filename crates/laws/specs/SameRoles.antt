@@ -1,14 +1,12 @@
 -- The numbers of an entry that are patched as indices and as siblings are those that its attributes hold in the forms
 -- that document 01 names ("Rewriting"). References: SameReferences.
-use Rattle.std.specs.Prelude.{ℕ, ◌≤◌, ◌<◌, ◌≡◌, List, ◌↔◌}
-use Rattle.std.proofs.Math.Option.{some}
+use Rattle.std.specs.Prelude.{ℕ, ◌≤◌, ◌<◌, ◌≡◌, List, ◌↔◌, Ok, Some}
 use Rattle.readers.specs.Codes.{DW_AT_sibling, DW_FORM_ref1, DW_FORM_ref_udata}
 use Rattle.readers.specs.Abbreviations.{Placed, abbreviations_of}
 use Rattle.readers.specs.Header.{header_of}
 use Rattle.readers.specs.Layout.{Encoded, Role, sibling, index, patchable, Read}
 use Rattle.readers.specs.Stream.{entry}
 use Rattle.readers.specs.declared.entries.Entry.{Entry}
-use Rattle.readers.specs.declared.header.HeaderRead.TheVariants.{Unit as Header'}
 use Rattle.readers.specs.declared.header.UnitHeader.{UnitHeader}
 use Rattle.readers.specs.EntryAttributes.{Valued}
 use Rattle.marking.specs.Analysis.{Sections}
@@ -57,7 +55,7 @@ pub record SameRoles (x : Sections) (u : Unit') (y : Entry) : Type 0 where
 pub record UnitRoles (x : Sections) (section : List ℕ) : Type 0 where
   pub header : UnitHeader
   pub declared : List Placed
-  pub header_is : header_of x.setting.big_endian section ≡ Header' header
-  pub declared_is : abbreviations_of x.abbreviations header.abbreviations ≡ some declared
+  pub header_is : header_of x.setting.big_endian section ≡ Ok (Some header)
+  pub declared_is : abbreviations_of x.abbreviations header.abbreviations ≡ Some declared
   pub each : (y : Entry) → Member (entry y) (items_in x (unit_of header section declared))
       → SameRoles x (unit_of header section declared) y

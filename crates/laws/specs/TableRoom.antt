@@ -1,15 +1,13 @@
 -- What an analysis asks of the lent tables (document 01, "collect"): each "full" means that the count up to and
 -- including the present entry exceeds the lent length.
-use Rattle.std.specs.Prelude.{◌≡◌, ℕ, ◌+◌, ◌≤◌, ◌<◌, List, [], ◌∷◌, length, take}
-use Rattle.std.proofs.Math.Option.{Option, none, some}
+use Rattle.std.specs.Prelude.{◌≡◌, ℕ, ◌+◌, ◌≤◌, ◌<◌, List, [], ◌∷◌, length, take, Err, None, Ok, Option, Result, Some}
+use Rattle.readers.specs.declared.header.UnitHeader.{UnitHeader}
 use Rattle.readers.specs.Codes.{DW_AT_loclists_base}
 use Rattle.readers.specs.Abbreviations.{Placed, declared_in, abbreviations_of}
 use Rattle.readers.specs.Header.{header_of}
 use Rattle.readers.specs.Lists.{list_base}
 use Rattle.readers.specs.Stream.{Item, entry, terminator, items_from, entry_count}
 use Rattle.readers.specs.declared.cursor.Encoding.{Encoding}
-use Rattle.readers.specs.declared.header.HeaderRead.{HeaderRead}
-use Rattle.readers.specs.declared.header.HeaderRead.TheVariants.{Unit as Unit', Empty, Refused}
 use Rattle.marking.specs.EntryReferences.{ReferencesFound, found, refused as refused_after}
 use Rattle.marking.specs.Analysis.{Sections, Rooms, rooms, EntryRow, analysed, refused, names_of, base_of, analysis_of}
 use Rattle.marking.specs.Columns.{names_in}
@@ -51,13 +49,13 @@ module _ (e : Encoding) (x : Sections) (unit : List ℕ) where
   item_tables items = rooms (entry_count items) (reference_count (list_base e) items)
 
   unfoldable pub declared_tables : ℕ → Option (List Placed) → Rooms
-  declared_tables first none = rooms 0 0
-  declared_tables first (some ds) = item_tables (items_from e x.abbreviations (declared_in ds) unit first).0
+  declared_tables first None = rooms 0 0
+  declared_tables first (Some ds) = item_tables (items_from e x.abbreviations (declared_in ds) unit first).0
 
-unfoldable pub header_tables : Sections → List ℕ → HeaderRead → Rooms
-header_tables x section Empty = rooms 0 0
-header_tables x section (Refused n) = rooms 0 0
-header_tables x section (Unit' h) =
+unfoldable pub header_tables : Sections → List ℕ → Result (Option UnitHeader) ℕ → Rooms
+header_tables x section (Ok None) = rooms 0 0
+header_tables x section (Err n) = rooms 0 0
+header_tables x section (Ok (Some h)) =
     declared_tables h.encoding x (take h.end section) h.first.0
     (abbreviations_of x.abbreviations h.abbreviations)
 

@@ -1,8 +1,7 @@
 -- WHAT IS CLAIMED of a unit that collect accepted (demand 3), on one page: definitions and no proofs. That every rewritten unit is
 -- `Thinned` and every untouched one `Untouched` are the theorems `thinned-law` and `untouched-law` (proofs/thinned/ThinnedLaw.antt); they
 -- assume nothing but the answer. Places in lists count from 0, and `Nth a m xs` says that a is the m-th of xs.
-use Rattle.std.specs.Prelude.{ℕ, suc, ◌+◌, ◌≤◌, ◌<◌, ◌≡◌, Bool, true, List, [], ◌∷◌, ◌⊎◌, ◌↔◌, length, take, drop}
-use Rattle.std.proofs.Math.Option.{Option, none, some}
+use Rattle.std.specs.Prelude.{ℕ, suc, ◌+◌, ◌≤◌, ◌<◌, ◌≡◌, Bool, true, List, [], ◌∷◌, ◌⊎◌, ◌↔◌, length, take, drop, None, Ok, Option, Some}
 use Rattle.readers.specs.Layout.{Encoded, Role, reference, type_reference, sibling, index, absolute, Piece, verbatim, patchable, Read, RunOf, read_in}
 use Rattle.readers.specs.Expression.{expression_in}
 use Rattle.readers.specs.Abbreviations.{Placed, declared_in, abbreviations_of}
@@ -12,7 +11,6 @@ use Rattle.readers.specs.Nesting.{opened}
 use Rattle.readers.specs.Stream.{Item, entry, terminator, items_from}
 use Rattle.readers.specs.declared.entries.Entry.{Entry}
 use Rattle.readers.specs.declared.header.UnitHeader.{UnitHeader}
-use Rattle.readers.specs.declared.header.HeaderRead.TheVariants.{Unit as Header'}
 use Rattle.marking.specs.Analysis.{Sections, EntryRow, analysed, analysis_of}
 use Rattle.marking.specs.Below.{Number}
 use Rattle.marking.specs.Resolution.{graph_of}
@@ -83,7 +81,7 @@ module _ (x : Sections) (u : Unit') where
       pub r : Read
       pub run : RunOf
       pub in_kept : Member s kept
-      pub reads : read_at (offset_of s.item) ≡ some run
+      pub reads : read_at (offset_of s.item) ≡ Some run
       pub among : Member r run.0
       pub operand : Member (patchable e (index k) v) r.pieces
 
@@ -131,7 +129,7 @@ module _ (x : Sections) (u new : Unit') (lists : Lists) (map : List Place) (kept
   Becomes depth reference v n = LandsOn v n
   Becomes depth type_reference v n = (v ≡ 0 → n ≡ 0) × ((v ≡ 0 → ⊥) → LandsOn v n)
   Becomes depth sibling v n = LandsOn v n ⊎ FirstFrom depth v n
-  Becomes depth (index k) v n = (list_at lists k ≡ none → n ≡ v) × ((xs : List ℕ) → list_at lists k ≡ some xs → Nth v n xs)
+  Becomes depth (index k) v n = (list_at lists k ≡ None → n ≡ v) × ((xs : List ℕ) → list_at lists k ≡ Some xs → Nth v n xs)
   Becomes depth absolute v n = n ≡ v
 
   -- what was read and what is read again: bytes are the same; a number is written in the same way and stands for the same
@@ -157,8 +155,8 @@ module _ (x : Sections) (u new : Unit') (lists : Lists) (map : List Place) (kept
     -- the values
     pub values : RunOf
     pub values_again : RunOf
-    pub were : read_at x u (offset_of s.item) ≡ some values
-    pub are : read_at x new (offset_of item) ≡ some values_again
+    pub were : read_at x u (offset_of s.item) ≡ Some values
+    pub are : read_at x new (offset_of item) ≡ Some values_again
     pub again : Pairwise (ReadAgain s.depth) values.0 values_again.0
     -- the entries open around it, the innermost first, which is its parent
     pub at : ℕ
@@ -188,8 +186,8 @@ pub record Thinned (x : Sections) (type_units : Bool) (section : List ℕ) (w : 
   pub rows : List EntryRow
   pub kept : List NestedItem
   pub left : List NestedItem
-  pub header_is : header_of x.setting.big_endian section ≡ Header' header
-  pub declared_are : abbreviations_of x.abbreviations header.abbreviations ≡ some declared
+  pub header_is : header_of x.setting.big_endian section ≡ Ok (Some header)
+  pub declared_are : abbreviations_of x.abbreviations header.abbreviations ≡ Some declared
   -- the least set (specs/UnitSurvivors.antt), by the references that are patched below
   -- (specs/SameReferences.antt); which numbers are patched, by their forms (specs/SameRoles.antt)
   pub survivors : SurvivorsOf x section rows
@@ -201,7 +199,7 @@ pub record Thinned (x : Sections) (type_units : Bool) (section : List ℕ) (w : 
   pub count : Number (Survivor (graph_of rows)) w.entries w.kept
   pub dead : Without (Survivor (graph_of rows)) w.entries
   -- "Read again": by its own header, which is the old one but for the unit's length, and the same abbreviations, up to its end
-  pub header_again : header_of x.setting.big_endian w.output ≡ Header' (with_end header (length w.output))
+  pub header_again : header_of x.setting.big_endian w.output ≡ Ok (Some (with_end header (length w.output)))
   pub header_written : HeaderBytes header (take header.end section) w.output
   pub whole : (items_from header.encoding x.abbreviations (declared_in declared) w.output header.first.0).1 ≡ true
   -- "a rewritten unit is the old tree less its dead entries, with order, nesting and, as document 01 has it, values kept"; "lands on the new place"
@@ -215,8 +213,8 @@ pub record Thinned (x : Sections) (type_units : Bool) (section : List ℕ) (w : 
   pub bytes : header.end ≡ length w.output + size_from left
   pub lists_are : w.lists ≡ lists_of x (unit_of header section declared) type_units kept
   -- which are absent (specs/AbsentLists.antt), and what is in the others
-  pub absent : (k : ℕ) → k < 3 → (list_at w.lists k ≡ none) ↔ ((type_units ≡ true) ⊎ DeclaresOffset x (unit_of header section declared) k)
-  pub lists : (k : ℕ) → k < 3 → (xs : List ℕ) → list_at w.lists k ≡ some xs
+  pub absent : (k : ℕ) → k < 3 → (list_at w.lists k ≡ None) ↔ ((type_units ≡ true) ⊎ DeclaresOffset x (unit_of header section declared) k)
+  pub lists : (k : ℕ) → k < 3 → (xs : List ℕ) → list_at w.lists k ≡ Some xs
       → IndexList x (unit_of header section declared) kept k xs
 
 -- where a number of it lands
@@ -232,12 +230,12 @@ pub record UntouchedLists (x : Sections) (type_units : Bool) (section : List ℕ
   pub declared : List Placed
   pub kept : List NestedItem
   pub left : List NestedItem
-  pub header_is : header_of x.setting.big_endian section ≡ Header' header
-  pub declared_are : abbreviations_of x.abbreviations header.abbreviations ≡ some declared
+  pub header_is : header_of x.setting.big_endian section ≡ Ok (Some header)
+  pub declared_are : abbreviations_of x.abbreviations header.abbreviations ≡ Some declared
   pub parted : Parted (Survivor (graph_of rows)) 0 [] (items_in x (unit_of header section declared)) kept left
   pub lists_are : lists ≡ lists_of x (unit_of header section declared) type_units kept
-  pub absent : (k : ℕ) → k < 3 → (list_at lists k ≡ none) ↔ ((type_units ≡ true) ⊎ DeclaresOffset x (unit_of header section declared) k)
-  pub each : (k : ℕ) → k < 3 → (xs : List ℕ) → list_at lists k ≡ some xs → IndexList x (unit_of header section declared) kept k xs
+  pub absent : (k : ℕ) → k < 3 → (list_at lists k ≡ None) ↔ ((type_units ≡ true) ⊎ DeclaresOffset x (unit_of header section declared) k)
+  pub each : (k : ℕ) → k < 3 → (xs : List ℕ) → list_at lists k ≡ Some xs → IndexList x (unit_of header section declared) kept k xs
 
 -- "An accepted unit is rewritten exactly when it has a dead entry.": every entry of an untouched one is a survivor; "without entries the lists are absent too"
 pub record Untouched (x : Sections) (type_units : Bool) (section : List ℕ) (n : ℕ) (lists : Lists) : Type 1 where

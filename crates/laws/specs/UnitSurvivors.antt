@@ -1,14 +1,12 @@
 -- The survivors of a unit, as demand 3 has them: the least set by the rows of its entries, what the rows say of the
 -- entries, the marks, their count, and single markings.
-use Rattle.std.specs.Prelude.{◌≡◌, ℕ, suc, ◌<◌, true, List, [], ◌∷◌, ◌⊎◌, ◌↔◌, length, get_or, take, T}
-use Rattle.std.proofs.Math.Option.{some}
+use Rattle.std.specs.Prelude.{◌≡◌, ℕ, suc, ◌<◌, true, List, [], ◌∷◌, ◌⊎◌, ◌↔◌, length, get_or, take, T, Ok, Some}
 use Rattle.readers.specs.Lists.{list_base}
 use Rattle.readers.specs.Abbreviations.{Placed, abbreviations_of}
 use Rattle.readers.specs.Header.{header_of, Known}
 use Rattle.readers.specs.Stream.{Item, entry, terminator}
 use Rattle.readers.specs.declared.entries.Entry.{Entry}
 use Rattle.readers.specs.declared.header.UnitHeader.{UnitHeader}
-use Rattle.readers.specs.declared.header.HeaderRead.TheVariants.{Unit as Unit'}
 use Rattle.marking.specs.Members.{Member, Nth}
 use Rattle.marking.specs.Below.{Number}
 use Rattle.readers.specs.Nesting.{no_parent}
@@ -63,9 +61,9 @@ LeastRows rows S = LeastBy (length rows) (RootIn rows) (ParentIn rows) (Below ro
 pub record FirstUnit (x : Sections) (section : List ℕ) (rows : List EntryRow) : Type 0 where
   pub header : UnitHeader
   pub declared : List Placed
-  pub header_is : header_of x.setting.big_endian section ≡ Unit' header
+  pub header_is : header_of x.setting.big_endian section ≡ Ok (Some header)
   pub known : Known x.setting.big_endian header.encoding
-  pub declared_is : abbreviations_of x.abbreviations header.abbreviations ≡ some declared
+  pub declared_is : abbreviations_of x.abbreviations header.abbreviations ≡ Some declared
   pub whole : (unit_items x section header declared).1 ≡ true
   pub each : RowsOf header.encoding x (take header.end section) 0 [] (list_base header.encoding) (list_base header.encoding)
       (unit_items x section header declared).0 rows

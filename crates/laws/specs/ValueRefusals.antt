@@ -1,7 +1,6 @@
 -- What the refusals 8 and 9 of collect mean (document 01, "Rewriting"), by the kept items of a unit: `eight-means`, `nine-means` and,
 -- of nothing refused, `none-means` (proofs/refusals/ValueRefusals.antt) say that they come exactly so.
-use Rattle.std.specs.Prelude.{ℕ, ◌+◌, ◌≤◌, ◌<◌, ◌≡◌, List, ◌∷◌, ◌++◌, ◌⊎◌}
-use Rattle.std.proofs.Math.Option.{none, some}
+use Rattle.std.specs.Prelude.{ℕ, ◌+◌, ◌≤◌, ◌<◌, ◌≡◌, List, ◌∷◌, ◌++◌, ◌⊎◌, None, Some}
 use Rattle.readers.specs.Layout.{Role, reference, type_reference, sibling, index, absolute, Piece, verbatim, patchable, Read, Fit}
 use Rattle.marking.specs.Analysis.{Sections}
 use Rattle.marking.specs.Members.{Member, Nth}
@@ -83,7 +82,7 @@ module _ (first : ℕ) (kept : List NestedItem) where
   IsNew lists depth type_reference v n = (v ≡ 0 → n ≡ 0) × ((v ≡ 0 → ⊥) → NewAt v n)
   IsNew lists depth sibling v n = NewAt v n ⊎ ((KeptAt kept v → ⊥) × NewAfter depth v n)
   IsNew lists depth (index k) v n =
-      (list_at lists k ≡ none → n ≡ v) × ((xs : List ℕ) → list_at lists k ≡ some xs → Ascending xs → Member v xs → Nth v n xs)
+      (list_at lists k ≡ None → n ≡ v) × ((xs : List ℕ) → list_at lists k ≡ Some xs → Ascending xs → Member v xs → Nth v n xs)
   IsNew lists depth absolute v n = n ≡ v
 
 -- ---- the numbers of kept items

@@ -11,15 +11,13 @@ use Rattle.readers.specs.Choice.{pick, ◌and◌}
 use Rattle.readers.specs.Abbreviations.{spec_at}
 use Rattle.readers.specs.Entries.{values_at}
 use Rattle.readers.specs.Lists.{list_offset, list_start}
-use Rattle.readers.specs.declared.cursor.Moved.{Moved}
+use Rattle.std.specs.Prelude.{None, Option, Some}
+use Rattle.readers.specs.declared.cursor.Cursor.{Cursor}
 use Rattle.readers.specs.declared.cursor.Encoding.{Encoding}
-use Rattle.readers.specs.declared.lists.ListOffset.{ListOffset}
 use Rattle.readers.specs.EntryAttributes.{Valued, entry_values, next_attribute}
 use Rattle.readers.specs.Inner.EntryAttributes.{end_by}
 use Rattle.marking.specs.EntryReferences.{ReferencesFound, found, refused, after, and_then, expression_found, part_of, list_found, Locations, attribute_found, attributes_found}
 use Rattle.readers.specs.declared.entry_attributes.EntryAttribute.{EntryAttribute}
-use Rattle.readers.specs.declared.entry_attributes.NextAttribute.{NextAttribute}
-use Rattle.readers.specs.declared.entry_attributes.NextAttribute.TheVariants.{More, NoMore}
 use Rattle.readers.proofs.EntryAttributes.{stepped, stepped-on, ends_on, no_more, stop-end}
 use Rattle.marking.specs.ReferenceTable.{next_place, written, table_after, scanned_to, entry_scanned}
 use Rattle.marking.specs.Inner.ReferenceTable.{valued_by}
@@ -80,7 +78,7 @@ module _ (e : Encoding) (l : Locations) (a : Valued) (table : List ℕ) (at : �
             (rw (ne_eqb a.name 0x01 k, ne_eqb a.declared 0x10 d, o, ne_eqb a.value.form 0x18 f, ne_eqb a.name 0x02 n))
 
         module _ (n : a.name ≡ 0x02) where
-          module _ (start : ListOffset) (w : Scanned) (table' : List ℕ) (h : Scans table at (list_found e l.locations start) w table') where
+          module _ (start : Option Cursor) (w : Scanned) (table' : List ℕ) (h : Scans table at (list_found e l.locations start) w table') where
             pub attribute-index : a.value.form ≡ 0x22 → start ≡ list_offset e l.locations l.loclists_base a.value.field.value → Scans table at (attribute_found e l a) w table'
             unfolding attribute_found pick
             attribute-index g p =
@@ -121,7 +119,7 @@ module _ (e : Encoding) (l : Locations) (a : Valued) (table : List ℕ) (at : �
 -- ---- the loop over the attributes: what is in the table, and what is found from here on
 
 -- a scan whose values end there
-abbrev EntryScans : List ℕ → ℕ → ReferencesFound → Moved → EntryScan → List ℕ → Type 0
+abbrev EntryScans : List ℕ → ℕ → ReferencesFound → Option Cursor → EntryScan → List ℕ → Type 0
 EntryScans table at f end w table' = (w ≡ entry_scanned (scanned_to (length table) at f) end) × (table' ≡ table_after table at f)
 
 pub record Scanning (e : Encoding) (l : Locations) (s table₀ : List ℕ) (p₀ from₀ at : ℕ) (table : List ℕ) (p from to : ℕ) : Type 0 where
@@ -134,7 +132,7 @@ module _ (e : Encoding) (l : Locations) (s table₀ : List ℕ) (p₀ from₀ at
   abbrev all : ReferencesFound
   all = attributes_found e l (entry_values e s p₀ l.unit from₀)
 
-  abbrev past : Moved
+  abbrev past : Option Cursor
   past = values_at e s p₀ l.unit from₀
 
   pub scanning-start : Scanning e l s table₀ p₀ from₀ at table₀ p₀ from₀ at
@@ -144,8 +142,8 @@ module _ (e : Encoding) (l : Locations) (s table₀ : List ℕ) (p₀ from₀ at
     pub scanning-size : length table ≡ length table₀
     scanning-size = put-size table₀ at h.sofar table to h.put
 
-    module _ (n : NextAttribute) (q : n ≡ next_attribute e s p l.unit from) where
-      scanned-all : n ≡ NoMore → Scans table₀ at all (To to) table
+    module _ (n : Option EntryAttribute) (q : n ≡ next_attribute e s p l.unit from) where
+      scanned-all : n ≡ None → Scans table₀ at all (To to) table
       unfolding after attributes_found
       scanned-all r =
           scans-put table₀ at all h.sofar table to
@@ -154,14 +152,14 @@ module _ (e : Encoding) (l : Locations) (s table₀ : List ℕ) (p₀ from₀ at
           ∙ ap found (append-nil h.sofar))
           h.put
 
-      pub scanning-end : n ≡ NoMore → (end : Moved) → end ≡ end_by from (spec_at s p) → EntryScans table₀ at all past (Through to end) table
+      pub scanning-end : n ≡ None → (end : Option Cursor) → end ≡ end_by from (spec_at s p) → EntryScans table₀ at all past (Through to end) table
       unfolding entry_scanned
       scanning-end r end k = (
         ap (Through to) (k ∙ stop-end e s p l.unit from (sym q ∙ r) ∙ sym h.ends) ∙ ap (λ w. entry_scanned w past) (scanned-all r).0,
         (scanned-all r).1,
       )
 
-      module _ (x : EntryAttribute) (r : n ≡ More x) where
+      module _ (x : EntryAttribute) (r : n ≡ Some x) where
         pub scanning-less : length s - x.next.at < length s - p
         scanning-less = omega (arith, (stepped e s p l.unit from x (sym q ∙ r)).ahead, (stepped e s p l.unit from x (sym q ∙ r)).inside)
 

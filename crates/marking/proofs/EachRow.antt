@@ -3,7 +3,7 @@ use mathlib.Core.Path.{◌≡◌, refl, ap, sym, ◌∙◌}
 use Prim.Native.Nat.{ℕ, suc, ◌+◌}
 use mathlib.Core.Bool.{Bool, true, false}
 use mathlib.Core.List.{List, [], ◌∷◌}
-use mathlib.Core.Option.{Option, some}
+use Rattle.std.specs.Prelude.{Ok, Option, Some}
 use mathlib.Core.Logic.{inl, inr}
 use lib.ListN.{length, take}
 use lib.Dec.{ltb, leb}
@@ -16,7 +16,6 @@ use Rattle.readers.specs.Stream.{Item, entry, terminator}
 use Rattle.readers.specs.declared.cursor.Encoding.{Encoding}
 use Rattle.readers.specs.declared.entries.Entry.{Entry}
 use Rattle.readers.specs.declared.header.UnitHeader.{UnitHeader}
-use Rattle.readers.specs.declared.header.HeaderRead.TheVariants.{Unit as Unit'}
 use Rattle.marking.specs.EntryReferences.{ReferencesFound, found, refused as refused_after}
 use Rattle.marking.specs.declared.root_test.Verdict.{Verdict}
 use Rattle.marking.specs.declared.root_test.Verdict.TheVariants.{Live, Dead, Refused as Failed}
@@ -88,7 +87,7 @@ module _ (e : Encoding) (x : Sections) (unit : List ℕ) where
 -- ---- of the first unit of a section, with its header and its declarations
 
 module _ (x : Sections) (section : List ℕ) (room : Rooms) (h : UnitHeader) (ds : List Placed) (rows : List EntryRow)
-    (header : header_of x.setting.big_endian section ≡ Unit' h) (declared : abbreviations_of x.abbreviations h.abbreviations ≡ some ds)
+    (header : header_of x.setting.big_endian section ≡ Ok (Some h)) (declared : abbreviations_of x.abbreviations h.abbreviations ≡ Some ds)
     (analysis : analysis_of x section room ≡ analysed rows) where
   abbrev own : List ℕ
   own = take h.end section

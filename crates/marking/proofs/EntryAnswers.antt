@@ -5,8 +5,7 @@ use mathlib.Core.List.{List}
 use native.Mathlib.Omega.{arith}
 use lib.ListN.{length}
 use Rattle.readers.specs.declared.cursor.Cursor.{Cursor}
-use Rattle.readers.specs.declared.cursor.Moved.{Moved}
-use Rattle.readers.specs.declared.cursor.Moved.TheVariants.{To as EndsAt, Unreadable as Nowhere}
+use Rattle.std.specs.Prelude.{None, Option, Some}
 use Rattle.marking.specs.EntryReferences.{ReferencesFound, found, refused as refused_after}
 use Rattle.marking.specs.declared.root_test.Verdict.{Verdict}
 use Rattle.marking.specs.declared.root_test.Verdict.TheVariants.{Live, Dead, Refused as Failed}
@@ -47,7 +46,7 @@ module _ (room at : ℕ) (f : ReferencesFound) where
 
 -- a verdict that goes on to the references
 pub record Judged (v : Verdict) (root : ℕ) : Type 0 where
-  pub answer : (room at : ℕ) (next : Cursor) (f : ReferencesFound) → entry_answer room at (EndsAt next) v f ≡ root_found room at next root f
+  pub answer : (room at : ℕ) (next : Cursor) (f : ReferencesFound) → entry_answer room at (Some next) v f ≡ root_found room at next root f
   pub table : (t : List ℕ) (at : ℕ) (f : ReferencesFound) → entry_table t at v f ≡ table_after t at f
 
 pub judged-live : (v : Verdict) (root : ℕ) → v ≡ Live → root ≡ 1 → Judged v root
@@ -58,7 +57,7 @@ pub judged-dead : (v : Verdict) (root : ℕ) → v ≡ Dead → root ≡ 0 → J
 unfolding entry_answer entry_table
 judged-dead v root e q = rw (e, q) (record { answer = λ room at next f. refl; table = λ t at f. refl })
 
-module _ (table : List ℕ) (at : ℕ) (end : Moved) (v : Verdict) (f : ReferencesFound) where
+module _ (table : List ℕ) (at : ℕ) (end : Option Cursor) (v : Verdict) (f : ReferencesFound) where
   -- an answer with the table that it leaves
   abbrev Gives : EntryAnalysis → List ℕ → Type 0
   Gives r left = (r ≡ entry_answer (length table) at end v f) × (left ≡ entry_table table at v f)
@@ -67,41 +66,41 @@ module _ (table : List ℕ) (at : ℕ) (end : Moved) (v : Verdict) (f : Referenc
   unfolding entry_answer entry_table refusal_of
   no-root n m e r = rw (e, r) (of end, refl)
     where
-      of : (end' : Moved) → NoRow (refusal_of end' n) ≡ entry_answer (length table) at end' (Failed n) f
-      of (EndsAt next) = refl
-      of Nowhere = refl
+      of : (end' : Option Cursor) → NoRow (refusal_of end' n) ≡ entry_answer (length table) at end' (Failed n) f
+      of (Some next) = refl
+      of None = refl
 
   module _ (root : ℕ) (j : Judged v root) (left : List ℕ) (t : left ≡ table_after table at f) where
-    module _ (place : ℕ) (past : Moved) (s : Through place past ≡ entry_scanned (scanned_to (length table) at f) end) where
+    module _ (place : ℕ) (past : Option Cursor) (s : Through place past ≡ entry_scanned (scanned_to (length table) at f) end) where
       through : (w : Scanned) → Through place past ≡ entry_scanned w end → (To place ≡ w) × (past ≡ end)
       unfolding entry_scanned
       through (To p) q = let h : place ≡ p = cc in let k : past ≡ end = cc in (ap To h, k)
       through (Refused n) q = let z : ◌≡◌ {A = ℕ} 0 1 = cc in absurd (omega arith)
 
-      pub row-found : (next : Cursor) → past ≡ EndsAt next → Gives (RowFound root place next) left
+      pub row-found : (next : Cursor) → past ≡ Some next → Gives (RowFound root place next) left
       row-found next q =
           let h : (To place ≡ scanned_to (length table) at f) × (past ≡ end) = through (scanned_to (length table) at f) s in (
-            found-row (length table) at f root place next h.0 ∙ sym (j.answer (length table) at next f) ∙ ap (λ (m : Moved). entry_answer (length table) at m v f) (sym q ∙ h.1),
+            found-row (length table) at f root place next h.0 ∙ sym (j.answer (length table) at next f) ∙ ap (λ (m : Option Cursor). entry_answer (length table) at m v f) (sym q ∙ h.1),
             t ∙ sym (j.table table at f),
           )
 
-      pub row-unread : past ≡ Nowhere → Gives (NoRow 4) left
+      pub row-unread : past ≡ None → Gives (NoRow 4) left
       unfolding entry_answer
       row-unread q =
           let h : (To place ≡ scanned_to (length table) at f) × (past ≡ end) = through (scanned_to (length table) at f) s in
-          (ap (λ (m : Moved). entry_answer (length table) at m v f) (sym q ∙ h.1), t ∙ sym (j.table table at f))
+          (ap (λ (m : Option Cursor). entry_answer (length table) at m v f) (sym q ∙ h.1), t ∙ sym (j.table table at f))
 
     pub row-refused : (n m : ℕ) → Refused'' n ≡ entry_scanned (scanned_to (length table) at f) end → m ≡ refusal_of end n → Gives (NoRow m) left
     unfolding entry_answer refusal_of entry_scanned
     row-refused n m s r = (ap NoRow r ∙ of end, t ∙ sym (j.table table at f))
       where
-        stopped : (w : Scanned) (end' : Moved) → Refused'' n ≡ entry_scanned w end' → Refused n ≡ w
+        stopped : (w : Scanned) (end' : Option Cursor) → Refused'' n ≡ entry_scanned w end' → Refused n ≡ w
         stopped (To p) end' q = let z : ◌≡◌ {A = ℕ} 0 1 = cc in absurd (omega arith)
         stopped (Refused k) end' q = let h : n ≡ k = cc in ap Refused h
 
-        of : (end' : Moved) → NoRow (refusal_of end' n) ≡ entry_answer (length table) at end' v f
-        of (EndsAt next) = refused-row (length table) at f root n next (stopped (scanned_to (length table) at f) end s) ∙ sym (j.answer (length table) at next f)
-        of Nowhere = refl
+        of : (end' : Option Cursor) → NoRow (refusal_of end' n) ≡ entry_answer (length table) at end' v f
+        of (Some next) = refused-row (length table) at f root n next (stopped (scanned_to (length table) at f) end s) ∙ sym (j.answer (length table) at next f)
+        of None = refl
 
 -- ---- by what is answered
 
@@ -110,7 +109,7 @@ unfolding root_found on_found
 refused-after room at root n next (found xs) k e = let z : ◌≡◌ {A = ℕ} 0 1 = cc in absurd (omega arith)
 refused-after room at root n next (refused_after xs m) k e = let h : m ≡ n = cc in ap refused h
 
-pub entry-refused : (room at n : ℕ) (next : Cursor) (v : Verdict) (f : ReferencesFound) (k : ℕ → List ℕ → Analysed) → NoRow n ≡ entry_answer room at (EndsAt next) v f
+pub entry-refused : (room at n : ℕ) (next : Cursor) (v : Verdict) (f : ReferencesFound) (k : ℕ → List ℕ → Analysed) → NoRow n ≡ entry_answer room at (Some next) v f
     → on_verdict v (λ root. on_found f (k root)) ≡ refused n
 unfolding entry_answer on_verdict
 entry-refused room at n next Live f k e = refused-after room at 1 n next f (k 1) e
@@ -124,7 +123,7 @@ pub record RowOf (table : List ℕ) (at : ℕ) (v : Verdict) (f : ReferencesFoun
   pub left : entry_table table at v f ≡ written table at names
   pub goes : (k : ℕ → List ℕ → Analysed) → on_verdict v (λ n. on_found f (k n)) ≡ k root names
 
-pub entry_found_lem : (table : List ℕ) (at root to : ℕ) (next : Cursor) (v : Verdict) (f : ReferencesFound) → RowFound root to next ≡ entry_answer (length table) at (EndsAt next) v f → RowOf table at v f root to
+pub entry_found_lem : (table : List ℕ) (at root to : ℕ) (next : Cursor) (v : Verdict) (f : ReferencesFound) → RowFound root to next ≡ entry_answer (length table) at (Some next) v f → RowOf table at v f root to
 unfolding entry_answer root_found on_verdict on_found entry_table table_after
 entry_found_lem table at root to next Live (found xs) e =
     let r : 1 ≡ root = cc in
@@ -140,24 +139,24 @@ entry_found_lem table at root to next (Failed n) f e = let z : ◌≡◌ {A = �
 
 -- ---- by where the values end
 
-pub answered-end : (room at root to : ℕ) (next : Cursor) (end : Moved) (v : Verdict) (f : ReferencesFound) → RowFound root to next ≡ entry_answer room at end v f → end ≡ EndsAt next
+pub answered-end : (room at root to : ℕ) (next : Cursor) (end : Option Cursor) (v : Verdict) (f : ReferencesFound) → RowFound root to next ≡ entry_answer room at end v f → end ≡ Some next
 unfolding entry_answer root_found
-answered-end room at root to next Nowhere v f e = let z : ◌≡◌ {A = ℕ} 0 1 = cc in absurd (omega arith)
-answered-end room at root to next (EndsAt c) Live (found xs) e = let h : c ≡ next = cc in ap EndsAt h
-answered-end room at root to next (EndsAt c) Dead (found xs) e = let h : c ≡ next = cc in ap EndsAt h
-answered-end room at root to next (EndsAt c) Live (refused_after xs n) e = let z : ◌≡◌ {A = ℕ} 0 1 = cc in absurd (omega arith)
-answered-end room at root to next (EndsAt c) Dead (refused_after xs n) e = let z : ◌≡◌ {A = ℕ} 0 1 = cc in absurd (omega arith)
-answered-end room at root to next (EndsAt c) (Failed n) f e = let z : ◌≡◌ {A = ℕ} 0 1 = cc in absurd (omega arith)
+answered-end room at root to next None v f e = let z : ◌≡◌ {A = ℕ} 0 1 = cc in absurd (omega arith)
+answered-end room at root to next (Some c) Live (found xs) e = let h : c ≡ next = cc in ap Some h
+answered-end room at root to next (Some c) Dead (found xs) e = let h : c ≡ next = cc in ap Some h
+answered-end room at root to next (Some c) Live (refused_after xs n) e = let z : ◌≡◌ {A = ℕ} 0 1 = cc in absurd (omega arith)
+answered-end room at root to next (Some c) Dead (refused_after xs n) e = let z : ◌≡◌ {A = ℕ} 0 1 = cc in absurd (omega arith)
+answered-end room at root to next (Some c) (Failed n) f e = let z : ◌≡◌ {A = ℕ} 0 1 = cc in absurd (omega arith)
 
-pub unread-four : (room at n : ℕ) (v : Verdict) (f : ReferencesFound) → NoRow n ≡ entry_answer room at Nowhere v f → n ≡ 4
+pub unread-four : (room at n : ℕ) (v : Verdict) (f : ReferencesFound) → NoRow n ≡ entry_answer room at None v f → n ≡ 4
 unfolding entry_answer
 unread-four room at n v f e = let h : n ≡ 4 = cc in h
 
-module _ (end m : Moved) (n : ℕ) (q : m ≡ end) where
-  pub refusal-same : (next : Cursor) → m ≡ EndsAt next → n ≡ refusal_of end n
+module _ (end m : Option Cursor) (n : ℕ) (q : m ≡ end) where
+  pub refusal-same : (next : Cursor) → m ≡ Some next → n ≡ refusal_of end n
   unfolding refusal_of
-  refusal-same next k = sym (ap (λ (c : Moved). refusal_of c n) (sym q ∙ k))
+  refusal-same next k = sym (ap (λ (c : Option Cursor). refusal_of c n) (sym q ∙ k))
 
-  pub refusal-four : m ≡ Nowhere → 4 ≡ refusal_of end n
+  pub refusal-four : m ≡ None → 4 ≡ refusal_of end n
   unfolding refusal_of
-  refusal-four k = sym (ap (λ (c : Moved). refusal_of c n) (sym q ∙ k))
+  refusal-four k = sym (ap (λ (c : Option Cursor). refusal_of c n) (sym q ∙ k))

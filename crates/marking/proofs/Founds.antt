@@ -10,8 +10,7 @@ use Rattle.readers.specs.Choice.{pick, ◌or◌}
 use Rattle.readers.specs.References.{Named, walk_of, flat_from}
 use Rattle.readers.proofs.Answers.{walked-flat}
 use Rattle.readers.specs.declared.cursor.Encoding.{Encoding}
-use Rattle.readers.specs.declared.expressions.Walk.{Walk}
-use Rattle.readers.specs.declared.expressions.Walk.TheVariants.{Walked, Unreadable}
+use Rattle.std.specs.Prelude.{None, Option, Some}
 use Rattle.readers.specs.declared.operations.ListEntry.{ListEntry}
 use Rattle.marking.specs.EntryReferences.{ReferencesFound, found, refused, after, targets, walk_found, expression_found, part_of, location_found}
 use Rattle.marking.specs.ReferenceTable.{placed, written, scanned_to, table_after}
@@ -85,15 +84,15 @@ no_names : (l : List Named) → length l ≡ 0 → l ≡ []
 no_names [] z = refl
 no_names (x ∷ l) z = absurd (omega arith)
 
-module _ (e : Encoding) (s table : List ℕ) (at : ℕ) (w : Walk) (q : w ≡ walk_of e s) where
-  pub expression-none : w ≡ Unreadable → Scans table at (expression_found e s) (Refused 5) table
+module _ (e : Encoding) (s table : List ℕ) (at : ℕ) (w : Option (ℕ × Bool)) (q : w ≡ walk_of e s) where
+  pub expression-none : w ≡ None → Scans table at (expression_found e s) (Refused 5) table
   unfolding expression_found walk_found
   expression-none p = scans-no table at (expression_found e s) 5 (ap (walk_found _) (sym q ∙ p))
 
-  module _ (n : ℕ) (b : Bool) (p : w ≡ Walked n b) where
+  module _ (n : ℕ) (b : Bool) (p : w ≡ Some (n, b)) where
     pub expression-absolute : b ≡ true → Scans table at (expression_found e s) (Refused 7) table
     unfolding expression_found walk_found
-    expression-absolute k = scans-no table at (expression_found e s) 7 (ap (walk_found _) (sym q ∙ p ∙ ap (Walked n) k))
+    expression-absolute k = scans-no table at (expression_found e s) 7 (ap (walk_found _) (sym q ∙ p ∙ ap (λ c. Some (n, c)) k))
 
     -- one that names nothing
     pub expression-empty : b ≡ false → n ≡ 0 → Scans table at (expression_found e s) (To at) table
@@ -101,7 +100,7 @@ module _ (e : Encoding) (s table : List ℕ) (at : ℕ) (w : Walk) (q : w ≡ wa
     expression-empty k z =
         let f = walked-flat e s n b (sym q ∙ p) in
         scans-none table at (expression_found e s)
-        (ap (walk_found _) (sym q ∙ p ∙ ap (Walked n) k) ∙ ap (λ l. found (targets l)) (sym f.0 ∙ no_names (flat_from e s 0) (f.1 ∙ z)))
+        (ap (walk_found _) (sym q ∙ p ∙ ap (λ c. Some (n, c)) k) ∙ ap (λ l. found (targets l)) (sym f.0 ∙ no_names (flat_from e s 0) (f.1 ∙ z)))
 
     pub expression-put : b ≡ false → (to : ℕ) (table' : List ℕ)
         → (to ≡ placed (length table) at (targets (flat_from e s 0))) × (table' ≡ written table at (targets (flat_from e s 0)))
@@ -109,7 +108,7 @@ module _ (e : Encoding) (s table : List ℕ) (at : ℕ) (w : Walk) (q : w ≡ wa
     unfolding expression_found walk_found
     expression-put k to table' h =
         scans-put table at (expression_found e s) (targets (flat_from e s 0)) table' to
-        (ap (walk_found _) (sym q ∙ p ∙ ap (Walked n) k) ∙ ap (λ l. found (targets l)) (sym (walked-flat e s n b (sym q ∙ p)).0))
+        (ap (walk_found _) (sym q ∙ p ∙ ap (λ c. Some (n, c)) k) ∙ ap (λ l. found (targets l)) (sym (walked-flat e s n b (sym q ∙ p)).0))
         (record { place = h.0; numbers = h.1 })
 
 -- ---- an entry of a location list

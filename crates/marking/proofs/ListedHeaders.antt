@@ -7,54 +7,53 @@ use lib.Dec.{eqb}
 use mir.Facts.{eqb_yes, eqb_no, yes_eqb, no_eqb}
 use Rattle.readers.specs.Header.{header_of}
 use Rattle.readers.specs.declared.header.UnitHeader.{UnitHeader}
-use Rattle.readers.specs.declared.header.HeaderRead.{HeaderRead}
-use Rattle.readers.specs.declared.header.HeaderRead.TheVariants.{Unit as Unit', Refused as Unheaded}
+use Rattle.std.specs.Prelude.{Err, Ok, Option, Result, Some}
 use Rattle.readers.proofs.Choice.{pick_yes, pick_no, pick-either}
 use Rattle.marking.specs.KeepList.{keep_refusal}
 use Rattle.marking.specs.Analysis.{Sections, Rooms, EntryRow, analysed, after_list, header_by, header_analysed, analysis_of}
 
-pub after_list_lem {κ} : (P : HeaderRead → Type κ) (n : ℕ) (r : HeaderRead) → (n ≡ 0 → P r) → ((n ≡ 0 → ⊥) → P (Unheaded n)) → P (after_list n r)
+pub after_list_lem {κ} : (P : Result (Option UnitHeader) ℕ → Type κ) (n : ℕ) (r : Result (Option UnitHeader) ℕ) → (n ≡ 0 → P r) → ((n ≡ 0 → ⊥) → P (Err n)) → P (after_list n r)
 unfolding after_list
 after_list_lem P n r f g =
-    pick-either P (eqb n 0) r (Unheaded n) (λ t. f (eqb_yes {a = n} {b = 0} t)) (λ t. g (eqb_no {a = n} {b = 0} t))
+    pick-either P (eqb n 0) r (Err n) (λ t. f (eqb_yes {a = n} {b = 0} t)) (λ t. g (eqb_no {a = n} {b = 0} t))
 
-pub list-refused : (n m : ℕ) (r : HeaderRead) → n ≡ m → (n ≡ 0 → ⊥) → Unheaded n ≡ after_list m r
+pub list-refused : (n m : ℕ) (r : Result (Option UnitHeader) ℕ) → n ≡ m → (n ≡ 0 → ⊥) → Err n ≡ after_list m r
 unfolding after_list
-list-refused n m r q z = ap Unheaded q ∙ sym (pick_no _ _ _ (no_eqb {a = m} {b = 0} (λ e. z (q ∙ e))))
+list-refused n m r q z = ap Err q ∙ sym (pick_no _ _ _ (no_eqb {a = m} {b = 0} (λ e. z (q ∙ e))))
 
-pub list-taken : (n m : ℕ) (r o : HeaderRead) → n ≡ m → n ≡ 0 → o ≡ r → o ≡ after_list m r
+pub list-taken : (n m : ℕ) (r o : Result (Option UnitHeader) ℕ) → n ≡ m → n ≡ 0 → o ≡ r → o ≡ after_list m r
 unfolding after_list
 list-taken n m r o q z e = e ∙ sym (pick_yes _ _ _ (yes_eqb {a = m} {b = 0} (sym q ∙ z)))
 
 -- a unit's header is read behind a list that is taken
-pub after-listed : (n : ℕ) (r : HeaderRead) (h : UnitHeader) → after_list n r ≡ Unit' h → (r ≡ Unit' h) × (n ≡ 0)
+pub after-listed : (n : ℕ) (r : Result (Option UnitHeader) ℕ) (h : UnitHeader) → after_list n r ≡ Ok (Some h) → (r ≡ Ok (Some h)) × (n ≡ 0)
 after-listed n r h =
-    after_list_lem (λ (o : HeaderRead). o ≡ Unit' h → (r ≡ Unit' h) × (n ≡ 0)) n r
+    after_list_lem (λ (o : Result (Option UnitHeader) ℕ). o ≡ Ok (Some h) → (r ≡ Ok (Some h)) × (n ≡ 0)) n r
     (λ z e. (e, z)) (λ _ e. let z : ◌≡◌ {A = ℕ} 0 1 = cc in absurd (omega arith))
 
 module _ (x : Sections) (section : List ℕ) where
-  abbrev own : HeaderRead
+  abbrev own : Result (Option UnitHeader) ℕ
   own = header_of x.setting.big_endian section
 
   -- the header, or the refusal of a list that is not taken
-  pub by-list {κ} : (P : HeaderRead → Type κ) → (keep_refusal x.keep ≡ 0 → P own)
-      → ((keep_refusal x.keep ≡ 0 → ⊥) → P (Unheaded (keep_refusal x.keep))) → P (header_by x section)
+  pub by-list {κ} : (P : Result (Option UnitHeader) ℕ → Type κ) → (keep_refusal x.keep ≡ 0 → P own)
+      → ((keep_refusal x.keep ≡ 0 → ⊥) → P (Err (keep_refusal x.keep))) → P (header_by x section)
   unfolding header_by
   by-list P f g = after_list_lem P (keep_refusal x.keep) own f g
 
-  pub unit-listed : (h : UnitHeader) → header_by x section ≡ Unit' h → (own ≡ Unit' h) × (keep_refusal x.keep ≡ 0)
+  pub unit-listed : (h : UnitHeader) → header_by x section ≡ Ok (Some h) → (own ≡ Ok (Some h)) × (keep_refusal x.keep ≡ 0)
   unfolding header_by
   unit-listed h q = after-listed (keep_refusal x.keep) own h q
 
   -- where a list is taken, the header is the section's own
   pub header-taken : keep_refusal x.keep ≡ 0 → header_by x section ≡ own
-  header-taken z = by-list (λ (o : HeaderRead). o ≡ own) (λ _. refl) (λ n. absurd (n z))
+  header-taken z = by-list (λ (o : Result (Option UnitHeader) ℕ). o ≡ own) (λ _. refl) (λ n. absurd (n z))
 
   -- where entries are analysed, the list is taken
   pub analysed-taken : (room : Rooms) (rows : List EntryRow) → analysis_of x section room ≡ analysed rows → keep_refusal x.keep ≡ 0
   unfolding analysis_of header_analysed
   analysed-taken room rows =
-      by-list (λ (o : HeaderRead). header_analysed x section room o ≡ analysed rows → keep_refusal x.keep ≡ 0)
+      by-list (λ (o : Result (Option UnitHeader) ℕ). header_analysed x section room o ≡ analysed rows → keep_refusal x.keep ≡ 0)
       (λ z _. z) (λ _ e. let z : ◌≡◌ {A = ℕ} 0 1 = cc in absurd (omega arith))
 
   pub analysed-listed : (room : Rooms) (rows : List EntryRow) → analysis_of x section room ≡ analysed rows → header_by x section ≡ own

@@ -13,13 +13,11 @@ use Rattle.readers.specs.Steps.{operation_at, list_entry_at}
 use Rattle.readers.proofs.Steps.{entry-inside, operation-inside}
 use Rattle.readers.specs.declared.cursor.Encoding.{Encoding}
 use Rattle.readers.specs.declared.cursor.Cursor.{Cursor}
-use Rattle.readers.specs.declared.lists.ListOffset.TheVariants.{At}
-use Rattle.readers.specs.declared.operations.Operation.{Operation}
-use Rattle.readers.specs.declared.operations.OperationRead.{OperationRead}
-use Rattle.readers.specs.declared.operations.OperationRead.TheVariants.{Read as Operation', Unreadable as NoOperation}
-use Rattle.readers.specs.declared.operations.ListEntry.{ListEntry}
+use Rattle.std.specs.Prelude.{None, Option, Some}
 use Rattle.readers.specs.declared.operations.ListStep.{ListStep}
-use Rattle.readers.specs.declared.operations.ListStep.TheVariants.{Entry, End, Unreadable as NoEntry}
+use Rattle.readers.specs.declared.operations.Operation.{Operation}
+use Rattle.readers.specs.declared.operations.ListEntry.{ListEntry}
+use Rattle.readers.specs.declared.operations.ListStep.TheVariants.{Entry, End}
 use Rattle.marking.specs.Addresses.{is_tombstone, lookup_at}
 use Rattle.marking.specs.Walking.{go, stop, on_next, walk}
 use Rattle.marking.proofs.Walking.{Forward, walk_step}
@@ -42,39 +40,39 @@ module _ (e : Encoding) (s : List ℕ) where
   unfoldable pub older_from : ℕ → Verdict
   older_from at = walk place (length s) older_turn is_dead (record { at = at; flag = false })
 
-  older-forward : (p : Flagged) (o : ListStep) → list_entry_at e false s p.at ≡ o → Forward place (length s) p (older_step o)
+  older-forward : (p : Flagged) (o : Option ListStep) → list_entry_at e false s p.at ≡ o → Forward place (length s) p (older_step o)
   unfolding older_step Forward
-  older-forward p (Entry x) q =
+  older-forward p (Some (Entry x)) q =
       pick-either (Forward place (length s) p) (eqb x.kind 5) (toward x false) (stop is_live)
       (λ t. ((entry-inside e false s p.at x q).0, (entry-inside e false s p.at x q).1)) (λ t. tt)
-  older-forward p End q = tt
-  older-forward p NoEntry q = tt
+  older-forward p (Some End) q = tt
+  older-forward p None q = tt
 
-  module _ (start at : ℕ) (h : older_from start ≡ older_from at) (o : ListStep) (q : o ≡ list_entry_at e false s at) where
+  module _ (start at : ℕ) (h : older_from start ≡ older_from at) (o : Option ListStep) (q : o ≡ list_entry_at e false s at) where
     older-turn : older_from start ≡ on_next (older_step o) (walk place (length s) older_turn is_dead)
     unfolding older_from
     older-turn =
         h
         ∙ walk_step place (length s) older_turn is_dead (λ p. older-forward p (list_entry_at e false s p.at) refl) (record { at = at; flag = false })
-        ∙ ap (λ (w : ListStep). on_next (older_step w) (walk place (length s) older_turn is_dead)) (sym q)
+        ∙ ap (λ (w : Option ListStep). on_next (older_step w) (walk place (length s) older_turn is_dead)) (sym q)
 
-    pub older-on : (x : ListEntry) → o ≡ Entry x → x.kind ≡ 5 → older_from start ≡ older_from x.next.at
+    pub older-on : (x : ListEntry) → o ≡ Some (Entry x) → x.kind ≡ 5 → older_from start ≡ older_from x.next.at
     unfolding older_from on_next older_step pick
     older-on x r k = older-turn ∙ rw (r, eq-eqb x.kind 5 k)
 
-    pub older-less : (x : ListEntry) → o ≡ Entry x → length s - x.next.at < length s - at
+    pub older-less : (x : ListEntry) → o ≡ Some (Entry x) → length s - x.next.at < length s - at
     older-less x r = omega (arith, (entry-inside e false s at x (sym q ∙ r)).0, (entry-inside e false s at x (sym q ∙ r)).1)
 
-  module _ (c : Cursor) (at : ℕ) (h : older_from c.at ≡ older_from at) (o : ListStep) (q : o ≡ list_entry_at e false s at) where
-    pub older-other : (x : ListEntry) → o ≡ Entry x → (x.kind ≡ 5 → ⊥) → is_live ≡ older_live e s (At c)
+  module _ (c : Cursor) (at : ℕ) (h : older_from c.at ≡ older_from at) (o : Option ListStep) (q : o ≡ list_entry_at e false s at) where
+    pub older-other : (x : ListEntry) → o ≡ Some (Entry x) → (x.kind ≡ 5 → ⊥) → is_live ≡ older_live e s (Some c)
     unfolding older_from older_live on_next older_step pick
     older-other x r k = sym (older-turn c.at at h o q ∙ rw (r, ne_eqb x.kind 5 k))
 
-    pub older-end : o ≡ End → is_dead ≡ older_live e s (At c)
+    pub older-end : o ≡ Some End → is_dead ≡ older_live e s (Some c)
     unfolding older_from older_live on_next older_step
     older-end r = sym (older-turn c.at at h o q ∙ rw r)
 
-    pub older-none : o ≡ NoEntry → refused 5 ≡ older_live e s (At c)
+    pub older-none : o ≡ None → refused 5 ≡ older_live e s (Some c)
     unfolding older_from older_live on_next older_step
     older-none r = sym (older-turn c.at at h o q ∙ rw r)
 
@@ -122,7 +120,7 @@ module _ (e : Encoding) (table s : List ℕ) where
   unfoldable pub ranges_from : ℕ → Bool → Verdict
   ranges_from at dead = walk place (length s) range_turn is_dead (record { at = at; flag = dead })
 
-  pub ranges-start : (c : Cursor) → ranges_live e table s (At c) ≡ ranges_from c.at false
+  pub ranges-start : (c : Cursor) → ranges_live e table s (Some c) ≡ ranges_from c.at false
   unfolding ranges_live ranges_from
   ranges-start c = refl
 
@@ -131,29 +129,29 @@ module _ (e : Encoding) (table s : List ℕ) where
   heads-forward p x (go u) h lo hi = (omega arith, omega arith)
   heads-forward p x (stop v) h lo hi = tt
 
-  range-forward : (p : Flagged) (o : ListStep) → list_entry_at e false s p.at ≡ o → Forward place (length s) p (range_step e table p.flag o)
+  range-forward : (p : Flagged) (o : Option ListStep) → list_entry_at e false s p.at ≡ o → Forward place (length s) p (range_step e table p.flag o)
   unfolding range_step Forward
-  range-forward p (Entry x) q =
+  range-forward p (Some (Entry x)) q =
       heads-forward p x (range_entry e table p.flag x) (entry-heads x e table p.flag) (entry-inside e false s p.at x q).0 (entry-inside e false s p.at x q).1
-  range-forward p End q = tt
-  range-forward p NoEntry q = tt
+  range-forward p (Some End) q = tt
+  range-forward p None q = tt
 
-  module _ (at : ℕ) (dead : Bool) (o : ListStep) (q : o ≡ list_entry_at e false s at) where
+  module _ (at : ℕ) (dead : Bool) (o : Option ListStep) (q : o ≡ list_entry_at e false s at) where
     range-turn : ranges_from at dead ≡ on_next (range_step e table dead o) (walk place (length s) range_turn is_dead)
     unfolding ranges_from
     range-turn =
         walk_step place (length s) range_turn is_dead (λ p. range-forward p (list_entry_at e false s p.at) refl) (record { at = at; flag = dead })
-        ∙ ap (λ (w : ListStep). on_next (range_step e table dead w) (walk place (length s) range_turn is_dead)) (sym q)
+        ∙ ap (λ (w : Option ListStep). on_next (range_step e table dead w) (walk place (length s) range_turn is_dead)) (sym q)
 
-    pub range-end : o ≡ End → ranges_from at dead ≡ is_dead
+    pub range-end : o ≡ Some End → ranges_from at dead ≡ is_dead
     unfolding on_next range_step
     range-end r = range-turn ∙ rw r
 
-    pub range_none : o ≡ NoEntry → ranges_from at dead ≡ refused 5
+    pub range_none : o ≡ None → ranges_from at dead ≡ refused 5
     unfolding on_next range_step
     range_none r = range-turn ∙ rw r
 
-    module _ (x : ListEntry) (r : o ≡ Entry x) where
+    module _ (x : ListEntry) (r : o ≡ Some (Entry x)) where
       pub range-less : length s - x.next.at < length s - at
       range-less = omega (arith, (entry-inside e false s at x (sym q ∙ r)).0, (entry-inside e false s at x (sym q ∙ r)).1)
 
@@ -219,12 +217,12 @@ module _ (e : Encoding) (fixed : Bool) (table s : List ℕ) where
   looked-forward p Dead t u f g = g
   looked-forward p (Fails n) t u f g = tt
 
-  read-forward : (p : Flagged) (o : OperationRead) → operation_at e s p.at ≡ o → Forward place (length s) p (operation_step e fixed table p.flag o)
+  read-forward : (p : Flagged) (o : Option Operation) → operation_at e s p.at ≡ o → Forward place (length s) p (operation_step e fixed table p.flag o)
   unfolding operation_step Forward
-  read-forward p (Operation' x) q =
+  read-forward p (Some x) q =
       let i : (p.at < x.next.at) × (x.next.at ≤ length s) = ((operation-inside e s p.at x q).0, (operation-inside e s p.at x q).1) in
       looked-forward p (operation_live e fixed table x) _ _ i i
-  read-forward p NoOperation q = tt
+  read-forward p None q = tt
 
   location-forward : (p : Flagged) → Forward place (length s) p (location_turn p)
   unfolding Forward
@@ -244,16 +242,16 @@ module _ (e : Encoding) (fixed : Bool) (table s : List ℕ) where
     unfolding on_next pick
     location-dead n t = sym (location-turn ∙ rw (le-ltb at (length s) n, t))
 
-    module _ (b : at < length s) (o : OperationRead) (q : o ≡ operation_at e s at) where
+    module _ (b : at < length s) (o : Option Operation) (q : o ≡ operation_at e s at) where
       operation-turn : location_live e fixed table s ≡ on_next (operation_step e fixed table live o) (walk place (length s) location_turn is_dead)
       unfolding pick
       operation-turn = location-turn ∙ rw (lt-ltb at (length s) b, q)
 
-      pub location-none : o ≡ NoOperation → refused 5 ≡ location_live e fixed table s
+      pub location-none : o ≡ None → refused 5 ≡ location_live e fixed table s
       unfolding on_next operation_step
       location-none r = sym (operation-turn ∙ rw r)
 
-      module _ (x : Operation) (r : o ≡ Operation' x) where
+      module _ (x : Operation) (r : o ≡ Some x) where
         pub location-less : length s - x.next.at < length s - at
         location-less = omega (arith, (operation-inside e s at x (sym q ∙ r)).0, (operation-inside e s at x (sym q ∙ r)).1)
 

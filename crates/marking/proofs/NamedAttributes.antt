@@ -14,17 +14,12 @@ use Rattle.readers.specs.Entries.{attribute_at, attribute_end}
 use Rattle.readers.specs.EntryAttributes.{Valued, entry_values, next_attribute, taken, taken_by}
 use Rattle.readers.specs.declared.cursor.Cursor.{Cursor}
 use Rattle.readers.specs.declared.cursor.Encoding.{Encoding}
-use Rattle.readers.specs.declared.cursor.Moved.{Moved}
-use Rattle.readers.specs.declared.cursor.Moved.TheVariants.{To as EndsAt, Unreadable as Nowhere}
-use Rattle.readers.specs.declared.abbreviations.AttributeSpec.{AttributeSpec}
+use Rattle.std.specs.Prelude.{None, Option, Some}
 use Rattle.readers.specs.declared.abbreviations.SpecStep.{SpecStep}
-use Rattle.readers.specs.declared.abbreviations.SpecStep.TheVariants.{Attribute as Spec, Last as LastSpec, Unreadable as NoSpec}
+use Rattle.readers.specs.declared.abbreviations.AttributeSpec.{AttributeSpec}
+use Rattle.readers.specs.declared.abbreviations.SpecStep.TheVariants.{Attribute as Spec, Last as LastSpec}
 use Rattle.readers.specs.declared.attributes.Attribute.{Attribute}
-use Rattle.readers.specs.declared.attributes.AttributeRead.{AttributeRead}
-use Rattle.readers.specs.declared.attributes.AttributeRead.TheVariants.{Read as Attribute', Unreadable as NoAttribute}
 use Rattle.readers.specs.declared.entry_attributes.EntryAttribute.{EntryAttribute}
-use Rattle.readers.specs.declared.entry_attributes.NextAttribute.{NextAttribute}
-use Rattle.readers.specs.declared.entry_attributes.NextAttribute.TheVariants.{More, NoMore}
 use Rattle.readers.proofs.Specs.{attribute-inside}
 use Rattle.readers.proofs.EntryAttributes.{stepped, stepped-on, no_more, values-last, values-bad, values-none, values-more}
 use Rattle.marking.specs.Inner.ReferenceTable.{valued_by}
@@ -32,61 +27,61 @@ use Rattle.marking.specs.Inner.Named.{of_name, NamedAt}
 
 -- ---- the attribute of a specification
 
-module _ (a : AttributeSpec) (t o : AttributeRead) (l : o ≡ t) where
-  pub of_none : o ≡ NoAttribute → NoMore ≡ taken a t
+module _ (a : AttributeSpec) (t o : Option Attribute) (l : o ≡ t) where
+  pub of_none : o ≡ None → None ≡ taken a t
   unfolding taken
   of_none k = rw (sym l ∙ k)
 
-  pub of-more : (v : Attribute) → o ≡ Attribute' v → (c : Cursor) → c ≡ cursor v.field.end
-      → More (record { name = a.name; declared = a.form; value = v; next = a.next; values = c }) ≡ taken a t
+  pub of-more : (v : Attribute) → o ≡ Some v → (c : Cursor) → c ≡ cursor v.field.end
+      → Some (record { name = a.name; declared = a.form; value = v; next = a.next; values = c }) ≡ taken a t
   unfolding taken
   of-more v k c i = rw (sym l ∙ k, i)
 
-taken-name : (a : AttributeSpec) (o : AttributeRead) (x : EntryAttribute) → More x ≡ taken a o → x.name ≡ a.name
+taken-name : (a : AttributeSpec) (o : Option Attribute) (x : EntryAttribute) → Some x ≡ taken a o → x.name ≡ a.name
 unfolding taken
-taken-name a (Attribute' v) x g =
+taken-name a (Some v) x g =
     let z : record { name = a.name; declared = a.form; value = v; next = a.next; values = cursor v.field.end } ≡ x = cc in
     ap (λ (y : EntryAttribute). y.name) (sym z)
-taken-name a NoAttribute x g = let z : ◌≡◌ {A = ℕ} 0 1 = cc in absurd (omega arith)
+taken-name a None x g = let z : ◌≡◌ {A = ℕ} 0 1 = cc in absurd (omega arith)
 
 -- ---- where a value that is stepped over ends
 
 pub record Passed (e : Encoding) (unit : List ℕ) (at : ℕ) (a : AttributeSpec) (c : Cursor) : Type 0 where
   pub value : Attribute
-  pub read : attribute_at e unit at a.name a.form ≡ Attribute' value
+  pub read : attribute_at e unit at a.name a.form ≡ Some value
   pub past : c ≡ cursor value.field.end
 
 module _ (e : Encoding) (unit : List ℕ) (at : ℕ) (a : AttributeSpec) where
-  passed-by : (o : AttributeRead) → attribute_at e unit at a.name a.form ≡ o → (c : Cursor) → attribute_end o ≡ EndsAt c → Passed e unit at a c
+  passed-by : (o : Option Attribute) → attribute_at e unit at a.name a.form ≡ o → (c : Cursor) → attribute_end o ≡ Some c → Passed e unit at a c
   unfolding attribute_end
-  passed-by (Attribute' v) k c g = record { value = v; read = k; past = (let z : cursor v.field.end ≡ c = cc in sym z) }
-  passed-by NoAttribute k c g = let z : ◌≡◌ {A = ℕ} 0 1 = cc in absurd (omega arith)
+  passed-by (Some v) k c g = record { value = v; read = k; past = (let z : cursor v.field.end ≡ c = cc in sym z) }
+  passed-by None k c g = let z : ◌≡◌ {A = ℕ} 0 1 = cc in absurd (omega arith)
 
-  unread-by : (o : AttributeRead) → attribute_at e unit at a.name a.form ≡ o → attribute_end o ≡ Nowhere → attribute_at e unit at a.name a.form ≡ NoAttribute
+  unread-by : (o : Option Attribute) → attribute_at e unit at a.name a.form ≡ o → attribute_end o ≡ None → attribute_at e unit at a.name a.form ≡ None
   unfolding attribute_end
-  unread-by (Attribute' v) k g = let z : ◌≡◌ {A = ℕ} 0 1 = cc in absurd (omega arith)
-  unread-by NoAttribute k g = k
+  unread-by (Some v) k g = let z : ◌≡◌ {A = ℕ} 0 1 = cc in absurd (omega arith)
+  unread-by None k g = k
 
-  module _ (m : Moved) (l : m ≡ attribute_end (attribute_at e unit at a.name a.form)) where
-    pub passed : (c : Cursor) → m ≡ EndsAt c → Passed e unit at a c
+  module _ (m : Option Cursor) (l : m ≡ attribute_end (attribute_at e unit at a.name a.form)) where
+    pub passed : (c : Cursor) → m ≡ Some c → Passed e unit at a c
     passed c k = passed-by (attribute_at e unit at a.name a.form) refl c (sym l ∙ k)
 
-    pub unread : m ≡ Nowhere → attribute_at e unit at a.name a.form ≡ NoAttribute
+    pub unread : m ≡ None → attribute_at e unit at a.name a.form ≡ None
     unread k = unread-by (attribute_at e unit at a.name a.form) refl (sym l ∙ k)
 
 -- ---- one turn: what is left from here on is what was left before
 
 module _ (e : Encoding) (s unit : List ℕ) (name p₀ at₀ p at : ℕ) (h : of_name name (entry_values e s p₀ unit at₀) ≡ of_name name (entry_values e s p unit at))
-    (f : p₀ ≤ p) (r : SpecStep) (q : r ≡ spec_at s p) where
-  pub named-last : (c : Cursor) → r ≡ LastSpec c → NamedAt e s p₀ unit at₀ name NoMore
+    (f : p₀ ≤ p) (r : Option SpecStep) (q : r ≡ spec_at s p) where
+  pub named-last : (c : Cursor) → r ≡ Some (LastSpec c) → NamedAt e s p₀ unit at₀ name None
   unfolding NamedAt of_name
   named-last c k = h ∙ ap (of_name name) (values-last e s p unit at c (sym q ∙ k))
 
-  pub named-bad : r ≡ NoSpec → NamedAt e s p₀ unit at₀ name NoMore
+  pub named-bad : r ≡ None → NamedAt e s p₀ unit at₀ name None
   unfolding NamedAt of_name
   named-bad k = h ∙ ap (of_name name) (values-bad e s p unit at (sym q ∙ k))
 
-  module _ (a : AttributeSpec) (k : r ≡ Spec a) where
+  module _ (a : AttributeSpec) (k : r ≡ Some (Spec a)) where
     pub named-less : length s - a.next.at < length s - p
     named-less = omega (arith, (attribute-inside s p a (sym q ∙ k)).0, (attribute-inside s p a (sym q ∙ k)).1)
 
@@ -97,11 +92,11 @@ module _ (e : Encoding) (s unit : List ℕ) (name p₀ at₀ p at : ℕ) (h : of
     unfolding next_attribute taken_by
     next_is = rw (sym q ∙ k)
 
-    pub named-read : a.name ≡ name → (n : NextAttribute) → n ≡ taken a (attribute_at e unit at a.name a.form) → NamedAt e s p₀ unit at₀ name n
+    pub named-read : a.name ≡ name → (n : Option EntryAttribute) → n ≡ taken a (attribute_at e unit at a.name a.form) → NamedAt e s p₀ unit at₀ name n
     unfolding NamedAt of_name
-    named-read d NoMore l = h ∙ ap (of_name name) (no_more e s p unit at (next_is ∙ sym l))
-    named-read d (More x) l =
-        let g : next_attribute e s p unit at ≡ More x = next_is ∙ sym l in
+    named-read d None l = h ∙ ap (of_name name) (no_more e s p unit at (next_is ∙ sym l))
+    named-read d (Some x) l =
+        let g : next_attribute e s p unit at ≡ Some x = next_is ∙ sym l in
         let i : x.name ≡ name = taken-name a _ x l ∙ d in
         record {
           named = i;
@@ -110,12 +105,12 @@ module _ (e : Encoding) (s unit : List ℕ) (name p₀ at₀ p at : ℕ) (h : of
           inside = (stepped e s p unit at x g).inside;
         }
 
-    module _ (d : a.name ≡ name → ⊥) (m : Moved) (l : m ≡ attribute_end (attribute_at e unit at a.name a.form)) where
-      pub named-unread : m ≡ Nowhere → NamedAt e s p₀ unit at₀ name NoMore
+    module _ (d : a.name ≡ name → ⊥) (m : Option Cursor) (l : m ≡ attribute_end (attribute_at e unit at a.name a.form)) where
+      pub named-unread : m ≡ None → NamedAt e s p₀ unit at₀ name None
       unfolding NamedAt of_name
       named-unread g = h ∙ ap (of_name name) (values-none e s p unit at a (sym q ∙ k) (unread e unit at a m l g))
 
-      pub named_past : (c : Cursor) → m ≡ EndsAt c → of_name name (entry_values e s p₀ unit at₀) ≡ of_name name (entry_values e s a.next.at unit c.at)
+      pub named_past : (c : Cursor) → m ≡ Some c → of_name name (entry_values e s p₀ unit at₀) ≡ of_name name (entry_values e s a.next.at unit c.at)
       unfolding of_name
       named_past c g =
           let v = passed e unit at a m l c g in
@@ -138,11 +133,11 @@ module _ {X : Type 0} (test : List Valued → X) (name : ℕ)
       (either (eqb a.name name))
 
   module _ (e : Encoding) (s unit : List ℕ) (p at : ℕ) where
-    pub named_end : NamedAt e s p unit at name NoMore → test (entry_values e s p unit at) ≡ test []
+    pub named_end : NamedAt e s p unit at name None → test (entry_values e s p unit at) ≡ test []
     unfolding NamedAt
     named_end q = of-name (entry_values e s p unit at) ∙ ap test q
 
-    pub named-turn : (x : EntryAttribute) → NamedAt e s p unit at name (More x)
+    pub named-turn : (x : EntryAttribute) → NamedAt e s p unit at name (Some x)
         → test (entry_values e s p unit at) ≡ test (valued_by x ∷ entry_values e s x.next.at unit x.values.at)
     unfolding NamedAt
     named-turn x q =

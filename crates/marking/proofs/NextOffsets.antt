@@ -18,11 +18,8 @@ use Rattle.readers.specs.declared.cursor.Encoding.{Encoding}
 use Rattle.readers.specs.declared.cursor.Cursor.{Cursor}
 use Rattle.readers.specs.declared.fields.Field.{Field}
 use Rattle.readers.specs.declared.operations.Operation.{Operation}
-use Rattle.readers.specs.declared.operations.OperationRead.{OperationRead}
-use Rattle.readers.specs.declared.operations.OperationRead.TheVariants.{Read as Operation', Unreadable as NoOperation}
+use Rattle.std.specs.Prelude.{None, Option, Some}
 use Rattle.readers.specs.declared.expressions.Reference.{Reference}
-use Rattle.readers.specs.declared.expressions.Yield.{Yield}
-use Rattle.readers.specs.declared.expressions.Yield.TheVariants.{Reference as Yielded, End}
 use Rattle.marking.specs.EntryReferences.{targets}
 use Rattle.marking.specs.ReferenceTable.{next_place, placed, written}
 use Rattle.marking.proofs.Placing.{Put, put-none, put_one, put-size}
@@ -43,32 +40,32 @@ reference-goes op =
     pick-either (GoesOn op.next) _ _ _ (λ _. type-goes op.first op.next) (λ _. tt)))))
 
 module _ (e : Encoding) (s : List ℕ) where
-  unfoldable Ahead : ℕ → Yield → Type 0
-  Ahead at (Yielded r) = (at < r.next.at) × (r.next.at ≤ length s)
-  Ahead at End = Unit {0}
+  unfoldable Ahead : ℕ → Option Reference → Type 0
+  Ahead at (Some r) = (at < r.next.at) × (r.next.at ≤ length s)
+  Ahead at None = Unit {0}
 
-  ahead-from : (at n : ℕ) (y : Yield) → at ≤ n → Ahead n y → Ahead at y
+  ahead-from : (at n : ℕ) (y : Option Reference) → at ≤ n → Ahead n y → Ahead at y
   unfolding Ahead
-  ahead-from at n (Yielded r) h a = (omega (arith, a.0), a.1)
-  ahead-from at n End h a = tt
+  ahead-from at n (Some r) h a = (omega (arith, a.0), a.1)
+  ahead-from at n None h a = tt
 
-  ahead_own : (at : ℕ) (c : Cursor) (r : Reference) → at < c.at → c.at ≤ length s → GoesOn c (Yielded r) → Ahead at (Yielded r)
+  ahead_own : (at : ℕ) (c : Cursor) (r : Reference) → at < c.at → c.at ≤ length s → GoesOn c (Some r) → Ahead at (Some r)
   unfolding Ahead GoesOn
   ahead_own at c r lo hi g = let k : r.next.at ≡ c.at = ap (λ (d : Cursor). d.at) g in (omega arith, omega arith)
 
   module _ (at : ℕ) (l : at < length s) (ih : (n : ℕ) → at < n → Ahead n (next_reference e s n)) where
-    ahead-plain : (op : Operation) → operation_at e s at ≡ Operation' op → T (not (eqb op.row 19)) → (y : Yield) → reference_of op ≡ y → Ahead at (next_reference e s at)
-    ahead-plain op q t (Yielded r) p =
+    ahead-plain : (op : Operation) → operation_at e s at ≡ Some op → T (not (eqb op.row 19)) → (y : Option Reference) → reference_of op ≡ y → Ahead at (next_reference e s at)
+    ahead-plain op q t (Some r) p =
         subst (Ahead at) (sym (next-own e s at l op q t r p))
         (ahead_own at op.next r (operation-inside e s at op q).0 (operation-inside e s at op q).1 (subst (GoesOn op.next) p (reference-goes op)))
-    ahead-plain op q t End p =
+    ahead-plain op q t None p =
         let i : at < op.next.at = (operation-inside e s at op q).0 in
         subst (Ahead at) (sym (next-pass e s at l op q t p)) (ahead-from at op.next.at _ (omega arith) (ih op.next.at i))
 
-    ahead-operation : (o : OperationRead) → operation_at e s at ≡ o → Ahead at (next_reference e s at)
+    ahead-operation : (o : Option Operation) → operation_at e s at ≡ o → Ahead at (next_reference e s at)
     unfolding Ahead
-    ahead-operation NoOperation q = subst (Ahead at) (sym (next-none e s at l q)) tt
-    ahead-operation (Operation' op) q =
+    ahead-operation None q = subst (Ahead at) (sym (next-none e s at l q)) tt
+    ahead-operation (Some op) q =
         ⊎_elim
         (λ t. let i : at < op.first.start = (operation-inside e s at op q).2 in
         subst (Ahead at) (sym (next-entry e s at l op q t)) (ahead-from at op.first.start (next_reference e s op.first.start) (omega arith) (ih op.first.start i)))
@@ -84,18 +81,18 @@ module _ (e : Encoding) (s : List ℕ) where
       (λ t. let l : length s ≤ at = ltb_no t in subst (Ahead at) (sym (next-end e s at l)) tt)
       (either (ltb at (length s)))
 
-  module _ (from : ℕ) (y : Yield) (q : y ≡ next_reference e s from) where
-    pub next-less : (r : Reference) → y ≡ Yielded r → length s - r.next.at < length s - from
+  module _ (from : ℕ) (y : Option Reference) (q : y ≡ next_reference e s from) where
+    pub next-less : (r : Reference) → y ≡ Some r → length s - r.next.at < length s - from
     unfolding Ahead
     next-less r p =
         let a : (from < r.next.at) × (r.next.at ≤ length s) = subst (Ahead from) (sym q ∙ p) (ahead_within (length s - from) from (omega arith)) in
         omega arith
 
-    targets-more : (r : Reference) → y ≡ Yielded r → targets (flat_from e s from) ≡ r.target.0 ∷ targets (flat_from e s r.next.at)
+    targets-more : (r : Reference) → y ≡ Some r → targets (flat_from e s from) ≡ r.target.0 ∷ targets (flat_from e s r.next.at)
     unfolding targets flat_by
     targets-more r p = ap targets (flat-next e s from ∙ ap (flat_by e s) (sym q ∙ p))
 
-    targets-end : y ≡ End → targets (flat_from e s from) ≡ []
+    targets-end : y ≡ None → targets (flat_from e s from) ≡ []
     unfolding targets flat_by
     targets-end p = ap targets (flat-next e s from ∙ ap (flat_by e s) (sym q ∙ p))
 
@@ -114,14 +111,14 @@ module _ (e : Encoding) (s table₀ : List ℕ) (at : ℕ) where
     pub putting-size : length table ≡ length table₀
     putting-size = put-size table₀ at h.done table to h.put
 
-    module _ (y : Yield) (q : y ≡ next_reference e s from) where
-      pub putting-end : y ≡ End
+    module _ (y : Option Reference) (q : y ≡ next_reference e s from) where
+      pub putting-end : y ≡ None
           → (to ≡ placed (length table₀) at (targets (flat_from e s 0))) × (table ≡ written table₀ at (targets (flat_from e s 0)))
       putting-end p =
           let k : h.done ≡ targets (flat_from e s 0) = sym (h.whole ∙ ap (λ l. h.done ++ l) (targets-end e s from y q p) ∙ append-nil h.done) in
           (h.put.place ∙ ap (placed (length table₀) at) k, h.put.numbers ∙ ap (written table₀ at) k)
 
-      pub putting-more : (r : Reference) → y ≡ Yielded r → (table' : List ℕ) (to' : ℕ) → to' ≡ next_place (length table) to → table' ≡ set table to r.target.0
+      pub putting-more : (r : Reference) → y ≡ Some r → (table' : List ℕ) (to' : ℕ) → to' ≡ next_place (length table) to → table' ≡ set table to r.target.0
           → Putting e s table₀ at table' r.next.at to'
       putting-more r p table' to' a b =
           record {

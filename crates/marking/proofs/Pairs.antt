@@ -3,7 +3,7 @@ use mathlib.Core.Path.{◌≡◌, refl, ap, sym, ◌∙◌, subst}
 use Prim.Native.Nat.{ℕ, suc, ◌+◌, ◌*◌, ◌-◌, ◌≤◌, ◌<◌}
 use native.Mathlib.Omega.{arith}
 use mathlib.Core.List.{List, [], ◌∷◌, ◌++◌, append_assoc, append-nil}
-use mathlib.Core.Option.{Option, none, some}
+use Rattle.std.specs.Prelude.{None, Option, Some}
 use lib.ListN.{length, get_or, take, drop, set, length-append, length-drop, length-set, take-append-drop}
 use lib.Seq.{length-take-le, take-suc, drop-cons, get_or-drop, set_at, append_snoc}
 use Rattle.readers.specs.declared.offsets.EntryIndex.{EntryIndex}
@@ -68,8 +68,8 @@ one-pair os i t = append-nil (pair_for i (entry_from 0 os t))
 
 pair-few : (i : ℕ) (o : Option ℕ) → length (pair_for i o) ≤ 2
 unfolding pair_for
-pair-few i none = omega arith
-pair-few i (some t) = omega arith
+pair-few i None = omega arith
+pair-few i (Some t) = omega arith
 
 pub pairs-few : (os : List ℕ) (i : ℕ) (ts : List ℕ) → length (pairs_of_entry os i ts) ≤ 2 * length ts
 unfolding pairs_of_entry
@@ -78,15 +78,15 @@ pairs-few os i (t ∷ ts) =
     let a = length-append (pair_for i (entry_from 0 os t)) (pairs_of_entry os i ts) in
     omega (arith, a, pair-few i (entry_from 0 os t), pairs-few os i ts)
 
-entry-is : (o : Option ℕ) (x : EntryIndex) → Entry x ≡ as_entry o → o ≡ some x.0
+entry-is : (o : Option ℕ) (x : EntryIndex) → Entry x ≡ as_entry o → o ≡ Some x.0
 unfolding as_entry
-entry-is none x q = let z : ◌≡◌ {A = ℕ} 0 1 = cc in absurd (omega arith)
-entry-is (some t) x q = let z : x ≡ record { 0 = t } = cc in ap (λ (y : EntryIndex). some y.0) (sym z)
+entry-is None x q = let z : ◌≡◌ {A = ℕ} 0 1 = cc in absurd (omega arith)
+entry-is (Some t) x q = let z : x ≡ record { 0 = t } = cc in ap (λ (y : EntryIndex). Some y.0) (sym z)
 
-none_is : (o : Option ℕ) → Nothing ≡ as_entry o → o ≡ none
+none_is : (o : Option ℕ) → Nothing ≡ as_entry o → o ≡ None
 unfolding as_entry
-none_is none q = refl
-none_is (some t) q = let z : ◌≡◌ {A = ℕ} 0 1 = cc in absurd (omega arith)
+none_is None q = refl
+none_is (Some t) q = let z : ◌≡◌ {A = ℕ} 0 1 = cc in absurd (omega arith)
 
 module _ (offsets : List ℕ) (n : ℕ) (targets : List ℕ) (from to holder : ℕ) (pairs₀ : List ℕ) (at : ℕ) where
   -- those of the references before j

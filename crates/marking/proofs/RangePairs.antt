@@ -20,14 +20,9 @@ use Rattle.readers.proofs.Tokens.{Fields, row-fields, Inside, row_inside, inside
 use Rattle.readers.proofs.Widths.{fixed-is, fixed-inside}
 use Rattle.readers.specs.declared.cursor.Cursor.{Cursor}
 use Rattle.readers.specs.declared.cursor.Encoding.{Encoding}
-use Rattle.readers.specs.declared.cursor.Number.{Number}
-use Rattle.readers.specs.declared.cursor.Number.TheVariants.{Value, Unreadable}
+use Rattle.std.specs.Prelude.{None, Option, Some}
 use Rattle.readers.specs.declared.fields.Field.{Field}
-use Rattle.readers.specs.declared.fields.FieldRead.TheVariants.{Read as Field'}
 use Rattle.readers.specs.declared.fields.Operands.{Operands}
-use Rattle.readers.specs.declared.fields.OperandsRead.{OperandsRead}
-use Rattle.readers.specs.declared.fields.OperandsRead.TheVariants.{Read as Row', Unreadable as NoRow}
-use Rattle.readers.specs.declared.lists.ListOffset.TheVariants.{At}
 use Rattle.marking.specs.Addresses.{is_tombstone}
 use Rattle.marking.specs.Walking.{go, stop, on_next, walk}
 use Rattle.marking.proofs.Walking.{Forward, walk_step}
@@ -42,32 +37,32 @@ use Rattle.marking.specs.declared.root_test.Verdict.TheVariants.{Live as is_live
 
 -- an address has as many bytes as its size; of no bytes it is 0
 module _ (e : Encoding) (s : List ℕ) (at : ℕ) (f : Field) where
-  abbrev number : Number
+  abbrev number : Option (ℕ × Cursor)
   number = fixed_at e.big_endian e.address_size s at
 
-  of_number : (n : Number) → number ≡ n → number_field at n ≡ Field' f → (f.end ≡ at + e.address_size) × (e.address_size ≡ 0 → f.value ≡ 0)
+  of_number : (n : Option (ℕ × Cursor)) → number ≡ n → number_field at n ≡ Some f → (f.end ≡ at + e.address_size) × (e.address_size ≡ 0 → f.value ≡ 0)
   unfolding number_field fixed_value ordered little_value
-  of_number (Value v c) q x =
+  of_number (Some (v, c)) q x =
       let i : c.at ≡ at + e.address_size = (fixed-inside e.big_endian e.address_size s at v c q).0 in
       let end_is : c.at ≡ f.end = cc in
       let value-is : v ≡ f.value = cc in (
         omega (arith, i, end_is),
         (λ z.
-            let y : Value 0 (cursor (at + 0)) ≡ Value v c =
+            let y : Some (0, cursor (at + 0)) ≡ Some (v, c) =
             sym (fixed-is e.big_endian 0 s at (omega arith) (omega arith) ∙ none e.big_endian) ∙ ap (λ (n : ℕ). fixed_at e.big_endian n s at) (sym z) ∙ q in
             let w : 0 ≡ v = cc in sym value-is ∙ sym w),
       )
     where
-      none : (big : Bool) → Value (fixed_value big (take 0 (drop at s))) (cursor (at + 0)) ≡ Value 0 (cursor (at + 0))
+      none : (big : Bool) → Some (fixed_value big (take 0 (drop at s)), cursor (at + 0)) ≡ Some (0, cursor (at + 0))
       none true = refl
       none false = refl
-  of_number Unreadable q x = let z : ◌≡◌ {A = ℕ} 0 1 = cc in absurd (omega arith)
+  of_number None q x = let z : ◌≡◌ {A = ℕ} 0 1 = cc in absurd (omega arith)
 
-  address-field : field_at e s at 9 ≡ Field' f → (f.end ≡ at + e.address_size) × (e.address_size ≡ 0 → f.value ≡ 0)
+  address-field : field_at e s at 9 ≡ Some f → (f.end ≡ at + e.address_size) × (e.address_size ≡ 0 → f.value ≡ 0)
   address-field x = of_number number refl (ap (number_field at) (sym (number-address e s at 9 refl)) ∙ sym (field-number e s at 9 (omega arith) (omega arith)) ∙ x)
 
 -- a pair is past its place, or both of its numbers are 0
-module _ (e : Encoding) (s : List ℕ) (at : ℕ) (r : Operands) (x : row_at e s at 23 ≡ Row' r) where
+module _ (e : Encoding) (s : List ℕ) (at : ℕ) (r : Operands) (x : row_at e s at 23 ≡ Some r) where
   pair-past : (at < r.third.end) ⊎ ((r.first.value ≡ 0) × (r.second.value ≡ 0))
   unfolding row_of rows unreadable_row
   pair-past =
@@ -152,11 +147,11 @@ module _ (e : Encoding) (s : List ℕ) where
   unfoldable pub pairs_from : ℕ → Bool → Verdict
   pairs_from at dead = walk place (length s) pair_turn is_dead (record { at = at; flag = dead })
 
-  pub pairs_start : (c : Cursor) → pairs_live e s (At c) ≡ pairs_from c.at false
+  pub pairs_start : (c : Cursor) → pairs_live e s (Some c) ≡ pairs_from c.at false
   unfolding pairs_live pairs_from
   pairs_start c = refl
 
-  turn-forward : (p : Flagged) (r : Operands) → row_at e s p.at 23 ≡ Row' r → p.at < length s
+  turn-forward : (p : Flagged) (r : Operands) → row_at e s p.at 23 ≡ Some r → p.at < length s
       → (t : RootTurn) → range_pair e p.flag r ≡ t → Heads r.third.end t → Forward place (length s) p t
   unfolding Heads Forward turn_of
   turn-forward p r q h (go u) x n =
@@ -166,10 +161,10 @@ module _ (e : Encoding) (s : List ℕ) where
       (pair-past e s p.at r q)
   turn-forward p r q h (stop v) x n = tt
 
-  row-forward : (p : Flagged) (o : OperandsRead) → row_at e s p.at 23 ≡ o → p.at < length s → Forward place (length s) p (pair_step e p.flag o)
+  row-forward : (p : Flagged) (o : Option Operands) → row_at e s p.at 23 ≡ o → p.at < length s → Forward place (length s) p (pair_step e p.flag o)
   unfolding pair_step Forward
-  row-forward p (Row' r) q h = turn-forward p r q h (range_pair e p.flag r) refl (pair-heads e p.flag r)
-  row-forward p NoRow q h = tt
+  row-forward p (Some r) q h = turn-forward p r q h (range_pair e p.flag r) refl (pair-heads e p.flag r)
+  row-forward p None q h = tt
 
   pair-forward : (p : Flagged) → Forward place (length s) p (pair_turn p)
   unfolding Forward
@@ -177,32 +172,32 @@ module _ (e : Encoding) (s : List ℕ) where
       pick-either (Forward place (length s) p) (ltb p.at (length s)) _ _
       (λ t. row-forward p (row_at e s p.at 23) refl (ltb_yes {a = p.at} {b = length s} t)) (λ t. tt)
 
-  module _ (c : Cursor) (at : ℕ) (dead : Bool) (h : pairs_live e s (At c) ≡ pairs_from at dead) where
-    pairs-turn : pairs_live e s (At c) ≡ on_next (pair_turn (record { at = at; flag = dead })) (walk place (length s) pair_turn is_dead)
+  module _ (c : Cursor) (at : ℕ) (dead : Bool) (h : pairs_live e s (Some c) ≡ pairs_from at dead) where
+    pairs-turn : pairs_live e s (Some c) ≡ on_next (pair_turn (record { at = at; flag = dead })) (walk place (length s) pair_turn is_dead)
     unfolding pairs_from
     pairs-turn = h ∙ walk_step place (length s) pair_turn is_dead pair-forward (record { at = at; flag = dead })
 
-    pub pairs_end : length s ≤ at → is_dead ≡ pairs_live e s (At c)
+    pub pairs_end : length s ≤ at → is_dead ≡ pairs_live e s (Some c)
     unfolding on_next pick
     pairs_end n = sym (pairs-turn ∙ rw (le-ltb at (length s) n))
 
-    module _ (b : at < length s) (o : OperandsRead) (q : o ≡ row_at e s at 23) where
-      row-turn : pairs_live e s (At c) ≡ on_next (pair_step e dead o) (walk place (length s) pair_turn is_dead)
+    module _ (b : at < length s) (o : Option Operands) (q : o ≡ row_at e s at 23) where
+      row-turn : pairs_live e s (Some c) ≡ on_next (pair_step e dead o) (walk place (length s) pair_turn is_dead)
       unfolding pick
       row-turn = pairs-turn ∙ rw (lt-ltb at (length s) b, q)
 
-      pub pairs-none : o ≡ NoRow → refused 5 ≡ pairs_live e s (At c)
+      pub pairs-none : o ≡ None → refused 5 ≡ pairs_live e s (Some c)
       unfolding on_next pair_step
       pairs-none r = sym (row-turn ∙ rw r)
 
-      module _ (r : Operands) (k : o ≡ Row' r) (w : RangeTurn) (l : w ≡ turn_of (range_pair e dead r)) where
-        pair_turn_lem : (t : RootTurn) → range_pair e dead r ≡ t → pairs_live e s (At c) ≡ on_next t (walk place (length s) pair_turn is_dead)
+      module _ (r : Operands) (k : o ≡ Some r) (w : RangeTurn) (l : w ≡ turn_of (range_pair e dead r)) where
+        pair_turn_lem : (t : RootTurn) → range_pair e dead r ≡ t → pairs_live e s (Some c) ≡ on_next t (walk place (length s) pair_turn is_dead)
         unfolding pair_step
         pair_turn_lem t x = row-turn ∙ rw (k, x)
 
         -- from the cursor past the pair
         module _ (f : Bool) (x : w ≡ On f) (d : Cursor) (n : d ≡ cursor r.third.end) where
-          pub pairs-on : pairs_live e s (At c) ≡ pairs_from d.at f
+          pub pairs-on : pairs_live e s (Some c) ≡ pairs_from d.at f
           unfolding on_next pairs_from
           pairs-on =
               pair_turn_lem (past_pair r f) (on-turn r.third.end (range_pair e dead r) (pair-heads e dead r) f (sym x ∙ l))
@@ -216,6 +211,6 @@ module _ (e : Encoding) (s : List ℕ) where
               (λ z. absurd (pair-some e dead r f (sym x ∙ l) z))
               (pair-past e s at r (sym q ∙ k))
 
-        pub pairs-decided : (v : Verdict) → w ≡ Decided v → v ≡ pairs_live e s (At c)
+        pub pairs-decided : (v : Verdict) → w ≡ Decided v → v ≡ pairs_live e s (Some c)
         unfolding on_next
         pairs-decided v x = sym (pair_turn_lem (stop v) (decided-turn (range_pair e dead r) v (sym x ∙ l)))

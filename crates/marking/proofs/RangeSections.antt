@@ -4,7 +4,7 @@ use mathlib.Core.Path.{◌≡◌, refl, ap, sym, ◌∙◌}
 use Prim.Native.Nat.{ℕ, suc, ◌+◌}
 use mathlib.Core.Bool.{Bool, true, false}
 use mathlib.Core.List.{List, [], ◌∷◌}
-use mathlib.Core.Option.{Option, none, some}
+use Rattle.std.specs.Prelude.{None, Option, Some}
 use lib.ListN.{length}
 use lib.Dec.{ltb, leb, eqb}
 use mir.Facts.{yes_eqb, no_eqb}
@@ -94,5 +94,5 @@ module _ (e : Encoding) (a l r t o : List ℕ) (keep : KeepList) (setting : Sett
       declared : (d : Option (List Placed))
           → on_declared d (λ ds. let items = items_from e a (declared_in ds) unit first in analyse_items e chosen unit room (start_of e) items.0 items.1)
           ≡ on_declared d (λ ds. let items = items_from e a (declared_in ds) unit first in analyse_items e lent unit room (start_of e) items.0 items.1)
-      declared none = refl
-      declared (some ds) = items-same (start_of e) (items_from e a (declared_in ds) unit first).0 (items_from e a (declared_in ds) unit first).1
+      declared None = refl
+      declared (Some ds) = items-same (start_of e) (items_from e a (declared_in ds) unit first).0 (items_from e a (declared_in ds) unit first).1

@@ -25,8 +25,9 @@ use Rattle.readers.specs.Steps.{entry_of_reads, as_list_step, list_entry_at}
 use Rattle.readers.specs.Lists.{list_base, list_start, from_base, list_offset}
 use Rattle.readers.specs.Header.{length_bytes, encoding_of}
 use Rattle.readers.specs.declared.cursor.Encoding.{Encoding}
+use Rattle.std.specs.Prelude.{None, Option, Some}
 use Rattle.readers.specs.declared.operations.ListStep.{ListStep}
-use Rattle.readers.specs.declared.operations.ListStep.TheVariants.{Entry as Entry', End as ListEnd, Unreadable as ListUnreadable}
+use Rattle.readers.specs.declared.operations.ListStep.TheVariants.{Entry as Entry', End as ListEnd}
 use Rattle.readers.specs.Abbreviations.{number_spec, implicit_spec, spec_at}
 use Rattle.readers.specs.Entries.{attribute_of_reads, as_attribute, attribute_at}
 use Rattle.marking.specs.Addresses.{is_tombstone, byte_liveness, lookup_at}
@@ -38,7 +39,6 @@ use Rattle.readers.specs.EntryAttributes.{Valued, on_attribute, values_of, on_sp
 use Rattle.marking.specs.Roots.{low_pcs, locations, ranges_by, offset_live, other_ranges, ranges_of}
 use Rattle.marking.specs.Roots.{first_ranges, root_test, base_from, base_after}
 use Rattle.marking.specs.declared.addresses.AddressLookup.TheVariants.{Live as AddressLive, Fails}
-use Rattle.readers.specs.declared.lists.ListOffset.TheVariants.{At, Unresolved}
 use Rattle.marking.specs.declared.root_test.Verdict.{Verdict}
 use Rattle.marking.specs.declared.root_test.Verdict.TheVariants.{Live, Dead, Refused}
 
@@ -109,10 +109,10 @@ unfolding ranged ranges_live fixed_bytes little_bytes range_step range_entry on_
 range-lists = (refl, refl, refl, refl, refl, refl, refl, refl, refl, refl, refl, refl, refl, refl, refl, refl, refl, refl, refl, refl, refl, refl, refl, refl, refl, refl, refl, refl, refl, refl, refl)
 
 -- an address is read in the unit's order: the first operand of a list entry of kind start_length
-unfoldable first_operand : ListStep → ℕ
-first_operand (Entry' x) = x.first.value
-first_operand ListEnd = 0
-first_operand ListUnreadable = 0
+unfoldable first_operand : Option ListStep → ℕ
+first_operand (Some (Entry' x)) = x.first.value
+first_operand (Some ListEnd) = 0
+first_operand None = 0
 
 addresses :
     (first_operand (list_entry_at little8 false (7 ∷ 1 ∷ 2 ∷ 3 ∷ 4 ∷ 5 ∷ 6 ∷ 7 ∷ 8 ∷ 9 ∷ []) 0) ≡ 0x0807060504030201)
@@ -287,10 +287,10 @@ pair4 begin end = byte4 begin ++ byte4 end
 
 -- the verdict of a section that begins with the list, at the address sizes 4 and 8
 of4 : List ℕ → Verdict
-of4 s = pairs_live (encoding_of false 4 4 4) s (At (record { at = 0 }))
+of4 s = pairs_live (encoding_of false 4 4 4) s (Some (record { at = 0 }))
 
 of8 : List ℕ → Verdict
-of8 s = pairs_live (encoding_of true 4 8 8) s (At (record { at = 0 }))
+of8 s = pairs_live (encoding_of true 4 8 8) s (Some (record { at = 0 }))
 
 -- before any base entry; a begin of 0; under a base of 0, of all ones, and under a live one again; two equal numbers; the
 -- end pair whatever the base; the section's end; cut inside a pair, and behind a live one; no list is at such an offset
@@ -307,7 +307,7 @@ pairs :
     × (of4 (pair4 0 9 ++ byte4 5) ≡ Refused 5)
     × (of4 (pair4 5 9 ++ byte4 5) ≡ Live)
     × (of4 [] ≡ Dead)
-    × (pairs_live (encoding_of false 4 4 4) [] Unresolved ≡ Live)
+    × (pairs_live (encoding_of false 4 4 4) [] None ≡ Live)
     -- big-endian, of eight bytes: 0xffffffff is an address, all ones are a base
     × (of8 (0 ∷ 0 ∷ 0 ∷ 0 ∷ 0xff ∷ 0xff ∷ 0xff ∷ 0xff ∷ 0 ∷ 0 ∷ 0 ∷ 0 ∷ 0 ∷ 0 ∷ 0 ∷ 0 ∷ []) ≡ Live)
     × (of8 (0xff ∷ 0xff ∷ 0xff ∷ 0xff ∷ 0xff ∷ 0xff ∷ 0xff ∷ 0xff ∷ 0 ∷ 0 ∷ 0 ∷ 0 ∷ 0 ∷ 0 ∷ 0 ∷ 0

@@ -14,25 +14,18 @@ use Rattle.readers.specs.Fields.{part_of}
 use Rattle.readers.specs.Abbreviations.{spec_at}
 use Rattle.readers.specs.Entries.{attribute_at, attribute_end}
 use Rattle.readers.specs.declared.abbreviations.AttributeSpec.{AttributeSpec}
+use Rattle.std.specs.Prelude.{None, Option, Some}
 use Rattle.readers.specs.declared.abbreviations.SpecStep.{SpecStep}
-use Rattle.readers.specs.declared.abbreviations.SpecStep.TheVariants.{Attribute as Spec, Last as LastSpec, Unreadable as NoSpec}
-use Rattle.readers.specs.declared.attributes.AttributeRead.{AttributeRead}
-use Rattle.readers.specs.declared.attributes.AttributeRead.TheVariants.{Read as Attribute', Unreadable as NoAttribute}
-use Rattle.readers.specs.declared.cursor.Moved.{Moved}
-use Rattle.readers.specs.declared.cursor.Moved.TheVariants.{To as EndsAt, Unreadable as Nowhere}
+use Rattle.readers.specs.declared.abbreviations.SpecStep.TheVariants.{Attribute as Spec, Last as LastSpec}
 use Rattle.readers.proofs.Specs.{attribute-inside}
 use Rattle.readers.specs.Lists.{list_start, list_offset}
 use Rattle.readers.proofs.ListStarts.{start-past}
 use Rattle.readers.specs.declared.cursor.Encoding.{Encoding}
 use Rattle.readers.specs.declared.cursor.Cursor.{Cursor}
 use Rattle.readers.specs.declared.attributes.Attribute.{Attribute}
-use Rattle.readers.specs.declared.lists.ListOffset.{ListOffset}
-use Rattle.readers.specs.declared.lists.ListOffset.TheVariants.{At, Unresolved}
 use Rattle.marking.specs.Roots.{or_else, low_pc, low_pcs, location_live, locations, older_live, pairs_live, offset_live, other_ranges, Ranges, ranges_by, ranges_live, ranges_of, first_ranges, root_test, base_from, base_after}
 use Rattle.readers.specs.EntryAttributes.{Valued, entry_values}
 use Rattle.readers.specs.declared.entry_attributes.EntryAttribute.{EntryAttribute}
-use Rattle.readers.specs.declared.entry_attributes.NextAttribute.{NextAttribute}
-use Rattle.readers.specs.declared.entry_attributes.NextAttribute.TheVariants.{More, NoMore}
 use Rattle.marking.specs.declared.root_test.Verdict.{Verdict}
 use Rattle.marking.specs.declared.root_test.Verdict.TheVariants.{Live as is_live, Dead as is_dead, Refused as refused}
 use Rattle.readers.proofs.EntryAttributes.{valued, values-last, values-bad, values-none, values-more}
@@ -42,21 +35,21 @@ use Rattle.marking.proofs.Lists.{ranges_from, ranges-start}
 
 -- ---- any test over the attributes of a name, from a specification and a value on
 
-module _ (e : Encoding) (s unit : List ℕ) (p at name : ℕ) (n : NextAttribute) (q : NamedAt e s p unit at name n) where
-  first_is : (x : EntryAttribute) → n ≡ More x → FirstNamed e s p unit at name x
+module _ (e : Encoding) (s unit : List ℕ) (p at name : ℕ) (n : Option EntryAttribute) (q : NamedAt e s p unit at name n) where
+  first_is : (x : EntryAttribute) → n ≡ Some x → FirstNamed e s p unit at name x
   unfolding NamedAt
   first_is x r = subst (NamedAt e s p unit at name) r q
 
-  pub attributes-less : (x : EntryAttribute) → n ≡ More x → length s - x.next.at < length s - p
+  pub attributes-less : (x : EntryAttribute) → n ≡ Some x → length s - x.next.at < length s - p
   attributes-less x r = omega (arith, (first_is x r).ahead, (first_is x r).inside)
 
   module _ {X : Type 0} (test : List Valued → X)
       (out : (a : Valued) (l : List Valued) → (a.name ≡ name → ⊥) → test (a ∷ l) ≡ test l)
       (on : (a : Valued) (l l' : List Valued) → test l ≡ test l' → test (a ∷ l) ≡ test (a ∷ l')) where
-    attributes-end : n ≡ NoMore → test (entry_values e s p unit at) ≡ test []
+    attributes-end : n ≡ None → test (entry_values e s p unit at) ≡ test []
     attributes-end r = named_end test name out on e s unit p at (subst (NamedAt e s p unit at name) r q)
 
-    attributes-turn : (x : EntryAttribute) → n ≡ More x
+    attributes-turn : (x : EntryAttribute) → n ≡ Some x
         → test (entry_values e s p unit at) ≡ test (valued x ∷ entry_values e s x.next.at unit x.values.at)
     attributes-turn x r = named-turn test name out on e s unit p at x (subst (NamedAt e s p unit at name) r q)
 
@@ -72,12 +65,12 @@ module _ (e : Encoding) (table : List ℕ) where
   low-on a l l' k = ap (λ (w : Verdict). pick (eqb a.name 0x11) (or_else (low_pc e table a.value) w) w) k
 
 module _ (e : Encoding) (table s unit : List ℕ) (p₀ at₀ p at : ℕ) (h : low_pcs e table (entry_values e s p₀ unit at₀) ≡ low_pcs e table (entry_values e s p unit at))
-    (n : NextAttribute) (q : NamedAt e s p unit at 0x11 n) where
-  pub low_end : n ≡ NoMore → is_dead ≡ low_pcs e table (entry_values e s p₀ unit at₀)
+    (n : Option EntryAttribute) (q : NamedAt e s p unit at 0x11 n) where
+  pub low_end : n ≡ None → is_dead ≡ low_pcs e table (entry_values e s p₀ unit at₀)
   unfolding low_pcs
   low_end r = sym (h ∙ attributes-end e s unit p at 0x11 n q (low_pcs e table) (low-out e table) (low-on e table) r)
 
-  module _ (x : EntryAttribute) (r : n ≡ More x) (w : Verdict) (l : w ≡ low_pc e table x.value) where
+  module _ (x : EntryAttribute) (r : n ≡ Some x) (w : Verdict) (l : w ≡ low_pc e table x.value) where
     low-met : low_pcs e table (entry_values e s p₀ unit at₀) ≡ or_else w (low_pcs e table (entry_values e s x.next.at unit x.values.at))
     unfolding low_pcs pick
     low-met =
@@ -111,13 +104,13 @@ module _ (e : Encoding) (fixed : Bool) (table unit : List ℕ) where
 
 module _ (e : Encoding) (fixed : Bool) (table s unit : List ℕ) (p₀ at₀ p at : ℕ)
     (h : locations e fixed table unit (entry_values e s p₀ unit at₀) ≡ locations e fixed table unit (entry_values e s p unit at))
-    (n : NextAttribute) (q : NamedAt e s p unit at 0x02 n) where
-  pub locations-end : n ≡ NoMore → is_dead ≡ locations e fixed table unit (entry_values e s p₀ unit at₀)
+    (n : Option EntryAttribute) (q : NamedAt e s p unit at 0x02 n) where
+  pub locations-end : n ≡ None → is_dead ≡ locations e fixed table unit (entry_values e s p₀ unit at₀)
   unfolding locations
   locations-end r =
       sym (h ∙ attributes-end e s unit p at 0x02 n q (locations e fixed table unit) (locations-out e fixed table unit) (locations-on e fixed table unit) r)
 
-  module _ (x : EntryAttribute) (r : n ≡ More x) where
+  module _ (x : EntryAttribute) (r : n ≡ Some x) where
     locations-turn : locations e fixed table unit (entry_values e s p₀ unit at₀)
         ≡ locations e fixed table unit (valued x ∷ entry_values e s x.next.at unit x.values.at)
     locations-turn =
@@ -157,7 +150,7 @@ module _ (e : Encoding) (s : List ℕ) (base : ℕ) (v : Attribute) where
   unfolding other_ranges pick
   other-form k = rw (ne_eqb v.form 0x17 k)
 
-  unresolved : offset_live e s Unresolved ≡ is_live
+  unresolved : offset_live e s None ≡ is_live
   unfolding offset_live older_live pairs_live
   unresolved = pick-either (λ (w : Verdict). w ≡ is_live) (eqb e.version 4) is_live is_live (λ _. refl) (λ _. refl)
 
@@ -169,15 +162,15 @@ module _ (e : Encoding) (s : List ℕ) (base : ℕ) (v : Attribute) where
     pub other-past : length s < base + v.field.value → is_live ≡ other_ranges e s base v
     other-past h = sym (ap (offset_live e s) (start-past s (base + v.field.value) h) ∙ unresolved) ∙ other_from
 
-    module _ (o : ListOffset) (p : o ≡ list_start s (base + v.field.value)) where
-      pub other-unresolved : o ≡ Unresolved → is_live ≡ other_ranges e s base v
+    module _ (o : Option Cursor) (p : o ≡ list_start s (base + v.field.value)) where
+      pub other-unresolved : o ≡ None → is_live ≡ other_ranges e s base v
       other-unresolved u = sym unresolved ∙ ap (offset_live e s) (sym u ∙ p) ∙ other_from
 
-      pub other-pairs : (c : Cursor) → o ≡ At c → (w : Verdict) → e.version ≡ 4 → w ≡ pairs_live e s (At c) → w ≡ other_ranges e s base v
+      pub other-pairs : (c : Cursor) → o ≡ Some c → (w : Verdict) → e.version ≡ 4 → w ≡ pairs_live e s (Some c) → w ≡ other_ranges e s base v
       unfolding offset_live
       other-pairs c u w n q = q ∙ sym (pick_yes _ _ _ (yes_eqb {a = e.version} {b = 4} n)) ∙ ap (offset_live e s) (sym u ∙ p) ∙ other_from
 
-      pub other-older : (c : Cursor) → o ≡ At c → (w : Verdict) → (e.version ≡ 4 → ⊥) → w ≡ older_live e s (At c) → w ≡ other_ranges e s base v
+      pub other-older : (c : Cursor) → o ≡ Some c → (w : Verdict) → (e.version ≡ 4 → ⊥) → w ≡ older_live e s (Some c) → w ≡ other_ranges e s base v
       unfolding offset_live
       other-older c u w n q = q ∙ sym (pick_no _ _ _ (no_eqb {a = e.version} {b = 4} n)) ∙ ap (offset_live e s) (sym u ∙ p) ∙ other_from
 
@@ -185,27 +178,27 @@ module _ (e : Encoding) (s : List ℕ) (base : ℕ) (v : Attribute) where
 
 module _ (e : Encoding) (ranges table : List ℕ) (rb nb : ℕ) (s unit : List ℕ) (p₀ at₀ p at : ℕ)
     (h : first_ranges e (ranges_by ranges table rb nb) (entry_values e s p₀ unit at₀) ≡ first_ranges e (ranges_by ranges table rb nb) (entry_values e s p unit at))
-    (r : SpecStep) (q : r ≡ spec_at s p) where
+    (r : Option SpecStep) (q : r ≡ spec_at s p) where
   first-none : entry_values e s p unit at ≡ [] → (w : Verdict) → w ≡ is_dead → w ≡ first_ranges e (ranges_by ranges table rb nb) (entry_values e s p₀ unit at₀)
   unfolding first_ranges
   first-none k w d = d ∙ sym (h ∙ ap (first_ranges e (ranges_by ranges table rb nb)) k)
 
-  pub first-last : (c : Cursor) → r ≡ LastSpec c → (w : Verdict) → w ≡ is_dead → w ≡ first_ranges e (ranges_by ranges table rb nb) (entry_values e s p₀ unit at₀)
+  pub first-last : (c : Cursor) → r ≡ Some (LastSpec c) → (w : Verdict) → w ≡ is_dead → w ≡ first_ranges e (ranges_by ranges table rb nb) (entry_values e s p₀ unit at₀)
   first-last c k = first-none (values-last e s p unit at c (sym q ∙ k))
 
-  pub first-bad : r ≡ NoSpec → (w : Verdict) → w ≡ is_dead → w ≡ first_ranges e (ranges_by ranges table rb nb) (entry_values e s p₀ unit at₀)
+  pub first-bad : r ≡ None → (w : Verdict) → w ≡ is_dead → w ≡ first_ranges e (ranges_by ranges table rb nb) (entry_values e s p₀ unit at₀)
   first-bad k = first-none (values-bad e s p unit at (sym q ∙ k))
 
-  module _ (a : AttributeSpec) (k : r ≡ Spec a) where
+  module _ (a : AttributeSpec) (k : r ≡ Some (Spec a)) where
     pub first-less : length s - a.next.at < length s - p
     first-less = omega (arith, (attribute-inside s p a (sym q ∙ k)).0, (attribute-inside s p a (sym q ∙ k)).1)
 
     -- one of another name
-    module _ (d : a.name ≡ 0x55 → ⊥) (m : Moved) (y : m ≡ attribute_end (attribute_at e unit at a.name a.form)) where
-      pub first-unpassed : m ≡ Nowhere → (w : Verdict) → w ≡ is_dead → w ≡ first_ranges e (ranges_by ranges table rb nb) (entry_values e s p₀ unit at₀)
+    module _ (d : a.name ≡ 0x55 → ⊥) (m : Option Cursor) (y : m ≡ attribute_end (attribute_at e unit at a.name a.form)) where
+      pub first-unpassed : m ≡ None → (w : Verdict) → w ≡ is_dead → w ≡ first_ranges e (ranges_by ranges table rb nb) (entry_values e s p₀ unit at₀)
       first-unpassed z = first-none (values-none e s p unit at a (sym q ∙ k) (unread e unit at a m y z))
 
-      pub first_past : (c : Cursor) → m ≡ EndsAt c
+      pub first_past : (c : Cursor) → m ≡ Some c
           → first_ranges e (ranges_by ranges table rb nb) (entry_values e s p₀ unit at₀)
           ≡ first_ranges e (ranges_by ranges table rb nb) (entry_values e s a.next.at unit c.at)
       unfolding first_ranges pick
@@ -216,11 +209,11 @@ module _ (e : Encoding) (ranges table : List ℕ) (rb nb : ℕ) (s unit : List �
           ∙ ap (λ (b : Bool). pick b (ranges_of e g v.value) (first_ranges e g (entry_values e s a.next.at unit v.value.field.end))) (ne_eqb a.name 0x55 d)
           ∙ ap (λ (c : Cursor). first_ranges e g (entry_values e s a.next.at unit c.at)) (sym v.past)
 
-    module _ (d : a.name ≡ 0x55) (o : AttributeRead) (y : o ≡ attribute_at e unit at a.name a.form) where
-      pub first-unread : o ≡ NoAttribute → (w : Verdict) → w ≡ is_dead → w ≡ first_ranges e (ranges_by ranges table rb nb) (entry_values e s p₀ unit at₀)
+    module _ (d : a.name ≡ 0x55) (o : Option Attribute) (y : o ≡ attribute_at e unit at a.name a.form) where
+      pub first-unread : o ≡ None → (w : Verdict) → w ≡ is_dead → w ≡ first_ranges e (ranges_by ranges table rb nb) (entry_values e s p₀ unit at₀)
       first-unread z = first-none (values-none e s p unit at a (sym q ∙ k) (sym y ∙ z))
 
-      module _ (v : Attribute) (z : o ≡ Attribute' v) where
+      module _ (v : Attribute) (z : o ≡ Some v) where
         first-turn : first_ranges e (ranges_by ranges table rb nb) (entry_values e s p₀ unit at₀) ≡ ranges_of e (ranges_by ranges table rb nb) v
         unfolding first_ranges pick
         first-turn =
@@ -233,20 +226,20 @@ module _ (e : Encoding) (ranges table : List ℕ) (rb nb : ℕ) (s unit : List �
         unfolding ranges_of pick
         first-form f w l = l ∙ sym (first-turn ∙ rw (ne_eqb v.form 0x23 f))
 
-        module _ (f : v.form ≡ 0x23) (i : ListOffset) (l : i ≡ list_offset e ranges nb v.field.value) where
+        module _ (f : v.form ≡ 0x23) (i : Option Cursor) (l : i ≡ list_offset e ranges nb v.field.value) where
           first-met : first_ranges e (ranges_by ranges table rb nb) (entry_values e s p₀ unit at₀) ≡ ranges_live e table ranges i
           unfolding ranges_of pick
           first-met = first-turn ∙ rw (eq-eqb v.form 0x23 f, l)
 
-          pub first-unresolved : i ≡ Unresolved → is_live ≡ first_ranges e (ranges_by ranges table rb nb) (entry_values e s p₀ unit at₀)
+          pub first-unresolved : i ≡ None → is_live ≡ first_ranges e (ranges_by ranges table rb nb) (entry_values e s p₀ unit at₀)
           unfolding ranges_live
           first-unresolved u = sym (first-met ∙ rw u)
 
-          first-list : (c : Cursor) → i ≡ At c → first_ranges e (ranges_by ranges table rb nb) (entry_values e s p₀ unit at₀) ≡ ranges_from e table ranges c.at false
+          first-list : (c : Cursor) → i ≡ Some c → first_ranges e (ranges_by ranges table rb nb) (entry_values e s p₀ unit at₀) ≡ ranges_from e table ranges c.at false
           first-list c u = first-met ∙ ap (ranges_live e table ranges) u ∙ ranges-start e table ranges c
 
           -- its list decided, at a place of it
-          pub first-decided : (c : Cursor) → i ≡ At c → (place : ℕ) (dead : Bool) → ranges_from e table ranges c.at false ≡ ranges_from e table ranges place dead
+          pub first-decided : (c : Cursor) → i ≡ Some c → (place : ℕ) (dead : Bool) → ranges_from e table ranges c.at false ≡ ranges_from e table ranges place dead
               → (x : Verdict) → ranges_from e table ranges place dead ≡ x → x ≡ first_ranges e (ranges_by ranges table rb nb) (entry_values e s p₀ unit at₀)
           first-decided c u place dead j x w = sym (first-list c u ∙ j ∙ w)
 
@@ -291,13 +284,13 @@ module _ (name : ℕ) where
 
 module _ (e : Encoding) (s unit : List ℕ) (name base₀ p₀ at₀ base p at : ℕ)
     (h : base_from name base₀ (entry_values e s p₀ unit at₀) ≡ base_from name base (entry_values e s p unit at))
-    (n : NextAttribute) (q : NamedAt e s p unit at name n) where
-  pub base-end : n ≡ NoMore → (tag : ℕ) → tag ≡ 0x11 → base ≡ base_after name base₀ tag (entry_values e s p₀ unit at₀)
+    (n : Option EntryAttribute) (q : NamedAt e s p unit at name n) where
+  pub base-end : n ≡ None → (tag : ℕ) → tag ≡ 0x11 → base ≡ base_after name base₀ tag (entry_values e s p₀ unit at₀)
   unfolding base_from base_after pick
   base-end r tag k =
       sym (h ∙ ap (λ (f : ℕ → ℕ). f base) (attributes-end e s unit p at name n q (base-by name) (base-out name) (base_on name) r)) ∙ rw (eq-eqb tag 0x11 k)
 
-  module _ (x : EntryAttribute) (r : n ≡ More x) where
+  module _ (x : EntryAttribute) (r : n ≡ Some x) where
     base-turn : (b : ℕ) → pick (eqb x.name name and eqb x.value.form 0x17) x.value.field.value base ≡ b
         → base_from name base₀ (entry_values e s p₀ unit at₀) ≡ base_from name b (entry_values e s x.next.at unit x.values.at)
     unfolding base_from

@@ -5,7 +5,10 @@ use Prim.Native.Nat.{ℕ, zero, suc, ◌+◌, ◌*◌, ◌/◌, ◌≤◌, ◌<�
 use native.Mathlib.Omega.{arith}
 use mathlib.Core.Bool.{Bool, true, false}
 use mathlib.Core.List.{List, [], ◌∷◌, ◌++◌}
-use mathlib.Core.Option.{Option, none, some}
+use Rattle.std.specs.Prelude.{Err, None, Ok, Option, Result, Some}
+use Rattle.readers.specs.declared.abbreviations.Declaration.{Declaration}
+use Rattle.readers.specs.declared.entries.Step.{Step}
+use Rattle.readers.specs.declared.header.UnitHeader.{UnitHeader}
 use mathlib.Core.Logic.{◌⊎◌, inl, inr, ⊎_elim}
 use lib.ListN.{length, get_or, take, drop, length-append, take-append-drop}
 use lib.Dec.{ltb, leb, eqb}
@@ -15,12 +18,8 @@ use Rattle.readers.proofs.Choice.{pick-either, All, all-some, all_none, all-pick
 use Rattle.readers.specs.Nesting.{no_parent, opened, closed, top}
 use Rattle.readers.specs.Abbreviations.{Placed, declared_in, abbreviations_of}
 use Rattle.readers.specs.Entries.{step_at}
-use Rattle.readers.specs.declared.header.HeaderRead.{HeaderRead}
-use Rattle.readers.specs.declared.header.HeaderRead.TheVariants.{Unit as Unit', Empty, Refused}
 use Rattle.readers.specs.declared.cursor.Encoding.{Encoding}
-use Rattle.readers.specs.declared.abbreviations.DeclarationFound.{DeclarationFound as Declared}
-use Rattle.readers.specs.declared.entries.Step.{Step}
-use Rattle.readers.specs.declared.entries.Step.TheVariants.{Entry as Entry', Terminator, End, Unreadable}
+use Rattle.readers.specs.declared.entries.Step.TheVariants.{Entry as Entry', Terminator, End}
 use Rattle.marking.specs.Below.{every}
 use Rattle.marking.specs.Graph.{references, parent_fits, pair_fits, root_fits, well_formed, takes}
 use Rattle.marking.specs.EntryReferences.{ReferencesFound, found, refused as refused_after}
@@ -41,18 +40,18 @@ ItemsIn high low [] = Unit {0}
 ItemsIn high low (entry y ∷ rest) = (y.offset.0 ≡ low) × (low < y.next.at) × (y.next.at ≤ high) × ItemsIn high y.next.at rest
 ItemsIn high low (terminator a b ∷ rest) = (low < b) × (b ≤ high) × ItemsIn high b rest
 
-module _ (e : Encoding) (abbreviations : List ℕ) (look : ℕ → Declared) (unit : List ℕ) where
-  turn_in : (at : ℕ) (r : Step) → step_at e abbreviations look unit at ≡ r → (k : ℕ → Items) → ((n : ℕ) → ItemsIn (length unit) n (k n).0)
+module _ (e : Encoding) (abbreviations : List ℕ) (look : ℕ → Option Declaration) (unit : List ℕ) where
+  turn_in : (at : ℕ) (r : Option Step) → step_at e abbreviations look unit at ≡ r → (k : ℕ → Items) → ((n : ℕ) → ItemsIn (length unit) n (k n).0)
       → ItemsIn (length unit) at (on_step at r k).0
   unfolding on_step push ItemsIn
-  turn_in at (Entry' x) q k h =
+  turn_in at (Some (Entry' x)) q k h =
       let i : EntryInside unit at x = step-inside e abbreviations look unit at x q in
       (i.here, omega (arith, i.coded, i.ahead), i.within, h x.next.at)
-  turn_in at (Terminator c) q k h =
+  turn_in at (Some (Terminator c)) q k h =
       let i = terminator-inside e abbreviations look unit at c q in
       (i.0, i.1, h c.at)
-  turn_in at End q k h = tt
-  turn_in at Unreadable q k h = tt
+  turn_in at (Some End) q k h = tt
+  turn_in at None q k h = tt
 
   within_in : (n at : ℕ) → ItemsIn (length unit) at (items_within e abbreviations look unit n at).0
   unfolding items_within ItemsIn
@@ -266,8 +265,8 @@ module _ (e : Encoding) (x : Sections) (unit : List ℕ) (room : Rooms) (from fi
       → Gives (Laws (length unit) first room 0 0)
       (on_declared o (λ ds. analyse_items e x unit room (start_of e) (items_from e x.abbreviations (declared_in ds) unit first).0 (items_from e x.abbreviations (declared_in ds) unit first).1))
   unfolding on_declared Gives Under
-  declared-laws none = tt
-  declared-laws (some ds) = items-laws e x unit room (length unit) first (start_of e) _ _ (items-in e x.abbreviations (declared_in ds) unit first) tt
+  declared-laws None = tt
+  declared-laws (Some ds) = items-laws e x unit room (length unit) first (start_of e) _ _ (items-in e x.abbreviations (declared_in ds) unit first) tt
 
   pub unit-rows : (rows : List EntryRow) → unit_analysed e x unit room from first ≡ analysed rows → UnitRows unit room first rows
   unfolding unit_analysed
@@ -289,11 +288,11 @@ module _ (x : Sections) (section : List ℕ) (room : Rooms) (rows : List EntryRo
   unfolding Rowed names_in
   no_rows = record { rowed = tt; entries = omega arith; references = omega arith; few = omega arith }
 
-  header-rows : (h : HeaderRead) → header_analysed x section room h ≡ analysed rows → UnitRows section room 0 rows
+  header-rows : (h : Result (Option UnitHeader) ℕ) → header_analysed x section room h ≡ analysed rows → UnitRows section room 0 rows
   unfolding header_analysed
-  header-rows Empty q = let z : [] ≡ rows = cc in subst (UnitRows section room 0) z no_rows
-  header-rows (Refused n) q = let z : ◌≡◌ {A = ℕ} 0 1 = cc in absurd (omega arith)
-  header-rows (Unit' h) q =
+  header-rows (Ok None) q = let z : [] ≡ rows = cc in subst (UnitRows section room 0) z no_rows
+  header-rows (Err n) q = let z : ◌≡◌ {A = ℕ} 0 1 = cc in absurd (omega arith)
+  header-rows (Ok (Some h)) q =
       let u : UnitRows (take h.end section) room h.first.0 rows =
       unit-rows h.encoding x (take h.end section) room h.abbreviations h.first.0 rows q in
       let l : length (take h.end section) ≤ length section = omega (arith, take-few h.end section) in
@@ -332,14 +331,14 @@ pub entry-below : (k : ℕ) (os : List ℕ) (t : ℕ) → All (λ i. i < k + len
 unfolding entry_from
 entry-below k [] t = all_none _
 entry-below k (o ∷ os) t =
-    all-pick _ (eqb o t) (some k) (entry_from (suc k) os t)
+    all-pick _ (eqb o t) (Some k) (entry_from (suc k) os t)
     (λ _. all-some (λ (i : ℕ). i < k + length (o ∷ os)) (omega arith))
     (λ _. all_map _ _ (entry_from (suc k) os t) (λ i h. omega arith) (entry-below (suc k) os t))
 
 pair_under : (n i : ℕ) → i < n → (o : Option ℕ) → All (λ (t : ℕ). t < n) o → Under n (pair_for i o)
 unfolding pair_for Under All
-pair_under n i h none a = tt
-pair_under n i h (some t) a = (h, (a, tt))
+pair_under n i h None a = tt
+pair_under n i h (Some t) a = (h, (a, tt))
 
 entry-pairs-under : (n : ℕ) (os : List ℕ) → length os ≡ n → (i : ℕ) → i < n → (ts : List ℕ) → Under n (pairs_of_entry os i ts)
 unfolding pairs_of_entry Under

@@ -3,7 +3,7 @@ use mathlib.Core.Path.{◌≡◌, refl, ap, sym, ◌∙◌}
 use Prim.Native.Nat.{ℕ, zero, suc, ◌+◌, ◌≤◌, ◌<◌}
 use native.Mathlib.Omega.{arith}
 use mathlib.Core.List.{List, [], ◌∷◌}
-use mathlib.Core.Option.{none, some}
+use Rattle.std.specs.Prelude.{None, Some}
 use mathlib.Core.Logic.{⊎_elim}
 use lib.ListN.{length, get_or, take}
 use lib.Seq.{length-take-le, get_or-take}
@@ -15,23 +15,23 @@ use Rattle.marking.specs.Inner.Resolution.{as_entry, Searched}
 use Rattle.marking.specs.declared.units.EntryFound.TheVariants.{Entry, Nothing}
 use Rattle.marking.proofs.Rows.{ascending-from, ascending-at}
 
-entry-none : (k : ℕ) (os : List ℕ) (t : ℕ) → ((i : ℕ) → i < length os → get_or os i 0 ≡ t → ⊥) → entry_from k os t ≡ none
+entry-none : (k : ℕ) (os : List ℕ) (t : ℕ) → ((i : ℕ) → i < length os → get_or os i 0 ≡ t → ⊥) → entry_from k os t ≡ None
 unfolding entry_from
 entry-none k [] t h = refl
 entry-none k (o ∷ os) t h =
     pick_no _ _ _ (no_eqb {a = o} {b = t} (h 0 (omega arith)))
     ∙ entry-none (suc k) os t (λ i l. h (suc i) (omega arith))
 
-entry-some : (low k : ℕ) (os : List ℕ) (t : ℕ) → Ascending low os → (i : ℕ) → i < length os → get_or os i 0 ≡ t → entry_from k os t ≡ some (k + i)
+entry-some : (low k : ℕ) (os : List ℕ) (t : ℕ) → Ascending low os → (i : ℕ) → i < length os → get_or os i 0 ≡ t → entry_from k os t ≡ Some (k + i)
 unfolding entry_from Ascending
 entry-some low k [] t a i l q = absurd (omega arith)
-entry-some low k (o ∷ os) t a zero l q = pick_yes _ _ _ (yes_eqb {a = o} {b = t} q) ∙ ap (λ (n : ℕ). some n) (let z : k ≡ k + 0 = omega arith in z)
+entry-some low k (o ∷ os) t a zero l q = pick_yes _ _ _ (yes_eqb {a = o} {b = t} q) ∙ ap (λ (n : ℕ). Some n) (let z : k ≡ k + 0 = omega arith in z)
 entry-some low k (o ∷ os) t a (suc i) l q =
     let b : suc o ≤ get_or os i 0 = ascending-from (suc o) os a.1 i (omega arith) in
     let p : get_or os i 0 ≡ t = q in
     pick_no _ _ _ (no_eqb {a = o} {b = t} (λ z. absurd (omega arith)))
     ∙ entry-some (suc o) (suc k) os t a.1 i (omega arith) q
-    ∙ ap (λ (n : ℕ). some n) (let z : suc k + i ≡ k + suc i = omega arith in z)
+    ∙ ap (λ (n : ℕ). Some n) (let z : suc k + i ≡ k + suc i = omega arith in z)
 
 -- what lies outside the part that is left is none
 pub record Halving (offsets : List ℕ) (n t low high : ℕ) : Type 0 where
@@ -72,7 +72,7 @@ module _ (offsets : List ℕ) (n t : ℕ) where
       halving-found q =
           let inside : n ≤ length offsets = h.searched.inside in
           let m' : m < n = omega (arith, h.inside) in
-          sym (ap as_entry (entry-some 0 0 (take n offsets) t h.searched.ascending m (omega (arith, length-take-le n offsets inside)) (get_or-take n offsets m 0 m' ∙ q) ∙ ap (λ (k : ℕ). some k) (let z : 0 + m ≡ m = omega arith in z)))
+          sym (ap as_entry (entry-some 0 0 (take n offsets) t h.searched.ascending m (omega (arith, length-take-le n offsets inside)) (get_or-take n offsets m 0 m' ∙ q) ∙ ap (λ (k : ℕ). Some k) (let z : 0 + m ≡ m = omega arith in z)))
 
       pub halving-up : get_or offsets m 0 < t → Halving offsets n t (m + 1) high
       halving-up q = record {

@@ -2,7 +2,9 @@
 use mathlib.Core.Path.{◌≡◌, refl, ap, ap₂, sym, ◌∙◌, subst}
 use Prim.Native.Nat.{ℕ, suc, ◌+◌, ◌*◌, ◌-◌, ◌^◌, ◌≤◌, ◌<◌}
 use mathlib.Core.Bool.{Bool, true, false}
-use mathlib.Core.Option.{Option, none, some}
+use Rattle.std.specs.Prelude.{None, Option, Some}
+use Rattle.readers.specs.declared.abbreviations.Declaration.{Declaration}
+use Rattle.readers.specs.declared.entries.Step.{Step}
 use mathlib.Core.List.{List, [], ◌∷◌, ◌++◌, append-nil, append_assoc}
 use native.Mathlib.Omega.{arith}
 use lib.ListN.{length, set, length-append, length-replicate, length-set}
@@ -16,17 +18,13 @@ use Rattle.readers.specs.Entries.{step_at}
 use Rattle.readers.specs.Inner.Entries.{entry_of, entry_to}
 use Rattle.readers.specs.Lists.{list_base}
 use Rattle.readers.specs.Nesting.{no_parent, opened, closed, top, nesting_of, nesting_opened, nesting_closed}
-use Rattle.readers.specs.declared.abbreviations.DeclarationFound.{DeclarationFound}
 use Rattle.readers.specs.declared.abbreviations.Checked.TheVariants.{Accepted}
 use Rattle.readers.specs.declared.cursor.Cursor.{Cursor}
 use Rattle.readers.specs.declared.cursor.Encoding.{Encoding}
-use Rattle.readers.specs.declared.cursor.Moved.{Moved}
-use Rattle.readers.specs.declared.cursor.Moved.TheVariants.{To as EndsAt, Unreadable as Nowhere}
 use Rattle.readers.specs.declared.entries.Entry.{Entry}
 use Rattle.readers.specs.declared.entries.EntryHead.{EntryHead}
 use Rattle.readers.specs.declared.entries.Nesting.{Nesting}
-use Rattle.readers.specs.declared.entries.Step.{Step}
-use Rattle.readers.specs.declared.entries.Step.TheVariants.{Entry as Entry', Terminator, End, Unreadable}
+use Rattle.readers.specs.declared.entries.Step.TheVariants.{Entry as Entry', Terminator, End}
 use Rattle.readers.proofs.Declarations.{find-plain}
 use Rattle.readers.proofs.Nesting.{opened-is, closed_is, chain-closed, length-opened, length-closed}
 use Rattle.readers.specs.Inner.Nesting.{Chain}
@@ -196,7 +194,7 @@ parent_of n stack e = ap (λ (m : Nesting). m.parent.0) e
 -- ---- where the loop stands
 
 pub record Stage
-    (e : Encoding) (x : Sections) (unit : List ℕ) (room : Rooms) (look : ℕ → DeclarationFound) (whole : Analysed)
+    (e : Encoding) (x : Sections) (unit : List ℕ) (room : Rooms) (look : ℕ → Option Declaration) (whole : Analysed)
     (offsets₀ parents₀ roots₀ ends₀ targets₀ offsets parents roots ends targets : List ℕ) (at count to : ℕ) (nesting : Nesting) (rb lb : ℕ) : Type 0 where
   pub done : List EntryRow
   pub stack : List ℕ
@@ -230,28 +228,28 @@ unfolding Left
 left-done f n whole rs col e h = rw e h.is
 
 -- what is analysed from here on, by the step
-module _ (e : Encoding) (x : Sections) (unit : List ℕ) (room : Rooms) (look : ℕ → DeclarationFound) (p : Reached) (at : ℕ) where
+module _ (e : Encoding) (x : Sections) (unit : List ℕ) (room : Rooms) (look : ℕ → Option Declaration) (p : Reached) (at : ℕ) where
   abbrev from_here : ℕ → Reached → Analysed
   from_here n q = analyse_items e x unit room q (items_from e x.abbreviations look unit n).0 (items_from e x.abbreviations look unit n).1
 
-  turned : (r : Step) → r ≡ step_at e x.abbreviations look unit at → items_from e x.abbreviations look unit at ≡ on_step at r (items_from e x.abbreviations look unit)
-  turned r s = items-step e x.abbreviations look unit at ∙ ap (λ (w : Step). on_step at w (items_from e x.abbreviations look unit)) (sym s)
+  turned : (r : Option Step) → r ≡ step_at e x.abbreviations look unit at → items_from e x.abbreviations look unit at ≡ on_step at r (items_from e x.abbreviations look unit)
+  turned r s = items-step e x.abbreviations look unit at ∙ ap (λ (w : Option Step). on_step at w (items_from e x.abbreviations look unit)) (sym s)
 
   by-items : (i : Items) → items_from e x.abbreviations look unit at ≡ i → from_here at p ≡ analyse_items e x unit room p i.0 i.1
   by-items i q = ap (λ (w : Items). analyse_items e x unit room p w.0 w.1) q
 
-  from_end : End ≡ step_at e x.abbreviations look unit at → from_here at p ≡ analysed []
+  from_end : Some End ≡ step_at e x.abbreviations look unit at → from_here at p ≡ analysed []
   unfolding on_step analyse_items
-  from_end s = by-items _ (turned End s)
+  from_end s = by-items _ (turned (Some End) s)
 
-  from-unreadable : Unreadable ≡ step_at e x.abbreviations look unit at → from_here at p ≡ refused 4
+  from-unreadable : None ≡ step_at e x.abbreviations look unit at → from_here at p ≡ refused 4
   unfolding on_step analyse_items
-  from-unreadable s = by-items _ (turned Unreadable s)
+  from-unreadable s = by-items _ (turned None s)
 
-  from-terminator : (c : Cursor) → Terminator c ≡ step_at e x.abbreviations look unit at
+  from-terminator : (c : Cursor) → Some (Terminator c) ≡ step_at e x.abbreviations look unit at
       → from_here at p ≡ from_here c.at (reached p.count p.references (closed p.stack) p.rnglists_base p.loclists_base)
   unfolding on_step push analyse_items
-  from-terminator c s = by-items _ (turned (Terminator c) s)
+  from-terminator c s = by-items _ (turned (Some (Terminator c)) s)
 
   module _ (y : Entry) where
     -- by the list bases after the entry, and the row that is found
@@ -268,14 +266,14 @@ module _ (e : Encoding) (x : Sections) (unit : List ℕ) (room : Rooms) (look : 
         (on_verdict (root_of e x unit rb y) (λ root. on_found (names_of e x unit lb y) (row_by rb lb root)))
         (refused 10)
 
-    from-entry : Entry' y ≡ step_at e x.abbreviations look unit at
+    from-entry : Some (Entry' y) ≡ step_at e x.abbreviations look unit at
         → (rb lb : ℕ) → rb ≡ base_of e x unit 0x74 p.rnglists_base y → lb ≡ base_of e x unit 0x8c p.loclists_base y → from_here at p ≡ entry_by rb lb
     unfolding on_step push analyse_items
-    from-entry s rb lb r l = by-items _ (turned (Entry' y) s) ∙ ap₂ entry_by (sym r) (sym l)
+    from-entry s rb lb r l = by-items _ (turned (Some (Entry' y)) s) ∙ ap₂ entry_by (sym r) (sym l)
 
 -- ---- the arms
 
-module _ {e : Encoding} {x : Sections} {unit : List ℕ} {room : Rooms} {look : ℕ → DeclarationFound} {whole : Analysed}
+module _ {e : Encoding} {x : Sections} {unit : List ℕ} {room : Rooms} {look : ℕ → Option Declaration} {whole : Analysed}
     {offsets₀ parents₀ roots₀ ends₀ targets₀ offsets parents roots ends targets : List ℕ} {at count to : ℕ} {nesting : Nesting} {rb lb : ℕ}
     (h : Stage e x unit room look whole offsets₀ parents₀ roots₀ ends₀ targets₀ offsets parents roots ends targets at count to nesting rb lb) where
   abbrev here : Reached
@@ -299,10 +297,10 @@ module _ {e : Encoding} {x : Sections} {unit : List ℕ} {room : Rooms} {look : 
         },
       )
 
-  pub stage-unreadable : Unreadable ≡ step_at e x.abbreviations look unit at → Ends (Refused' 4) targets
+  pub stage-unreadable : None ≡ step_at e x.abbreviations look unit at → Ends (Refused' 4) targets
   stage-unreadable s = refuses 4 (from-unreadable e x unit room look here at s) targets refl
 
-  pub stage-end : End ≡ step_at e x.abbreviations look unit at → Ends (Entries count to) targets
+  pub stage-end : Some End ≡ step_at e x.abbreviations look unit at → Ends (Entries count to) targets
   unfolding answer_of
   stage-end s =
       let w : whole ≡ analysed h.done = h.whole_is ∙ ap (onto_all h.done) (from_end e x unit room look here at s) ∙ onto-done h.done in (
@@ -316,7 +314,7 @@ module _ {e : Encoding} {x : Sections} {unit : List ℕ} {room : Rooms} {look : 
         },
       )
 
-  pub stage-terminator : (c : Cursor) → Terminator c ≡ step_at e x.abbreviations look unit at → (nesting' : Nesting) → nesting' ≡ nesting_closed parents nesting
+  pub stage-terminator : (c : Cursor) → Some (Terminator c) ≡ step_at e x.abbreviations look unit at → (nesting' : Nesting) → nesting' ≡ nesting_closed parents nesting
       → Stage e x unit room look whole offsets₀ parents₀ roots₀ ends₀ targets₀ offsets parents roots ends targets c.at count to nesting' rb lb
   stage-terminator c s nesting' n =
       let i = terminator-inside e x.abbreviations look unit at c (sym s) in
@@ -347,7 +345,7 @@ module _ {e : Encoding} {x : Sections} {unit : List ℕ} {room : Rooms} {look : 
         targets_room = h.targets_room;
       }
 
-  module _ (y : Entry) (s : Entry' y ≡ step_at e x.abbreviations look unit at) where
+  module _ (y : Entry) (s : Some (Entry' y) ≡ step_at e x.abbreviations look unit at) where
     -- how far an entry comes
     pub stage-ahead : (at < y.next.at) × (y.next.at ≤ length unit)
     stage-ahead =
@@ -370,10 +368,10 @@ module _ {e : Encoding} {x : Sections} {unit : List ℕ} {room : Rooms} {look : 
       pub targets-size : length targets' ≡ length targets
       targets-size = ap length t ∙ length-entry-table targets to (root_of e x unit rb' y) (names_of e x unit lb' y)
 
-      pub stage-refused : (n : ℕ) → NoRow n ≡ entry_answer (length targets) to (EndsAt y.next) (root_of e x unit rb' y) (names_of e x unit lb' y) → Ends (Refused' n) targets'
+      pub stage-refused : (n : ℕ) → NoRow n ≡ entry_answer (length targets) to (Some y.next) (root_of e x unit rb' y) (names_of e x unit lb' y) → Ends (Refused' n) targets'
       stage-refused n q = refuses n (from_row ∙ entry-refused (length targets) to n y.next _ _ (row_by e x unit room look here at y rb' lb') q) targets' targets-size
 
-      module _ (root place : ℕ) (q : RowFound root place y.next ≡ entry_answer (length targets) to (EndsAt y.next) (root_of e x unit rb' y) (names_of e x unit lb' y)) where
+      module _ (root place : ℕ) (q : RowFound root place y.next ≡ entry_answer (length targets) to (Some y.next) (root_of e x unit rb' y) (names_of e x unit lb' y)) where
         row : RowOf targets to (root_of e x unit rb' y) (names_of e x unit lb' y) root place
         row = entry_found_lem targets to root place y.next _ _ q
 
@@ -443,18 +441,18 @@ module _ {e : Encoding} {x : Sections} {unit : List ℕ} {room : Rooms} {look : 
             }
 
   -- an entry by its head and where its values end
-  module _ (g : EntryHead) (end : Moved) (s : entry_to g end ≡ step_at e x.abbreviations look unit at) where
+  module _ (g : EntryHead) (end : Option Cursor) (s : entry_to g end ≡ step_at e x.abbreviations look unit at) where
     pub head-full : (n : ℕ) → n ≡ refusal_of end 10 → room.entries ≤ count → Ends (Refused' n) targets
     unfolding entry_to refusal_of
     head-full n q f = of end s q
       where
-        of : (end' : Moved) → entry_to g end' ≡ step_at e x.abbreviations look unit at → n ≡ refusal_of end' 10 → Ends (Refused' n) targets
-        of (EndsAt next) s' q' = subst (λ (k : ℕ). Ends (Refused' k) targets) (sym q') (stage-full (entry_of g next) s' f)
-        of Nowhere s' q' = subst (λ (k : ℕ). Ends (Refused' k) targets) (sym q') (stage-unreadable s')
+        of : (end' : Option Cursor) → entry_to g end' ≡ step_at e x.abbreviations look unit at → n ≡ refusal_of end' 10 → Ends (Refused' n) targets
+        of (Some next) s' q' = subst (λ (k : ℕ). Ends (Refused' k) targets) (sym q') (stage-full (entry_of g next) s' f)
+        of None s' q' = subst (λ (k : ℕ). Ends (Refused' k) targets) (sym q') (stage-unreadable s')
 
     module _ (l : count < room.entries) (rb' lb' : ℕ) (r : rb' ≡ base_of e x unit 0x74 rb (headed g)) (b : lb' ≡ base_of e x unit 0x8c lb (headed g))
         (targets' : List ℕ) (t : targets' ≡ entry_table targets to (root_of e x unit rb' (headed g)) (names_of e x unit lb' (headed g))) where
-      abbrev answer_to : Moved → EntryAnalysis
+      abbrev answer_to : Option Cursor → EntryAnalysis
       answer_to m = entry_answer (length targets) to m (root_of e x unit rb' (headed g)) (names_of e x unit lb' (headed g))
 
       pub head-size : length targets' ≡ length targets
@@ -464,18 +462,18 @@ module _ {e : Encoding} {x : Sections} {unit : List ℕ} {room : Rooms} {look : 
       unfolding entry_to values_of_entry test_of root_of names_of base_of
       head-refused n q = of end s q
         where
-          of : (end' : Moved) → entry_to g end' ≡ step_at e x.abbreviations look unit at → NoRow n ≡ answer_to end' → Ends (Refused' n) targets'
-          of (EndsAt next) s' q' = stage-refused (entry_of g next) s' l rb' lb' r b targets' t n q'
-          of Nowhere s' q' =
+          of : (end' : Option Cursor) → entry_to g end' ≡ step_at e x.abbreviations look unit at → NoRow n ≡ answer_to end' → Ends (Refused' n) targets'
+          of (Some next) s' q' = stage-refused (entry_of g next) s' l rb' lb' r b targets' t n q'
+          of None s' q' =
               subst (λ (k : ℕ). Ends (Refused' k) targets')
               (sym (unread-four (length targets) to n (root_of e x unit rb' (headed g)) (names_of e x unit lb' (headed g)) q'))
               (refuses 4 (from-unreadable e x unit room look here at s') targets' head-size)
 
       module _ (root place : ℕ) (next : Cursor) (q : RowFound root place next ≡ answer_to end) where
-        there : end ≡ EndsAt next
+        there : end ≡ Some next
         there = answered-end (length targets) to root place next end (root_of e x unit rb' (headed g)) (names_of e x unit lb' (headed g)) q
 
-        entered : Entry' (entry_of g next) ≡ step_at e x.abbreviations look unit at
+        entered : Some (Entry' (entry_of g next)) ≡ step_at e x.abbreviations look unit at
         unfolding entry_to
         entered = sym (ap (entry_to g) there) ∙ s
 
@@ -494,15 +492,15 @@ module _ {e : Encoding} {x : Sections} {unit : List ℕ} {room : Rooms} {look : 
 -- ---- the start
 
 module _ (e : Encoding) (x : Sections) (unit : List ℕ) (room : Rooms) (from first : ℕ) (index : List ℕ) where
-  look-same : (ds : List Placed) → abbreviations_of x.abbreviations from ≡ some ds → index ≡ index_of x.abbreviations from (length index)
+  look-same : (ds : List Placed) → abbreviations_of x.abbreviations from ≡ Some ds → index ≡ index_of x.abbreviations from (length index)
       → (code : ℕ) → declared_in ds code ≡ find_at x.abbreviations from index code
   look-same ds q i code = sym (ap (λ (l : List ℕ). find_at x.abbreviations from l code) i ∙ find-plain x.abbreviations from (length index) ds q code)
 
   declared-start : (o : Option (List Placed)) → abbreviations_of x.abbreviations from ≡ o → as_checked o ≡ Accepted → index ≡ index_of x.abbreviations from (length index)
       → unit_analysed e x unit room from first ≡ from_here e x unit room (find_at x.abbreviations from index) (start_of e) first first (start_of e)
   unfolding as_checked unit_analysed on_declared
-  declared-start none q a i = let z : ◌≡◌ {A = ℕ} 0 1 = cc in absurd (omega arith)
-  declared-start (some ds) q a i =
+  declared-start None q a i = let z : ◌≡◌ {A = ℕ} 0 1 = cc in absurd (omega arith)
+  declared-start (Some ds) q a i =
       ap (λ (o : Option (List Placed)). on_declared o (λ ds. analyse_items e x unit room (start_of e) (items_from e x.abbreviations (declared_in ds) unit first).0 (items_from e x.abbreviations (declared_in ds) unit first).1)) q
       ∙ ap (λ (w : Items). analyse_items e x unit room (start_of e) w.0 w.1)
       (items-look e x.abbreviations (declared_in ds) (find_at x.abbreviations from index) (look-same ds q i) unit first)

@@ -1,7 +1,7 @@
 -- The first unit of a section: its header, its declarations, then its entries; what the columns and the index hold in each case. Assumes nothing.
 use mathlib.Core.Path.{◌≡◌, refl, ap, ap₂, sym, ◌∙◌, subst}
 use Prim.Native.Nat.{ℕ, ◌-◌, ◌≤◌, ◌<◌}
-use mathlib.Core.Option.{Option, none, some}
+use Rattle.std.specs.Prelude.{Err, None, Ok, Option, Result, Some}
 use mathlib.Core.List.{List, []}
 use native.Mathlib.Omega.{arith}
 use lib.ListN.{length, take, length-replicate}
@@ -13,8 +13,6 @@ use Rattle.readers.specs.Abbreviations.{Placed, abbreviations_of, as_checked, ch
 use Rattle.readers.specs.declared.abbreviations.Checked.{Checked}
 use Rattle.readers.specs.declared.abbreviations.Checked.TheVariants.{Accepted, Refused as Undeclared}
 use Rattle.readers.specs.declared.header.UnitHeader.{UnitHeader}
-use Rattle.readers.specs.declared.header.HeaderRead.{HeaderRead}
-use Rattle.readers.specs.declared.header.HeaderRead.TheVariants.{Unit as Unit', Empty, Refused as Unheaded}
 use Rattle.readers.proofs.Declarations.{length-indexed}
 use Rattle.marking.specs.Analysis.{Sections, Rooms, rooms, EntryRow, Analysed, analysed, refused, on_declared, unit_analysed, after_list, header_by, header_analysed, analysis_of}
 use Rattle.marking.specs.KeepList.{KeepList, keep_refusal}
@@ -120,8 +118,8 @@ rooms-by {entries} {references} h a b c d t =
 
 length-for : (n : ℕ) (o : Option (List Placed)) → length (index_for n o) ≡ n
 unfolding index_for
-length-for n none = length-replicate n 0
-length-for n (some ds) = length-indexed (zeros n) ds ∙ length-replicate n 0
+length-for n None = length-replicate n 0
+length-for n (Some ds) = length-indexed (zeros n) ds ∙ length-replicate n 0
 
 length-index : (s : List ℕ) (from n : ℕ) → length (index_of s from n) ≡ n
 unfolding index_of
@@ -136,60 +134,60 @@ Clear nf np nr ne nt offsets parents roots ends targets = (offsets ≡ zeros nf)
 
 -- ---- what is to be analysed
 
-module _ (abbreviations : List ℕ) (r : HeaderRead) where
-  pub found_none : r ≡ Empty → (k : ℕ) (index : List ℕ) → index ≡ zeros k
+module _ (abbreviations : List ℕ) (r : Result (Option UnitHeader) ℕ) where
+  pub found_none : r ≡ Ok None → (k : ℕ) (index : List ℕ) → index ≡ zeros k
       → (Answered' (Entries 0 0) ≡ unit_found abbreviations r) × (index ≡ index_after abbreviations r k)
   unfolding unit_found index_after
-  found_none e k index i = (sym (ap (unit_found abbreviations) e), i ∙ sym (ap (λ (q : HeaderRead). index_after abbreviations q k) e))
+  found_none e k index i = (sym (ap (unit_found abbreviations) e), i ∙ sym (ap (λ (q : Result (Option UnitHeader) ℕ). index_after abbreviations q k) e))
 
-  pub found-refused : (n : ℕ) → r ≡ Unheaded n → (k : ℕ) (index : List ℕ) → index ≡ zeros k
+  pub found-refused : (n : ℕ) → r ≡ Err n → (k : ℕ) (index : List ℕ) → index ≡ zeros k
       → (Answered' (Refused' n) ≡ unit_found abbreviations r) × (index ≡ index_after abbreviations r k)
   unfolding unit_found index_after
-  found-refused n e k index i = (sym (ap (unit_found abbreviations) e), i ∙ sym (ap (λ (q : HeaderRead). index_after abbreviations q k) e))
+  found-refused n e k index i = (sym (ap (unit_found abbreviations) e), i ∙ sym (ap (λ (q : Result (Option UnitHeader) ℕ). index_after abbreviations q k) e))
 
-  pub found-checked : (h : UnitHeader) → r ≡ Unit' h → (c : Checked) → checked_of abbreviations h.abbreviations ≡ c
+  pub found-checked : (h : UnitHeader) → r ≡ Ok (Some h) → (c : Checked) → checked_of abbreviations h.abbreviations ≡ c
       → (k' k : ℕ) → k' ≡ k → (index : List ℕ) → index ≡ index_of abbreviations h.abbreviations k'
       → (unit_checked h c ≡ unit_found abbreviations r) × (index ≡ index_after abbreviations r k)
   unfolding unit_found index_after
   found-checked h e c q k' k same index i = (
     ap (unit_checked h) (sym q) ∙ sym (ap (unit_found abbreviations) e),
-    i ∙ ap (index_of abbreviations h.abbreviations) same ∙ sym (ap (λ (w : HeaderRead). index_after abbreviations w k) e),
+    i ∙ ap (index_of abbreviations h.abbreviations) same ∙ sym (ap (λ (w : Result (Option UnitHeader) ℕ). index_after abbreviations w k) e),
   )
 
 -- found by a header that is the section's
-pub found-by : (abbreviations : List ℕ) (o r : HeaderRead) (f : UnitFound) (index : List ℕ) (k : ℕ) → o ≡ r
+pub found-by : (abbreviations : List ℕ) (o r : Result (Option UnitHeader) ℕ) (f : UnitFound) (index : List ℕ) (k : ℕ) → o ≡ r
     → (f ≡ unit_found abbreviations r) × (index ≡ index_after abbreviations r k)
     → (f ≡ unit_found abbreviations o) × (index ≡ index_after abbreviations o k)
 found-by abbreviations o r f index k e q =
-    (q.0 ∙ sym (ap (unit_found abbreviations) e), q.1 ∙ sym (ap (λ (h : HeaderRead). index_after abbreviations h k) e))
+    (q.0 ∙ sym (ap (unit_found abbreviations) e), q.1 ∙ sym (ap (λ (h : Result (Option UnitHeader) ℕ). index_after abbreviations h k) e))
 
 unit-checked : (h h' : UnitHeader) (c : Checked) → Found' h ≡ unit_checked h' c → (h' ≡ h) × (c ≡ Accepted)
 unfolding unit_checked
 unit-checked h h' Accepted q = let e : h' ≡ h = cc in (e, refl)
 unit-checked h h' Undeclared q = let z : ◌≡◌ {A = ℕ} 0 1 = cc in absurd (omega arith)
 
-unit-found : (abbreviations : List ℕ) (r : HeaderRead) (h : UnitHeader) → Found' h ≡ unit_found abbreviations r
-    → (r ≡ Unit' h) × (checked_of abbreviations h.abbreviations ≡ Accepted)
+unit-found : (abbreviations : List ℕ) (r : Result (Option UnitHeader) ℕ) (h : UnitHeader) → Found' h ≡ unit_found abbreviations r
+    → (r ≡ Ok (Some h)) × (checked_of abbreviations h.abbreviations ≡ Accepted)
 unfolding unit_found
-unit-found abbreviations Empty h q = let z : ◌≡◌ {A = ℕ} 0 1 = cc in absurd (omega arith)
-unit-found abbreviations (Unheaded n) h q = let z : ◌≡◌ {A = ℕ} 0 1 = cc in absurd (omega arith)
-unit-found abbreviations (Unit' h') h q =
+unit-found abbreviations (Ok None) h q = let z : ◌≡◌ {A = ℕ} 0 1 = cc in absurd (omega arith)
+unit-found abbreviations (Err n) h q = let z : ◌≡◌ {A = ℕ} 0 1 = cc in absurd (omega arith)
+unit-found abbreviations (Ok (Some h')) h q =
     let u : (h' ≡ h) × (checked_of abbreviations h'.abbreviations ≡ Accepted) = unit-checked h h' _ q in
-    (ap Unit' u.0, ap (λ (g : UnitHeader). checked_of abbreviations g.abbreviations) (sym u.0) ∙ u.1)
+    (ap Ok (Some u.0), ap (λ (g : UnitHeader). checked_of abbreviations g.abbreviations) (sym u.0) ∙ u.1)
 
-index-found : (abbreviations : List ℕ) (r : HeaderRead) (h : UnitHeader) (k : ℕ) (index : List ℕ) → r ≡ Unit' h
+index-found : (abbreviations : List ℕ) (r : Result (Option UnitHeader) ℕ) (h : UnitHeader) (k : ℕ) (index : List ℕ) → r ≡ Ok (Some h)
     → index ≡ index_after abbreviations r k → index ≡ index_of abbreviations h.abbreviations k
 unfolding index_after
-index-found abbreviations r h k index e i = i ∙ ap (λ (q : HeaderRead). index_after abbreviations q k) e
+index-found abbreviations r h k index e i = i ∙ ap (λ (q : Result (Option UnitHeader) ℕ). index_after abbreviations q k) e
 
-pub unit-ready : (keep : KeepList) (own : HeaderRead) (abbreviations index section : List ℕ) (h : UnitHeader) (k : ℕ) {entries references n m : ℕ}
+pub unit-ready : (keep : KeepList) (own : Result (Option UnitHeader) ℕ) (abbreviations index section : List ℕ) (h : UnitHeader) (k : ℕ) {entries references n m : ℕ}
     (nf np nr ne nt : ℕ) (offsets parents roots ends targets : List ℕ)
     → Found' h ≡ unit_found abbreviations (after_list (keep_refusal keep) own) → index ≡ index_after abbreviations (after_list (keep_refusal keep) own) k
     → Room entries references (length offsets) (length parents) (length roots) (length ends) (length targets) n m
     → Clear nf np nr ne nt offsets parents roots ends targets
     → AnalysisInput abbreviations index h.abbreviations (take h.end section) n m offsets parents roots ends targets keep
 unit-ready keep own abbreviations index section h k {entries} {references} {n} {m} nf np nr ne nt offsets parents roots ends targets q i r c =
-    let u : (after_list (keep_refusal keep) own ≡ Unit' h) × (checked_of abbreviations h.abbreviations ≡ Accepted) = unit-found abbreviations (after_list (keep_refusal keep) own) h q in
+    let u : (after_list (keep_refusal keep) own ≡ Ok (Some h)) × (checked_of abbreviations h.abbreviations ≡ Accepted) = unit-found abbreviations (after_list (keep_refusal keep) own) h q in
     let j : index ≡ index_of abbreviations h.abbreviations k = index-found abbreviations (after_list (keep_refusal keep) own) h k index u.0 i in
     let e₁ : n ≡ least entries (least (least (length offsets) (length parents)) (least (length roots) (length ends))) = r.rows in
     let e₂ : m ≡ least references (length targets) = r.names in
@@ -223,7 +221,7 @@ module _ (x : Sections) (section : List ℕ) (room : Rooms) (k nf np nr ne nt : 
       × ((index ≡ index_after x.abbreviations (header_by x section) k)
       × Filled' (analysis_of x section room) nf np nr ne nt offsets parents roots ends targets)
 
-  analysis-by : (r : HeaderRead) → header_by x section ≡ r → analysis_of x section room ≡ header_analysed x section room r
+  analysis-by : (r : Result (Option UnitHeader) ℕ) → header_by x section ≡ r → analysis_of x section room ≡ header_analysed x section room r
   unfolding analysis_of
   analysis-by r e = ap (header_analysed x section room) e
 
@@ -276,23 +274,23 @@ module _ (x : Sections) (section : List ℕ) (room : Rooms) (k nf np nr ne nt : 
       undeclared : (h : UnitHeader) (a : Analysis) (o : Option (List Placed)) → Answered' a ≡ unit_checked h (as_checked o)
           → (f : List Placed → Analysed) → (a ≡ Refused' 3) × (on_declared o f ≡ refused 3)
       unfolding as_checked on_declared unit_checked
-      undeclared h a none q f = let e : a ≡ Refused' 3 = cc in (e, refl)
-      undeclared h a (some ds) q f = let z : ◌≡◌ {A = ℕ} 0 1 = cc in absurd (omega arith)
+      undeclared h a None q f = let e : a ≡ Refused' 3 = cc in (e, refl)
+      undeclared h a (Some ds) q f = let z : ◌≡◌ {A = ℕ} 0 1 = cc in absurd (omega arith)
 
       pub section-answered : (a : Analysis) → Answered' a ≡ unit_found x.abbreviations (header_by x section) → Answered a
       unfolding header_analysed unit_analysed checked_of unit_found
       section-answered a q = of (header_by x section) refl q
         where
-          of : (r : HeaderRead) → header_by x section ≡ r → Answered' a ≡ unit_found x.abbreviations r → Answered a
-          of Empty e q' =
+          of : (r : Result (Option UnitHeader) ℕ) → header_by x section ≡ r → Answered' a ≡ unit_found x.abbreviations r → Answered a
+          of (Ok None) e q' =
               let s : a ≡ Entries 0 0 = cc in
-              subst Answered (sym s) (section-empty (analysis-by Empty e))
-          of (Unheaded n) e q' =
+              subst Answered (sym s) (section-empty (analysis-by (Ok None) e))
+          of (Err n) e q' =
               let s : a ≡ Refused' n = cc in
-              subst Answered (sym s) (section-refused n (analysis-by (Unheaded n) e))
-          of (Unit' h) e q' =
+              subst Answered (sym s) (section-refused n (analysis-by (Err n) e))
+          of (Ok (Some h)) e q' =
               let u = undeclared h a (abbreviations_of x.abbreviations h.abbreviations) q' _ in
-              subst Answered (sym u.0) (section-refused 3 (analysis-by (Unit' h) e ∙ u.1))
+              subst Answered (sym u.0) (section-refused 3 (analysis-by (Ok (Some h)) e ∙ u.1))
 
     pub section-unit : (h : UnitHeader) → Found' h ≡ unit_found x.abbreviations (header_by x section)
         → (room' : Rooms) (nf' np' nr' ne' nt' : ℕ) (r : Analysis) → room' ≡ room → nf' ≡ nf → np' ≡ np → nr' ≡ nr → ne' ≡ ne → nt' ≡ nt
@@ -301,9 +299,9 @@ module _ (x : Sections) (section : List ℕ) (room : Rooms) (k nf np nr ne nt : 
         → Answered r
     unfolding header_analysed
     section-unit h u room' nf' np' nr' ne' nt' r m o p q s t f =
-        let e : header_by x section ≡ Unit' h = (unit-found x.abbreviations (header_by x section) h u).0 in
+        let e : header_by x section ≡ Ok (Some h) = (unit-found x.abbreviations (header_by x section) h u).0 in
         let w : unit_analysed h.encoding x (take h.end section) room' h.abbreviations h.first.0 ≡ analysis_of x section room =
-        ap (λ (n : Rooms). unit_analysed h.encoding x (take h.end section) n h.abbreviations h.first.0) m ∙ sym (analysis-by (Unit' h) e) in (
+        ap (λ (n : Rooms). unit_analysed h.encoding x (take h.end section) n h.abbreviations h.first.0) m ∙ sym (analysis-by (Ok (Some h)) e) in (
           f.0 ∙ ap answer_of w,
           (
             i,

@@ -7,8 +7,8 @@ use mathlib.Core.List.{List, [], ◌++◌}
 use lib.ListN.{length, take, drop, replicate, length-append, length-drop, length-replicate, take-append-drop}
 use lib.Seq.{take_at}
 use Rattle.readers.specs.Choice.{pick, zeros}
-use Rattle.readers.specs.declared.header.HeaderRead.{HeaderRead}
-use Rattle.readers.specs.declared.header.HeaderRead.TheVariants.{Unit as Unit', Empty, Refused as Unheaded}
+use Rattle.std.specs.Prelude.{Err, None, Ok, Option, Result, Some}
+use Rattle.readers.specs.declared.header.UnitHeader.{UnitHeader}
 use Rattle.marking.specs.Graph.{Graph, graph, size}
 use Rattle.marking.specs.Marks.{marks_of, kept_count, mark_answer, end_marks}
 use Rattle.marking.specs.Analysis.{Sections, Rooms, EntryRow, Analysed, analysed, refused, header_by, header_analysed, analysis_of}
@@ -103,13 +103,13 @@ record Bounded (room : Rooms) (rows : List EntryRow) : Type 0 where
   pub ruled : UnitRows unit room first rows
 
 module _ (x : Sections) (section : List ℕ) (room : Rooms) (rows : List EntryRow) where
-  header-bounded : (h : HeaderRead) → header_by x section ≡ h → header_analysed x section room h ≡ analysed rows → Bounded room rows
+  header-bounded : (h : Result (Option UnitHeader) ℕ) → header_by x section ≡ h → header_analysed x section room h ≡ analysed rows → Bounded room rows
   unfolding header_analysed
-  header-bounded Empty e q =
+  header-bounded (Ok None) e q =
       let z : [] ≡ rows = cc in
       record { unit = []; first = 0; ruled = subst (UnitRows [] room 0) z (no_rows x [] room rows) }
-  header-bounded (Unheaded n) e q = let z : ◌≡◌ {A = ℕ} 0 1 = cc in absurd (omega arith)
-  header-bounded (Unit' h) e q = record {
+  header-bounded (Err n) e q = let z : ◌≡◌ {A = ℕ} 0 1 = cc in absurd (omega arith)
+  header-bounded (Ok (Some h)) e q = record {
     unit = take h.end section;
     first = h.first.0;
     ruled = unit-rows h.encoding x (take h.end section) room h.abbreviations h.first.0 rows q;

@@ -2,8 +2,8 @@
 -- the header, 3, then entry by entry 4 unreadable, 10 entry table full, 5, 6 or 17 of the root test, 5 or 7 of the
 -- references in attribute order, 11 reference table full. "Full" is that the count up to and including the present entry
 -- exceeds what is lent.
-use Rattle.std.specs.Prelude.{ℕ, suc, ◌+◌, Bool, true, false, List, [], ◌∷◌, length, take, ltb, leb, eqb}
-use Rattle.std.proofs.Math.Option.{Option, none, some}
+use Rattle.std.specs.Prelude.{ℕ, suc, ◌+◌, Bool, true, false, List, [], ◌∷◌, length, take, ltb, leb, eqb, Err, None, Ok, Option, Result, Some}
+use Rattle.readers.specs.declared.header.UnitHeader.{UnitHeader}
 use Rattle.readers.specs.Choice.{pick}
 use Rattle.readers.specs.Codes.{DW_AT_loclists_base, DW_AT_rnglists_base}
 use Rattle.readers.specs.Header.{header_of}
@@ -11,12 +11,9 @@ use Rattle.readers.specs.Lists.{list_base}
 use Rattle.readers.specs.Abbreviations.{Placed, declared_in, abbreviations_of}
 use Rattle.readers.specs.Refusals.{refusal_of_checked, refusal_of_step}
 use Rattle.readers.specs.declared.abbreviations.Checked.TheVariants.{Refused as Unchecked}
-use Rattle.readers.specs.declared.entries.Step.TheVariants.{Unreadable}
 use Rattle.readers.specs.Nesting.{opened, closed, top}
 use Rattle.readers.specs.declared.cursor.Encoding.{Encoding}
 use Rattle.readers.specs.declared.entries.Entry.{Entry}
-use Rattle.readers.specs.declared.header.HeaderRead.{HeaderRead}
-use Rattle.readers.specs.declared.header.HeaderRead.TheVariants.{Unit as Unit', Empty, Refused}
 use Rattle.marking.specs.Roots.{ranges_by, root_test, base_after}
 use Rattle.marking.specs.KeepList.{KeepList, keep_refusal, treatment_of, treated}
 use Rattle.readers.specs.EntryAttributes.{Valued, entry_values}
@@ -122,7 +119,7 @@ module _ (e : Encoding) (x : Sections) (unit : List ℕ) where
     -- THE analysis of the items of a unit
     unfoldable pub analyse_items : Reached → List Item → Bool → Analysed
     analyse_items p [] true = analysed []
-    analyse_items p [] false = refused (refusal_of_step Unreadable)
+    analyse_items p [] false = refused (refusal_of_step None)
     analyse_items p (terminator a b ∷ rest) whole =
         analyse_items
         (reached p.count p.references (closed p.stack) p.rnglists_base p.loclists_base)
@@ -144,8 +141,8 @@ module _ (e : Encoding) (x : Sections) (unit : List ℕ) where
 -- ---- the first unit of a section
 
 unfoldable pub on_declared : Option (List Placed) → (List Placed → Analysed) → Analysed
-on_declared none k = refused (refusal_of_checked Unchecked)
-on_declared (some ds) k = k ds
+on_declared None k = refused (refusal_of_checked Unchecked)
+on_declared (Some ds) k = k ds
 
 -- a unit by what its header says: how it is read, where its declarations start and where its first entry does
 unfoldable pub unit_analysed : Encoding → Sections → List ℕ → Rooms → ℕ → ℕ → Analysed
@@ -156,17 +153,17 @@ unit_analysed e x unit room from first =
     analyse_items e x unit room (start_of e) items.0 items.1)
 
 -- the header once a keep list was judged, by the list's refusal or 0: "both before 1", whatever the section holds
-unfoldable pub after_list : ℕ → HeaderRead → HeaderRead
-after_list n r = pick (eqb n 0) r (Refused n)
+unfoldable pub after_list : ℕ → Result (Option UnitHeader) ℕ → Result (Option UnitHeader) ℕ
+after_list n r = pick (eqb n 0) r (Err n)
 
-unfoldable pub header_by : Sections → List ℕ → HeaderRead
+unfoldable pub header_by : Sections → List ℕ → Result (Option UnitHeader) ℕ
 header_by x section = after_list (keep_refusal x.keep) (header_of x.setting.big_endian section)
 
 -- an empty section has no entries; 19 and 20 of the keep list, 1 and 2 of the header, then 3
-unfoldable pub header_analysed : Sections → List ℕ → Rooms → HeaderRead → Analysed
-header_analysed x section room Empty = analysed []
-header_analysed x section room (Refused n) = refused n
-header_analysed x section room (Unit' h) =
+unfoldable pub header_analysed : Sections → List ℕ → Rooms → Result (Option UnitHeader) ℕ → Analysed
+header_analysed x section room (Ok None) = analysed []
+header_analysed x section room (Err n) = refused n
+header_analysed x section room (Ok (Some h)) =
     unit_analysed h.encoding x (take h.end section) room h.abbreviations h.first.0
 
 -- THE analysis of the first unit of a section

@@ -1,9 +1,8 @@
 -- The rows of a unit in lent columns: an entry each in stream order, zeros after them.
-use Rattle.std.specs.Prelude.{ℕ, ◌+◌, ◌-◌, ◌/◌, List, [], ◌∷◌, ◌++◌, length, leb}
+use Rattle.std.specs.Prelude.{ℕ, ◌+◌, ◌-◌, ◌/◌, List, [], ◌∷◌, ◌++◌, length, leb, Err, None, Ok, Option, Result, Some}
 use Rattle.readers.specs.Choice.{pick, zeros}
 use Rattle.readers.specs.Abbreviations.{index_of}
-use Rattle.readers.specs.declared.header.HeaderRead.{HeaderRead}
-use Rattle.readers.specs.declared.header.HeaderRead.TheVariants.{Unit as Unit', Empty, Refused}
+use Rattle.readers.specs.declared.header.UnitHeader.{UnitHeader}
 use Rattle.marking.specs.Analysis.{Rooms, rooms, EntryRow, Analysed, analysed, refused}
 use Rattle.marking.specs.declared.analysis.Analysis.{Analysis}
 use Rattle.marking.specs.declared.analysis.Analysis.TheVariants.{Entries, Refused as Refused'}
@@ -51,10 +50,10 @@ unfoldable pub unit_rooms : ℕ → ℕ → ℕ → ℕ → ℕ → ℕ → ℕ 
 unit_rooms marks pairs offsets parents roots ends targets = rooms_of marks (pairs / 2) offsets parents roots ends targets
 
 -- the index of the unit's declarations, zeros where there is no unit
-unfoldable pub index_after : List ℕ → HeaderRead → ℕ → List ℕ
-index_after abbreviations Empty n = zeros n
-index_after abbreviations (Refused k) n = zeros n
-index_after abbreviations (Unit' h) n = index_of abbreviations h.abbreviations n
+unfoldable pub index_after : List ℕ → Result (Option UnitHeader) ℕ → ℕ → List ℕ
+index_after abbreviations (Ok None) n = zeros n
+index_after abbreviations (Err k) n = zeros n
+index_after abbreviations (Ok (Some h)) n = index_of abbreviations h.abbreviations n
 
 -- as the code answers it
 unfoldable pub answer_of : Analysed → Analysis

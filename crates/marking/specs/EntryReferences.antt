@@ -1,6 +1,6 @@
 -- The references of an entry (document 01, "References"; gc.rs: `scan_live_die_attrs`, `scan_loclist_for_refs`): every
 -- one that its attributes hold, in attribute order, repeats and dangling ones included; 5 and 7 as they are met.
-use Rattle.std.specs.Prelude.{ℕ, true, false, not, List, [], ◌∷◌, ◌++◌, length, leb, eqb}
+use Rattle.std.specs.Prelude.{ℕ, true, false, not, List, [], ◌∷◌, ◌++◌, length, leb, eqb, Bool, None, Option, Some}
 use Rattle.readers.specs.Choice.{pick, ◌and◌, ◌or◌}
 use Rattle.readers.specs.Codes.{DW_AT_location, DW_AT_sibling, DW_FORM_exprloc, DW_FORM_loclistx}
 use Rattle.readers.specs.Codes.{DW_FORM_ref1, DW_FORM_ref_addr, DW_FORM_ref_udata, DW_FORM_sec_offset}
@@ -11,13 +11,10 @@ use Rattle.readers.specs.Refusals.{refusal_of_walk, refusal_of_list, refusal_of_
 use Rattle.readers.specs.Lists.{list_offset, list_start}
 use Rattle.readers.specs.References.{Named, walk_of, references_in}
 use Rattle.readers.specs.declared.cursor.Encoding.{Encoding}
-use Rattle.readers.specs.declared.expressions.Walk.{Walk}
-use Rattle.readers.specs.declared.expressions.Walk.TheVariants.{Walked, Unreadable}
-use Rattle.readers.specs.declared.lists.ListOffset.{ListOffset}
-use Rattle.readers.specs.declared.lists.ListOffset.TheVariants.{At, Unresolved}
-use Rattle.readers.specs.declared.operations.ListEntry.{ListEntry}
+use Rattle.readers.specs.declared.cursor.Cursor.{Cursor}
 use Rattle.readers.specs.declared.operations.ListStep.{ListStep}
-use Rattle.readers.specs.declared.operations.ListStep.TheVariants.{Entry, End, Unreadable as NoEntry}
+use Rattle.readers.specs.declared.operations.ListEntry.{ListEntry}
+use Rattle.readers.specs.declared.operations.ListStep.TheVariants.{Entry, End}
 use Rattle.marking.specs.Walking.{Next, go, stop, walk}
 use Rattle.readers.specs.EntryAttributes.{Valued}
 
@@ -41,10 +38,10 @@ unfoldable pub targets : List Named → List ℕ
 targets [] = []
 targets (r ∷ rs) = r.1 ∷ targets rs
 
-unfoldable pub walk_found : List ℕ → Walk → ReferencesFound
-walk_found xs Unreadable = refused [] (refusal_of_walk Unreadable)
-walk_found xs (Walked n true) = refused [] (refusal_of_walk (Walked n true))
-walk_found xs (Walked n false) = found xs
+unfoldable pub walk_found : List ℕ → Option (ℕ × Bool) → ReferencesFound
+walk_found xs None = refused [] (refusal_of_walk None)
+walk_found xs (Some (n, true)) = refused [] (refusal_of_walk (Some (n, true)))
+walk_found xs (Some (n, false)) = found xs
 
 unfoldable pub expression_found : Encoding → List ℕ → ReferencesFound
 expression_found e s = walk_found (targets (references_in e s)) (walk_of e s)
@@ -68,16 +65,16 @@ unfoldable pub on_location : List ℕ → ListEntry → ReferencesFound → Next
 on_location sofar x (found ys) = go (record { at = x.next.at; sofar = sofar ++ ys })
 on_location sofar x (refused ys n) = stop (refused (sofar ++ ys) n)
 
-unfoldable pub location_step : Encoding → List ℕ → List ℕ → ListStep → Next ListReached ReferencesFound
-location_step e s sofar (Entry x) = on_location sofar x (location_found e s x)
-location_step e s sofar End = stop (found sofar)
-location_step e s sofar NoEntry = stop (refused sofar (refusal_of_list NoEntry))
+unfoldable pub location_step : Encoding → List ℕ → List ℕ → Option ListStep → Next ListReached ReferencesFound
+location_step e s sofar (Some (Entry x)) = on_location sofar x (location_found e s x)
+location_step e s sofar (Some End) = stop (found sofar)
+location_step e s sofar None = stop (refused sofar (refusal_of_list None))
 
 -- an offset that can't be resolved is 5
-unfoldable pub list_found : Encoding → List ℕ → ListOffset → ReferencesFound
-list_found e s (At c) =
+unfoldable pub list_found : Encoding → List ℕ → Option Cursor → ReferencesFound
+list_found e s (Some c) =
     walk reached_at (length s) (λ (p : ListReached). location_step e s p.sofar (list_entry_at e true s p.at)) (found []) (record { at = c.at; sofar = [] })
-list_found e s Unresolved = refused [] (refusal_of_locations Unresolved)
+list_found e s None = refused [] (refusal_of_locations None)
 
 -- ---- attributes
 

@@ -1,7 +1,7 @@
 -- References in a lent table, from a place on.
-use Rattle.std.specs.Prelude.{ℕ, suc, List, [], ◌∷◌, length, set, ltb}
+use Rattle.std.specs.Prelude.{ℕ, suc, List, [], ◌∷◌, length, set, ltb, Option}
 use Rattle.readers.specs.Choice.{pick}
-use Rattle.readers.specs.declared.cursor.Moved.{Moved}
+use Rattle.readers.specs.declared.cursor.Cursor.{Cursor}
 use Rattle.marking.specs.EntryReferences.{ReferencesFound, found, refused}
 use Rattle.marking.specs.declared.references.Scanned.{Scanned}
 use Rattle.marking.specs.declared.references.Scanned.TheVariants.{To, Refused}
@@ -32,6 +32,6 @@ table_after table at (found xs) = written table at xs
 table_after table at (refused xs n) = written table at xs
 
 -- the scan of an entry also says where its values end
-unfoldable pub entry_scanned : Scanned → Moved → EntryScan
+unfoldable pub entry_scanned : Scanned → Option Cursor → EntryScan
 entry_scanned (To place) end = Through place end
 entry_scanned (Refused n) end = Refused' n

@@ -1,6 +1,5 @@
 -- The references of a unit resolved from offsets to entries, its graph and its marks.
-use Rattle.std.specs.Prelude.{ℕ, suc, ◌≤◌, List, [], ◌∷◌, ◌++◌, length, eqb}
-use Rattle.std.proofs.Math.Option.{Option, none, some}
+use Rattle.std.specs.Prelude.{ℕ, suc, ◌≤◌, List, [], ◌∷◌, ◌++◌, length, eqb, None, Option, Some}
 use Rattle.readers.specs.Choice.{pick}
 use Rattle.marking.specs.Graph.{Graph, graph}
 use Rattle.marking.specs.Marks.{marks_of, kept_count}
@@ -11,13 +10,13 @@ use Rattle.marking.specs.declared.units.UnitMarks.TheVariants.{Marked, Refused a
 
 -- the entry that starts at an offset: the offsets from entry k on
 unfoldable pub entry_from : ℕ → List ℕ → ℕ → Option ℕ
-entry_from k [] t = none
-entry_from k (o ∷ os) t = pick (eqb o t) (some k) (entry_from (suc k) os t)
+entry_from k [] t = None
+entry_from k (o ∷ os) t = pick (eqb o t) (Some k) (entry_from (suc k) os t)
 
 -- a pair for a reference that names an entry; one that names none marks nothing
 unfoldable pub pair_for : ℕ → Option ℕ → List ℕ
-pair_for i none = []
-pair_for i (some t) = i ∷ t ∷ []
+pair_for i None = []
+pair_for i (Some t) = i ∷ t ∷ []
 
 unfoldable pub pairs_of_entry : List ℕ → ℕ → List ℕ → List ℕ
 pairs_of_entry os i [] = []

@@ -1,6 +1,6 @@
 -- Which entries are roots (document 01, "Roots"; gc.rs: `is_root`, `rnglist_has_live_entry`, `ranges_has_live_entry`,
 -- `location_expr_live`).
-use Rattle.std.specs.Prelude.{ℕ, ◌+◌, Bool, true, false, not, List, [], ◌∷◌, length, ltb, leb, eqb}
+use Rattle.std.specs.Prelude.{ℕ, ◌+◌, Bool, true, false, not, List, [], ◌∷◌, length, ltb, leb, eqb, None, Option, Some}
 use Rattle.readers.specs.Choice.{pick, ◌and◌, ◌or◌}
 use Rattle.readers.specs.Codes.{DW_AT_location, DW_AT_low_pc, DW_AT_ranges, DW_FORM_addr, DW_FORM_addrx}
 use Rattle.readers.specs.Codes.{DW_FORM_addrx1, DW_FORM_addrx4, DW_FORM_exprloc, DW_FORM_rnglistx}
@@ -15,16 +15,11 @@ use Rattle.readers.specs.Lists.{list_offset, list_start}
 use Rattle.readers.specs.declared.cursor.Encoding.{Encoding}
 use Rattle.readers.specs.declared.attributes.Attribute.{Attribute}
 use Rattle.readers.specs.declared.fields.Operands.{Operands}
-use Rattle.readers.specs.declared.fields.OperandsRead.{OperandsRead}
-use Rattle.readers.specs.declared.fields.OperandsRead.TheVariants.{Read as Row', Unreadable as NoRow}
-use Rattle.readers.specs.declared.lists.ListOffset.{ListOffset}
-use Rattle.readers.specs.declared.lists.ListOffset.TheVariants.{At, Unresolved}
-use Rattle.readers.specs.declared.operations.Operation.{Operation}
-use Rattle.readers.specs.declared.operations.OperationRead.{OperationRead}
-use Rattle.readers.specs.declared.operations.OperationRead.TheVariants.{Read as Operation', Unreadable as NoOperation}
-use Rattle.readers.specs.declared.operations.ListEntry.{ListEntry}
+use Rattle.readers.specs.declared.cursor.Cursor.{Cursor}
 use Rattle.readers.specs.declared.operations.ListStep.{ListStep}
-use Rattle.readers.specs.declared.operations.ListStep.TheVariants.{Entry, End, Unreadable as NoEntry}
+use Rattle.readers.specs.declared.operations.Operation.{Operation}
+use Rattle.readers.specs.declared.operations.ListEntry.{ListEntry}
+use Rattle.readers.specs.declared.operations.ListStep.TheVariants.{Entry, End}
 use Rattle.marking.specs.Walking.{Next, go, stop, walk}
 use Rattle.marking.specs.Addresses.{is_tombstone, lookup_at}
 use Rattle.marking.specs.declared.addresses.AddressLookup.{AddressLookup}
@@ -78,16 +73,16 @@ module _ (e : Encoding) (table : List ℕ) where
       (pick (eqb x.kind DW_RLE_base_address) (toward x (is_tombstone x.first.value e.address_size))
       (pick (is_tombstone x.first.value e.address_size) (toward x dead) (stop is_live)))))
 
-  unfoldable pub range_step : Bool → ListStep → RootTurn
-  range_step dead (Entry x) = range_entry dead x
-  range_step dead End = stop is_dead
-  range_step dead NoEntry = stop (refused (refusal_of_list NoEntry))
+  unfoldable pub range_step : Bool → Option ListStep → RootTurn
+  range_step dead (Some (Entry x)) = range_entry dead x
+  range_step dead (Some End) = stop is_dead
+  range_step dead None = stop (refused (refusal_of_list None))
 
   -- the list of a rnglistx: what can't be resolved is live
-  unfoldable pub ranges_live : List ℕ → ListOffset → Verdict
-  ranges_live s (At c) =
+  unfoldable pub ranges_live : List ℕ → Option Cursor → Verdict
+  ranges_live s (Some c) =
       walk place (length s) (λ (p : Flagged). range_step p.flag (list_entry_at e false s p.at)) is_dead (record { at = c.at; flag = false })
-  ranges_live s Unresolved = is_live
+  ranges_live s None = is_live
 
 -- ---- a variable's location: `fixed` is whether fixed addresses count (document 02, Point 7; off, as in gc.rs, they do not)
 
@@ -100,10 +95,10 @@ module _ (e : Encoding) (fixed : Bool) (table : List ℕ) where
       pick (eqb op.row row_address_index) (lookup_at table op.first.value)
       (pick (fixed and eqb op.row row_address and not (is_tombstone op.first.value e.address_size)) Live Dead)
 
-  unfoldable pub operation_step : Bool → OperationRead → RootTurn
-  operation_step live (Operation' op) =
+  unfoldable pub operation_step : Bool → Option Operation → RootTurn
+  operation_step live (Some op) =
       on_lookup (operation_live op) stop (go (record { at = op.next.at; flag = true })) (go (record { at = op.next.at; flag = live }))
-  operation_step live NoOperation = stop (refused (refusal_of_operation NoOperation))
+  operation_step live None = stop (refused (refusal_of_operation None))
 
   -- a location with a live index or, where they count, a fixed address; read to its end, nested entry values stepped over
   unfoldable pub location_live : List ℕ → Verdict
@@ -113,14 +108,14 @@ module _ (e : Encoding) (fixed : Bool) (table : List ℕ) where
       is_dead (record { at = 0; flag = false })
 
 -- the older test (document 01), of .debug_rnglists in version 5: base_address only is skipped; every other entry is live
-unfoldable pub older_step : ListStep → RootTurn
-older_step (Entry x) = pick (eqb x.kind DW_RLE_base_address) (toward x false) (stop is_live)
-older_step End = stop is_dead
-older_step NoEntry = stop (refused (refusal_of_list NoEntry))
+unfoldable pub older_step : Option ListStep → RootTurn
+older_step (Some (Entry x)) = pick (eqb x.kind DW_RLE_base_address) (toward x false) (stop is_live)
+older_step (Some End) = stop is_dead
+older_step None = stop (refused (refusal_of_list None))
 
-unfoldable pub older_live : Encoding → List ℕ → ListOffset → Verdict
-older_live e s (At c) = walk place (length s) (λ (p : Flagged). older_step (list_entry_at e false s p.at)) is_dead (record { at = c.at; flag = false })
-older_live e s Unresolved = is_live
+unfoldable pub older_live : Encoding → List ℕ → Option Cursor → Verdict
+older_live e s (Some c) = walk place (length s) (λ (p : Flagged). older_step (list_entry_at e false s p.at)) is_dead (record { at = c.at; flag = false })
+older_live e s None = is_live
 
 -- ---- .debug_ranges of version 4 (DWARF 4, 2.17.3): pairs of addresses, of which 0 and 0 end the list, and a begin of all
 -- ones makes the second the base of those after it
@@ -138,17 +133,17 @@ range_pair e dead r =
     (pick (is_tombstone begin e.address_size and not (eqb begin 0)) (past_pair r (is_tombstone end e.address_size))
     (pick (dead or is_tombstone begin e.address_size) (past_pair r dead) (stop is_live)))
 
-unfoldable pub pair_step : Encoding → Bool → OperandsRead → RootTurn
-pair_step e dead (Row' r) = range_pair e dead r
-pair_step e dead NoRow = stop (refused (refusal_of_list NoEntry))
+unfoldable pub pair_step : Encoding → Bool → Option Operands → RootTurn
+pair_step e dead (Some r) = range_pair e dead r
+pair_step e dead None = stop (refused (refusal_of_list None))
 
 -- a list ends at its end pair or where the section ends between two pairs, as every list does; cut inside one it is 5
-unfoldable pub pairs_live : Encoding → List ℕ → ListOffset → Verdict
-pairs_live e s (At c) =
+unfoldable pub pairs_live : Encoding → List ℕ → Option Cursor → Verdict
+pairs_live e s (Some c) =
     walk place (length s)
     (λ (p : Flagged). pick (ltb p.at (length s)) (pair_step e p.flag (row_at e s p.at row_address_address)) (stop is_dead))
     is_dead (record { at = c.at; flag = false })
-pairs_live e s Unresolved = is_live
+pairs_live e s None = is_live
 
 -- DW_AT_low_pc: addrx and GNU_addr_index ask the table, addr the tombstone test, any other form is live
 unfoldable pub low_pc : Encoding → List ℕ → Attribute → Verdict
@@ -186,7 +181,7 @@ abbrev pub ranges_by : List ℕ → List ℕ → ℕ → ℕ → Ranges
 ranges_by ranges table ranges_base rnglists_base = record { ranges = ranges; table = table; ranges_base = ranges_base; rnglists_base = rnglists_base }
 
 -- a list that is named by its offset: by its pairs in version 4, else by the older test
-unfoldable pub offset_live : Encoding → List ℕ → ListOffset → Verdict
+unfoldable pub offset_live : Encoding → List ℕ → Option Cursor → Verdict
 offset_live e s start = pick (eqb e.version 4) (pairs_live e s start) (older_live e s start)
 
 -- DW_AT_ranges not in rnglistx: sec_offset by its list, another form live. The sum has no bound here: above 64 bits it

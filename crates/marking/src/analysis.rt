@@ -18,9 +18,9 @@ use crate::root_test::{Verdict, base_after, is_root};
 use crate::setting::Setting;
 use readers::abbreviations::{Checked, check_abbreviations};
 use readers::codes::{DW_AT_loclists_base, DW_AT_rnglists_base};
-use readers::cursor::{Cursor, Encoding, Moved};
+use readers::cursor::{Cursor, Encoding};
 use readers::entries::{EntryHead, HeadStep, Nesting};
-use readers::header::{HeaderRead, UnitHeader, unit_header, unit_part};
+use readers::header::{UnitHeader, unit_header, unit_part};
 use readers::lists::list_base;
 use readers::offsets::EntryIndex;
 use readers::tables::{clear, clear_bytes};
@@ -43,7 +43,7 @@ pub enum Analysis {
 // The header of a section's first unit, as it was read, and the analysis of its entries.
 #[derive(Clone, Copy)]
 pub struct UnitAnalysis {
-    pub header: HeaderRead,
+    pub header: Result<Option<UnitHeader>, u8>,
     pub analysis: Analysis,
 }
 
@@ -61,8 +61,8 @@ fn refusal(unit: &[u8], abbreviations: &[u8], x: EntryHead, e: Encoding, n: u8) 
     let declaration = x.declaration;
     let values = x.values;
     match values.past_values(unit, abbreviations, declaration.attributes, e) {
-        Moved::To(_) => n,
-        Moved::Unreadable => 4,
+        Some(_) => n,
+        None => 4,
     }
 }
 
@@ -166,12 +166,12 @@ fn analyse_entry(
     ) {
         EntryScan::Through { place, end } => {
             match end {
-                Moved::To(next) => EntryAnalysis::Found {
+                Some(next) => EntryAnalysis::Found {
                     root,
                     to: place,
                     next,
                 },
-                Moved::Unreadable => EntryAnalysis::Refused(4),
+                None => EntryAnalysis::Refused(4),
             }
         }
         EntryScan::Refused(n) => { EntryAnalysis::Refused(refusal(unit, abbreviations, x, e, n)) }
@@ -221,7 +221,7 @@ fn analyse_entries(
     let mut loclists_base = list_base(e);
     loop {
         match c.entry_head(unit, abbreviations, from, index) {
-            HeadStep::Entry(x) => {
+            Some(HeadStep::Entry(x)) => {
                 if count >= entry_room {
                     return Analysis::Refused(refusal(unit, abbreviations, x, e, 10));
                 }
@@ -290,17 +290,17 @@ fn analyse_entries(
                     }
                 }
             }
-            HeadStep::Terminator(next) => {
+            Some(HeadStep::Terminator(next)) => {
                 nesting = nesting.after_terminator(parents);
                 c = next;
             }
-            HeadStep::End => {
+            Some(HeadStep::End) => {
                 return Analysis::Entries {
                     entries: count,
                     references: to,
                 };
             }
-            HeadStep::Unreadable => {
+            None => {
                 return Analysis::Refused(4);
             }
         }
@@ -457,18 +457,18 @@ fn analyse_unit<'a>(
 
 // The unit of a header, its declarations checked and the index of them filled: a refusal of the header, or of the keep
 // list before it, then 3 of the abbreviations. An empty section has no entries.
-fn find_unit(header: HeaderRead, abbreviations: &[u8], index: &mut [u64]) -> UnitFound
+fn find_unit(header: Result<Option<UnitHeader>, u8>, abbreviations: &[u8], index: &mut [u64]) -> UnitFound
     ensures { (result ≡ unit_found abbreviations.now header)
         × (index.new ≡ index_after abbreviations.now header (length index.old)) }
 {
     clear(index);
     match header {
-        HeaderRead::Empty => UnitFound::Answered(Analysis::Entries {
+        Ok(None) => UnitFound::Answered(Analysis::Entries {
             entries: 0,
             references: 0,
         }),
-        HeaderRead::Refused(n) => UnitFound::Answered(Analysis::Refused(n)),
-        HeaderRead::Unit(h) => {
+        Err(n) => UnitFound::Answered(Analysis::Refused(n)),
+        Ok(Some(h)) => {
             let Checked::Accepted = check_abbreviations(abbreviations, h.abbreviations, index)
             else {
                 return UnitFound::Answered(Analysis::Refused(3));
@@ -480,13 +480,13 @@ fn find_unit(header: HeaderRead, abbreviations: &[u8], index: &mut [u64]) -> Uni
 
 // The header of a section's first unit, before which the keep list is judged: 19 and 20 come before anything of the
 // unit.
-fn listed_header(section: &[u8], big_endian: bool, tags: &[u8], treatments: &[u8]) -> HeaderRead
+fn listed_header(section: &[u8], big_endian: bool, tags: &[u8], treatments: &[u8]) -> Result<Option<UnitHeader>, u8>
     ensures { result ≡ after_list (keep_refusal (keep_in tags.now treatments.now))
         (header_of big_endian section.now) }
 {
     let n = keep_refusal(tags, treatments);
     if n != 0 {
-        return HeaderRead::Refused(n);
+        return Err(n);
     }
     unit_header(section, big_endian)
 }

@@ -5,9 +5,9 @@ ghost use Rattle.readers.specs.EntryAttributes.{taken};
 ghost use Rattle.marking.specs.Inner.Named.{NamedAt};
 
 use readers::abbreviations::{AttributeSpec, SpecStep};
-use readers::attributes::AttributeRead;
-use readers::cursor::{Cursor, Encoding, Moved};
-use readers::entry_attributes::{EntryAttribute, NextAttribute};
+use readers::attributes::Attribute;
+use readers::cursor::{Cursor, Encoding};
+use readers::entry_attributes::EntryAttribute;
 
 // The attribute of a specification, at its value; none where that can't be read.
 pub(crate) fn attribute_of(
@@ -15,18 +15,16 @@ pub(crate) fn attribute_of(
     a: AttributeSpec,
     values: Cursor,
     e: Encoding,
-) -> NextAttribute
+) -> Option<EntryAttribute>
     ensures { result ≡ taken a (attribute_at e unit.now values.at a.name a.form) }
 {
-    let AttributeRead::Read(value) = values.attribute(unit, a.name, a.form, e) else {
-        return NextAttribute::NoMore;
-    };
+    let value = values.attribute(unit, a.name, a.form, e)?;
     let name = a.name;
     let declared = a.form;
     let next = a.next;
     let field = value.field;
     let values = field.next();
-    NextAttribute::More(EntryAttribute {
+    Some(EntryAttribute {
         name,
         declared,
         value,
@@ -44,29 +42,27 @@ pub(crate) fn next_named(
     values: Cursor,
     name: u64,
     e: Encoding,
-) -> NextAttribute
+) -> Option<EntryAttribute>
     ensures { NamedAt e abbreviations.now specs.at unit.now values.at name result }
 {
     let mut p = specs;
     let mut c = values;
     loop {
         match p.attribute_spec(abbreviations) {
-            SpecStep::Attribute(a) => {
+            Some(SpecStep::Attribute(a)) => {
                 if a.name == name {
                     return attribute_of(unit, a, c, e);
                 }
                 let next = a.next;
-                let Moved::To(past) = c.past_attribute(unit, a.name, a.form, e) else {
-                    return NextAttribute::NoMore;
-                };
+                let past = c.past_attribute(unit, a.name, a.form, e)?;
                 c = past;
                 p = next;
             }
-            SpecStep::Last(_) => {
-                return NextAttribute::NoMore;
+            Some(SpecStep::Last(_)) => {
+                return None;
             }
-            SpecStep::Unreadable => {
-                return NextAttribute::NoMore;
+            None => {
+                return None;
             }
         }
     }

@@ -19,10 +19,10 @@ use readers::codes::{
     DW_FORM_ref_udata, DW_FORM_ref1, DW_FORM_sec_offset, DW_LLE_base_address, DW_LLE_base_addressx,
     DW_LLE_default_location,
 };
-use readers::cursor::{Cursor, Encoding, Moved};
-use readers::entry_attributes::{EntryAttribute, NextAttribute, next_attribute};
-use readers::expressions::{Walk, Yield, walk_expression};
-use readers::lists::{ListOffset, list_offset, list_start};
+use readers::cursor::{Cursor, Encoding};
+use readers::entry_attributes::{EntryAttribute, next_attribute};
+use readers::expressions::{Reference, walk_expression};
+use readers::lists::{Cursor, list_offset, list_start};
 use readers::offsets::UnitOffset;
 use readers::operations::{ListEntry, ListStep};
 
@@ -37,7 +37,7 @@ pub enum Scanned {
 // What the scan of an entry finds: that place, and where the values of its attributes end; or the number of a refusal.
 #[derive(Clone, Copy)]
 pub enum EntryScan {
-    Through { place: usize, end: Moved },
+    Through { place: usize, end: Option<Cursor> },
     Refused(u8),
 }
 
@@ -62,7 +62,7 @@ fn put_references(s: &[u8], e: Encoding, targets: &mut [u64], at: usize) -> usiz
     let mut c = Cursor { at: 0 };
     let mut to = at;
     loop {
-        let Yield::Reference(r) = c.next_reference(s, e) else {
+        let Some(r) = c.next_reference(s, e) else {
             return to;
         };
         to = put(targets, to, r.target);
@@ -76,10 +76,7 @@ fn scan_expression(s: &[u8], e: Encoding, targets: &mut [u64], at: usize) -> Sca
         (result ≡ scanned_to (length targets.old) at found)
         × (targets.new ≡ table_after targets.old at found) }
 {
-    let Walk::Walked {
-        references,
-        absolute,
-    } = walk_expression(s, e)
+    let Some((references, absolute)) = walk_expression(s, e)
     else {
         return Scanned::Refused(5);
     };
@@ -129,7 +126,7 @@ fn scan_loclist_for_refs(
     let mut to = at;
     loop {
         match c.list_entry(s, true, e) {
-            ListStep::Entry(x) => {
+            Some(ListStep::Entry(x)) => {
                 let next = x.next;
                 match scan_location(s, x, e, targets, to) {
                     Scanned::To(place) => {
@@ -141,10 +138,10 @@ fn scan_loclist_for_refs(
                 }
                 c = next;
             }
-            ListStep::End => {
+            Some(ListStep::End) => {
                 return Scanned::To(to);
             }
-            ListStep::Unreadable => {
+            None => {
                 return Scanned::Refused(5);
             }
         }
@@ -154,7 +151,7 @@ fn scan_loclist_for_refs(
 // The references of a location list that may not be resolved: 5.
 fn scan_loclist_at(
     s: &[u8],
-    start: ListOffset,
+    start: Option<Cursor>,
     e: Encoding,
     targets: &mut [u64],
     at: usize,
@@ -164,8 +161,8 @@ fn scan_loclist_at(
         × (targets.new ≡ table_after targets.old at found) }
 {
     match start {
-        ListOffset::At(c) => scan_loclist_for_refs(s, c, e, targets, at),
-        ListOffset::Unresolved => Scanned::Refused(5),
+        Some(c) => scan_loclist_for_refs(s, c, e, targets, at),
+        None => Scanned::Refused(5),
     }
 }
 
@@ -227,13 +224,13 @@ fn scan_attribute(
 
 // Where the values of an entry end, by the place that no attribute was read at: there, if its specifications end there
 // too; else it is unreadable.
-fn values_end(abbreviations: &[u8], specs: Cursor, values: Cursor) -> Moved
+fn values_end(abbreviations: &[u8], specs: Cursor, values: Cursor) -> Option<Cursor>
     ensures { result ≡ end_by values.at (spec_at abbreviations.now specs.at) }
 {
     match specs.attribute_spec(abbreviations) {
-        SpecStep::Attribute(_) => Moved::Unreadable,
-        SpecStep::Last(_) => Moved::To(values),
-        SpecStep::Unreadable => Moved::Unreadable,
+        Some(SpecStep::Attribute(_)) => None,
+        Some(SpecStep::Last(_)) => Some(values),
+        None => None,
     }
 }
 
@@ -261,7 +258,7 @@ pub fn scan_live_die_attrs(
     let mut c = values;
     let mut to = at;
     loop {
-        let NextAttribute::More(a) = next_attribute(unit, abbreviations, p, c, e) else {
+        let Some(a) = next_attribute(unit, abbreviations, p, c, e) else {
             return EntryScan::Through {
                 place: to,
                 end: values_end(abbreviations, p, c),

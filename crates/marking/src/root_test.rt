@@ -11,19 +11,19 @@ use crate::addresses::{AddressLookup, is_tombstone, lookup};
 use crate::named::next_named;
 use crate::setting::Setting;
 use readers::abbreviations::SpecStep;
-use readers::attributes::{Attribute, AttributeRead};
+use readers::attributes::Attribute;
 use readers::codes::{
     DW_AT_location, DW_AT_low_pc, DW_AT_ranges, DW_FORM_GNU_addr_index, DW_FORM_addr,
     DW_FORM_addrx, DW_FORM_addrx1, DW_FORM_addrx4, DW_FORM_exprloc, DW_FORM_rnglistx,
     DW_FORM_sec_offset, DW_RLE_base_address, DW_RLE_base_addressx, DW_RLE_offset_pair,
     DW_RLE_startx_length, DW_TAG_compile_unit, DW_TAG_subprogram, DW_TAG_variable,
 };
-use readers::cursor::{Cursor, Encoding, Moved};
-use readers::entry_attributes::NextAttribute;
-use readers::fields::{Operands, OperandsRead};
+use readers::cursor::{Cursor, Encoding};
+use readers::entry_attributes::EntryAttribute;
+use readers::fields::Operands;
 use readers::layouts::{ROW_ADDRESS, ROW_ADDRESS_ADDRESS, ROW_ADDRESS_INDEX};
-use readers::lists::{ListOffset, list_offset, list_start};
-use readers::operations::{ListEntry, ListStep, Operation, OperationRead};
+use readers::lists::{Cursor, list_offset, list_start};
+use readers::operations::{ListEntry, ListStep, Operation};
 
 // ---- an address, a list, an expression
 
@@ -86,16 +86,16 @@ pub fn ranges_has_live_entry(ranges: &[u8], start: Cursor, e: Encoding) -> Verdi
     let mut c = start;
     loop {
         match c.list_entry(ranges, false, e) {
-            ListStep::Entry(x) => {
+            Some(ListStep::Entry(x)) => {
                 if x.kind != DW_RLE_base_address {
                     return Verdict::Live;
                 }
                 c = x.next;
             }
-            ListStep::End => {
+            Some(ListStep::End) => {
                 return Verdict::Dead;
             }
-            ListStep::Unreadable => {
+            None => {
                 return Verdict::Refused(5);
             }
         }
@@ -136,7 +136,7 @@ pub fn pairs_live(ranges: &[u8], start: Cursor, e: Encoding) -> Verdict
     let mut c = start;
     let mut base_dead = false;
     while c.at < ranges.len() {
-        let OperandsRead::Read(r) = c.row(ranges, ROW_ADDRESS_ADDRESS, e) else {
+        let Some(r) = c.row(ranges, ROW_ADDRESS_ADDRESS, e) else {
             return Verdict::Refused(5);
         };
         let third = r.third;
@@ -188,7 +188,7 @@ pub fn location_expr_live(s: &[u8], table: &[u8], fixed_addresses: bool, e: Enco
     let mut c = Cursor { at: 0 };
     let mut live = false;
     while c.at < s.len() {
-        let OperationRead::Read(op) = c.operation(s, e) else {
+        let Some(op) = c.operation(s, e) else {
             return Verdict::Refused(5);
         };
         let next = op.next;
@@ -255,7 +255,7 @@ pub fn low_pcs(
     let mut p = specs;
     let mut c = values;
     loop {
-        let NextAttribute::More(a) = next_named(unit, abbreviations, p, c, DW_AT_low_pc, e) else {
+        let Some(a) = next_named(unit, abbreviations, p, c, DW_AT_low_pc, e) else {
             return Verdict::Dead;
         };
         let v = a.value;
@@ -291,7 +291,7 @@ pub fn locations_live(
     let mut p = specs;
     let mut c = values;
     loop {
-        let NextAttribute::More(a) = next_named(unit, abbreviations, p, c, DW_AT_location, e) else {
+        let Some(a) = next_named(unit, abbreviations, p, c, DW_AT_location, e) else {
             return Verdict::Dead;
         };
         let v = a.value;
@@ -331,7 +331,7 @@ pub fn other_ranges(v: Attribute, ranges: &[u8], ranges_base: u64, e: Encoding) 
         return Verdict::Live;
     }
     let at = ranges_base + field.value;
-    let ListOffset::At(start) = list_start(ranges, at) else {
+    let Some(start) = list_start(ranges, at) else {
         return Verdict::Live;
     };
     if e.version == 4 {
@@ -362,16 +362,16 @@ pub fn first_ranges(
     let mut verdict = Verdict::Dead;
     'attributes: loop {
         match p.attribute_spec(abbreviations) {
-            SpecStep::Attribute(a) => {
+            Some(SpecStep::Attribute(a)) => {
                 if a.name == DW_AT_ranges {
-                    let AttributeRead::Read(v) = c.attribute(unit, a.name, a.form, e) else {
+                    let Some(v) = c.attribute(unit, a.name, a.form, e) else {
                         break 'attributes;
                     };
                     let field = v.field;
                     if v.form != DW_FORM_rnglistx {
                         return other_ranges(v, ranges, ranges_base, e);
                     }
-                    let ListOffset::At(start) = list_offset(ranges, rnglists_base, field.value, e)
+                    let Some(start) = list_offset(ranges, rnglists_base, field.value, e)
                     else {
                         return Verdict::Live;
                     };
@@ -379,7 +379,7 @@ pub fn first_ranges(
                     let mut dead = false;
                     loop {
                         match place.list_entry(ranges, false, e) {
-                            ListStep::Entry(x) => {
+                            Some(ListStep::Entry(x)) => {
                                 let after = x.next;
                                 match range_entry(table, dead, x, e) {
                                     RangeTurn::On(flag) => {
@@ -392,26 +392,26 @@ pub fn first_ranges(
                                     }
                                 }
                             }
-                            ListStep::End => {
+                            Some(ListStep::End) => {
                                 return Verdict::Dead;
                             }
-                            ListStep::Unreadable => {
+                            None => {
                                 return Verdict::Refused(5);
                             }
                         }
                     }
                 }
                 let next = a.next;
-                let Moved::To(past) = c.past_attribute(unit, a.name, a.form, e) else {
+                let Some(past) = c.past_attribute(unit, a.name, a.form, e) else {
                     break 'attributes;
                 };
                 c = past;
                 p = next;
             }
-            SpecStep::Last(_) => {
+            Some(SpecStep::Last(_)) => {
                 break 'attributes;
             }
-            SpecStep::Unreadable => {
+            None => {
                 break 'attributes;
             }
         }
@@ -491,7 +491,7 @@ pub fn base_after(
     let mut c = values;
     let mut latest = base;
     loop {
-        let NextAttribute::More(a) = next_named(unit, abbreviations, p, c, name, e) else {
+        let Some(a) = next_named(unit, abbreviations, p, c, name, e) else {
             return latest;
         };
         let v = a.value;

@@ -11,7 +11,7 @@ ghost use Rattle.marking.specs.Inner.Resolution.{as_entry, Searched, ResolveInpu
 use crate::analysis::{Analysis, analyse};
 use crate::marks::{Marked, mark_with};
 use crate::setting::Setting;
-use readers::header::HeaderRead;
+use readers::header::UnitHeader;
 use readers::offsets::{EntryIndex, UnitOffset};
 use readers::tables::{clear, clear_bytes, clear_indexes};
 
@@ -25,7 +25,7 @@ pub enum UnitMarks {
 // The header of a section's first unit, as it was read, and the marks of its entries.
 #[derive(Clone, Copy)]
 pub struct UnitMarking {
-    pub header: HeaderRead,
+    pub header: Result<Option<UnitHeader>, u8>,
     pub marks: UnitMarks,
 }
 

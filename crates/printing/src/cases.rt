@@ -8,7 +8,7 @@ use crate::lengths::size;
 use crate::text::{number, text};
 use bundle::{Bundle, BundleRead, section_bytes};
 use marking::setting::Setting;
-use readers::cursor::{Cursor, Number, left};
+use readers::cursor::{Cursor, left};
 use rewriting::collect::{Collected, Counts};
 use rewriting::lists::ListCount;
 use std::io;
@@ -58,8 +58,8 @@ const SETTINGS: usize = 152;
 
 fn setting(settings: &[u8], at: usize) -> u64 {
     match (Cursor { at }).fixed(settings, 8, true) {
-        Number::Value(n, _) => n,
-        Number::Unreadable => 0,
+        Some((n, _)) => n,
+        None => 0,
     }
 }
 

@@ -2,19 +2,19 @@
 use crate::text::{number, text};
 use bundle::BundleRead;
 use readers::abbreviations::{AttributeSpec, Checked, SpecStep};
-use readers::attributes::{Attribute, AttributeRead};
+use readers::attributes::Attribute;
 use readers::codes::{
     DW_AT_loclists_base, DW_AT_rnglists_base, DW_FORM_exprloc, DW_FORM_flag_present,
     DW_FORM_implicit_const, DW_FORM_loclistx, DW_FORM_rnglistx, DW_FORM_sdata, DW_FORM_sec_offset,
     DW_LLE_default_location, DW_TAG_compile_unit,
 };
-use readers::cursor::{Cursor, Encoding, Moved};
+use readers::cursor::{Cursor, Encoding};
 use readers::entries::{Entry, Step};
-use readers::expressions::References;
-use readers::fields::{Field, OperandsRead};
-use readers::header::{HeaderRead, UnitHeader};
+
+use readers::fields::{Field, Operands};
+use readers::header::UnitHeader;
 use readers::layouts::ROW_ADDRESS_ADDRESS;
-use readers::lists::ListOffset;
+use readers::lists::Cursor;
 use readers::operations::{ListEntry, ListStep};
 use std::io;
 use std::io::Write;
@@ -115,10 +115,10 @@ fn expression(to: &mut impl Write, s: &[u8], e: Encoding) -> io::Result<()> {
         e.big_endian,
         &mut table,
     ) {
-        References::Count(n) => {
+        Ok(n) => {
             reference_lines(to, &table, n)?;
         }
-        References::Refused(n) => {
+        Err(n) => {
             text(to, b"  expression ")?;
             refused(to, n as u64)?;
         }
@@ -176,15 +176,15 @@ fn list_lines(
 
 // One pair of a range list of version 4; answers where the next one is, or nowhere at the list's end. A begin of all ones
 // makes its end the base of the pairs after it.
-fn pair_step(to: &mut impl Write, s: &[u8], c: Cursor, e: Encoding) -> io::Result<Moved> {
+fn pair_step(to: &mut impl Write, s: &[u8], c: Cursor, e: Encoding) -> io::Result<Option<Cursor>> {
     if c.at >= s.len() {
         text(to, b"  end\n")?;
-        return Ok(Moved::Unreadable);
+        return Ok(None);
     }
-    let OperandsRead::Read(r) = c.row(s, ROW_ADDRESS_ADDRESS, e) else {
+    let Some(r) = c.row(s, ROW_ADDRESS_ADDRESS, e) else {
         text(to, b"  list ")?;
         refused(to, 5)?;
-        return Ok(Moved::Unreadable);
+        return Ok(None);
     };
     let begin = r.first;
     let end = r.second;
@@ -192,13 +192,13 @@ fn pair_step(to: &mut impl Write, s: &[u8], c: Cursor, e: Encoding) -> io::Resul
     if begin.value == 0 {
         if end.value == 0 {
             text(to, b"  end\n")?;
-            return Ok(Moved::Unreadable);
+            return Ok(None);
         }
     }
     number(to, b"  pair ", begin.value)?;
     number(to, b" ", end.value)?;
     text(to, b"\n")?;
-    Ok(Moved::To(third.next()))
+    Ok(Some(third.next()))
 }
 
 // One entry of a list; answers where the next one is, or nowhere at the list's end. A range list of version 4 has pairs.
@@ -208,26 +208,26 @@ fn list_step(
     c: Cursor,
     location: bool,
     e: Encoding,
-) -> io::Result<Moved> {
+) -> io::Result<Option<Cursor>> {
     if !location {
         if e.version == 4 {
             return pair_step(to, s, c, e);
         }
     }
     match c.list_entry(s, location, e) {
-        ListStep::Entry(entry) => {
+        Some(ListStep::Entry(entry)) => {
             list_lines(to, s, entry, location, e)?;
             let next = entry.next;
-            Ok(Moved::To(next))
+            Ok(Some(next))
         }
-        ListStep::End => {
+        Some(ListStep::End) => {
             text(to, b"  end\n")?;
-            Ok(Moved::Unreadable)
+            Ok(None)
         }
-        ListStep::Unreadable => {
+        None => {
             text(to, b"  list ")?;
             refused(to, 5)?;
-            Ok(Moved::Unreadable)
+            Ok(None)
         }
     }
 }
@@ -235,11 +235,11 @@ fn list_step(
 fn list(
     to: &mut impl Write,
     s: &[u8],
-    start: ListOffset,
+    start: Option<Cursor>,
     location: bool,
     e: Encoding,
 ) -> io::Result<()> {
-    let ListOffset::At(first) = start else {
+    let Some(first) = start else {
         text(to, b"  list unresolved\n")?;
         return Ok(());
     };
@@ -247,7 +247,7 @@ fn list(
     text(to, b"\n")?;
     let mut c = first;
     for _ in 0..MOST_TURNS {
-        let Moved::To(next) = list_step(to, s, c, location, e)? else {
+        let Some(next) = list_step(to, s, c, location, e)? else {
             return Ok(());
         };
         c = next;
@@ -357,10 +357,10 @@ fn attribute_step(
 ) -> io::Result<Values> {
     let spec = v.spec;
     let place = v.value;
-    let SpecStep::Attribute(a) = spec.attribute_spec(abbreviations) else {
+    let Some(SpecStep::Attribute(a)) = spec.attribute_spec(abbreviations) else {
         return Ok(ended(v));
     };
-    let AttributeRead::Read(r) = place.attribute(unit, a.name, a.form, e) else {
+    let Some(r) = place.attribute(unit, a.name, a.form, e) else {
         return Ok(ended(v));
     };
     attribute_lines(to, unit, locations, ranges, p, a, r, e)?;
@@ -413,10 +413,10 @@ fn bases(unit: &[u8], abbreviations: &[u8], p: Place, first: Values, e: Encoding
     let mut c = first.value;
     let mut spec = first.spec;
     for _ in 0..MOST_TURNS {
-        let SpecStep::Attribute(a) = spec.attribute_spec(abbreviations) else {
+        let Some(SpecStep::Attribute(a)) = spec.attribute_spec(abbreviations) else {
             return q;
         };
-        let AttributeRead::Read(r) = c.attribute(unit, a.name, a.form, e) else {
+        let Some(r) = c.attribute(unit, a.name, a.form, e) else {
             return q;
         };
         let field = r.field;
@@ -497,8 +497,8 @@ fn place_step(
     let e = h.encoding;
     let c = p.next;
     match c.step(unit, abbreviations, h.abbreviations, index, e) {
-        Step::Entry(x) => entry(to, unit, abbreviations, locations, ranges, p, x, e),
-        Step::Terminator(next) => {
+        Some(Step::Entry(x)) => entry(to, unit, abbreviations, locations, ranges, p, x, e),
+        Some(Step::Terminator(next)) => {
             number(to, b"terminator ", c.at as u64)?;
             number(to, b" depth ", p.depth)?;
             text(to, b"\n")?;
@@ -509,8 +509,8 @@ fn place_step(
             }
             Ok(q)
         }
-        Step::End => Ok(stopped(p)),
-        Step::Unreadable => {
+        Some(Step::End) => Ok(stopped(p)),
+        None => {
             refused(to, 4)?;
             Ok(stopped(p))
         }
@@ -595,13 +595,13 @@ pub fn dump(to: &mut impl Write, s: &[u8], big_endian: bool) -> io::Result<()> {
     };
     let unit = bundle::section_bytes(s, b.unit);
     match readers::header::unit_header(unit, big_endian) {
-        HeaderRead::Empty => {
+        Ok(None) => {
             text(to, b"empty\n")?;
         }
-        HeaderRead::Refused(n) => {
+        Err(n) => {
             refused(to, n as u64)?;
         }
-        HeaderRead::Unit(h) => {
+        Ok(Some(h)) => {
             unit_lines(
                 to,
                 unit,

@@ -2,7 +2,8 @@
 use mathlib.Core.Path.{◌≡◌, refl, ap, ap₂, sym, ◌∙◌, subst}
 use Prim.Native.Nat.{ℕ, ◌*◌, ◌-◌, ◌/◌, ◌≤◌, ◌<◌}
 use mathlib.Core.Bool.{Bool, true, false, not}
-use mathlib.Core.Option.{Option, none, some}
+use Rattle.std.specs.Prelude.{Err, None, Ok, Option, Result, Some}
+use Rattle.std.proofs.lemmas.Option.{some_pair_parts}
 use mathlib.Core.List.{List, ◌++◌}
 use native.Mathlib.Omega.{arith}
 use lib.ListN.{length, length-replicate}
@@ -16,24 +17,20 @@ use Rattle.readers.specs.Header.{size_known, encoding_of}
 use Rattle.readers.specs.References.{names_in, as_walk, walk_of, walk_answer, references_answer, numbers_of, names_or, references_in, answer_table, references_table, flat_from}
 use Rattle.readers.specs.Inner.References.{Room}
 use Rattle.readers.specs.declared.cursor.Encoding.{Encoding}
-use Rattle.readers.specs.declared.expressions.Walk.{Walk}
-use Rattle.readers.specs.declared.expressions.Walk.TheVariants.{Walked, Unreadable}
-use Rattle.readers.specs.declared.expressions.References.{References}
-use Rattle.readers.specs.declared.expressions.References.TheVariants.{Count, Refused}
 use Rattle.readers.proofs.Yields.{yields-all}
 
 -- the references of an expression that was walked to its end, one after the other
 module _ (e : Encoding) (s : List ℕ) (n : ℕ) (b : Bool) where
-  walked-names : (o : Option (List Piece)) → expression_in e s ≡ o → as_walk e.big_endian o ≡ Walked n b
+  walked-names : (o : Option (List Piece)) → expression_in e s ≡ o → as_walk e.big_endian o ≡ Some (n, b)
       → (flat_from e s 0 ≡ names_or e.big_endian o) × (length (flat_from e s 0) ≡ n)
   unfolding as_walk names_or
-  walked-names none q w = let z : ◌≡◌ {A = ℕ} 0 1 = cc in absurd (omega arith)
-  walked-names (some ps) q w =
+  walked-names None q w = let z : ◌≡◌ {A = ℕ} 0 1 = cc in absurd (omega arith)
+  walked-names (Some ps) q w =
       let f : flat_from e s 0 ≡ names_in e.big_endian 0 ps = yields-all e s ps q in
-      let k : length (names_in e.big_endian 0 ps) ≡ n = cc in
+      let k : length (names_in e.big_endian 0 ps) ≡ n = (some_pair_parts _ _ _ _ w).0 in
       (f, ap length f ∙ k)
 
-  pub walked-flat : walk_of e s ≡ Walked n b → (flat_from e s 0 ≡ references_in e s) × (length (flat_from e s 0) ≡ n)
+  pub walked-flat : walk_of e s ≡ Some (n, b) → (flat_from e s 0 ≡ references_in e s) × (length (flat_from e s 0) ≡ n)
   unfolding walk_of references_in
   walked-flat w = walked-names _ refl w
 
@@ -63,40 +60,40 @@ not-no false p = subst T p tt
 
 -- the sizes are known, or not; the table t, cleared
 module _ (a w : ℕ) (big : Bool) (s t : List ℕ) (numbers : ℕ) (cleared : t ≡ zeros numbers) (b : Bool) (known : b ≡ (size_known a and size_known w)) where
-  abbrev Answers : References → List ℕ → Type 0
+  abbrev Answers : Result ℕ ℕ → List ℕ → Type 0
   Answers r l = (r ≡ references_answer a w big numbers s) × (l ≡ references_table a w big numbers s)
 
-  refused : (k : ℕ) → Refused k ≡ references_answer a w big numbers s → Answers (Refused k) t
+  refused : (k : ℕ) → Err k ≡ references_answer a w big numbers s → Answers (Err k) t
   unfolding references_table answer_table
   refused k q = (q, cleared ∙ ap (λ r. answer_table numbers r (references_in (encoding_of big 5 w a) s)) q)
 
-  pub refuse-size : not b ≡ true → Answers (Refused 2) t
+  pub refuse-size : not b ≡ true → Answers (Err 2) t
   unfolding references_answer
   refuse-size p = refused 2 (sym (pick_no _ _ _ (subst T (sym (ap not (sym known) ∙ p)) tt)))
 
-  module _ (good : not b ≡ false) (u : Walk) (is : u ≡ walk_of (encoding_of big 5 w a) s) where
-    answer : (x : Walk) → u ≡ x → walk_answer (numbers / 3) x ≡ references_answer a w big numbers s
+  module _ (good : not b ≡ false) (u : Option (ℕ × Bool)) (is : u ≡ walk_of (encoding_of big 5 w a) s) where
+    answer : (x : Option (ℕ × Bool)) → u ≡ x → walk_answer (numbers / 3) x ≡ references_answer a w big numbers s
     unfolding references_answer
     answer x q = ap (walk_answer (numbers / 3)) (sym q ∙ is) ∙ sym (pick_yes _ _ _ (subst T known (not-no b good)))
 
-    pub refuse-walk : u ≡ Unreadable → Answers (Refused 5) t
+    pub refuse-walk : u ≡ None → Answers (Err 5) t
     unfolding walk_answer
-    refuse-walk q = refused 5 (answer Unreadable q)
+    refuse-walk q = refused 5 (answer None q)
 
-    module _ (n : ℕ) (c : Bool) (q : u ≡ Walked n c) where
-      pub refuse-absolute : c ≡ true → Answers (Refused 7) t
+    module _ (n : ℕ) (c : Bool) (q : u ≡ Some (n, c)) where
+      pub refuse-absolute : c ≡ true → Answers (Err 7) t
       unfolding walk_answer
-      refuse-absolute p = refused 7 (ap (λ x. walk_answer (numbers / 3) (Walked n x)) (sym p) ∙ answer (Walked n c) q)
+      refuse-absolute p = refused 7 (ap (λ x. walk_answer (numbers / 3) (Some (n, x))) (sym p) ∙ answer (Some (n, c)) q)
 
       module _ (p : c ≡ false) where
-        relative : pick (leb n (numbers / 3)) (Count n) (Refused 11) ≡ references_answer a w big numbers s
+        relative : pick (leb n (numbers / 3)) (Ok n) (Err 11) ≡ references_answer a w big numbers s
         unfolding walk_answer
-        relative = ap (λ x. walk_answer (numbers / 3) (Walked n x)) (sym p) ∙ answer (Walked n c) q
+        relative = ap (λ x. walk_answer (numbers / 3) (Some (n, x))) (sym p) ∙ answer (Some (n, c)) q
 
         same : length t ≡ numbers
         same = ap length cleared ∙ length-replicate numbers 0
 
-        pub refuse-room : length t / 3 < n → Answers (Refused 11) t
+        pub refuse-room : length t / 3 < n → Answers (Err 11) t
         refuse-room l =
             let k : numbers / 3 < n = subst (λ m. m / 3 < n) same l in
             refused 11 (sym (pick_no _ _ _ (no_leb {a = n} {b = numbers / 3} k)) ∙ relative)
@@ -105,7 +102,7 @@ module _ (a w : ℕ) (big : Bool) (s t : List ℕ) (numbers : ℕ) (cleared : t 
           enough : n ≤ numbers / 3
           enough = subst (λ m. n ≤ m / 3) same l
 
-          counts : Count n ≡ references_answer a w big numbers s
+          counts : Ok n ≡ references_answer a w big numbers s
           counts = sym (pick_yes _ _ _ (yes_leb {a = n} {b = numbers / 3} enough)) ∙ relative
 
           flat-is : (flat_from (encoding_of big 5 w a) s 0 ≡ references_in (encoding_of big 5 w a) s) × (length (flat_from (encoding_of big 5 w a) s 0) ≡ n)
@@ -114,7 +111,7 @@ module _ (a w : ℕ) (big : Bool) (s t : List ℕ) (numbers : ℕ) (cleared : t 
           pub has_room : Room (flat_from (encoding_of big 5 w a) s 0) t n
           has_room = record { count = flat-is.1; fits = omega arith; cleared = cleared ∙ ap zeros (sym same) }
 
-          pub accept : (l : List ℕ) → l ≡ numbers_of (flat_from (encoding_of big 5 w a) s 0) ++ zeros (length t - 3 * n) → Answers (Count n) l
+          pub accept : (l : List ℕ) → l ≡ numbers_of (flat_from (encoding_of big 5 w a) s 0) ++ zeros (length t - 3 * n) → Answers (Ok n) l
           unfolding references_table answer_table
           accept l f = (
             counts,

@@ -2,7 +2,7 @@
 use mathlib.Core.Path.{◌≡◌, refl, ap, subst, ◌∙◌}
 use mathlib.Core.Bool.{Bool, true, false, not}
 use mathlib.Core.Logic.{◌⊎◌, inl, inr}
-use mathlib.Core.Option.{Option, none, some}
+use Rattle.std.specs.Prelude.{None, Option, Some}
 use mathlib.Core.List.{List}
 use Prim.Native.Nat.{ℕ, ◌+◌, ◌-◌, ◌≤◌}
 use native.Mathlib.Omega.{arith}
@@ -11,9 +11,9 @@ use lib.Seq.{drop-drop}
 use lib.Dec.{T}
 use Rattle.readers.specs.Choice.{bind, check, pick, ◌and◌}
 
-unfoldable pub All {ℓ} : {A : Type ℓ} → (A → Type 0) → Option A → Type 0
-All P none = Unit {0}
-All P (some a) = P a
+unfoldable pub All : {A : Type 0} → (A → Type 0) → Option A → Type 0
+All P None = Unit {0}
+All P (Some a) = P a
 
 -- ---- choices
 
@@ -27,12 +27,12 @@ unfolding pick
 pick_no true x y t = absurd t
 pick_no false x y t = refl
 
-pub check-yes {ℓ} : {X : Type ℓ} (b : Bool) (x : Option X) → T b → check b x ≡ x
+pub check-yes : {X : Type 0} (b : Bool) (x : Option X) → T b → check b x ≡ x
 unfolding check
 check-yes true x t = refl
 check-yes false x t = absurd t
 
-pub check-no {ℓ} : {X : Type ℓ} (b : Bool) (x : Option X) → T (not b) → check b x ≡ none
+pub check-no : {X : Type 0} (b : Bool) (x : Option X) → T (not b) → check b x ≡ None
 unfolding check
 check-no true x t = absurd t
 check-no false x t = refl
@@ -57,82 +57,82 @@ unfolding ◌and◌
 both-and true b s t = t
 both-and false b s t = absurd s
 
-pub check-cong {ℓ} : {X : Type ℓ} (b : Bool) (x y : Option X) → (T b → x ≡ y) → check b x ≡ check b y
+pub check-cong : {X : Type 0} (b : Bool) (x y : Option X) → (T b → x ≡ y) → check b x ≡ check b y
 unfolding check
 check-cong true x y h = h tt
 check-cong false x y h = refl
 
 -- ---- readings in a row
 
-pub bind-at {ℓ κ} : {A : Type ℓ} {B : Type κ} {o : Option A} {a : A} (f : A → Option B) → o ≡ some a → bind o f ≡ f a
+pub bind-at : {A : Type 0} {B : Type 0} {o : Option A} {a : A} (f : A → Option B) → o ≡ Some a → bind o f ≡ f a
 unfolding bind
 bind-at f e = ap (λ o. bind o f) e
 
-pub bind-none {ℓ κ} : {A : Type ℓ} {B : Type κ} {o : Option A} (f : A → Option B) → o ≡ none → bind o f ≡ none
+pub bind-none : {A : Type 0} {B : Type 0} {o : Option A} (f : A → Option B) → o ≡ None → bind o f ≡ None
 unfolding bind
 bind-none f e = ap (λ o. bind o f) e
 
-pub bind-cong {ℓ κ} : {A : Type ℓ} {B : Type κ} (P : A → Type 0) (o : Option A) (f g : A → Option B)
-    → All P o → ((a : A) → o ≡ some a → P a → f a ≡ g a) → bind o f ≡ bind o g
+pub bind-cong : {A : Type 0} {B : Type 0} (P : A → Type 0) (o : Option A) (f g : A → Option B)
+    → All P o → ((a : A) → o ≡ Some a → P a → f a ≡ g a) → bind o f ≡ bind o g
 unfolding bind All
-bind-cong P none f g h k = refl
-bind-cong P (some a) f g h k = k a refl h
+bind-cong P None f g h k = refl
+bind-cong P (Some a) f g h k = k a refl h
 
-pub bind-bind {ℓ κ μ} : {A : Type ℓ} {B : Type κ} {C : Type μ} (o : Option A) (f : A → Option B) (g : B → Option C)
+pub bind-bind : {A : Type 0} {B : Type 0} {C : Type 0} (o : Option A) (f : A → Option B) (g : B → Option C)
     → bind (bind o f) g ≡ bind o (λ a. bind (f a) g)
 unfolding bind
-bind-bind none f g = refl
-bind-bind (some a) f g = refl
+bind-bind None f g = refl
+bind-bind (Some a) f g = refl
 
-pub bind-ext {ℓ κ} : {A : Type ℓ} {B : Type κ} (o : Option A) (f g : A → Option B) → ((a : A) → f a ≡ g a) → bind o f ≡ bind o g
+pub bind-ext : {A : Type 0} {B : Type 0} (o : Option A) (f g : A → Option B) → ((a : A) → f a ≡ g a) → bind o f ≡ bind o g
 unfolding bind
-bind-ext none f g h = refl
-bind-ext (some a) f g h = h a
+bind-ext None f g h = refl
+bind-ext (Some a) f g h = h a
 
 -- ---- what holds of a reading
 
-pub all-some {ℓ} : {A : Type ℓ} (P : A → Type 0) {a : A} → P a → All P (some a)
+pub all-some : {A : Type 0} (P : A → Type 0) {a : A} → P a → All P (Some a)
 unfolding All
 all-some P p = p
 
-pub all_none {ℓ} : {A : Type ℓ} (P : A → Type 0) → All P none
+pub all_none : {A : Type 0} (P : A → Type 0) → All P None
 unfolding All
 all_none P = tt
 
-pub all_of {ℓ} : {A : Type ℓ} (P : A → Type 0) {o : Option A} {a : A} → All P o → o ≡ some a → P a
+pub all_of : {A : Type 0} (P : A → Type 0) {o : Option A} {a : A} → All P o → o ≡ Some a → P a
 unfolding All
 all_of P h e = subst (All P) e h
 
-pub all-pick {ℓ} : {A : Type ℓ} (P : A → Type 0) (b : Bool) (x y : Option A) → (T b → All P x) → (T (not b) → All P y) → All P (pick b x y)
+pub all-pick : {A : Type 0} (P : A → Type 0) (b : Bool) (x y : Option A) → (T b → All P x) → (T (not b) → All P y) → All P (pick b x y)
 unfolding pick
 all-pick P true x y f g = f tt
 all-pick P false x y f g = g tt
 
-pub all-check {ℓ} : {A : Type ℓ} (P : A → Type 0) (b : Bool) (x : Option A) → (T b → All P x) → All P (check b x)
+pub all-check : {A : Type 0} (P : A → Type 0) (b : Bool) (x : Option A) → (T b → All P x) → All P (check b x)
 unfolding check All
 all-check P true x f = f tt
 all-check P false x f = tt
 
-pub all-bind {ℓ κ} : {A : Type ℓ} {B : Type κ} (Q : A → Type 0) (P : B → Type 0) (o : Option A) (f : A → Option B)
-    → All Q o → ((a : A) → o ≡ some a → Q a → All P (f a)) → All P (bind o f)
+pub all-bind : {A : Type 0} {B : Type 0} (Q : A → Type 0) (P : B → Type 0) (o : Option A) (f : A → Option B)
+    → All Q o → ((a : A) → o ≡ Some a → Q a → All P (f a)) → All P (bind o f)
 unfolding bind All
-all-bind Q P none f h g = tt
-all-bind Q P (some a) f h g = g a refl h
+all-bind Q P None f h g = tt
+all-bind Q P (Some a) f h g = g a refl h
 
-pub all-triv {ℓ} : {A : Type ℓ} (o : Option A) → All (λ (a : A). Unit {0}) o
+pub all-triv : {A : Type 0} (o : Option A) → All (λ (a : A). Unit {0}) o
 unfolding All
-all-triv none = tt
-all-triv (some a) = tt
+all-triv None = tt
+all-triv (Some a) = tt
 
-pub all_both {ℓ} : {A : Type ℓ} (P Q : A → Type 0) (o : Option A) → All P o → All Q o → All (λ a. P a × Q a) o
+pub all_both : {A : Type 0} (P Q : A → Type 0) (o : Option A) → All P o → All Q o → All (λ a. P a × Q a) o
 unfolding All
-all_both P Q none p q = tt
-all_both P Q (some a) p q = (p, q)
+all_both P Q None p q = tt
+all_both P Q (Some a) p q = (p, q)
 
-pub all_map {ℓ} : {A : Type ℓ} (P Q : A → Type 0) (o : Option A) → ((a : A) → P a → Q a) → All P o → All Q o
+pub all_map : {A : Type 0} (P Q : A → Type 0) (o : Option A) → ((a : A) → P a → Q a) → All P o → All Q o
 unfolding All
-all_map P Q none g h = tt
-all_map P Q (some a) g h = g a h
+all_map P Q None g h = tt
+all_map P Q (Some a) g h = g a h
 
 -- ---- how far a reading came: of s it took n bytes, and rest is left
 

@@ -3,7 +3,8 @@ use Prim.Native.Nat.{ℕ, zero, suc, ◌+◌, ◌-◌, ◌≤◌, ◌<◌}
 use mathlib.Core.Path.{◌≡◌, refl, ap, ap₂, sym, ◌∙◌, subst}
 use mathlib.Core.Logic.{◌⊎◌, inl, inr, ⊎_elim}
 use mathlib.Core.Bool.{Bool, true, false, not}
-use mathlib.Core.Option.{Option, none, some}
+use Rattle.std.specs.Prelude.{is_some, None, Option, Some}
+use Rattle.readers.specs.declared.abbreviations.DeclarationStep.{DeclarationStep}
 use mathlib.Core.List.{List, [], ◌∷◌, ◌++◌, append-nil}
 use native.Mathlib.Omega.{arith}
 use lib.ListN.{length, set, drop, take, length-set, length-append, length-drop, length-replicate, get_or}
@@ -22,21 +23,13 @@ use Rattle.readers.specs.Inner.Slots.{Twice, Ordered}
 use Rattle.readers.specs.Abbreviations.{scanned_to, past_attributes, number_declaration, moved_declaration, head_at, whole_declaration, declaration_at, Placed, declaration_turn, declarations_from, declared_in, is_found, distinct, check_distinct, abbreviations_of, as_checked, checked_of, insert_by_code, by_code, slots_of, indexed, index_for, index_of, search_turn, found_by, search_at, declaration_found, holds_code, head_in, find_head, find_at, whole_found}
 use Rattle.readers.specs.Inner.Abbreviations.{accepted, count_of, Gathered}
 use Rattle.readers.specs.declared.cursor.Cursor.{Cursor}
-use Rattle.readers.specs.declared.cursor.Number.{Number}
-use Rattle.readers.specs.declared.cursor.Number.TheVariants.{Value, Unreadable}
-use Rattle.readers.specs.declared.cursor.Moved.{Moved}
-use Rattle.readers.specs.declared.cursor.Moved.TheVariants.{To, Unreadable as Nowhere}
 use Rattle.readers.specs.declared.abbreviations.AttributeSpec.{AttributeSpec}
 use Rattle.readers.specs.declared.abbreviations.Declaration.{Declaration}
-use Rattle.readers.specs.declared.abbreviations.DeclarationStep.{DeclarationStep}
-use Rattle.readers.specs.declared.abbreviations.DeclarationStep.TheVariants.{Declaration as Declared, Last, Unreadable as NoDeclaration}
+use Rattle.readers.specs.declared.abbreviations.DeclarationStep.TheVariants.{Declaration as Declared, Last}
 use Rattle.readers.specs.declared.abbreviations.Checked.{Checked}
 use Rattle.readers.specs.declared.slots.Arranged.{Arranged}
 use Rattle.readers.specs.declared.slots.Arranged.TheVariants.{Ascending, Repeated}
 use Rattle.readers.specs.declared.abbreviations.Checked.TheVariants.{Accepted, Refused}
-use Rattle.readers.specs.declared.abbreviations.Count.TheVariants.{Of, Unreadable as Uncounted}
-use Rattle.readers.specs.declared.abbreviations.DeclarationFound.{DeclarationFound}
-use Rattle.readers.specs.declared.abbreviations.DeclarationFound.TheVariants.{Declaration as Found', Nothing}
 use Rattle.readers.proofs.Lebs.{uleb-inside, short-inside}
 use Rattle.readers.proofs.Widths.{fixed-inside}
 use Rattle.readers.proofs.Specs.{Past, past-read}
@@ -44,67 +37,67 @@ use Rattle.readers.proofs.SlotOrders.{code_read, swaps-length, Drawn, drawn-of, 
 
 -- ---- one declaration, by what was read of it
 
-pub head-no-code : (s : List ℕ) (at : ℕ) → leb_at uleb s at ≡ Unreadable → NoDeclaration ≡ head_at s at
+pub head-no-code : (s : List ℕ) (at : ℕ) → leb_at uleb s at ≡ None → None ≡ head_at s at
 unfolding head_at number_declaration
 head-no-code s at e = rw e
 
-module _ (s : List ℕ) (at code : ℕ) (c₁ : Cursor) (e₁ : leb_at uleb s at ≡ Value code c₁) where
-  pub head-last : code ≡ 0 → Last c₁ ≡ head_at s at
+module _ (s : List ℕ) (at code : ℕ) (c₁ : Cursor) (e₁ : leb_at uleb s at ≡ Some (code, c₁)) where
+  pub head-last : code ≡ 0 → Some (Last c₁) ≡ head_at s at
   unfolding head_at number_declaration
   head-last z = rw e₁ (sym (pick_yes _ _ _ (yes_eqb z)))
 
   module _ (coded : code ≡ 0 → ⊥) where
-    pub head-no-tag : leb_at short s c₁.at ≡ Unreadable → NoDeclaration ≡ head_at s at
+    pub head-no-tag : leb_at short s c₁.at ≡ None → None ≡ head_at s at
     unfolding head_at number_declaration
     head-no-tag e₂ = rw (e₁, e₂) (sym (pick_no _ _ _ (no_eqb coded)))
 
-    module _ (tag : ℕ) (c₂ : Cursor) (e₂ : leb_at short s c₁.at ≡ Value tag c₂) where
-      pub head-untagged : tag ≡ 0 → NoDeclaration ≡ head_at s at
+    module _ (tag : ℕ) (c₂ : Cursor) (e₂ : leb_at short s c₁.at ≡ Some (tag, c₂)) where
+      pub head-untagged : tag ≡ 0 → None ≡ head_at s at
       unfolding head_at number_declaration
       head-untagged z = rw (e₁, e₂) (sym (pick_no _ _ _ (no_eqb coded) ∙ pick_yes _ _ _ (yes_eqb z)))
 
       module _ (tagged : tag ≡ 0 → ⊥) where
-        pub head-no-children : fixed_at false 1 s c₂.at ≡ Unreadable → NoDeclaration ≡ head_at s at
+        pub head-no-children : fixed_at false 1 s c₂.at ≡ None → None ≡ head_at s at
         unfolding head_at number_declaration
         head-no-children e₃ = rw (e₁, e₂, e₃) (sym (pick_no _ _ _ (no_eqb coded) ∙ pick_no _ _ _ (no_eqb tagged)))
 
-        module _ (children : ℕ) (c₃ : Cursor) (e₃ : fixed_at false 1 s c₂.at ≡ Value children c₃) where
-          pub head-over : 1 < children → NoDeclaration ≡ head_at s at
+        module _ (children : ℕ) (c₃ : Cursor) (e₃ : fixed_at false 1 s c₂.at ≡ Some (children, c₃)) where
+          pub head-over : 1 < children → None ≡ head_at s at
           unfolding head_at number_declaration
           head-over h = rw (e₁, e₂, e₃) (sym (pick_no _ _ _ (no_eqb coded) ∙ pick_no _ _ _ (no_eqb tagged) ∙ pick_no _ _ _ (no_leb h)))
 
-          pub head-whole : children ≤ 1 → Declared (record { code = code; tag = tag; children = eqb children 1; attributes = c₃ }) c₃ ≡ head_at s at
+          pub head-whole : children ≤ 1 → Some (Declared (record { code = code; tag = tag; children = eqb children 1; attributes = c₃ }) c₃) ≡ head_at s at
           unfolding head_at number_declaration
           head-whole h = rw (e₁, e₂, e₃) (sym (pick_no _ _ _ (no_eqb coded) ∙ pick_no _ _ _ (no_eqb tagged) ∙ pick_yes _ _ _ (yes_leb h)))
 
 -- ---- and its attribute specifications
 
-module _ (s : List ℕ) (at : ℕ) (r : DeclarationStep) (p : r ≡ head_at s at) where
-  pub declaration-none : r ≡ NoDeclaration → NoDeclaration ≡ declaration_at s at
+module _ (s : List ℕ) (at : ℕ) (r : Option DeclarationStep) (p : r ≡ head_at s at) where
+  pub declaration-none : r ≡ None → None ≡ declaration_at s at
   unfolding declaration_at whole_declaration
   declaration-none q = ap (whole_declaration s) (sym q ∙ p)
 
-  pub declaration-last : (c : Cursor) → r ≡ Last c → Last c ≡ declaration_at s at
+  pub declaration-last : (c : Cursor) → r ≡ Some (Last c) → Some (Last c) ≡ declaration_at s at
   unfolding declaration_at whole_declaration
   declaration-last c q = ap (whole_declaration s) (sym q ∙ p)
 
-  module _ (d : Declaration) (c : Cursor) (q : r ≡ Declared d c) (m : Moved) (l : m ≡ past_attributes s d.attributes.at) where
-    pub declaration-no-attributes : m ≡ Nowhere → NoDeclaration ≡ declaration_at s at
+  module _ (d : Declaration) (c : Cursor) (q : r ≡ Some (Declared d c)) (m : Option Cursor) (l : m ≡ past_attributes s d.attributes.at) where
+    pub declaration-no-attributes : m ≡ None → None ≡ declaration_at s at
     unfolding declaration_at whole_declaration moved_declaration
-    declaration-no-attributes k = ap (λ (m : Moved). moved_declaration m (Declared d)) (sym k ∙ l) ∙ ap (whole_declaration s) (sym q ∙ p)
+    declaration-no-attributes k = ap (λ (m : Option Cursor). moved_declaration m (λ c. Some (Declared d c))) (sym k ∙ l) ∙ ap (whole_declaration s) (sym q ∙ p)
 
-    pub declaration-whole : (next : Cursor) → m ≡ To next → Declared d next ≡ declaration_at s at
+    pub declaration-whole : (next : Cursor) → m ≡ Some next → Some (Declared d next) ≡ declaration_at s at
     unfolding declaration_at whole_declaration moved_declaration
-    declaration-whole next k = ap (λ (m : Moved). moved_declaration m (Declared d)) (sym k ∙ l) ∙ ap (whole_declaration s) (sym q ∙ p)
+    declaration-whole next k = ap (λ (m : Option Cursor). moved_declaration m (λ c. Some (Declared d c))) (sym k ∙ l) ∙ ap (whole_declaration s) (sym q ∙ p)
 
-head-found : (s : List ℕ) (at : ℕ) (r : DeclarationStep) → head_at s at ≡ r → whole_found s (declaration_found r) ≡ declaration_found (declaration_at s at)
+head-found : (s : List ℕ) (at : ℕ) (r : Option DeclarationStep) → head_at s at ≡ r → whole_found s (declaration_found r) ≡ declaration_found (declaration_at s at)
 unfolding declaration_at whole_found declaration_found whole_declaration
-head-found s at r e = same r ∙ sym (ap (λ (r : DeclarationStep). declaration_found (whole_declaration s r)) e)
+head-found s at r e = same r ∙ sym (ap (λ (r : Option DeclarationStep). declaration_found (whole_declaration s r)) e)
   where
-    same : (r : DeclarationStep) → whole_found s (declaration_found r) ≡ declaration_found (whole_declaration s r)
-    same (Declared d c) = refl
-    same (Last c) = refl
-    same NoDeclaration = refl
+    same : (r : Option DeclarationStep) → whole_found s (declaration_found r) ≡ declaration_found (whole_declaration s r)
+    same (Some (Declared d c)) = refl
+    same (Some (Last c)) = refl
+    same None = refl
 
 -- ---- how far it comes
 
@@ -114,22 +107,22 @@ pub record Inside (s : List ℕ) (at : ℕ) (d : Declaration) (c : Cursor) : Typ
   pub past : Past s d.attributes.at c
   pub coded : d.code ≡ 0 → ⊥
 
-unfoldable InsideStep : List ℕ → ℕ → DeclarationStep → Type 0
-InsideStep s at (Declared d c) = Inside s at d c
-InsideStep s at (Last c) = (at < c.at) × (c.at ≤ length s)
-InsideStep s at NoDeclaration = Unit {0}
+unfoldable InsideStep : List ℕ → ℕ → Option DeclarationStep → Type 0
+InsideStep s at (Some (Declared d c)) = Inside s at d c
+InsideStep s at (Some (Last c)) = (at < c.at) × (c.at ≤ length s)
+InsideStep s at None = Unit {0}
 
-number-inside : (P : DeclarationStep → Type 0) (n : Number) (k : ℕ → ℕ → DeclarationStep) → P NoDeclaration → ((v : ℕ) (c : Cursor) → n ≡ Value v c → P (k v c.at)) → P (number_declaration n k)
+number-inside : (P : Option DeclarationStep → Type 0) (n : Option (ℕ × Cursor)) (k : ℕ → ℕ → Option DeclarationStep) → P None → ((v : ℕ) (c : Cursor) → n ≡ Some (v, c) → P (k v c.at)) → P (number_declaration n k)
 unfolding number_declaration
-number-inside P (Value v c) k z h = h v c refl
-number-inside P Unreadable k z h = z
+number-inside P (Some (v, c)) k z h = h v c refl
+number-inside P None k z h = z
 
-moved_inside : (P : DeclarationStep → Type 0) (n : Moved) (k : Cursor → DeclarationStep) → P NoDeclaration → ((c : Cursor) → n ≡ To c → P (k c)) → P (moved_declaration n k)
+moved_inside : (P : Option DeclarationStep → Type 0) (n : Option Cursor) (k : Cursor → Option DeclarationStep) → P None → ((c : Cursor) → n ≡ Some c → P (k c)) → P (moved_declaration n k)
 unfolding moved_declaration
-moved_inside P (To c) k z h = h c refl
-moved_inside P Nowhere k z h = z
+moved_inside P (Some c) k z h = h c refl
+moved_inside P None k z h = z
 
-abbrev Wholly : List ℕ → ℕ → DeclarationStep → Type 0
+abbrev Wholly : List ℕ → ℕ → Option DeclarationStep → Type 0
 Wholly s at r = InsideStep s at (whole_declaration s r)
 
 step-inside : (s : List ℕ) (at : ℕ) → InsideStep s at (declaration_at s at)
@@ -148,16 +141,16 @@ step-inside s at =
     record { ahead = omega (arith, q₁.0, q₂.0, q₃.0); past = past-read s c₃.at c₄ e₄; coded = eqb_no coded }))
     (λ _. tt))))))
 
-pub declaration-inside : (s : List ℕ) (at : ℕ) (d : Declaration) (c : Cursor) → declaration_at s at ≡ Declared d c → Inside s at d c
+pub declaration-inside : (s : List ℕ) (at : ℕ) (d : Declaration) (c : Cursor) → declaration_at s at ≡ Some (Declared d c) → Inside s at d c
 unfolding InsideStep
 declaration-inside s at d c e = subst (InsideStep s at) e (step-inside s at)
 
-pub last-inside : (s : List ℕ) (at : ℕ) (c : Cursor) → declaration_at s at ≡ Last c → (at < c.at) × (c.at ≤ length s)
+pub last-inside : (s : List ℕ) (at : ℕ) (c : Cursor) → declaration_at s at ≡ Some (Last c) → (at < c.at) × (c.at ≤ length s)
 unfolding InsideStep
 last-inside s at c e = subst (InsideStep s at) e (step-inside s at)
 
 -- from its place to the place past it
-pub declaration-ahead : (s : List ℕ) (at : ℕ) (d : Declaration) (c : Cursor) → declaration_at s at ≡ Declared d c → (at < c.at) × (c.at ≤ length s)
+pub declaration-ahead : (s : List ℕ) (at : ℕ) (d : Declaration) (c : Cursor) → declaration_at s at ≡ Some (Declared d c) → (at < c.at) × (c.at ≤ length s)
 declaration-ahead s at d c e =
     let q : Inside s at d c = declaration-inside s at d c e in
     let h : d.attributes.at < c.at = q.past.ahead in
@@ -165,12 +158,12 @@ declaration-ahead s at d c e =
     (omega arith, q.past.inside)
 
 -- its code is the number at its place
-unfoldable CodedStep : List ℕ → ℕ → DeclarationStep → Type 0
-CodedStep s at (Declared d c) = code_of (leb_at uleb s at) ≡ d.code
-CodedStep s at (Last c) = Unit {0}
-CodedStep s at NoDeclaration = Unit {0}
+unfoldable CodedStep : List ℕ → ℕ → Option DeclarationStep → Type 0
+CodedStep s at (Some (Declared d c)) = code_of (leb_at uleb s at) ≡ d.code
+CodedStep s at (Some (Last c)) = Unit {0}
+CodedStep s at None = Unit {0}
 
-abbrev WhollyCoded : List ℕ → ℕ → DeclarationStep → Type 0
+abbrev WhollyCoded : List ℕ → ℕ → Option DeclarationStep → Type 0
 WhollyCoded s at r = CodedStep s at (whole_declaration s r)
 
 step-coded : (s : List ℕ) (at : ℕ) → CodedStep s at (declaration_at s at)
@@ -185,7 +178,7 @@ step-coded s at =
     moved_inside (CodedStep s at) (past_attributes s c₃.at) _ tt (λ c₄ e₄. ap code_of e₁))
     (λ _. tt))))))
 
-declaration-code : (s : List ℕ) (at : ℕ) (d : Declaration) (c : Cursor) → declaration_at s at ≡ Declared d c → slot_code s (at + 1) ≡ d.code
+declaration-code : (s : List ℕ) (at : ℕ) (d : Declaration) (c : Cursor) → declaration_at s at ≡ Some (Declared d c) → slot_code s (at + 1) ≡ d.code
 unfolding CodedStep
 declaration-code s at d c e =
     let z : at + 1 - 1 ≡ at = omega arith in
@@ -193,47 +186,47 @@ declaration-code s at d c e =
 
 -- ---- the search
 
-abbrev searching : List ℕ → ℕ → ℕ → ℕ → Turn (Unit {0}) DeclarationFound
-searching s to code n = pick (ltb n to) (search_turn code (declaration_at s n)) (stop Nothing)
+abbrev searching : List ℕ → ℕ → ℕ → ℕ → Turn (Unit {0}) (Option Declaration)
+searching s to code n = pick (ltb n to) (search_turn code (declaration_at s n)) (stop None)
 
-turn-goes : (s : List ℕ) (code at : ℕ) (r : DeclarationStep) → InsideStep s at r → Goes (length s) at (search_turn code r)
+turn-goes : (s : List ℕ) (code at : ℕ) (r : Option DeclarationStep) → InsideStep s at r → Goes (length s) at (search_turn code r)
 unfolding InsideStep search_turn Goes
-turn-goes s code at (Declared d c) h =
+turn-goes s code at (Some (Declared d c)) h =
     let a : at < d.attributes.at = h.ahead in
     let b : d.attributes.at < c.at = h.past.ahead in
     pick-either (Goes (length s) at) (eqb d.code code) _ _ (λ _. tt) (λ _. (omega arith, h.past.inside))
-turn-goes s code at (Last c) h = tt
-turn-goes s code at NoDeclaration h = tt
+turn-goes s code at (Some (Last c)) h = tt
+turn-goes s code at None h = tt
 
 search-goes : (s : List ℕ) (to code at : ℕ) → Goes (length s) at (searching s to code at)
 unfolding Goes
 search-goes s to code at = pick-either (Goes (length s) at) (ltb at to) _ _ (λ _. turn-goes s code at (declaration_at s at) (step-inside s at)) (λ _. tt)
 
-found-same : (o : Option (Scanned (Unit {0}) DeclarationFound)) → found_by (bind o (push tt)) ≡ found_by o
+found-same : (o : Option (Scanned (Unit {0}) (Option Declaration))) → found_by (bind o (push tt)) ≡ found_by o
 unfolding bind push found_by
-found-same none = refl
-found-same (some r) = refl
+found-same None = refl
+found-same (Some r) = refl
 
 module _ (s : List ℕ) (to code at : ℕ) where
-  search-stops : (f : DeclarationFound) → searching s to code at ≡ stop f → f ≡ search_at s to code at
+  search-stops : (f : Option Declaration) → searching s to code at ≡ stop f → f ≡ search_at s to code at
   unfolding search_at found_by
   search-stops f e = sym (ap found_by (scan-stop (length s) (searching s to code) (search-goes s to code) at f e))
 
-  pub search-end : to ≤ at → Nothing ≡ search_at s to code at
-  search-end h = search-stops Nothing (pick_no _ _ _ (no_ltb {a = at} {b = to} h))
+  pub search-end : to ≤ at → None ≡ search_at s to code at
+  search-end h = search-stops None (pick_no _ _ _ (no_ltb {a = at} {b = to} h))
 
-  pub search-last : (c : Cursor) → at < to → declaration_at s at ≡ Last c → Nothing ≡ search_at s to code at
+  pub search-last : (c : Cursor) → at < to → declaration_at s at ≡ Some (Last c) → None ≡ search_at s to code at
   unfolding search_turn
-  search-last c h e = search-stops Nothing (pick_yes _ _ _ (yes_ltb {a = at} {b = to} h) ∙ ap (search_turn code) e)
+  search-last c h e = search-stops None (pick_yes _ _ _ (yes_ltb {a = at} {b = to} h) ∙ ap (search_turn code) e)
 
-  pub search-bad : at < to → declaration_at s at ≡ NoDeclaration → Nothing ≡ search_at s to code at
+  pub search-bad : at < to → declaration_at s at ≡ None → None ≡ search_at s to code at
   unfolding search_turn
-  search-bad h e = search-stops Nothing (pick_yes _ _ _ (yes_ltb {a = at} {b = to} h) ∙ ap (search_turn code) e)
+  search-bad h e = search-stops None (pick_yes _ _ _ (yes_ltb {a = at} {b = to} h) ∙ ap (search_turn code) e)
 
-  module _ (d : Declaration) (c : Cursor) (h : at < to) (e : declaration_at s at ≡ Declared d c) where
-    pub search-hit : d.code ≡ code → Found' d ≡ search_at s to code at
+  module _ (d : Declaration) (c : Cursor) (h : at < to) (e : declaration_at s at ≡ Some (Declared d c)) where
+    pub search-hit : d.code ≡ code → Some d ≡ search_at s to code at
     unfolding search_turn
-    search-hit k = search-stops (Found' d) (pick_yes _ _ _ (yes_ltb {a = at} {b = to} h) ∙ ap (search_turn code) e ∙ pick_yes _ _ _ (yes_eqb k))
+    search-hit k = search-stops (Some d) (pick_yes _ _ _ (yes_ltb {a = at} {b = to} h) ∙ ap (search_turn code) e ∙ pick_yes _ _ _ (yes_eqb k))
 
     pub search-more : (d.code ≡ code → ⊥) → search_at s to code at ≡ search_at s to code c.at
     unfolding search_at search_turn
@@ -251,37 +244,37 @@ zeros-self index n e = e ∙ ap zeros (sym (zeros-length index n e))
 
 -- ---- declarations in a row
 
-turn-declared : (s : List ℕ) (at : ℕ) (r : DeclarationStep) → InsideStep s at r → Goes (length s) at (declaration_turn at r)
+turn-declared : (s : List ℕ) (at : ℕ) (r : Option DeclarationStep) → InsideStep s at r → Goes (length s) at (declaration_turn at r)
 unfolding InsideStep declaration_turn Goes
-turn-declared s at (Declared d c) h =
+turn-declared s at (Some (Declared d c)) h =
     let a : at < d.attributes.at = h.ahead in
     let b : d.attributes.at < c.at = h.past.ahead in
     (omega arith, h.past.inside)
-turn-declared s at (Last c) h = tt
-turn-declared s at NoDeclaration h = tt
+turn-declared s at (Some (Last c)) h = tt
+turn-declared s at None h = tt
 
 declared-goes : (s : List ℕ) (at : ℕ) → Goes (length s) at (declaration_turn at (declaration_at s at))
 declared-goes s at = turn-declared s at (declaration_at s at) (step-inside s at)
 
 module _ (s : List ℕ) (at : ℕ) where
-  pub declarations-more : (d : Declaration) (c : Cursor) → declaration_at s at ≡ Declared d c → declarations_from s at ≡ bind (declarations_from s c.at) (push (at, d))
+  pub declarations-more : (d : Declaration) (c : Cursor) → declaration_at s at ≡ Some (Declared d c) → declarations_from s at ≡ bind (declarations_from s c.at) (push (at, d))
   unfolding declarations_from declaration_turn
   declarations-more d c e = scan-more (length s) (λ n. declaration_turn n (declaration_at s n)) (declared-goes s) at (at, d) c.at (ap (declaration_turn at) e)
 
-  pub declarations-last : (c : Cursor) → declaration_at s at ≡ Last c → declarations_from s at ≡ some ([], c.at)
+  pub declarations-last : (c : Cursor) → declaration_at s at ≡ Some (Last c) → declarations_from s at ≡ Some ([], c.at)
   unfolding declarations_from declaration_turn
   declarations-last c e = scan-stop (length s) (λ n. declaration_turn n (declaration_at s n)) (declared-goes s) at c.at (ap (declaration_turn at) e)
 
-  pub declarations-bad : declaration_at s at ≡ NoDeclaration → declarations_from s at ≡ none
+  pub declarations-bad : declaration_at s at ≡ None → declarations_from s at ≡ None
   unfolding declarations_from declaration_turn
   declarations-bad e = scan-bad (length s) (λ n. declaration_turn n (declaration_at s n)) (declared-goes s) at (ap (declaration_turn at) e)
 
 -- the declarations from one place up to another
 pub data Sequence (s : List ℕ) : ℕ → List Placed → ℕ → Type 0 where
   here : {at : ℕ} → Sequence s at [] at
-  link : {at to : ℕ} {d : Declaration} {c : Cursor} {ds : List Placed} → declaration_at s at ≡ Declared d c → Sequence s c.at ds to → Sequence s at ((at, d) ∷ ds) to
+  link : {at to : ℕ} {d : Declaration} {c : Cursor} {ds : List Placed} → declaration_at s at ≡ Some (Declared d c) → Sequence s c.at ds to → Sequence s at ((at, d) ∷ ds) to
 
-chain_more : {s : List ℕ} {a b : ℕ} {ds : List Placed} {d : Declaration} {c : Cursor} → Sequence s a ds b → declaration_at s b ≡ Declared d c → Sequence s a (ds ++ ((b, d) ∷ [])) c.at
+chain_more : {s : List ℕ} {a b : ℕ} {ds : List Placed} {d : Declaration} {c : Cursor} → Sequence s a ds b → declaration_at s b ≡ Some (Declared d c) → Sequence s a (ds ++ ((b, d) ∷ [])) c.at
 chain_more here e = link e here
 chain_more (link e' k) e = link e' (chain_more k e)
 
@@ -291,18 +284,18 @@ chain-ahead {s} {a} (link {d = d} {c = c} e k) = let h : c.at ≤ _ = chain-ahea
 
 -- put before
 unfoldable onto : List Placed → Option (Scanned Placed ℕ) → Option (Scanned Placed ℕ)
-onto ds none = none
-onto ds (some r) = some (ds ++ r.0, r.1)
+onto ds None = None
+onto ds (Some r) = Some (ds ++ r.0, r.1)
 
 onto-none : (o : Option (Scanned Placed ℕ)) → o ≡ onto [] o
 unfolding onto
-onto-none none = refl
-onto-none (some r) = refl
+onto-none None = refl
+onto-none (Some r) = refl
 
 onto-push : (p : Placed) (ds : List Placed) (o : Option (Scanned Placed ℕ)) → bind (onto ds o) (push p) ≡ onto (p ∷ ds) o
 unfolding onto bind push
-onto-push p ds none = refl
-onto-push p ds (some r) = refl
+onto-push p ds None = refl
+onto-push p ds (Some r) = refl
 
 chain-onto : {s : List ℕ} {a b : ℕ} {ds : List Placed} → Sequence s a ds b → declarations_from s a ≡ onto ds (declarations_from s b)
 chain-onto {s} {a} here = onto-none (declarations_from s a)
@@ -311,14 +304,14 @@ chain-onto {s} {a} {b} (link {d = d} {c = c} {ds = ds} e k) =
 
 -- ---- what they declare
 
-unfoldable or_else : DeclarationFound → DeclarationFound → DeclarationFound
-or_else (Found' d) g = Found' d
-or_else Nothing g = g
+unfoldable or_else : Option Declaration → Option Declaration → Option Declaration
+or_else (Some d) g = Some d
+or_else None g = g
 
-else-nothing : (f : DeclarationFound) → or_else f Nothing ≡ f
+else-nothing : (f : Option Declaration) → or_else f None ≡ f
 unfolding or_else
-else-nothing (Found' d) = refl
-else-nothing Nothing = refl
+else-nothing (Some d) = refl
+else-nothing None = refl
 
 chain-search : {s : List ℕ} {a b : ℕ} {ds : List Placed} (to code : ℕ) → Sequence s a ds b → b ≤ to → search_at s to code a ≡ or_else (declared_in ds code) (search_at s to code b)
 unfolding declared_in or_else
@@ -327,8 +320,8 @@ chain-search {s} {a} {b} to code (link {d = d} {c = c} {ds = ds} e k) h =
     let l : c.at ≤ b = chain-ahead k in
     let m : a < to = omega (arith, (declaration-ahead s a d c e).0) in
     ⊎_elim
-    (λ t. sym (search-hit s to code a d c m e (eqb_yes t)) ∙ ap (λ f. or_else f (search_at s to code b)) (sym (pick_yes _ (Found' d) (declared_in ds code) t)))
-    (λ t. search-more s to code a d c m e (eqb_no t) ∙ chain-search to code k h ∙ ap (λ f. or_else f (search_at s to code b)) (sym (pick_no _ (Found' d) (declared_in ds code) t)))
+    (λ t. sym (search-hit s to code a d c m e (eqb_yes t)) ∙ ap (λ f. or_else f (search_at s to code b)) (sym (pick_yes _ (Some d) (declared_in ds code) t)))
+    (λ t. search-more s to code a d c m e (eqb_no t) ∙ chain-search to code k h ∙ ap (λ f. or_else f (search_at s to code b)) (sym (pick_no _ (Some d) (declared_in ds code) t)))
     (either (eqb d.code code))
 
 -- the search up to a place finds what is declared before it
@@ -575,10 +568,10 @@ chain-through {s} {a} z code (link {d = d} {c = c} {ds = ds} g k) t i e =
     contrary false x y = x
 
 -- the whole declaration whose place a slot holds
-unfoldable through : List ℕ → ℕ → DeclarationFound
+unfoldable through : List ℕ → ℕ → Option Declaration
 through s slot = declaration_found (declaration_at s (slot - 1))
 
-through-else : {s : List ℕ} {a b : ℕ} {ds : List Placed} (z code : ℕ) (rest : DeclarationFound) → Sequence s a ds b → T (distinct ds) → (z ≡ 0) ⊎ In z (slots_of ds)
+through-else : {s : List ℕ} {a b : ℕ} {ds : List Placed} (z code : ℕ) (rest : Option Declaration) → Sequence s a ds b → T (distinct ds) → (z ≡ 0) ⊎ In z (slots_of ds)
     → rest ≡ declared_in ds code → pick (holds_code s z code) (through s z) rest ≡ declared_in ds code
 unfolding holds_code through
 through-else {s} {a} {b} {ds} z code rest k t w e =
@@ -616,23 +609,23 @@ module _ (s : List ℕ) (from : ℕ) (l m : List ℕ) (at count : ℕ) (q : Gath
   pub gathering-count : count ≤ at
   gathering-count = omega (arith, chain-count q.chain, q.counted)
 
-  pub gathering-bad : declaration_at s at ≡ NoDeclaration → (Uncounted ≡ count_of (declarations_from s from)) × Gathered s from l m
+  pub gathering-bad : declaration_at s at ≡ None → (None ≡ count_of (declarations_from s from)) × Gathered s from l m
   unfolding count_of onto
   gathering-bad e =
-      let n : declarations_from s from ≡ none = chain-onto q.chain ∙ ap (onto q.done) (declarations-bad s at e) in
+      let n : declarations_from s from ≡ None = chain-onto q.chain ∙ ap (onto q.done) (declarations-bad s at e) in
       (sym (ap count_of n), λ ds x g h. let z : ◌≡◌ {A = ℕ} 0 1 = cc in absurd (omega arith))
 
-  pub gathering-last : (c : Cursor) → declaration_at s at ≡ Last c → (Of count ≡ count_of (declarations_from s from)) × Gathered s from l m
+  pub gathering-last : (c : Cursor) → declaration_at s at ≡ Some (Last c) → (Some count ≡ count_of (declarations_from s from)) × Gathered s from l m
   unfolding count_of onto
   gathering-last c e =
-      let d : declarations_from s from ≡ some (q.done ++ [], c.at) = chain-onto q.chain ∙ ap (onto q.done) (declarations-last s at c e) in
-      let d' : declarations_from s from ≡ some (q.done, c.at) = d ∙ ap (λ (l : List Placed). some (l, c.at)) (append-nil q.done) in (
-        ap Of q.counted ∙ sym (ap count_of d'),
+      let d : declarations_from s from ≡ Some (q.done ++ [], c.at) = chain-onto q.chain ∙ ap (onto q.done) (declarations-last s at c e) in
+      let d' : declarations_from s from ≡ Some (q.done, c.at) = d ∙ ap (λ (l : List Placed). Some (l, c.at)) (append-nil q.done) in (
+        ap Some q.counted ∙ sym (ap count_of d'),
         λ ds x g h. let v : ◌≡◌ {A = Scanned Placed ℕ} (q.done, c.at) (ds, x) = cc in
             let w : q.done ≡ ds = ap (λ (y : Scanned Placed ℕ). y.0) v in subst (λ (y : List Placed). length y ≤ length l → m ≡ slots_of y ++ drop (length y) l) w q.written h,
       )
 
-  module _ (d : Declaration) (c : Cursor) (e : declaration_at s at ≡ Declared d c) where
+  module _ (d : Declaration) (c : Cursor) (e : declaration_at s at ≡ Some (Declared d c)) where
     grown : length (q.done ++ ((at, d) ∷ [])) ≡ count + 1
     grown = omega (arith, length-append q.done ((at, d) ∷ []), q.counted)
 
@@ -666,7 +659,7 @@ module _ (s : List ℕ) (from : ℕ) (l m : List ℕ) (at count : ℕ) (q : Gath
 
 -- ---- the check
 
-refused : (s : List ℕ) (from : ℕ) → abbreviations_of s from ≡ none → Refused ≡ checked_of s from
+refused : (s : List ℕ) (from : ℕ) → abbreviations_of s from ≡ None → Refused ≡ checked_of s from
 unfolding checked_of as_checked
 refused s from e = sym (ap as_checked e)
 
@@ -683,35 +676,45 @@ pub checking-none : (s : List ℕ) (from : ℕ) → Checking s from from
 unfolding distinct
 checking-none s from = record { done = []; chain = here; once = tt }
 
+-- what is found, by the library's test
+some-found : (o : Option Declaration) → is_some o ≡ true → T (is_found o)
+unfolding is_found
+some-found None h = let z : ◌≡◌ {A = ℕ} 0 1 = cc in absurd (omega arith)
+some-found (Some d) h = tt
+
+not-found : (o : Option Declaration) → is_some o ≡ false → o ≡ None
+not-found None h = refl
+not-found (Some d) h = let z : ◌≡◌ {A = ℕ} 0 1 = cc in absurd (omega arith)
+
 module _ (s : List ℕ) (from at : ℕ) (q : Checking s from at) where
-  pub checking-last : (c : Cursor) → declaration_at s at ≡ Last c → Accepted ≡ checked_of s from
+  pub checking-last : (c : Cursor) → declaration_at s at ≡ Some (Last c) → Accepted ≡ checked_of s from
   unfolding abbreviations_of checked_of as_checked check_distinct onto
   checking-last c e =
-      let d : declarations_from s from ≡ some (q.done ++ [], c.at) = chain-onto q.chain ∙ ap (onto q.done) (declarations-last s at c e) in
-      let d' : declarations_from s from ≡ some (q.done, c.at) = d ∙ ap (λ (l : List Placed). some (l, c.at)) (append-nil q.done) in
+      let d : declarations_from s from ≡ Some (q.done ++ [], c.at) = chain-onto q.chain ∙ ap (onto q.done) (declarations-last s at c e) in
+      let d' : declarations_from s from ≡ Some (q.done, c.at) = d ∙ ap (λ (l : List Placed). Some (l, c.at)) (append-nil q.done) in
       sym (ap as_checked (bind-at check_distinct d' ∙ check-yes _ _ q.once))
 
-  pub checking-bad : declaration_at s at ≡ NoDeclaration → Refused ≡ checked_of s from
+  pub checking-bad : declaration_at s at ≡ None → Refused ≡ checked_of s from
   unfolding abbreviations_of onto
   checking-bad e = refused s from (bind-none check_distinct (chain-onto q.chain ∙ ap (onto q.done) (declarations-bad s at e)))
 
-  twice_of : (p : Placed) (o : Option (Scanned Placed ℕ)) → T (is_found (declared_in q.done p.1.code)) → bind (onto q.done (bind o (push p))) check_distinct ≡ none
+  twice_of : (p : Placed) (o : Option (Scanned Placed ℕ)) → T (is_found (declared_in q.done p.1.code)) → bind (onto q.done (bind o (push p))) check_distinct ≡ None
   unfolding bind push onto check_distinct
-  twice_of p none h = refl
-  twice_of p (some r) h = check-no _ _ (distinct-twice q.done r.0 p h)
+  twice_of p None h = refl
+  twice_of p (Some r) h = check-no _ _ (distinct-twice q.done r.0 p h)
 
-  module _ (d : Declaration) (c : Cursor) (e : declaration_at s at ≡ Declared d c) where
-    pub checking-found : (d' : Declaration) → search_at s at d.code from ≡ Found' d' → Refused ≡ checked_of s from
+  module _ (d : Declaration) (c : Cursor) (e : declaration_at s at ≡ Some (Declared d c)) where
+    pub checking-found : is_some (search_at s at d.code from) ≡ true → Refused ≡ checked_of s from
     unfolding is_found abbreviations_of
-    checking-found d' h =
-        let t : T (is_found (declared_in q.done d.code)) = subst (λ f. T (is_found f)) (sym h ∙ chain-searched d.code q.chain) tt in
+    checking-found h =
+        let t : T (is_found (declared_in q.done d.code)) = subst (λ f. T (is_found f)) (chain-searched d.code q.chain) (some-found _ h) in
         refused s from (ap (λ o. bind o check_distinct) (chain-onto q.chain ∙ ap (onto q.done) (declarations-more s at d c e))
         ∙ twice_of (at, d) (declarations_from s c.at) t)
 
-    pub checking-more : search_at s at d.code from ≡ Nothing → Checking s from c.at
+    pub checking-more : is_some (search_at s at d.code from) ≡ false → Checking s from c.at
     unfolding is_found
     checking-more z =
-        let f : declared_in q.done d.code ≡ Nothing = sym (chain-searched d.code q.chain) ∙ z in
+        let f : declared_in q.done d.code ≡ None = sym (chain-searched d.code q.chain) ∙ not-found _ z in
         record {
           done = q.done ++ ((at, d) ∷ []);
           chain = chain_more q.chain e;
@@ -724,92 +727,92 @@ unfolding checked_of index_of as_checked index_for
 refused-index s from n h = of (abbreviations_of s from) h
   where
     of : (o : Option (List Placed)) → as_checked o ≡ Refused → zeros n ≡ index_for n o
-    of none e = refl
-    of (some ds) e = let z : ◌≡◌ {A = ℕ} 0 1 = cc in absurd (omega arith)
+    of None e = refl
+    of (Some ds) e = let z : ◌≡◌ {A = ℕ} 0 1 = cc in absurd (omega arith)
 
 -- a list that is accepted, up to the code that closes it
 record ClosedList (s : List ℕ) (from : ℕ) (ds : List Placed) : Type 0 where
   last : ℕ
   past : Cursor
   chain : Sequence s from ds last
-  closes : declaration_at s last ≡ Last past
+  closes : declaration_at s last ≡ Some (Last past)
 
-closed-step : (s : List ℕ) (ds : List Placed) (at e : ℕ) → ((p : Placed) (ds' : List Placed) → ds ≡ p ∷ ds' → (at e : ℕ) → declarations_from s at ≡ some (ds', e) → ClosedList s at ds')
-    → declarations_from s at ≡ some (ds, e) → (r : DeclarationStep) → declaration_at s at ≡ r → ClosedList s at ds
+closed-step : (s : List ℕ) (ds : List Placed) (at e : ℕ) → ((p : Placed) (ds' : List Placed) → ds ≡ p ∷ ds' → (at e : ℕ) → declarations_from s at ≡ Some (ds', e) → ClosedList s at ds')
+    → declarations_from s at ≡ Some (ds, e) → (r : Option DeclarationStep) → declaration_at s at ≡ r → ClosedList s at ds
 unfolding bind push
-closed-step s ds at e ih h (Declared d c) g = of (declarations_from s c.at) refl
+closed-step s ds at e ih h (Some (Declared d c)) g = of (declarations_from s c.at) refl
   where
     of : (o : Option (Scanned Placed ℕ)) → declarations_from s c.at ≡ o → ClosedList s at ds
-    of none k = let n : declarations_from s at ≡ none = declarations-more s at d c g ∙ ap (λ o. bind o (push (at, d))) k in
+    of None k = let n : declarations_from s at ≡ None = declarations-more s at d c g ∙ ap (λ o. bind o (push (at, d))) k in
         let z : ◌≡◌ {A = ℕ} 0 1 = cc in absurd (omega arith)
-    of (some r) k =
-        let n : declarations_from s at ≡ some ((at, d) ∷ r.0, r.1) = declarations-more s at d c g ∙ ap (λ o. bind o (push (at, d))) k in
+    of (Some r) k =
+        let n : declarations_from s at ≡ Some ((at, d) ∷ r.0, r.1) = declarations-more s at d c g ∙ ap (λ o. bind o (push (at, d))) k in
         let l : ds ≡ (at, d) ∷ r.0 = (let p : ◌≡◌ {A = Scanned Placed ℕ} (ds, e) ((at, d) ∷ r.0, r.1) = cc in ap (λ (x : Scanned Placed ℕ). x.0) p) in
         let q : ClosedList s c.at r.0 = ih (at, d) r.0 l c.at r.1 k in
         record { last = q.last; past = q.past; chain = subst (λ x. Sequence s at x q.last) (sym l) (link g q.chain); closes = q.closes }
-closed-step s ds at e ih h (Last c) g =
-    let n : declarations_from s at ≡ some ([], c.at) = declarations-last s at c g in
+closed-step s ds at e ih h (Some (Last c)) g =
+    let n : declarations_from s at ≡ Some ([], c.at) = declarations-last s at c g in
     let l : ds ≡ [] = (let p : ◌≡◌ {A = Scanned Placed ℕ} (ds, e) ([], c.at) = cc in ap (λ (x : Scanned Placed ℕ). x.0) p) in
     record { last = at; past = c; chain = subst (λ x. Sequence s at x at) (sym l) here; closes = g }
-closed-step s ds at e ih h NoDeclaration g =
-    let n : declarations_from s at ≡ none = declarations-bad s at g in
+closed-step s ds at e ih h None g =
+    let n : declarations_from s at ≡ None = declarations-bad s at g in
     let z : ◌≡◌ {A = ℕ} 0 1 = cc in absurd (omega arith)
 
-closed_of : (s : List ℕ) (ds : List Placed) (at e : ℕ) → declarations_from s at ≡ some (ds, e) → ClosedList s at ds
+closed_of : (s : List ℕ) (ds : List Placed) (at e : ℕ) → declarations_from s at ≡ Some (ds, e) → ClosedList s at ds
 closed_of s [] at e h = closed-step s [] at e (λ p ds' l. let z : ◌≡◌ {A = ℕ} 0 1 = cc in absurd (omega arith)) h (declaration_at s at) refl
 closed_of s (p ∷ ds) at e h =
-    closed-step s (p ∷ ds) at e (λ p' ds' l at e h. let q : ds ≡ ds' = cc in subst (ClosedList s at) q (closed_of s ds at e (h ∙ ap (λ (x : List Placed). some (x, e)) (sym q)))) h (declaration_at s at) refl
+    closed-step s (p ∷ ds) at e (λ p' ds' l at e h. let q : ds ≡ ds' = cc in subst (ClosedList s at) q (closed_of s ds at e (h ∙ ap (λ (x : List Placed). Some (x, e)) (sym q)))) h (declaration_at s at) refl
 
 record Accept (s : List ℕ) (from : ℕ) (ds : List Placed) : Type 0 where
   closed : ClosedList s from ds
   once : T (distinct ds)
 
-accept-of : (s : List ℕ) (from : ℕ) (ds : List Placed) → abbreviations_of s from ≡ some ds → Accept s from ds
+accept-of : (s : List ℕ) (from : ℕ) (ds : List Placed) → abbreviations_of s from ≡ Some ds → Accept s from ds
 unfolding abbreviations_of bind check_distinct
 accept-of s from ds h = of (declarations_from s from) refl h
   where
-    of : (o : Option (Scanned Placed ℕ)) → declarations_from s from ≡ o → bind o check_distinct ≡ some ds → Accept s from ds
-    of none k g = let z : ◌≡◌ {A = ℕ} 0 1 = cc in absurd (omega arith)
-    of (some r) k g =
+    of : (o : Option (Scanned Placed ℕ)) → declarations_from s from ≡ o → bind o check_distinct ≡ Some ds → Accept s from ds
+    of None k g = let z : ◌≡◌ {A = ℕ} 0 1 = cc in absurd (omega arith)
+    of (Some r) k g =
         ⊎_elim
-        (λ t. let l : some r.0 ≡ some ds = sym (check-yes _ _ t) ∙ g in
+        (λ t. let l : Some r.0 ≡ Some ds = sym (check-yes _ _ t) ∙ g in
         let l' : r.0 ≡ ds = cc in
         record { closed = subst (ClosedList s from) l' (closed_of s r.0 from r.1 k); once = subst (λ x. T (distinct x)) l' t })
-        (λ t. let l : none ≡ some ds = sym (check-no _ _ t) ∙ g in
+        (λ t. let l : None ≡ Some ds = sym (check-no _ _ t) ∙ g in
         let z : ◌≡◌ {A = ℕ} 0 1 = cc in absurd (omega arith))
         (either (distinct r.0))
 
 -- ---- the index filled
 
 module _ (s : List ℕ) (from : ℕ) where
-  pub unreadable-refused : Uncounted ≡ count_of (declarations_from s from) → Refused ≡ checked_of s from
+  pub unreadable-refused : None ≡ count_of (declarations_from s from) → Refused ≡ checked_of s from
   unfolding abbreviations_of count_of
   unreadable-refused h = refused s from (bind-none check_distinct (of (declarations_from s from) h))
     where
-      of : (o : Option (Scanned Placed ℕ)) → Uncounted ≡ count_of o → o ≡ none
-      of none e = refl
-      of (some r) e = let z : ◌≡◌ {A = ℕ} 0 1 = cc in absurd (omega arith)
+      of : (o : Option (Scanned Placed ℕ)) → None ≡ count_of o → o ≡ None
+      of None e = refl
+      of (Some r) e = let z : ◌≡◌ {A = ℕ} 0 1 = cc in absurd (omega arith)
 
   -- too many for the index
-  over-index : (count n : ℕ) → Of count ≡ count_of (declarations_from s from) → n < count → zeros n ≡ index_of s from n
+  over-index : (count n : ℕ) → Some count ≡ count_of (declarations_from s from) → n < count → zeros n ≡ index_of s from n
   unfolding abbreviations_of count_of index_of index_for bind check_distinct indexed
   over-index count n h g = of (declarations_from s from) h
     where
-      of : (o : Option (Scanned Placed ℕ)) → Of count ≡ count_of o → zeros n ≡ index_for n (bind o check_distinct)
-      of none e = refl
-      of (some r) e =
+      of : (o : Option (Scanned Placed ℕ)) → Some count ≡ count_of o → zeros n ≡ index_for n (bind o check_distinct)
+      of None e = refl
+      of (Some r) e =
           let z : count ≡ length r.0 = cc in
           ⊎_elim
-          (λ t. sym (ap (index_for n) (check-yes (distinct r.0) (some r.0) t) ∙ pick_no _ _ _ (no_leb {a = length r.0} {b = length (zeros n)} (omega (arith, length-replicate {A = ℕ} n 0)))))
-          (λ t. sym (ap (index_for n) (check-no (distinct r.0) (some r.0) t)))
+          (λ t. sym (ap (index_for n) (check-yes (distinct r.0) (Some r.0) t) ∙ pick_no _ _ _ (no_leb {a = length r.0} {b = length (zeros n)} (omega (arith, length-replicate {A = ℕ} n 0)))))
+          (λ t. sym (ap (index_for n) (check-no (distinct r.0) (Some r.0) t)))
           (either (distinct r.0))
 
-  counted-list : (count : ℕ) (o : Option (Scanned Placed ℕ)) → Of count ≡ count_of o → (r : Scanned Placed ℕ) × (o ≡ some r) × (count ≡ length r.0)
+  counted-list : (count : ℕ) (o : Option (Scanned Placed ℕ)) → Some count ≡ count_of o → (r : Scanned Placed ℕ) × (o ≡ Some r) × (count ≡ length r.0)
   unfolding count_of
-  counted-list count none e = let z : ◌≡◌ {A = ℕ} 0 1 = cc in absurd (omega arith)
-  counted-list count (some r) e = (r, refl, (cc))
+  counted-list count None e = let z : ◌≡◌ {A = ℕ} 0 1 = cc in absurd (omega arith)
+  counted-list count (Some r) e = (r, refl, (cc))
 
-  module _ (ds : List Placed) (end : ℕ) (g : declarations_from s from ≡ some (ds, end)) where
+  module _ (ds : List Placed) (end : ℕ) (g : declarations_from s from ≡ Some (ds, end)) where
     listed-coded : Coded s ds
     listed-coded = chain-coded (closed_of s ds from end g).chain
 
@@ -824,13 +827,13 @@ module _ (s : List ℕ) (from : ℕ) where
           subst (λ z. In z (slots_of (by_code ds))) (sym (q.is k i)) (order-in ds (get_or (slots_of ds) (q.from k) 0) (in-at (slots_of ds) (q.from k) (q.inside k i)))))
           (omega (arith, slots_length ds, slots_length (by_code ds), order-length ds))
 
-      ordered-accepted : abbreviations_of s from ≡ some ds
+      ordered-accepted : abbreviations_of s from ≡ Some ds
       unfolding abbreviations_of check_distinct
       ordered-accepted =
           bind-at check_distinct g
           ∙ check-yes _ _ (order-distinct s ds listed-coded (subst (Strict (slot_code s)) ordered-slots (strict_of (slot_code s) m (o.ascending refl))))
 
-    ordered-refused : (m : List ℕ) → Ordered s (slots_of ds) m Repeated → abbreviations_of s from ≡ none
+    ordered-refused : (m : List ℕ) → Ordered s (slots_of ds) m Repeated → abbreviations_of s from ≡ None
     unfolding abbreviations_of check_distinct
     ordered-refused m o =
         let q : Drawn (slots_of ds) m = drawn-of o.swaps in
@@ -861,14 +864,14 @@ module _ (s : List ℕ) (from : ℕ) where
         → (accepted a ≡ checked_of s from) × (accepted a ≡ Accepted → m ++ drop (length ds) (zeros n) ≡ index_of s from n)
     unfolding checked_of as_checked accepted index_of index_for indexed
     ordered-index m n Ascending o h =
-        let a : abbreviations_of s from ≡ some ds = ordered-accepted m o in (
+        let a : abbreviations_of s from ≡ Some ds = ordered-accepted m o in (
           sym (ap as_checked a),
           λ _. ap (λ (l : List ℕ). l ++ drop (length ds) (zeros n)) (ordered-slots m o)
               ∙ sym (ap (index_for n) a ∙ pick_yes _ _ _ (yes_leb {a = length ds} {b = length (zeros n)} (omega (arith, length-replicate {A = ℕ} n 0)))),
         )
     ordered-index m n Repeated o h = (sym (ap as_checked (ordered-refused m o)), λ e. absurd (refused-not e))
 
-module _ (s : List ℕ) (from count : ℕ) (l₀ l : List ℕ) (same : length l ≡ length l₀) (h : Of count ≡ count_of (declarations_from s from)) where
+module _ (s : List ℕ) (from count : ℕ) (l₀ l : List ℕ) (same : length l ≡ length l₀) (h : Some count ≡ count_of (declarations_from s from)) where
   pub over-filled : (m : List ℕ) → length l < count → m ≡ zeros (length l) → m ≡ index_of s from (length l₀)
   over-filled m g e = e ∙ ap zeros same ∙ over-index s from count (length l₀) h (omega arith)
 
@@ -877,7 +880,7 @@ module _ (s : List ℕ) (from count : ℕ) (l₀ l : List ℕ) (same : length l 
       → Ordered s (take count l) m a → r ≡ accepted a → (r ≡ checked_of s from) × (r ≡ Accepted → m ++ drop count l ≡ index_of s from (length l₀))
   filled-index m r a z w i o u =
       let n : ℕ = length l₀ in
-      let q : (r : Scanned Placed ℕ) × (declarations_from s from ≡ some r) × (count ≡ length r.0) = counted-list s from count (declarations_from s from) h in
+      let q : (r : Scanned Placed ℕ) × (declarations_from s from ≡ Some r) × (count ≡ length r.0) = counted-list s from count (declarations_from s from) h in
       let ds : List Placed = q.0.0 in
       let k : length ds ≡ count = sym q.2 in
       let e : l ≡ slots_of ds ++ drop (length ds) (zeros n) = w ds q.0.1 q.1 (omega arith) ∙ ap (λ (y : List ℕ). slots_of ds ++ drop (length ds) y) z in
@@ -899,7 +902,7 @@ module _ (s : List ℕ) (slot code : ℕ) where
   unfolding holds_code
   holds-some z c q = ap (λ (c : ℕ). eqb c code) q ∙ sym (pick_no _ _ _ (no_eqb z))
 
-pub head_in_lem : (s : List ℕ) (slot at : ℕ) → at ≡ slot - 1 → (r : DeclarationStep) → head_at s at ≡ r → declaration_found r ≡ head_in s slot
+pub head_in_lem : (s : List ℕ) (slot at : ℕ) → at ≡ slot - 1 → (r : Option DeclarationStep) → head_at s at ≡ r → declaration_found r ≡ head_in s slot
 unfolding head_in
 head_in_lem s slot at q r e = sym (ap declaration_found e) ∙ ap (λ (n : ℕ). declaration_found (head_at s n)) q
 
@@ -910,7 +913,7 @@ module _ (s : List ℕ) (from : ℕ) (index : List ℕ) (code i : ℕ) (i-is : i
   at-guess : b ≡ holds_code s (get_or index (code - 1) 0) code
   at-guess = p ∙ ap (λ (n : ℕ). holds_code s n code) g
 
-  pub find_first : b ≡ true → (f : DeclarationFound) → f ≡ head_in s guess → f ≡ find_head s from index code
+  pub find_first : b ≡ true → (f : Option Declaration) → f ≡ head_in s guess → f ≡ find_head s from index code
   unfolding find_head
   find_first t f e = e ∙ ap (head_in s) g ∙ sym (pick_yes _ _ _ (subst T (sym t ∙ at-guess) tt))
 
@@ -926,7 +929,7 @@ module _ (s : List ℕ) (from : ℕ) (index : List ℕ) (code i : ℕ) (i-is : i
     unfolding find_head
     past_first = pick_no _ _ _ (subst (λ (b : Bool). T (not b)) (sym n ∙ at-guess) tt)
 
-    pub find-halved : b' ≡ true → (f : DeclarationFound) → f ≡ head_in s slot → f ≡ find_head s from index code
+    pub find-halved : b' ≡ true → (f : Option Declaration) → f ≡ head_in s slot → f ≡ find_head s from index code
     find-halved t f e = e ∙ ap (head_in s) h ∙ sym (past_first ∙ pick_yes _ _ _ (subst T (sym t ∙ at_slot) tt))
 
     pub find-search : b' ≡ false → search_at s (length s) code from ≡ find_head s from index code
@@ -937,30 +940,30 @@ module _ (s : List ℕ) (from : ℕ) (index : List ℕ) (code i : ℕ) (i-is : i
 pub record Somewhere (s : List ℕ) (d : Declaration) : Type 0 where
   pub place : ℕ
   pub next : Cursor
-  pub is : declaration_at s place ≡ Declared d next
+  pub is : declaration_at s place ≡ Some (Declared d next)
 
-unfoldable FoundLaw : List ℕ → DeclarationFound → Type 0
-FoundLaw s (Found' d) = Somewhere s d
-FoundLaw s Nothing = Unit {0}
+unfoldable FoundLaw : List ℕ → Option Declaration → Type 0
+FoundLaw s (Some d) = Somewhere s d
+FoundLaw s None = Unit {0}
 
-step-found : (s : List ℕ) (at : ℕ) (r : DeclarationStep) → declaration_at s at ≡ r → FoundLaw s (declaration_found r)
+step-found : (s : List ℕ) (at : ℕ) (r : Option DeclarationStep) → declaration_at s at ≡ r → FoundLaw s (declaration_found r)
 unfolding FoundLaw declaration_found
-step-found s at (Declared d c) e = record { place = at; next = c; is = e }
-step-found s at (Last c) e = tt
-step-found s at NoDeclaration e = tt
+step-found s at (Some (Declared d c)) e = record { place = at; next = c; is = e }
+step-found s at (Some (Last c)) e = tt
+step-found s at None e = tt
 
-unfoldable TurnLaw : List ℕ → Turn (Unit {0}) DeclarationFound → Type 0
+unfoldable TurnLaw : List ℕ → Turn (Unit {0}) (Option Declaration) → Type 0
 TurnLaw s (more a n) = Unit {0}
 TurnLaw s (stop f) = FoundLaw s f
 TurnLaw s bad = Unit {0}
 
-turn-found : (s : List ℕ) (code at : ℕ) (r : DeclarationStep) → declaration_at s at ≡ r → TurnLaw s (search_turn code r)
+turn-found : (s : List ℕ) (code at : ℕ) (r : Option DeclarationStep) → declaration_at s at ≡ r → TurnLaw s (search_turn code r)
 unfolding TurnLaw FoundLaw search_turn
-turn-found s code at (Declared d c) e = pick-either (TurnLaw s) (eqb d.code code) _ _ (λ _. record { place = at; next = c; is = e }) (λ _. tt)
-turn-found s code at (Last c) e = tt
-turn-found s code at NoDeclaration e = tt
+turn-found s code at (Some (Declared d c)) e = pick-either (TurnLaw s) (eqb d.code code) _ _ (λ _. record { place = at; next = c; is = e }) (λ _. tt)
+turn-found s code at (Some (Last c)) e = tt
+turn-found s code at None e = tt
 
-on-turn : (s : List ℕ) (t : Turn (Unit {0}) DeclarationFound) (k : Unit {0} → ℕ → Option (Scanned (Unit {0}) DeclarationFound)) → TurnLaw s t → ((a : Unit {0}) (n : ℕ) → FoundLaw s (found_by (k a n)))
+on-turn : (s : List ℕ) (t : Turn (Unit {0}) (Option Declaration)) (k : Unit {0} → ℕ → Option (Scanned (Unit {0}) (Option Declaration))) → TurnLaw s t → ((a : Unit {0}) (n : ℕ) → FoundLaw s (found_by (k a n)))
     → FoundLaw s (found_by (on_turn t k))
 unfolding TurnLaw FoundLaw on_turn found_by
 on-turn s (more a n) k q h = h a n
@@ -980,15 +983,15 @@ unfolding search_at scan
 search-found s to code at = within-found s to code _ at
 
 -- so its attribute specifications can be read
-found-whole : (s : List ℕ) (f : DeclarationFound) → FoundLaw s f → whole_found s f ≡ f
+found-whole : (s : List ℕ) (f : Option Declaration) → FoundLaw s f → whole_found s f ≡ f
 unfolding FoundLaw whole_found whole_declaration moved_declaration declaration_found past_attributes scanned_to
-found-whole s (Found' d) q = ap (λ (o : Option (Scanned AttributeSpec ℕ)). declaration_found (moved_declaration (scanned_to o) (Declared d))) (declaration-inside s q.place d q.next q.is).past.read
-found-whole s Nothing q = refl
+found-whole s (Some d) q = ap (λ (o : Option (Scanned AttributeSpec ℕ)). declaration_found (moved_declaration (scanned_to o) (λ c. Some (Declared d c)))) (declaration-inside s q.place d q.next q.is).past.read
+found-whole s None q = refl
 
 search-whole : (s : List ℕ) (to code at : ℕ) → whole_found s (search_at s to code at) ≡ search_at s to code at
 search-whole s to code at = found-whole s (search_at s to code at) (search-found s to code at)
 
-whole-pick : (s : List ℕ) (b : Bool) (f g : DeclarationFound) → whole_found s (pick b f g) ≡ pick b (whole_found s f) (whole_found s g)
+whole-pick : (s : List ℕ) (b : Bool) (f g : Option Declaration) → whole_found s (pick b f g) ≡ pick b (whole_found s f) (whole_found s g)
 unfolding pick
 whole-pick s true f g = refl
 whole-pick s false f g = refl
@@ -1005,7 +1008,7 @@ find-whole s from index code =
     ∙ ap₂ (pick (holds_code s (get_or index (slot_of s index code) 0) code)) (head-found s (get_or index (slot_of s index code) 0 - 1) _ refl) (search-whole s (length s) code from))
 
 -- the index and the search find what the list declares
-pub find-plain : (s : List ℕ) (from n : ℕ) (ds : List Placed) → abbreviations_of s from ≡ some ds → (code : ℕ) → find_at s from (index_of s from n) code ≡ declared_in ds code
+pub find-plain : (s : List ℕ) (from n : ℕ) (ds : List Placed) → abbreviations_of s from ≡ Some ds → (code : ℕ) → find_at s from (index_of s from n) code ≡ declared_in ds code
 unfolding index_of index_for
 find-plain s from n ds h code =
     let q : Accept s from ds = accept-of s from ds h in
@@ -1023,6 +1026,6 @@ find-plain s from n ds h code =
     (through-else (get_or (indexed (zeros n) ds) (slot_of s (indexed (zeros n) ds) code) 0) code _ k q.once (index-slots n (slot_of s (indexed (zeros n) ds) code) ds) f)
 
 -- what the reader of a head finds is, where it is whole, what is found
-pub found_at : (s : List ℕ) (from : ℕ) (index : List ℕ) (code : ℕ) (f : DeclarationFound) → f ≡ find_head s from index code → whole_found s f ≡ find_at s from index code
+pub found_at : (s : List ℕ) (from : ℕ) (index : List ℕ) (code : ℕ) (f : Option Declaration) → f ≡ find_head s from index code → whole_found s f ≡ find_at s from index code
 unfolding find_at
 found_at s from index code f q = ap (whole_found s) q

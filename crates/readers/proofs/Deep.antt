@@ -2,7 +2,7 @@
 use mathlib.Core.Path.{◌≡◌, refl, ap, ap₂, sym, ◌∙◌, subst}
 use Prim.Native.Nat.{ℕ, suc, ◌+◌, ◌-◌, ◌≤◌}
 use mathlib.Core.Bool.{Bool, true, false, not}
-use mathlib.Core.Option.{Option, none, some}
+use Rattle.std.specs.Prelude.{None, Option, Some}
 use mathlib.Core.List.{List, [], ◌∷◌, ◌++◌, append-nil}
 use native.Mathlib.Omega.{arith}
 use lib.ListN.{length, take, drop, length-append}
@@ -44,30 +44,30 @@ plain-token big ex ex' unknown s h = refl
 module _ (big : Bool) (ex : ExpressionReader) where
   -- as bytes a token is read wherever it is read by another reader, and as far
   unfoldable Alike : Option ReadOf → Option ReadOf → Type 0
-  Alike none p = Unit {0}
-  Alike (some r) none = ⊥
-  Alike (some r) (some q) = (r.0.seen ≡ q.0.seen) × (r.1 ≡ q.1)
+  Alike None p = Unit {0}
+  Alike (Some r) None = ⊥
+  Alike (Some r) (Some q) = (r.0.seen ≡ q.0.seen) × (r.1 ≡ q.1)
 
   alike_same : (o : Option ReadOf) → Alike o o
   unfolding Alike
-  alike_same none = tt
-  alike_same (some r) = (refl, refl)
+  alike_same None = tt
+  alike_same (Some r) = (refl, refl)
 
-  alike-checked : (b : Bool) (x : Option ReadOf) (y : ReadOf) → Alike x (some y) → Alike (check b x) (check b (some y))
+  alike-checked : (b : Bool) (x : Option ReadOf) (y : ReadOf) → Alike x (Some y) → Alike (check b x) (check b (Some y))
   unfolding check Alike
   alike-checked true x y h = h
   alike-checked false x y h = tt
 
   alike-part : (o : Option (List Piece)) (f : List Piece → ReadOf) (y : ReadOf) → ((ps : List Piece) → ((f ps).0.seen ≡ y.0.seen) × ((f ps).1 ≡ y.1))
-      → Alike (bind o (λ ps. some (f ps))) (some y)
+      → Alike (bind o (λ ps. Some (f ps))) (Some y)
   unfolding bind Alike
-  alike-part none f y h = tt
-  alike-part (some ps) f y h = h ps
+  alike-part None f y h = tt
+  alike-part (Some ps) f y h = h ps
 
   alike-expression : (s : List ℕ) (u : Option Groups) → Alike (bind u (as_expression ex s)) (bind u (as_expression as_bytes s))
   unfolding bind as_expression as_bytes Alike
-  alike-expression s none = tt
-  alike-expression s (some t) = alike-checked (leb t.1 (length t.2)) _ _ (alike-part (ex (take t.1 t.2)) _ _ (λ ps. (refl, refl)))
+  alike-expression s None = tt
+  alike-expression s (Some t) = alike-checked (leb t.1 (length t.2)) _ _ (alike-part (ex (take t.1 t.2)) _ _ (λ ps. (refl, refl)))
 
   alike : (t : Token) (s : List ℕ) → Alike (token_in big ex t s) (token_in big as_bytes t s)
   unfolding token_in
@@ -83,23 +83,23 @@ module _ (big : Bool) (ex : ExpressionReader) where
   alike expression s = alike-expression s (uleb s)
   alike unknown s = alike_same _
 
-  before-none : (r : Read) (o : Option RunOf) → bind o (before r) ≡ none → o ≡ none
+  before-none : (r : Read) (o : Option RunOf) → bind o (before r) ≡ None → o ≡ None
   unfolding bind before
-  before-none r none h = refl
-  before-none r (some q) h = cc
+  before-none r None h = refl
+  before-none r (Some q) h = cc
 
-  none-field : (t : Token) (k : ℕ → Layout) (s : List ℕ) → read_in big as_bytes (field t k) s ≡ none
-      → ((n : ℕ) (x : List ℕ) → read_in big as_bytes (k n) x ≡ none → read_in big ex (k n) x ≡ none)
-      → (o : Option ReadOf) → token_in big ex t s ≡ o → (p : Option ReadOf) → token_in big as_bytes t s ≡ p → Alike o p → read_in big ex (field t k) s ≡ none
+  none-field : (t : Token) (k : ℕ → Layout) (s : List ℕ) → read_in big as_bytes (field t k) s ≡ None
+      → ((n : ℕ) (x : List ℕ) → read_in big as_bytes (k n) x ≡ None → read_in big ex (k n) x ≡ None)
+      → (o : Option ReadOf) → token_in big ex t s ≡ o → (p : Option ReadOf) → token_in big as_bytes t s ≡ p → Alike o p → read_in big ex (field t k) s ≡ None
   unfolding read_in Alike
-  none-field t k s h ih none q p q' a = bind-none _ q
-  none-field t k s h ih (some r) q none q' a = absurd a
-  none-field t k s h ih (some r) q (some r') q' a =
+  none-field t k s h ih None q p q' a = bind-none _ q
+  none-field t k s h ih (Some r) q None q' a = absurd a
+  none-field t k s h ih (Some r) q (Some r') q' a =
       bind-at _ q
       ∙ bind-none _ (ap₂ (λ n x. read_in big ex (k n) x) a.0 a.1 ∙ ih r'.0.seen r'.1 (before-none r'.0 _ (sym (bind-at _ q') ∙ h)))
 
   -- what cannot be read as bytes cannot be read
-  pub unreadable : (g : Layout) (s : List ℕ) → read_in big as_bytes g s ≡ none → read_in big ex g s ≡ none
+  pub unreadable : (g : Layout) (s : List ℕ) → read_in big as_bytes g s ≡ None → read_in big ex g s ≡ None
   unfolding read_in
   unreadable done s h = h
   unreadable fail s h = h
@@ -117,7 +117,7 @@ nothing-plain = refl
 
 unfoldable pub EntryLaw : List ℕ → ReadOf → Groups → Type 0
 EntryLaw s r t =
-    (uleb s ≡ some t) × (t.1 ≤ length t.2) × (suc t.0 ≤ length s) × (t.2 ≡ drop (suc t.0) s)
+    (uleb s ≡ Some t) × (t.1 ≤ length t.2) × (suc t.0 ≤ length s) × (t.2 ≡ drop (suc t.0) s)
     × (r ≡ (record { seen = 0; start = suc t.0; pieces = verbatim (take (suc t.0) s) ∷ verbatim (take t.1 t.2) ∷ [] }, drop t.1 t.2))
 
 pub entry-token : (big : Bool) (s : List ℕ) → All (λ r. (t : Groups) × EntryLaw s r t) (token_in big as_bytes expression s)
@@ -128,7 +128,7 @@ entry-token big s =
 
 -- by any reader: the same length, and what that reader makes of the bytes
 pub entry_read : (big : Bool) (ex : ExpressionReader) (s : List ℕ) (r : ReadOf) (t : Groups) → EntryLaw s r t
-    → token_in big ex expression s ≡ bind (ex (take t.1 t.2)) (λ ps. some (record { seen = 0; start = suc t.0; pieces = verbatim (take (suc t.0) s) ∷ ps }, drop t.1 t.2))
+    → token_in big ex expression s ≡ bind (ex (take t.1 t.2)) (λ ps. Some (record { seen = 0; start = suc t.0; pieces = verbatim (take (suc t.0) s) ∷ ps }, drop t.1 t.2))
 unfolding token_in as_expression EntryLaw
 entry_read big ex s r t q = bind-at _ q.0 ∙ check-yes _ _ (yes_leb {a = t.1} {b = length t.2} q.1)
 
@@ -161,7 +161,7 @@ module _ (e : Encoding) (x : List ℕ) (at : ℕ) (op : Operation) (h : Operatio
   row_is : op.row ≡ operation_row h.c.seen
   row_is = ap (λ (o : Operation). o.row) h.made
 
-  names-of : (k : ℕ) (t : Token) (s : List ℕ) (r : Read) (y : List ℕ) → token_in big as_bytes t s ≡ some (r, y) → Names big k t (r, y)
+  names-of : (k : ℕ) (t : Token) (s : List ℕ) (r : Read) (y : List ℕ) → token_in big as_bytes t s ≡ Some (r, y) → Names big k t (r, y)
   names-of k t s r y q = all_of (Names big k t) (token-names big k t s) q
 
   pub own-names : names_in big at own ≡ names_of (reference_of op)
@@ -207,7 +207,7 @@ module _ (e : Encoding) (x : List ℕ) (at : ℕ) (op : Operation) (h : Operatio
       omega (arith, p h.c.pieces (h.a.pieces ++ (h.b.pieces ++ (h.d.pieces ++ []))), p h.a.pieces (h.b.pieces ++ (h.d.pieces ++ [])), p h.b.pieces (h.d.pieces ++ []), a)
 
   -- an operation that is no entry value
-  pub deep-plain : T (not (eqb op.row 19)) → expression_in e x ≡ bind (expression_in e h.rest) (λ qs. some (own ++ qs))
+  pub deep-plain : T (not (eqb op.row 19)) → expression_in e x ≡ bind (expression_in e h.rest) (λ qs. Some (own ++ qs))
   unfolding and_rest
   deep-plain t =
       let q : (is_expression (token1 e (operation_row h.c.seen)) ≡ false) × (is_expression (token2 e (operation_row h.c.seen)) ≡ false) × (is_expression (token3 e (operation_row h.c.seen)) ≡ false)
@@ -245,7 +245,7 @@ module _ (e : Encoding) (x : List ℕ) (at : ℕ) (op : Operation) (h : Operatio
     abbrev pub inner : List ℕ
     inner = take entry-held.0.1 entry-held.0.2
 
-    entry-some : (ps : List Piece) → expression_in e inner ≡ some ps → expression_in e x ≡ bind (expression_in e h.rest) (λ qs. some ((lead ++ ps) ++ qs))
+    entry-some : (ps : List Piece) → expression_in e inner ≡ Some ps → expression_in e x ≡ bind (expression_in e h.rest) (λ qs. Some ((lead ++ ps) ++ qs))
     unfolding and_rest EntryLaw all_pieces
     entry-some ps q =
         let g : Groups = entry-held.0 in
@@ -258,12 +258,12 @@ module _ (e : Encoding) (x : List ℕ) (at : ℕ) (op : Operation) (h : Operatio
         ∙ bind-at _ (read-four e (expression_in e) x h.c a h.b h.d h.x1 h.x2 h.x3 h.rest
         (plain-token big (expression_in e) as_bytes (number (fixed 1)) x code-plain ∙ h.code)
         (ap (λ k. token_in big (expression_in e) k h.x1) (ap (token1 e) row-19 ∙ entry_first e)
-        ∙ entry_read big (expression_in e) h.x1 (h.a, h.x2) g entry-held.1 ∙ bind-at _ q ∙ ap (λ y. some (a, y)) (sym two))
+        ∙ entry_read big (expression_in e) h.x1 (h.a, h.x2) g entry-held.1 ∙ bind-at _ q ∙ ap (λ y. Some (a, y)) (sym two))
         (plain-token big (expression_in e) as_bytes _ h.x2 (ap is_expression (ap (token2 e) row-19 ∙ entry-second e) ∙ nothing-plain) ∙ h.second)
         (plain-token big (expression_in e) as_bytes _ h.x3 (ap is_expression (ap (token3 e) row-19 ∙ entry-third e) ∙ nothing-plain) ∙ h.third))
-        ∙ ap (λ l. bind (expression_in e h.rest) (λ qs. some (l ++ qs))) own_is
+        ∙ ap (λ l. bind (expression_in e h.rest) (λ qs. Some (l ++ qs))) own_is
 
-    entry-none : expression_in e inner ≡ none → expression_in e x ≡ none
+    entry-none : expression_in e inner ≡ None → expression_in e x ≡ None
     unfolding operation row_layout read_in
     entry-none q =
         let g : Groups = entry-held.0 in
@@ -272,13 +272,13 @@ module _ (e : Encoding) (x : List ℕ) (at : ℕ) (op : Operation) (h : Operatio
         ∙ bind-none _ (bind-none _ (ap (λ k. token_in big (expression_in e) k h.x1) (ap (token1 e) row-19 ∙ entry_first e)
         ∙ entry_read big (expression_in e) h.x1 (h.a, h.x2) g entry-held.1 ∙ bind-none _ q)))
 
-    deep-case : (o : Option (List Piece)) → expression_in e inner ≡ o → expression_in e x ≡ bind o (λ ps. bind (expression_in e h.rest) (λ qs. some ((lead ++ ps) ++ qs)))
+    deep-case : (o : Option (List Piece)) → expression_in e inner ≡ o → expression_in e x ≡ bind o (λ ps. bind (expression_in e h.rest) (λ qs. Some ((lead ++ ps) ++ qs)))
     unfolding bind
-    deep-case none q = entry-none q
-    deep-case (some ps) q = entry-some ps q
+    deep-case None q = entry-none q
+    deep-case (Some ps) q = entry-some ps q
 
     -- an entry value: its code and length, the expression that it holds, and then the rest
-    pub deep-entry : expression_in e x ≡ bind (expression_in e inner) (λ ps. bind (expression_in e h.rest) (λ qs. some ((lead ++ ps) ++ qs)))
+    pub deep-entry : expression_in e x ≡ bind (expression_in e inner) (λ ps. bind (expression_in e h.rest) (λ qs. Some ((lead ++ ps) ++ qs)))
     deep-entry = deep-case _ refl
 
     pub lead-names : (k : ℕ) → names_in big k lead ≡ []

@@ -4,7 +4,7 @@ use mathlib.Core.Path.{◌≡◌, refl}
 use Prim.Native.Nat.{ℕ, ◌^◌, ◌-◌}
 use mathlib.Core.Bool.{true, false}
 use mathlib.Core.List.{List, [], ◌∷◌}
-use mathlib.Core.Option.{none, some}
+use Rattle.std.specs.Prelude.{Err, None, Ok, Some}
 use Rattle.readers.specs.Choice.{pick, check, bind, ◌and◌, ◌or◌}
 use Rattle.readers.specs.Numbers.{groups, below, uleb, unsigned64, sleb, signed64, negative, ordered, little_bytes, little_value, fixed_bytes, fixed_value}
 use Rattle.readers.specs.Layout.{short, within16, number_in, width}
@@ -17,46 +17,45 @@ use Rattle.readers.specs.Abbreviations.{whole_declaration, declaration_at, decla
 use Rattle.readers.specs.Abbreviations.{declared_in, is_found, distinct, check_distinct, abbreviations_of}
 use Rattle.readers.specs.Abbreviations.{insert_by_code, by_code, slots_of, indexed, index_for, index_of}
 use Rattle.readers.specs.Header.{present, right, length_bytes, encoding_of, header_made, fields4, fields5, header_fields, header_in, header_of}
-use Rattle.readers.specs.declared.header.HeaderRead.TheVariants.{Unit as Unit', Empty, Refused}
 
 -- ---- 7.6, table 7.7: unsigned numbers
 
 uleb-examples :
-    (uleb (0x02 ∷ []) ≡ some (0, 2, []))
-    × (uleb (0x7f ∷ []) ≡ some (0, 127, []))
-    × (uleb (0x80 ∷ 0x01 ∷ []) ≡ some (1, 128, []))
-    × (uleb (0x81 ∷ 0x01 ∷ []) ≡ some (1, 129, []))
-    × (uleb (0xb9 ∷ 0x64 ∷ []) ≡ some (1, 12857, []))
+    (uleb (0x02 ∷ []) ≡ Some (0, 2, []))
+    × (uleb (0x7f ∷ []) ≡ Some (0, 127, []))
+    × (uleb (0x80 ∷ 0x01 ∷ []) ≡ Some (1, 128, []))
+    × (uleb (0x81 ∷ 0x01 ∷ []) ≡ Some (1, 129, []))
+    × (uleb (0xb9 ∷ 0x64 ∷ []) ≡ Some (1, 12857, []))
 unfolding uleb groups below unsigned64 pick check bind
 uleb-examples = (refl, refl, refl, refl, refl)
 
 -- ---- 7.6, table 7.8: signed numbers, as two's complement
 
 sleb-examples :
-    (sleb (0x02 ∷ []) ≡ some (0, 2, []))
-    × (sleb (0x7e ∷ []) ≡ some (0, 2 ^ 64 - 2, []))
-    × (sleb (0xff ∷ 0x00 ∷ []) ≡ some (1, 127, []))
-    × (sleb (0x81 ∷ 0x7f ∷ []) ≡ some (1, 2 ^ 64 - 127, []))
-    × (sleb (0x80 ∷ 0x01 ∷ []) ≡ some (1, 128, []))
-    × (sleb (0x80 ∷ 0x7f ∷ []) ≡ some (1, 2 ^ 64 - 128, []))
-    × (sleb (0x81 ∷ 0x01 ∷ []) ≡ some (1, 129, []))
-    × (sleb (0xff ∷ 0x7e ∷ []) ≡ some (1, 2 ^ 64 - 129, []))
+    (sleb (0x02 ∷ []) ≡ Some (0, 2, []))
+    × (sleb (0x7e ∷ []) ≡ Some (0, 2 ^ 64 - 2, []))
+    × (sleb (0xff ∷ 0x00 ∷ []) ≡ Some (1, 127, []))
+    × (sleb (0x81 ∷ 0x7f ∷ []) ≡ Some (1, 2 ^ 64 - 127, []))
+    × (sleb (0x80 ∷ 0x01 ∷ []) ≡ Some (1, 128, []))
+    × (sleb (0x80 ∷ 0x7f ∷ []) ≡ Some (1, 2 ^ 64 - 128, []))
+    × (sleb (0x81 ∷ 0x01 ∷ []) ≡ Some (1, 129, []))
+    × (sleb (0xff ∷ 0x7e ∷ []) ≡ Some (1, 2 ^ 64 - 129, []))
 unfolding sleb groups below signed64 negative pick check bind
 sleb-examples = (refl, refl, refl, refl, refl, refl, refl, refl)
 
 -- ---- at most ten bytes, within 64 bits; padding is taken
 
 limits :
-    (uleb (0xff ∷ 0xff ∷ 0xff ∷ 0xff ∷ 0xff ∷ 0xff ∷ 0xff ∷ 0xff ∷ 0xff ∷ 0x01 ∷ []) ≡ some (9, 2 ^ 64 - 1, []))
-    × (uleb (0xff ∷ 0xff ∷ 0xff ∷ 0xff ∷ 0xff ∷ 0xff ∷ 0xff ∷ 0xff ∷ 0xff ∷ 0x02 ∷ []) ≡ none)
-    × (uleb (0x80 ∷ 0x80 ∷ 0x80 ∷ 0x80 ∷ 0x80 ∷ 0x80 ∷ 0x80 ∷ 0x80 ∷ 0x80 ∷ 0x00 ∷ []) ≡ some (9, 0, []))
-    × (uleb (0x80 ∷ 0x80 ∷ 0x80 ∷ 0x80 ∷ 0x80 ∷ 0x80 ∷ 0x80 ∷ 0x80 ∷ 0x80 ∷ 0x80 ∷ 0x00 ∷ []) ≡ none)
-    × (uleb (0x80 ∷ []) ≡ none)
-    × (sleb (0x80 ∷ 0x80 ∷ 0x80 ∷ 0x80 ∷ 0x80 ∷ 0x80 ∷ 0x80 ∷ 0x80 ∷ 0x80 ∷ 0x7f ∷ []) ≡ some (9, 2 ^ 63, []))
-    × (sleb (0x80 ∷ 0x80 ∷ 0x80 ∷ 0x80 ∷ 0x80 ∷ 0x80 ∷ 0x80 ∷ 0x80 ∷ 0x80 ∷ 0x01 ∷ []) ≡ none)
-    × (short (0xff ∷ 0xff ∷ 0x03 ∷ []) ≡ some (2, 65535, []))
-    × (short (0x80 ∷ 0x80 ∷ 0x04 ∷ []) ≡ none)
-    × (short (0x81 ∷ 0x80 ∷ 0x80 ∷ 0x00 ∷ []) ≡ none)
+    (uleb (0xff ∷ 0xff ∷ 0xff ∷ 0xff ∷ 0xff ∷ 0xff ∷ 0xff ∷ 0xff ∷ 0xff ∷ 0x01 ∷ []) ≡ Some (9, 2 ^ 64 - 1, []))
+    × (uleb (0xff ∷ 0xff ∷ 0xff ∷ 0xff ∷ 0xff ∷ 0xff ∷ 0xff ∷ 0xff ∷ 0xff ∷ 0x02 ∷ []) ≡ None)
+    × (uleb (0x80 ∷ 0x80 ∷ 0x80 ∷ 0x80 ∷ 0x80 ∷ 0x80 ∷ 0x80 ∷ 0x80 ∷ 0x80 ∷ 0x00 ∷ []) ≡ Some (9, 0, []))
+    × (uleb (0x80 ∷ 0x80 ∷ 0x80 ∷ 0x80 ∷ 0x80 ∷ 0x80 ∷ 0x80 ∷ 0x80 ∷ 0x80 ∷ 0x80 ∷ 0x00 ∷ []) ≡ None)
+    × (uleb (0x80 ∷ []) ≡ None)
+    × (sleb (0x80 ∷ 0x80 ∷ 0x80 ∷ 0x80 ∷ 0x80 ∷ 0x80 ∷ 0x80 ∷ 0x80 ∷ 0x80 ∷ 0x7f ∷ []) ≡ Some (9, 2 ^ 63, []))
+    × (sleb (0x80 ∷ 0x80 ∷ 0x80 ∷ 0x80 ∷ 0x80 ∷ 0x80 ∷ 0x80 ∷ 0x80 ∷ 0x80 ∷ 0x01 ∷ []) ≡ None)
+    × (short (0xff ∷ 0xff ∷ 0x03 ∷ []) ≡ Some (2, 65535, []))
+    × (short (0x80 ∷ 0x80 ∷ 0x04 ∷ []) ≡ None)
+    × (short (0x81 ∷ 0x80 ∷ 0x80 ∷ 0x00 ∷ []) ≡ None)
 unfolding uleb sleb short within16 groups below unsigned64 signed64 negative pick check bind
 limits = (refl, refl, refl, refl, refl, refl, refl, refl, refl, refl)
 
@@ -83,52 +82,52 @@ length_fields = (refl, refl)
 -- ---- the order of the header's refusals: the length before what follows it, then each field first there, then right
 
 headers :
-    (header_of false [] ≡ Empty)
-    × (header_of false (0x08 ∷ 0 ∷ 0 ∷ []) ≡ Refused 1)
-    × (header_of false (0xf0 ∷ 0xff ∷ 0xff ∷ 0xff ∷ []) ≡ Refused 2)
-    × (header_of false (0x03 ∷ 0 ∷ 0 ∷ 0 ∷ 4 ∷ 0 ∷ []) ≡ Refused 1)
-    × (header_of false (0x02 ∷ 0 ∷ 0 ∷ 0 ∷ 3 ∷ 0 ∷ []) ≡ Refused 2)
-    × (header_of false (0x02 ∷ 0 ∷ 0 ∷ 0 ∷ 5 ∷ 0 ∷ 1 ∷ 8 ∷ 0 ∷ 0 ∷ 0 ∷ 0 ∷ []) ≡ Refused 1)
-    × (header_of false (0x08 ∷ 0 ∷ 0 ∷ 0 ∷ 5 ∷ 0 ∷ 2 ∷ 8 ∷ 0 ∷ 0 ∷ 0 ∷ 0 ∷ []) ≡ Refused 2)
-    × (header_of false (0x08 ∷ 0 ∷ 0 ∷ 0 ∷ 5 ∷ 0 ∷ 1 ∷ 3 ∷ 0 ∷ 0 ∷ 0 ∷ 0 ∷ []) ≡ Refused 2)
-    × (header_of false (0x08 ∷ 0 ∷ 0 ∷ 0 ∷ 5 ∷ 0 ∷ 5 ∷ 8 ∷ 0 ∷ 0 ∷ 0 ∷ 0 ∷ []) ≡ Refused 1)
+    (header_of false [] ≡ Ok None)
+    × (header_of false (0x08 ∷ 0 ∷ 0 ∷ []) ≡ Err 1)
+    × (header_of false (0xf0 ∷ 0xff ∷ 0xff ∷ 0xff ∷ []) ≡ Err 2)
+    × (header_of false (0x03 ∷ 0 ∷ 0 ∷ 0 ∷ 4 ∷ 0 ∷ []) ≡ Err 1)
+    × (header_of false (0x02 ∷ 0 ∷ 0 ∷ 0 ∷ 3 ∷ 0 ∷ []) ≡ Err 2)
+    × (header_of false (0x02 ∷ 0 ∷ 0 ∷ 0 ∷ 5 ∷ 0 ∷ 1 ∷ 8 ∷ 0 ∷ 0 ∷ 0 ∷ 0 ∷ []) ≡ Err 1)
+    × (header_of false (0x08 ∷ 0 ∷ 0 ∷ 0 ∷ 5 ∷ 0 ∷ 2 ∷ 8 ∷ 0 ∷ 0 ∷ 0 ∷ 0 ∷ []) ≡ Err 2)
+    × (header_of false (0x08 ∷ 0 ∷ 0 ∷ 0 ∷ 5 ∷ 0 ∷ 1 ∷ 3 ∷ 0 ∷ 0 ∷ 0 ∷ 0 ∷ []) ≡ Err 2)
+    × (header_of false (0x08 ∷ 0 ∷ 0 ∷ 0 ∷ 5 ∷ 0 ∷ 5 ∷ 8 ∷ 0 ∷ 0 ∷ 0 ∷ 0 ∷ []) ≡ Err 1)
     -- big-endian; a header of 20 bytes whose abbreviations start at 0x0102; units told wrongly
-    × (header_of true [] ≡ Empty)
-    × (header_of true (0 ∷ 0 ∷ 8 ∷ []) ≡ Refused 1)
-    × (header_of true (0xff ∷ 0xff ∷ 0xff ∷ 0xf0 ∷ []) ≡ Refused 2)
-    × (header_of true (0xff ∷ 0xff ∷ 0xff ∷ 0xef ∷ []) ≡ Refused 1)
-    × (header_of true (0xf0 ∷ 0xff ∷ 0xff ∷ 0xff ∷ []) ≡ Refused 1)
-    × (header_of true (0 ∷ 0 ∷ 0 ∷ 0x02 ∷ 0 ∷ 6 ∷ []) ≡ Refused 2)
-    × (header_of true (0 ∷ 0 ∷ 0 ∷ 0x02 ∷ 0 ∷ 5 ∷ 1 ∷ 8 ∷ 0 ∷ 0 ∷ 0 ∷ 0 ∷ []) ≡ Refused 1)
-    × (header_of true (0 ∷ 0 ∷ 0 ∷ 0x08 ∷ 0 ∷ 5 ∷ 2 ∷ 8 ∷ 0 ∷ 0 ∷ 0 ∷ 0 ∷ []) ≡ Refused 2)
-    × (header_of true (0 ∷ 0 ∷ 0 ∷ 0x08 ∷ 0 ∷ 5 ∷ 1 ∷ 3 ∷ 0 ∷ 0 ∷ 0 ∷ 0 ∷ []) ≡ Refused 2)
-    × (header_of true (0 ∷ 0 ∷ 0 ∷ 0x08 ∷ 0 ∷ 5 ∷ 5 ∷ 8 ∷ 0 ∷ 0 ∷ 0 ∷ 0 ∷ []) ≡ Refused 1)
+    × (header_of true [] ≡ Ok None)
+    × (header_of true (0 ∷ 0 ∷ 8 ∷ []) ≡ Err 1)
+    × (header_of true (0xff ∷ 0xff ∷ 0xff ∷ 0xf0 ∷ []) ≡ Err 2)
+    × (header_of true (0xff ∷ 0xff ∷ 0xff ∷ 0xef ∷ []) ≡ Err 1)
+    × (header_of true (0xf0 ∷ 0xff ∷ 0xff ∷ 0xff ∷ []) ≡ Err 1)
+    × (header_of true (0 ∷ 0 ∷ 0 ∷ 0x02 ∷ 0 ∷ 6 ∷ []) ≡ Err 2)
+    × (header_of true (0 ∷ 0 ∷ 0 ∷ 0x02 ∷ 0 ∷ 5 ∷ 1 ∷ 8 ∷ 0 ∷ 0 ∷ 0 ∷ 0 ∷ []) ≡ Err 1)
+    × (header_of true (0 ∷ 0 ∷ 0 ∷ 0x08 ∷ 0 ∷ 5 ∷ 2 ∷ 8 ∷ 0 ∷ 0 ∷ 0 ∷ 0 ∷ []) ≡ Err 2)
+    × (header_of true (0 ∷ 0 ∷ 0 ∷ 0x08 ∷ 0 ∷ 5 ∷ 1 ∷ 3 ∷ 0 ∷ 0 ∷ 0 ∷ 0 ∷ []) ≡ Err 2)
+    × (header_of true (0 ∷ 0 ∷ 0 ∷ 0x08 ∷ 0 ∷ 5 ∷ 5 ∷ 8 ∷ 0 ∷ 0 ∷ 0 ∷ 0 ∷ []) ≡ Err 1)
     × (header_of true (0 ∷ 0 ∷ 0 ∷ 16 ∷ 0 ∷ 5 ∷ 5 ∷ 4 ∷ 0 ∷ 0 ∷ 1 ∷ 2 ∷ 1 ∷ 2 ∷ 3 ∷ 4 ∷ 5 ∷ 6 ∷ 7 ∷ 8 ∷ [])
-    ≡ Unit' (record { encoding = encoding_of true 5 4 4; unit_type = 5; abbreviations = 0x0102; first = record { 0 = 20 }; end = 20 }))
-    × (header_of true (0x08 ∷ 0 ∷ 0 ∷ 0 ∷ 5 ∷ 0 ∷ 1 ∷ 8 ∷ 0 ∷ 0 ∷ 0 ∷ 0 ∷ []) ≡ Refused 1)
-    × (header_of true (0 ∷ 0 ∷ 0 ∷ 0 ∷ 5 ∷ 0 ∷ 1 ∷ 8 ∷ 0 ∷ 0 ∷ 0 ∷ 0 ∷ []) ≡ Refused 1)
-    × (header_of false (0 ∷ 0 ∷ 0 ∷ 0x08 ∷ 0 ∷ 5 ∷ 1 ∷ 8 ∷ 0 ∷ 0 ∷ 0 ∷ 0 ∷ []) ≡ Refused 1)
+    ≡ Ok (Some (record { encoding = encoding_of true 5 4 4; unit_type = 5; abbreviations = 0x0102; first = record { 0 = 20 }; end = 20 })))
+    × (header_of true (0x08 ∷ 0 ∷ 0 ∷ 0 ∷ 5 ∷ 0 ∷ 1 ∷ 8 ∷ 0 ∷ 0 ∷ 0 ∷ 0 ∷ []) ≡ Err 1)
+    × (header_of true (0 ∷ 0 ∷ 0 ∷ 0 ∷ 5 ∷ 0 ∷ 1 ∷ 8 ∷ 0 ∷ 0 ∷ 0 ∷ 0 ∷ []) ≡ Err 1)
+    × (header_of false (0 ∷ 0 ∷ 0 ∷ 0x08 ∷ 0 ∷ 5 ∷ 1 ∷ 8 ∷ 0 ∷ 0 ∷ 0 ∷ 0 ∷ []) ≡ Err 1)
     -- the 64-bit format: its length cut short, past the section, past 64 bits; a reserved number; headers of 24 and 32 bytes
-    × (header_of false (0xff ∷ 0xff ∷ 0xff ∷ 0xff ∷ []) ≡ Refused 1)
-    × (header_of true (0xff ∷ 0xff ∷ 0xff ∷ 0xff ∷ 0 ∷ 0 ∷ 0 ∷ 0 ∷ 0 ∷ 0 ∷ 12 ∷ []) ≡ Refused 1)
-    × (header_of false (0xff ∷ 0xff ∷ 0xff ∷ 0xff ∷ 13 ∷ 0 ∷ 0 ∷ 0 ∷ 0 ∷ 0 ∷ 0 ∷ 0 ∷ 5 ∷ 0 ∷ 1 ∷ 8 ∷ 0 ∷ 0 ∷ 0 ∷ 0 ∷ 0 ∷ 0 ∷ 0 ∷ 0 ∷ []) ≡ Refused 1)
-    × (header_of false (0xff ∷ 0xff ∷ 0xff ∷ 0xff ∷ 0xf4 ∷ 0xff ∷ 0xff ∷ 0xff ∷ 0xff ∷ 0xff ∷ 0xff ∷ 0xff ∷ 4 ∷ 0 ∷ []) ≡ Refused 1)
-    × (header_of false (0xfe ∷ 0xff ∷ 0xff ∷ 0xff ∷ []) ≡ Refused 2)
+    × (header_of false (0xff ∷ 0xff ∷ 0xff ∷ 0xff ∷ []) ≡ Err 1)
+    × (header_of true (0xff ∷ 0xff ∷ 0xff ∷ 0xff ∷ 0 ∷ 0 ∷ 0 ∷ 0 ∷ 0 ∷ 0 ∷ 12 ∷ []) ≡ Err 1)
+    × (header_of false (0xff ∷ 0xff ∷ 0xff ∷ 0xff ∷ 13 ∷ 0 ∷ 0 ∷ 0 ∷ 0 ∷ 0 ∷ 0 ∷ 0 ∷ 5 ∷ 0 ∷ 1 ∷ 8 ∷ 0 ∷ 0 ∷ 0 ∷ 0 ∷ 0 ∷ 0 ∷ 0 ∷ 0 ∷ []) ≡ Err 1)
+    × (header_of false (0xff ∷ 0xff ∷ 0xff ∷ 0xff ∷ 0xf4 ∷ 0xff ∷ 0xff ∷ 0xff ∷ 0xff ∷ 0xff ∷ 0xff ∷ 0xff ∷ 4 ∷ 0 ∷ []) ≡ Err 1)
+    × (header_of false (0xfe ∷ 0xff ∷ 0xff ∷ 0xff ∷ []) ≡ Err 2)
     × (header_of false (0xff ∷ 0xff ∷ 0xff ∷ 0xff ∷ 12 ∷ 0 ∷ 0 ∷ 0 ∷ 0 ∷ 0 ∷ 0 ∷ 0 ∷ 5 ∷ 0 ∷ 1 ∷ 8 ∷ 1 ∷ 0 ∷ 0 ∷ 0 ∷ 0 ∷ 0 ∷ 0 ∷ 2 ∷ [])
-    ≡ Unit' (record { encoding = encoding_of false 5 8 8; unit_type = 1; abbreviations = 0x0200000000000001; first = record { 0 = 24 }; end = 24 }))
+    ≡ Ok (Some (record { encoding = encoding_of false 5 8 8; unit_type = 1; abbreviations = 0x0200000000000001; first = record { 0 = 24 }; end = 24 })))
     × (header_of true (0xff ∷ 0xff ∷ 0xff ∷ 0xff ∷ 0 ∷ 0 ∷ 0 ∷ 0 ∷ 0 ∷ 0 ∷ 0 ∷ 20 ∷ 0 ∷ 5 ∷ 5 ∷ 4 ∷ 0 ∷ 0 ∷ 0 ∷ 0 ∷ 0 ∷ 0 ∷ 1 ∷ 2
     ∷ 1 ∷ 2 ∷ 3 ∷ 4 ∷ 5 ∷ 6 ∷ 7 ∷ 8 ∷ [])
-    ≡ Unit' (record { encoding = encoding_of true 5 8 4; unit_type = 5; abbreviations = 0x0102; first = record { 0 = 32 }; end = 32 }))
+    ≡ Ok (Some (record { encoding = encoding_of true 5 8 4; unit_type = 5; abbreviations = 0x0102; first = record { 0 = 32 }; end = 32 })))
     -- version 4: cut short behind the version, in its offset, at its address size; an address size of 3; headers of 11 and
     -- 23 bytes
-    × (header_of false (0x02 ∷ 0 ∷ 0 ∷ 0 ∷ 4 ∷ 0 ∷ []) ≡ Refused 1)
-    × (header_of true (0 ∷ 0 ∷ 0 ∷ 0x05 ∷ 0 ∷ 4 ∷ 0 ∷ 0 ∷ 0 ∷ []) ≡ Refused 1)
-    × (header_of false (0x06 ∷ 0 ∷ 0 ∷ 0 ∷ 4 ∷ 0 ∷ 1 ∷ 2 ∷ 0 ∷ 0 ∷ []) ≡ Refused 1)
-    × (header_of false (0x07 ∷ 0 ∷ 0 ∷ 0 ∷ 4 ∷ 0 ∷ 0xff ∷ 0xff ∷ 0xff ∷ 0xff ∷ 3 ∷ []) ≡ Refused 2)
+    × (header_of false (0x02 ∷ 0 ∷ 0 ∷ 0 ∷ 4 ∷ 0 ∷ []) ≡ Err 1)
+    × (header_of true (0 ∷ 0 ∷ 0 ∷ 0x05 ∷ 0 ∷ 4 ∷ 0 ∷ 0 ∷ 0 ∷ []) ≡ Err 1)
+    × (header_of false (0x06 ∷ 0 ∷ 0 ∷ 0 ∷ 4 ∷ 0 ∷ 1 ∷ 2 ∷ 0 ∷ 0 ∷ []) ≡ Err 1)
+    × (header_of false (0x07 ∷ 0 ∷ 0 ∷ 0 ∷ 4 ∷ 0 ∷ 0xff ∷ 0xff ∷ 0xff ∷ 0xff ∷ 3 ∷ []) ≡ Err 2)
     × (header_of false (0x07 ∷ 0 ∷ 0 ∷ 0 ∷ 4 ∷ 0 ∷ 1 ∷ 2 ∷ 0 ∷ 0 ∷ 8 ∷ [])
-    ≡ Unit' (record { encoding = encoding_of false 4 4 8; unit_type = 1; abbreviations = 0x0201; first = record { 0 = 11 }; end = 11 }))
+    ≡ Ok (Some (record { encoding = encoding_of false 4 4 8; unit_type = 1; abbreviations = 0x0201; first = record { 0 = 11 }; end = 11 })))
     × (header_of true (0xff ∷ 0xff ∷ 0xff ∷ 0xff ∷ 0 ∷ 0 ∷ 0 ∷ 0 ∷ 0 ∷ 0 ∷ 0 ∷ 11 ∷ 0 ∷ 4 ∷ 0 ∷ 0 ∷ 0 ∷ 0 ∷ 0 ∷ 0 ∷ 1 ∷ 2 ∷ 4 ∷ [])
-    ≡ Unit' (record { encoding = encoding_of true 4 8 4; unit_type = 1; abbreviations = 0x0102; first = record { 0 = 23 }; end = 23 }))
+    ≡ Ok (Some (record { encoding = encoding_of true 4 8 4; unit_type = 1; abbreviations = 0x0102; first = record { 0 = 23 }; end = 23 })))
 unfolding header_of header_in header_fields fields4 fields5 length_bytes present right header_made encoding_of fixed_at as_fixed number_in width fixed_value
     ordered little_value pick check ◌or◌
 headers = (refl, refl, refl, refl, refl, refl, refl, refl, refl, refl, refl, refl, refl, refl, refl, refl, refl, refl, refl, refl, refl, refl, refl, refl, refl, refl, refl, refl, refl, refl, refl, refl, refl, refl, refl, refl)

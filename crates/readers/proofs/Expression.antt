@@ -2,7 +2,7 @@
 use mathlib.Core.Path.{◌≡◌, refl, ap, ap₂, sym, ◌∙◌}
 use Prim.Native.Nat.{ℕ, zero, suc, ◌+◌, ◌≤◌, ◌<◌}
 use mathlib.Core.Bool.{Bool}
-use mathlib.Core.Option.{some}
+use Rattle.std.specs.Prelude.{Some}
 use mathlib.Core.List.{List, [], ◌∷◌, ◌++◌}
 use native.Mathlib.Omega.{arith}
 use lib.ListN.{length, take, drop, length-append, length-take}
@@ -57,7 +57,7 @@ module _ (b : Bool) (ex : ExpressionReader) where
 -- ---- the laws of expressions
 
 module _ (e : Encoding) where
-  within-nil : (f : ℕ) → expression_within e f [] ≡ some []
+  within-nil : (f : ℕ) → expression_within e f [] ≡ Some []
   unfolding expression_within
   within-nil zero = refl
   within-nil (suc f) = refl
@@ -104,7 +104,7 @@ module _ (e : Encoding) where
             ∙ within_step f (a ++ b) (omega (arith, length-append a b))
             ∙ bind-at _ (q.0.1 p b (fit-pieces p r.0 hh.0))
             ∙ bind-at _ (q'.1 p hh.1)
-            ∙ ap (λ (x : List Piece). some x) (sym en),
+            ∙ ap (λ (x : List Piece). Some x) (sym en),
       )))
 
   pub within-law : (f : ℕ) → ExpressionLaw (big e) (expression_within e f)
@@ -141,7 +141,7 @@ module _ (b : Bool) (ex ex' : ExpressionReader) (lawless : ExpressionLaw b ex') 
   token-same n h (block k) s l = refl
   token-same n h expression s l =
       bind-cong (LebLaw uleb s) (uleb s) _ _ (uleb-law s)
-      (λ t e q. check-cong _ _ _ (λ u. ap (λ o. bind o (λ ps. some (
+      (λ t e q. check-cong _ _ _ (λ u. ap (λ o. bind o (λ ps. Some (
         record { seen = 0; start = suc t.0; pieces = verbatim (take (suc t.0) s) ∷ ps },
         drop t.1 t.2,
       )))
@@ -183,7 +183,7 @@ module _ (e : Encoding) where
       ap (λ o. bind o (and_rest ex)) (operation-less ex ex' law s h)
       ∙ bind-cong (λ r. ReadLaw (big e) ex' (operation e) s r × (0 < length (write_all (big e) r.0))) (read_in (big e) ex' (operation e) s) _ _
       (operation-law e ex' law s)
-      (λ r e1 q. ap (λ o. bind o (λ qs. some (all_pieces r.0 ++ qs))) (h r.1 (omega (arith, took-length s _ r.1 q.0.0))))
+      (λ r e1 q. ap (λ o. bind o (λ qs. Some (all_pieces r.0 ++ qs))) (h r.1 (omega (arith, took-length s _ r.1 q.0.0))))
 
   -- any count that is large enough gives the same
   same : (f g : ℕ) (s : List ℕ) → length s ≤ f → length s ≤ g → expression_within e f s ≡ expression_within e g s
@@ -200,7 +200,7 @@ module _ (e : Encoding) where
       (let h : suc (length s) ≤ suc g = hg in let k : suc (length t) ≤ suc (length s) = l in omega arith))
 
   -- THE EQUATIONS of expressions
-  pub expression-none : expression_in e [] ≡ some []
+  pub expression-none : expression_in e [] ≡ Some []
   unfolding expression_in expression_within
   expression-none = refl
 

@@ -21,11 +21,9 @@ use Rattle.readers.proofs.Headers.{present-at, four_bytes, eight-bytes, in-there
 use Rattle.readers.specs.Header.{present, right, length_bytes, length_size, encoding_of, header_made, fields4, fields5, header_fields, header_in, header_of, with_end, SaysWidth, Headed, Known}
 use Rattle.readers.specs.declared.cursor.Cursor.{Cursor}
 use Rattle.readers.specs.declared.cursor.Encoding.{Encoding}
-use Rattle.readers.specs.declared.cursor.Number.{Number}
-use Rattle.readers.specs.declared.cursor.Number.TheVariants.{Value, Unreadable}
+use Rattle.std.specs.Prelude.{Err, None, Ok, Option, Result, Some}
+use Rattle.std.proofs.lemmas.Option.{some_pair_parts}
 use Rattle.readers.specs.declared.header.UnitHeader.{UnitHeader}
-use Rattle.readers.specs.declared.header.HeaderRead.{HeaderRead}
-use Rattle.readers.specs.declared.header.HeaderRead.TheVariants.{Unit as Unit', Empty, Refused}
 
 one_of : (v a b : ℕ) → T (eqb v a or eqb v b) → (v ≡ a) ⊎ (v ≡ b)
 unfolding ◌or◌
@@ -35,7 +33,7 @@ one_of v a b t = by (eqb v a) (eqb v b) refl refl t
     by true y p q t = inl (eqb_yes {a = v} {b = a} (subst T (sym p) tt))
     by false y p q t = inr (eqb_yes {a = v} {b = b} (subst T (sym q) t))
 
-present-right : (n : Number) (v : ℕ) (c : Cursor) (b : ℕ → Bool) (k : ℕ → HeaderRead) → n ≡ Value v c → T (b v) → present n (λ w. right (b w) (k w)) ≡ k v
+present-right : (n : Option (ℕ × Cursor)) (v : ℕ) (c : Cursor) (b : ℕ → Bool) (k : ℕ → Result (Option UnitHeader) ℕ) → n ≡ Some (v, c) → T (b v) → present n (λ w. right (b w) (k w)) ≡ k v
 unfolding right
 present-right n v c b k q t = present-at n v c (λ w. right (b w) (k w)) q ∙ pick_yes _ _ _ t
 
@@ -57,29 +55,29 @@ module _ (big : Bool) (w : ℕ) (u : List ℕ) where
     pub headed : Headed h.encoding.version (at + w) h.unit_type h.first.0
     pub inside : h.first.0 ≤ length u
     pub end_is : h.end ≡ length u
-    pub version-there : fixed_at big 2 u at ≡ Value h.encoding.version (cursor (at + 2))
-    pub again : (v : List ℕ) → Same h.first.0 v → header_fields big w v ≡ Unit' (with_end h (length v))
+    pub version-there : fixed_at big 2 u at ≡ Some (h.encoding.version, cursor (at + 2))
+    pub again : (v : List ℕ) → Same h.first.0 v → header_fields big w v ≡ Ok (Some (with_end h (length v)))
 
-  module _ (few : w ≤ 8) (P : HeaderRead → Type 0) (one : P (Refused 1)) (two : P (Refused 2)) (made : (h : UnitHeader) → FieldsLaw h → P (Unit' h)) where
-    on-present : (n : Number) (k : ℕ → HeaderRead) → ((v : ℕ) (c : Cursor) → n ≡ Value v c → P (k v)) → P (present n k)
+  module _ (few : w ≤ 8) (P : Result (Option UnitHeader) ℕ → Type 0) (one : P (Err 1)) (two : P (Err 2)) (made : (h : UnitHeader) → FieldsLaw h → P (Ok (Some h))) where
+    on-present : (n : Option (ℕ × Cursor)) (k : ℕ → Result (Option UnitHeader) ℕ) → ((v : ℕ) (c : Cursor) → n ≡ Some (v, c) → P (k v)) → P (present n k)
     unfolding present
-    on-present (Value v c) k h = h v c refl
-    on-present Unreadable k h = one
+    on-present (Some (v, c)) k h = h v c refl
+    on-present None k h = one
 
-    on-right : (b : Bool) (h : HeaderRead) → (T b → P h) → P (right b h)
+    on-right : (b : Bool) (h : Result (Option UnitHeader) ℕ) → (T b → P h) → P (right b h)
     unfolding right
-    on-right b h k = pick-either P b h (Refused 2) k (λ _. two)
+    on-right b h k = pick-either P b h (Err 2) k (λ _. two)
 
-    module _ (version : ℕ) (cv : Cursor) (qv : fixed_at big 2 u at ≡ Value version cv) where
-      version-read : (n : ℕ) → version ≡ n → fixed_at big 2 u at ≡ Value n (cursor (at + 2))
+    module _ (version : ℕ) (cv : Cursor) (qv : fixed_at big 2 u at ≡ Some (version, cv)) where
+      version-read : (n : ℕ) → version ≡ n → fixed_at big 2 u at ≡ Some (n, cursor (at + 2))
       version-read n q =
           qv
-          ∙ ap (λ (d : Cursor). Value version d) (let e : cv ≡ cursor (at + 2) = ap (λ (m : ℕ). cursor m) (fixed-inside big 2 u at version cv qv).0 in e)
-          ∙ ap (λ (m : ℕ). Value m (cursor (at + 2))) q
+          ∙ ap (λ (d : Cursor). Some (version, d)) (let e : cv ≡ cursor (at + 2) = ap (λ (m : ℕ). cursor m) (fixed-inside big 2 u at version cv qv).0 in e)
+          ∙ ap (λ (m : ℕ). Some (m, cursor (at + 2))) q
 
       -- a unit with the same version is read by the fields of that version
       by-version : (n : ℕ) (v : List ℕ) → at + 2 ≤ n → Same n v
-          → header_fields big w v ≡ pick (eqb version 5) (fields5 big w v (at + 2)) (pick (eqb version 4) (fields4 big w v (at + 2)) (Refused 2))
+          → header_fields big w v ≡ pick (eqb version 5) (fields5 big w v (at + 2)) (pick (eqb version 4) (fields4 big w v (at + 2)) (Err 2))
       unfolding header_fields
       by-version n v l s = present-at (fixed_at big 2 v at) version cv _ (s at 2 (omega arith) (omega arith) (omega arith) ∙ qv)
 
@@ -151,7 +149,7 @@ module _ (big : Bool) (w : ℕ) (u : List ℕ) where
     fields-law =
         on-present (fixed_at big 2 u at) _ (λ version cv qv.
         pick-either P (eqb version 5) _ _ (fields5-law version cv qv)
-        (λ n. pick-either P (eqb version 4) _ (Refused 2) (fields4-law version cv qv n) (λ _. two)))
+        (λ n. pick-either P (eqb version 4) _ (Err 2) (fields4-law version cv qv n) (λ _. two)))
 
 -- ---- a header, and a unit that begins with it but for its length
 
@@ -167,12 +165,12 @@ pub record HeaderLaw (big : Bool) (u : List ℕ) (h : UnitHeader) : Type 0 where
   pub short : length u < length_size h.encoding + 256 ^ h.encoding.offset_size
   pub below : length u < 2 ^ 64
   pub end_is : h.end ≡ length u
-  pub version-there : fixed_at big 2 u (length_size h.encoding) ≡ Value h.encoding.version (cursor (length_size h.encoding + 2))
+  pub version-there : fixed_at big 2 u (length_size h.encoding) ≡ Some (h.encoding.version, cursor (length_size h.encoding + 2))
   pub again : (v r : List ℕ) → length v ≤ length u
       → v ≡ take (length_size h.encoding - h.encoding.offset_size) u
       ++ (fixed_bytes big h.encoding.offset_size (length v - length_size h.encoding)
       ++ (drop (length_size h.encoding) (take h.first.0 u) ++ r))
-      → header_of big v ≡ Unit' (with_end h (length v))
+      → header_of big v ≡ Ok (Some (with_end h (length v)))
 
 -- fields behind a front of n bytes
 module _ (big : Bool) (n : ℕ) (a m r : List ℕ) (l : length a ≡ n) where
@@ -182,10 +180,10 @@ module _ (big : Bool) (n : ℕ) (a m r : List ℕ) (l : length a ≡ n) where
       ∙ ap (take w) (drop-append-add a (m ++ r) k ∙ drop-append-le k m r (omega arith))
       ∙ take-append-le w (drop k m) r (omega (arith, length-drop k m))
 
-  field_at : (k w : ℕ) → w ≤ 8 → k + w ≤ length m → fixed_at big w (a ++ (m ++ r)) (n + k) ≡ Value (fixed_value big (take w (drop k m))) (cursor (n + k + w))
+  field_at : (k w : ℕ) → w ≤ 8 → k + w ≤ length m → fixed_at big w (a ++ (m ++ r)) (n + k) ≡ Some (fixed_value big (take w (drop k m)), cursor (n + k + w))
   field_at k w e h =
       fixed-is big w (a ++ (m ++ r)) (n + k) e (omega (arith, length-append a (m ++ r), length-append m r))
-      ∙ ap (λ (z : List ℕ). Value (fixed_value big z) (cursor (n + k + w))) (field_in k w h)
+      ∙ ap (λ (z : List ℕ). Some (fixed_value big z, cursor (n + k + w))) (field_in k w h)
 
 parts : (n : ℕ) (u : List ℕ) (first : ℕ) → u ≡ take n (take first u) ++ (drop n (take first u) ++ drop first u)
 parts n u first =
@@ -215,7 +213,7 @@ module _ (big : Bool) (n : ℕ) (u : List ℕ) (first : ℕ) (lo : n ≤ first) 
 abbrev Again : Bool → List ℕ → UnitHeader → ℕ → ℕ → Type 0
 Again big u h w k =
     (v r : List ℕ) → length v ≤ length u → v ≡ take (k - w) u ++ (fixed_bytes big w (length v - k) ++ (drop k (take h.first.0 u) ++ r))
-    → header_of big v ≡ Unit' (with_end h (length v))
+    → header_of big v ≡ Ok (Some (with_end h (length v)))
 
 module _ (big : Bool) (w : ℕ) (u : List ℕ) (h : UnitHeader) (b : FieldsLaw big w u h) where
   -- the first entry stands behind the fields
@@ -250,15 +248,15 @@ module _ (big : Bool) (w : ℕ) (u : List ℕ) (h : UnitHeader) (b : FieldsLaw b
         omega (arith, z, y, length_front, length-middle big k u h.first.0 (omega (arith, after)) b.inside, after)
 
     -- the number is read
-    number-again : fixed_at big w v (k - w) ≡ Value (length v - k) (cursor (k - w + w))
+    number-again : fixed_at big w v (k - w) ≡ Some (length v - k, cursor (k - w + w))
     number-again =
         fixed-is big w v (k - w) few (omega (arith, length-again))
-        ∙ ap (λ (z : ℕ). Value z (cursor (k - w + w)))
+        ∙ ap (λ (z : ℕ). Some (z, cursor (k - w + w)))
         (ap (fixed_value big) (ap (take w) (ap (drop (k - w)) q ∙ drop_at (take (k - w) u) (number ++ rest) (k - w) length-lead) ∙ take_at number rest w (length-fixed big w (length v - k)))
         ∙ fixed-value big w (length v - k) (omega (arith, length-again)))
 
     -- and then the fields
-    fields-again : header_in big w v (length v - k) ≡ Unit' (with_end h (length v))
+    fields-again : header_in big w v (length v - k) ≡ Ok (Some (with_end h (length v)))
     fields-again =
         in-there big w v k (sym is) (length v - k) (omega arith)
         ∙ ap (header_fields big w) (take_all (k + (length v - k)) v (omega (arith, length-again)))
@@ -276,16 +274,16 @@ four-again big u h b hi v r l q =
     ∙ fields-again big 4 u h b 4 four_bytes (omega arith) (omega arith) under v r l q
 
 -- the escape stands before it, as it was
-eight-again : (big : Bool) (u : List ℕ) (h : UnitHeader) → FieldsLaw big 8 u h → (c : Cursor) → fixed_at big 4 u 0 ≡ Value 0xffffffff c
+eight-again : (big : Bool) (u : List ℕ) (h : UnitHeader) → FieldsLaw big 8 u h → (c : Cursor) → fixed_at big 4 u 0 ≡ Some (0xffffffff, c)
     → length u < 2 ^ 64 → Again big u h 8 12
 eight-again big u h b c e hi v r l q =
     let under : length u < 12 + 256 ^ 8 = omega arith in
     let some : 12 + 3 + 8 ≤ length v = length-again big 8 u h b 12 eight-bytes (omega arith) (omega arith) under v r l q in
     let t : take 4 v ≡ take 4 u =
     ap (take 4) q ∙ take_at (take 4 u) (fixed_bytes big 8 (length v - 12) ++ (drop 12 (take h.first.0 u) ++ r)) 4 (length-take-le 4 u (omega arith)) in
-    let e' : fixed_at big 4 v 0 ≡ Value 0xffffffff c =
+    let e' : fixed_at big 4 v 0 ≡ Some (0xffffffff, c) =
     fixed-is big 4 v 0 (omega arith) (omega arith)
-    ∙ ap (λ (z : List ℕ). Value (fixed_value big z) (cursor 4)) t
+    ∙ ap (λ (z : List ℕ). Some (fixed_value big z, cursor 4)) t
     ∙ sym (fixed-is big 4 u 0 (omega arith) (omega arith)) ∙ e in
     length-eight big v (λ z. absurd (omega (arith, z))) 0xffffffff c e' refl (length v - 12) (cursor 12)
     (number-again big 8 u h b 12 eight-bytes (omega arith) (omega arith) under v r l q) (omega arith)
@@ -316,15 +314,15 @@ module _ (big : Bool) (w : ℕ) (u : List ℕ) (h : UnitHeader) (b : FieldsLaw b
         short = wide (λ (z : ℕ). length u < length_bytes z + 256 ^ z) under;
         below = below;
         end_is = b.end_is;
-        version-there = wide (λ (z : ℕ). fixed_at big 2 u (length_bytes z) ≡ Value h.encoding.version (cursor (length_bytes z + 2))) b.version-there;
+        version-there = wide (λ (z : ℕ). fixed_at big 2 u (length_bytes z) ≡ Some (h.encoding.version, cursor (length_bytes z + 2))) b.version-there;
         again = wide (λ (z : ℕ). Again big u h z (length_bytes z)) again;
       }
 
 -- ---- the first unit of a section
 
 -- THE LAW of headers, by cases: what holds of no header, of both refusals and of each header that is made
-module _ (big : Bool) (s : List ℕ) (P : HeaderRead → Type 0) (empty : length s ≡ 0 → P Empty) (one : P (Refused 1)) (two : P (Refused 2))
-    (unit : (h : UnitHeader) → HeaderLaw big (take h.end s) h → P (Unit' h)) where
+module _ (big : Bool) (s : List ℕ) (P : Result (Option UnitHeader) ℕ → Type 0) (empty : length s ≡ 0 → P (Ok None)) (one : P (Err 1)) (two : P (Err 2))
+    (unit : (h : UnitHeader) → HeaderLaw big (take h.end s) h → P (Ok (Some h))) where
   -- the unit's first four bytes are the section's
   start_of : (w : ℕ) → (w ≡ 4) ⊎ (w ≡ 8) → (n : ℕ) → length (take (length_bytes w + n) s) ≡ length_bytes w + n → take 4 (take (length_bytes w + n) s) ≡ take 4 s
   start_of w is n l =
@@ -339,7 +337,7 @@ module _ (big : Bool) (s : List ℕ) (P : HeaderRead → Type 0) (empty : length
       → P (header_in big w s n)
   unfolding header_in
   in-width w is n under below there format again =
-      pick-either P (leb n (length s - length_bytes w)) _ (Refused 1)
+      pick-either P (leb n (length s - length_bytes w)) _ (Err 1)
       (λ hi.
       let k : n ≤ length s - length_bytes w = leb_yes {a = n} {b = length s - length_bytes w} hi in
       let u : List ℕ = take (length_bytes w + n) s in
@@ -352,58 +350,58 @@ module _ (big : Bool) (s : List ℕ) (P : HeaderRead → Type 0) (empty : length
       (let z : length u < length_bytes w + 256 ^ w = omega (arith, l) in z) (let z : length u < 2 ^ 64 = omega (arith, l) in z) (again h b l)))))
       (λ _. one)
 
-  start-value : (n : ℕ) (c : Cursor) → fixed_at big 4 s 0 ≡ Value n c → 4 ≤ length s → fixed_value big (take 4 s) ≡ n
-  start-value n c q there = let z : Value (fixed_value big (take 4 s)) (cursor 4) ≡ Value n c = sym (fixed-is big 4 s 0 (omega arith) (omega arith)) ∙ q in cc
+  start-value : (n : ℕ) (c : Cursor) → fixed_at big 4 s 0 ≡ Some (n, c) → 4 ≤ length s → fixed_value big (take 4 s) ≡ n
+  start-value n c q there = (some_pair_parts _ _ _ _ (sym (fixed-is big 4 s 0 (omega arith) (omega arith)) ∙ q)).0
 
-  in_four : (n : ℕ) (c : Cursor) → fixed_at big 4 s 0 ≡ Value n c → n < 0xfffffff0 → 4 ≤ length s → P (header_in big 4 s n)
+  in_four : (n : ℕ) (c : Cursor) → fixed_at big 4 s 0 ≡ Some (n, c) → n < 0xfffffff0 → 4 ≤ length s → P (header_in big 4 s n)
   in_four n c q less there =
       in-width 4 (inl refl) n (omega arith) (omega (arith, four_bytes)) (omega (arith, four_bytes)) (inl (refl, subst (λ (z : ℕ). z < 0xfffffff0) (sym (start-value n c q there)) less)) (λ h b l.
       let u : List ℕ = take (length_bytes 4 + n) s in
       subst (Again big u h 4) (sym four_bytes) (four-again big u h b (let z : length u < 0xfffffff4 = omega (arith, l, four_bytes) in z)))
 
   -- the escape is the unit's too
-  in-eight : (c : Cursor) → fixed_at big 4 s 0 ≡ Value 0xffffffff c → (m : ℕ) → 12 + m < 2 ^ 64 → 12 ≤ length s → P (header_in big 8 s m)
+  in-eight : (c : Cursor) → fixed_at big 4 s 0 ≡ Some (0xffffffff, c) → (m : ℕ) → 12 + m < 2 ^ 64 → 12 ≤ length s → P (header_in big 8 s m)
   in-eight c q m less there =
       in-width 8 (inr refl) m (let z : m < 256 ^ 8 = omega arith in z) (omega (arith, eight-bytes)) (omega (arith, eight-bytes)) (inr (refl, start-value 0xffffffff c q (omega arith))) (λ h b l.
       let u : List ℕ = take (length_bytes 8 + m) s in
       let same : take 4 u ≡ take 4 s = start_of 8 (inr refl) m l in
-      let q' : fixed_at big 4 u 0 ≡ Value 0xffffffff c =
+      let q' : fixed_at big 4 u 0 ≡ Some (0xffffffff, c) =
       fixed-is big 4 u 0 (omega arith) (omega (arith, l, eight-bytes))
-      ∙ ap (λ (z : List ℕ). Value (fixed_value big z) (cursor 4)) same
+      ∙ ap (λ (z : List ℕ). Some (fixed_value big z, cursor 4)) same
       ∙ sym (fixed-is big 4 s 0 (omega arith) (omega arith)) ∙ q in
       subst (Again big u h 8) (sym eight-bytes) (eight-again big u h b c q' (let z : length u < 2 ^ 64 = omega (arith, l, eight-bytes) in z)))
 
   pub header-cases : P (header_of big s)
   unfolding header_of present
   header-cases =
-      pick-either P (eqb (length s) 0) Empty _ (λ z. empty (eqb_yes {a = length s} {b = 0} z))
+      pick-either P (eqb (length s) 0) (Ok None) _ (λ z. empty (eqb_yes {a = length s} {b = 0} z))
       (λ _. first (fixed_at big 4 s 0) refl)
     where
-      second : (c : Cursor) → fixed_at big 4 s 0 ≡ Value 0xffffffff c → (m : Number) → fixed_at big 8 s 4 ≡ m
-          → P (present m (λ n. pick (ltb (12 + n) (2 ^ 64)) (header_in big 8 s n) (Refused 1)))
-      second c q (Value n d) r =
-          pick-either P (ltb (12 + n) (2 ^ 64)) _ (Refused 1)
+      second : (c : Cursor) → fixed_at big 4 s 0 ≡ Some (0xffffffff, c) → (m : Option (ℕ × Cursor)) → fixed_at big 8 s 4 ≡ m
+          → P (present m (λ n. pick (ltb (12 + n) (2 ^ 64)) (header_in big 8 s n) (Err 1)))
+      second c q (Some (n, d)) r =
+          pick-either P (ltb (12 + n) (2 ^ 64)) _ (Err 1)
           (λ less. in-eight c q n (ltb_yes {a = 12 + n} {b = 2 ^ 64} less) (let z : 8 ≤ length s - 4 = (fixed-inside big 8 s 4 n d r).1 in omega arith))
           (λ _. one)
-      second c q Unreadable r = one
+      second c q None r = one
 
-      first : (m : Number) → fixed_at big 4 s 0 ≡ m → P (present m (λ n.
-          pick (eqb n 0xffffffff) (present (fixed_at big 8 s 4) (λ k. pick (ltb (12 + k) (2 ^ 64)) (header_in big 8 s k) (Refused 1)))
-          (pick (leb 0xfffffff0 n) (Refused 2) (header_in big 4 s n))))
-      first (Value n c) q =
+      first : (m : Option (ℕ × Cursor)) → fixed_at big 4 s 0 ≡ m → P (present m (λ n.
+          pick (eqb n 0xffffffff) (present (fixed_at big 8 s 4) (λ k. pick (ltb (12 + k) (2 ^ 64)) (header_in big 8 s k) (Err 1)))
+          (pick (leb 0xfffffff0 n) (Err 2) (header_in big 4 s n))))
+      first (Some (n, c)) q =
           pick-either P (eqb n 0xffffffff) _ _
-          (λ x. second c (q ∙ ap (λ (z : ℕ). Value z c) (eqb_yes {a = n} {b = 0xffffffff} x)) (fixed_at big 8 s 4) refl)
-          (λ _. pick-either P (leb 0xfffffff0 n) (Refused 2) _ (λ _. two)
+          (λ x. second c (q ∙ ap (λ (z : ℕ). Some (z, c)) (eqb_yes {a = n} {b = 0xffffffff} x)) (fixed_at big 8 s 4) refl)
+          (λ _. pick-either P (leb 0xfffffff0 n) (Err 2) _ (λ _. two)
           (λ lo. in_four n c q (leb_no {a = 0xfffffff0} {b = n} lo) (let z : 4 ≤ length s - 0 = (fixed-inside big 4 s 0 n c q).1 in omega arith)))
-      first Unreadable q = one
+      first None q = one
 
 -- a header, where there is one
-unfoldable Reads : (UnitHeader → Type 0) → HeaderRead → Type 0
-Reads P (Unit' h) = P h
-Reads P Empty = Unit {0}
-Reads P (Refused n) = Unit {0}
+unfoldable Reads : (UnitHeader → Type 0) → Result (Option UnitHeader) ℕ → Type 0
+Reads P (Ok (Some h)) = P h
+Reads P (Ok None) = Unit {0}
+Reads P (Err n) = Unit {0}
 
-pub header-laws : (big : Bool) (s : List ℕ) (h : UnitHeader) → header_of big s ≡ Unit' h → HeaderLaw big (take h.end s) h
+pub header-laws : (big : Bool) (s : List ℕ) (h : UnitHeader) → header_of big s ≡ Ok (Some h) → HeaderLaw big (take h.end s) h
 unfolding Reads
 header-laws big s h q =
     subst (Reads (λ h. HeaderLaw big (take h.end s) h)) q
@@ -476,10 +474,9 @@ module _ (big : Bool) (s : List ℕ) (h : UnitHeader) (law : HeaderLaw big (take
   version-in k at =
       let u : List ℕ = take h.end s in
       let n : ℕ = h.encoding.version in
-      let v : fixed_at big 2 u k ≡ Value n (cursor (k + 2)) = subst (λ (k : ℕ). fixed_at big 2 u k ≡ Value n (cursor (k + 2))) at law.version-there in
+      let v : fixed_at big 2 u k ≡ Some (n, cursor (k + 2)) = subst (λ (k : ℕ). fixed_at big 2 u k ≡ Some (n, cursor (k + 2))) at law.version-there in
       let there : 2 ≤ length u - k = (fixed-inside big 2 u k n (cursor (k + 2)) v).1 in
-      let is : Value (fixed_value big (take 2 (drop k u))) (cursor (k + 2)) ≡ Value n (cursor (k + 2)) = sym (fixed-is big 2 u k (omega arith) there) ∙ v in
-      let said : fixed_value big (take 2 (drop k u)) ≡ n = cc in
+      let said : fixed_value big (take 2 (drop k u)) ≡ n = (some_pair_parts _ _ _ _ (sym (fixed-is big 2 u k (omega arith) there) ∙ v)).0 in
       let small : (0 < n) × (n < 256) = ⊎_elim (λ y. (omega (arith, y), omega (arith, y))) (λ y. (omega (arith, y), omega (arith, y))) law.known.version_is in
       let same : take 2 (drop k s) ≡ take 2 (drop k u) =
       ap (λ (z : List ℕ). take 2 (drop k z)) (sym (take-append-drop h.end s))
@@ -517,11 +514,11 @@ not-both big s h g law law' =
         one-order (take 2 (drop k s)) (length-take-le 2 (drop k s) (omega (arith, length-drop k s, v.1))) big v.0 (version-in (not big) s g law' k q).0
 
 -- a unit that is told wrongly is refused, with 1 or 2
-pub told-wrongly : (big : Bool) (s : List ℕ) (h : UnitHeader) → header_of big s ≡ Unit' h
-    → (header_of (not big) s ≡ Refused 1) ⊎ (header_of (not big) s ≡ Refused 2)
+pub told-wrongly : (big : Bool) (s : List ℕ) (h : UnitHeader) → header_of big s ≡ Ok (Some h)
+    → (header_of (not big) s ≡ Err 1) ⊎ (header_of (not big) s ≡ Err 2)
 told-wrongly big s h q =
     let law : HeaderLaw big (take h.end s) h = header-laws big s h q in
-    header-cases (not big) s (λ r. (r ≡ Refused 1) ⊎ (r ≡ Refused 2))
+    header-cases (not big) s (λ r. (r ≡ Err 1) ⊎ (r ≡ Err 2))
     (λ z. absurd (omega (arith, z, there big s h law, inside-section big s h law)))
     (inl refl) (inr refl)
     (λ g law'. absurd (not-both big s h g law law'))

@@ -13,21 +13,19 @@ use Rattle.readers.proofs.Choice.{pick_yes, pick_no, pick-either}
 use Rattle.readers.specs.Cursors.{fixed_at}
 use Rattle.readers.specs.Header.{present, right, length_bytes, encoding_of, header_made, fields4, fields5, header_fields, header_in, header_of}
 use Rattle.readers.specs.declared.cursor.Cursor.{Cursor}
-use Rattle.readers.specs.declared.cursor.Number.{Number}
-use Rattle.readers.specs.declared.cursor.Number.TheVariants.{Value, Unreadable}
-use Rattle.readers.specs.declared.header.HeaderRead.{HeaderRead}
-use Rattle.readers.specs.declared.header.HeaderRead.TheVariants.{Empty, Refused}
+use Rattle.std.specs.Prelude.{Err, None, Ok, Option, Result, Some}
+use Rattle.readers.specs.declared.header.UnitHeader.{UnitHeader}
 use Rattle.readers.proofs.Widths.{fixed-one, fixed-is, fixed-short, fixed-inside}
 
 -- ---- a field that is there or is not, and a value in the domain or not
 
-pub present-at : (n : Number) (v : ℕ) (c : Cursor) (k : ℕ → HeaderRead) → n ≡ Value v c → present n k ≡ k v
+pub present-at : (n : Option (ℕ × Cursor)) (v : ℕ) (c : Cursor) (k : ℕ → Result (Option UnitHeader) ℕ) → n ≡ Some (v, c) → present n k ≡ k v
 unfolding present
-present-at n v c k e = ap (λ (m : Number). present m k) e
+present-at n v c k e = ap (λ (m : Option (ℕ × Cursor)). present m k) e
 
-absent : (n : Number) (k : ℕ → HeaderRead) → n ≡ Unreadable → present n k ≡ Refused 1
+absent : (n : Option (ℕ × Cursor)) (k : ℕ → Result (Option UnitHeader) ℕ) → n ≡ None → present n k ≡ Err 1
 unfolding present
-absent n k e = ap (λ (m : Number). present m k) e
+absent n k e = ap (λ (m : Option (ℕ × Cursor)). present m k) e
 
 one_of : (v a b : ℕ) → (v ≡ a) ⊎ (v ≡ b) → T (eqb v a or eqb v b)
 unfolding ◌or◌
@@ -53,16 +51,16 @@ neither v a b f g = both (eqb v a) (eqb v b) (no_eqb {a = v} {b = a} f) (no_eqb 
 
 module _ (big : Bool) (w : ℕ) (u : List ℕ) (n : ℕ) where
   -- what is still to be read from each field on
-  unfoldable pub at_first : ℕ → ℕ → ℕ → HeaderRead
+  unfoldable pub at_first : ℕ → ℕ → ℕ → Result (Option UnitHeader) ℕ
   at_first unit_type address_size abbreviations =
       pick (eqb unit_type 1)
       (header_made (encoding_of big 5 w address_size) u unit_type abbreviations (n + 2 + w))
       (present (fixed_at big 8 u (n + 2 + w)) (λ _. header_made (encoding_of big 5 w address_size) u unit_type abbreviations (n + 2 + w + 8)))
 
-  unfoldable pub abbreviations_at : ℕ → ℕ → HeaderRead
+  unfoldable pub abbreviations_at : ℕ → ℕ → Result (Option UnitHeader) ℕ
   abbreviations_at unit_type address_size = present (fixed_at big w u (n + 2)) (at_first unit_type address_size)
 
-  unfoldable pub at_size : ℕ → HeaderRead
+  unfoldable pub at_size : ℕ → Result (Option UnitHeader) ℕ
   at_size unit_type =
       present (fixed_at big 1 u (n + 1)) (λ address_size. right (eqb address_size 4 or eqb address_size 8) (abbreviations_at unit_type address_size))
 
@@ -70,16 +68,16 @@ module _ (big : Bool) (w : ℕ) (u : List ℕ) (n : ℕ) where
   unfolding fields5 at_size abbreviations_at at_first
   from-type = refl
 
-  byte-none : (at : ℕ) (k : ℕ → HeaderRead) → length u ≤ at → present (fixed_at big 1 u at) k ≡ Refused 1
+  byte-none : (at : ℕ) (k : ℕ → Result (Option UnitHeader) ℕ) → length u ≤ at → present (fixed_at big 1 u at) k ≡ Err 1
   byte-none at k h = absent _ k (fixed-short big 1 u at (omega arith))
 
-  byte_at : (at : ℕ) (k : ℕ → HeaderRead) → at < length u → present (fixed_at big 1 u at) k ≡ k (get_or u at 0)
+  byte_at : (at : ℕ) (k : ℕ → Result (Option UnitHeader) ℕ) → at < length u → present (fixed_at big 1 u at) k ≡ k (get_or u at 0)
   byte_at at k h = present-at _ _ _ k (fixed-one big u at h)
 
-  pub type-none : length u ≤ n → fields5 big w u n ≡ Refused 1
+  pub type-none : length u ≤ n → fields5 big w u n ≡ Err 1
   type-none h = from-type ∙ byte-none n _ h
 
-  pub type-other : n < length u → (get_or u n 0 ≡ 1 → ⊥) → (get_or u n 0 ≡ 5 → ⊥) → fields5 big w u n ≡ Refused 2
+  pub type-other : n < length u → (get_or u n 0 ≡ 1 → ⊥) → (get_or u n 0 ≡ 5 → ⊥) → fields5 big w u n ≡ Err 2
   unfolding right
   type-other h f g = from-type ∙ byte_at n _ h ∙ pick_no _ _ _ (neither (get_or u n 0) 1 5 f g)
 
@@ -88,11 +86,11 @@ module _ (big : Bool) (w : ℕ) (u : List ℕ) (n : ℕ) where
   type-known h f = from-type ∙ byte_at n _ h ∙ pick_yes _ _ _ (one_of (get_or u n 0) 1 5 f)
 
   module _ (t : ℕ) where
-    pub size_none : length u ≤ n + 1 → at_size t ≡ Refused 1
+    pub size_none : length u ≤ n + 1 → at_size t ≡ Err 1
     unfolding at_size
     size_none h = byte-none (n + 1) _ h
 
-    pub size-other : n + 1 < length u → (get_or u (n + 1) 0 ≡ 4 → ⊥) → (get_or u (n + 1) 0 ≡ 8 → ⊥) → at_size t ≡ Refused 2
+    pub size-other : n + 1 < length u → (get_or u (n + 1) 0 ≡ 4 → ⊥) → (get_or u (n + 1) 0 ≡ 8 → ⊥) → at_size t ≡ Err 2
     unfolding at_size right
     size-other h f g = byte_at (n + 1) _ h ∙ pick_no _ _ _ (neither (get_or u (n + 1) 0) 4 8 f g)
 
@@ -101,16 +99,16 @@ module _ (big : Bool) (w : ℕ) (u : List ℕ) (n : ℕ) where
     size-known h f = byte_at (n + 1) _ h ∙ pick_yes _ _ _ (one_of (get_or u (n + 1) 0) 4 8 f)
 
     module _ (a : ℕ) where
-      pub abbreviations-none : fixed_at big w u (n + 2) ≡ Unreadable → abbreviations_at t a ≡ Refused 1
+      pub abbreviations-none : fixed_at big w u (n + 2) ≡ None → abbreviations_at t a ≡ Err 1
       unfolding abbreviations_at
       abbreviations-none e = absent _ _ e
 
-      module _ (v : ℕ) (c : Cursor) (e : fixed_at big w u (n + 2) ≡ Value v c) where
+      module _ (v : ℕ) (c : Cursor) (e : fixed_at big w u (n + 2) ≡ Some (v, c)) where
         pub whole : t ≡ 1 → abbreviations_at t a ≡ header_made (encoding_of big 5 w a) u t v (n + 2 + w)
         unfolding abbreviations_at at_first
         whole h = present-at _ v c _ e ∙ pick_yes _ _ _ (yes_eqb {a = t} {b = 1} h)
 
-        pub id-none : (t ≡ 1 → ⊥) → length u < n + 2 + w + 8 → abbreviations_at t a ≡ Refused 1
+        pub id-none : (t ≡ 1 → ⊥) → length u < n + 2 + w + 8 → abbreviations_at t a ≡ Err 1
         unfolding abbreviations_at at_first
         id-none h k =
             present-at _ v c _ e ∙ pick_no _ _ _ (no_eqb {a = t} {b = 1} h) ∙ absent _ _ (fixed-short big 8 u (n + 2 + w) (omega arith))
@@ -124,21 +122,21 @@ module _ (big : Bool) (w : ℕ) (u : List ℕ) (n : ℕ) where
 
   -- ---- those of version 4
 
-  pub offset-none : fixed_at big w u n ≡ Unreadable → fields4 big w u n ≡ Refused 1
+  pub offset-none : fixed_at big w u n ≡ None → fields4 big w u n ≡ Err 1
   unfolding fields4
   offset-none e = absent _ _ e
 
-  module _ (v : ℕ) (c : Cursor) (e : fixed_at big w u n ≡ Value v c) where
+  module _ (v : ℕ) (c : Cursor) (e : fixed_at big w u n ≡ Some (v, c)) where
     from-size : fields4 big w u n
         ≡ present (fixed_at big 1 u (n + w)) (λ size. right (eqb size 4 or eqb size 8) (header_made (encoding_of big 4 w size) u 1 v (n + w + 1)))
     unfolding fields4
     from-size = present-at _ v c _ e
 
-    pub size4-none : length u ≤ n + w → fields4 big w u n ≡ Refused 1
+    pub size4-none : length u ≤ n + w → fields4 big w u n ≡ Err 1
     size4-none h = from-size ∙ byte-none (n + w) _ h
 
     module _ (there : n + w < length u) where
-      pub size4-other : (get_or u (n + w) 0 ≡ 4 → ⊥) → (get_or u (n + w) 0 ≡ 8 → ⊥) → fields4 big w u n ≡ Refused 2
+      pub size4-other : (get_or u (n + w) 0 ≡ 4 → ⊥) → (get_or u (n + w) 0 ≡ 8 → ⊥) → fields4 big w u n ≡ Err 2
       unfolding right
       size4-other f g = from-size ∙ byte_at (n + w) _ there ∙ pick_no _ _ _ (neither (get_or u (n + w) 0) 4 8 f g)
 
@@ -151,19 +149,19 @@ module _ (big : Bool) (w : ℕ) (u : List ℕ) (n : ℕ) where
 
 module _ (big : Bool) (w : ℕ) (u : List ℕ) (n : ℕ) (is : n ≡ length_bytes w) where
   from-version : header_fields big w u
-      ≡ present (fixed_at big 2 u n) (λ version. pick (eqb version 5) (fields5 big w u (n + 2)) (pick (eqb version 4) (fields4 big w u (n + 2)) (Refused 2)))
+      ≡ present (fixed_at big 2 u n) (λ version. pick (eqb version 5) (fields5 big w u (n + 2)) (pick (eqb version 4) (fields4 big w u (n + 2)) (Err 2)))
   unfolding header_fields
   from-version =
-      ap (λ (m : ℕ). present (fixed_at big 2 u m) (λ version. pick (eqb version 5) (fields5 big w u (m + 2)) (pick (eqb version 4) (fields4 big w u (m + 2)) (Refused 2)))) (sym is)
+      ap (λ (m : ℕ). present (fixed_at big 2 u m) (λ version. pick (eqb version 5) (fields5 big w u (m + 2)) (pick (eqb version 4) (fields4 big w u (m + 2)) (Err 2)))) (sym is)
 
-  pub version-none : fixed_at big 2 u n ≡ Unreadable → header_fields big w u ≡ Refused 1
+  pub version-none : fixed_at big 2 u n ≡ None → header_fields big w u ≡ Err 1
   version-none e = from-version ∙ absent _ _ e
 
-  module _ (v : ℕ) (c : Cursor) (e : fixed_at big 2 u n ≡ Value v c) where
-    by-version : header_fields big w u ≡ pick (eqb v 5) (fields5 big w u c.at) (pick (eqb v 4) (fields4 big w u c.at) (Refused 2))
+  module _ (v : ℕ) (c : Cursor) (e : fixed_at big 2 u n ≡ Some (v, c)) where
+    by-version : header_fields big w u ≡ pick (eqb v 5) (fields5 big w u c.at) (pick (eqb v 4) (fields4 big w u c.at) (Err 2))
     by-version =
         from-version ∙ present-at _ v c _ e
-        ∙ ap (λ (m : ℕ). pick (eqb v 5) (fields5 big w u m) (pick (eqb v 4) (fields4 big w u m) (Refused 2))) (sym (fixed-inside big 2 u n v c e).0)
+        ∙ ap (λ (m : ℕ). pick (eqb v 5) (fields5 big w u m) (pick (eqb v 4) (fields4 big w u m) (Err 2))) (sym (fixed-inside big 2 u n v c e).0)
 
     -- where it ends
     pub version-inside : c.at ≤ length u
@@ -176,7 +174,7 @@ module _ (big : Bool) (w : ℕ) (u : List ℕ) (n : ℕ) (is : n ≡ length_byte
       pub version-four : v ≡ 4 → header_fields big w u ≡ fields4 big w u c.at
       version-four h = by-version ∙ pick_no _ _ _ (no_eqb {a = v} {b = 5} other) ∙ pick_yes _ _ _ (yes_eqb {a = v} {b = 4} h)
 
-      pub version-other : (v ≡ 4 → ⊥) → header_fields big w u ≡ Refused 2
+      pub version-other : (v ≡ 4 → ⊥) → header_fields big w u ≡ Err 2
       version-other h = by-version ∙ pick_no _ _ _ (no_eqb {a = v} {b = 5} other) ∙ pick_no _ _ _ (no_eqb {a = v} {b = 4} h)
 
 -- ---- the length of a unit
@@ -201,7 +199,7 @@ eight-bytes = bytes-eight 8 refl
 
 -- the unit of the n bytes after a length field of k bytes is there, or is not
 module _ (big : Bool) (w : ℕ) (s : List ℕ) (k : ℕ) (is : k ≡ length_bytes w) (n : ℕ) where
-  pub in-over : length s - k < n → header_in big w s n ≡ Refused 1
+  pub in-over : length s - k < n → header_in big w s n ≡ Err 1
   unfolding header_in
   in-over h = pick_no _ _ _ (no_leb {a = n} {b = length s - length_bytes w} (subst (λ (l : ℕ). length s - l < n) is h))
 
@@ -212,22 +210,22 @@ module _ (big : Bool) (w : ℕ) (s : List ℕ) (k : ℕ) (is : k ≡ length_byte
       ∙ ap (λ (l : ℕ). header_fields big w (take (l + n) s)) (sym is)
 
 module _ (big : Bool) (s : List ℕ) where
-  pub header-empty : length s ≡ 0 → header_of big s ≡ Empty
+  pub header-empty : length s ≡ 0 → header_of big s ≡ Ok None
   unfolding header_of
   header-empty h = pick_yes _ _ _ (yes_eqb {a = length s} {b = 0} h)
 
   module _ (some : length s ≡ 0 → ⊥) where
-    pub length_none : fixed_at big 4 s 0 ≡ Unreadable → header_of big s ≡ Refused 1
+    pub length_none : fixed_at big 4 s 0 ≡ None → header_of big s ≡ Err 1
     unfolding header_of
     length_none e = pick_no _ _ _ (no_eqb {a = length s} {b = 0} some) ∙ absent _ _ e
 
-    module _ (n : ℕ) (c : Cursor) (e : fixed_at big 4 s 0 ≡ Value n c) where
-      by_length : header_of big s ≡ pick (eqb n 0xffffffff) (present (fixed_at big 8 s 4) (λ m. pick (ltb (12 + m) (2 ^ 64)) (header_in big 8 s m) (Refused 1)))
-          (pick (leb 0xfffffff0 n) (Refused 2) (header_in big 4 s n))
+    module _ (n : ℕ) (c : Cursor) (e : fixed_at big 4 s 0 ≡ Some (n, c)) where
+      by_length : header_of big s ≡ pick (eqb n 0xffffffff) (present (fixed_at big 8 s 4) (λ m. pick (ltb (12 + m) (2 ^ 64)) (header_in big 8 s m) (Err 1)))
+          (pick (leb 0xfffffff0 n) (Err 2) (header_in big 4 s n))
       unfolding header_of
       by_length = pick_no _ _ _ (no_eqb {a = length s} {b = 0} some) ∙ present-at _ n c _ e
 
-      pub length-reserved : (n ≡ 0xffffffff → ⊥) → 0xfffffff0 ≤ n → header_of big s ≡ Refused 2
+      pub length-reserved : (n ≡ 0xffffffff → ⊥) → 0xfffffff0 ≤ n → header_of big s ≡ Err 2
       length-reserved f h = by_length ∙ pick_no _ _ _ (no_eqb {a = n} {b = 0xffffffff} f) ∙ pick_yes _ _ _ (yes_leb {a = 0xfffffff0} {b = n} h)
 
       pub length-four : n < 0xfffffff0 → header_of big s ≡ header_in big 4 s n
@@ -237,17 +235,17 @@ module _ (big : Bool) (s : List ℕ) where
           ∙ pick_no _ _ _ (no_leb {a = 0xfffffff0} {b = n} h)
 
       module _ (escape : n ≡ 0xffffffff) where
-        pub eight-none : fixed_at big 8 s 4 ≡ Unreadable → header_of big s ≡ Refused 1
+        pub eight-none : fixed_at big 8 s 4 ≡ None → header_of big s ≡ Err 1
         eight-none h = by_length ∙ pick_yes _ _ _ (yes_eqb {a = n} {b = 0xffffffff} escape) ∙ absent _ _ h
 
-        pub length-said : (m : ℕ) (d : Cursor) → fixed_at big 8 s 4 ≡ Value m d
-            → header_of big s ≡ pick (ltb (12 + m) (2 ^ 64)) (header_in big 8 s m) (Refused 1)
+        pub length-said : (m : ℕ) (d : Cursor) → fixed_at big 8 s 4 ≡ Some (m, d)
+            → header_of big s ≡ pick (ltb (12 + m) (2 ^ 64)) (header_in big 8 s m) (Err 1)
         length-said m d h = by_length ∙ pick_yes _ _ _ (yes_eqb {a = n} {b = 0xffffffff} escape) ∙ present-at _ m d _ h
 
         -- a section has no 2 ^ 64 bytes
-        pub length-eight : (m : ℕ) (d : Cursor) → fixed_at big 8 s 4 ≡ Value m d → length s < 2 ^ 64 → header_of big s ≡ header_in big 8 s m
+        pub length-eight : (m : ℕ) (d : Cursor) → fixed_at big 8 s 4 ≡ Some (m, d) → length s < 2 ^ 64 → header_of big s ≡ header_in big 8 s m
         length-eight m d h l =
             length-said m d h
-            ∙ pick-either (λ (r : HeaderRead). r ≡ header_in big 8 s m) (ltb (12 + m) (2 ^ 64)) (header_in big 8 s m) (Refused 1)
+            ∙ pick-either (λ (r : Result (Option UnitHeader) ℕ). r ≡ header_in big 8 s m) (ltb (12 + m) (2 ^ 64)) (header_in big 8 s m) (Err 1)
             (λ _. refl)
             (λ t. sym (in-over big 8 s 12 (sym eight-bytes) m (let z : 2 ^ 64 ≤ 12 + m = ltb_no {a = 12 + m} {b = 2 ^ 64} t in omega arith)))

@@ -3,7 +3,7 @@
 use mathlib.Core.Path.{◌≡◌, refl, ap, ap₂, sym, ◌∙◌, subst}
 use Prim.Native.Nat.{ℕ, zero, suc, ◌+◌, ◌^◌, ◌≤◌, ◌<◌}
 use mathlib.Core.Bool.{Bool, not}
-use mathlib.Core.Option.{Option, none, some}
+use Rattle.std.specs.Prelude.{None, Option, Some}
 use mathlib.Core.List.{List, [], ◌∷◌, ◌++◌, append_assoc, append-nil}
 use native.Mathlib.Omega.{arith}
 use lib.ListN.{length, take, drop, length-append, length-drop}
@@ -79,14 +79,14 @@ module _ (big : Bool) where
   length-number (infixed w) v = length-fixed big w v
   length-number (inleb n) v = length-padded n v
 
-  pub number-written : (e : Encoded) (v : ℕ) (rest : List ℕ) → Fit e v → number_in big (kind_of e) (number_bytes big e v ++ rest) ≡ some (e, v, rest)
+  pub number-written : (e : Encoded) (v : ℕ) (rest : List ℕ) → Fit e v → number_in big (kind_of e) (number_bytes big e v ++ rest) ≡ Some (e, v, rest)
   unfolding number_bytes kind_of number_in uleb unsigned64 as_leb
   number-written (infixed w) v rest h =
       let l : length (fixed_bytes big w v) ≡ w = length-fixed big w v in
       let t : take w (fixed_bytes big w v ++ rest) ≡ fixed_bytes big w v = take_at (fixed_bytes big w v) rest w l in
       check-yes _ _ (yes_leb {a = w} {b = 8} (fixed-fit w v h).0)
       ∙ check-yes _ _ (yes_leb {a = w} {b = length (fixed_bytes big w v ++ rest)} (omega (arith, length-append (fixed_bytes big w v) rest)))
-      ∙ ap₂ (λ (x : ℕ) (y : List ℕ). some (infixed w, x, y)) (ap (fixed_value big) t ∙ fixed-value big w v (fixed-fit w v h).1) (drop_at (fixed_bytes big w v) rest w l)
+      ∙ ap₂ (λ (x : ℕ) (y : List ℕ). Some (infixed w, x, y)) (ap (fixed_value big) t ∙ fixed-value big w v (fixed-fit w v h).1) (drop_at (fixed_bytes big w v) rest w l)
   number-written (inleb n) v rest h =
       let p = leb-fit n v h in
       bind-at _ (bind-at _ (groups-padded 10 n v rest p.0 p.1) ∙ check-yes _ _ (yes_ltb {a = v} {b = 2 ^ 64} p.2))
@@ -94,7 +94,7 @@ module _ (big : Bool) where
   abbrev pub NumberLaw : Kind → List ℕ → ReadFound → Type 0
   NumberLaw k s t =
       (kind_of t.0 ≡ k) × Took s (width t.0) t.2
-      × ((rest : List ℕ) → number_in big k (take (width t.0) s ++ rest) ≡ some (t.0, t.1, rest))
+      × ((rest : List ℕ) → number_in big k (take (width t.0) s ++ rest) ≡ Some (t.0, t.1, rest))
 
   pub number-law : (k : Kind) (s : List ℕ) → All (NumberLaw k s) (number_in big k s)
   unfolding kind_of width number_in uleb unsigned64 as_leb
@@ -106,7 +106,7 @@ module _ (big : Bool) where
         λ rest.
             check-yes _ _ u8
             ∙ check-yes _ _ (yes_leb {a = w} {b = length (take w s ++ rest)} (kept-fits s rest w (leb_yes u)))
-            ∙ ap₂ (λ (x : List ℕ) (y : List ℕ). some (infixed w, fixed_value big x, y))
+            ∙ ap₂ (λ (x : List ℕ) (y : List ℕ). Some (infixed w, fixed_value big x, y))
             (take_at (take w s) rest w (length-take-le w s (leb_yes u))) (kept-drop s rest w (leb_yes u)),
       )))
   number-law leb128 s =
@@ -122,11 +122,11 @@ module _ (big : Bool) where
 -- ---- LEB128 numbers: a reader that judges a number by how many bytes it has and by its value
 
 abbrev pub LebLaw : (List ℕ → Option Groups) → List ℕ → Groups → Type 0
-LebLaw R s t = Took s (suc t.0) t.2 × ((rest : List ℕ) → R (take (suc t.0) s ++ rest) ≡ some (t.0, t.1, rest))
+LebLaw R s t = Took s (suc t.0) t.2 × ((rest : List ℕ) → R (take (suc t.0) s ++ rest) ≡ Some (t.0, t.1, rest))
 
 -- a judgement that goes by those two alone
 abbrev Judges : (Groups → Option Groups) → Type 0
-Judges judge = (n v : ℕ) (r : List ℕ) → All (λ t. (t.0 ≡ n) × (t.2 ≡ r) × ((r' : List ℕ) → judge (n, v, r') ≡ some (t.0, t.1, r'))) (judge (n, v, r))
+Judges judge = (n v : ℕ) (r : List ℕ) → All (λ t. (t.0 ≡ n) × (t.2 ≡ r) × ((r' : List ℕ) → judge (n, v, r') ≡ Some (t.0, t.1, r'))) (judge (n, v, r))
 
 judged-law : (k : ℕ) (judge : Groups → Option Groups) → Judges judge → (s : List ℕ) → All (LebLaw (λ s. bind (groups k s) judge) s) (bind (groups k s) judge)
 judged-law k judge J s =
@@ -134,7 +134,7 @@ judged-law k judge J s =
     (λ a e q. all_map _ _ (judge a)
     (λ t p. (
       (rw p.0 q.1, rw p.0 (p.1 ∙ q.2)),
-      λ rest. subst (λ (m : ℕ). bind (groups k (take (suc m) s ++ rest)) judge ≡ some (t.0, t.1, rest)) (sym p.0) (bind-at judge (q.3 rest) ∙ p.2 rest),
+      λ rest. subst (λ (m : ℕ). bind (groups k (take (suc m) s ++ rest)) judge ≡ Some (t.0, t.1, rest)) (sym p.0) (bind-at judge (q.3 rest) ∙ p.2 rest),
     ))
     (J a.0 a.1 a.2))
 
@@ -157,7 +157,7 @@ sleb-law s =
 -- ---- strings and chains of forms
 
 abbrev pub StringLaw : List ℕ → List ℕ × List ℕ → Type 0
-StringLaw s r = Took s (length r.0) r.1 × (r.0 ≡ take (length r.0) s) × ((rest : List ℕ) → string_in (r.0 ++ rest) ≡ some (r.0, rest))
+StringLaw s r = Took s (length r.0) r.1 × (r.0 ≡ take (length r.0) s) × ((rest : List ℕ) → string_in (r.0 ++ rest) ≡ Some (r.0, rest))
 
 pub string-law : (s : List ℕ) → All (StringLaw s) (string_in s)
 unfolding string_in
@@ -176,22 +176,22 @@ string-law (b ∷ s) =
 pub prefix-split : (s rest : List ℕ) (n m : ℕ) → n + m ≤ length s → take (n + m) s ++ rest ≡ take n s ++ (take m (drop n s) ++ rest)
 prefix-split s rest n m h = ap (λ x. x ++ rest) (take-add n m s) ∙ append_assoc (take n s) (take m (drop n s)) rest
 
-pub short-nil : (s : List ℕ) → length s ≤ 0 → short s ≡ none
+pub short-nil : (s : List ℕ) → length s ≤ 0 → short s ≡ None
 unfolding short groups bind
 short-nil [] h = refl
 short-nil (b ∷ s) h = absurd (let g : suc (length s) ≤ 0 = h in omega arith)
 
 abbrev pub FormsLaw : List ℕ → ℕ × ℕ → Type 0
-FormsLaw s r = (r.0 ≤ length s) × ((k : ℕ) (rest : List ℕ) → r.0 ≤ k → forms_within k (take r.0 s ++ rest) ≡ some (r.0, r.1))
+FormsLaw s r = (r.0 ≤ length s) × ((k : ℕ) (rest : List ℕ) → r.0 ≤ k → forms_within k (take r.0 s ++ rest) ≡ Some (r.0, r.1))
 
 forms-last : (s : List ℕ) (t : Groups) → LebLaw short s t → T (not (eqb t.1 0x16)) → (k : ℕ) (rest : List ℕ)
-    → suc t.0 ≤ k → forms_within k (take (suc t.0) s ++ rest) ≡ some (suc t.0, t.1)
+    → suc t.0 ≤ k → forms_within k (take (suc t.0) s ++ rest) ≡ Some (suc t.0, t.1)
 unfolding forms_within
 forms-last s t q u zero rest h = absurd (omega arith)
 forms-last s t q u (suc k) rest h = bind-at _ (q.1 rest) ∙ pick_no _ _ _ u
 
 forms-more : (s : List ℕ) (t : Groups) → LebLaw short s t → T (eqb t.1 0x16) → (r : ℕ × ℕ) → FormsLaw t.2 r
-    → (k : ℕ) (rest : List ℕ) → suc t.0 + r.0 ≤ k → forms_within k (take (suc t.0 + r.0) s ++ rest) ≡ some (suc t.0 + r.0, r.1)
+    → (k : ℕ) (rest : List ℕ) → suc t.0 + r.0 ≤ k → forms_within k (take (suc t.0 + r.0) s ++ rest) ≡ Some (suc t.0 + r.0, r.1)
 unfolding forms_within after_form
 forms-more s t q u r q' zero rest h = absurd (omega arith)
 forms-more s t q u r q' (suc k) rest h =
@@ -222,19 +222,19 @@ forms-same zero s (suc k') h h' = sym (bind-none _ (short-nil s (omega arith)))
 forms-same (suc k) s zero h h' = bind-none _ (short-nil s (omega arith))
 forms-same (suc k) s (suc k') h h' =
     bind-cong (LebLaw short s) (short s) _ _ (short-law s)
-    (λ t e q. ap (λ o. pick (eqb t.1 0x16) (bind o (after_form t)) (some (suc t.0, t.1)))
+    (λ t e q. ap (λ o. pick (eqb t.1 0x16) (bind o (after_form t)) (Some (suc t.0, t.1)))
     (forms-same k t.2 k' (omega (arith, took-length s (suc t.0) t.2 q.0)) (omega (arith, took-length s (suc t.0) t.2 q.0))))
 
 forms-unfold : (s : List ℕ) (k : ℕ) → length s ≤ k
-    → forms_within (suc k) s ≡ bind (short s) (λ t. pick (eqb t.1 0x16) (bind (forms_within (length t.2) t.2) (after_form t)) (some (suc t.0, t.1)))
+    → forms_within (suc k) s ≡ bind (short s) (λ t. pick (eqb t.1 0x16) (bind (forms_within (length t.2) t.2) (after_form t)) (Some (suc t.0, t.1)))
 unfolding forms_within
 forms-unfold s k h =
     bind-cong (LebLaw short s) (short s) _ _ (short-law s)
-    (λ t e q. ap (λ o. pick (eqb t.1 0x16) (bind o (after_form t)) (some (suc t.0, t.1)))
+    (λ t e q. ap (λ o. pick (eqb t.1 0x16) (bind o (after_form t)) (Some (suc t.0, t.1)))
     (forms-same k t.2 (length t.2) (omega (arith, took-length s (suc t.0) t.2 q.0)) (omega arith)))
 
 -- one form number, and then the others
-pub forms-step : (s : List ℕ) → forms_in s ≡ bind (short s) (λ t. pick (eqb t.1 0x16) (bind (forms_in t.2) (after_form t)) (some (suc t.0, t.1)))
+pub forms-step : (s : List ℕ) → forms_in s ≡ bind (short s) (λ t. pick (eqb t.1 0x16) (bind (forms_in t.2) (after_form t)) (Some (suc t.0, t.1)))
 unfolding forms_in
 forms-step s = forms-same (length s) s (suc (length s)) (omega arith) (omega arith) ∙ forms-unfold s (length s) (omega arith)
 
@@ -245,7 +245,7 @@ forms-law s = forms-within-law (length s) s
 -- ---- tokens: what a token read is as wide as what it took; patched it is read so again; and it is read so again whatever follows
 
 abbrev pub WholeLaw : Bool → ExpressionReader → List ℕ → List Piece → Type 0
-WholeLaw big ex s ps = (length (bytes_of big ps) ≡ length s) × ((f : Patch) → FitPieces f ps → ex (bytes_of big (patch_pieces f ps)) ≡ some (patch_pieces f ps))
+WholeLaw big ex s ps = (length (bytes_of big ps) ≡ length s) × ((f : Patch) → FitPieces f ps → ex (bytes_of big (patch_pieces f ps)) ≡ Some (patch_pieces f ps))
 
 abbrev pub ExpressionLaw : Bool → ExpressionReader → Type 0
 ExpressionLaw big ex = (s : List ℕ) → All (WholeLaw big ex s) (ex s)
@@ -283,27 +283,27 @@ module _ (big : Bool) where
   TokenLaw ex t s r =
       Took s (length (bytes_of big r.0.pieces)) r.1
       × ((f : Patch) (rest : List ℕ) → FitPieces f r.0.pieces
-      → token_in big ex t (bytes_of big (patch_pieces f r.0.pieces) ++ rest) ≡ some (patch_read f r.0, rest))
-      × ((rest : List ℕ) → token_in big ex t (take (length (bytes_of big r.0.pieces)) s ++ rest) ≡ some (r.0, rest))
+      → token_in big ex t (bytes_of big (patch_pieces f r.0.pieces) ++ rest) ≡ Some (patch_read f r.0, rest))
+      × ((rest : List ℕ) → token_in big ex t (take (length (bytes_of big r.0.pieces)) s ++ rest) ≡ Some (r.0, rest))
 
   -- Layouts: what was read is as wide as what was taken; patched it is read again as patched, whatever follows; and
   -- it is read so again whatever follows.
   abbrev pub ReadLaw : ExpressionReader → Layout → List ℕ → RunOf → Type 0
   ReadLaw ex g s r =
       Took s (length (write_all big r.0)) r.1
-      × ((f : Patch) (rest : List ℕ) → FitAll f r.0 → read_in big ex g (write_all big (patch_all f r.0) ++ rest) ≡ some (patch_all f r.0, rest))
-      × ((rest : List ℕ) → read_in big ex g (take (length (write_all big r.0)) s ++ rest) ≡ some (r.0, rest))
+      × ((f : Patch) (rest : List ℕ) → FitAll f r.0 → read_in big ex g (write_all big (patch_all f r.0) ++ rest) ≡ Some (patch_all f r.0, rest))
+      × ((rest : List ℕ) → read_in big ex g (take (length (write_all big r.0)) s ++ rest) ≡ Some (r.0, rest))
 
   -- a token whose bytes are all verbatim
   copied-law : (ex : ExpressionReader) (t : Token) (s : List ℕ) (v k n : ℕ) → n ≤ length s
-      → ((rest : List ℕ) → token_in big ex t (take n s ++ rest) ≡ some (copy v k n (take n s ++ rest))) → TokenLaw ex t s (copy v k n s)
+      → ((rest : List ℕ) → token_in big ex t (take n s ++ rest) ≡ Some (copy v k n (take n s ++ rest))) → TokenLaw ex t s (copy v k n s)
   unfolding copy bytes_of piece_bytes patch_pieces patch_piece patch_read
   copied-law ex t s v k n h again =
       let one : take n s ++ [] ≡ take n s = append-nil (take n s) in
       let l : length (take n s ++ []) ≡ n = ap length one ∙ length-take-le n s h in
-      let same : (rest : List ℕ) → token_in big ex t (take n s ++ rest) ≡ some (record { seen = v; start = k; pieces = verbatim (take n s) ∷ [] }, rest) =
+      let same : (rest : List ℕ) → token_in big ex t (take n s ++ rest) ≡ Some (record { seen = v; start = k; pieces = verbatim (take n s) ∷ [] }, rest) =
       (λ rest. again rest
-      ∙ ap₂ (λ (x y : List ℕ). some (record { seen = v; start = k; pieces = verbatim x ∷ [] }, y))
+      ∙ ap₂ (λ (x y : List ℕ). Some (record { seen = v; start = k; pieces = verbatim x ∷ [] }, y))
       (kept-take s rest n h n (omega arith)) (kept-drop s rest n h)) in (
         rw l (h, refl),
         (λ f rest _. ap (λ x. token_in big ex t (x ++ rest)) one ∙ same rest),
@@ -311,14 +311,14 @@ module _ (big : Bool) where
       )
 
   again-number : (ex : ExpressionReader) (k : Kind) (s : List ℕ) (r : ReadFound) → NumberLaw big k s r
-      → (rest : List ℕ) → token_in big ex (number k) (take (width r.0) s ++ rest) ≡ some (copy r.1 0 (width r.0) (take (width r.0) s ++ rest))
+      → (rest : List ℕ) → token_in big ex (number k) (take (width r.0) s ++ rest) ≡ Some (copy r.1 0 (width r.0) (take (width r.0) s ++ rest))
   unfolding token_in as_number
   again-number ex k s r q rest = bind-at _ (q.2 rest)
 
   -- a length and so many bytes, before any rest
   again-block : (ex : ExpressionReader) (k : Kind) (s : List ℕ) (r : ReadFound) → NumberLaw big k s r → r.1 ≤ length r.2
       → (rest : List ℕ) → token_in big ex (block k) (take (width r.0 + r.1) s ++ rest)
-      ≡ some (copy 0 (width r.0) (width r.0 + r.1) (take (width r.0 + r.1) s ++ rest))
+      ≡ Some (copy 0 (width r.0) (width r.0 + r.1) (take (width r.0 + r.1) s ++ rest))
   unfolding token_in as_block
   again-block ex k s r q h rest =
       let w : ℕ = width r.0 in
@@ -326,12 +326,12 @@ module _ (big : Bool) where
       let body : List ℕ = take r.1 (drop w s) in
       let lb : length body ≡ r.1 = length-take-le r.1 (drop w s) (omega (arith, length-drop w s)) in
       let e : take (w + r.1) s ++ rest ≡ take w s ++ (body ++ rest) = prefix-split s rest w r.1 (omega arith) in
-      subst (λ x. bind (number_in big k x) (as_block x) ≡ some (copy 0 w (w + r.1) x)) (sym e)
+      subst (λ x. bind (number_in big k x) (as_block x) ≡ Some (copy 0 w (w + r.1) x)) (sym e)
       (bind-at _ (q.2 (body ++ rest))
       ∙ check-yes _ _ (yes_leb {a = r.1} {b = length (body ++ rest)} (omega (arith, length-append body rest))))
 
   module _ (ex : ExpressionReader) (law : ExpressionLaw big ex) where
-    expression-law : (s : List ℕ) (t : Groups) → LebLaw uleb s t → (h : t.1 ≤ length t.2) (ps : List Piece) → ex (take t.1 t.2) ≡ some ps
+    expression-law : (s : List ℕ) (t : Groups) → LebLaw uleb s t → (h : t.1 ≤ length t.2) (ps : List Piece) → ex (take t.1 t.2) ≡ Some ps
         → TokenLaw ex expression s (record { seen = 0; start = suc t.0; pieces = verbatim (take (suc t.0) s) ∷ ps }, drop t.1 t.2)
     unfolding token_in as_expression bytes_of piece_bytes patch_pieces patch_piece patch_read FitPieces
     expression-law s t q h ps e =
@@ -343,14 +343,14 @@ module _ (big : Bool) where
         let lp : length (bytes_of big ps) ≡ t.1 = whole.0 ∙ lb in
         let la : length a ≡ w = length-take-le w s q.0.0 in
         let n : length (a ++ bytes_of big ps) ≡ w + t.1 = length-append a (bytes_of big ps) ∙ ap₂ ◌+◌ la lp in
-        let found : (b rest : List ℕ) (qs : List Piece) → length b ≡ t.1 → ex b ≡ some qs
+        let found : (b rest : List ℕ) (qs : List Piece) → length b ≡ t.1 → ex b ≡ Some qs
         → bind (uleb (a ++ (b ++ rest))) (as_expression ex (a ++ (b ++ rest)))
-        ≡ some (record { seen = 0; start = w; pieces = verbatim a ∷ qs }, rest) =
+        ≡ Some (record { seen = 0; start = w; pieces = verbatim a ∷ qs }, rest) =
         (λ b rest qs l k.
         bind-at _ (q.1 (b ++ rest))
         ∙ check-yes _ _ (yes_leb {a = t.1} {b = length (b ++ rest)} (omega (arith, length-append b rest)))
         ∙ bind-at _ (ap ex (take_at b rest t.1 l) ∙ k)
-        ∙ ap₂ (λ (x y : List ℕ). some (record { seen = 0; start = w; pieces = verbatim x ∷ qs }, y)) (take_at a (b ++ rest) w la) (drop_at b rest t.1 l)) in (
+        ∙ ap₂ (λ (x y : List ℕ). Some (record { seen = 0; start = w; pieces = verbatim x ∷ qs }, y)) (take_at a (b ++ rest) w la) (drop_at b rest t.1 l)) in (
           rw n (took-add s w t.1 t.2 (drop t.1 t.2) q.0 (h, refl)),
           (λ f rest fit.
               ap (λ x. bind (uleb x) (as_expression ex x)) (append_assoc a (bytes_of big (patch_pieces f ps)) rest)
@@ -449,4 +449,4 @@ module _ (big : Bool) where
 pub as-bytes-law : (big : Bool) → ExpressionLaw big as_bytes
 unfolding as_bytes bytes_of piece_bytes patch_pieces patch_piece
 as-bytes-law big s =
-    all-some (WholeLaw big as_bytes s) (ap length (append-nil s), λ f _. ap (λ (x : List ℕ). some (verbatim x ∷ [])) (append-nil s))
+    all-some (WholeLaw big as_bytes s) (ap length (append-nil s), λ f _. ap (λ (x : List ℕ). Some (verbatim x ∷ [])) (append-nil s))

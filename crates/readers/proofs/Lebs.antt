@@ -6,7 +6,10 @@ use native.Mathlib.Numerals.{add-one}
 use native.Mathlib.Nat.{pow-suc, pow-le-pow_right, mul-le-mul_right}
 use mathlib.Core.Logic.{⊎_elim}
 use mathlib.Core.List.{List, [], ◌∷◌}
-use mathlib.Core.Option.{Option, none, some}
+use Rattle.std.specs.Prelude.{None, Option, Some}
+use Rattle.std.proofs.lemmas.Option.{same_Some, some_pair_parts}
+use Rattle.readers.specs.declared.cursor.Groups.{Groups}
+use Rattle.readers.specs.Cursors.{whole_groups}
 use lib.ListN.{length, drop, get_or, drop_of_length-le, length-drop}
 use lib.Seq.{drop-cons, drop-drop, get_or-drop}
 use lib.Dec.{T, ltb}
@@ -22,14 +25,11 @@ use Rattle.readers.specs.Layout.{short, within16, forms_in, after_form}
 use Rattle.readers.proofs.LayoutLaws.{LebLaw, uleb-law, sleb-law, short-law, forms-step, FormsLaw, forms-law}
 use Rattle.readers.specs.Cursors.{cursor, groups_at, as_groups, leb_at, as_leb_number, forms_at, as_form_number}
 use Rattle.readers.specs.declared.cursor.Cursor.{Cursor}
-use Rattle.readers.specs.declared.cursor.Groups.{Groups}
-use Rattle.readers.specs.declared.cursor.Number.TheVariants.{Value, Unreadable}
-use Rattle.readers.specs.declared.cursor.Groups.TheVariants.{Whole, Unreadable as NoGroups}
 
 -- ---- a number that is being read: k bytes are behind, which came to v, and at most j are left
 
 unfoldable pub onto : ℕ → ℕ → Read → Option Read
-onto k v t = some (k + t.0, v + t.1 * 128 ^ k, t.2)
+onto k v t = Some (k + t.0, v + t.1 * 128 ^ k, t.2)
 
 unfoldable pub pending : ℕ → ℕ → ℕ → List ℕ → Option Read
 pending j k v s = bind (groups j s) (onto k v)
@@ -39,14 +39,14 @@ spread v c t p = omega arith
 
 bind-below : (o : Option Read) (b k v : ℕ) → bind (bind o (below b)) (onto k v) ≡ bind o (onto (suc k) (v + (b - 128) * 128 ^ k))
 unfolding bind below onto
-bind-below none b k v = refl
-bind-below (some t) b k v =
-    ap₂ (λ (x y : ℕ). some (x, y, t.2)) (omega arith) (rw (pow-suc 128 k) (spread v (b - 128) t.1 (128 ^ k)))
+bind-below None b k v = refl
+bind-below (Some t) b k v =
+    ap₂ (λ (x y : ℕ). Some (x, y, t.2)) (omega arith) (rw (pow-suc 128 k) (spread v (b - 128) t.1 (128 ^ k)))
 
 onto-nothing : (o : Option Read) → o ≡ bind o (onto 0 0)
 unfolding bind onto
-onto-nothing none = refl
-onto-nothing (some t) = ap₂ (λ (x y : ℕ). some (x, y, t.2)) (omega arith) (omega arith)
+onto-nothing None = refl
+onto-nothing (Some t) = ap₂ (λ (x y : ℕ). Some (x, y, t.2)) (omega arith) (omega arith)
 
 -- a byte that says that another follows
 turn : (s : List ℕ) (i j k v : ℕ) → i < length s → 128 ≤ get_or s i 0
@@ -59,24 +59,24 @@ turn s i j k v h lo =
 
 -- the last byte
 last : (s : List ℕ) (i j k v : ℕ) → i < length s → get_or s i 0 < 128
-    → pending (suc j) k v (drop i s) ≡ some (k, v + get_or s i 0 * 128 ^ k, drop (i + 1) s)
+    → pending (suc j) k v (drop i s) ≡ Some (k, v + get_or s i 0 * 128 ^ k, drop (i + 1) s)
 unfolding pending groups onto
 last s i j k v h lo =
     rw (drop-cons s i 0 h, add-one i)
     (bind-at (onto k v) (pick_yes _ _ _ (yes_ltb {a = get_or s i 0} {b = 128} lo))
-    ∙ ap (λ (x : ℕ). some (x, v + get_or s i 0 * 128 ^ k, drop (suc i) s)) (omega arith))
+    ∙ ap (λ (x : ℕ). Some (x, v + get_or s i 0 * 128 ^ k, drop (suc i) s)) (omega arith))
 
 -- nothing left
-stops : (s : List ℕ) (i j k v : ℕ) → length s ≤ i → pending j k v (drop i s) ≡ none
+stops : (s : List ℕ) (i j k v : ℕ) → length s ≤ i → pending j k v (drop i s) ≡ None
 unfolding pending bind groups
 stops s i j k v h = rw (drop_of_length-le s h) (nil j)
   where
-    nil : (j : ℕ) → bind (groups j []) (onto k v) ≡ none
+    nil : (j : ℕ) → bind (groups j []) (onto k v) ≡ None
     nil zero = refl
     nil (suc j) = refl
 
 -- a tenth byte that says that another follows
-tenth : (s : List ℕ) (i v : ℕ) → i < length s → 128 ≤ get_or s i 0 → pending 1 9 v (drop i s) ≡ none
+tenth : (s : List ℕ) (i v : ℕ) → i < length s → 128 ≤ get_or s i 0 → pending 1 9 v (drop i s) ≡ None
 unfolding pending groups bind
 tenth s i v h lo =
     rw (drop-cons s i 0 h)
@@ -84,33 +84,33 @@ tenth s i v h lo =
 
 -- a number of one byte
 module _ (s : List ℕ) (at : ℕ) (h : at < length s) (lo : get_or s at 0 < 128) where
-  one-group : (k : ℕ) → groups (suc k) (drop at s) ≡ some (0, get_or s at 0, drop (suc at) s)
+  one-group : (k : ℕ) → groups (suc k) (drop at s) ≡ Some (0, get_or s at 0, drop (suc at) s)
   unfolding groups
   one-group k = rw (drop-cons s at 0 h) (pick_yes _ _ _ (yes_ltb {a = get_or s at 0} {b = 128} lo))
 
-  pub uleb-one : Value (get_or s at 0) (cursor (at + 1)) ≡ leb_at uleb s at
+  pub uleb-one : Some (get_or s at 0, cursor (at + 1)) ≡ leb_at uleb s at
   unfolding leb_at uleb as_leb_number unsigned64
   uleb-one = sym (ap (as_leb_number at) (bind-at unsigned64 (one-group 9) ∙ check-yes _ _ (yes_ltb {a = get_or s at 0} {b = 2 ^ 64} (omega arith))))
 
-  pub short-one : Value (get_or s at 0) (cursor (at + 1)) ≡ leb_at short s at
+  pub short-one : Some (get_or s at 0, cursor (at + 1)) ≡ leb_at short s at
   unfolding leb_at short as_leb_number within16
   short-one = sym (ap (as_leb_number at) (bind-at within16 (one-group 2) ∙ check-yes _ _ (yes_ltb {a = get_or s at 0} {b = 2 ^ 16} (omega arith))))
 
   -- as a signed number: bit 6 is the sign
-  pub sleb-one : get_or s at 0 < 64 → Value (get_or s at 0) (cursor (at + 1)) ≡ leb_at sleb s at
+  pub sleb-one : get_or s at 0 < 64 → Some (get_or s at 0, cursor (at + 1)) ≡ leb_at sleb s at
   unfolding leb_at sleb as_leb_number signed64 negative
   sleb-one up =
       sym (ap (as_leb_number at) (bind-at signed64 (one-group 9)
       ∙ pick_no _ _ _ (no_leb {a = 64} {b = get_or s at 0} up)
       ∙ check-yes _ _ (yes_ltb {a = get_or s at 0} {b = 2 ^ 63} (omega arith))))
 
-  pub sleb-one-minus : 64 ≤ get_or s at 0 → Value (2 ^ 64 - 128 + get_or s at 0) (cursor (at + 1)) ≡ leb_at sleb s at
+  pub sleb-one-minus : 64 ≤ get_or s at 0 → Some (2 ^ 64 - 128 + get_or s at 0, cursor (at + 1)) ≡ leb_at sleb s at
   unfolding leb_at sleb as_leb_number signed64 negative
   sleb-one-minus down =
       sym (ap (as_leb_number at) (bind-at signed64 (one-group 9)
       ∙ pick_yes _ _ _ (yes_leb {a = 64} {b = get_or s at 0} down)
       ∙ check-yes _ _ (yes_leb {a = 128} {b = get_or s at 0 + 2 ^ 63} (omega arith)))
-      ∙ ap (λ (v : ℕ). Value v (cursor (at + 1))) (let e : get_or s at 0 + 2 ^ 64 - 128 ≡ 2 ^ 64 - 128 + get_or s at 0 = omega arith in e))
+      ∙ ap (λ (v : ℕ). Some (v, cursor (at + 1))) (let e : get_or s at 0 + 2 ^ 64 - 128 ≡ 2 ^ 64 - 128 + get_or s at 0 = omega arith in e))
 
 -- the loop's invariant: k bytes from `from` on are behind
 pub record Reading (s : List ℕ) (from at low weight k : ℕ) : Type 0 where
@@ -151,35 +151,35 @@ module _ (s : List ℕ) (from at low weight k : ℕ) (r : Reading s from at low 
             ∙ ap (λ x. pending (10 - (k + 1)) (k + 1) (low + (get_or s at 0 - 128) * x) (drop (at + 1) s)) (sym e);
       }
 
-  pub ends-short : length s ≤ at → NoGroups ≡ groups_at s from
+  pub ends-short : length s ≤ at → None ≡ groups_at s from
   unfolding groups_at as_groups
   ends-short h = sym (ap (as_groups from) (r.answer ∙ stops s at (10 - k) k low h))
 
-  found : at < length s → get_or s at 0 < 128 → groups 10 (drop from s) ≡ some (k, low + get_or s at 0 * weight, drop (at + 1) s)
+  found : at < length s → get_or s at 0 < 128 → groups 10 (drop from s) ≡ Some (k, low + get_or s at 0 * weight, drop (at + 1) s)
   found hi lo =
       let j : 10 - k ≡ suc (9 - k) = (let f : k ≤ 9 = r.few in omega arith) in
       r.answer ∙ ap (λ x. pending x k low (drop at s)) j ∙ last s at (9 - k) k low hi lo
-      ∙ ap (λ (x : ℕ). some (k, low + get_or s at 0 * x, drop (at + 1) s)) (sym r.power)
+      ∙ ap (λ (x : ℕ). Some (k, low + get_or s at 0 * x, drop (at + 1) s)) (sym r.power)
 
   -- what was found, in its two parts
   split : (h l : ℕ) → at < length s → get_or s at 0 < 128 → low + get_or s at 0 * weight ≡ l + h * 2 ^ 63 → l < 2 ^ 63
-      → Whole l h weight (cursor (at + 1)) ≡ groups_at s from
+      → whole_groups l h weight (cursor (at + 1)) ≡ groups_at s from
   unfolding groups_at as_groups
   split h l hi lo e hl =
       let v : ℕ = low + get_or s at 0 * weight in
       let e1 : l ≡ v % 2 ^ 63 = omega arith in
       let e2 : h ≡ v / 2 ^ 63 = omega arith in
       let e3 : at + 1 ≡ from + suc k = (let f : at ≡ from + k = r.here in omega arith) in
-      ap (λ x. Whole x h weight (cursor (at + 1))) e1
-      ∙ ap (λ x. Whole (v % 2 ^ 63) x weight (cursor (at + 1))) e2
-      ∙ ap (λ x. Whole (v % 2 ^ 63) (v / 2 ^ 63) x (cursor (at + 1))) r.power
-      ∙ ap (λ x. Whole (v % 2 ^ 63) (v / 2 ^ 63) (128 ^ k) (cursor x)) e3
+      ap (λ x. whole_groups x h weight (cursor (at + 1))) e1
+      ∙ ap (λ x. whole_groups (v % 2 ^ 63) x weight (cursor (at + 1))) e2
+      ∙ ap (λ x. whole_groups (v % 2 ^ 63) (v / 2 ^ 63) x (cursor (at + 1))) r.power
+      ∙ ap (λ x. whole_groups (v % 2 ^ 63) (v / 2 ^ 63) (128 ^ k) (cursor x)) e3
       ∙ sym (ap (as_groups from) (found hi lo))
 
-  pub ends-well : k < 9 → at < length s → get_or s at 0 < 128 → Whole (low + get_or s at 0 * weight) 0 weight (cursor (at + 1)) ≡ groups_at s from
+  pub ends-well : k < 9 → at < length s → get_or s at 0 < 128 → whole_groups (low + get_or s at 0 * weight) 0 weight (cursor (at + 1)) ≡ groups_at s from
   ends-well hk hi lo = split 0 (low + get_or s at 0 * weight) hi lo (omega arith) (room hk (get_or s at 0) lo)
 
-  pub ends-tenth : 9 ≤ k → at < length s → get_or s at 0 < 128 → Whole low (get_or s at 0) weight (cursor (at + 1)) ≡ groups_at s from
+  pub ends-tenth : 9 ≤ k → at < length s → get_or s at 0 < 128 → whole_groups low (get_or s at 0) weight (cursor (at + 1)) ≡ groups_at s from
   ends-tenth hk hi lo =
       let f : k ≤ 9 = r.few in
       let n : k ≡ 9 = omega arith in
@@ -187,7 +187,7 @@ module _ (s : List ℕ) (from at low weight k : ℕ) (r : Reading s from at low 
       let m : low < 2 ^ 63 = subst (λ x. low < 128 ^ x) n r.small in
       split (get_or s at 0) low hi lo (ap (λ x. low + get_or s at 0 * x) w) m
 
-  pub ends-long : 9 ≤ k → at < length s → 128 ≤ get_or s at 0 → NoGroups ≡ groups_at s from
+  pub ends-long : 9 ≤ k → at < length s → 128 ≤ get_or s at 0 → None ≡ groups_at s from
   unfolding groups_at as_groups
   ends-long hk hi lo =
       let f : k ≤ 9 = r.few in
@@ -212,7 +212,7 @@ pub record GroupsFound (s : List ℕ) (at low high weight : ℕ) (next : Cursor)
   pub count : ℕ
   pub value : ℕ
   pub rest : List ℕ
-  pub read : groups 10 (drop at s) ≡ some (count, value, rest)
+  pub read : groups 10 (drop at s) ≡ Some (count, value, rest)
   pub parts : value ≡ low + high * 2 ^ 63
   pub small : low < 2 ^ 63
   pub power : weight ≡ 128 ^ count
@@ -221,14 +221,15 @@ pub record GroupsFound (s : List ℕ) (at low high weight : ℕ) (next : Cursor)
   pub fits : value < 128 ^ suc count
 
 module _ (s : List ℕ) (at low high weight : ℕ) (next : Cursor) (h : Bytes s) where
-  found_in : (o : Option Read) → groups 10 (drop at s) ≡ o → as_groups at o ≡ Whole low high weight next → GroupsFound s at low high weight next
+  found_in : (o : Option Read) → groups 10 (drop at s) ≡ o → as_groups at o ≡ whole_groups low high weight next → GroupsFound s at low high weight next
   unfolding as_groups
-  found_in none e g = let z : ◌≡◌ {A = ℕ} 0 1 = cc in absurd (omega arith)
-  found_in (some t) e g =
-      let e1 : t.1 % 2 ^ 63 ≡ low = cc in
-      let e2 : t.1 / 2 ^ 63 ≡ high = cc in
-      let e3 : 128 ^ t.0 ≡ weight = cc in
-      let e4 : cursor (at + suc t.0) ≡ next = cc in
+  found_in None e g = let z : ◌≡◌ {A = ℕ} 0 1 = cc in absurd (omega arith)
+  found_in (Some t) e g =
+      let made = same_Some _ _ g in
+      let e1 : t.1 % 2 ^ 63 ≡ low = ap (λ x. x.low) made in
+      let e2 : t.1 / 2 ^ 63 ≡ high = ap (λ x. x.high) made in
+      let e3 : 128 ^ t.0 ≡ weight = ap (λ x. x.weight) made in
+      let e4 : cursor (at + suc t.0) ≡ next = ap (λ x. x.next) made in
       let law : GroupsLaw 10 (drop at s) t = all_of (GroupsLaw 10 (drop at s)) (groups-law 10 (drop at s)) e in
       let exact : ExactGroups (drop at s) t = all_of (ExactGroups (drop at s)) (groups-exact 10 (drop at s) (are-bytes (drop at s) (bytes-from s at h))) e in
       record {
@@ -244,46 +245,46 @@ module _ (s : List ℕ) (at low high weight : ℕ) (next : Cursor) (h : Bytes s)
         fits = exact.1;
       }
 
-  pub whole : (r : Groups) → r ≡ groups_at s at → r ≡ Whole low high weight next → GroupsFound s at low high weight next
+  pub whole : (r : Option Groups) → r ≡ groups_at s at → r ≡ whole_groups low high weight next → GroupsFound s at low high weight next
   unfolding groups_at
   whole r e g = found_in (groups 10 (drop at s)) refl (sym e ∙ g)
 
-pub nowhere : (s : List ℕ) (at : ℕ) (r : Groups) → r ≡ groups_at s at → r ≡ NoGroups → groups 10 (drop at s) ≡ none
+pub nowhere : (s : List ℕ) (at : ℕ) (r : Option Groups) → r ≡ groups_at s at → r ≡ None → groups 10 (drop at s) ≡ None
 unfolding groups_at as_groups
 nowhere s at r e g = none_in (groups 10 (drop at s)) (sym e ∙ g)
   where
-    none_in : (o : Option Read) → as_groups at o ≡ NoGroups → o ≡ none
-    none_in none k = refl
-    none_in (some t) k = let z : ◌≡◌ {A = ℕ} 0 1 = cc in absurd (omega arith)
+    none_in : (o : Option Read) → as_groups at o ≡ None → o ≡ None
+    none_in None k = refl
+    none_in (Some t) k = let z : ◌≡◌ {A = ℕ} 0 1 = cc in absurd (omega arith)
 
 -- the answer of a reader
-is_none : (R : List ℕ → Option Read) (s : List ℕ) (at : ℕ) → R (drop at s) ≡ none → Unreadable ≡ leb_at R s at
+is_none : (R : List ℕ → Option Read) (s : List ℕ) (at : ℕ) → R (drop at s) ≡ None → None ≡ leb_at R s at
 unfolding leb_at as_leb_number
 is_none R s at e = sym (ap (as_leb_number at) e)
 
-is_some : (R : List ℕ → Option Read) (s : List ℕ) (at n v : ℕ) (rest : List ℕ) (next : Cursor) → next ≡ cursor (at + suc n) → R (drop at s) ≡ some (n, v, rest)
-    → Value v next ≡ leb_at R s at
+is_some : (R : List ℕ → Option Read) (s : List ℕ) (at n v : ℕ) (rest : List ℕ) (next : Cursor) → next ≡ cursor (at + suc n) → R (drop at s) ≡ Some (n, v, rest)
+    → Some (v, next) ≡ leb_at R s at
 unfolding leb_at as_leb_number
-is_some R s at n v rest next p e = ap (Value v) p ∙ sym (ap (as_leb_number at) e)
+is_some R s at n v rest next p e = ap (λ c. Some (v, c)) p ∙ sym (ap (as_leb_number at) e)
 
 -- no groups, no number
-pub uleb-none : (s : List ℕ) (at : ℕ) (r : Groups) → r ≡ groups_at s at → r ≡ NoGroups → Unreadable ≡ leb_at uleb s at
+pub uleb-none : (s : List ℕ) (at : ℕ) (r : Option Groups) → r ≡ groups_at s at → r ≡ None → None ≡ leb_at uleb s at
 unfolding uleb
 uleb-none s at r e g = is_none uleb s at (bind-none _ (nowhere s at r e g))
 
-pub sleb-none : (s : List ℕ) (at : ℕ) (r : Groups) → r ≡ groups_at s at → r ≡ NoGroups → Unreadable ≡ leb_at sleb s at
+pub sleb-none : (s : List ℕ) (at : ℕ) (r : Option Groups) → r ≡ groups_at s at → r ≡ None → None ≡ leb_at sleb s at
 unfolding sleb
 sleb-none s at r e g = is_none sleb s at (bind-none _ (nowhere s at r e g))
 
 -- at most k bytes are those of more that are at most k
 unfoldable fewer : ℕ → Read → Option Read
-fewer k t = check (ltb t.0 k) (some t)
+fewer k t = check (ltb t.0 k) (Some t)
 
-fewer-yes : (k : ℕ) (t : Read) → t.0 < k → fewer k t ≡ some t
+fewer-yes : (k : ℕ) (t : Read) → t.0 < k → fewer k t ≡ Some t
 unfolding fewer
 fewer-yes k t h = check-yes _ _ (yes_ltb {a = t.0} {b = k} h)
 
-fewer-no : (k : ℕ) (t : Read) → k ≤ t.0 → fewer k t ≡ none
+fewer-no : (k : ℕ) (t : Read) → k ≤ t.0 → fewer k t ≡ None
 unfolding fewer
 fewer-no k t h = check-no _ _ (no_ltb {a = t.0} {b = k} h)
 
@@ -296,10 +297,10 @@ fewer-below k b t =
     (λ u. bind-none (below b) (fewer-no k t (ltb_no u)) ∙ sym (bind-at (fewer (suc k)) refl ∙ fewer-no (suc k) more (let g : k ≤ t.0 = ltb_no u in omega arith)))
     (either (ltb t.0 k))
 
-none-fewer : (o : Option Read) → none ≡ bind o (fewer 0)
+none-fewer : (o : Option Read) → None ≡ bind o (fewer 0)
 unfolding bind
-none-fewer none = refl
-none-fewer (some t) = sym (fewer-no 0 t (omega arith))
+none-fewer None = refl
+none-fewer (Some t) = sym (fewer-no 0 t (omega arith))
 
 groups-fewer : (k m : ℕ) → k ≤ m → (s : List ℕ) → groups k s ≡ bind (groups m s) (fewer k)
 unfolding groups
@@ -318,7 +319,7 @@ groups-fewer (suc k) (suc m) h (b ∷ s) =
     ∙ ap (λ o. bind o (fewer (suc k))) (sym (pick_no _ _ _ u)))
     (either (ltb b 128))
 
-pub short_none : (s : List ℕ) (at : ℕ) (r : Groups) → r ≡ groups_at s at → r ≡ NoGroups → Unreadable ≡ leb_at short s at
+pub short_none : (s : List ℕ) (at : ℕ) (r : Option Groups) → r ≡ groups_at s at → r ≡ None → None ≡ leb_at short s at
 unfolding short
 short_none s at r e g =
     is_none short s at (bind-none within16 (groups-fewer 3 10 (omega arith) (drop at s) ∙ bind-none (fewer 3) (nowhere s at r e g)))
@@ -332,20 +333,20 @@ power-back n m h =
 
 -- the two signs of a signed number, and where it does not fit
 module _ (n v : ℕ) (rest : List ℕ) where
-  signed_up : v < 64 * 128 ^ n → v < 2 ^ 63 → signed64 (n, v, rest) ≡ some (n, v, rest)
+  signed_up : v < 64 * 128 ^ n → v < 2 ^ 63 → signed64 (n, v, rest) ≡ Some (n, v, rest)
   unfolding signed64 negative
   signed_up h k = pick_no _ _ _ (no_leb {a = 64 * 128 ^ n} {b = v} h) ∙ check-yes _ _ (yes_ltb {a = v} {b = 2 ^ 63} k)
 
-  signed-up-no : v < 64 * 128 ^ n → 2 ^ 63 ≤ v → signed64 (n, v, rest) ≡ none
+  signed-up-no : v < 64 * 128 ^ n → 2 ^ 63 ≤ v → signed64 (n, v, rest) ≡ None
   unfolding signed64 negative
   signed-up-no h k = pick_no _ _ _ (no_leb {a = 64 * 128 ^ n} {b = v} h) ∙ check-no _ _ (no_ltb {a = v} {b = 2 ^ 63} k)
 
-  signed-down : 64 * 128 ^ n ≤ v → 128 ^ suc n ≤ v + 2 ^ 63 → signed64 (n, v, rest) ≡ some (n, v + 2 ^ 64 - 128 ^ suc n, rest)
+  signed-down : 64 * 128 ^ n ≤ v → 128 ^ suc n ≤ v + 2 ^ 63 → signed64 (n, v, rest) ≡ Some (n, v + 2 ^ 64 - 128 ^ suc n, rest)
   unfolding signed64 negative
   signed-down h k =
       pick_yes _ _ _ (yes_leb {a = 64 * 128 ^ n} {b = v} h) ∙ check-yes _ _ (yes_leb {a = 128 ^ suc n} {b = v + 2 ^ 63} k)
 
-  signed-down-no : 64 * 128 ^ n ≤ v → v + 2 ^ 63 < 128 ^ suc n → signed64 (n, v, rest) ≡ none
+  signed-down-no : 64 * 128 ^ n ≤ v → v + 2 ^ 63 < 128 ^ suc n → signed64 (n, v, rest) ≡ None
   unfolding signed64 negative
   signed-down-no h k =
       pick_yes _ _ _ (yes_leb {a = 64 * 128 ^ n} {b = v} h) ∙ check-no _ _ (no_leb {a = 128 ^ suc n} {b = v + 2 ^ 63} k)
@@ -353,14 +354,14 @@ module _ (n v : ℕ) (rest : List ℕ) where
 module _ (s : List ℕ) (at low high weight : ℕ) (next : Cursor) (f : GroupsFound s at low high weight next) where
   -- unsigned
 
-  pub uleb-yes : high < 2 → Value (low + high * 2 ^ 63) next ≡ leb_at uleb s at
+  pub uleb-yes : high < 2 → Some (low + high * 2 ^ 63, next) ≡ leb_at uleb s at
   unfolding uleb unsigned64
   uleb-yes h =
       let small : f.value < 2 ^ 64 = omega arith in
       is_some uleb s at f.count (low + high * 2 ^ 63) f.rest next f.past
-      (bind-at _ f.read ∙ check-yes _ _ (yes_ltb {a = f.value} {b = 2 ^ 64} small) ∙ ap (λ (x : ℕ). some (f.count, x, f.rest)) f.parts)
+      (bind-at _ f.read ∙ check-yes _ _ (yes_ltb {a = f.value} {b = 2 ^ 64} small) ∙ ap (λ (x : ℕ). Some (f.count, x, f.rest)) f.parts)
 
-  pub uleb-no : 2 ≤ high → Unreadable ≡ leb_at uleb s at
+  pub uleb-no : 2 ≤ high → None ≡ leb_at uleb s at
   unfolding uleb unsigned64
   uleb-no h =
       let large : 2 ^ 64 ≤ f.value = omega arith in
@@ -368,7 +369,7 @@ module _ (s : List ℕ) (at low high weight : ℕ) (next : Cursor) (f : GroupsFo
 
   -- at most three bytes and 16 bits
 
-  pub short-long : 16384 < weight → Unreadable ≡ leb_at short s at
+  pub short-long : 16384 < weight → None ≡ leb_at short s at
   unfolding short
   short-long h =
       let p : weight ≡ 128 ^ f.count = f.power in
@@ -376,7 +377,7 @@ module _ (s : List ℕ) (at low high weight : ℕ) (next : Cursor) (f : GroupsFo
       is_none short s at
       (bind-none within16 (groups-fewer 3 10 (omega arith) (drop at s) ∙ bind-at (fewer 3) f.read ∙ fewer-no 3 (f.count, f.value, f.rest) (omega arith)))
 
-  three : weight ≤ 16384 → (groups 3 (drop at s) ≡ some (f.count, f.value, f.rest)) × (f.value ≡ low)
+  three : weight ≤ 16384 → (groups 3 (drop at s) ≡ Some (f.count, f.value, f.rest)) × (f.value ≡ low)
   three h =
       let p : weight ≡ 128 ^ f.count = f.power in
       let n : f.count < 3 = power-back f.count 3 (omega arith) in
@@ -385,14 +386,14 @@ module _ (s : List ℕ) (at low high weight : ℕ) (next : Cursor) (f : GroupsFo
       let v : f.value < 128 ^ suc f.count = f.fits in
       (groups-fewer 3 10 (omega arith) (drop at s) ∙ bind-at (fewer 3) f.read ∙ fewer-yes 3 (f.count, f.value, f.rest) n, omega arith)
 
-  pub short-yes : weight ≤ 16384 → low < 65536 → Value low next ≡ leb_at short s at
+  pub short-yes : weight ≤ 16384 → low < 65536 → Some (low, next) ≡ leb_at short s at
   unfolding short within16
   short-yes h k =
       let e : f.value ≡ low = (three h).1 in
       is_some short s at f.count low f.rest next f.past
-      (bind-at _ (three h).0 ∙ check-yes _ _ (yes_ltb {a = f.value} {b = 2 ^ 16} (omega arith)) ∙ ap (λ (x : ℕ). some (f.count, x, f.rest)) e)
+      (bind-at _ (three h).0 ∙ check-yes _ _ (yes_ltb {a = f.value} {b = 2 ^ 16} (omega arith)) ∙ ap (λ (x : ℕ). Some (f.count, x, f.rest)) e)
 
-  pub short-no : weight ≤ 16384 → 65536 ≤ low → Unreadable ≡ leb_at short s at
+  pub short-no : weight ≤ 16384 → 65536 ≤ low → None ≡ leb_at short s at
   unfolding short within16
   short-no h k =
       let e : f.value ≡ low = (three h).1 in
@@ -415,30 +416,30 @@ module _ (s : List ℕ) (at low high weight : ℕ) (next : Cursor) (f : GroupsFo
     past-ten : next ≡ cursor (at + suc 9)
     past-ten = f.past ∙ ap (λ x. cursor (at + suc x)) nine
 
-    pub sleb-up : high ≡ 0 → Value low next ≡ leb_at sleb s at
+    pub sleb-up : high ≡ 0 → Some (low, next) ≡ leb_at sleb s at
     sleb-up h =
         let e : f.value ≡ low = (let p : f.value ≡ low + high * 2 ^ 63 = f.parts in omega arith) in
         is_some sleb s at 9 low f.rest next past-ten
-        (signed_of _ (signed_up 9 f.value f.rest (omega arith) (omega arith) ∙ ap (λ (x : ℕ). some (9, x, f.rest)) e))
+        (signed_of _ (signed_up 9 f.value f.rest (omega arith) (omega arith) ∙ ap (λ (x : ℕ). Some (9, x, f.rest)) e))
 
-    pub sleb-down : high ≡ 127 → Value (low + 2 ^ 63) next ≡ leb_at sleb s at
+    pub sleb-down : high ≡ 127 → Some (low + 2 ^ 63, next) ≡ leb_at sleb s at
     sleb-down h =
         let e : f.value + 2 ^ 64 - 128 ^ 10 ≡ low + 2 ^ 63 = omega arith in
         is_some sleb s at 9 (low + 2 ^ 63) f.rest next past-ten
-        (signed_of _ (signed-down 9 f.value f.rest (omega arith) (omega arith) ∙ ap (λ (x : ℕ). some (9, x, f.rest)) e))
+        (signed_of _ (signed-down 9 f.value f.rest (omega arith) (omega arith) ∙ ap (λ (x : ℕ). Some (9, x, f.rest)) e))
 
-    pub sleb-no : (high ≡ 0 → ⊥) → (high ≡ 127 → ⊥) → Unreadable ≡ leb_at sleb s at
+    pub sleb-no : (high ≡ 0 → ⊥) → (high ≡ 127 → ⊥) → None ≡ leb_at sleb s at
     sleb-no h k =
         let v : f.value < 128 ^ 10 = subst (λ x. f.value < 128 ^ suc x) nine f.fits in
         ⊎_elim
         (λ u.
         let l : high < 64 = ltb_yes u in
         let z : 0 < high = ⊎_elim (λ w. ltb_yes w) (λ w. absurd (h (let g : high ≤ 0 = ltb_no w in omega arith))) (either (ltb 0 high)) in
-        is_none sleb s at (signed_of none (signed-up-no 9 f.value f.rest (omega arith) (omega arith))))
+        is_none sleb s at (signed_of None (signed-up-no 9 f.value f.rest (omega arith) (omega arith))))
         (λ u.
         let l : 64 ≤ high = ltb_no u in
         let z : high < 127 = ⊎_elim (λ w. ltb_yes w) (λ w. absurd (k (let g : 127 ≤ high = ltb_no w in omega arith))) (either (ltb high 127)) in
-        is_none sleb s at (signed_of none (signed-down-no 9 f.value f.rest (omega arith) (omega arith))))
+        is_none sleb s at (signed_of None (signed-down-no 9 f.value f.rest (omega arith) (omega arith))))
         (either (ltb high 64))
 
   -- signed, in fewer
@@ -460,66 +461,66 @@ module _ (s : List ℕ) (at low high weight : ℕ) (next : Cursor) (f : GroupsFo
         let v : f.value < 128 ^ suc f.count = f.fits in
         (omega arith, omega arith, omega arith, omega arith)
 
-    pub sleb-plus : low < 64 * weight → Value low next ≡ leb_at sleb s at
+    pub sleb-plus : low < 64 * weight → Some (low, next) ≡ leb_at sleb s at
     unfolding sleb
     sleb-plus h =
         let l = light in
         let p : weight ≡ 128 ^ f.count = f.power in
         is_some sleb s at f.count low f.rest next f.past
-        (bind-at signed64 f.read ∙ signed_up f.count f.value f.rest (omega arith) (omega arith) ∙ ap (λ (x : ℕ). some (f.count, x, f.rest)) l.2)
+        (bind-at signed64 f.read ∙ signed_up f.count f.value f.rest (omega arith) (omega arith) ∙ ap (λ (x : ℕ). Some (f.count, x, f.rest)) l.2)
 
-    pub sleb-minus : 64 * weight ≤ low → Value (2 ^ 64 - 1 - 128 * weight + 1 + low) next ≡ leb_at sleb s at
+    pub sleb-minus : 64 * weight ≤ low → Some (2 ^ 64 - 1 - 128 * weight + 1 + low, next) ≡ leb_at sleb s at
     unfolding sleb
     sleb-minus h =
         let l = light in
         let p : weight ≡ 128 ^ f.count = f.power in
         let e : f.value + 2 ^ 64 - 128 ^ suc f.count ≡ 2 ^ 64 - 1 - 128 * weight + 1 + low = omega arith in
         is_some sleb s at f.count (2 ^ 64 - 1 - 128 * weight + 1 + low) f.rest next f.past
-        (bind-at signed64 f.read ∙ signed-down f.count f.value f.rest (omega arith) (omega arith) ∙ ap (λ (x : ℕ). some (f.count, x, f.rest)) e)
+        (bind-at signed64 f.read ∙ signed-down f.count f.value f.rest (omega arith) (omega arith) ∙ ap (λ (x : ℕ). Some (f.count, x, f.rest)) e)
 
 -- ---- what an answer says of the number that was read
 
 pub record Got (R : List ℕ → Option Read) (s : List ℕ) (at v : ℕ) (next : Cursor) : Type 0 where
   pub count : ℕ
   pub rest : List ℕ
-  pub read : R (drop at s) ≡ some (count, v, rest)
+  pub read : R (drop at s) ≡ Some (count, v, rest)
   pub past : next.at ≡ at + suc count
 
-pub leb-got : (R : List ℕ → Option Read) (s : List ℕ) (at v : ℕ) (next : Cursor) → leb_at R s at ≡ Value v next → Got R s at v next
+pub leb-got : (R : List ℕ → Option Read) (s : List ℕ) (at v : ℕ) (next : Cursor) → leb_at R s at ≡ Some (v, next) → Got R s at v next
 unfolding leb_at as_leb_number
 leb-got R s at v next g = got (R (drop at s)) refl g
   where
-    got : (o : Option Read) → R (drop at s) ≡ o → as_leb_number at o ≡ Value v next → Got R s at v next
-    got none e k = let z : ◌≡◌ {A = ℕ} 0 1 = cc in absurd (omega arith)
-    got (some t) e k =
-        let e1 : t.1 ≡ v = cc in
-        let e2 : cursor (at + suc t.0) ≡ next = cc in
-        record { count = t.0; rest = t.2; read = e ∙ ap (λ (x : ℕ). some (t.0, x, t.2)) e1; past = ap (λ (x : Cursor). x.at) (sym e2) }
+    got : (o : Option Read) → R (drop at s) ≡ o → as_leb_number at o ≡ Some (v, next) → Got R s at v next
+    got None e k = let z : ◌≡◌ {A = ℕ} 0 1 = cc in absurd (omega arith)
+    got (Some t) e k =
+        let e1 : t.1 ≡ v = (some_pair_parts _ _ _ _ k).0 in
+        let e2 : cursor (at + suc t.0) ≡ next = (some_pair_parts _ _ _ _ k).1 in
+        record { count = t.0; rest = t.2; read = e ∙ ap (λ (x : ℕ). Some (t.0, x, t.2)) e1; past = ap (λ (x : Cursor). x.at) (sym e2) }
 
-pub leb-nothing : (R : List ℕ → Option Read) (s : List ℕ) (at : ℕ) → leb_at R s at ≡ Unreadable → R (drop at s) ≡ none
+pub leb-nothing : (R : List ℕ → Option Read) (s : List ℕ) (at : ℕ) → leb_at R s at ≡ None → R (drop at s) ≡ None
 unfolding leb_at as_leb_number
 leb-nothing R s at g = nothing (R (drop at s)) g
   where
-    nothing : (o : Option Read) → as_leb_number at o ≡ Unreadable → o ≡ none
-    nothing none k = refl
-    nothing (some t) k = let z : ◌≡◌ {A = ℕ} 0 1 = cc in absurd (omega arith)
+    nothing : (o : Option Read) → as_leb_number at o ≡ None → o ≡ None
+    nothing None k = refl
+    nothing (Some t) k = let z : ◌≡◌ {A = ℕ} 0 1 = cc in absurd (omega arith)
 
 -- a number that was read takes bytes, and they are there
 pub leb-inside : (R : List ℕ → Option Read) → ((s : List ℕ) → All (LebLaw R s) (R s))
-    → (s : List ℕ) (at v : ℕ) (next : Cursor) → leb_at R s at ≡ Value v next → (at < next.at) × (next.at ≤ length s)
+    → (s : List ℕ) (at v : ℕ) (next : Cursor) → leb_at R s at ≡ Some (v, next) → (at < next.at) × (next.at ≤ length s)
 leb-inside R law s at v next g =
     let f : Got R s at v next = leb-got R s at v next g in
     let q : LebLaw R (drop at s) (f.count, v, f.rest) = all_of (LebLaw R (drop at s)) (law (drop at s)) f.read in
     let l : suc f.count ≤ length (drop at s) = q.0.0 in
     (omega arith, omega (arith, length-drop at s))
 
-pub uleb-inside : (s : List ℕ) (at v : ℕ) (next : Cursor) → leb_at uleb s at ≡ Value v next → (at < next.at) × (next.at ≤ length s)
+pub uleb-inside : (s : List ℕ) (at v : ℕ) (next : Cursor) → leb_at uleb s at ≡ Some (v, next) → (at < next.at) × (next.at ≤ length s)
 uleb-inside = leb-inside uleb uleb-law
 
-pub sleb-inside : (s : List ℕ) (at v : ℕ) (next : Cursor) → leb_at sleb s at ≡ Value v next → (at < next.at) × (next.at ≤ length s)
+pub sleb-inside : (s : List ℕ) (at v : ℕ) (next : Cursor) → leb_at sleb s at ≡ Some (v, next) → (at < next.at) × (next.at ≤ length s)
 sleb-inside = leb-inside sleb sleb-law
 
-pub short-inside : (s : List ℕ) (at v : ℕ) (next : Cursor) → leb_at short s at ≡ Value v next → (at < next.at) × (next.at ≤ length s)
+pub short-inside : (s : List ℕ) (at v : ℕ) (next : Cursor) → leb_at short s at ≡ Some (v, next) → (at < next.at) × (next.at ≤ length s)
 short-inside = leb-inside short short-law
 
 -- ---- the form numbers of DW_FORM_indirect
@@ -527,11 +528,11 @@ short-inside = leb-inside short short-law
 -- past the first, the answer is that of the others
 forms-shift : (at n v : ℕ) (rest : List ℕ) (o : Option (ℕ × ℕ)) → as_form_number at (bind o (after_form (n, v, rest))) ≡ as_form_number (at + suc n) o
 unfolding as_form_number bind after_form
-forms-shift at n v rest none = refl
-forms-shift at n v rest (some r) = ap (λ x. Value r.1 (cursor x)) (omega arith)
+forms-shift at n v rest None = refl
+forms-shift at n v rest (Some r) = ap (λ x. Some (r.1, cursor x)) (omega arith)
 
 module _ (s : List ℕ) (at v : ℕ) (next : Cursor) where
-  pub forms-more : leb_at short s at ≡ Value v next → v ≡ 0x16 → forms_at s at ≡ forms_at s next.at
+  pub forms-more : leb_at short s at ≡ Some (v, next) → v ≡ 0x16 → forms_at s at ≡ forms_at s next.at
   unfolding forms_at
   forms-more g e =
       let f : Got short s at v next = leb-got short s at v next g in
@@ -541,14 +542,14 @@ module _ (s : List ℕ) (at v : ℕ) (next : Cursor) where
       ∙ forms-shift at f.count v f.rest (forms_in f.rest)
       ∙ ap₂ (λ (x : ℕ) (y : List ℕ). as_form_number x (forms_in y)) (sym f.past) there
 
-  pub forms-last : leb_at short s at ≡ Value v next → (v ≡ 0x16 → ⊥) → Value v next ≡ forms_at s at
+  pub forms-last : leb_at short s at ≡ Some (v, next) → (v ≡ 0x16 → ⊥) → Some (v, next) ≡ forms_at s at
   unfolding forms_at as_form_number
   forms-last g e =
       let f : Got short s at v next = leb-got short s at v next g in
       let c : next ≡ cursor (at + suc f.count) = ap cursor f.past in
-      ap (Value v) c ∙ sym (ap (as_form_number at) (forms-step (drop at s) ∙ bind-at _ f.read ∙ pick_no _ _ _ (no_eqb e)))
+      ap (λ c. Some (v, c)) c ∙ sym (ap (as_form_number at) (forms-step (drop at s) ∙ bind-at _ f.read ∙ pick_no _ _ _ (no_eqb e)))
 
-pub forms-none : (s : List ℕ) (at : ℕ) → leb_at short s at ≡ Unreadable → Unreadable ≡ forms_at s at
+pub forms-none : (s : List ℕ) (at : ℕ) → leb_at short s at ≡ None → None ≡ forms_at s at
 unfolding forms_at as_form_number
 forms-none s at g = sym (ap (as_form_number at) (forms-step (drop at s) ∙ bind-none _ (leb-nothing short s at g)))
 
@@ -561,14 +562,14 @@ forms-some s =
     (λ u. all-bind _ _ (forms_in t.2) _ (all-triv (forms_in t.2)) (λ r e' _. all-some (λ (r : ℕ × ℕ). 0 < r.0) (omega arith)))
     (λ u. all-some (λ (r : ℕ × ℕ). 0 < r.0) (omega arith))))
 
-pub forms-inside : (s : List ℕ) (at v : ℕ) (next : Cursor) → forms_at s at ≡ Value v next → (at < next.at) × (next.at ≤ length s)
+pub forms-inside : (s : List ℕ) (at v : ℕ) (next : Cursor) → forms_at s at ≡ Some (v, next) → (at < next.at) × (next.at ≤ length s)
 unfolding forms_at as_form_number
 forms-inside s at v next g = inside (forms_in (drop at s)) refl g
   where
-    inside : (o : Option (ℕ × ℕ)) → forms_in (drop at s) ≡ o → as_form_number at o ≡ Value v next → (at < next.at) × (next.at ≤ length s)
-    inside none e k = let z : ◌≡◌ {A = ℕ} 0 1 = cc in absurd (omega arith)
-    inside (some r) e k =
-        let c : cursor (at + r.0) ≡ next = cc in
+    inside : (o : Option (ℕ × ℕ)) → forms_in (drop at s) ≡ o → as_form_number at o ≡ Some (v, next) → (at < next.at) × (next.at ≤ length s)
+    inside None e k = let z : ◌≡◌ {A = ℕ} 0 1 = cc in absurd (omega arith)
+    inside (Some r) e k =
+        let c : cursor (at + r.0) ≡ next = (some_pair_parts _ _ _ _ k).1 in
         let p : at + r.0 ≡ next.at = ap (λ (x : Cursor). x.at) c in
         let l : r.0 ≤ length (drop at s) = (all_of (FormsLaw (drop at s)) (forms-law (drop at s)) e).0 in
         let z : 0 < r.0 = all_of (λ (r : ℕ × ℕ). 0 < r.0) (forms-some (drop at s)) e in

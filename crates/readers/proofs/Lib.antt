@@ -29,5 +29,6 @@ pub mod Choice
 pub mod Examples
 pub mod Expression
 pub mod Numbers
+pub mod Refusing
 pub mod Scan
 pub mod LayoutLaws

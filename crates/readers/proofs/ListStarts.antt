@@ -15,16 +15,14 @@ use Rattle.readers.specs.Cursors.{cursor, fixed_at}
 use Rattle.readers.specs.Lists.{list_start, from_base, list_offset}
 use Rattle.readers.specs.declared.cursor.Cursor.{Cursor}
 use Rattle.readers.specs.declared.cursor.Encoding.{Encoding}
-use Rattle.readers.specs.declared.cursor.Number.{Number}
-use Rattle.readers.specs.declared.cursor.Number.TheVariants.{Value, Unreadable}
-use Rattle.readers.specs.declared.lists.ListOffset.TheVariants.{At, Unresolved}
+use Rattle.std.specs.Prelude.{None, Option, Some}
 use Rattle.readers.proofs.Widths.{fixed-is, fixed-short}
 
-pub start-past : (s : List ℕ) (offset : ℕ) → length s < offset → list_start s offset ≡ Unresolved
+pub start-past : (s : List ℕ) (offset : ℕ) → length s < offset → list_start s offset ≡ None
 unfolding list_start
 start-past s offset h = pick_no _ _ _ (no_leb {a = offset} {b = length s} h)
 
-pub start-inside : (s : List ℕ) (offset : ℕ) → offset ≤ length s → list_start s offset ≡ At (cursor offset)
+pub start-inside : (s : List ℕ) (offset : ℕ) → offset ≤ length s → list_start s offset ≡ Some (cursor offset)
 unfolding list_start
 start-inside s offset h = pick_yes _ _ _ (yes_leb {a = offset} {b = length s} h)
 
@@ -43,28 +41,28 @@ unfolding fixed_value little_value ordered
 no_bytes true l = refl
 no_bytes false l = refl
 
-no-width : (big : Bool) (w : ℕ) (s : List ℕ) (at : ℕ) → w ≡ 0 → fixed_at big w s at ≡ Value 0 (cursor (at + w))
+no-width : (big : Bool) (w : ℕ) (s : List ℕ) (at : ℕ) → w ≡ 0 → fixed_at big w s at ≡ Some (0, cursor (at + w))
 no-width big w s at z =
     fixed-is big w s at (omega arith) (omega arith)
-    ∙ ap (λ v. Value v (cursor (at + w))) (ap (λ n. fixed_value big (take n (drop at s))) z ∙ no_bytes big (drop at s))
+    ∙ ap (λ v. Some (v, cursor (at + w))) (ap (λ n. fixed_value big (take n (drop at s))) z ∙ no_bytes big (drop at s))
 
 module _ (e : Encoding) (s : List ℕ) (base index : ℕ) where
   abbrev place : ℕ
   place = base + index * e.offset_size
 
-  abbrev read : Number
+  abbrev read : Option (ℕ × Cursor)
   read = fixed_at e.big_endian e.offset_size s place
 
-  pub unread : read ≡ Unreadable → list_offset e s base index ≡ Unresolved
+  pub unread : read ≡ None → list_offset e s base index ≡ None
   unfolding list_offset from_base
   unread q = ap (from_base s base) q
 
-  pub was_read : (v : ℕ) (c : Cursor) → read ≡ Value v c → list_offset e s base index ≡ list_start s (base + v)
+  pub was_read : (v : ℕ) (c : Cursor) → read ≡ Some (v, c) → list_offset e s base index ≡ list_start s (base + v)
   unfolding list_offset from_base
   was_read v c q = ap (from_base s base) q
 
   -- an entry past the end
-  pub past : length s < place → 0 < e.offset_size → list_offset e s base index ≡ Unresolved
+  pub past : length s < place → 0 < e.offset_size → list_offset e s base index ≡ None
   past h p = unread (fixed-short e.big_endian e.offset_size s place (omega arith))
 
   pub no_size : e.offset_size ≡ 0 → list_offset e s base index ≡ list_start s base
@@ -72,7 +70,7 @@ module _ (e : Encoding) (s : List ℕ) (base index : ℕ) where
       was_read 0 _ (no-width e.big_endian e.offset_size s place z) ∙ ap (list_start s) (let q : base + 0 ≡ base = omega arith in q)
 
   -- a base past the end
-  pub base-past : length s < base → list_offset e s base index ≡ Unresolved
+  pub base-past : length s < base → list_offset e s base index ≡ None
   base-past h =
       ⊎_elim
       (λ t. no_size (eqb_yes {a = e.offset_size} {b = 0} t) ∙ start-past s base h)

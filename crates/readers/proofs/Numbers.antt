@@ -2,7 +2,7 @@
 use mathlib.Core.Path.{◌≡◌, refl, ap, ap₂, sym, ◌∙◌}
 use Prim.Native.Nat.{ℕ, zero, suc, ◌+◌, ◌*◌, ◌-◌, ◌^◌, ◌/◌, ◌%◌, ◌≤◌, ◌<◌}
 use mathlib.Core.Bool.{Bool, true, false}
-use mathlib.Core.Option.{some}
+use Rattle.std.specs.Prelude.{Some}
 use mathlib.Core.List.{List, [], ◌∷◌, ◌++◌, reverse, reverse-reverse, reverse-cons}
 use native.Mathlib.Omega.{arith}
 use lib.ListN.{length, take, drop, length-reverse}
@@ -18,21 +18,21 @@ length-padded zero v = refl
 length-padded (suc n) v = ap suc (length-padded n (v / 128))
 
 -- what is written is read again, whatever follows
-pub groups-padded : (k n v : ℕ) (rest : List ℕ) → n < k → v < 128 ^ suc n → groups k (padded n v ++ rest) ≡ some (n, v, rest)
+pub groups-padded : (k n v : ℕ) (rest : List ℕ) → n < k → v < 128 ^ suc n → groups k (padded n v ++ rest) ≡ Some (n, v, rest)
 unfolding padded groups below
 groups-padded zero n v rest hk hv = absurd (omega arith)
 groups-padded (suc k) zero v rest hk hv = pick_yes _ _ _ (lt→ltb v 128 hv)
 groups-padded (suc k) (suc n) v rest hk hv =
     pick_no _ _ _ (no_ltb {a = 128 + v % 128} {b = 128} (omega arith))
     ∙ bind-at (below (128 + v % 128)) (groups-padded k n (v / 128) rest (omega arith) (omega arith))
-    ∙ ap (λ (x : ℕ). some (suc n, x, rest)) (omega arith)
+    ∙ ap (λ (x : ℕ). Some (suc n, x, rest)) (omega arith)
 
 -- what a number that was read says of the bytes before it: it took suc t.0 of them, and these, before anything
 -- else, are read so again
 abbrev pub GroupsLaw : ℕ → List ℕ → Groups → Type 0
 GroupsLaw k s t =
     (t.0 < k) × (suc t.0 ≤ length s) × (t.2 ≡ drop (suc t.0) s)
-    × ((rest : List ℕ) → groups k (take (suc t.0) s ++ rest) ≡ some (t.0, t.1, rest))
+    × ((rest : List ℕ) → groups k (take (suc t.0) s ++ rest) ≡ Some (t.0, t.1, rest))
 
 pub groups-law : (k : ℕ) (s : List ℕ) → All (GroupsLaw k s) (groups k s)
 unfolding groups below

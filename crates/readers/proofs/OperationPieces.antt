@@ -20,8 +20,8 @@ use Rattle.readers.specs.References.{Named, name_in, names_in, is_absolute, any_
 use Rattle.readers.specs.declared.cursor.Encoding.{Encoding}
 use Rattle.readers.specs.declared.cursor.Cursor.{Cursor}
 use Rattle.readers.specs.declared.fields.Field.{Field}
-use Rattle.readers.specs.declared.expressions.Yield.{Yield}
-use Rattle.readers.specs.declared.expressions.Yield.TheVariants.{Reference as Yielded, End}
+use Rattle.std.specs.Prelude.{None, Option, Some}
+use Rattle.readers.specs.declared.expressions.Reference.{Reference}
 use Rattle.readers.proofs.OperationReads.{token1, token2, token3}
 
 -- ---- names and section offsets of pieces in a row
@@ -204,15 +204,15 @@ pub row_below : (c : ℕ) → operation_row c < 23
 unfolding operation_row operations rows_below ◌and◌
 row_below c = below-among 23 operations c (omega arith) tt
 
-pick-names : (b : Bool) (y : Yield) → pick b [] (names_of y) ≡ names_of (pick b End y)
+pick-names : (b : Bool) (y : Option Reference) → pick b [] (names_of y) ≡ names_of (pick b None y)
 unfolding pick names_of
 pick-names true y = refl
 pick-names false y = refl
 
 -- a reference's width is that of how its operand is written
-unfoldable pub Wide : Yield → Type 0
-Wide (Yielded r) = width (encoded_by r.leb r.width) ≡ r.width
-Wide End = Unit {0}
+unfoldable pub Wide : Option Reference → Type 0
+Wide (Some r) = width (encoded_by r.leb r.width) ≡ r.width
+Wide None = Unit {0}
 
 wide_type : (f : Field) (c : Cursor) → width (encoded_by true (f.end - f.start)) ≡ f.end - f.start → Wide (named_type f c)
 unfolding named_type named Wide

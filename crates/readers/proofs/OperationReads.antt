@@ -2,7 +2,7 @@
 use mathlib.Core.Path.{◌≡◌, refl, ap, sym, ◌∙◌, subst}
 use Prim.Native.Nat.{ℕ, suc, ◌+◌, ◌≤◌, ◌<◌}
 use mathlib.Core.Bool.{Bool}
-use mathlib.Core.Option.{Option, none, some}
+use Rattle.std.specs.Prelude.{None, Option, Some}
 use mathlib.Core.List.{List, [], ◌∷◌, ◌++◌}
 use native.Mathlib.Omega.{arith}
 use lib.ListN.{length, take, drop, length-append, length-drop}
@@ -21,8 +21,6 @@ use Rattle.readers.specs.Fields.{size, field_of, row_of_reads}
 use Rattle.readers.specs.Steps.{row_operation, operation_of_reads, as_operation, operation_at}
 use Rattle.readers.specs.declared.cursor.Encoding.{Encoding}
 use Rattle.readers.specs.declared.operations.Operation.{Operation}
-use Rattle.readers.specs.declared.operations.OperationRead.{OperationRead}
-use Rattle.readers.specs.declared.operations.OperationRead.TheVariants.{Read as Operation', Unreadable as NoOperation}
 
 -- the tokens of a row
 abbrev pub token1 : Encoding → ℕ → Token
@@ -39,7 +37,7 @@ module _ (e : Encoding) where
   big = e.big_endian
 
   -- the operation at a place, of the bytes from there on
-  abbrev pub operation_in : List ℕ → ℕ → OperationRead
+  abbrev pub operation_in : List ℕ → ℕ → Option Operation
   operation_in x at = as_operation big at (read_in big as_bytes (operation e) x)
 
   abbrev pub made_of : ℕ → Read → Read → Read → Read → Operation
@@ -61,62 +59,62 @@ module _ (e : Encoding) where
     pub x2 : List ℕ
     pub x3 : List ℕ
     pub rest : List ℕ
-    pub code : token_in big as_bytes (number (fixed 1)) x ≡ some (c, x1)
-    pub first : token_in big as_bytes (token1 e (operation_row c.seen)) x1 ≡ some (a, x2)
-    pub second : token_in big as_bytes (token2 e (operation_row c.seen)) x2 ≡ some (b, x3)
-    pub third : token_in big as_bytes (token3 e (operation_row c.seen)) x3 ≡ some (d, rest)
+    pub code : token_in big as_bytes (number (fixed 1)) x ≡ Some (c, x1)
+    pub first : token_in big as_bytes (token1 e (operation_row c.seen)) x1 ≡ Some (a, x2)
+    pub second : token_in big as_bytes (token2 e (operation_row c.seen)) x2 ≡ Some (b, x3)
+    pub third : token_in big as_bytes (token3 e (operation_row c.seen)) x3 ≡ Some (d, rest)
     pub made : op ≡ made_of at c a b d
 
-  unfoldable pub Cases : List ℕ → ℕ → OperationRead → Type 0
-  Cases x at (Operation' op) = OperationHeld x at op
-  Cases x at NoOperation = read_in big as_bytes (operation e) x ≡ none
+  unfoldable pub Cases : List ℕ → ℕ → Option Operation → Type 0
+  Cases x at (Some op) = OperationHeld x at op
+  Cases x at None = read_in big as_bytes (operation e) x ≡ None
 
   -- the reader, token by token
   pub read-four : (ex : ExpressionReader) (x : List ℕ) (c a b d : Read) (x1 x2 x3 rest : List ℕ)
-      → token_in big ex (number (fixed 1)) x ≡ some (c, x1)
-      → token_in big ex (token1 e (operation_row c.seen)) x1 ≡ some (a, x2)
-      → token_in big ex (token2 e (operation_row c.seen)) x2 ≡ some (b, x3)
-      → token_in big ex (token3 e (operation_row c.seen)) x3 ≡ some (d, rest)
-      → read_in big ex (operation e) x ≡ some (c ∷ a ∷ b ∷ d ∷ [], rest)
+      → token_in big ex (number (fixed 1)) x ≡ Some (c, x1)
+      → token_in big ex (token1 e (operation_row c.seen)) x1 ≡ Some (a, x2)
+      → token_in big ex (token2 e (operation_row c.seen)) x2 ≡ Some (b, x3)
+      → token_in big ex (token3 e (operation_row c.seen)) x3 ≡ Some (d, rest)
+      → read_in big ex (operation e) x ≡ Some (c ∷ a ∷ b ∷ d ∷ [], rest)
   unfolding operation row_layout read_in before bind
   read-four ex x c a b d x1 x2 x3 rest p0 p1 p2 p3 =
       bind-at _ p0 ∙ bind-at _ (bind-at _ p1 ∙ bind-at _ (bind-at _ p2 ∙ bind-at _ (bind-at _ p3)))
 
-  none-case : (x : List ℕ) (at : ℕ) → read_in big as_bytes (operation e) x ≡ none → Cases x at (operation_in x at)
+  none-case : (x : List ℕ) (at : ℕ) → read_in big as_bytes (operation e) x ≡ None → Cases x at (operation_in x at)
   unfolding Cases as_operation
   none-case x at q = subst (λ o. Cases x at (as_operation big at o)) (sym q) q
 
   module _ (x : List ℕ) (at : ℕ) where
     case3 : (c a b : Read) (x1 x2 x3 : List ℕ)
-        → token_in big as_bytes (number (fixed 1)) x ≡ some (c, x1)
-        → token_in big as_bytes (token1 e (operation_row c.seen)) x1 ≡ some (a, x2)
-        → token_in big as_bytes (token2 e (operation_row c.seen)) x2 ≡ some (b, x3)
+        → token_in big as_bytes (number (fixed 1)) x ≡ Some (c, x1)
+        → token_in big as_bytes (token1 e (operation_row c.seen)) x1 ≡ Some (a, x2)
+        → token_in big as_bytes (token2 e (operation_row c.seen)) x2 ≡ Some (b, x3)
         → (o : Option ReadOf) → token_in big as_bytes (token3 e (operation_row c.seen)) x3 ≡ o → Cases x at (operation_in x at)
     unfolding Cases as_operation operation_of_reads row_of_reads row_operation field_of operation row_layout read_in
-    case3 c a b x1 x2 x3 p0 p1 p2 none p3 = none-case x at (bind-at _ p0 ∙ bind-none _ (bind-at _ p1 ∙ bind-none _ (bind-at _ p2 ∙ bind-none _ (bind-none _ p3))))
-    case3 c a b x1 x2 x3 p0 p1 p2 (some d) p3 =
+    case3 c a b x1 x2 x3 p0 p1 p2 None p3 = none-case x at (bind-at _ p0 ∙ bind-none _ (bind-at _ p1 ∙ bind-none _ (bind-at _ p2 ∙ bind-none _ (bind-none _ p3))))
+    case3 c a b x1 x2 x3 p0 p1 p2 (Some d) p3 =
         subst (λ o. Cases x at (as_operation big at o)) (sym (read-four as_bytes x c a b d.0 x1 x2 x3 d.1 p0 p1 p2 p3))
         (record { c = c; a = a; b = b; d = d.0; x1 = x1; x2 = x2; x3 = x3; rest = d.1; code = p0; first = p1; second = p2; third = p3; made = refl })
 
     case2 : (c a : Read) (x1 x2 : List ℕ)
-        → token_in big as_bytes (number (fixed 1)) x ≡ some (c, x1)
-        → token_in big as_bytes (token1 e (operation_row c.seen)) x1 ≡ some (a, x2)
+        → token_in big as_bytes (number (fixed 1)) x ≡ Some (c, x1)
+        → token_in big as_bytes (token1 e (operation_row c.seen)) x1 ≡ Some (a, x2)
         → (o : Option ReadOf) → token_in big as_bytes (token2 e (operation_row c.seen)) x2 ≡ o → Cases x at (operation_in x at)
     unfolding operation row_layout read_in
-    case2 c a x1 x2 p0 p1 none p2 = none-case x at (bind-at _ p0 ∙ bind-none _ (bind-at _ p1 ∙ bind-none _ (bind-none _ p2)))
-    case2 c a x1 x2 p0 p1 (some b) p2 = case3 c a b.0 x1 x2 b.1 p0 p1 p2 _ refl
+    case2 c a x1 x2 p0 p1 None p2 = none-case x at (bind-at _ p0 ∙ bind-none _ (bind-at _ p1 ∙ bind-none _ (bind-none _ p2)))
+    case2 c a x1 x2 p0 p1 (Some b) p2 = case3 c a b.0 x1 x2 b.1 p0 p1 p2 _ refl
 
     case1 : (c : Read) (x1 : List ℕ)
-        → token_in big as_bytes (number (fixed 1)) x ≡ some (c, x1)
+        → token_in big as_bytes (number (fixed 1)) x ≡ Some (c, x1)
         → (o : Option ReadOf) → token_in big as_bytes (token1 e (operation_row c.seen)) x1 ≡ o → Cases x at (operation_in x at)
     unfolding operation row_layout read_in
-    case1 c x1 p0 none p1 = none-case x at (bind-at _ p0 ∙ bind-none _ (bind-none _ p1))
-    case1 c x1 p0 (some a) p1 = case2 c a.0 x1 a.1 p0 p1 _ refl
+    case1 c x1 p0 None p1 = none-case x at (bind-at _ p0 ∙ bind-none _ (bind-none _ p1))
+    case1 c x1 p0 (Some a) p1 = case2 c a.0 x1 a.1 p0 p1 _ refl
 
     case0 : (o : Option ReadOf) → token_in big as_bytes (number (fixed 1)) x ≡ o → Cases x at (operation_in x at)
     unfolding operation row_layout read_in
-    case0 none p0 = none-case x at (bind-none _ p0)
-    case0 (some c) p0 = case1 c.0 c.1 p0 _ refl
+    case0 None p0 = none-case x at (bind-none _ p0)
+    case0 (Some c) p0 = case1 c.0 c.1 p0 _ refl
 
     -- an operation is read token by token, or not at all
     pub cases : Cases x at (operation_in x at)
@@ -160,7 +158,7 @@ module _ (e : Encoding) where
   start-inside unknown s = all_none _
 
   -- a token that was read took so many bytes
-  pub token-took : (t : Token) (s : List ℕ) (r : Read) (rest : List ℕ) → token_in (big e) as_bytes t s ≡ some (r, rest) → Took s (size (big e) r) rest
+  pub token-took : (t : Token) (s : List ℕ) (r : Read) (rest : List ℕ) → token_in (big e) as_bytes t s ≡ Some (r, rest) → Took s (size (big e) r) rest
   unfolding size
   token-took t s r rest q = (all_of (TokenLaw (big e) as_bytes t s) (token-law (big e) as_bytes (as-bytes-law (big e)) t s) q).0
 
@@ -168,7 +166,7 @@ module _ (e : Encoding) where
   code-law : (s : List ℕ) → All (λ r. (1 ≤ length s) × (r.0.pieces ≡ verbatim (take 1 s) ∷ []) × (size (big e) r.0 ≡ 1)) (token_in (big e) as_bytes (number (fixed 1)) s)
   unfolding token_in as_number copy size bytes_of piece_bytes number_in width
   code-law s =
-      all-bind (λ t. (t.0 ≡ infixed 1) × (1 ≤ length s)) _ (check (leb 1 8) (check (leb 1 (length s)) (some (infixed 1, fixed_value (big e) (take 1 s), drop 1 s)))) _
+      all-bind (λ t. (t.0 ≡ infixed 1) × (1 ≤ length s)) _ (check (leb 1 8) (check (leb 1 (length s)) (Some (infixed 1, fixed_value (big e) (take 1 s), drop 1 s)))) _
       (all-check _ _ _ (λ u. all-check _ _ _ (λ v. all-some (λ t. (t.0 ≡ infixed 1) × (1 ≤ length s)) (refl, leb_yes v))))
       (λ t q u. all-some (λ r. (1 ≤ length s) × (r.0.pieces ≡ verbatim (take 1 s) ∷ []) × (size (big e) r.0 ≡ 1)) (
         u.1,
@@ -218,16 +216,16 @@ module _ (e : Encoding) where
         (omega arith, omega arith, omega arith, omega arith, omega arith)
 
   -- the operation at a place, with what it holds
-  pub operation-held : (s : List ℕ) (at : ℕ) (op : Operation) → operation_at e s at ≡ Operation' op → OperationHeld e (drop at s) at op
+  pub operation-held : (s : List ℕ) (at : ℕ) (op : Operation) → operation_at e s at ≡ Some op → OperationHeld e (drop at s) at op
   unfolding operation_at Cases
   operation-held s at op q = subst (λ o. Cases e (drop at s) at o) q (cases e (drop at s) at)
 
-  pub operation-none : (s : List ℕ) (at : ℕ) → operation_at e s at ≡ NoOperation → read_in (big e) as_bytes (operation e) (drop at s) ≡ none
+  pub operation-none : (s : List ℕ) (at : ℕ) → operation_at e s at ≡ None → read_in (big e) as_bytes (operation e) (drop at s) ≡ None
   unfolding operation_at Cases
   operation-none s at q = subst (λ o. Cases e (drop at s) at o) q (cases e (drop at s) at)
 
   -- THE LAW of places: an operation stands inside the slice, its first operand inside it
-  pub operation-inside : (s : List ℕ) (at : ℕ) (op : Operation) → operation_at e s at ≡ Operation' op
+  pub operation-inside : (s : List ℕ) (at : ℕ) (op : Operation) → operation_at e s at ≡ Some op
       → (at < op.next.at) × (op.next.at ≤ length s) × (at < op.first.start) × (op.first.start ≤ op.first.end) × (op.first.end ≤ op.next.at)
   operation-inside s at op q =
       let h : OperationHeld e (drop at s) at op = operation-held s at op q in

@@ -12,8 +12,7 @@ use Rattle.readers.specs.References.{Named, encoded_by, numbers_of, flat_from, n
 use Rattle.readers.specs.Inner.References.{Room}
 use Rattle.readers.specs.declared.cursor.Encoding.{Encoding}
 use Rattle.readers.specs.declared.expressions.Reference.{Reference}
-use Rattle.readers.specs.declared.expressions.Yield.{Yield}
-use Rattle.readers.specs.declared.expressions.Yield.TheVariants.{Reference as Yielded, End}
+use Rattle.std.specs.Prelude.{None, Option, Some}
 use Rattle.readers.proofs.Yields.{flat_by, flat-next, next-wide}
 
 -- ---- clearing
@@ -114,14 +113,14 @@ module _ (e : Encoding) (s table₀ : List ℕ) (count : ℕ) where
         ∙ ap₂ (λ rs m. numbers_of rs ++ zeros (length table₀ - 3 * m)) (sym (append-nil f.written) ∙ ap (λ x. f.written ++ x) (sym none_left) ∙ sym f.whole) n
 
     -- before that there is one more
-    pub fill-never : i < count → (y : Yield) → y ≡ next_reference e s at → y ≡ End → ⊥
+    pub fill-never : i < count → (y : Option Reference) → y ≡ next_reference e s at → y ≡ None → ⊥
     unfolding flat_by
     fill-never l y q p =
         let none_left : flat_from e s at ≡ [] = flat-next e s at ∙ ap (flat_by e s) (sym q ∙ p) in
         let z : length (flat_from e s at) ≡ 0 = ap length none_left in
         omega (arith, left_over)
 
-    pub fill_more : i < count → (y : Yield) (r : Reference) → y ≡ next_reference e s at → y ≡ Yielded r
+    pub fill_more : i < count → (y : Option Reference) (r : Reference) → y ≡ next_reference e s at → y ≡ Some r
         → Filling e s table₀ count (set (set (set table (3 * i) r.place) (3 * i + 1) r.target.0) (3 * i + 2) r.width) r.next.at (i + 1)
     unfolding flat_by numbers_of
     fill_more l y r q p =

@@ -2,7 +2,7 @@
 use mathlib.Core.Path.{◌≡◌, refl, ap, ◌∙◌}
 use Prim.Native.Nat.{ℕ, zero, suc, ◌+◌, ◌-◌, ◌≤◌, ◌<◌}
 use native.Mathlib.Omega.{arith}
-use mathlib.Core.Option.{Option, none, some}
+use Rattle.std.specs.Prelude.{None, Option, Some}
 use mathlib.Core.List.{[]}
 use Rattle.readers.specs.Choice.{bind}
 use Rattle.readers.specs.Scan.{Scanned, Turn, bad, more, on_turn, push, scan, scan_within, stop}
@@ -35,11 +35,11 @@ module _ {A B : Type 0} where
         turn-same at (f at) (goes at) _ _
         (λ a n lo hi. ap (λ o. bind o (push a)) (within_same (end - at) (suc (end - n)) n (omega arith) (omega arith) (omega arith) (omega arith)))
 
-    pub scan-stop : (at : ℕ) (b : B) → f at ≡ stop b → scan end f at ≡ some ([], b)
+    pub scan-stop : (at : ℕ) (b : B) → f at ≡ stop b → scan end f at ≡ Some ([], b)
     unfolding on_turn
     scan-stop at b e = scan_step at ∙ ap (λ t. on_turn t (λ a n. bind (scan end f n) (push a))) e
 
-    pub scan-bad : (at : ℕ) → f at ≡ bad → scan end f at ≡ none
+    pub scan-bad : (at : ℕ) → f at ≡ bad → scan end f at ≡ None
     unfolding on_turn
     scan-bad at e = scan_step at ∙ ap (λ t. on_turn t (λ a n. bind (scan end f n) (push a))) e
 

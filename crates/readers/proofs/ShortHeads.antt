@@ -1,4 +1,5 @@
 -- Heads of declarations whose code and tag have one byte each. Assumes nothing.
+use Rattle.std.specs.Prelude.{Some}
 use Prim.Native.Nat.{ℕ, ◌+◌, ◌≤◌}
 use mathlib.Core.Path.{◌≡◌, sym}
 use mathlib.Core.Bool.{false}
@@ -15,12 +16,12 @@ use Rattle.readers.proofs.Widths.{fixed-one}
 use Rattle.readers.proofs.Declarations.{head-whole}
 
 pub head_plain : (s : List ℕ) (at : ℕ) → at + 3 ≤ length s → PlainHead (get_or s at 0) (get_or s (at + 1) 0) (get_or s (at + 2) 0)
-    → Declared (record {
+    → Some (Declared (record {
       code = get_or s at 0;
       tag = get_or s (at + 1) 0;
       children = eqb (get_or s (at + 2) 0) 1;
       attributes = cursor (at + 3);
-    }) (cursor (at + 3)) ≡ head_at s at
+    }) (cursor (at + 3))) ≡ head_at s at
 head_plain s at h p =
     let a : at + 3 ≡ at + 1 + 1 + 1 = omega arith in
     let b : at + 2 ≡ at + 1 + 1 = omega arith in

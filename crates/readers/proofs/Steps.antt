@@ -3,7 +3,7 @@ use Prim.Native.Nat.{ℕ, suc, ◌+◌, ◌≤◌, ◌<◌}
 use mathlib.Core.Path.{◌≡◌, refl, ap, sym, ◌∙◌, subst}
 use mathlib.Core.Logic.{⊎_elim}
 use mathlib.Core.Bool.{Bool, true, false, not}
-use mathlib.Core.Option.{Option, none, some}
+use Rattle.std.specs.Prelude.{None, Option, Some}
 use mathlib.Core.List.{List, [], ◌∷◌}
 use native.Mathlib.Omega.{arith}
 use native.Mathlib.Numerals.{add-one}
@@ -23,10 +23,7 @@ use Rattle.readers.specs.declared.cursor.Cursor.{Cursor}
 use Rattle.readers.specs.declared.cursor.Encoding.{Encoding}
 use Rattle.readers.specs.declared.fields.Field.{Field}
 use Rattle.readers.specs.declared.fields.Operands.{Operands}
-use Rattle.readers.specs.declared.fields.OperandsRead.{OperandsRead}
-use Rattle.readers.specs.declared.fields.OperandsRead.TheVariants.{Read as Row', Unreadable as NoRow}
 use Rattle.readers.specs.declared.operations.Operation.{Operation}
-use Rattle.readers.specs.declared.operations.OperationRead.TheVariants.{Read as Operation', Unreadable as NoOperation}
 use Rattle.readers.specs.declared.operations.ListEntry.{ListEntry}
 use Rattle.readers.specs.declared.operations.ListStep.TheVariants.{Entry, End}
 use Rattle.readers.proofs.Widths.{value-one}
@@ -91,14 +88,14 @@ abbrev byte_read : ℕ → Read
 byte_read b = record { seen = b; start = 0; pieces = verbatim (b ∷ []) ∷ [] }
 
 module _ (big : Bool) (g : ℕ → Layout) where
-  byte-number : (b : ℕ) (t : List ℕ) → number_in big (fixed 1) (b ∷ t) ≡ some (infixed 1, b, t)
+  byte-number : (b : ℕ) (t : List ℕ) → number_in big (fixed 1) (b ∷ t) ≡ Some (infixed 1, b, t)
   unfolding number_in
   byte-number b t =
       check-yes _ _ (yes_leb {a = 1} {b = 8} (omega arith))
       ∙ check-yes _ _ (yes_leb {a = 1} {b = length (b ∷ t)} (let h : 1 ≤ suc (length t) = omega arith in h))
-      ∙ ap (λ (v : ℕ). some (infixed 1, v, t)) (value-one big b t)
+      ∙ ap (λ (v : ℕ). Some (infixed 1, v, t)) (value-one big b t)
 
-  byte-token : (b : ℕ) (t : List ℕ) → token_in big as_bytes (number (fixed 1)) (b ∷ t) ≡ some (byte_read b, t)
+  byte-token : (b : ℕ) (t : List ℕ) → token_in big as_bytes (number (fixed 1)) (b ∷ t) ≡ Some (byte_read b, t)
   unfolding token_in as_number copy width
   byte-token b t = bind-at (as_number (b ∷ t)) (byte-number b t)
 
@@ -108,7 +105,7 @@ module _ (big : Bool) (g : ℕ → Layout) where
   unfolding read_in
   byte-first s at h = rw (drop-cons s at 0 h, add-one at) (bind-at _ (byte-token (get_or s at 0) (drop (suc at) s)))
 
-  no_byte : (s : List ℕ) (at : ℕ) → length s ≤ at → read_in big as_bytes (field (number (fixed 1)) g) (drop at s) ≡ none
+  no_byte : (s : List ℕ) (at : ℕ) → length s ≤ at → read_in big as_bytes (field (number (fixed 1)) g) (drop at s) ≡ None
   unfolding read_in token_in number_in bind check
   no_byte s at h = rw (drop_of_length-le s h)
 
@@ -118,15 +115,15 @@ module _ (e : Encoding) (s : List ℕ) (at : ℕ) where
   abbrev code : ℕ
   code = get_or s at 0
 
-  pub operation-end : length s ≤ at → operation_at e s at ≡ NoOperation
+  pub operation-end : length s ≤ at → operation_at e s at ≡ None
   unfolding operation_at operation as_operation
   operation-end h = ap (as_operation e.big_endian at) (no_byte e.big_endian _ s at h)
 
   of_row : (b : ℕ) (o : Option RunOf)
       → as_operation e.big_endian at (bind o (before (byte_read b))) ≡ row_operation (operation_row b) (as_row e.big_endian (at + 1) o)
   unfolding as_operation operation_of_reads row_operation as_row bind before size bytes_of piece_bytes
-  of_row b none = refl
-  of_row b (some r) = refl
+  of_row b None = refl
+  of_row b (Some r) = refl
 
   pub operation-step : at < length s → operation_at e s at ≡ row_operation (operation_row code) (row_at e s (at + 1) (operation_row code))
   unfolding operation_at operation row_at
@@ -140,7 +137,7 @@ module _ (e : Encoding) (location : Bool) (s : List ℕ) (at : ℕ) where
   abbrev kind : ℕ
   kind = get_or s at 0
 
-  pub entry-end : length s ≤ at → list_entry_at e location s at ≡ End
+  pub entry-end : length s ≤ at → list_entry_at e location s at ≡ Some End
   unfolding list_entry_at
   entry-end h = pick_no _ _ _ (no_ltb {a = at} {b = length s} h)
 
@@ -153,7 +150,7 @@ module _ (e : Encoding) (location : Bool) (s : List ℕ) (at : ℕ) where
   unfolding list_entry_at list_entry
   of-kind h = pick_yes _ _ _ (yes_ltb {a = at} {b = length s} h) ∙ ap (as_list_step e.big_endian at) (byte-first e.big_endian kinds s at h)
 
-  pub entry_zero : at < length s → kind ≡ 0 → list_entry_at e location s at ≡ End
+  pub entry_zero : at < length s → kind ≡ 0 → list_entry_at e location s at ≡ Some End
   unfolding as_list_step entry_of_reads read_in bind before pick
   entry_zero h z =
       of-kind h
@@ -162,8 +159,8 @@ module _ (e : Encoding) (location : Bool) (s : List ℕ) (at : ℕ) where
   of_entry : (k : ℕ) (o : Option RunOf) → (k ≡ 0 → ⊥)
       → as_list_step e.big_endian at (bind o (before (byte_read k))) ≡ row_entry k (as_row e.big_endian (at + 1) o)
   unfolding as_list_step entry_of_reads row_entry as_row bind before size bytes_of piece_bytes
-  of_entry k none h = refl
-  of_entry k (some r) h = pick_no _ _ _ (no_eqb {a = k} {b = 0} h)
+  of_entry k None h = refl
+  of_entry k (Some r) h = pick_no _ _ _ (no_eqb {a = k} {b = 0} h)
 
   pub entry-step : at < length s → (kind ≡ 0 → ⊥) → list_entry_at e location s at ≡ row_entry kind (row_at e s (at + 1) (list_row e.version location kind))
   unfolding row_at
@@ -191,21 +188,21 @@ pub record Stepped (e : Encoding) (s : List ℕ) (at : ℕ) (o : Operation) : Ty
   pub here : at < length s
   pub code : o.row ≡ operation_row (get_or s at 0)
   pub fields : Operands
-  pub read : row_at e s (at + 1) o.row ≡ Row' fields
+  pub read : row_at e s (at + 1) o.row ≡ Some fields
   pub first : o.first ≡ fields.first
   pub second : o.second ≡ fields.second
   pub next : o.next ≡ cursor fields.third.end
 
 module _ (e : Encoding) (s : List ℕ) (at : ℕ) (o : Operation) where
-  stepped-in : at < length s → (r : OperandsRead) → row_at e s (at + 1) (operation_row (get_or s at 0)) ≡ r
-      → row_operation (operation_row (get_or s at 0)) r ≡ Operation' o → Stepped e s at o
+  stepped-in : at < length s → (r : Option Operands) → row_at e s (at + 1) (operation_row (get_or s at 0)) ≡ r
+      → row_operation (operation_row (get_or s at 0)) r ≡ Some o → Stepped e s at o
   unfolding row_operation
-  stepped-in h (Row' r) q x =
+  stepped-in h (Some r) q x =
       let y : record { row = operation_row (get_or s at 0); first = r.first; second = r.second; next = cursor r.third.end } ≡ o = cc in
       subst (Stepped e s at) y (record { here = h; code = refl; fields = r; read = q; first = refl; second = refl; next = refl })
-  stepped-in h NoRow q x = let z : ◌≡◌ {A = ℕ} 0 1 = cc in absurd (omega arith)
+  stepped-in h None q x = let z : ◌≡◌ {A = ℕ} 0 1 = cc in absurd (omega arith)
 
-  pub operation-stepped : operation_at e s at ≡ Operation' o → Stepped e s at o
+  pub operation-stepped : operation_at e s at ≡ Some o → Stepped e s at o
   operation-stepped x =
       ⊎_elim
       (λ t. let h : at < length s = ltb_yes {a = at} {b = length s} t in
@@ -214,7 +211,7 @@ module _ (e : Encoding) (s : List ℕ) (at : ℕ) (o : Operation) where
       (either (ltb at (length s)))
 
   -- it ends past its place, and its operands lie between, one after the other
-  pub operation-inside : operation_at e s at ≡ Operation' o
+  pub operation-inside : operation_at e s at ≡ Some o
       → (at < o.next.at) × (o.next.at ≤ length s) × Inside s (at + 1) o.first × Inside s o.first.end o.second × (o.second.end ≤ o.next.at)
   operation-inside x =
       let q : Stepped e s at o = operation-stepped x in
@@ -237,22 +234,22 @@ pub record Entered (e : Encoding) (location : Bool) (s : List ℕ) (at : ℕ) (o
   pub kind : o.kind ≡ get_or s at 0
   pub other : get_or s at 0 ≡ 0 → ⊥
   pub fields : Operands
-  pub read : row_at e s (at + 1) (list_row e.version location o.kind) ≡ Row' fields
+  pub read : row_at e s (at + 1) (list_row e.version location o.kind) ≡ Some fields
   pub first : o.first ≡ fields.first
   pub second : o.second ≡ fields.second
   pub third : o.third ≡ fields.third
   pub next : o.next ≡ cursor fields.third.end
 
 module _ (e : Encoding) (location : Bool) (s : List ℕ) (at : ℕ) (o : ListEntry) where
-  entered-in : at < length s → (get_or s at 0 ≡ 0 → ⊥) → (r : OperandsRead) → row_at e s (at + 1) (list_row e.version location (get_or s at 0)) ≡ r
-      → row_entry (get_or s at 0) r ≡ Entry o → Entered e location s at o
+  entered-in : at < length s → (get_or s at 0 ≡ 0 → ⊥) → (r : Option Operands) → row_at e s (at + 1) (list_row e.version location (get_or s at 0)) ≡ r
+      → row_entry (get_or s at 0) r ≡ Some (Entry o) → Entered e location s at o
   unfolding row_entry
-  entered-in h f (Row' r) q x =
+  entered-in h f (Some r) q x =
       let y : record { kind = get_or s at 0; first = r.first; second = r.second; third = r.third; next = cursor r.third.end } ≡ o = cc in
       subst (Entered e location s at) y (record { here = h; kind = refl; other = f; fields = r; read = q; first = refl; second = refl; third = refl; next = refl })
-  entered-in h f NoRow q x = let z : ◌≡◌ {A = ℕ} 0 1 = cc in absurd (omega arith)
+  entered-in h f None q x = let z : ◌≡◌ {A = ℕ} 0 1 = cc in absurd (omega arith)
 
-  pub entry-entered : list_entry_at e location s at ≡ Entry o → Entered e location s at o
+  pub entry-entered : list_entry_at e location s at ≡ Some (Entry o) → Entered e location s at o
   entry-entered x =
       ⊎_elim
       (λ t. let h : at < length s = ltb_yes {a = at} {b = length s} t in
@@ -264,7 +261,7 @@ module _ (e : Encoding) (location : Bool) (s : List ℕ) (at : ℕ) (o : ListEnt
       (λ t. let z : ◌≡◌ {A = ℕ} 0 1 = cc (entry-end e location s at (ltb_no {a = at} {b = length s} t)) in absurd (omega arith))
       (either (ltb at (length s)))
 
-  pub entry-inside : list_entry_at e location s at ≡ Entry o
+  pub entry-inside : list_entry_at e location s at ≡ Some (Entry o)
       → (at < o.next.at) × (o.next.at ≤ length s) × Inside s (at + 1) o.first × Inside s o.first.end o.second × Inside s o.second.end o.third × (o.third.end ≡ o.next.at)
   entry-inside x =
       let q : Entered e location s at o = entry-entered x in

@@ -3,7 +3,8 @@ use mathlib.Core.Path.{◌≡◌, refl, ap, sym, ◌∙◌, subst}
 use Prim.Native.Nat.{ℕ, zero, suc, ◌+◌, ◌-◌, ◌≤◌, ◌<◌}
 use native.Mathlib.Omega.{arith}
 use mathlib.Core.List.{List}
-use mathlib.Core.Option.{Option, none, some}
+use Rattle.std.specs.Prelude.{None, Option, Some}
+use Rattle.readers.specs.declared.entries.Step.{Step}
 use mathlib.Core.Logic.{⊎_elim}
 use lib.ListN.{length, drop, length-drop}
 use lib.Dec.{ltb, eqb}
@@ -20,32 +21,25 @@ use Rattle.readers.proofs.Lebs.{uleb-inside}
 use Rattle.readers.proofs.Values.{entry_step, found_step, code_step, step_by, step_end}
 use Rattle.readers.specs.declared.cursor.Encoding.{Encoding}
 use Rattle.readers.specs.declared.cursor.Cursor.{Cursor}
-use Rattle.readers.specs.declared.cursor.Number.{Number}
-use Rattle.readers.specs.declared.cursor.Number.TheVariants.{Value, Unreadable as NoNumber}
-use Rattle.readers.specs.declared.cursor.Moved.{Moved}
-use Rattle.readers.specs.declared.cursor.Moved.TheVariants.{To, Unreadable as Nowhere}
 use Rattle.readers.specs.declared.abbreviations.Declaration.{Declaration}
-use Rattle.readers.specs.declared.abbreviations.DeclarationFound.{DeclarationFound}
-use Rattle.readers.specs.declared.abbreviations.DeclarationFound.TheVariants.{Declaration as Found', Nothing}
 use Rattle.readers.specs.declared.entries.Entry.{Entry}
-use Rattle.readers.specs.declared.entries.Step.{Step}
-use Rattle.readers.specs.declared.entries.Step.TheVariants.{Entry as Entry', Terminator, End, Unreadable}
+use Rattle.readers.specs.declared.entries.Step.TheVariants.{Entry as Entry', Terminator, End}
 use Rattle.readers.specs.Stream.{entry, terminator, Items, push, on_step, items_within, items_from}
 
 -- ---- how far values come
 
 module _ (e : Encoding) (unit : List ℕ) (at : ℕ) (next : Cursor) where
-  past-inside : (g : Layout) (o : Option RunOf) → All (ReadLaw e.big_endian as_bytes g (drop at unit)) o → as_past e.big_endian at o ≡ To next
+  past-inside : (g : Layout) (o : Option RunOf) → All (ReadLaw e.big_endian as_bytes g (drop at unit)) o → as_past e.big_endian at o ≡ Some next
       → at ≤ length unit → (at ≤ next.at) × (next.at ≤ length unit)
   unfolding All as_past
-  past-inside g none q k h = let z : ◌≡◌ {A = ℕ} 0 1 = cc in absurd (omega arith)
-  past-inside g (some r) q k h =
+  past-inside g None q k h = let z : ◌≡◌ {A = ℕ} 0 1 = cc in absurd (omega arith)
+  past-inside g (Some r) q k h =
       let c : cursor (at + length (write_all e.big_endian r.0)) ≡ next = cc in
       let p : at + length (write_all e.big_endian r.0) ≡ next.at = ap (λ (x : Cursor). x.at) c in
       let l : length (write_all e.big_endian r.0) ≤ length (drop at unit) = q.0.0 in
       (omega arith, omega (arith, length-drop at unit))
 
-  pub values-inside : (abbreviations : List ℕ) (specs : ℕ) → values_at e abbreviations specs unit at ≡ To next → at ≤ length unit
+  pub values-inside : (abbreviations : List ℕ) (specs : ℕ) → values_at e abbreviations specs unit at ≡ Some next → at ≤ length unit
       → (at ≤ next.at) × (next.at ≤ length unit)
   unfolding values_at
   values-inside abbreviations specs g h =
@@ -61,34 +55,34 @@ pub record EntryInside (unit : List ℕ) (at : ℕ) (x : Entry) : Type 0 where
   pub within : x.next.at ≤ length unit
 
 -- what a step may be
-unfoldable StepInside : List ℕ → ℕ → Step → Type 0
-StepInside unit at (Entry' x) = EntryInside unit at x
-StepInside unit at (Terminator c) = (at < c.at) × (c.at ≤ length unit)
-StepInside unit at End = Unit {0}
-StepInside unit at Unreadable = Unit {0}
+unfoldable StepInside : List ℕ → ℕ → Option Step → Type 0
+StepInside unit at (Some (Entry' x)) = EntryInside unit at x
+StepInside unit at (Some (Terminator c)) = (at < c.at) × (c.at ≤ length unit)
+StepInside unit at (Some End) = Unit {0}
+StepInside unit at None = Unit {0}
 
-module _ (e : Encoding) (abbreviations : List ℕ) (look : ℕ → DeclarationFound) (unit : List ℕ) where
+module _ (e : Encoding) (abbreviations : List ℕ) (look : ℕ → Option Declaration) (unit : List ℕ) where
   module _ (at : ℕ) where
     values-step : (values : Cursor) (d : Declaration) → at < values.at → values.at ≤ length unit
-        → (m : Moved) → values_at e abbreviations d.attributes.at unit values.at ≡ m → StepInside unit at (entry_step e abbreviations look unit at values d m)
+        → (m : Option Cursor) → values_at e abbreviations d.attributes.at unit values.at ≡ m → StepInside unit at (entry_step e abbreviations look unit at values d m)
     unfolding entry_step StepInside
-    values-step values d lo hi (To next) q =
+    values-step values d lo hi (Some next) q =
         let i = values-inside e unit values.at next abbreviations d.attributes.at q hi in
         record { here = refl; coded = lo; ahead = i.0; within = i.1 }
-    values-step values d lo hi Nowhere q = tt
+    values-step values d lo hi None q = tt
 
-    found-step : (values : Cursor) → at < values.at → values.at ≤ length unit → (f : DeclarationFound) → StepInside unit at (found_step e abbreviations look unit at values f)
+    found-step : (values : Cursor) → at < values.at → values.at ≤ length unit → (f : Option Declaration) → StepInside unit at (found_step e abbreviations look unit at values f)
     unfolding found_step StepInside
-    found-step values lo hi (Found' d) = values-step values d lo hi (values_at e abbreviations d.attributes.at unit values.at) refl
-    found-step values lo hi Nothing = tt
+    found-step values lo hi (Some d) = values-step values d lo hi (values_at e abbreviations d.attributes.at unit values.at) refl
+    found-step values lo hi None = tt
 
-    code_step_lem : (n : Number) → leb_at uleb unit at ≡ n → StepInside unit at (code_step e abbreviations look unit at n)
+    code_step_lem : (n : Option (ℕ × Cursor)) → leb_at uleb unit at ≡ n → StepInside unit at (code_step e abbreviations look unit at n)
     unfolding code_step StepInside
-    code_step_lem (Value code values) q =
+    code_step_lem (Some (code, values)) q =
         let i = uleb-inside unit at code values q in
-        pick-either (StepInside unit at) (eqb code 0) (Terminator values) (found_step e abbreviations look unit at values (look code))
+        pick-either (StepInside unit at) (eqb code 0) (Some (Terminator values)) (found_step e abbreviations look unit at values (look code))
         (λ t. (i.0, i.1)) (λ t. found-step values i.0 i.1 (look code))
-    code_step_lem NoNumber q = tt
+    code_step_lem None q = tt
 
     any_step : StepInside unit at (step_at e abbreviations look unit at)
     unfolding StepInside
@@ -98,26 +92,26 @@ module _ (e : Encoding) (abbreviations : List ℕ) (look : ℕ → DeclarationFo
         (λ t. rw (sym (step_end e abbreviations look unit at (ltb_no {a = at} {b = length unit} t))) tt)
         (either (ltb at (length unit)))
 
-    by-step : (o : Step) → step_at e abbreviations look unit at ≡ o → StepInside unit at o
+    by-step : (o : Option Step) → step_at e abbreviations look unit at ≡ o → StepInside unit at o
     by-step o q = subst (StepInside unit at) q any_step
 
-    pub step-inside : (x : Entry) → step_at e abbreviations look unit at ≡ Entry' x → EntryInside unit at x
+    pub step-inside : (x : Entry) → step_at e abbreviations look unit at ≡ Some (Entry' x) → EntryInside unit at x
     unfolding StepInside
-    step-inside x q = by-step (Entry' x) q
+    step-inside x q = by-step (Some (Entry' x)) q
 
-    pub terminator-inside : (c : Cursor) → step_at e abbreviations look unit at ≡ Terminator c → (at < c.at) × (c.at ≤ length unit)
+    pub terminator-inside : (c : Cursor) → step_at e abbreviations look unit at ≡ Some (Terminator c) → (at < c.at) × (c.at ≤ length unit)
     unfolding StepInside
-    terminator-inside c q = by-step (Terminator c) q
+    terminator-inside c q = by-step (Some (Terminator c)) q
 
-    turn-same : (r : Step) → step_at e abbreviations look unit at ≡ r → (j k : ℕ → Items)
+    turn-same : (r : Option Step) → step_at e abbreviations look unit at ≡ r → (j k : ℕ → Items)
         → ((n : ℕ) → at < n → n ≤ length unit → j n ≡ k n) → on_step at r j ≡ on_step at r k
     unfolding on_step
-    turn-same (Entry' x) q j k h =
+    turn-same (Some (Entry' x)) q j k h =
         let i : EntryInside unit at x = step-inside x q in
         ap (push (entry x)) (h x.next.at (omega (arith, i.coded, i.ahead)) i.within)
-    turn-same (Terminator c) q j k h = ap (push (terminator at c.at)) (h c.at (terminator-inside c q).0 (terminator-inside c q).1)
-    turn-same End q j k h = refl
-    turn-same Unreadable q j k h = refl
+    turn-same (Some (Terminator c)) q j k h = ap (push (terminator at c.at)) (h c.at (terminator-inside c q).0 (terminator-inside c q).1)
+    turn-same (Some End) q j k h = refl
+    turn-same None q j k h = refl
 
   -- ---- what stands from a place on
 
@@ -138,23 +132,23 @@ module _ (e : Encoding) (abbreviations : List ℕ) (look : ℕ → DeclarationFo
 
 -- ---- two look-ups that agree
 
-module _ (e : Encoding) (abbreviations : List ℕ) (look look' : ℕ → DeclarationFound) (same : (code : ℕ) → look code ≡ look' code) (unit : List ℕ) where
+module _ (e : Encoding) (abbreviations : List ℕ) (look look' : ℕ → Option Declaration) (same : (code : ℕ) → look code ≡ look' code) (unit : List ℕ) where
   module _ (at : ℕ) where
-    same-values : (values : Cursor) (d : Declaration) (m : Moved) → entry_step e abbreviations look unit at values d m ≡ entry_step e abbreviations look' unit at values d m
+    same-values : (values : Cursor) (d : Declaration) (m : Option Cursor) → entry_step e abbreviations look unit at values d m ≡ entry_step e abbreviations look' unit at values d m
     unfolding entry_step
-    same-values values d (To next) = refl
-    same-values values d Nowhere = refl
+    same-values values d (Some next) = refl
+    same-values values d None = refl
 
-    same-found : (values : Cursor) (f : DeclarationFound) → found_step e abbreviations look unit at values f ≡ found_step e abbreviations look' unit at values f
+    same-found : (values : Cursor) (f : Option Declaration) → found_step e abbreviations look unit at values f ≡ found_step e abbreviations look' unit at values f
     unfolding found_step
-    same-found values (Found' d) = same-values values d (values_at e abbreviations d.attributes.at unit values.at)
-    same-found values Nothing = refl
+    same-found values (Some d) = same-values values d (values_at e abbreviations d.attributes.at unit values.at)
+    same-found values None = refl
 
-    same_code : (n : Number) → code_step e abbreviations look unit at n ≡ code_step e abbreviations look' unit at n
+    same_code : (n : Option (ℕ × Cursor)) → code_step e abbreviations look unit at n ≡ code_step e abbreviations look' unit at n
     unfolding code_step
-    same_code (Value code values) =
-        ap (pick (eqb code 0) (Terminator values)) (same-found values (look code) ∙ ap (found_step e abbreviations look' unit at values) (same code))
-    same_code NoNumber = refl
+    same_code (Some (code, values)) =
+        ap (pick (eqb code 0) (Some (Terminator values))) (same-found values (look code) ∙ ap (found_step e abbreviations look' unit at values) (same code))
+    same_code None = refl
 
     pub step-look : step_at e abbreviations look unit at ≡ step_at e abbreviations look' unit at
     step-look =
@@ -166,19 +160,19 @@ module _ (e : Encoding) (abbreviations : List ℕ) (look look' : ℕ → Declara
         (either (ltb at (length unit)))
 
   -- what follows is the same
-  turn-look : (at : ℕ) (r : Step) (j k : ℕ → Items) → ((n : ℕ) → j n ≡ k n) → on_step at r j ≡ on_step at r k
+  turn-look : (at : ℕ) (r : Option Step) (j k : ℕ → Items) → ((n : ℕ) → j n ≡ k n) → on_step at r j ≡ on_step at r k
   unfolding on_step
-  turn-look at (Entry' x) j k h = ap (push (entry x)) (h x.next.at)
-  turn-look at (Terminator c) j k h = ap (push (terminator at c.at)) (h c.at)
-  turn-look at End j k h = refl
-  turn-look at Unreadable j k h = refl
+  turn-look at (Some (Entry' x)) j k h = ap (push (entry x)) (h x.next.at)
+  turn-look at (Some (Terminator c)) j k h = ap (push (terminator at c.at)) (h c.at)
+  turn-look at (Some End) j k h = refl
+  turn-look at None j k h = refl
 
   within-look : (n at : ℕ) → items_within e abbreviations look unit n at ≡ items_within e abbreviations look' unit n at
   unfolding items_within
   within-look zero at = refl
   within-look (suc n) at =
       turn-look at (step_at e abbreviations look unit at) _ _ (λ next. within-look n next)
-      ∙ ap (λ (r : Step). on_step at r (λ next. items_within e abbreviations look' unit n next)) (step-look at)
+      ∙ ap (λ (r : Option Step). on_step at r (λ next. items_within e abbreviations look' unit n next)) (step-look at)
 
   pub items-look : (at : ℕ) → items_from e abbreviations look unit at ≡ items_from e abbreviations look' unit at
   unfolding items_from

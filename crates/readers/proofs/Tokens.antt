@@ -4,7 +4,7 @@ use Prim.Native.Nat.{ℕ, suc, ◌+◌, ◌-◌, ◌≤◌, ◌<◌}
 use mathlib.Core.Path.{◌≡◌, refl, ap, ap₂, sym, ◌∙◌, subst}
 use mathlib.Core.Logic.{⊎_elim}
 use mathlib.Core.Bool.{Bool, true, false, not}
-use mathlib.Core.Option.{Option, none, some}
+use Rattle.std.specs.Prelude.{None, Option, Some}
 use mathlib.Core.List.{List, [], ◌∷◌, ◌++◌, append-nil}
 use native.Mathlib.Omega.{arith}
 use lib.ListN.{length, take, drop, length-append, length-drop, drop_of_length-le, get_or-eq_default}
@@ -23,16 +23,8 @@ use Rattle.readers.specs.Fields.{linked_value, size, field_of, as_field, row_of_
 use Rattle.readers.specs.Inner.Fields.{number_field, bounded_field, number_at}
 use Rattle.readers.specs.declared.cursor.Encoding.{Encoding}
 use Rattle.readers.specs.declared.cursor.Cursor.{Cursor}
-use Rattle.readers.specs.declared.cursor.Number.{Number}
-use Rattle.readers.specs.declared.cursor.Number.TheVariants.{Value, Unreadable}
-use Rattle.readers.specs.declared.cursor.Moved.{Moved}
-use Rattle.readers.specs.declared.cursor.Moved.TheVariants.{To, Unreadable as Nowhere}
 use Rattle.readers.specs.declared.fields.Field.{Field}
-use Rattle.readers.specs.declared.fields.FieldRead.{FieldRead}
-use Rattle.readers.specs.declared.fields.FieldRead.TheVariants.{Read as Field', Unreadable as NoField}
 use Rattle.readers.specs.declared.fields.Operands.{Operands}
-use Rattle.readers.specs.declared.fields.OperandsRead.{OperandsRead}
-use Rattle.readers.specs.declared.fields.OperandsRead.TheVariants.{Read as Row', Unreadable as NoRow}
 
 abbrev order : Encoding → Bool
 order e = e.big_endian
@@ -46,54 +38,54 @@ past t a h n = omega arith
 
 -- ---- a field made of a number or of a move
 
-pub number_read : (at v : ℕ) (c : Cursor) (n : Number) → n ≡ Value v c → Field' (a_field v at c.at) ≡ number_field at n
+pub number_read : (at v : ℕ) (c : Cursor) (n : Option (ℕ × Cursor)) → n ≡ Some (v, c) → Some (a_field v at c.at) ≡ number_field at n
 unfolding number_field
 number_read at v c n e = rw e
 
-pub number-unread : (at : ℕ) (n : Number) → n ≡ Unreadable → NoField ≡ number_field at n
+pub number-unread : (at : ℕ) (n : Option (ℕ × Cursor)) → n ≡ None → None ≡ number_field at n
 unfolding number_field
 number-unread at n e = rw e
 
-pub bounded-read : (at v : ℕ) (c : Cursor) (n : Number) → n ≡ Value v c → v ≤ 65535 → Field' (a_field v at c.at) ≡ bounded_field at n
+pub bounded-read : (at v : ℕ) (c : Cursor) (n : Option (ℕ × Cursor)) → n ≡ Some (v, c) → v ≤ 65535 → Some (a_field v at c.at) ≡ bounded_field at n
 unfolding bounded_field
 bounded-read at v c n e h = rw e (sym (pick_yes _ _ _ (yes_leb {a = v} {b = 65535} h)))
 
-pub bounded-over : (at v : ℕ) (c : Cursor) (n : Number) → n ≡ Value v c → 65535 < v → NoField ≡ bounded_field at n
+pub bounded-over : (at v : ℕ) (c : Cursor) (n : Option (ℕ × Cursor)) → n ≡ Some (v, c) → 65535 < v → None ≡ bounded_field at n
 unfolding bounded_field
 bounded-over at v c n e h = rw e (sym (pick_no _ _ _ (no_leb {a = v} {b = 65535} h)))
 
-pub bounded-unread : (at : ℕ) (n : Number) → n ≡ Unreadable → NoField ≡ bounded_field at n
+pub bounded-unread : (at : ℕ) (n : Option (ℕ × Cursor)) → n ≡ None → None ≡ bounded_field at n
 unfolding bounded_field
 bounded-unread at n e = rw e
 
-pub block_read : (s : List ℕ) (v : ℕ) (c : Cursor) (n : Number) → n ≡ Value v c → v ≤ length s - c.at → Field' (a_field 0 c.at (c.at + v)) ≡ block_field s n
+pub block_read : (s : List ℕ) (v : ℕ) (c : Cursor) (n : Option (ℕ × Cursor)) → n ≡ Some (v, c) → v ≤ length s - c.at → Some (a_field 0 c.at (c.at + v)) ≡ block_field s n
 unfolding block_field
 block_read s v c n e h = rw e (sym (pick_yes _ _ _ (yes_leb {a = v} {b = length s - c.at} h)))
 
-pub block-over : (s : List ℕ) (v : ℕ) (c : Cursor) (n : Number) → n ≡ Value v c → length s - c.at < v → NoField ≡ block_field s n
+pub block-over : (s : List ℕ) (v : ℕ) (c : Cursor) (n : Option (ℕ × Cursor)) → n ≡ Some (v, c) → length s - c.at < v → None ≡ block_field s n
 unfolding block_field
 block-over s v c n e h = rw e (sym (pick_no _ _ _ (no_leb {a = v} {b = length s - c.at} h)))
 
-pub block-unread : (s : List ℕ) (n : Number) → n ≡ Unreadable → NoField ≡ block_field s n
+pub block-unread : (s : List ℕ) (n : Option (ℕ × Cursor)) → n ≡ None → None ≡ block_field s n
 unfolding block_field
 block-unread s n e = rw e
 
-unfoldable pub moved_field : ℕ → Moved → FieldRead
-moved_field at (To c) = Field' (a_field 0 at c.at)
-moved_field at Nowhere = NoField
+unfoldable pub moved_field : ℕ → Option Cursor → Option Field
+moved_field at (Some c) = Some (a_field 0 at c.at)
+moved_field at None = None
 
-pub moved-read : (at : ℕ) (c : Cursor) (m : Moved) → m ≡ To c → Field' (a_field 0 at c.at) ≡ moved_field at m
+pub moved-read : (at : ℕ) (c : Cursor) (m : Option Cursor) → m ≡ Some c → Some (a_field 0 at c.at) ≡ moved_field at m
 unfolding moved_field
 moved-read at c m e = rw e
 
-pub moved-unread : (at : ℕ) (m : Moved) → m ≡ Nowhere → NoField ≡ moved_field at m
+pub moved-unread : (at : ℕ) (m : Option Cursor) → m ≡ None → None ≡ moved_field at m
 unfolding moved_field
 moved-unread at m e = rw e
 
 -- ---- what a token reads
 
 -- a number of any kind
-unfoldable pub kind_at : Bool → Kind → List ℕ → ℕ → Number
+unfoldable pub kind_at : Bool → Kind → List ℕ → ℕ → Option (ℕ × Cursor)
 kind_at big k s at = as_fixed at (number_in big k (drop at s))
 
 pub kind-fixed : (big : Bool) (w : ℕ) (s : List ℕ) (at : ℕ) → kind_at big (fixed w) s at ≡ fixed_at big w s at
@@ -102,67 +94,67 @@ kind-fixed big w s at = refl
 
 as-leb : (at : ℕ) (o : Option Groups) → as_fixed at (bind o as_leb) ≡ as_leb_number at o
 unfolding as_fixed as_leb as_leb_number bind width
-as-leb at none = refl
-as-leb at (some t) = refl
+as-leb at None = refl
+as-leb at (Some t) = refl
 
 pub kind-leb : (big : Bool) (s : List ℕ) (at : ℕ) → kind_at big leb128 s at ≡ leb_at uleb s at
 unfolding kind_at leb_at number_in
 kind-leb big s at = as-leb at (uleb (drop at s))
 
 module _ (big : Bool) (at : ℕ) where
-  as-copied : (v k n : ℕ) (s : List ℕ) → n ≤ length s → as_field big at (some (copy v k n s)) ≡ Field' (a_field v (at + k) (at + n))
+  as-copied : (v k n : ℕ) (s : List ℕ) → n ≤ length s → as_field big at (Some (copy v k n s)) ≡ Some (a_field v (at + k) (at + n))
   unfolding as_field field_of size copy bytes_of piece_bytes linked_value
-  as-copied v k n s h = ap (λ m. Field' (a_field v (at + k) (at + m))) (ap length (append-nil (take n s)) ∙ length-take-le n s h)
+  as-copied v k n s h = ap (λ m. Some (a_field v (at + k) (at + m))) (ap length (append-nil (take n s)) ∙ length-take-le n s h)
 
   -- the same, where its payload starts with it
-  as-whole : (v n : ℕ) (s : List ℕ) → n ≤ length s → as_field big at (some (copy v 0 n s)) ≡ Field' (a_field v at (at + n))
-  as-whole v n s h = as-copied v 0 n s h ∙ ap (λ m. Field' (a_field v m (at + n))) (let e : at + 0 ≡ at = omega arith in e)
+  as-whole : (v n : ℕ) (s : List ℕ) → n ≤ length s → as_field big at (Some (copy v 0 n s)) ≡ Some (a_field v at (at + n))
+  as-whole v n s h = as-copied v 0 n s h ∙ ap (λ m. Some (a_field v m (at + n))) (let e : at + 0 ≡ at = omega arith in e)
 
   on-number : (k : Kind) (s : List ℕ) (o : Option ReadFound) → All (NumberLaw big k s) o → as_field big at (bind o (as_number s)) ≡ number_field at (as_fixed at o)
   unfolding All bind as_field as_number as_fixed number_field
-  on-number k s none q = refl
-  on-number k s (some r) q = as-whole r.1 (width r.0) s q.1.0
+  on-number k s None q = refl
+  on-number k s (Some r) q = as-whole r.1 (width r.0) s q.1.0
 
   on-link : (role : Role) (o : Option ReadFound) → as_field big at (bind o (as_link role)) ≡ number_field at (as_fixed at o)
   unfolding bind as_field field_of size bytes_of piece_bytes linked_value as_link as_fixed number_field
-  on-link role none = refl
-  on-link role (some r) =
-      ap₂ (λ (x y : ℕ). Field' (a_field r.1 x (at + y))) (let e : at + 0 ≡ at = omega arith in e)
+  on-link role None = refl
+  on-link role (Some r) =
+      ap₂ (λ (x y : ℕ). Some (a_field r.1 x (at + y))) (let e : at + 0 ≡ at = omega arith in e)
       (ap length (append-nil (number_bytes big r.0 r.1)) ∙ length-number big r.0 r.1)
 
   on-signed : (s : List ℕ) (o : Option Groups) → All (LebLaw sleb s) o → as_field big at (bind o (as_signed s)) ≡ number_field at (as_leb_number at o)
   unfolding All bind as_field as_signed as_leb_number number_field
-  on-signed s none q = refl
-  on-signed s (some t) q = as-whole t.1 (suc t.0) s q.0.0
+  on-signed s None q = refl
+  on-signed s (Some t) q = as-whole t.1 (suc t.0) s q.0.0
 
   -- a test, before and after
-  on-check : (b : Bool) (r : ReadOf) (f : Field) → (T b → as_field big at (some r) ≡ Field' f) → as_field big at (check b (some r)) ≡ pick b (Field' f) NoField
+  on-check : (b : Bool) (r : ReadOf) (f : Field) → (T b → as_field big at (Some r) ≡ Some f) → as_field big at (check b (Some r)) ≡ pick b (Some f) None
   unfolding check pick as_field
   on-check true r f e = e tt
   on-check false r f e = refl
 
   on-bounded : (s : List ℕ) (o : Option Groups) → All (LebLaw uleb s) o → as_field big at (bind o (as_bounded 65535 s)) ≡ bounded_field at (as_leb_number at o)
   unfolding All bind as_field as_bounded as_leb_number bounded_field
-  on-bounded s none q = refl
-  on-bounded s (some t) q =
+  on-bounded s None q = refl
+  on-bounded s (Some t) q =
       on-check (leb t.1 65535) (copy t.1 0 (suc t.0) s) (a_field t.1 at (at + suc t.0)) (λ _. as-whole t.1 (suc t.0) s q.0.0)
 
   on-string : (s : List ℕ) (o : Option (List ℕ × List ℕ)) → All (StringLaw s) o → as_field big at (bind o (as_string s)) ≡ moved_field at (as_moved at o)
   unfolding All bind as_field as_string as_moved moved_field
-  on-string s none q = refl
-  on-string s (some r) q = as-whole 0 (length r.0) s q.0.0
+  on-string s None q = refl
+  on-string s (Some r) q = as-whole 0 (length r.0) s q.0.0
 
-  on-skip : (b : Bool) (c : Cursor) → pick b (Field' (a_field 0 at c.at)) NoField ≡ moved_field at (pick b (To c) Nowhere)
+  on-skip : (b : Bool) (c : Cursor) → pick b (Some (a_field 0 at c.at)) None ≡ moved_field at (pick b (Some c) None)
   unfolding pick moved_field
   on-skip true c = refl
   on-skip false c = refl
 
-  on-run : (s : List ℕ) (n : ℕ) → as_field big at (check (leb n (length (drop at s))) (some (copy 0 0 n (drop at s)))) ≡ moved_field at (skip_at s at n)
+  on-run : (s : List ℕ) (n : ℕ) → as_field big at (check (leb n (length (drop at s))) (Some (copy 0 0 n (drop at s)))) ≡ moved_field at (skip_at s at n)
   unfolding skip_at
   on-run s n =
       on-check (leb n (length (drop at s))) (copy 0 0 n (drop at s)) (a_field 0 at (at + n)) (λ u. as-whole 0 n (drop at s) (leb_yes {a = n} {b = length (drop at s)} u))
       ∙ on-skip (leb n (length (drop at s))) (cursor (at + n))
-      ∙ ap (λ m. moved_field at (pick (leb n m) (To (cursor (at + n))) Nowhere)) (length-drop at s)
+      ∙ ap (λ m. moved_field at (pick (leb n m) (Some (cursor (at + n))) None)) (length-drop at s)
 
   -- what is left after w bytes
   left_after : (s rest : List ℕ) (w : ℕ) → Took (drop at s) w rest → length rest ≡ length s - (at + w)
@@ -170,30 +162,30 @@ module _ (big : Bool) (at : ℕ) where
 
   on-block : (k : Kind) (s : List ℕ) (o : Option ReadFound) → All (NumberLaw big k (drop at s)) o → as_field big at (bind o (as_block (drop at s))) ≡ block_field s (as_fixed at o)
   unfolding All bind as_field as_block as_fixed block_field
-  on-block k s none q = refl
-  on-block k s (some r) q =
+  on-block k s None q = refl
+  on-block k s (Some r) q =
       let w : ℕ = width r.0 in
       on-check (leb r.1 (length r.2)) (copy 0 w (w + r.1) (drop at s)) (a_field 0 (at + w) (at + (w + r.1)))
       (λ u. as-copied 0 w (w + r.1) (drop at s)
       (let h : r.1 ≤ length r.2 = leb_yes u in omega (arith, took-length (drop at s) w r.2 q.1)))
-      ∙ ap₂ (λ (x y : ℕ). pick (leb r.1 x) (Field' (a_field 0 (at + w) y)) NoField) (left_after s r.2 w q.1) (let e : at + (w + r.1) ≡ at + w + r.1 = omega arith in e)
+      ∙ ap₂ (λ (x y : ℕ). pick (leb r.1 x) (Some (a_field 0 (at + w) y)) None) (left_after s r.2 w q.1) (let e : at + (w + r.1) ≡ at + w + r.1 = omega arith in e)
 
   on-expression : (s : List ℕ) (o : Option Groups) → All (LebLaw uleb (drop at s)) o → as_field big at (bind o (as_expression as_bytes (drop at s))) ≡ block_field s (as_leb_number at o)
   unfolding All bind as_field field_of size bytes_of piece_bytes linked_value as_expression as_bytes as_leb_number block_field
-  on-expression s none q = refl
-  on-expression s (some t) q =
+  on-expression s None q = refl
+  on-expression s (Some t) q =
       let w : ℕ = suc t.0 in
       let a : List ℕ = take w (drop at s) in
       let b : List ℕ = take t.1 t.2 in
       on-check (leb t.1 (length t.2)) (record { seen = 0; start = w; pieces = verbatim a ∷ verbatim b ∷ [] }, drop t.1 t.2) (a_field 0 (at + w) (at + (w + t.1)))
-      (λ u. ap (λ m. Field' (a_field 0 (at + w) (at + m)))
+      (λ u. ap (λ m. Some (a_field 0 (at + w) (at + m)))
       (length-append a (b ++ []) ∙ ap₂ ◌+◌ (length-take-le w (drop at s) q.0.0) (ap length (append-nil b) ∙ length-take-le t.1 t.2 (leb_yes u))))
-      ∙ ap₂ (λ (x y : ℕ). pick (leb t.1 x) (Field' (a_field 0 (at + w) y)) NoField) (left_after s t.2 w q.0) (let e : at + (w + t.1) ≡ at + w + t.1 = omega arith in e)
+      ∙ ap₂ (λ (x y : ℕ). pick (leb t.1 x) (Some (a_field 0 (at + w) y)) None) (left_after s t.2 w q.0) (let e : at + (w + t.1) ≡ at + w + t.1 = omega arith in e)
 
 module _ (e : Encoding) (s : List ℕ) (at : ℕ) where
-  pub token-nothing : token_at e s at nothing ≡ Field' (a_field 0 at at)
+  pub token-nothing : token_at e s at nothing ≡ Some (a_field 0 at at)
   unfolding token_at token_in as_field field_of size bytes_of linked_value
-  token-nothing = ap (λ m. Field' (a_field 0 m m)) (let z : at + 0 ≡ at = omega arith in z)
+  token-nothing = ap (λ m. Some (a_field 0 m m)) (let z : at + 0 ≡ at = omega arith in z)
 
   pub token-number : (k : Kind) → token_at e s at (number k) ≡ number_field at (kind_at (order e) k s at)
   unfolding token_at token_in kind_at
@@ -228,13 +220,13 @@ module _ (e : Encoding) (s : List ℕ) (at : ℕ) where
   unfolding token_at token_in leb_at
   token-expression = on-expression (order e) at s (uleb (drop at s)) (uleb-law (drop at s))
 
-  pub token-unknown : token_at e s at unknown ≡ NoField
+  pub token-unknown : token_at e s at unknown ≡ None
   unfolding token_at token_in as_field
   token-unknown = refl
 
   -- ---- tokens by their numbers
 
-  pub field-nothing : (t : ℕ) → t ≡ 0 → field_at e s at t ≡ Field' (a_field 0 at at)
+  pub field-nothing : (t : ℕ) → t ≡ 0 → field_at e s at t ≡ Some (a_field 0 at at)
   unfolding field_at token_of pick
   field-nothing t h = ap (field_at e s at) h ∙ token-nothing
 
@@ -328,7 +320,7 @@ module _ (e : Encoding) (s : List ℕ) (at : ℕ) where
   unfolding field_at token_of pick
   field-bounded t h = ap (field_at e s at) h ∙ token-bounded
 
-  pub field-unknown : (t : ℕ) → 20 < t → field_at e s at t ≡ NoField
+  pub field-unknown : (t : ℕ) → 20 < t → field_at e s at t ≡ None
   unfolding field_at token_of
   field-unknown t h =
       let other : (n : ℕ) → n ≤ 20 → T (not (eqb t n)) = (λ n k. no_eqb {a = t} {b = n} (λ x. omega arith)) in
@@ -372,25 +364,25 @@ module _ (e : Encoding) (s : List ℕ) (at : ℕ) where
 
 -- ---- a row: one field after the other
 
-unfoldable pub on_field : FieldRead → (Field → OperandsRead) → OperandsRead
-on_field (Field' f) g = g f
-on_field NoField g = NoRow
+unfoldable pub on_field : Option Field → (Field → Option Operands) → Option Operands
+on_field (Some f) g = g f
+on_field None g = None
 
-pub on-field : (r : FieldRead) (f : Field) (g : Field → OperandsRead) → r ≡ Field' f → on_field r g ≡ g f
+pub on-field : (r : Option Field) (f : Field) (g : Field → Option Operands) → r ≡ Some f → on_field r g ≡ g f
 unfolding on_field
 on-field r f g e = ap (λ x. on_field x g) e
 
-pub on_none : (r : FieldRead) (g : Field → OperandsRead) → r ≡ NoField → on_field r g ≡ NoRow
+pub on_none : (r : Option Field) (g : Field → Option Operands) → r ≡ None → on_field r g ≡ None
 unfolding on_field
 on_none r g e = ap (λ x. on_field x g) e
 
-pub on_same : (r r' : FieldRead) (g g' : Field → OperandsRead) → r ≡ r' → ((f : Field) → g f ≡ g' f) → on_field r g ≡ on_field r' g'
+pub on_same : (r r' : Option Field) (g g' : Field → Option Operands) → r ≡ r' → ((f : Field) → g f ≡ g' f) → on_field r g ≡ on_field r' g'
 unfolding on_field
 on_same r r' g g' e h = ap (λ x. on_field x g) e ∙ each r'
   where
-    each : (x : FieldRead) → on_field x g ≡ on_field x g'
-    each (Field' f) = h f
-    each NoField = refl
+    each : (x : Option Field) → on_field x g ≡ on_field x g'
+    each (Some f) = h f
+    each None = refl
 
 abbrev pub a_row : Field → Field → Field → Operands
 a_row a b c = record { first = a; second = b; third = c }
@@ -407,36 +399,36 @@ module _ (e : Encoding) (s : List ℕ) (at : ℕ) where
   row-third : (a b : Read) (o : Option ReadOf)
       → as_row (order e) at (bind (bind (bind o (λ r. bind (read_in (order e) as_bytes done r.1) (before r.0))) (before b)) (before a))
       ≡ on_field (as_field (order e) (at + size (order e) a + size (order e) b) o)
-      (λ f. Row' (a_row (field_of (order e) at a) (field_of (order e) (at + size (order e) a) b) f))
+      (λ f. Some (a_row (field_of (order e) at a) (field_of (order e) (at + size (order e) a) b) f))
   unfolding as_row row_of_reads bind read_in before on_field as_field
-  row-third a b none = refl
-  row-third a b (some r) = refl
+  row-third a b None = refl
+  row-third a b (Some r) = refl
 
   row-second : (a : Read) (t t' : Token) (o : Option ReadOf) → All (TokenLaw (order e) as_bytes t (drop (at + size (order e) a) s)) o
       → as_row (order e) at (bind (bind o (λ r. bind (read_in (order e) as_bytes (field t' (λ _. done)) r.1) (before r.0))) (before a))
       ≡ on_field (as_field (order e) (at + size (order e) a) o)
-      (λ f. on_field (token_at e s f.end t') (λ g. Row' (a_row (field_of (order e) at a) f g)))
+      (λ f. on_field (token_at e s f.end t') (λ g. Some (a_row (field_of (order e) at a) f g)))
   unfolding as_row bind read_in on_field as_field field_of token_at All
-  row-second a t t' none q = refl
-  row-second a t t' (some r) q =
+  row-second a t t' None q = refl
+  row-second a t t' (Some r) q =
       row-third a r.0 (token_in (order e) as_bytes t' r.1)
-      ∙ ap (λ l. on_field (as_field (order e) (at + size (order e) a + size (order e) r.0) (token_in (order e) as_bytes t' l)) (λ f. Row' (a_row (field_of (order e) at a) (field_of (order e) (at + size (order e) a) r.0) f)))
+      ∙ ap (λ l. on_field (as_field (order e) (at + size (order e) a + size (order e) r.0) (token_in (order e) as_bytes t' l)) (λ f. Some (a_row (field_of (order e) at a) (field_of (order e) (at + size (order e) a) r.0) f)))
       (rest_at (at + size (order e) a) t r q)
 
   row_first : (t t' t'' : Token) (o : Option ReadOf) → All (TokenLaw (order e) as_bytes t (drop at s)) o
       → as_row (order e) at (bind o (λ r. bind (read_in (order e) as_bytes (field t' (λ _. field t'' (λ _. done))) r.1) (before r.0)))
       ≡ on_field (as_field (order e) at o)
-      (λ f. on_field (token_at e s f.end t') (λ g. on_field (token_at e s g.end t'') (λ h. Row' (a_row f g h))))
+      (λ f. on_field (token_at e s f.end t') (λ g. on_field (token_at e s g.end t'') (λ h. Some (a_row f g h))))
   unfolding as_row bind read_in on_field as_field field_of token_at All
-  row_first t t' t'' none q = refl
-  row_first t t' t'' (some r) q =
+  row_first t t' t'' None q = refl
+  row_first t t' t'' (Some r) q =
       ap (λ l. as_row (order e) at (bind (read_in (order e) as_bytes (field t' (λ _. field t'' (λ _. done))) l) (before r.0))) (rest_at at t r q)
       ∙ row-second r.0 t' t'' (token_in (order e) as_bytes t' (drop (at + size (order e) r.0) s)) (law t' (drop (at + size (order e) r.0) s))
 
   pub row_step : (l : ℕ) → row_at e s at l
       ≡ on_field (field_at e s at (row_of l).first)
       (λ f. on_field (field_at e s f.end (row_of l).second)
-      (λ g. on_field (field_at e s g.end (row_of l).third) (λ h. Row' (a_row f g h))))
+      (λ g. on_field (field_at e s g.end (row_of l).third) (λ h. Some (a_row f g h))))
   unfolding row_at row_layout read_in token_at
   row_step l =
       let t : Token = token_of e (row_of l).first_use (row_of l).first in
@@ -488,10 +480,10 @@ module _ (big : Bool) where
   start-law unknown l = all_none _
 
 module _ (e : Encoding) (s : List ℕ) (at : ℕ) (f : Field) where
-  inside-in : (t : Token) (o : Option ReadOf) → All (TokenLaw (order e) as_bytes t (drop at s)) o → All (Starts (order e)) o → as_field (order e) at o ≡ Field' f → Inside s at f
+  inside-in : (t : Token) (o : Option ReadOf) → All (TokenLaw (order e) as_bytes t (drop at s)) o → All (Starts (order e)) o → as_field (order e) at o ≡ Some f → Inside s at f
   unfolding as_field field_of All size
-  inside-in t none q p x = let z : ◌≡◌ {A = ℕ} 0 1 = cc in absurd (omega arith)
-  inside-in t (some r) q p x =
+  inside-in t None q p x = let z : ◌≡◌ {A = ℕ} 0 1 = cc in absurd (omega arith)
+  inside-in t (Some r) q p x =
       let g : field_of (order e) at r.0 ≡ f = cc in
       subst (Inside s at) g (record {
         after = omega arith;
@@ -499,45 +491,45 @@ module _ (e : Encoding) (s : List ℕ) (at : ℕ) (f : Field) where
         within = omega (arith, q.0.0, length-drop at s);
       })
 
-  pub token-inside : (t : Token) → token_at e s at t ≡ Field' f → Inside s at f
+  pub token-inside : (t : Token) → token_at e s at t ≡ Some f → Inside s at f
   unfolding token_at
   token-inside t = inside-in t (token_in (order e) as_bytes t (drop at s)) (law e s at t (drop at s)) (start-law (order e) t (drop at s))
 
-  pub field-inside : (t : ℕ) → field_at e s at t ≡ Field' f → Inside s at f
+  pub field-inside : (t : ℕ) → field_at e s at t ≡ Some f → Inside s at f
   unfolding field_at
   field-inside t = token-inside (token_of e plain t)
 
 -- what a row that was read says of each of its fields
 pub record Fields (e : Encoding) (s : List ℕ) (at l : ℕ) (r : Operands) : Type 0 where
-  pub first : field_at e s at (row_of l).first ≡ Field' r.first
-  pub second : field_at e s r.first.end (row_of l).second ≡ Field' r.second
-  pub third : field_at e s r.second.end (row_of l).third ≡ Field' r.third
+  pub first : field_at e s at (row_of l).first ≡ Some r.first
+  pub second : field_at e s r.first.end (row_of l).second ≡ Some r.second
+  pub third : field_at e s r.second.end (row_of l).third ≡ Some r.third
 
 module _ (e : Encoding) (s : List ℕ) (at l : ℕ) (r : Operands) where
-  third_of : (f g : Field) (o : FieldRead) → field_at e s at (row_of l).first ≡ Field' f → field_at e s f.end (row_of l).second ≡ Field' g → field_at e s g.end (row_of l).third ≡ o
-      → on_field o (λ h. Row' (a_row f g h)) ≡ Row' r → Fields e s at l r
+  third_of : (f g : Field) (o : Option Field) → field_at e s at (row_of l).first ≡ Some f → field_at e s f.end (row_of l).second ≡ Some g → field_at e s g.end (row_of l).third ≡ o
+      → on_field o (λ h. Some (a_row f g h)) ≡ Some r → Fields e s at l r
   unfolding on_field
-  third_of f g (Field' h) a b c x =
+  third_of f g (Some h) a b c x =
       let q : a_row f g h ≡ r = cc in
       subst (Fields e s at l) q (record { first = a; second = b; third = c })
-  third_of f g NoField a b c x = let z : ◌≡◌ {A = ℕ} 0 1 = cc in absurd (omega arith)
+  third_of f g None a b c x = let z : ◌≡◌ {A = ℕ} 0 1 = cc in absurd (omega arith)
 
-  second-of : (f : Field) (o : FieldRead) → field_at e s at (row_of l).first ≡ Field' f → field_at e s f.end (row_of l).second ≡ o
-      → on_field o (λ g. on_field (field_at e s g.end (row_of l).third) (λ h. Row' (a_row f g h))) ≡ Row' r → Fields e s at l r
+  second-of : (f : Field) (o : Option Field) → field_at e s at (row_of l).first ≡ Some f → field_at e s f.end (row_of l).second ≡ o
+      → on_field o (λ g. on_field (field_at e s g.end (row_of l).third) (λ h. Some (a_row f g h))) ≡ Some r → Fields e s at l r
   unfolding on_field
-  second-of f (Field' g) a b x = third_of f g (field_at e s g.end (row_of l).third) a b refl x
-  second-of f NoField a b x = let z : ◌≡◌ {A = ℕ} 0 1 = cc in absurd (omega arith)
+  second-of f (Some g) a b x = third_of f g (field_at e s g.end (row_of l).third) a b refl x
+  second-of f None a b x = let z : ◌≡◌ {A = ℕ} 0 1 = cc in absurd (omega arith)
 
-  first_of : (o : FieldRead) → field_at e s at (row_of l).first ≡ o
-      → on_field o (λ f. on_field (field_at e s f.end (row_of l).second) (λ g. on_field (field_at e s g.end (row_of l).third) (λ h. Row' (a_row f g h)))) ≡ Row' r → Fields e s at l r
+  first_of : (o : Option Field) → field_at e s at (row_of l).first ≡ o
+      → on_field o (λ f. on_field (field_at e s f.end (row_of l).second) (λ g. on_field (field_at e s g.end (row_of l).third) (λ h. Some (a_row f g h)))) ≡ Some r → Fields e s at l r
   unfolding on_field
-  first_of (Field' f) a x = second-of f (field_at e s f.end (row_of l).second) a refl x
-  first_of NoField a x = let z : ◌≡◌ {A = ℕ} 0 1 = cc in absurd (omega arith)
+  first_of (Some f) a x = second-of f (field_at e s f.end (row_of l).second) a refl x
+  first_of None a x = let z : ◌≡◌ {A = ℕ} 0 1 = cc in absurd (omega arith)
 
-  pub row-fields : row_at e s at l ≡ Row' r → Fields e s at l r
+  pub row-fields : row_at e s at l ≡ Some r → Fields e s at l r
   row-fields x = first_of (field_at e s at (row_of l).first) refl (sym (row_step e s at l) ∙ x)
 
-  pub row_inside : row_at e s at l ≡ Row' r → Inside s at r.first × Inside s r.first.end r.second × Inside s r.second.end r.third
+  pub row_inside : row_at e s at l ≡ Some r → Inside s at r.first × Inside s r.first.end r.second × Inside s r.second.end r.third
   row_inside x =
       let q : Fields e s at l r = row-fields x in
       (field-inside e s at r.first _ q.first, field-inside e s r.first.end r.second _ q.second, field-inside e s r.second.end r.third _ q.third)
@@ -566,36 +558,36 @@ module _ (s : List ℕ) (f : Field) where
 -- ---- a row, field by field, as it is read
 
 -- from the cursor past the field before
-pub field-from : (e : Encoding) (s : List ℕ) (t : ℕ) (r : FieldRead) (d : Cursor) (n : ℕ) → r ≡ field_at e s d.at t → d ≡ cursor n → r ≡ field_at e s n t
+pub field-from : (e : Encoding) (s : List ℕ) (t : ℕ) (r : Option Field) (d : Cursor) (n : ℕ) → r ≡ field_at e s d.at t → d ≡ cursor n → r ≡ field_at e s n t
 field-from e s t r d n p q = p ∙ ap (λ (d : Cursor). field_at e s d.at t) q
 
 module _ (e : Encoding) (s : List ℕ) (at l : ℕ) where
-  pub row-over : 31 ≤ l → NoRow ≡ row_at e s at l
+  pub row-over : 31 ≤ l → None ≡ row_at e s at l
   unfolding row_of rows unreadable_row
   row-over h =
       let o : (row_of l).first ≡ 21 = ap (λ (r : Tokens). r.first) (get_or-eq_default rows unreadable_row {n = l} h) in
       sym (row_step e s at l ∙ on_none _ _ (field-unknown e s at (row_of l).first (omega arith)))
 
-  module _ (t : ℕ) (r : FieldRead) (p : r ≡ field_at e s at t) (q : t ≡ (row_of l).first) where
+  module _ (t : ℕ) (r : Option Field) (p : r ≡ field_at e s at t) (q : t ≡ (row_of l).first) where
     first_is : field_at e s at (row_of l).first ≡ r
     first_is = ap (field_at e s at) (sym q) ∙ sym p
 
-    pub row_none : r ≡ NoField → NoRow ≡ row_at e s at l
+    pub row_none : r ≡ None → None ≡ row_at e s at l
     row_none h = sym (row_step e s at l ∙ on_none _ _ (first_is ∙ h))
 
-    module _ (f : Field) (h : r ≡ Field' f) (t' : ℕ) (r' : FieldRead) (p' : r' ≡ field_at e s f.end t') (q' : t' ≡ (row_of l).second) where
+    module _ (f : Field) (h : r ≡ Some f) (t' : ℕ) (r' : Option Field) (p' : r' ≡ field_at e s f.end t') (q' : t' ≡ (row_of l).second) where
       second_is : field_at e s f.end (row_of l).second ≡ r'
       second_is = ap (field_at e s f.end) (sym q') ∙ sym p'
 
-      pub row-none2 : r' ≡ NoField → NoRow ≡ row_at e s at l
+      pub row-none2 : r' ≡ None → None ≡ row_at e s at l
       row-none2 h' = sym (row_step e s at l ∙ on-field _ f _ (first_is ∙ h) ∙ on_none _ _ (second_is ∙ h'))
 
-      module _ (f' : Field) (h' : r' ≡ Field' f') (t'' : ℕ) (r'' : FieldRead) (p'' : r'' ≡ field_at e s f'.end t'') (q'' : t'' ≡ (row_of l).third) where
+      module _ (f' : Field) (h' : r' ≡ Some f') (t'' : ℕ) (r'' : Option Field) (p'' : r'' ≡ field_at e s f'.end t'') (q'' : t'' ≡ (row_of l).third) where
         third-is : field_at e s f'.end (row_of l).third ≡ r''
         third-is = ap (field_at e s f'.end) (sym q'') ∙ sym p''
 
-        pub row-none3 : r'' ≡ NoField → NoRow ≡ row_at e s at l
+        pub row-none3 : r'' ≡ None → None ≡ row_at e s at l
         row-none3 h'' = sym (row_step e s at l ∙ on-field _ f _ (first_is ∙ h) ∙ on-field _ f' _ (second_is ∙ h') ∙ on_none _ _ (third-is ∙ h''))
 
-        pub row_read : (f'' : Field) → r'' ≡ Field' f'' → Row' (a_row f f' f'') ≡ row_at e s at l
+        pub row_read : (f'' : Field) → r'' ≡ Some f'' → Some (a_row f f' f'') ≡ row_at e s at l
         row_read f'' h'' = sym (row_step e s at l ∙ on-field _ f _ (first_is ∙ h) ∙ on-field _ f' _ (second_is ∙ h') ∙ on-field _ f'' _ (third-is ∙ h''))

@@ -3,7 +3,9 @@ use mathlib.Core.Path.{◌≡◌, refl, ap, ap₂, sym, ◌∙◌, subst}
 use Prim.Native.Nat.{ℕ, zero, suc, ◌+◌, ◌-◌, ◌≤◌, ◌<◌}
 use mathlib.Core.Bool.{Bool, true, false, not}
 use mathlib.Core.Logic.{⊎_elim}
-use mathlib.Core.Option.{Option, none, some}
+use Rattle.std.specs.Prelude.{None, Option, Some}
+use Rattle.std.proofs.lemmas.Option.{some_pair_parts}
+use Rattle.readers.specs.declared.expressions.Reference.{Reference}
 use mathlib.Core.List.{List, [], ◌∷◌, ◌++◌}
 use native.Mathlib.Omega.{arith}
 use lib.ListN.{length, take, drop, length-append, length-drop, drop_of_length-le}
@@ -22,33 +24,31 @@ use Rattle.readers.specs.References.{names_in, any_absolute, as_walk, walk_of, r
 use Rattle.readers.specs.Inner.References.{own_walk, counted}
 use Rattle.readers.specs.declared.cursor.Encoding.{Encoding}
 use Rattle.readers.specs.declared.operations.Operation.{Operation}
-use Rattle.readers.specs.declared.operations.OperationRead.{OperationRead}
-use Rattle.readers.specs.declared.operations.OperationRead.TheVariants.{Read as Operation', Unreadable as NoOperation}
-use Rattle.readers.specs.declared.expressions.Walk.{Walk}
-use Rattle.readers.specs.declared.expressions.Walk.TheVariants.{Walked, Unreadable}
-use Rattle.readers.specs.declared.expressions.Yield.{Yield}
-use Rattle.readers.specs.declared.expressions.Yield.TheVariants.{Reference as Yielded, End}
 use Rattle.readers.proofs.OperationReads.{OperationHeld, Cases, cases, span, rest-is, past, held-inside, operation-held, operation-none, operation-inside}
 use Rattle.readers.proofs.OperationPieces.{names-append, same_count, absolute-append, or_assoc}
 use Rattle.readers.proofs.Deep.{own, own-names, own-absolute, deep-plain, lead, inner, deep-entry, lead-names, lead-absolute, inner-size, inner-is, unreadable}
 
+-- what a walk found: so many references, and whether one names something by an offset in the section
+abbrev pub walked : ℕ → Bool → Option (ℕ × Bool)
+walked n b = Some (n, b)
+
 -- two walks in a row
-unfoldable pub join : Walk → Walk → Walk
-join Unreadable w = Unreadable
-join (Walked m a) Unreadable = Unreadable
-join (Walked m a) (Walked n b) = Walked (m + n) (a or b)
+unfoldable pub join : Option (ℕ × Bool) → Option (ℕ × Bool) → Option (ℕ × Bool)
+join None w = None
+join (Some (m, a)) None = None
+join (Some (m, a)) (Some (n, b)) = Some (m + n, a or b)
 
-pub join-assoc : (u v w : Walk) → join (join u v) w ≡ join u (join v w)
+pub join-assoc : (u v w : Option (ℕ × Bool)) → join (join u v) w ≡ join u (join v w)
 unfolding join
-join-assoc Unreadable v w = refl
-join-assoc (Walked m a) Unreadable w = refl
-join-assoc (Walked m a) (Walked n b) Unreadable = refl
-join-assoc (Walked m a) (Walked n b) (Walked k c) = ap₂ Walked (let h : m + n + k ≡ m + (n + k) = omega arith in h) (sym (or_assoc a b c))
+join-assoc None v w = refl
+join-assoc (Some (m, a)) None w = refl
+join-assoc (Some (m, a)) (Some (n, b)) None = refl
+join-assoc (Some (m, a)) (Some (n, b)) (Some (k, c)) = ap₂ walked (let h : m + n + k ≡ m + (n + k) = omega arith in h) (sym (or_assoc a b c))
 
-join-none : (w : Walk) → join (Walked 0 false) w ≡ w
+join-none : (w : Option (ℕ × Bool)) → join (Some (0, false)) w ≡ w
 unfolding join ◌or◌
-join-none Unreadable = refl
-join-none (Walked n b) = ap (λ m. Walked m b) (let h : 0 + n ≡ n = omega arith in h)
+join-none None = refl
+join-none (Some (n, b)) = ap (λ m. Some (m, b)) (let h : 0 + n ≡ n = omega arith in h)
 
 or-false : (b : Bool) → (b or false) ≡ b
 unfolding ◌or◌
@@ -57,7 +57,7 @@ or-false false = refl
 
 -- ---- what an operation holds by itself
 
-pub late-none : (op : Operation) → 18 ≤ op.row → reference_of op ≡ End
+pub late-none : (op : Operation) → 18 ≤ op.row → reference_of op ≡ None
 unfolding reference_of
 late-none op h =
     pick_no _ _ _ (no_ltb {a = op.row} {b = 12} (omega arith))
@@ -74,27 +74,27 @@ or-second false b h n = h
 or-late : (l : ℕ) → T (eqb l 20 or eqb l 21) → 18 ≤ l
 or-late l h = ⊎_elim (λ q. let w : l ≡ 20 = eqb_yes q in omega arith) (λ q. let w : l ≡ 21 = eqb_yes (or-second _ _ h q) in omega arith) (either (eqb l 20))
 
-pub count-names : (y : Yield) → length (names_of y) ≡ counted y
+pub count-names : (y : Option Reference) → length (names_of y) ≡ counted y
 unfolding names_of counted
-count-names (Yielded r) = refl
-count-names End = refl
+count-names (Some r) = refl
+count-names None = refl
 
-pub count_most : (y : Yield) → counted y ≤ 1
+pub count_most : (y : Option Reference) → counted y ≤ 1
 unfolding counted
-count_most (Yielded r) = omega arith
-count_most End = omega arith
+count_most (Some r) = omega arith
+count_most None = omega arith
 
-own-case : (b : Bool) (n : ℕ) → (T b → n ≡ 0) → Walked n b ≡ pick b (Walked 0 true) (Walked n false)
+own-case : (b : Bool) (n : ℕ) → (T b → n ≡ 0) → walked n b ≡ pick b (walked 0 true) (walked n false)
 unfolding pick
-own-case true n h = ap (λ m. Walked m true) (h tt)
+own-case true n h = ap (λ m. Some (m, true)) (h tt)
 own-case false n h = refl
 
-own-few : (b : Bool) (y : Yield) (m : ℕ) (a : Bool) → pick b (Walked 0 true) (Walked (counted y) false) ≡ Walked m a → m ≤ 1
+own-few : (b : Bool) (y : Option Reference) (m : ℕ) (a : Bool) → pick b (walked 0 true) (walked (counted y) false) ≡ walked m a → m ≤ 1
 unfolding pick
-own-few true y m a q = let h : 0 ≡ m = cc in omega arith
-own-few false y m a q = let h : counted y ≡ m = cc in omega (arith, count_most y)
+own-few true y m a q = let h : 0 ≡ m = (some_pair_parts _ _ _ _ q).0 in omega arith
+own-few false y m a q = let h : counted y ≡ m = (some_pair_parts _ _ _ _ q).0 in omega (arith, count_most y)
 
-pub own-most : (op : Operation) (m : ℕ) (a : Bool) → own_walk op ≡ Walked m a → m ≤ 1
+pub own-most : (op : Operation) (m : ℕ) (a : Bool) → own_walk op ≡ Some (m, a) → m ≤ 1
 unfolding own_walk
 own-most op m a q = own-few _ (reference_of op) m a q
 
@@ -103,44 +103,42 @@ module _ (e : Encoding) where
   big = e.big_endian
 
   -- the walk of what stands from a place on
-  abbrev pub walk_from : List ℕ → ℕ → Walk
+  abbrev pub walk_from : List ℕ → ℕ → Option (ℕ × Bool)
   walk_from s at = as_walk big (expression_in e (drop at s))
 
-  own-walk : (x : List ℕ) (at : ℕ) (op : Operation) (h : OperationHeld e x at op) → Walked (length (names_in big 0 (own e x at op h))) (any_absolute (own e x at op h)) ≡ own_walk op
+  own-walk : (x : List ℕ) (at : ℕ) (op : Operation) (h : OperationHeld e x at op) → Some (length (names_in big 0 (own e x at op h)), any_absolute (own e x at op h)) ≡ own_walk op
   unfolding own_walk counted
   own-walk x at op h =
-      ap₂ Walked (same_count big 0 at (own e x at op h) ∙ ap length (own-names e x at op h) ∙ count-names (reference_of op)) (own-absolute e x at op h)
+      ap₂ walked (same_count big 0 at (own e x at op h) ∙ ap length (own-names e x at op h) ∙ count-names (reference_of op)) (own-absolute e x at op h)
       ∙ own-case (eqb op.row 20 or eqb op.row 21) (counted (reference_of op)) (λ t. ap counted (late-none op (or-late op.row t)))
 
   -- pieces, and then others
-  as-join : (ps : List Piece) (o : Option (List Piece)) → as_walk big (bind o (λ qs. some (ps ++ qs))) ≡ join (Walked (length (names_in big 0 ps)) (any_absolute ps)) (as_walk big o)
+  as-join : (ps : List Piece) (o : Option (List Piece)) → as_walk big (bind o (λ qs. Some (ps ++ qs))) ≡ join (Some (length (names_in big 0 ps), any_absolute ps)) (as_walk big o)
   unfolding as_walk bind join
-  as-join ps none = refl
-  as-join ps (some qs) =
-      ap₂ Walked (ap length (names-append big 0 ps qs) ∙ length-append (names_in big 0 ps) _ ∙ ap (λ n. length (names_in big 0 ps) + n) (same_count big _ 0 qs)) (absolute-append ps qs)
+  as-join ps None = refl
+  as-join ps (Some qs) =
+      ap₂ walked (ap length (names-append big 0 ps qs) ∙ length-append (names_in big 0 ps) _ ∙ ap (λ n. length (names_in big 0 ps) + n) (same_count big _ 0 qs)) (absolute-append ps qs)
 
   as-join-entry : (ls : List Piece) → ((k : ℕ) → names_in big k ls ≡ []) → any_absolute ls ≡ false → (o p : Option (List Piece))
-      → as_walk big (bind o (λ ps. bind p (λ qs. some ((ls ++ ps) ++ qs)))) ≡ join (as_walk big o) (as_walk big p)
+      → as_walk big (bind o (λ ps. bind p (λ qs. Some ((ls ++ ps) ++ qs)))) ≡ join (as_walk big o) (as_walk big p)
   unfolding as_walk bind join ◌or◌
-  as-join-entry ls n a none p = refl
-  as-join-entry ls n a (some ps) p =
+  as-join-entry ls n a None p = refl
+  as-join-entry ls n a (Some ps) p =
       as-join (ls ++ ps) p
-      ∙ ap (λ w. join w (as_walk big p)) (ap₂ Walked
-      (ap length (names-append big 0 ls ps ∙ ap (λ l. l ++ names_in big (0 + length (bytes_of big ls)) ps) (n 0)) ∙ same_count big _ 0 ps)
-      (absolute-append ls ps ∙ ap (λ b. b or any_absolute ps) a))
+      ∙ ap (λ w. join w (as_walk big p)) (ap₂ walked (ap length (names-append big 0 ls ps ∙ ap (λ l. l ++ names_in big (0 + length (bytes_of big ls)) ps) (n 0)) ∙ same_count big _ 0 ps) (absolute-append ls ps ∙ ap (λ b. b or any_absolute ps) a))
 
   module _ (s : List ℕ) (at : ℕ) where
-    pub walk_end : length s ≤ at → walk_from s at ≡ Walked 0 false
+    pub walk_end : length s ≤ at → walk_from s at ≡ Some (0, false)
     unfolding as_walk names_in any_absolute
     walk_end h = ap (λ x. as_walk big (expression_in e x)) (drop_of_length-le s h) ∙ ap (as_walk big) (expression-none e)
 
-    pub walk_none : at < length s → operation_at e s at ≡ NoOperation → walk_from s at ≡ Unreadable
+    pub walk_none : at < length s → operation_at e s at ≡ None → walk_from s at ≡ None
     unfolding as_walk
     walk_none l q =
         ap (as_walk big) (expression-more e (drop at s) (omega (arith, length-drop at s))
         ∙ bind-none _ (unreadable big (expression_in e) (operation e) (drop at s) (operation-none e s at q)))
 
-    module _ (op : Operation) (q : operation_at e s at ≡ Operation' op) where
+    module _ (op : Operation) (q : operation_at e s at ≡ Some op) where
       abbrev held : OperationHeld e (drop at s) at op
       held = operation-held e s at op q
 
@@ -171,10 +169,10 @@ module _ (e : Encoding) where
   abbrev Few : List ℕ → List Piece → Type 0
   Few x ps = length (names_in big 0 ps) ≤ length x
 
-  few-case : (x : List ℕ) → 0 < length x → ((y : List ℕ) → length y < length x → All (Few y) (expression_in e y)) → (o : OperationRead) → Cases e x 0 o → All (Few x) (expression_in e x)
+  few-case : (x : List ℕ) → 0 < length x → ((y : List ℕ) → length y < length x → All (Few y) (expression_in e y)) → (o : Option Operation) → Cases e x 0 o → All (Few x) (expression_in e x)
   unfolding Cases
-  few-case x l ih NoOperation q = subst (All (Few x)) (sym (expression-more e x l ∙ bind-none _ (unreadable big (expression_in e) (operation e) x q))) (all_none _)
-  few-case x l ih (Operation' op) h =
+  few-case x l ih None q = subst (All (Few x)) (sym (expression-more e x l ∙ bind-none _ (unreadable big (expression_in e) (operation e) x q))) (all_none _)
+  few-case x l ih (Some op) h =
       let i : (0 < op.next.at) × (op.next.at ≤ 0 + length x) × (0 < op.first.start) × (op.first.start ≤ op.first.end) × (op.first.end ≤ op.next.at) = held-inside e x 0 op h in
       let m : length x ≡ span e x 0 op h + length h.rest = took-length x _ h.rest (rest-is e x 0 op h) in
       let n : op.next.at ≡ 0 + span e x 0 op h = past e x 0 op h in
@@ -207,20 +205,20 @@ module _ (e : Encoding) where
   few (suc k) (b ∷ x) h =
       few-case (b ∷ x) (let g : 0 < suc (length x) = omega arith in g) (λ y l. few k y (let g : suc (length x) ≤ suc k = h in let g' : suc (length y) ≤ suc (length x) = l in omega arith)) _ (cases e (b ∷ x) 0)
 
-  pub walk-few : (x : List ℕ) (n : ℕ) (b : Bool) → walk_of e x ≡ Walked n b → n ≤ length x
+  pub walk-few : (x : List ℕ) (n : ℕ) (b : Bool) → walk_of e x ≡ Some (n, b) → n ≤ length x
   unfolding walk_of as_walk All
   walk-few x n b q = few-walked (expression_in e x) (few (length x) x (omega arith)) q
     where
-      few-walked : (o : Option (List Piece)) → All (Few x) o → as_walk big o ≡ Walked n b → n ≤ length x
-      few-walked none a q = let z : ◌≡◌ {A = ℕ} 0 1 = cc in absurd (omega arith)
-      few-walked (some ps) a q = let z : length (names_in big 0 ps) ≡ n = cc in omega arith
+      few-walked : (o : Option (List Piece)) → All (Few x) o → as_walk big o ≡ Some (n, b) → n ≤ length x
+      few-walked None a q = let z : ◌≡◌ {A = ℕ} 0 1 = cc in absurd (omega arith)
+      few-walked (Some ps) a q = let z : length (names_in big 0 ps) ≡ n = (some_pair_parts _ _ _ _ q).0 in omega arith
 
 -- ---- the walk's loop: what it found so far, joined with the walk of what is left
 
 pub record Walking (e : Encoding) (s : List ℕ) (at n : ℕ) (b : Bool) : Type 0 where
   pub inside : at ≤ length s
   pub few : n ≤ at
-  pub whole : walk_of e s ≡ join (Walked n b) (walk_from e s at)
+  pub whole : walk_of e s ≡ join (Some (n, b)) (walk_from e s at)
 
 module _ (e : Encoding) (s : List ℕ) where
   pub walking_start : Walking e s 0 0 false
@@ -228,26 +226,26 @@ module _ (e : Encoding) (s : List ℕ) where
   walking_start = record { inside = omega arith; few = omega arith; whole = sym (join-none (walk_from e s 0)) }
 
   module _ (at n : ℕ) (b : Bool) (w : Walking e s at n b) where
-    pub walking-end : length s ≤ at → Walked n b ≡ walk_of e s
+    pub walking-end : length s ≤ at → Some (n, b) ≡ walk_of e s
     unfolding join
     walking-end l =
-        ap₂ Walked (let h : n ≡ n + 0 = omega arith in h) (sym (or-false b)) ∙ ap (join (Walked n b)) (sym (walk_end e s at l)) ∙ sym w.whole
+        ap₂ walked (let h : n ≡ n + 0 = omega arith in h) (sym (or-false b)) ∙ ap (join (Some (n, b))) (sym (walk_end e s at l)) ∙ sym w.whole
 
-    module _ (l : at < length s) (o : OperationRead) (is : o ≡ operation_at e s at) where
-      pub walking-none : o ≡ NoOperation → Unreadable ≡ walk_of e s
+    module _ (l : at < length s) (o : Option Operation) (is : o ≡ operation_at e s at) where
+      pub walking-none : o ≡ None → None ≡ walk_of e s
       unfolding join
-      walking-none q = ap (join (Walked n b)) (sym (walk_none e s at l (sym is ∙ q))) ∙ sym w.whole
+      walking-none q = ap (join (Some (n, b))) (sym (walk_none e s at l (sym is ∙ q))) ∙ sym w.whole
 
-      module _ (op : Operation) (q : o ≡ Operation' op) where
-        abbrev there : operation_at e s at ≡ Operation' op
+      module _ (op : Operation) (q : o ≡ Some op) where
+        abbrev there : operation_at e s at ≡ Some op
         there = sym is ∙ q
 
         pub within : (at < op.next.at) × (op.next.at ≤ length s) × (at < op.first.start) × (op.first.start ≤ op.first.end) × (op.first.end ≤ op.next.at)
         within = operation-inside e s at op there
 
         -- one more walk u, and the rest
-        module _ (u v : Walk) (p : walk_from e s at ≡ join v (walk_from e s op.next.at)) (same : u ≡ v) where
-          step : (m : ℕ) (a c : Bool) → u ≡ Walked m a → c ≡ (b or a) → m ≤ op.next.at - at → Walking e s op.next.at (n + m) c
+        module _ (u v : Option (ℕ × Bool)) (p : walk_from e s at ≡ join v (walk_from e s op.next.at)) (same : u ≡ v) where
+          step : (m : ℕ) (a c : Bool) → u ≡ Some (m, a) → c ≡ (b or a) → m ≤ op.next.at - at → Walking e s op.next.at (n + m) c
           unfolding join
           step m a c r k few =
               let i : op.next.at ≤ length s = within.1 in
@@ -257,26 +255,26 @@ module _ (e : Encoding) (s : List ℕ) where
                 inside = i;
                 few = omega arith;
                 whole =
-                    w.whole ∙ ap (join (Walked n b)) p ∙ sym (join-assoc (Walked n b) v (walk_from e s op.next.at))
-                    ∙ ap (λ x. join (join (Walked n b) x) (walk_from e s op.next.at)) (sym same ∙ r)
-                    ∙ ap (λ d. join (Walked (n + m) d) (walk_from e s op.next.at)) (sym k);
+                    w.whole ∙ ap (join (Some (n, b))) p ∙ sym (join-assoc (Some (n, b)) v (walk_from e s op.next.at))
+                    ∙ ap (λ x. join (join (Some (n, b)) x) (walk_from e s op.next.at)) (sym same ∙ r)
+                    ∙ ap (λ d. join (Some (n + m, d)) (walk_from e s op.next.at)) (sym k);
               }
 
-          fall : u ≡ Unreadable → Unreadable ≡ walk_of e s
+          fall : u ≡ None → None ≡ walk_of e s
           unfolding join
-          fall r = ap (λ x. join (Walked n b) (join x (walk_from e s op.next.at))) (sym r ∙ same) ∙ ap (join (Walked n b)) (sym p) ∙ sym w.whole
+          fall r = ap (λ x. join (Some (n, b)) (join x (walk_from e s op.next.at))) (sym r ∙ same) ∙ ap (join (Some (n, b))) (sym p) ∙ sym w.whole
 
-        module _ (t : op.row ≡ 19 → ⊥) (u : Walk) (same : u ≡ own_walk op) where
+        module _ (t : op.row ≡ 19 → ⊥) (u : Option (ℕ × Bool)) (same : u ≡ own_walk op) where
           abbrev by-own : walk_from e s at ≡ join (own_walk op) (walk_from e s op.next.at)
           by-own = walk-plain e s at op there (no_eqb {a = op.row} {b = 19} t)
 
-          pub walking-own : (m : ℕ) (a c : Bool) → u ≡ Walked m a → c ≡ (b or a) → Walking e s op.next.at (n + m) c
+          pub walking-own : (m : ℕ) (a c : Bool) → u ≡ Some (m, a) → c ≡ (b or a) → Walking e s op.next.at (n + m) c
           walking-own m a c r k =
               let i : at < op.next.at = within.0 in
               let few : m ≤ 1 = own-most op m a (sym same ∙ r) in
               step u (own_walk op) by-own same m a c r k (omega arith)
 
-          pub own-fall : u ≡ Unreadable → Unreadable ≡ walk_of e s
+          pub own-fall : u ≡ None → None ≡ walk_of e s
           own-fall r = fall u (own_walk op) by-own same r
 
         abbrev part : List ℕ
@@ -296,7 +294,7 @@ module _ (e : Encoding) (s : List ℕ) where
             let j : length x ≡ length part = ap length p in
             omega (arith, part-size)
 
-        module _ (t : op.row ≡ 19) (x : List ℕ) (p : x ≡ part_of s op.first) (u : Walk) (read : u ≡ walk_of e x) where
+        module _ (t : op.row ≡ 19) (x : List ℕ) (p : x ≡ part_of s op.first) (u : Option (ℕ × Bool)) (read : u ≡ walk_of e x) where
           same : u ≡ walk_of e part
           unfolding part_of
           same = read ∙ ap (walk_of e) p
@@ -304,12 +302,12 @@ module _ (e : Encoding) (s : List ℕ) where
           abbrev by-entry : walk_from e s at ≡ join (walk_of e part) (walk_from e s op.next.at)
           by-entry = walk-entry e s at op there (yes_eqb {a = op.row} {b = 19} t)
 
-          pub walking-entry : (m : ℕ) (a c : Bool) → u ≡ Walked m a → c ≡ (b or a) → Walking e s op.next.at (n + m) c
+          pub walking-entry : (m : ℕ) (a c : Bool) → u ≡ Some (m, a) → c ≡ (b or a) → Walking e s op.next.at (n + m) c
           walking-entry m a c r k =
               let j : op.first.end ≤ op.next.at = within.4 in
               let i : at < op.first.start = within.2 in
               let few : m ≤ length part = walk-few e part m a (sym same ∙ r) in
               step u (walk_of e part) by-entry same m a c r k (omega (arith, part-size))
 
-          pub entry-fall : u ≡ Unreadable → Unreadable ≡ walk_of e s
+          pub entry-fall : u ≡ None → None ≡ walk_of e s
           entry-fall r = fall u (walk_of e part) by-entry same r

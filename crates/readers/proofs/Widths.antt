@@ -3,7 +3,8 @@ use Prim.Native.Nat.{ℕ, zero, suc, ◌+◌, ◌-◌, ◌*◌, ◌^◌, ◌≤�
 use mathlib.Core.Path.{◌≡◌, refl, ap, ap₂, sym, ◌∙◌, subst}
 use mathlib.Core.Logic.{◌⊎◌, inl, inr, ⊎_elim}
 use mathlib.Core.Bool.{Bool, true, false}
-use mathlib.Core.Option.{Option, none, some}
+use Rattle.std.specs.Prelude.{None, Option, Some}
+use Rattle.std.proofs.lemmas.Option.{some_pair_parts}
 use mathlib.Core.List.{List, [], ◌∷◌, reverse, reverse-cons}
 use native.Mathlib.Nat.{pow-suc, pow-le-pow_right}
 use native.Mathlib.Numerals.{add-one}
@@ -19,28 +20,25 @@ use Rattle.readers.proofs.Numbers.{length-ordered}
 use Rattle.readers.specs.Layout.{fixed, width, number_in, string_in}
 use Rattle.readers.specs.Cursors.{cursor, as_fixed, fixed_at, skip_at, as_moved, string_at}
 use Rattle.readers.specs.declared.cursor.Cursor.{Cursor}
-use Rattle.readers.specs.declared.cursor.Number.{Number}
-use Rattle.readers.specs.declared.cursor.Number.TheVariants.{Value, Unreadable}
-use Rattle.readers.specs.declared.cursor.Moved.TheVariants.{To, Unreadable as Nowhere}
 
 -- ---- a number of a fixed width
 
 module _ (big : Bool) (w : ℕ) (s : List ℕ) (at : ℕ) where
-  pub fixed-over : 8 < w → fixed_at big w s at ≡ Unreadable
+  pub fixed-over : 8 < w → fixed_at big w s at ≡ None
   unfolding fixed_at number_in as_fixed
   fixed-over h = ap (as_fixed at) (check-no _ _ (no_leb {a = w} {b = 8} h))
 
-  pub fixed-short : length s - at < w → fixed_at big w s at ≡ Unreadable
+  pub fixed-short : length s - at < w → fixed_at big w s at ≡ None
   unfolding fixed_at number_in as_fixed
   fixed-short h =
-      let e : number_in big (fixed w) (drop at s) ≡ none =
+      let e : number_in big (fixed w) (drop at s) ≡ None =
       ⊎_elim
       (λ t. check-yes _ _ t ∙ check-no _ _ (no_leb {a = w} {b = length (drop at s)} (omega (arith, length-drop at s))))
       (λ t. check-no _ _ t)
       (either (leb w 8)) in
       ap (as_fixed at) e
 
-  pub fixed-is : w ≤ 8 → w ≤ length s - at → fixed_at big w s at ≡ Value (fixed_value big (take w (drop at s))) (cursor (at + w))
+  pub fixed-is : w ≤ 8 → w ≤ length s - at → fixed_at big w s at ≡ Some (fixed_value big (take w (drop at s)), cursor (at + w))
   unfolding fixed_at number_in as_fixed width
   fixed-is e h =
       ap (as_fixed at) (check-yes _ _ (yes_leb {a = w} {b = 8} e) ∙ check-yes _ _ (yes_leb {a = w} {b = length (drop at s)} (omega (arith, length-drop at s))))
@@ -128,16 +126,16 @@ module _ (big : Bool) (w : ℕ) (s : List ℕ) (at value i : ℕ) (p : Partial b
         low = rw (add-one i, pow-suc 256 i) (omega (arith, p.low));
       }
 
-  pub partial-all : w ≤ i → Value value (cursor (at + w)) ≡ fixed_at big w s at
+  pub partial-all : w ≤ i → Some (value, cursor (at + w)) ≡ fixed_at big w s at
   unfolding fixed_value
   partial-all h =
       let z : w - i ≡ 0 = omega arith in
       sym (fixed-is big w s at p.eight p.fits
-      ∙ ap (λ v. Value v (cursor (at + w))) (sym (p.is ∙ ap (λ n. little_value (drop n (bytes_at big w s at))) z)))
+      ∙ ap (λ v. Some (v, cursor (at + w))) (sym (p.is ∙ ap (λ n. little_value (drop n (bytes_at big w s at))) z)))
 
 -- ---- what a number that was read says
 
-fixed_answer : (big : Bool) (w : ℕ) (s : List ℕ) (at : ℕ) → (fixed_at big w s at ≡ Unreadable) ⊎ ((w ≤ length s - at) × (fixed_at big w s at ≡ Value (fixed_value big (take w (drop at s))) (cursor (at + w))))
+fixed_answer : (big : Bool) (w : ℕ) (s : List ℕ) (at : ℕ) → (fixed_at big w s at ≡ None) ⊎ ((w ≤ length s - at) × (fixed_at big w s at ≡ Some (fixed_value big (take w (drop at s)), cursor (at + w))))
 fixed_answer big w s at =
     ⊎_elim
     (λ e. ⊎_elim
@@ -147,11 +145,11 @@ fixed_answer big w s at =
     (λ e. inl (fixed-over big w s at (leb_no {a = w} {b = 8} e)))
     (either (leb w 8))
 
-pub fixed-inside : (big : Bool) (w : ℕ) (s : List ℕ) (at v : ℕ) (c : Cursor) → fixed_at big w s at ≡ Value v c → (c.at ≡ at + w) × (w ≤ length s - at)
+pub fixed-inside : (big : Bool) (w : ℕ) (s : List ℕ) (at v : ℕ) (c : Cursor) → fixed_at big w s at ≡ Some (v, c) → (c.at ≡ at + w) × (w ≤ length s - at)
 fixed-inside big w s at v c e =
     ⊎_elim
     (λ n. let z : ◌≡◌ {A = ℕ} 0 1 = cc in absurd (omega arith))
-    (λ y. let q : c ≡ cursor (at + w) = cc y.1 in (ap (λ (d : Cursor). d.at) q, y.0))
+    (λ y. let q : c ≡ cursor (at + w) = (some_pair_parts _ _ _ _ (sym e ∙ y.1)).1 in (ap (λ (d : Cursor). d.at) q, y.0))
     (fixed_answer big w s at)
 
 pub value-one : (big : Bool) (b : ℕ) (s : List ℕ) → fixed_value big (take 1 (b ∷ s)) ≡ b
@@ -160,12 +158,12 @@ value-one true b s = omega arith
 value-one false b s = omega arith
 
 -- one byte
-pub fixed-one : (big : Bool) (s : List ℕ) (at : ℕ) → at < length s → fixed_at big 1 s at ≡ Value (get_or s at 0) (cursor (at + 1))
+pub fixed-one : (big : Bool) (s : List ℕ) (at : ℕ) → at < length s → fixed_at big 1 s at ≡ Some (get_or s at 0, cursor (at + 1))
 fixed-one big s at h =
     fixed-is big 1 s at (omega arith) (omega arith)
-    ∙ ap (λ v. Value v (cursor (at + 1))) (ap (λ l. fixed_value big (take 1 l)) (drop-cons s at 0 h) ∙ value-one big (get_or s at 0) (drop (suc at) s))
+    ∙ ap (λ v. Some (v, cursor (at + 1))) (ap (λ l. fixed_value big (take 1 l)) (drop-cons s at 0 h) ∙ value-one big (get_or s at 0) (drop (suc at) s))
 
-pub fixed-none : (big : Bool) (s : List ℕ) (at : ℕ) → length s ≤ at → Unreadable ≡ fixed_at big 1 s at
+pub fixed-none : (big : Bool) (s : List ℕ) (at : ℕ) → length s ≤ at → None ≡ fixed_at big 1 s at
 fixed-none big s at h = sym (fixed-short big 1 s at (omega arith))
 
 -- bytes one by one
@@ -224,8 +222,8 @@ module _ (s : List ℕ) (at : ℕ) where
         ∙ ap four_of (sym b)
 
   pub four_is : (big : Bool) → 4 ≤ length s - at → (v : ℕ) → v ≡ fixed_value big (take 4 (drop at s))
-      → Value v (cursor (at + 4)) ≡ fixed_at big 4 s at
-  four_is big h v q = ap (λ (v : ℕ). Value v (cursor (at + 4))) q ∙ sym (fixed-is big 4 s at (omega arith) h)
+      → Some (v, cursor (at + 4)) ≡ fixed_at big 4 s at
+  four_is big h v q = ap (λ (v : ℕ). Some (v, cursor (at + 4))) q ∙ sym (fixed-is big 4 s at (omega arith) h)
 
   -- eight, by the four first and the four last
   module _ (h : 8 ≤ length s - at) (big : Bool) (first last : ℕ)
@@ -235,23 +233,23 @@ module _ (s : List ℕ) (at : ℕ) where
         × (fixed_value false (take 4 (drop at s)) + 4294967296 * fixed_value false (take 4 (drop (at + 4) s)) ≡ fixed_value false (take 8 (drop at s)))
     parts = two-fours _ _ _ _ _ _ _ _ (drop at s) (drop (at + 4) s) _ (four-there s at (omega arith)) (four-there s (at + 4) (omega arith))
 
-    eight_is : (v : ℕ) → v ≡ fixed_value big (take 8 (drop at s)) → Value v (cursor (at + 8)) ≡ fixed_at big 8 s at
-    eight_is v e = ap (λ (v : ℕ). Value v (cursor (at + 8))) e ∙ sym (fixed-is big 8 s at (omega arith) h)
+    eight_is : (v : ℕ) → v ≡ fixed_value big (take 8 (drop at s)) → Some (v, cursor (at + 8)) ≡ fixed_at big 8 s at
+    eight_is v e = ap (λ (v : ℕ). Some (v, cursor (at + 8))) e ∙ sym (fixed-is big 8 s at (omega arith) h)
 
-    pub eight-big : big ≡ true → Value (last + 4294967296 * first) (cursor (at + 8)) ≡ fixed_at big 8 s at
+    pub eight-big : big ≡ true → Some (last + 4294967296 * first, cursor (at + 8)) ≡ fixed_at big 8 s at
     eight-big b =
         eight_is _ (ap₂ (λ (x y : ℕ). x + 4294967296 * y) q p
         ∙ subst (λ (c : Bool). fixed_value c (take 4 (drop (at + 4) s)) + 4294967296 * fixed_value c (take 4 (drop at s)) ≡ fixed_value c (take 8 (drop at s)))
         (sym b) parts.0)
 
-    pub eight-little : big ≡ false → Value (first + 4294967296 * last) (cursor (at + 8)) ≡ fixed_at big 8 s at
+    pub eight-little : big ≡ false → Some (first + 4294967296 * last, cursor (at + 8)) ≡ fixed_at big 8 s at
     eight-little b =
         eight_is _ (ap₂ (λ (x y : ℕ). x + 4294967296 * y) p q
         ∙ subst (λ (c : Bool). fixed_value c (take 4 (drop at s)) + 4294967296 * fixed_value c (take 4 (drop (at + 4) s)) ≡ fixed_value c (take 8 (drop at s)))
         (sym b) parts.1)
 
 -- the answer of a width that was looked at
-module _ (big : Bool) (w : ℕ) (s : List ℕ) (at : ℕ) (r : Number) where
+module _ (big : Bool) (w : ℕ) (s : List ℕ) (at : ℕ) (r : Option (ℕ × Cursor)) where
   pub width_one : w ≡ 1 → ((b : Bool) → r ≡ fixed_at b 1 s at) → r ≡ fixed_at big w s at
   width_one q h = h big ∙ ap (λ (n : ℕ). fixed_at big n s at) (sym q)
 
@@ -260,29 +258,29 @@ module _ (big : Bool) (w : ℕ) (s : List ℕ) (at : ℕ) (r : Number) where
 
 -- ---- a run of bytes
 
-pub skip-over : (s : List ℕ) (at n : ℕ) → length s - at < n → Nowhere ≡ skip_at s at n
+pub skip-over : (s : List ℕ) (at n : ℕ) → length s - at < n → None ≡ skip_at s at n
 unfolding skip_at
 skip-over s at n h = sym (pick_no _ _ _ (no_leb {a = n} {b = length s - at} h))
 
-pub skip-to : (s : List ℕ) (at n : ℕ) → n ≤ length s - at → To (cursor (at + n)) ≡ skip_at s at n
+pub skip-to : (s : List ℕ) (at n : ℕ) → n ≤ length s - at → Some (cursor (at + n)) ≡ skip_at s at n
 unfolding skip_at
 skip-to s at n h = sym (pick_yes _ _ _ (yes_leb {a = n} {b = length s - at} h))
 
 -- ---- a string
 
 module _ (s : List ℕ) (at : ℕ) where
-  pub string-end : length s ≤ at → string_at s at ≡ Nowhere
+  pub string-end : length s ≤ at → string_at s at ≡ None
   unfolding string_at string_in as_moved
   string-end h = rw (drop_of_length-le s h)
 
-  pub string-zero : at < length s → get_or s at 0 ≡ 0 → string_at s at ≡ To (cursor (at + 1))
+  pub string-zero : at < length s → get_or s at 0 ≡ 0 → string_at s at ≡ Some (cursor (at + 1))
   unfolding string_at string_in as_moved
   string-zero h z = ap (λ l. as_moved at (string_in l)) (drop-cons s at 0 h) ∙ ap (as_moved at) (pick_yes _ _ _ (yes_eqb {a = get_or s at 0} {b = 0} z))
 
-  longer : (b : ℕ) (o : Option (List ℕ × List ℕ)) → as_moved at (bind o (λ r. some (b ∷ r.0, r.1))) ≡ as_moved (at + 1) o
+  longer : (b : ℕ) (o : Option (List ℕ × List ℕ)) → as_moved at (bind o (λ r. Some (b ∷ r.0, r.1))) ≡ as_moved (at + 1) o
   unfolding as_moved bind
-  longer b none = refl
-  longer b (some r) = ap (λ n. To (cursor n)) (let e : at + suc (length r.0) ≡ at + 1 + length r.0 = omega arith in e)
+  longer b None = refl
+  longer b (Some r) = ap (λ n. Some (cursor n)) (let e : at + suc (length r.0) ≡ at + 1 + length r.0 = omega arith in e)
 
   pub string-more : at < length s → (get_or s at 0 ≡ 0 → ⊥) → string_at s at ≡ string_at s (at + 1)
   unfolding string_at string_in
@@ -292,10 +290,10 @@ module _ (s : List ℕ) (at : ℕ) where
       ∙ longer (get_or s at 0) (string_in (drop (suc at) s))
       ∙ ap (λ n. as_moved (at + 1) (string_in (drop n s))) (sym (add-one at))
 
-moved_inside : (n at : ℕ) (c : Cursor) (o : Option (List ℕ × List ℕ)) → All (λ r. (0 < length r.0) × (length r.0 ≤ n)) o → as_moved at o ≡ To c → (at < c.at) × (c.at ≤ at + n)
+moved_inside : (n at : ℕ) (c : Cursor) (o : Option (List ℕ × List ℕ)) → All (λ r. (0 < length r.0) × (length r.0 ≤ n)) o → as_moved at o ≡ Some c → (at < c.at) × (c.at ≤ at + n)
 unfolding as_moved All
-moved_inside n at c none q e = let z : ◌≡◌ {A = ℕ} 0 1 = cc in absurd (omega arith)
-moved_inside n at c (some r) q e =
+moved_inside n at c None q e = let z : ◌≡◌ {A = ℕ} 0 1 = cc in absurd (omega arith)
+moved_inside n at c (Some r) q e =
     let k : cursor (at + length r.0) ≡ c = cc in
     let k' : at + length r.0 ≡ c.at = ap (λ (d : Cursor). d.at) k in
     (omega (arith, q.0), omega (arith, q.1))

@@ -3,7 +3,7 @@ use mathlib.Core.Path.{◌≡◌, refl, ap, ap₂, sym, ◌∙◌, subst}
 use Prim.Native.Nat.{ℕ, zero, suc, ◌+◌, ◌-◌, ◌≤◌, ◌<◌}
 use mathlib.Core.Bool.{Bool, not}
 use mathlib.Core.Logic.{⊎_elim, ◌≢◌}
-use mathlib.Core.Option.{Option, none, some}
+use Rattle.std.specs.Prelude.{None, Option, Some}
 use mathlib.Core.List.{List, [], ◌∷◌, ◌++◌, append_assoc, append-nil}
 use native.Mathlib.Omega.{arith}
 use lib.ListN.{length, take, drop, length-append, length-drop, take-append-drop}
@@ -26,11 +26,7 @@ use Rattle.readers.specs.declared.cursor.Encoding.{Encoding}
 use Rattle.readers.specs.declared.cursor.Cursor.{Cursor}
 use Rattle.readers.specs.declared.fields.Field.{Field}
 use Rattle.readers.specs.declared.operations.Operation.{Operation}
-use Rattle.readers.specs.declared.operations.OperationRead.{OperationRead}
-use Rattle.readers.specs.declared.operations.OperationRead.TheVariants.{Read as Operation', Unreadable as NoOperation}
 use Rattle.readers.specs.declared.expressions.Reference.{Reference}
-use Rattle.readers.specs.declared.expressions.Yield.{Yield}
-use Rattle.readers.specs.declared.expressions.Yield.TheVariants.{Reference as Yielded, End}
 use Rattle.readers.proofs.OperationReads.{OperationHeld, Cases, cases, read-four, span, rest-is, past, held-inside, code_is, operation-held, operation-inside}
 use Rattle.readers.proofs.OperationPieces.{names-append, Wide}
 use Rattle.readers.proofs.Deep.{own, own-names, own-wide, own-size, deep-plain, lead, inner, deep-entry, lead-names, lead-size, inner-size, inner-is, inner-ends, unreadable}
@@ -38,9 +34,9 @@ use Rattle.readers.proofs.Deep.{own, own-names, own-wide, own-size, deep-plain, 
 -- ---- the cursor that a reference hands on
 
 -- a reference of an operation goes on past it
-unfoldable pub GoesOn : Cursor → Yield → Type 0
-GoesOn c (Yielded r) = r.next ≡ c
-GoesOn c End = Unit {0}
+unfoldable pub GoesOn : Cursor → Option Reference → Type 0
+GoesOn c (Some r) = r.next ≡ c
+GoesOn c None = Unit {0}
 
 pub type-goes : (f : Field) (c : Cursor) → GoesOn c (named_type f c)
 unfolding named_type named GoesOn
@@ -67,15 +63,15 @@ module _ (e : Encoding) (s : List ℕ) where
 
   -- ---- the walk goes on, inside the slice
 
-  turn-goes : (at : ℕ) (op : Operation) (y : Yield) → at < op.next.at → op.next.at ≤ length s → Goes (length s) at (yield_turn y op.next)
+  turn-goes : (at : ℕ) (op : Operation) (y : Option Reference) → at < op.next.at → op.next.at ≤ length s → Goes (length s) at (yield_turn y op.next)
   unfolding yield_turn Goes
-  turn-goes at op (Yielded r) lo hi = tt
-  turn-goes at op End lo hi = (lo, hi)
+  turn-goes at op (Some r) lo hi = tt
+  turn-goes at op None lo hi = (lo, hi)
 
-  operation-goes : (at : ℕ) (o : OperationRead) → operation_at e s at ≡ o → Goes (length s) at (operation_turn o)
+  operation-goes : (at : ℕ) (o : Option Operation) → operation_at e s at ≡ o → Goes (length s) at (operation_turn o)
   unfolding operation_turn Goes
-  operation-goes at NoOperation q = tt
-  operation-goes at (Operation' op) q =
+  operation-goes at None q = tt
+  operation-goes at (Some op) q =
       let i : (at < op.next.at) × (op.next.at ≤ length s) × (at < op.first.start) × (op.first.start ≤ op.first.end) × (op.first.end ≤ op.next.at) = operation-inside e s at op q in
       pick-either (Goes (length s) at) _ _ _ (λ _. (i.2, omega arith)) (λ _. turn-goes at op (reference_of op) i.0 i.1)
 
@@ -83,10 +79,10 @@ module _ (e : Encoding) (s : List ℕ) where
   unfolding walk_turn Goes
   walk-goes at = pick-either (Goes (length s) at) _ _ _ (λ _. operation-goes at _ refl) (λ _. tt)
 
-  flat-operation-goes : (at : ℕ) (o : OperationRead) → operation_at e s at ≡ o → Goes (length s) at (flat_operation o)
+  flat-operation-goes : (at : ℕ) (o : Option Operation) → operation_at e s at ≡ o → Goes (length s) at (flat_operation o)
   unfolding flat_operation Goes
-  flat-operation-goes at NoOperation q = tt
-  flat-operation-goes at (Operation' op) q =
+  flat-operation-goes at None q = tt
+  flat-operation-goes at (Some op) q =
       let i : (at < op.next.at) × (op.next.at ≤ length s) × (at < op.first.start) × (op.first.start ≤ op.first.end) × (op.first.end ≤ op.next.at) = operation-inside e s at op q in
       pick-either (Goes (length s) at) _ _ _ (λ _. (i.2, omega arith)) (λ _. (i.0, i.1))
 
@@ -96,12 +92,12 @@ module _ (e : Encoding) (s : List ℕ) where
 
   -- ---- the steps of the next reference
 
-  yielded-push : (o : Option (Scanned (Unit {0}) Yield)) → yielded (bind o (push tt)) ≡ yielded o
+  yielded-push : (o : Option (Scanned (Unit {0}) (Option Reference))) → yielded (bind o (push tt)) ≡ yielded o
   unfolding yielded bind push
-  yielded-push none = refl
-  yielded-push (some r) = refl
+  yielded-push None = refl
+  yielded-push (Some r) = refl
 
-  next-stop : (at : ℕ) (y : Yield) → walk_turn e s at ≡ stop y → next_reference e s at ≡ y
+  next-stop : (at : ℕ) (y : Option Reference) → walk_turn e s at ≡ stop y → next_reference e s at ≡ y
   unfolding next_reference yielded
   next-stop at y q = ap yielded (scan-stop (length s) (walk_turn e s) walk-goes at y q)
 
@@ -109,72 +105,72 @@ module _ (e : Encoding) (s : List ℕ) where
   unfolding next_reference
   next_more at n q = ap yielded (scan-more (length s) (walk_turn e s) walk-goes at tt n q) ∙ yielded-push (scan (length s) (walk_turn e s) n)
 
-  pub next-end : (at : ℕ) → length s ≤ at → next_reference e s at ≡ End
+  pub next-end : (at : ℕ) → length s ≤ at → next_reference e s at ≡ None
   unfolding walk_turn
-  next-end at l = next-stop at End (pick_no _ _ _ (no_ltb {a = at} {b = length s} l))
+  next-end at l = next-stop at None (pick_no _ _ _ (no_ltb {a = at} {b = length s} l))
 
   module _ (at : ℕ) (l : at < length s) where
-    turn_at : (o : OperationRead) → operation_at e s at ≡ o → walk_turn e s at ≡ operation_turn o
+    turn_at : (o : Option Operation) → operation_at e s at ≡ o → walk_turn e s at ≡ operation_turn o
     unfolding walk_turn
     turn_at o q = pick_yes _ _ _ (yes_ltb {a = at} {b = length s} l) ∙ ap operation_turn q
 
-    pub next-none : operation_at e s at ≡ NoOperation → next_reference e s at ≡ End
+    pub next-none : operation_at e s at ≡ None → next_reference e s at ≡ None
     unfolding operation_turn
-    next-none q = next-stop at End (turn_at NoOperation q)
+    next-none q = next-stop at None (turn_at None q)
 
-    module _ (op : Operation) (q : operation_at e s at ≡ Operation' op) where
+    module _ (op : Operation) (q : operation_at e s at ≡ Some op) where
       pub next-entry : T (eqb op.row 19) → next_reference e s at ≡ next_reference e s op.first.start
       unfolding operation_turn
-      next-entry t = next_more at op.first.start (turn_at (Operation' op) q ∙ pick_yes _ _ _ t)
+      next-entry t = next_more at op.first.start (turn_at (Some op) q ∙ pick_yes _ _ _ t)
 
-      pub next-own : T (not (eqb op.row 19)) → (r : Reference) → reference_of op ≡ Yielded r → next_reference e s at ≡ Yielded r
+      pub next-own : T (not (eqb op.row 19)) → (r : Reference) → reference_of op ≡ Some r → next_reference e s at ≡ Some r
       unfolding operation_turn yield_turn
-      next-own t r p = next-stop at (Yielded r) (turn_at (Operation' op) q ∙ pick_no _ _ _ t ∙ ap (λ y. yield_turn y op.next) p)
+      next-own t r p = next-stop at (Some r) (turn_at (Some op) q ∙ pick_no _ _ _ t ∙ ap (λ y. yield_turn y op.next) p)
 
-      pub next-pass : T (not (eqb op.row 19)) → reference_of op ≡ End → next_reference e s at ≡ next_reference e s op.next.at
+      pub next-pass : T (not (eqb op.row 19)) → reference_of op ≡ None → next_reference e s at ≡ next_reference e s op.next.at
       unfolding operation_turn yield_turn
-      next-pass t p = next_more at op.next.at (turn_at (Operation' op) q ∙ pick_no _ _ _ t ∙ ap (λ y. yield_turn y op.next) p)
+      next-pass t p = next_more at op.next.at (turn_at (Some op) q ∙ pick_no _ _ _ t ∙ ap (λ y. yield_turn y op.next) p)
 
   -- ---- the steps of all references
 
-  unfoldable Some : Option (Scanned (List Named) (Unit {0})) → Type 0
-  Some none = ⊥
-  Some (some r) = Unit {0}
+  unfoldable Told : Option (Scanned (List Named) (Unit {0})) → Type 0
+  Told None = ⊥
+  Told (Some r) = Unit {0}
 
   unfoldable NotBad : Turn (List Named) (Unit {0}) → Type 0
   NotBad (more a n) = Unit {0}
   NotBad (stop b) = Unit {0}
   NotBad bad = ⊥
 
-  of-operation : (o : OperationRead) → NotBad (flat_operation o)
+  of-operation : (o : Option Operation) → NotBad (flat_operation o)
   unfolding flat_operation NotBad
-  of-operation NoOperation = tt
-  of-operation (Operation' op) = pick-either NotBad _ _ _ (λ _. tt) (λ _. tt)
+  of-operation None = tt
+  of-operation (Some op) = pick-either NotBad _ _ _ (λ _. tt) (λ _. tt)
 
   flat-not-bad : (at : ℕ) → NotBad (flat_turn e s at)
   unfolding flat_turn NotBad
   flat-not-bad at = pick-either NotBad _ _ _ (λ _. of-operation (operation_at e s at)) (λ _. tt)
 
-  some-push : (a : List Named) (o : Option (Scanned (List Named) (Unit {0}))) → Some o → Some (bind o (push a))
-  unfolding Some bind push
-  some-push a none h = absurd h
-  some-push a (some r) h = tt
+  some-push : (a : List Named) (o : Option (Scanned (List Named) (Unit {0}))) → Told o → Told (bind o (push a))
+  unfolding Told bind push
+  some-push a None h = absurd h
+  some-push a (Some r) h = tt
 
-  flat-push : (a : List Named) (o : Option (Scanned (List Named) (Unit {0}))) → Some o → flattened (bind o (push a)) ≡ a ++ flattened o
-  unfolding Some bind push flattened flat
-  flat-push a none h = absurd h
-  flat-push a (some r) h = refl
+  flat-push : (a : List Named) (o : Option (Scanned (List Named) (Unit {0}))) → Told o → flattened (bind o (push a)) ≡ a ++ flattened o
+  unfolding Told bind push flattened flat
+  flat-push a None h = absurd h
+  flat-push a (Some r) h = refl
 
   abbrev all : ℕ → Option (Scanned (List Named) (Unit {0}))
   all at = scan (length s) (flat_turn e s) at
 
-  some_turn : (at : ℕ) (t : Turn (List Named) (Unit {0})) → flat_turn e s at ≡ t → NotBad t → Goes (length s) at t → ((n : ℕ) → at < n → n ≤ length s → Some (all n)) → Some (all at)
-  unfolding NotBad Goes Some
-  some_turn at (more a n) q b g ih = subst Some (sym (scan-more (length s) (flat_turn e s) flat_goes at a n q)) (some-push a (all n) (ih n g.0 g.1))
-  some_turn at (stop u) q b g ih = subst Some (sym (scan-stop (length s) (flat_turn e s) flat_goes at u q)) tt
+  some_turn : (at : ℕ) (t : Turn (List Named) (Unit {0})) → flat_turn e s at ≡ t → NotBad t → Goes (length s) at t → ((n : ℕ) → at < n → n ≤ length s → Told (all n)) → Told (all at)
+  unfolding NotBad Goes Told
+  some_turn at (more a n) q b g ih = subst Told (sym (scan-more (length s) (flat_turn e s) flat_goes at a n q)) (some-push a (all n) (ih n g.0 g.1))
+  some_turn at (stop u) q b g ih = subst Told (sym (scan-stop (length s) (flat_turn e s) flat_goes at u q)) tt
   some_turn at bad q b g ih = absurd b
 
-  some-within : (k at : ℕ) → length s - at ≤ k → Some (all at)
+  some-within : (k at : ℕ) → length s - at ≤ k → Told (all at)
   some-within zero at h = some_turn at _ refl (flat-not-bad at) (flat_goes at) (λ n lo hi. absurd (omega arith))
   some-within (suc k) at h = some_turn at _ refl (flat-not-bad at) (flat_goes at) (λ n lo hi. some-within k n (omega arith))
 
@@ -191,40 +187,40 @@ module _ (e : Encoding) (s : List ℕ) where
   flat-end at l = flat-stop at (pick_no _ _ _ (no_ltb {a = at} {b = length s} l))
 
   module _ (at : ℕ) (l : at < length s) where
-    flat-at : (o : OperationRead) → operation_at e s at ≡ o → flat_turn e s at ≡ flat_operation o
+    flat-at : (o : Option Operation) → operation_at e s at ≡ o → flat_turn e s at ≡ flat_operation o
     unfolding flat_turn
     flat-at o q = pick_yes _ _ _ (yes_ltb {a = at} {b = length s} l) ∙ ap flat_operation q
 
-    pub flat-none : operation_at e s at ≡ NoOperation → flat_from e s at ≡ []
+    pub flat-none : operation_at e s at ≡ None → flat_from e s at ≡ []
     unfolding flat_operation
-    flat-none q = flat-stop at (flat-at NoOperation q)
+    flat-none q = flat-stop at (flat-at None q)
 
-    module _ (op : Operation) (q : operation_at e s at ≡ Operation' op) where
+    module _ (op : Operation) (q : operation_at e s at ≡ Some op) where
       pub flat-entry : T (eqb op.row 19) → flat_from e s at ≡ flat_from e s op.first.start
       unfolding flat_operation
-      flat-entry t = flat-more at [] op.first.start (flat-at (Operation' op) q ∙ pick_yes _ _ _ t)
+      flat-entry t = flat-more at [] op.first.start (flat-at (Some op) q ∙ pick_yes _ _ _ t)
 
       pub flat-plain : T (not (eqb op.row 19)) → flat_from e s at ≡ names_of (reference_of op) ++ flat_from e s op.next.at
       unfolding flat_operation
-      flat-plain t = flat-more at _ op.next.at (flat-at (Operation' op) q ∙ pick_no _ _ _ t)
+      flat-plain t = flat-more at _ op.next.at (flat-at (Some op) q ∙ pick_no _ _ _ t)
 
   -- ---- one after the other they are all of them
 
-  unfoldable pub flat_by : Yield → List Named
-  flat_by (Yielded r) = (r.place, r.target.0, encoded_by r.leb r.width) ∷ flat_from e s r.next.at
-  flat_by End = []
+  unfoldable pub flat_by : Option Reference → List Named
+  flat_by (Some r) = (r.place, r.target.0, encoded_by r.leb r.width) ∷ flat_from e s r.next.at
+  flat_by None = []
 
-  flat-own : (c : Cursor) (y : Yield) → GoesOn c y → (z : Yield) → (y ≡ End → flat_from e s c.at ≡ flat_by z) → ((r : Reference) → y ≡ Yielded r → z ≡ Yielded r)
+  flat-own : (c : Cursor) (y : Option Reference) → GoesOn c y → (z : Option Reference) → (y ≡ None → flat_from e s c.at ≡ flat_by z) → ((r : Reference) → y ≡ Some r → z ≡ Some r)
       → names_of y ++ flat_from e s c.at ≡ flat_by z
   unfolding GoesOn names_of flat_by
-  flat-own c End g z f h = f refl
-  flat-own c (Yielded r) g z f h = ap (λ (d : Cursor). (r.place, r.target.0, encoded_by r.leb r.width) ∷ flat_from e s d.at) (sym g) ∙ ap flat_by (sym (h r refl))
+  flat-own c None g z f h = f refl
+  flat-own c (Some r) g z f h = ap (λ (d : Cursor). (r.place, r.target.0, encoded_by r.leb r.width) ∷ flat_from e s d.at) (sym g) ∙ ap flat_by (sym (h r refl))
 
-  by-operation : (at : ℕ) → at < length s → ((n : ℕ) → at < n → n ≤ length s → flat_from e s n ≡ flat_by (next_reference e s n)) → (o : OperationRead) → operation_at e s at ≡ o
+  by-operation : (at : ℕ) → at < length s → ((n : ℕ) → at < n → n ≤ length s → flat_from e s n ≡ flat_by (next_reference e s n)) → (o : Option Operation) → operation_at e s at ≡ o
       → flat_from e s at ≡ flat_by (next_reference e s at)
   unfolding flat_by
-  by-operation at l ih NoOperation q = flat-none at l q ∙ ap flat_by (sym (next-none at l q))
-  by-operation at l ih (Operation' op) q =
+  by-operation at l ih None q = flat-none at l q ∙ ap flat_by (sym (next-none at l q))
+  by-operation at l ih (Some op) q =
       let i : (at < op.next.at) × (op.next.at ≤ length s) × (at < op.first.start) × (op.first.start ≤ op.first.end) × (op.first.end ≤ op.next.at) = operation-inside e s at op q in
       ⊎_elim
       (λ t. flat-entry at l op q t ∙ ih op.first.start i.2 (omega arith) ∙ ap flat_by (sym (next-entry at l op q t)))
@@ -248,15 +244,15 @@ module _ (e : Encoding) (s : List ℕ) where
 
   -- ---- their widths
 
-  wide-own : (y : Yield) → Wide y → (z : Yield) → (y ≡ End → Wide z) → ((r : Reference) → y ≡ Yielded r → z ≡ Yielded r) → Wide z
-  wide-own End w z f h = f refl
-  wide-own (Yielded r) w z f h = subst Wide (sym (h r refl)) w
+  wide-own : (y : Option Reference) → Wide y → (z : Option Reference) → (y ≡ None → Wide z) → ((r : Reference) → y ≡ Some r → z ≡ Some r) → Wide z
+  wide-own None w z f h = f refl
+  wide-own (Some r) w z f h = subst Wide (sym (h r refl)) w
 
-  wide-operation : (at : ℕ) → at < length s → ((n : ℕ) → at < n → n ≤ length s → Wide (next_reference e s n)) → (o : OperationRead) → operation_at e s at ≡ o
+  wide-operation : (at : ℕ) → at < length s → ((n : ℕ) → at < n → n ≤ length s → Wide (next_reference e s n)) → (o : Option Operation) → operation_at e s at ≡ o
       → Wide (next_reference e s at)
   unfolding Wide
-  wide-operation at l ih NoOperation q = subst Wide (sym (next-none at l q)) tt
-  wide-operation at l ih (Operation' op) q =
+  wide-operation at l ih None q = subst Wide (sym (next-none at l q)) tt
+  wide-operation at l ih (Some op) q =
       let i : (at < op.next.at) × (op.next.at ≤ length s) × (at < op.first.start) × (op.first.start ≤ op.first.end) × (op.first.end ≤ op.next.at) = operation-inside e s at op q in
       ⊎_elim
       (λ t. subst Wide (sym (next-entry at l op q t)) (ih op.first.start i.2 (omega arith)))
@@ -274,9 +270,9 @@ module _ (e : Encoding) (s : List ℕ) where
       (either (ltb at (length s)))
 
   -- a reference's width is that of how its operand is written
-  pub next-wide : (at : ℕ) (r : Reference) → next_reference e s at ≡ Yielded r → width (encoded_by r.leb r.width) ≡ r.width
+  pub next-wide : (at : ℕ) (r : Reference) → next_reference e s at ≡ Some r → width (encoded_by r.leb r.width) ≡ r.width
   unfolding Wide
-  next-wide at r q = let w : Wide (Yielded r) = subst Wide q (wide-within (length s - at) at (omega arith)) in w
+  next-wide at r q = let w : Wide (Some r) = subst Wide q (wide-within (length s - at) at (omega arith)) in w
 
   -- ---- all of them are those of the pieces
 
@@ -298,7 +294,7 @@ module _ (e : Encoding) (s : List ℕ) where
       m-fits = let q : m ≤ length part = (rest-is e part o op h).0 in omega (arith, part_length)
 
       -- an operation of a part is the slice's operation there
-      part-operation : operation_at e s o ≡ Operation' op
+      part-operation : operation_at e s o ≡ Some op
       unfolding operation_at as_operation operation_of_reads row_of_reads row_operation field_of
       part-operation =
           let reads : List Read = h.c ∷ h.a ∷ h.b ∷ h.d ∷ [] in
@@ -309,7 +305,7 @@ module _ (e : Encoding) (s : List ℕ) where
           let t : take (length (write_all big reads)) part ++ drop m (drop o s) ≡ drop o s =
           ap (λ j. take j part ++ drop m (drop o s)) k ∙ ap (λ y. y ++ drop m (drop o s)) (take-take m n (drop o s) m-fits) ∙ take-append-drop m (drop o s) in
           ap (as_operation big o) (ap (read_in big as_bytes (operation e)) (sym t) ∙ law.2 (drop m (drop o s)))
-          ∙ ap (λ p. Operation' p) (sym h.made)
+          ∙ ap (λ p. Some p) (sym h.made)
 
       rest_part : h.rest ≡ take (n - m) (drop (o + m) s)
       rest_part = (rest-is e part o op h).1 ∙ drop-take m n (drop o s) ∙ ap (take (n - m)) (drop-drop m o s)
@@ -379,12 +375,12 @@ module _ (e : Encoding) (s : List ℕ) where
           ∙ sym (append_assoc (names_in big a ps) _ _)
           ∙ ap (λ y. y ++ flat_from e s (o + n)) (sym two)))))
 
-    part-case : ((o' n' : ℕ) → n' < n → o' + n' ≤ length s → All (PartLaw o' n') (expression_in e (take n' (drop o' s)))) → (r : OperationRead) → Cases e part o r
+    part-case : ((o' n' : ℕ) → n' < n → o' + n' ≤ length s → All (PartLaw o' n') (expression_in e (take n' (drop o' s)))) → (r : Option Operation) → Cases e part o r
         → All (PartLaw o n) (expression_in e part)
     unfolding Cases
-    part-case ih NoOperation q =
+    part-case ih None q =
         subst (All (PartLaw o n)) (sym (expression-more e part (omega (arith, part_length)) ∙ bind-none _ (unreadable big (expression_in e) (operation e) part q))) (all_none _)
-    part-case ih (Operation' op) h = ⊎_elim (part-entry op h ih) (part-plain op h ih) (either (eqb op.row 19))
+    part-case ih (Some op) h = ⊎_elim (part-entry op h ih) (part-plain op h ih) (either (eqb op.row 19))
 
   part_none : (o n : ℕ) → n ≡ 0 → All (PartLaw o n) (expression_in e (take n (drop o s)))
   unfolding names_in
@@ -400,7 +396,7 @@ module _ (e : Encoding) (s : List ℕ) where
       (either (eqb n 0))
 
   -- THE LAW: one after the other, the references are those of the expression
-  pub yields-all : (ps : List Piece) → expression_in e s ≡ some ps → flat_from e s 0 ≡ names_in big 0 ps
+  pub yields-all : (ps : List Piece) → expression_in e s ≡ Some ps → flat_from e s 0 ≡ names_in big 0 ps
   yields-all ps q =
       let w : take (length s) (drop 0 s) ≡ s = take-length s in
       let p : flat_from e s 0 ≡ names_in big 0 ps ++ flat_from e s (0 + length s) =
@@ -410,15 +406,15 @@ module _ (e : Encoding) (s : List ℕ) where
   -- ---- the loop that looks for the next reference
 
   module _ (at₀ at : ℕ) (w : next_reference e s at₀ ≡ next_reference e s at) where
-    pub onward-end : length s ≤ at → End ≡ next_reference e s at₀
+    pub onward-end : length s ≤ at → None ≡ next_reference e s at₀
     onward-end l = sym (w ∙ next-end at l)
 
-    module _ (l : at < length s) (o : OperationRead) (is : o ≡ operation_at e s at) where
-      pub onward-none : o ≡ NoOperation → End ≡ next_reference e s at₀
+    module _ (l : at < length s) (o : Option Operation) (is : o ≡ operation_at e s at) where
+      pub onward-none : o ≡ None → None ≡ next_reference e s at₀
       onward-none q = sym (w ∙ next-none at l (sym is ∙ q))
 
-      module _ (op : Operation) (q : o ≡ Operation' op) where
-        abbrev there : operation_at e s at ≡ Operation' op
+      module _ (op : Operation) (q : o ≡ Some op) where
+        abbrev there : operation_at e s at ≡ Some op
         there = sym is ∙ q
 
         pub onward-entry : op.row ≡ 19 → next_reference e s at₀ ≡ next_reference e s op.first.start
@@ -432,9 +428,9 @@ module _ (e : Encoding) (s : List ℕ) where
         pub less-next : length s - op.next.at < length s - at
         less-next = let i : at < op.next.at = (operation-inside e s at op there).0 in omega arith
 
-        module _ (t : op.row ≡ 19 → ⊥) (y : Yield) (own_is : y ≡ reference_of op) where
-          pub onward-own : (r : Reference) → y ≡ Yielded r → Yielded r ≡ next_reference e s at₀
+        module _ (t : op.row ≡ 19 → ⊥) (y : Option Reference) (own_is : y ≡ reference_of op) where
+          pub onward-own : (r : Reference) → y ≡ Some r → Some r ≡ next_reference e s at₀
           onward-own r p = sym (w ∙ next-own at l op there (no_eqb {a = op.row} {b = 19} t) r (sym own_is ∙ p))
 
-          pub onward-pass : y ≡ End → next_reference e s at₀ ≡ next_reference e s op.next.at
+          pub onward-pass : y ≡ None → next_reference e s at₀ ≡ next_reference e s op.next.at
           onward-pass p = w ∙ next-pass at l op there (no_eqb {a = op.row} {b = 19} t) (sym own_is ∙ p)

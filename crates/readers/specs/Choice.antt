@@ -1,7 +1,6 @@
 -- What the definitions are written with: a choice by a Bool, a test that must hold, one reading after another, zeros,
 -- numbers put into a list.
-use Rattle.std.specs.Prelude.{Bool, true, false, List, ◌++◌, ℕ, ◌+◌, replicate, length, take, drop}
-use Rattle.std.proofs.Math.Option.{Option, none, some}
+use Rattle.std.specs.Prelude.{Bool, true, false, List, ◌++◌, ℕ, ◌+◌, replicate, length, take, drop, None, Option, Some}
 
 infixr 30 ◌and◌
 infixr 25 ◌or◌
@@ -18,14 +17,14 @@ unfoldable pub ◌or◌ : Bool → Bool → Bool
 ◌or◌ false b = b
 
 -- a test that must hold
-unfoldable pub check {ℓ} : {X : Type ℓ} → Bool → Option X → Option X
+unfoldable pub check : {X : Type 0} → Bool → Option X → Option X
 check true x = x
-check false x = none
+check false x = None
 
 -- one reading, and then another
-unfoldable pub bind {ℓ κ} : {A : Type ℓ} {B : Type κ} → Option A → (A → Option B) → Option B
-bind none f = none
-bind (some a) f = f a
+unfoldable pub bind : {A : Type 0} {B : Type 0} → Option A → (A → Option B) → Option B
+bind None f = None
+bind (Some a) f = f a
 
 -- what a lent table holds where no answer stands
 abbrev pub zeros : ℕ → List ℕ

@@ -1,8 +1,7 @@
 -- Layouts: what stands in the bytes, as data. One reader reads every layout, and the laws of reading are proved once
 -- for all of them (proofs/LayoutLaws.antt): what was read takes so many bytes; it is read so again whatever follows; and
 -- patched at its own width it is read again as patched.
-use Rattle.std.specs.Prelude.{ℕ, zero, suc, ◌+◌, ◌^◌, Bool, List, [], ◌∷◌, ◌++◌, length, take, drop, T, leb, ltb, eqb}
-use Rattle.std.proofs.Math.Option.{Option, none, some}
+use Rattle.std.specs.Prelude.{ℕ, zero, suc, ◌+◌, ◌^◌, Bool, List, [], ◌∷◌, ◌++◌, length, take, drop, T, leb, ltb, eqb, None, Option, Some}
 use Rattle.readers.specs.Choice.{pick, check, bind, ◌and◌}
 use Rattle.readers.specs.Codes.{DW_FORM_indirect}
 use Rattle.readers.specs.Numbers.{Groups, groups, uleb, sleb}
@@ -68,7 +67,7 @@ abbrev pub ExpressionReader : Type 0
 ExpressionReader = List ℕ → Option (List Piece)
 
 unfoldable pub as_bytes : ExpressionReader
-as_bytes s = some (verbatim s ∷ [])
+as_bytes s = Some (verbatim s ∷ [])
 
 unfoldable pub width : Encoded → ℕ
 width (infixed w) = w
@@ -78,16 +77,16 @@ abbrev pub ReadFound : Type 0
 ReadFound = Encoded × ℕ × List ℕ
 
 unfoldable pub as_leb : Groups → Option ReadFound
-as_leb t = some (inleb t.0, t.1, t.2)
+as_leb t = Some (inleb t.0, t.1, t.2)
 
 -- a string with its zero byte (7.5.5, class string)
 unfoldable pub string_in : List ℕ → Option (List ℕ × List ℕ)
-string_in [] = none
-string_in (b ∷ s) = pick (eqb b 0) (some (b ∷ [], s)) (bind (string_in s) (λ r. some (b ∷ r.0, r.1)))
+string_in [] = None
+string_in (b ∷ s) = pick (eqb b 0) (Some (b ∷ [], s)) (bind (string_in s) (λ r. Some (b ∷ r.0, r.1)))
 
 -- A number in at most three bytes and 16 bits: a tag, a name or a form (document 01, "Readers").
 unfoldable pub within16 : Groups → Option Groups
-within16 t = check (ltb t.1 (2 ^ 16)) (some t)
+within16 t = check (ltb t.1 (2 ^ 16)) (Some t)
 
 unfoldable pub short : List ℕ → Option Groups
 short s = bind (groups 3 s) within16
@@ -95,12 +94,12 @@ short s = bind (groups 3 s) within16
 -- 7.5.3, DW_FORM_indirect: the form of the value stands in the entry, and may be indirect again.
 -- How many bytes the form numbers take, and the form that they end in; at most k numbers.
 unfoldable pub after_form : Groups → ℕ × ℕ → Option (ℕ × ℕ)
-after_form t r = some (suc t.0 + r.0, r.1)
+after_form t r = Some (suc t.0 + r.0, r.1)
 
 unfoldable pub forms_within : ℕ → List ℕ → Option (ℕ × ℕ)
-forms_within zero s = none
+forms_within zero s = None
 forms_within (suc k) s =
-    bind (short s) (λ t. pick (eqb t.1 DW_FORM_indirect) (bind (forms_within k t.2) (after_form t)) (some (suc t.0, t.1)))
+    bind (short s) (λ t. pick (eqb t.1 DW_FORM_indirect) (bind (forms_within k t.2) (after_form t)) (Some (suc t.0, t.1)))
 
 unfoldable pub forms_in : List ℕ → Option (ℕ × ℕ)
 forms_in s = forms_within (length s) s
@@ -113,61 +112,61 @@ unfoldable pub copy : ℕ → ℕ → ℕ → List ℕ → ReadOf
 copy v k n s = (record { seen = v; start = k; pieces = verbatim (take n s) ∷ [] }, drop n s)
 
 unfoldable pub as_number : List ℕ → ReadFound → Option ReadOf
-as_number s r = some (copy r.1 0 (width r.0) s)
+as_number s r = Some (copy r.1 0 (width r.0) s)
 
 unfoldable pub as_link : Role → ReadFound → Option ReadOf
-as_link role r = some (record { seen = 0; start = 0; pieces = patchable r.0 role r.1 ∷ [] }, r.2)
+as_link role r = Some (record { seen = 0; start = 0; pieces = patchable r.0 role r.1 ∷ [] }, r.2)
 
 unfoldable pub as_bounded : ℕ → List ℕ → Groups → Option ReadOf
-as_bounded n s t = check (leb t.1 n) (some (copy t.1 0 (suc t.0) s))
+as_bounded n s t = check (leb t.1 n) (Some (copy t.1 0 (suc t.0) s))
 
 unfoldable pub as_forms : List ℕ → ℕ × ℕ → Option ReadOf
-as_forms s r = some (copy r.1 0 r.0 s)
+as_forms s r = Some (copy r.1 0 r.0 s)
 
 unfoldable pub as_signed : List ℕ → Groups → Option ReadOf
-as_signed s t = some (copy t.1 0 (suc t.0) s)
+as_signed s t = Some (copy t.1 0 (suc t.0) s)
 
 unfoldable pub as_string : List ℕ → List ℕ × List ℕ → Option ReadOf
-as_string s r = some (copy 0 0 (length r.0) s)
+as_string s r = Some (copy 0 0 (length r.0) s)
 
 unfoldable pub as_block : List ℕ → ReadFound → Option ReadOf
-as_block s r = check (leb r.1 (length r.2)) (some (copy 0 (width r.0) (width r.0 + r.1) s))
+as_block s r = check (leb r.1 (length r.2)) (Some (copy 0 (width r.0) (width r.0 + r.1) s))
 
 unfoldable pub as_expression : ExpressionReader → List ℕ → Groups → Option ReadOf
 as_expression ex s t =
     check (leb t.1 (length t.2))
     (bind (ex (take t.1 t.2))
-    (λ ps. some (record { seen = 0; start = suc t.0; pieces = verbatim (take (suc t.0) s) ∷ ps }, drop t.1 t.2)))
+    (λ ps. Some (record { seen = 0; start = suc t.0; pieces = verbatim (take (suc t.0) s) ∷ ps }, drop t.1 t.2)))
 
 abbrev pub RunOf : Type 0
 RunOf = List Read × List ℕ
 
 unfoldable pub before : Read → RunOf → Option RunOf
-before r q = some (r ∷ q.0, q.1)
+before r q = Some (r ∷ q.0, q.1)
 
 module _ (big : Bool) where
   -- a number of at most eight bytes, so that it fits 64 bits
   unfoldable pub number_in : Kind → List ℕ → Option ReadFound
-  number_in (fixed w) s = check (leb w 8) (check (leb w (length s)) (some (infixed w, fixed_value big (take w s), drop w s)))
+  number_in (fixed w) s = check (leb w 8) (check (leb w (length s)) (Some (infixed w, fixed_value big (take w s), drop w s)))
   number_in leb128 s = bind (uleb s) as_leb
 
   unfoldable pub token_in : ExpressionReader → Token → List ℕ → Option ReadOf
-  token_in ex nothing s = some (record { seen = 0; start = 0; pieces = [] }, s)
+  token_in ex nothing s = Some (record { seen = 0; start = 0; pieces = [] }, s)
   token_in ex (number k) s = bind (number_in k s) (as_number s)
   token_in ex (bounded n) s = bind (uleb s) (as_bounded n s)
   token_in ex forms s = bind (forms_in s) (as_forms s)
   token_in ex signed s = bind (sleb s) (as_signed s)
   token_in ex (link k r) s = bind (number_in k s) (as_link r)
   token_in ex string s = bind (string_in s) (as_string s)
-  token_in ex (run n) s = check (leb n (length s)) (some (copy 0 0 n s))
+  token_in ex (run n) s = check (leb n (length s)) (Some (copy 0 0 n s))
   token_in ex (block k) s = bind (number_in k s) (as_block s)
   token_in ex expression s = bind (uleb s) (as_expression ex s)
-  token_in ex unknown s = none
+  token_in ex unknown s = None
 
   -- THE reader: the tokens of a layout one after the other
   unfoldable pub read_in : ExpressionReader → Layout → List ℕ → Option RunOf
-  read_in ex done s = some ([], s)
-  read_in ex fail s = none
+  read_in ex done s = Some ([], s)
+  read_in ex fail s = None
   read_in ex (field t k) s = bind (token_in ex t s) (λ r. bind (read_in ex (k r.0.seen) r.1) (before r.0))
 
   -- ---- what is written

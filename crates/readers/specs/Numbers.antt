@@ -1,6 +1,5 @@
 -- Numbers as DWARF 5 writes them: LEB128 (7.6), and fixed widths in either byte order (7.5 and its forms).
-use Rattle.std.specs.Prelude.{ℕ, zero, suc, ◌+◌, ◌*◌, ◌-◌, ◌^◌, ◌/◌, ◌%◌, Bool, true, false, List, [], ◌∷◌, reverse, leb, ltb}
-use Rattle.std.proofs.Math.Option.{Option, none, some}
+use Rattle.std.specs.Prelude.{ℕ, zero, suc, ◌+◌, ◌*◌, ◌-◌, ◌^◌, ◌/◌, ◌%◌, Bool, true, false, List, [], ◌∷◌, reverse, leb, ltb, None, Option, Some}
 use Rattle.readers.specs.Choice.{pick, check, bind}
 
 -- ---- LEB128
@@ -10,16 +9,16 @@ abbrev pub Groups : Type 0
 Groups = ℕ × ℕ × List ℕ
 
 unfoldable pub below : ℕ → Groups → Option Groups
-below b t = some (suc t.0, b - 128 + 128 * t.1, t.2)
+below b t = Some (suc t.0, b - 128 + 128 * t.1, t.2)
 
 -- 7.6: seven bits a byte, the lowest first; the top bit says that another byte follows. At most k bytes.
 unfoldable pub groups : ℕ → List ℕ → Option Groups
-groups zero s = none
-groups (suc k) [] = none
-groups (suc k) (b ∷ s) = pick (ltb b 128) (some (0, b, s)) (bind (groups k s) (below b))
+groups zero s = None
+groups (suc k) [] = None
+groups (suc k) (b ∷ s) = pick (ltb b 128) (Some (0, b, s)) (bind (groups k s) (below b))
 
 unfoldable pub unsigned64 : Groups → Option Groups
-unsigned64 t = check (ltb t.1 (2 ^ 64)) (some t)
+unsigned64 t = check (ltb t.1 (2 ^ 64)) (Some t)
 
 -- An unsigned number: at most ten bytes, within 64 bits (document 01, "Readers"). Padding is taken.
 unfoldable pub uleb : List ℕ → Option Groups
@@ -32,8 +31,8 @@ negative n v = leb (64 * 128 ^ n) v
 unfoldable pub signed64 : Groups → Option Groups
 signed64 t =
     pick (negative t.0 t.1)
-    (check (leb (128 ^ suc t.0) (t.1 + 2 ^ 63)) (some (t.0, t.1 + 2 ^ 64 - 128 ^ suc t.0, t.2)))
-    (check (ltb t.1 (2 ^ 63)) (some t))
+    (check (leb (128 ^ suc t.0) (t.1 + 2 ^ 63)) (Some (t.0, t.1 + 2 ^ 64 - 128 ^ suc t.0, t.2)))
+    (check (ltb t.1 (2 ^ 63)) (Some t))
 
 -- A signed number: at most ten bytes, within 64 bits as a signed number.
 unfoldable pub sleb : List ℕ → Option Groups

@@ -1,6 +1,7 @@
 -- The references of an expression (document 01, "References" and "references of an expression").
 use Rattle.std.specs.Prelude.{ℕ, ◌+◌, ◌*◌, ◌-◌, ◌/◌, Bool, true, false, List, [], ◌∷◌, ◌++◌, length, ltb, leb, eqb}
-use Rattle.std.proofs.Math.Option.{Option, none, some}
+use Rattle.std.specs.Prelude.{Err, None, Ok, Option, Result, Some}
+use Rattle.readers.specs.declared.expressions.Reference.{Reference}
 use Rattle.readers.specs.Choice.{pick, ◌or◌, ◌and◌, zeros}
 use Rattle.readers.specs.Header.{size_known, encoding_of}
 use Rattle.readers.specs.Operations.{row_reference2, row_reference4, row_type, row_bytes1_type, row_type_block1}
@@ -15,14 +16,6 @@ use Rattle.readers.specs.declared.cursor.Encoding.{Encoding}
 use Rattle.readers.specs.declared.cursor.Cursor.{Cursor}
 use Rattle.readers.specs.declared.fields.Field.{Field}
 use Rattle.readers.specs.declared.operations.Operation.{Operation}
-use Rattle.readers.specs.declared.operations.OperationRead.{OperationRead}
-use Rattle.readers.specs.declared.operations.OperationRead.TheVariants.{Read as Operation', Unreadable as NoOperation}
-use Rattle.readers.specs.declared.expressions.Walk.{Walk}
-use Rattle.readers.specs.declared.expressions.Walk.TheVariants.{Walked, Unreadable}
-use Rattle.readers.specs.declared.expressions.Yield.{Yield}
-use Rattle.readers.specs.declared.expressions.Yield.TheVariants.{Reference as Yielded, End}
-use Rattle.readers.specs.declared.expressions.References.{References}
-use Rattle.readers.specs.declared.expressions.References.TheVariants.{Count, Refused}
 
 -- A reference: where its operand stands, the offset that it names, how the operand is written.
 abbrev pub Named : Type 0
@@ -57,52 +50,52 @@ any_absolute (p ∷ ps) = is_absolute p or any_absolute ps
 
 -- ---- the walk of a whole expression
 
-unfoldable pub as_walk : Bool → Option (List Piece) → Walk
-as_walk big none = Unreadable
-as_walk big (some ps) = Walked (length (names_in big 0 ps)) (any_absolute ps)
+unfoldable pub as_walk : Bool → Option (List Piece) → Option (ℕ × Bool)
+as_walk big None = None
+as_walk big (Some ps) = Some (length (names_in big 0 ps), any_absolute ps)
 
-unfoldable pub walk_of : Encoding → List ℕ → Walk
+unfoldable pub walk_of : Encoding → List ℕ → Option (ℕ × Bool)
 walk_of e s = as_walk e.big_endian (expression_in e s)
 
 -- ---- one reference after the other: operation by operation, going on inside an entry value
 
 -- the entry that an operand names; b: whether the operand is a ULEB128 number
-unfoldable pub named : Field → Bool → Cursor → Yield
+unfoldable pub named : Field → Bool → Cursor → Option Reference
 named f b c =
-    Yielded (record { place = f.start; target = record { 0 = f.value }; leb = b; width = f.end - f.start; next = c })
+    Some (record { place = f.start; target = record { 0 = f.value }; leb = b; width = f.end - f.start; next = c })
 
-unfoldable pub named_type : Field → Cursor → Yield
-named_type f c = pick (eqb f.value 0) End (named f true c)
+unfoldable pub named_type : Field → Cursor → Option Reference
+named_type f c = pick (eqb f.value 0) None (named f true c)
 
 -- By the rows of Operations.antt, in their order: two name an entry, four a type, by their first or their second
 -- operand.
-unfoldable pub reference_of : Operation → Yield
+unfoldable pub reference_of : Operation → Option Reference
 reference_of op =
-    pick (ltb op.row row_reference2) End
+    pick (ltb op.row row_reference2) None
     (pick (leb op.row row_reference4) (named op.first false op.next)
     (pick (eqb op.row row_type) (named_type op.first op.next)
     (pick (leb op.row row_bytes1_type) (named_type op.second op.next)
     (pick (eqb op.row row_type_block1) (named_type op.first op.next)
-    End))))
+    None))))
 
-unfoldable pub yield_turn : Yield → Cursor → Turn (Unit {0}) Yield
-yield_turn (Yielded r) c = stop (Yielded r)
-yield_turn End c = more tt c.at
+unfoldable pub yield_turn : Option Reference → Cursor → Turn (Unit {0}) (Option Reference)
+yield_turn (Some r) c = stop (Some r)
+yield_turn None c = more tt c.at
 
 -- the one row that holds an expression is an entry value's
-unfoldable pub operation_turn : OperationRead → Turn (Unit {0}) Yield
-operation_turn (Operation' op) =
+unfoldable pub operation_turn : Option Operation → Turn (Unit {0}) (Option Reference)
+operation_turn (Some op) =
     pick (eqb op.row row_expression) (more tt op.first.start) (yield_turn (reference_of op) op.next)
-operation_turn NoOperation = stop End
+operation_turn None = stop None
 
-unfoldable pub walk_turn : Encoding → List ℕ → ℕ → Turn (Unit {0}) Yield
-walk_turn e s at = pick (ltb at (length s)) (operation_turn (operation_at e s at)) (stop End)
+unfoldable pub walk_turn : Encoding → List ℕ → ℕ → Turn (Unit {0}) (Option Reference)
+walk_turn e s at = pick (ltb at (length s)) (operation_turn (operation_at e s at)) (stop None)
 
-unfoldable pub yielded : Option (Scanned (Unit {0}) Yield) → Yield
-yielded none = End
-yielded (some r) = r.1
+unfoldable pub yielded : Option (Scanned (Unit {0}) (Option Reference)) → Option Reference
+yielded None = None
+yielded (Some r) = r.1
 
-unfoldable pub next_reference : Encoding → List ℕ → ℕ → Yield
+unfoldable pub next_reference : Encoding → List ℕ → ℕ → Option Reference
 next_reference e s at = yielded (scan (length s) (walk_turn e s) at)
 
 -- ---- all of them: at each operation its own references, going on inside an entry value
@@ -112,14 +105,14 @@ unfoldable pub encoded_by : Bool → ℕ → Encoded
 encoded_by true n = inleb (n - 1)
 encoded_by false n = infixed n
 
-unfoldable pub names_of : Yield → List Named
-names_of (Yielded r) = (r.place, r.target.0, encoded_by r.leb r.width) ∷ []
-names_of End = []
+unfoldable pub names_of : Option Reference → List Named
+names_of (Some r) = (r.place, r.target.0, encoded_by r.leb r.width) ∷ []
+names_of None = []
 
-unfoldable pub flat_operation : OperationRead → Turn (List Named) (Unit {0})
-flat_operation (Operation' op) =
+unfoldable pub flat_operation : Option Operation → Turn (List Named) (Unit {0})
+flat_operation (Some op) =
     pick (eqb op.row row_expression) (more [] op.first.start) (more (names_of (reference_of op)) op.next.at)
-flat_operation NoOperation = stop tt
+flat_operation None = stop tt
 
 unfoldable pub flat_turn : Encoding → List ℕ → ℕ → Turn (List Named) (Unit {0})
 flat_turn e s at = pick (ltb at (length s)) (flat_operation (operation_at e s at)) (stop tt)
@@ -129,8 +122,8 @@ flat [] = []
 flat (l ∷ ls) = l ++ flat ls
 
 unfoldable pub flattened : Option (Scanned (List Named) (Unit {0})) → List Named
-flattened none = []
-flattened (some r) = flat r.0
+flattened None = []
+flattened (Some r) = flat r.0
 
 unfoldable pub flat_from : Encoding → List ℕ → ℕ → List Named
 flat_from e s at = flattened (scan (length s) (flat_turn e s) at)
@@ -138,17 +131,17 @@ flat_from e s at = flattened (scan (length s) (flat_turn e s) at)
 -- ---- the public call
 
 -- in this order 2, 5, 7, 11; a table holds a third as many references as numbers
-unfoldable pub walk_answer : ℕ → Walk → References
-walk_answer room Unreadable = Refused (refusal_of_walk Unreadable)
-walk_answer room (Walked n true) = Refused (refusal_of_walk (Walked n true))
-walk_answer room (Walked n false) = pick (leb n room) (Count n) (Refused 11)
+unfoldable pub walk_answer : ℕ → Option (ℕ × Bool) → Result ℕ ℕ
+walk_answer room None = Err (refusal_of_walk None)
+walk_answer room (Some (n, true)) = Err (refusal_of_walk (Some (n, true)))
+walk_answer room (Some (n, false)) = pick (leb n room) (Ok n) (Err 11)
 
 -- by the size of an address and that of an offset (document 02, Point 6: "4 or 8; any other is 2"), the byte order, and
 -- how many numbers the table has
-unfoldable pub references_answer : ℕ → ℕ → Bool → ℕ → List ℕ → References
+unfoldable pub references_answer : ℕ → ℕ → Bool → ℕ → List ℕ → Result ℕ ℕ
 references_answer a w big numbers s =
     pick (size_known a and size_known w)
-    (walk_answer (numbers / 3) (walk_of (encoding_of big 5 w a) s)) (Refused 2)
+    (walk_answer (numbers / 3) (walk_of (encoding_of big 5 w a) s)) (Err 2)
 
 -- three numbers each: the place, the offset, the width in bytes
 unfoldable pub numbers_of : List Named → List ℕ
@@ -157,16 +150,16 @@ numbers_of (r ∷ rs) = r.0 ∷ r.1 ∷ width r.2 ∷ numbers_of rs
 
 -- the references of a readable expression
 unfoldable pub names_or : Bool → Option (List Piece) → List Named
-names_or big none = []
-names_or big (some ps) = names_in big 0 ps
+names_or big None = []
+names_or big (Some ps) = names_in big 0 ps
 
 unfoldable pub references_in : Encoding → List ℕ → List Named
 references_in e s = names_or e.big_endian (expression_in e s)
 
 -- the references, and zeros after them; zeros after a refusal
-unfoldable pub answer_table : ℕ → References → List Named → List ℕ
-answer_table numbers (Count n) rs = numbers_of rs ++ zeros (numbers - 3 * n)
-answer_table numbers (Refused k) rs = zeros numbers
+unfoldable pub answer_table : ℕ → Result ℕ ℕ → List Named → List ℕ
+answer_table numbers (Ok n) rs = numbers_of rs ++ zeros (numbers - 3 * n)
+answer_table numbers (Err k) rs = zeros numbers
 
 unfoldable pub references_table : ℕ → ℕ → Bool → ℕ → List ℕ → List ℕ
 references_table a w big numbers s =

@@ -1,12 +1,12 @@
 -- The entries and terminators of a unit, one after the other (DWARF 5, 2.3 and 7.5.2): from a place on, up to the
 -- unit's end or to what can't be read.
-use Rattle.std.specs.Prelude.{ℕ, zero, suc, ◌-◌, Bool, true, false, List, [], ◌∷◌, length}
+use Rattle.std.specs.Prelude.{ℕ, zero, suc, ◌-◌, Bool, true, false, List, [], ◌∷◌, length, None, Option, Some}
 use Rattle.readers.specs.Entries.{step_at}
 use Rattle.readers.specs.declared.cursor.Encoding.{Encoding}
-use Rattle.readers.specs.declared.abbreviations.DeclarationFound.{DeclarationFound}
-use Rattle.readers.specs.declared.entries.Entry.{Entry}
+use Rattle.readers.specs.declared.abbreviations.Declaration.{Declaration}
 use Rattle.readers.specs.declared.entries.Step.{Step}
-use Rattle.readers.specs.declared.entries.Step.TheVariants.{Entry as Entry', Terminator, End, Unreadable}
+use Rattle.readers.specs.declared.entries.Entry.{Entry}
+use Rattle.readers.specs.declared.entries.Step.TheVariants.{Entry as Entry', Terminator, End}
 
 -- an entry, or a terminator by where it starts and where it ends
 pub data Item : Type 0 where
@@ -20,13 +20,13 @@ Items = List Item × Bool
 unfoldable pub push : Item → Items → Items
 push i r = (i ∷ r.0, r.1)
 
-unfoldable pub on_step : ℕ → Step → (ℕ → Items) → Items
-on_step at (Entry' x) k = push (entry x) (k x.next.at)
-on_step at (Terminator c) k = push (terminator at c.at) (k c.at)
-on_step at End k = ([], true)
-on_step at Unreadable k = ([], false)
+unfoldable pub on_step : ℕ → Option Step → (ℕ → Items) → Items
+on_step at (Some (Entry' x)) k = push (entry x) (k x.next.at)
+on_step at (Some (Terminator c)) k = push (terminator at c.at) (k c.at)
+on_step at (Some End) k = ([], true)
+on_step at None k = ([], false)
 
-module _ (e : Encoding) (abbreviations : List ℕ) (look : ℕ → DeclarationFound) (unit : List ℕ) where
+module _ (e : Encoding) (abbreviations : List ℕ) (look : ℕ → Option Declaration) (unit : List ℕ) where
   -- a count bounds how often
   unfoldable pub items_within : ℕ → ℕ → Items
   items_within zero at = ([], false)

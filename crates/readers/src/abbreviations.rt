@@ -8,7 +8,7 @@ ghost use Rattle.readers.specs.Abbreviations.{index_of, holds_code, head_in, fin
 ghost use Rattle.readers.specs.declared.abbreviations.Checked.TheVariants.{Accepted};
 
 use crate::codes::{DW_CHILDREN_yes, DW_FORM_implicit_const};
-use crate::cursor::{Cursor, Moved, Number, left};
+use crate::cursor::{Cursor, left};
 use crate::slots::{Arranged, order, slot_code, slot_of};
 use crate::tables::clear;
 
@@ -26,7 +26,6 @@ pub struct AttributeSpec {
 pub enum SpecStep {
     Attribute(AttributeSpec),
     Last(Cursor),
-    Unreadable,
 }
 
 // A declaration: its code, its tag, whether its entries have children, and where its attribute specifications start.
@@ -43,7 +42,6 @@ pub struct Declaration {
 pub enum DeclarationStep {
     Declaration(Declaration, Cursor),
     Last(Cursor),
-    Unreadable,
 }
 
 // Whether a list of declarations is as document 01 wants it.
@@ -53,40 +51,25 @@ pub enum Checked {
     Refused,
 }
 
-// How many declarations there are.
-#[derive(Clone, Copy)]
-enum Count {
-    Of(usize),
-    Unreadable,
-}
-
-#[derive(Clone, Copy)]
-pub enum DeclarationFound {
-    Declaration(Declaration),
-    Nothing,
-}
-
 // A specification with its value where it is an implicit_const.
-fn implicit_spec(s: &[u8], name: u64, form: u64, c: Cursor) -> SpecStep
+fn implicit_spec(s: &[u8], name: u64, form: u64, c: Cursor) -> Option<SpecStep>
     ensures { result ≡ implicit_spec s.now name form c.at }
 {
     if form != DW_FORM_implicit_const {
-        return SpecStep::Attribute(AttributeSpec {
+        return Some(SpecStep::Attribute(AttributeSpec {
             name,
             form,
             implicit: 0,
             next: c,
-        });
+        }));
     }
-    let Number::Value(implicit, next) = c.sleb(s) else {
-        return SpecStep::Unreadable;
-    };
-    SpecStep::Attribute(AttributeSpec {
+    let (implicit, next) = c.sleb(s)?;
+    Some(SpecStep::Attribute(AttributeSpec {
         name,
         form,
         implicit,
         next,
-    })
+    }))
 }
 
 // Whether two bytes are a name and a form of a specification that has no value of its own.
@@ -129,7 +112,7 @@ fn plain_head(code: u64, tag: u64, children: u64) -> bool
 
 impl Cursor {
     // The attribute specification at a place. Most have a name and a form of one byte each.
-    pub fn attribute_spec(self, s: &[u8]) -> SpecStep
+    pub fn attribute_spec(self, s: &[u8]) -> Option<SpecStep>
         ensures { result ≡ spec_at s.now self.at }
     {
         let at = self.at;
@@ -137,58 +120,51 @@ impl Cursor {
             let name = s[at] as u64;
             let form = s[at + 1] as u64;
             if plain_spec(name, form) {
-                return SpecStep::Attribute(AttributeSpec {
+                return Some(SpecStep::Attribute(AttributeSpec {
                     name,
                     form,
                     implicit: 0,
                     next: Cursor { at: at + 2 },
-                });
+                }));
             }
             if name + form == 0 {
-                return SpecStep::Last(Cursor { at: at + 2 });
+                return Some(SpecStep::Last(Cursor { at: at + 2 }));
             }
         }
         self.long_spec(s)
     }
 
     // The attribute specification at a place, of numbers of any length.
-    fn long_spec(self, s: &[u8]) -> SpecStep
+    fn long_spec(self, s: &[u8]) -> Option<SpecStep>
         ensures { result ≡ spec_at s.now self.at }
     {
-        let Number::Value(name, after_name) = self.short(s) else {
-            return SpecStep::Unreadable;
-        };
-        let Number::Value(form, after_form) = after_name.short(s) else {
-            return SpecStep::Unreadable;
-        };
+        let (name, after_name) = self.short(s)?;
+        let (form, after_form) = after_name.short(s)?;
         if name == 0 {
             if form == 0 {
-                return SpecStep::Last(after_form);
+                return Some(SpecStep::Last(after_form));
             }
-            return SpecStep::Unreadable;
+            return None;
         }
         if form == 0 {
-            return SpecStep::Unreadable;
+            return None;
         }
         implicit_spec(s, name, form, after_form)
     }
 
     // Past the attribute specifications that start at a place, and the pair that closes them.
-    pub fn past_attributes(self, s: &[u8]) -> Moved
+    pub fn past_attributes(self, s: &[u8]) -> Option<Cursor>
         ensures { result ≡ past_attributes s.now self.at }
     {
         let mut c = self;
         loop {
-            match c.long_spec(s) {
+            match c.long_spec(s)? {
                 SpecStep::Attribute(a) => {
                     let next = a.next;
                     c = next;
                 }
                 SpecStep::Last(next) => {
-                    return Moved::To(next);
-                }
-                SpecStep::Unreadable => {
-                    return Moved::Unreadable;
+                    return Some(next);
                 }
             }
         }
@@ -196,7 +172,7 @@ impl Cursor {
 
     // The head of the declaration at a place: its code, tag and children byte, and the cursor to its attribute
     // specifications. Most have a code and a tag of one byte each.
-    pub fn head(self, s: &[u8]) -> DeclarationStep
+    pub fn head(self, s: &[u8]) -> Option<DeclarationStep>
         ensures { result ≡ head_at s.now self.at }
     {
         let at = self.at;
@@ -206,7 +182,7 @@ impl Cursor {
             let children = s[at + 2] as u64;
             if plain_head(code, tag, children) {
                 let attributes = Cursor { at: at + 3 };
-                return DeclarationStep::Declaration(
+                return Some(DeclarationStep::Declaration(
                     Declaration {
                         code,
                         tag,
@@ -214,35 +190,29 @@ impl Cursor {
                         attributes,
                     },
                     attributes,
-                );
+                ));
             }
         }
         self.long_head(s)
     }
 
     // The head of the declaration at a place, of numbers of any length.
-    fn long_head(self, s: &[u8]) -> DeclarationStep
+    fn long_head(self, s: &[u8]) -> Option<DeclarationStep>
         ensures { result ≡ head_at s.now self.at }
     {
-        let Number::Value(code, after_code) = self.uleb(s) else {
-            return DeclarationStep::Unreadable;
-        };
+        let (code, after_code) = self.uleb(s)?;
         if code == 0 {
-            return DeclarationStep::Last(after_code);
+            return Some(DeclarationStep::Last(after_code));
         }
-        let Number::Value(tag, after_tag) = after_code.short(s) else {
-            return DeclarationStep::Unreadable;
-        };
+        let (tag, after_tag) = after_code.short(s)?;
         if tag == 0 {
-            return DeclarationStep::Unreadable;
+            return None;
         }
-        let Number::Value(children, attributes) = after_tag.fixed(s, 1, false) else {
-            return DeclarationStep::Unreadable;
-        };
+        let (children, attributes) = after_tag.fixed(s, 1, false)?;
         if children > DW_CHILDREN_yes {
-            return DeclarationStep::Unreadable;
+            return None;
         }
-        DeclarationStep::Declaration(
+        Some(DeclarationStep::Declaration(
             Declaration {
                 code,
                 tag,
@@ -250,61 +220,55 @@ impl Cursor {
                 attributes,
             },
             attributes,
-        )
+        ))
     }
 
     // The declaration at a place, with its attribute specifications.
-    pub fn declaration(self, s: &[u8]) -> DeclarationStep
+    pub fn declaration(self, s: &[u8]) -> Option<DeclarationStep>
         ensures { result ≡ declaration_at s.now self.at }
     {
-        match self.long_head(s) {
+        match self.long_head(s)? {
             DeclarationStep::Declaration(d, _) => {
                 let attributes = d.attributes;
-                let Moved::To(next) = attributes.past_attributes(s) else {
-                    return DeclarationStep::Unreadable;
-                };
-                DeclarationStep::Declaration(d, next)
+                let next = attributes.past_attributes(s)?;
+                Some(DeclarationStep::Declaration(d, next))
             }
-            DeclarationStep::Last(next) => DeclarationStep::Last(next),
-            DeclarationStep::Unreadable => DeclarationStep::Unreadable,
+            DeclarationStep::Last(next) => Some(DeclarationStep::Last(next)),
         }
     }
 
     // The first declaration with a code among those that start at this place and before `to`.
-    pub fn search(self, s: &[u8], to: usize, code: u64) -> DeclarationFound
+    pub fn search(self, s: &[u8], to: usize, code: u64) -> Option<Declaration>
         ensures { result ≡ search_at s.now to code self.at }
     {
         let mut c = self;
         while c.at < to {
-            match c.declaration(s) {
+            match c.declaration(s)? {
                 DeclarationStep::Declaration(d, next) => {
                     if d.code == code {
-                        return DeclarationFound::Declaration(d);
+                        return Some(d);
                     }
                     c = next;
                 }
                 DeclarationStep::Last(_) => {
-                    return DeclarationFound::Nothing;
-                }
-                DeclarationStep::Unreadable => {
-                    return DeclarationFound::Nothing;
+                    return None;
                 }
             }
         }
-        DeclarationFound::Nothing
+        None
     }
 }
 
 // Writes one more than the place of each declaration into the slots of an index, in their order, as far as there is
 // room, and counts them.
-fn gather(s: &[u8], start: usize, index: &mut [u64]) -> Count
+fn gather(s: &[u8], start: usize, index: &mut [u64]) -> Option<usize>
     ensures counted { result ≡ count_of (declarations_from s.now start) }
     ensures gathered { Gathered s.now start index.old index.new }
 {
     let mut c = Cursor { at: start };
     let mut count: usize = 0;
     loop {
-        match c.declaration(s) {
+        match c.declaration(s)? {
             DeclarationStep::Declaration(_, next) => {
                 if count < index.len() {
                     index[count] = (c.at as u64) + 1;
@@ -316,10 +280,7 @@ fn gather(s: &[u8], start: usize, index: &mut [u64]) -> Count
                 }
             }
             DeclarationStep::Last(_) => {
-                return Count::Of(count);
-            }
-            DeclarationStep::Unreadable => {
-                return Count::Unreadable;
+                return Some(count);
             }
         }
     }
@@ -332,20 +293,19 @@ fn check_plain(s: &[u8], start: usize) -> Checked
 {
     let mut c = Cursor { at: start };
     loop {
-        match c.declaration(s) {
+        let Some(step) = c.declaration(s) else {
+            return Checked::Refused;
+        };
+        match step {
             DeclarationStep::Declaration(d, next) => {
-                if let DeclarationFound::Declaration(_) = (Cursor { at: start }).search(
-                    s, c.at, d.code,
-                ) {
+                let earlier = (Cursor { at: start }).search(s, c.at, d.code);
+                if earlier.is_some() {
                     return Checked::Refused;
                 }
                 c = next;
             }
             DeclarationStep::Last(_) => {
                 return Checked::Accepted;
-            }
-            DeclarationStep::Unreadable => {
-                return Checked::Refused;
             }
         }
     }
@@ -367,7 +327,7 @@ fn fill_index(s: &[u8], start: usize, index: &mut [u64]) -> Checked
     ensures answer { result ≡ checked_of s.now start }
     ensures filled { result ≡ Accepted → index.new ≡ index_of s.now start (length index.old) }
 {
-    let Count::Of(count) = gather(s, start, index) else {
+    let Some(count) = gather(s, start, index) else {
         return Checked::Refused;
     };
     if count > index.len() {
@@ -422,14 +382,13 @@ fn number_before(n: u64) -> usize
 }
 
 // The declaration whose place a slot holds, by its head.
-fn head_in(s: &[u8], slot: u64) -> DeclarationFound
+fn head_in(s: &[u8], slot: u64) -> Option<Declaration>
     ensures { result ≡ head_in s.now slot }
 {
     let at = number_before(slot);
-    match (Cursor { at }).head(s) {
-        DeclarationStep::Declaration(d, _) => DeclarationFound::Declaration(d),
-        DeclarationStep::Last(_) => DeclarationFound::Nothing,
-        DeclarationStep::Unreadable => DeclarationFound::Nothing,
+    match (Cursor { at }).head(s)? {
+        DeclarationStep::Declaration(d, _) => Some(d),
+        DeclarationStep::Last(_) => None,
     }
 }
 
@@ -437,7 +396,7 @@ fn head_in(s: &[u8], slot: u64) -> DeclarationFound
 // that a search by halves ends at, else by the plain search, which is left for a code that is not declared and for an
 // index that is too short. Its head alone is read: whoever reads an entry's values reads the attribute
 // specifications, and finds out whether that is possible.
-pub fn find_declaration(s: &[u8], from: u64, index: &[u64], code: u64) -> DeclarationFound
+pub fn find_declaration(s: &[u8], from: u64, index: &[u64], code: u64) -> Option<Declaration>
     ensures { result ≡ find_head s.now from index.now code }
 {
     let guess = slot_at(index, number_before(code));

@@ -11,8 +11,8 @@ use crate::codes::{
     DW_FORM_implicit_const, DW_FORM_indirect, DW_FORM_loclistx, DW_FORM_rnglistx, DW_FORM_strx,
     DW_FORM_strx1, DW_FORM_strx4,
 };
-use crate::cursor::{Cursor, Encoding, Moved, Number};
-use crate::fields::{Field, FieldRead, number_field};
+use crate::cursor::{Cursor, Encoding};
+use crate::fields::{Field, number_field};
 use crate::layouts::*;
 
 // The value of an attribute: the form that it has, behind DW_FORM_indirect too, and its field.
@@ -20,12 +20,6 @@ use crate::layouts::*;
 pub struct Attribute {
     pub form: u64,
     pub field: Field,
-}
-
-#[derive(Clone, Copy)]
-pub enum AttributeRead {
-    Read(Attribute),
-    Unreadable,
 }
 
 // The token of each form below 0x2d, by its code (specs/Forms.antt).
@@ -146,95 +140,79 @@ fn width_of(token: u8, e: Encoding) -> usize
 }
 
 // A value in a form, by what its field reads.
-fn attribute_of(form: u64, read: FieldRead) -> AttributeRead
+fn attribute_of(form: u64, read: Option<Field>) -> Option<Attribute>
     ensures { result ≡ attribute_of form read }
 {
-    match read {
-        FieldRead::Read(field) => AttributeRead::Read(Attribute { form, field }),
-        FieldRead::Unreadable => AttributeRead::Unreadable,
-    }
+    let field = read?;
+    Some(Attribute { form, field })
 }
 
 // Past a number, a field, a value.
-fn past_number(n: Number) -> Moved
+fn past_number(n: Option<(u64, Cursor)>) -> Option<Cursor>
     ensures { result ≡ number_end n }
 {
-    match n {
-        Number::Value(_, next) => Moved::To(next),
-        Number::Unreadable => Moved::Unreadable,
-    }
+    let (_, next) = n?;
+    Some(next)
 }
 
-fn past_field(read: FieldRead) -> Moved
+fn past_field(read: Option<Field>) -> Option<Cursor>
     ensures { result ≡ field_end read }
 {
-    match read {
-        FieldRead::Read(field) => Moved::To(field.next()),
-        FieldRead::Unreadable => Moved::Unreadable,
-    }
+    let field = read?;
+    Some(field.next())
 }
 
-fn past_value(read: AttributeRead) -> Moved
+fn past_value(read: Option<Attribute>) -> Option<Cursor>
     ensures { result ≡ attribute_end read }
 {
-    match read {
-        AttributeRead::Read(a) => {
-            let field = a.field;
-            Moved::To(field.next())
-        }
-        AttributeRead::Unreadable => Moved::Unreadable,
-    }
+    let a = read?;
+    let field = a.field;
+    Some(field.next())
 }
 
 impl Cursor {
     // A value in a form that is not DW_FORM_indirect. A sibling in exprloc, implicit_const under indirect, and a form
     // that the version does not have, are unreadable.
-    fn value(self, s: &[u8], indirect: bool, name: u64, form: u64, e: Encoding) -> FieldRead
+    fn value(self, s: &[u8], indirect: bool, name: u64, form: u64, e: Encoding) -> Option<Field>
         ensures { result ≡ token_at e s.now self.at (value_token e indirect name form) }
     {
         if name == DW_AT_sibling {
             if form == DW_FORM_exprloc {
-                return FieldRead::Unreadable;
+                return None;
             }
         }
         if indirect {
             if form == DW_FORM_implicit_const {
-                return FieldRead::Unreadable;
+                return None;
             }
         }
         if !in_version(e.version, form) {
-            return FieldRead::Unreadable;
+            return None;
         }
         self.field(s, form_token(form), e)
     }
 
     // The value of an attribute of a name and a declared form, whatever the form.
-    fn any_attribute(self, s: &[u8], name: u64, form: u64, e: Encoding) -> AttributeRead
+    fn any_attribute(self, s: &[u8], name: u64, form: u64, e: Encoding) -> Option<Attribute>
         ensures { result ≡ attribute_at e s.now self.at name form }
     {
         if form != DW_FORM_indirect {
-            let FieldRead::Read(field) = self.value(s, false, name, form, e) else {
-                return AttributeRead::Unreadable;
-            };
-            return AttributeRead::Read(Attribute { form, field });
+            let field = self.value(s, false, name, form, e)?;
+            return Some(Attribute { form, field });
         }
-        let Number::Value(found, next) = self.forms(s) else {
-            return AttributeRead::Unreadable;
-        };
-        let FieldRead::Read(field) = next.value(s, true, name, found, e) else {
-            return AttributeRead::Unreadable;
-        };
-        AttributeRead::Read(Attribute { form: found, field })
+        let (found, next) = self.forms(s)?;
+        let field = next.value(s, true, name, found, e)?;
+        Some(Attribute { form: found, field })
     }
 
     // The value of an attribute of a name and a declared form. Most are numbers, which no name makes unreadable.
-    pub fn attribute(self, s: &[u8], name: u64, form: u64, e: Encoding) -> AttributeRead
+    pub fn attribute(self, s: &[u8], name: u64, form: u64, e: Encoding) -> Option<Attribute>
         ensures { result ≡ attribute_at e s.now self.at name form }
     {
         let start = self.at;
         let token = form_token(form);
         if token == NO_BYTES {
-            return AttributeRead::Read(Attribute {
+            return Some(Attribute {
                 form,
                 field: Field {
                     value: 0,
@@ -249,13 +227,13 @@ impl Cursor {
         }
         if token == ULEB128 {
             if !in_version(e.version, form) {
-                return AttributeRead::Unreadable;
+                return None;
             }
             return attribute_of(form, number_field(start, self.uleb(s)));
         }
         if form == DW_FORM_exprloc {
             if name == DW_AT_sibling {
-                return AttributeRead::Unreadable;
+                return None;
             }
             return attribute_of(form, self.exprloc(s));
         }
@@ -263,17 +241,17 @@ impl Cursor {
     }
 
     // Past a number of a fixed width.
-    fn past_fixed(self, s: &[u8], width: usize) -> Moved
+    fn past_fixed(self, s: &[u8], width: usize) -> Option<Cursor>
         ensures { (big : Bool) → result ≡ number_end (fixed_at big width s.now self.at) }
     {
         if width > 8 {
-            return Moved::Unreadable;
+            return None;
         }
         self.bytes(s, width as u64)
     }
 
     // Past the value of an attribute of a name and a declared form; most without reading it.
-    pub fn past_attribute(self, s: &[u8], name: u64, form: u64, e: Encoding) -> Moved
+    pub fn past_attribute(self, s: &[u8], name: u64, form: u64, e: Encoding) -> Option<Cursor>
         ensures { result ≡ attribute_end (attribute_at e s.now self.at name form) }
     {
         let token = form_token(form);
@@ -288,13 +266,13 @@ impl Cursor {
         }
         if token == ULEB128 {
             if !in_version(e.version, form) {
-                return Moved::Unreadable;
+                return None;
             }
             return past_number(self.uleb(s));
         }
         if form == DW_FORM_exprloc {
             if name == DW_AT_sibling {
-                return Moved::Unreadable;
+                return None;
             }
             return past_field(self.exprloc(s));
         }

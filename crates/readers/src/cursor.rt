@@ -1,5 +1,5 @@
 // Where a reader stands, what it reads by, and the numbers that DWARF is made of. Each read takes the cursor and
-// hands the next one back.
+// hands back what it read and the next cursor, or only that; None where it can't be read.
 ghost use Rattle.std.specs.Prelude.{◌≡◌, ◌+◌, ◌*◌, ◌-◌, ◌≤◌, ◌<◌, Bool, length, take, drop};
 ghost use Rattle.readers.specs.Numbers.{fixed_value, uleb, sleb};
 ghost use Rattle.readers.specs.Layout.{short};
@@ -22,31 +22,14 @@ pub struct Cursor {
     pub at: usize,
 }
 
-// A number, and the cursor past it.
-#[derive(Clone, Copy)]
-pub enum Number {
-    Value(u64, Cursor),
-    Unreadable,
-}
-
 // The groups of a LEB128 number of at most ten bytes: its value is low + high * 2^63, and weight is 128 to the number
 // of bytes before the last.
 #[derive(Clone, Copy)]
-pub enum Groups {
-    Whole {
-        low: u64,
-        high: u64,
-        weight: u64,
-        next: Cursor,
-    },
-    Unreadable,
-}
-
-// The cursor past some bytes.
-#[derive(Clone, Copy)]
-pub enum Moved {
-    To(Cursor),
-    Unreadable,
+pub struct Groups {
+    pub low: u64,
+    pub high: u64,
+    pub weight: u64,
+    pub next: Cursor,
 }
 
 // How many bytes are left from a place on.
@@ -78,7 +61,7 @@ fn four_at(s: &[u8], at: usize, big_endian: bool) -> u64
 
 impl Cursor {
     // The groups of a LEB128 number.
-    pub fn groups(self, s: &[u8]) -> Groups
+    pub fn groups(self, s: &[u8]) -> Option<Groups>
         ensures { result ≡ groups_at s.now self.at }
     {
         let mut at = self.at;
@@ -87,195 +70,183 @@ impl Cursor {
         let mut i: usize = 0;
         while i < 9 {
             if at >= s.len() {
-                return Groups::Unreadable;
+                return None;
             }
             let b = s[at] as u64;
             at += 1;
             if b < 128 {
-                return Groups::Whole {
+                return Some(Groups {
                     low: low + b * weight,
                     high: 0,
                     weight,
                     next: Cursor { at },
-                };
+                });
             }
             low += (b - 128) * weight;
             weight *= 128;
             i += 1;
         }
         if at >= s.len() {
-            return Groups::Unreadable;
+            return None;
         }
         let b = s[at] as u64;
         if b < 128 {
-            return Groups::Whole {
+            return Some(Groups {
                 low,
                 high: b,
                 weight,
                 next: Cursor { at: at + 1 },
-            };
+            });
         }
-        Groups::Unreadable
+        None
     }
 
     // An unsigned LEB128 number within 64 bits, of any length.
-    pub fn long_uleb(self, s: &[u8]) -> Number
+    pub fn long_uleb(self, s: &[u8]) -> Option<(u64, Cursor)>
         ensures { result ≡ leb_at uleb s.now self.at }
     {
-        match self.groups(s) {
-            Groups::Whole {
-                low,
-                high,
-                weight: _,
-                next,
-            } => {
-                if high < 2 {
-                    Number::Value(low + high * 0x8000_0000_0000_0000, next)
-                } else {
-                    Number::Unreadable
-                }
-            }
-            Groups::Unreadable => Number::Unreadable,
+        let Groups {
+            low,
+            high,
+            next,
+            ..
+        } = self.groups(s)?;
+        if high < 2 {
+            Some((low + high * 0x8000_0000_0000_0000, next))
+        } else {
+            None
         }
     }
 
     // An unsigned LEB128 number within 64 bits. Most have one byte.
-    pub fn uleb(self, s: &[u8]) -> Number
+    pub fn uleb(self, s: &[u8]) -> Option<(u64, Cursor)>
         ensures { result ≡ leb_at uleb s.now self.at }
     {
         let at = self.at;
         if at < s.len() {
             let b = s[at] as u64;
             if b < 128 {
-                return Number::Value(b, Cursor { at: at + 1 });
+                return Some((b, Cursor { at: at + 1 }));
             }
         }
         self.long_uleb(s)
     }
 
     // A signed LEB128 number within 64 bits, as the bits of its two's complement, of any length.
-    pub fn long_sleb(self, s: &[u8]) -> Number
+    pub fn long_sleb(self, s: &[u8]) -> Option<(u64, Cursor)>
         ensures { result ≡ leb_at sleb s.now self.at }
     {
-        match self.groups(s) {
-            Groups::Whole {
-                low,
-                high,
-                weight,
-                next,
-            } => {
-                if weight == 0x8000_0000_0000_0000 {
-                    if high == 0 {
-                        return Number::Value(low, next);
-                    }
-                    if high == 127 {
-                        return Number::Value(low + 0x8000_0000_0000_0000, next);
-                    }
-                    return Number::Unreadable;
-                }
-                if low < 64 * weight {
-                    return Number::Value(low, next);
-                }
-                Number::Value(0xffff_ffff_ffff_ffff - 128 * weight + 1 + low, next)
+        let Groups {
+            low,
+            high,
+            weight,
+            next,
+        } = self.groups(s)?;
+        if weight == 0x8000_0000_0000_0000 {
+            if high == 0 {
+                return Some((low, next));
             }
-            Groups::Unreadable => Number::Unreadable,
+            if high == 127 {
+                return Some((low + 0x8000_0000_0000_0000, next));
+            }
+            return None;
         }
+        if low < 64 * weight {
+            return Some((low, next));
+        }
+        Some((0xffff_ffff_ffff_ffff - 128 * weight + 1 + low, next))
     }
 
     // A signed LEB128 number within 64 bits, as the bits of its two's complement. Most have one byte.
-    pub fn sleb(self, s: &[u8]) -> Number
+    pub fn sleb(self, s: &[u8]) -> Option<(u64, Cursor)>
         ensures { result ≡ leb_at sleb s.now self.at }
     {
         let at = self.at;
         if at < s.len() {
             let b = s[at] as u64;
             if b < 64 {
-                return Number::Value(b, Cursor { at: at + 1 });
+                return Some((b, Cursor { at: at + 1 }));
             }
             if b < 128 {
-                return Number::Value(0xffff_ffff_ffff_ff80 + b, Cursor { at: at + 1 });
+                return Some((0xffff_ffff_ffff_ff80 + b, Cursor { at: at + 1 }));
             }
         }
         self.long_sleb(s)
     }
 
     // A number in at most three bytes and 16 bits, of any length.
-    fn long_short(self, s: &[u8]) -> Number
+    fn long_short(self, s: &[u8]) -> Option<(u64, Cursor)>
         ensures { result ≡ leb_at short s.now self.at }
     {
-        match self.groups(s) {
-            Groups::Whole {
-                low,
-                high: _,
-                weight,
-                next,
-            } => {
-                if weight > 16384 {
-                    return Number::Unreadable;
-                }
-                if low < 65536 {
-                    return Number::Value(low, next);
-                }
-                Number::Unreadable
-            }
-            Groups::Unreadable => Number::Unreadable,
+        let Groups {
+            low,
+            weight,
+            next,
+            ..
+        } = self.groups(s)?;
+        if weight > 16384 {
+            return None;
         }
+        if low < 65536 {
+            return Some((low, next));
+        }
+        None
     }
 
     // A number in at most three bytes and 16 bits: a tag, a name or a form. Most have one byte.
-    pub fn short(self, s: &[u8]) -> Number
+    pub fn short(self, s: &[u8]) -> Option<(u64, Cursor)>
         ensures { result ≡ leb_at short s.now self.at }
     {
         let at = self.at;
         if at < s.len() {
             let b = s[at] as u64;
             if b < 128 {
-                return Number::Value(b, Cursor { at: at + 1 });
+                return Some((b, Cursor { at: at + 1 }));
             }
         }
         self.long_short(s)
     }
 
     // A byte.
-    fn byte(self, s: &[u8]) -> Number
+    fn byte(self, s: &[u8]) -> Option<(u64, Cursor)>
         ensures { (big : Bool) → result ≡ fixed_at big 1 s.now self.at }
     {
         let at = self.at;
         if at < s.len() {
-            return Number::Value(s[at] as u64, Cursor { at: at + 1 });
+            return Some((s[at] as u64, Cursor { at: at + 1 }));
         }
-        Number::Unreadable
+        None
     }
 
     // Four bytes.
-    fn four(self, s: &[u8], big_endian: bool) -> Number
+    fn four(self, s: &[u8], big_endian: bool) -> Option<(u64, Cursor)>
         ensures { result ≡ fixed_at big_endian 4 s.now self.at }
     {
         let at = self.at;
         if 4 > left(s, at) {
-            return Number::Unreadable;
+            return None;
         }
-        Number::Value(four_at(s, at, big_endian), Cursor { at: at + 4 })
+        Some((four_at(s, at, big_endian), Cursor { at: at + 4 }))
     }
 
     // Eight bytes.
-    fn eight(self, s: &[u8], big_endian: bool) -> Number
+    fn eight(self, s: &[u8], big_endian: bool) -> Option<(u64, Cursor)>
         ensures { result ≡ fixed_at big_endian 8 s.now self.at }
     {
         let at = self.at;
         if 8 > left(s, at) {
-            return Number::Unreadable;
+            return None;
         }
         let first = four_at(s, at, big_endian);
         let last = four_at(s, at + 4, big_endian);
         if big_endian {
-            return Number::Value(last + 4294967296 * first, Cursor { at: at + 8 });
+            return Some((last + 4294967296 * first, Cursor { at: at + 8 }));
         }
-        Number::Value(first + 4294967296 * last, Cursor { at: at + 8 })
+        Some((first + 4294967296 * last, Cursor { at: at + 8 }))
     }
 
     // A number of a fixed width, at most eight bytes. Those of one, four and eight bytes are read at once.
-    pub fn fixed(self, s: &[u8], width: usize, big_endian: bool) -> Number
+    pub fn fixed(self, s: &[u8], width: usize, big_endian: bool) -> Option<(u64, Cursor)>
         ensures { result ≡ fixed_at big_endian width s.now self.at }
     {
         if width == 1 {
@@ -291,15 +262,15 @@ impl Cursor {
     }
 
     // A number of a fixed width, byte by byte.
-    fn bytewise(self, s: &[u8], width: usize, big_endian: bool) -> Number
+    fn bytewise(self, s: &[u8], width: usize, big_endian: bool) -> Option<(u64, Cursor)>
         ensures { result ≡ fixed_at big_endian width s.now self.at }
     {
         let at = self.at;
         if width > 8 {
-            return Number::Unreadable;
+            return None;
         }
         if width > left(s, at) {
-            return Number::Unreadable;
+            return None;
         }
         let mut value: u64 = 0;
         let mut i: usize = 0;
@@ -312,38 +283,38 @@ impl Cursor {
             value = value * 256 + (s[k] as u64);
             i += 1;
         }
-        Number::Value(value, Cursor { at: at + width })
+        Some((value, Cursor { at: at + width }))
     }
 
     // An address.
-    pub fn address(self, s: &[u8], e: Encoding) -> Number
+    pub fn address(self, s: &[u8], e: Encoding) -> Option<(u64, Cursor)>
         ensures { result ≡ fixed_at e.big_endian e.address_size s.now self.at }
     {
         self.fixed(s, e.address_size as usize, e.big_endian)
     }
 
     // A section offset.
-    pub fn offset(self, s: &[u8], e: Encoding) -> Number
+    pub fn offset(self, s: &[u8], e: Encoding) -> Option<(u64, Cursor)>
         ensures { result ≡ fixed_at e.big_endian e.offset_size s.now self.at }
     {
         self.fixed(s, e.offset_size as usize, e.big_endian)
     }
 
     // A run of n bytes.
-    pub fn bytes(self, s: &[u8], n: u64) -> Moved
+    pub fn bytes(self, s: &[u8], n: u64) -> Option<Cursor>
         ensures { result ≡ skip_at s.now self.at n }
     {
         let at = self.at;
         if n > (left(s, at) as u64) {
-            return Moved::Unreadable;
+            return None;
         }
-        Moved::To(Cursor {
+        Some(Cursor {
             at: at + (n as usize),
         })
     }
 
     // A string with its zero byte.
-    pub fn string(self, s: &[u8]) -> Moved
+    pub fn string(self, s: &[u8]) -> Option<Cursor>
         ensures { result ≡ string_at s.now self.at }
     {
         let mut at = self.at;
@@ -351,29 +322,23 @@ impl Cursor {
             let b = s[at];
             at += 1;
             if b == 0 {
-                return Moved::To(Cursor { at });
+                return Some(Cursor { at });
             }
         }
-        Moved::Unreadable
+        None
     }
 
     // The form numbers before a value of DW_FORM_indirect, up to the first that is another form.
-    pub fn forms(self, s: &[u8]) -> Number
+    pub fn forms(self, s: &[u8]) -> Option<(u64, Cursor)>
         ensures { result ≡ forms_at s.now self.at }
     {
         let mut c = self;
         loop {
-            match c.short(s) {
-                Number::Value(form, next) => {
-                    if form != DW_FORM_indirect {
-                        return Number::Value(form, next);
-                    }
-                    c = next;
-                }
-                Number::Unreadable => {
-                    return Number::Unreadable;
-                }
+            let (form, next) = c.short(s)?;
+            if form != DW_FORM_indirect {
+                return Some((form, next));
             }
+            c = next;
         }
     }
 }

@@ -4,8 +4,8 @@ ghost use Rattle.readers.specs.Entries.{values_at, step_at, entry_head_at};
 ghost use Rattle.readers.specs.Abbreviations.{find_at, find_head};
 ghost use Rattle.readers.specs.Nesting.{nesting_of, nesting_opened, nesting_closed};
 
-use crate::abbreviations::{Declaration, DeclarationFound, SpecStep, find_declaration};
-use crate::cursor::{Cursor, Encoding, Moved, Number};
+use crate::abbreviations::{Declaration, SpecStep, find_declaration};
+use crate::cursor::{Cursor, Encoding};
 use crate::offsets::{EntryIndex, NO_PARENT, UnitOffset};
 
 // An entry: where it starts, its declaration, where the values of its attributes start, and the cursor past it.
@@ -23,7 +23,6 @@ pub enum Step {
     Entry(Entry),
     Terminator(Cursor),
     End,
-    Unreadable,
 }
 
 // The head of an entry: where it starts, its declaration, and where the values of its attributes start.
@@ -40,7 +39,6 @@ pub enum HeadStep {
     Entry(EntryHead),
     Terminator(Cursor),
     End,
-    Unreadable,
 }
 
 // How deep the next entry or terminator stands, and the entry whose children are open; NO_PARENT where there is none.
@@ -52,26 +50,27 @@ pub struct Nesting {
 
 impl Cursor {
     // Past the values of the attributes whose specifications start at `specs`.
-    pub fn past_values(self, unit: &[u8], abbreviations: &[u8], specs: Cursor, e: Encoding) -> Moved
+    pub fn past_values(
+        self,
+        unit: &[u8],
+        abbreviations: &[u8],
+        specs: Cursor,
+        e: Encoding,
+    ) -> Option<Cursor>
         ensures { result ≡ values_at e abbreviations.now specs.at unit.now self.at }
     {
         let mut c = self;
         let mut p = specs;
         loop {
-            match p.attribute_spec(abbreviations) {
+            match p.attribute_spec(abbreviations)? {
                 SpecStep::Attribute(a) => {
                     let next = a.next;
-                    let Moved::To(past) = c.past_attribute(unit, a.name, a.form, e) else {
-                        return Moved::Unreadable;
-                    };
+                    let past = c.past_attribute(unit, a.name, a.form, e)?;
                     c = past;
                     p = next;
                 }
                 SpecStep::Last(_) => {
-                    return Moved::To(c);
-                }
-                SpecStep::Unreadable => {
-                    return Moved::Unreadable;
+                    return Some(c);
                 }
             }
         }
@@ -80,33 +79,30 @@ impl Cursor {
     // The head of the entry, or the terminator, at a place of a unit, by the abbreviations from an offset on and
     // their index. A code that is not declared is unreadable. With where its values end it is the step there
     // (`entry-headed` in proofs/Values.antt).
-    pub fn entry_head(self, unit: &[u8], abbreviations: &[u8], from: u64, index: &[u64]) -> HeadStep
+    pub fn entry_head(
+        self,
+        unit: &[u8],
+        abbreviations: &[u8],
+        from: u64,
+        index: &[u64],
+    ) -> Option<HeadStep>
         ensures { result
             ≡ entry_head_at (find_head abbreviations.now from index.now) unit.now self.at }
     {
         let at = self.at;
         if at >= unit.len() {
-            return HeadStep::End;
+            return Some(HeadStep::End);
         }
-        let Number::Value(code, values) = self.uleb(unit) else {
-            return HeadStep::Unreadable;
-        };
+        let (code, values) = self.uleb(unit)?;
         if code == 0 {
-            return HeadStep::Terminator(values);
+            return Some(HeadStep::Terminator(values));
         }
-        let DeclarationFound::Declaration(declaration) = find_declaration(
-            abbreviations,
-            from,
-            index,
-            code,
-        ) else {
-            return HeadStep::Unreadable;
-        };
-        HeadStep::Entry(EntryHead {
+        let declaration = find_declaration(abbreviations, from, index, code)?;
+        Some(HeadStep::Entry(EntryHead {
             offset: UnitOffset(at as u64),
             declaration,
             values,
-        })
+        }))
     }
 
     // The entry or terminator at a place of a unit, by the abbreviations from an offset on and their index.
@@ -117,33 +113,25 @@ impl Cursor {
         from: u64,
         index: &[u64],
         e: Encoding,
-    ) -> Step
+    ) -> Option<Step>
         ensures { let declared = abbreviations.now in
             result ≡ step_at e declared (find_at declared from index.now) unit.now self.at }
     {
-        match self.entry_head(unit, abbreviations, from, index) {
+        match self.entry_head(unit, abbreviations, from, index)? {
             HeadStep::Entry(h) => {
                 let offset = h.offset;
                 let declaration = h.declaration;
                 let values = h.values;
-                let Moved::To(next) = values.past_values(
-                    unit,
-                    abbreviations,
-                    declaration.attributes,
-                    e,
-                ) else {
-                    return Step::Unreadable;
-                };
-                Step::Entry(Entry {
+                let next = values.past_values(unit, abbreviations, declaration.attributes, e)?;
+                Some(Step::Entry(Entry {
                     offset,
                     declaration,
                     values,
                     next,
-                })
+                }))
             }
-            HeadStep::Terminator(next) => Step::Terminator(next),
-            HeadStep::End => Step::End,
-            HeadStep::Unreadable => Step::Unreadable,
+            HeadStep::Terminator(next) => Some(Step::Terminator(next)),
+            HeadStep::End => Some(Step::End),
         }
     }
 }

@@ -3,7 +3,7 @@ ghost use Rattle.std.specs.Prelude.{◌≡◌};
 ghost use Rattle.readers.specs.EntryAttributes.{next_attribute};
 
 use crate::abbreviations::SpecStep;
-use crate::attributes::{Attribute, AttributeRead};
+use crate::attributes::Attribute;
 use crate::cursor::{Cursor, Encoding};
 
 // An attribute of an entry: its name, the form that it is declared with, its value, the cursor past its
@@ -17,12 +17,6 @@ pub struct EntryAttribute {
     pub values: Cursor,
 }
 
-#[derive(Clone, Copy)]
-pub enum NextAttribute {
-    More(EntryAttribute),
-    NoMore,
-}
-
 // The attribute at a specification and a value of an entry; none where one of them can't be read.
 pub fn next_attribute(
     unit: &[u8],
@@ -30,20 +24,18 @@ pub fn next_attribute(
     specs: Cursor,
     values: Cursor,
     e: Encoding,
-) -> NextAttribute
+) -> Option<EntryAttribute>
     ensures { result ≡ next_attribute e abbreviations.now specs.at unit.now values.at }
 {
-    match specs.attribute_spec(abbreviations) {
+    match specs.attribute_spec(abbreviations)? {
         SpecStep::Attribute(a) => {
-            let AttributeRead::Read(value) = values.attribute(unit, a.name, a.form, e) else {
-                return NextAttribute::NoMore;
-            };
+            let value = values.attribute(unit, a.name, a.form, e)?;
             let name = a.name;
             let declared = a.form;
             let next = a.next;
             let field = value.field;
             let values = field.next();
-            NextAttribute::More(EntryAttribute {
+            Some(EntryAttribute {
                 name,
                 declared,
                 value,
@@ -51,7 +43,6 @@ pub fn next_attribute(
                 values,
             })
         }
-        SpecStep::Last(_) => NextAttribute::NoMore,
-        SpecStep::Unreadable => NextAttribute::NoMore,
+        SpecStep::Last(_) => None,
     }
 }

@@ -11,16 +11,8 @@ use crate::cursor::{Cursor, Encoding};
 use crate::fields::Field;
 use crate::layouts::*;
 use crate::offsets::UnitOffset;
-use crate::operations::{Operation, OperationRead};
+use crate::operations::Operation;
 use crate::tables::clear;
-
-// What a walk of a whole expression finds, nested ones included: how many references it holds, and whether it names
-// anything by an offset in the section.
-#[derive(Clone, Copy)]
-pub enum Walk {
-    Walked { references: usize, absolute: bool },
-    Unreadable,
-}
 
 // A reference of an expression: where its operand stands, the offset that it names, how its operand is written
 // (`leb`: as a ULEB128 number) and in how many bytes, and where the walk goes on.
@@ -33,19 +25,6 @@ pub struct Reference {
     pub next: Cursor,
 }
 
-#[derive(Clone, Copy)]
-pub enum Yield {
-    Reference(Reference),
-    End,
-}
-
-// The answer of references_of_expression: how many there are, or the number of a refusal.
-#[derive(Clone, Copy)]
-pub enum References {
-    Count(usize),
-    Refused(u8),
-}
-
 // The bytes of a field.
 fn width(f: Field) -> usize
     ensures { result ≡ f.end - f.start }
@@ -53,10 +32,10 @@ fn width(f: Field) -> usize
     if f.start <= f.end { f.end - f.start } else { 0 }
 }
 
-fn named(f: Field, leb: bool, next: Cursor) -> Yield
+fn named(f: Field, leb: bool, next: Cursor) -> Option<Reference>
     ensures { result ≡ named f leb next }
 {
-    Yield::Reference(Reference {
+    Some(Reference {
         place: f.start,
         target: UnitOffset(f.value),
         leb,
@@ -66,18 +45,18 @@ fn named(f: Field, leb: bool, next: Cursor) -> Yield
 }
 
 // A type operand: 0 names nothing.
-fn named_type(f: Field, next: Cursor) -> Yield
+fn named_type(f: Field, next: Cursor) -> Option<Reference>
     ensures { result ≡ named_type f next }
 {
     if f.value == 0 {
-        Yield::End
+        None
     } else {
         named(f, true, next)
     }
 }
 
 // The reference of an operation, if it holds one.
-fn reference_of(op: Operation) -> Yield
+fn reference_of(op: Operation) -> Option<Reference>
     ensures { result ≡ reference_of op }
 {
     let row = op.row;
@@ -85,7 +64,7 @@ fn reference_of(op: Operation) -> Yield
     let second = op.second;
     let next = op.next;
     if row < ROW_REFERENCE2 {
-        return Yield::End;
+        return None;
     }
     if row <= ROW_REFERENCE4 {
         return named(first, false, next);
@@ -99,39 +78,23 @@ fn reference_of(op: Operation) -> Yield
     if row == ROW_TYPE_BLOCK1 {
         return named_type(first, next);
     }
-    Yield::End
+    None
 }
 
-// What an operation that is no entry value holds by itself.
-fn own_walk(op: Operation) -> Walk
+// What an operation that is no entry value holds by itself, as a walk tells it.
+fn own_walk(op: Operation) -> Option<(usize, bool)>
     ensures { result ≡ own_walk op }
 {
     let row = op.row;
     if row == ROW_OFFSET {
-        return Walk::Walked {
-            references: 0,
-            absolute: true,
-        };
+        return Some((0, true));
     }
     if row == ROW_OFFSET_SLEB128 {
-        return Walk::Walked {
-            references: 0,
-            absolute: true,
-        };
+        return Some((0, true));
     }
     match reference_of(op) {
-        Yield::Reference(_) => {
-            Walk::Walked {
-                references: 1,
-                absolute: false,
-            }
-        }
-        Yield::End => {
-            Walk::Walked {
-                references: 0,
-                absolute: false,
-            }
-        }
+        Some(_) => { Some((1, false)) }
+        None => { Some((0, false)) }
     }
 }
 
@@ -141,48 +104,32 @@ fn either(a: bool, b: bool) -> bool
     if a { true } else { b }
 }
 
-// Walks an expression to its end. An entry value is walked by the same routine, on the part that it holds.
-pub fn walk_expression(s: &[u8], e: Encoding) -> Walk
+// Walks an expression to its end: how many references it holds, nested ones included, and whether it names anything by
+// an offset in the section. An entry value is walked by the same routine, on the part that it holds.
+pub fn walk_expression(s: &[u8], e: Encoding) -> Option<(usize, bool)>
     ensures { result ≡ walk_of e s.now }
 {
     let mut c = Cursor { at: 0 };
     let mut references: usize = 0;
     let mut absolute = false;
     while c.at < s.len() {
-        let OperationRead::Read(op) = c.operation(s, e) else {
-            return Walk::Unreadable;
-        };
+        let op = c.operation(s, e)?;
         let row = op.row;
         let first = op.first;
         let next = op.next;
         if row == ROW_EXPRESSION {
-            let Walk::Walked {
-                references: more,
-                absolute: named,
-            } = walk_expression(first.expression(s), e)
-            else {
-                return Walk::Unreadable;
-            };
+            let (more, named) = walk_expression(first.expression(s), e)?;
             references += more;
             absolute = either(absolute, named);
             c = next;
         } else {
-            let Walk::Walked {
-                references: more,
-                absolute: named,
-            } = own_walk(op)
-            else {
-                return Walk::Unreadable;
-            };
+            let (more, named) = own_walk(op)?;
             references += more;
             absolute = either(absolute, named);
             c = next;
         }
     }
-    Walk::Walked {
-        references,
-        absolute,
-    }
+    Some((references, absolute))
 }
 
 impl Cursor {
@@ -191,14 +138,12 @@ impl Cursor {
     // from each reference's `next`: then it yields the expression's references, each once, in their order
     // (`walked-yields` in crates/laws). From any other place it yields what the bytes there say, read as
     // operations: it can't tell where a nested part ends.
-    pub fn next_reference(self, s: &[u8], e: Encoding) -> Yield
+    pub fn next_reference(self, s: &[u8], e: Encoding) -> Option<Reference>
         ensures { result ≡ next_reference e s.now self.at }
     {
         let mut c = self;
         while c.at < s.len() {
-            let OperationRead::Read(op) = c.operation(s, e) else {
-                return Yield::End;
-            };
+            let op = c.operation(s, e)?;
             let row = op.row;
             let first = op.first;
             let next = op.next;
@@ -206,16 +151,16 @@ impl Cursor {
                 c = Cursor { at: first.start };
             } else {
                 match reference_of(op) {
-                    Yield::Reference(r) => {
-                        return Yield::Reference(r);
+                    Some(r) => {
+                        return Some(r);
                     }
-                    Yield::End => {
+                    None => {
                         c = next;
                     }
                 }
             }
         }
-        Yield::End
+        None
     }
 }
 
@@ -246,7 +191,7 @@ pub fn references_of_expression(
     offset_size: u8,
     big_endian: bool,
     table: &mut [u64],
-) -> References
+) -> Result<usize, u8>
     ensures answer { result
         ≡ references_answer address_size offset_size big_endian (length table.old) s.now }
     ensures filled { table.new
@@ -254,7 +199,7 @@ pub fn references_of_expression(
 {
     clear(table);
     if !sizes_known(address_size, offset_size) {
-        return References::Refused(2);
+        return Err(2);
     }
     let e = Encoding {
         version: 5,
@@ -262,21 +207,15 @@ pub fn references_of_expression(
         address_size,
         big_endian,
     };
-    let Walk::Walked {
-        references,
-        absolute,
-    } = walk_expression(s, e)
-    else {
-        return References::Refused(5);
-    };
+    let (references, absolute) = walk_expression(s, e).ok_or(5)?;
     if absolute {
-        return References::Refused(7);
+        return Err(7);
     }
     if references > table.len() / 3 {
-        return References::Refused(11);
+        return Err(11);
     }
     fill_references(s, e, table, references);
-    References::Count(references)
+    Ok(references)
 }
 
 // Writes the references into a cleared table that has room for them.
@@ -288,7 +227,7 @@ fn fill_references(s: &[u8], e: Encoding, table: &mut [u64], count: usize)
     let mut c = Cursor { at: 0 };
     let mut i: usize = 0;
     while i < count {
-        let Yield::Reference(r) = c.next_reference(s, e) else {
+        let Some(r) = c.next_reference(s, e) else {
             return;
         };
         let target = r.target;

@@ -4,7 +4,7 @@ ghost use Rattle.readers.specs.Fields.{block_field, field_at, row_at, exprloc_at
 ghost use Rattle.readers.specs.Inner.Fields.{number_field, bounded_field, number_at};
 ghost use Rattle.readers.specs.Cursors.{cursor};
 
-use crate::cursor::{Cursor, Encoding, Moved, Number, left};
+use crate::cursor::{Cursor, Encoding, left};
 use crate::layouts::*;
 
 // What a token read: its number (0 where it is none), and where its payload starts and ends. The payload of a block
@@ -16,24 +16,12 @@ pub struct Field {
     pub end: usize,
 }
 
-#[derive(Clone, Copy)]
-pub enum FieldRead {
-    Read(Field),
-    Unreadable,
-}
-
 // The three fields of a row.
 #[derive(Clone, Copy)]
 pub struct Operands {
     pub first: Field,
     pub second: Field,
     pub third: Field,
-}
-
-#[derive(Clone, Copy)]
-pub enum OperandsRead {
-    Read(Operands),
-    Unreadable,
 }
 
 // The first, the second and the third token of each row (specs/Operations.antt).
@@ -139,65 +127,53 @@ const THIRD: [u8; 31] = [
     BLOCK2, // ROW_BYTES4_BYTES4_BLOCK2
 ];
 
-pub(crate) fn number_field(at: usize, n: Number) -> FieldRead
+pub(crate) fn number_field(at: usize, n: Option<(u64, Cursor)>) -> Option<Field>
     ensures { result ≡ number_field at n }
 {
-    match n {
-        Number::Value(value, next) => {
-            FieldRead::Read(Field {
-                value,
-                start: at,
-                end: next.at,
-            })
-        }
-        Number::Unreadable => FieldRead::Unreadable,
-    }
+    let (value, next) = n?;
+    Some(Field {
+        value,
+        start: at,
+        end: next.at,
+    })
 }
 
 // A number that is at most 65,535: a register.
-fn bounded_field(at: usize, n: Number) -> FieldRead
+fn bounded_field(at: usize, n: Option<(u64, Cursor)>) -> Option<Field>
     ensures { result ≡ bounded_field at n }
 {
-    match n {
-        Number::Value(value, next) => {
-            if value <= 65535 {
-                FieldRead::Read(Field {
-                    value,
-                    start: at,
-                    end: next.at,
-                })
-            } else {
-                FieldRead::Unreadable
-            }
-        }
-        Number::Unreadable => FieldRead::Unreadable,
+    let (value, next) = n?;
+    if value <= 65535 {
+        Some(Field {
+            value,
+            start: at,
+            end: next.at,
+        })
+    } else {
+        None
     }
 }
 
 // As many bytes as a length says.
-fn block_field(s: &[u8], n: Number) -> FieldRead
+fn block_field(s: &[u8], n: Option<(u64, Cursor)>) -> Option<Field>
     ensures { result ≡ block_field s.now n }
 {
-    match n {
-        Number::Value(length, next) => {
-            let start = next.at;
-            if length <= (left(s, start) as u64) {
-                FieldRead::Read(Field {
-                    value: 0,
-                    start,
-                    end: start + (length as usize),
-                })
-            } else {
-                FieldRead::Unreadable
-            }
-        }
-        Number::Unreadable => FieldRead::Unreadable,
+    let (length, next) = n?;
+    let start = next.at;
+    if length <= (left(s, start) as u64) {
+        Some(Field {
+            value: 0,
+            start,
+            end: start + (length as usize),
+        })
+    } else {
+        None
     }
 }
 
 impl Cursor {
     // A number by its token: 1 to 8 bytes, an address, an offset, ULEB128 (any other).
-    fn number(self, s: &[u8], token: u8, e: Encoding) -> Number
+    fn number(self, s: &[u8], token: u8, e: Encoding) -> Option<(u64, Cursor)>
         ensures { result ≡ number_at e s.now self.at token }
     {
         if token <= BYTES8 {
@@ -213,12 +189,12 @@ impl Cursor {
     }
 
     // A token by its number (specs/Tokens.antt).
-    pub fn field(self, s: &[u8], token: u8, e: Encoding) -> FieldRead
+    pub fn field(self, s: &[u8], token: u8, e: Encoding) -> Option<Field>
         ensures { result ≡ field_at e s.now self.at token }
     {
         let at = self.at;
         if token == NO_BYTES {
-            return FieldRead::Read(Field {
+            return Some(Field {
                 value: 0,
                 start: at,
                 end: at,
@@ -231,32 +207,20 @@ impl Cursor {
             return number_field(at, self.long_sleb(s));
         }
         if token == NULL_TERMINATED {
-            match self.string(s) {
-                Moved::To(next) => {
-                    return FieldRead::Read(Field {
-                        value: 0,
-                        start: at,
-                        end: next.at,
-                    });
-                }
-                Moved::Unreadable => {
-                    return FieldRead::Unreadable;
-                }
-            }
+            let next = self.string(s)?;
+            return Some(Field {
+                value: 0,
+                start: at,
+                end: next.at,
+            });
         }
         if token == DATA16 {
-            match self.bytes(s, 16) {
-                Moved::To(next) => {
-                    return FieldRead::Read(Field {
-                        value: 0,
-                        start: at,
-                        end: next.at,
-                    });
-                }
-                Moved::Unreadable => {
-                    return FieldRead::Unreadable;
-                }
-            }
+            let next = self.bytes(s, 16)?;
+            return Some(Field {
+                value: 0,
+                start: at,
+                end: next.at,
+            });
         }
         if token == BLOCK1 {
             return block_field(s, self.number(s, BYTES1, e));
@@ -276,27 +240,21 @@ impl Cursor {
         if token == REGISTER {
             return bounded_field(at, self.uleb(s));
         }
-        FieldRead::Unreadable
+        None
     }
 
     // A row of tokens by its number.
-    pub fn row(self, s: &[u8], layout: u8, e: Encoding) -> OperandsRead
+    pub fn row(self, s: &[u8], layout: u8, e: Encoding) -> Option<Operands>
         ensures { result ≡ row_at e s.now self.at layout }
     {
         let l = layout as usize;
         if l >= 31 {
-            return OperandsRead::Unreadable;
+            return None;
         }
-        let FieldRead::Read(first) = self.field(s, FIRST[l], e) else {
-            return OperandsRead::Unreadable;
-        };
-        let FieldRead::Read(second) = first.next().field(s, SECOND[l], e) else {
-            return OperandsRead::Unreadable;
-        };
-        let FieldRead::Read(third) = second.next().field(s, THIRD[l], e) else {
-            return OperandsRead::Unreadable;
-        };
-        OperandsRead::Read(Operands {
+        let first = self.field(s, FIRST[l], e)?;
+        let second = first.next().field(s, SECOND[l], e)?;
+        let third = second.next().field(s, THIRD[l], e)?;
+        Some(Operands {
             first,
             second,
             third,
@@ -305,7 +263,7 @@ impl Cursor {
 
     // An exprloc: a length, and that many bytes. Unreadable where its length is, or where the bytes are not there; so
     // an unreadable one is told from one of no bytes.
-    pub fn exprloc(self, s: &[u8]) -> FieldRead
+    pub fn exprloc(self, s: &[u8]) -> Option<Field>
         ensures { result ≡ exprloc_at s.now self.at }
     {
         block_field(s, self.uleb(s))

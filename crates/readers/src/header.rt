@@ -4,7 +4,7 @@ ghost use Rattle.std.specs.Prelude.{◌≡◌, ◌≤◌, length, take};
 ghost use Rattle.readers.specs.Header.{length_bytes, fields4, fields5, header_fields, header_in, header_of};
 
 use crate::codes::{DW_UT_compile, DW_UT_split_compile};
-use crate::cursor::{Cursor, Encoding, Number, left};
+use crate::cursor::{Cursor, Encoding, left};
 use crate::offsets::UnitOffset;
 
 // A unit's header: what its fields are read by, its type, where its abbreviations start in their section, where its
@@ -16,15 +16,6 @@ pub struct UnitHeader {
     pub abbreviations: u64,
     pub first: UnitOffset,
     pub end: usize,
-}
-
-// The header of the first unit of a section, or why it is refused: 1 where it is cut short, 2 for a value outside the
-// domain.
-#[derive(Clone, Copy)]
-pub enum HeaderRead {
-    Unit(UnitHeader),
-    Empty,
-    Refused(u8),
 }
 
 // The least number that is no length of the 32-bit format (7.4).
@@ -41,34 +32,38 @@ pub fn length_bytes(offset_size: u8) -> usize
 }
 
 // The fields of version 5 after the version, which ends at a place.
-fn fields_5(unit: &[u8], at: usize, offset_size: u8, big_endian: bool) -> HeaderRead
+fn fields_5(
+    unit: &[u8],
+    at: usize,
+    offset_size: u8,
+    big_endian: bool,
+) -> Result<Option<UnitHeader>, u8>
     requires { at ≤ length unit.now }
     ensures { result ≡ fields5 big_endian offset_size unit.now at }
 {
     if unit.len() <= at {
-        return HeaderRead::Refused(1);
+        return Err(1);
     }
     let unit_type = unit[at];
     if unit_type != DW_UT_compile {
         if unit_type != DW_UT_split_compile {
-            return HeaderRead::Refused(2);
+            return Err(2);
         }
     }
     let size_at = at + 1;
     if unit.len() <= size_at {
-        return HeaderRead::Refused(1);
+        return Err(1);
     }
     let address_size = unit[size_at];
     if address_size != 4 {
         if address_size != 8 {
-            return HeaderRead::Refused(2);
+            return Err(2);
         }
     }
     let width = offset_size as usize;
-    let Number::Value(abbreviations, _) = (Cursor { at: at + 2 }).fixed(unit, width, big_endian)
-    else {
-        return HeaderRead::Refused(1);
-    };
+    let (abbreviations, _) = (Cursor { at: at + 2 })
+        .fixed(unit, width, big_endian)
+        .ok_or(1)?;
     let encoding = Encoding {
         version: 5,
         offset_size,
@@ -77,46 +72,49 @@ fn fields_5(unit: &[u8], at: usize, offset_size: u8, big_endian: bool) -> Header
     };
     let first = at + 2 + width;
     if unit_type == DW_UT_compile {
-        return HeaderRead::Unit(UnitHeader {
+        return Ok(Some(UnitHeader {
             encoding,
             unit_type,
             abbreviations,
             first: UnitOffset(first as u64),
             end: unit.len(),
-        });
+        }));
     }
     if unit.len() < first + 8 {
-        return HeaderRead::Refused(1);
+        return Err(1);
     }
-    HeaderRead::Unit(UnitHeader {
+    Ok(Some(UnitHeader {
         encoding,
         unit_type,
         abbreviations,
         first: UnitOffset((first + 8) as u64),
         end: unit.len(),
-    })
+    }))
 }
 
 // The fields of version 4 after the version, which ends at a place.
-fn fields_4(unit: &[u8], at: usize, offset_size: u8, big_endian: bool) -> HeaderRead
+fn fields_4(
+    unit: &[u8],
+    at: usize,
+    offset_size: u8,
+    big_endian: bool,
+) -> Result<Option<UnitHeader>, u8>
     requires { at ≤ length unit.now }
     ensures { result ≡ fields4 big_endian offset_size unit.now at }
 {
     let width = offset_size as usize;
-    let Number::Value(abbreviations, _) = (Cursor { at }).fixed(unit, width, big_endian) else {
-        return HeaderRead::Refused(1);
-    };
+    let (abbreviations, _) = (Cursor { at }).fixed(unit, width, big_endian).ok_or(1)?;
     let size_at = at + width;
     if unit.len() <= size_at {
-        return HeaderRead::Refused(1);
+        return Err(1);
     }
     let address_size = unit[size_at];
     if address_size != 4 {
         if address_size != 8 {
-            return HeaderRead::Refused(2);
+            return Err(2);
         }
     }
-    HeaderRead::Unit(UnitHeader {
+    Ok(Some(UnitHeader {
         encoding: Encoding {
             version: 4,
             offset_size,
@@ -127,19 +125,18 @@ fn fields_4(unit: &[u8], at: usize, offset_size: u8, big_endian: bool) -> Header
         abbreviations,
         first: UnitOffset((size_at + 1) as u64),
         end: unit.len(),
-    })
+    }))
 }
 
 // The fields after the length, of a unit that ends where its length says.
-fn header_fields(unit: &[u8], offset_size: u8, big_endian: bool) -> HeaderRead
+fn header_fields(unit: &[u8], offset_size: u8, big_endian: bool) -> Result<Option<UnitHeader>, u8>
     ensures { result ≡ header_fields big_endian offset_size unit.now }
 {
-    let Number::Value(version, next) = (Cursor {
+    let (version, next) = (Cursor {
         at: length_bytes(offset_size),
     })
-    .fixed(unit, 2, big_endian) else {
-        return HeaderRead::Refused(1);
-    };
+    .fixed(unit, 2, big_endian)
+    .ok_or(1)?;
     let at = next.at;
     if version == 5 {
         return fields_5(unit, at, offset_size, big_endian);
@@ -147,40 +144,42 @@ fn header_fields(unit: &[u8], offset_size: u8, big_endian: bool) -> HeaderRead
     if version == 4 {
         return fields_4(unit, at, offset_size, big_endian);
     }
-    HeaderRead::Refused(2)
+    Err(2)
 }
 
 // The header of a unit that is the so many bytes after its length field; all of them must be there.
-fn header_in(section: &[u8], unit_length: u64, offset_size: u8, big_endian: bool) -> HeaderRead
+fn header_in(
+    section: &[u8],
+    unit_length: u64,
+    offset_size: u8,
+    big_endian: bool,
+) -> Result<Option<UnitHeader>, u8>
     requires { length_bytes offset_size ≤ length section.now }
     ensures { result ≡ header_in big_endian offset_size section.now unit_length }
 {
     let from = length_bytes(offset_size);
     if unit_length > (left(section, from) as u64) {
-        return HeaderRead::Refused(1);
+        return Err(1);
     }
     let end = from + (unit_length as usize);
     header_fields(&section[..end], offset_size, big_endian)
 }
 
-// The header of the first unit of a section, by the byte order that it is told.
-pub fn unit_header(section: &[u8], big_endian: bool) -> HeaderRead
+// The header of the first unit of a section, by the byte order that it is told; none of an empty section. Refused with
+// 1 where it is cut short, 2 for a value outside the domain.
+pub fn unit_header(section: &[u8], big_endian: bool) -> Result<Option<UnitHeader>, u8>
     ensures { result ≡ header_of big_endian section.now }
 {
     if section.len() == 0 {
-        return HeaderRead::Empty;
+        return Ok(None);
     }
-    let Number::Value(length, _) = (Cursor { at: 0 }).fixed(section, 4, big_endian) else {
-        return HeaderRead::Refused(1);
-    };
+    let (length, _) = (Cursor { at: 0 }).fixed(section, 4, big_endian).ok_or(1)?;
     if length == ESCAPE_64 {
-        let Number::Value(wide, _) = (Cursor { at: 4 }).fixed(section, 8, big_endian) else {
-            return HeaderRead::Refused(1);
-        };
+        let (wide, _) = (Cursor { at: 4 }).fixed(section, 8, big_endian).ok_or(1)?;
         return header_in(section, wide, 8, big_endian);
     }
     if length >= FIRST_RESERVED {
-        return HeaderRead::Refused(2);
+        return Err(2);
     }
     header_in(section, length, 4, big_endian)
 }

@@ -2,7 +2,7 @@
 ghost use Rattle.std.specs.Prelude.{◌≡◌};
 ghost use Rattle.readers.specs.Lists.{list_base, list_offset, list_start};
 
-use crate::cursor::{Cursor, Encoding, Number};
+use crate::cursor::{Cursor, Encoding};
 use crate::header::length_bytes;
 
 // The base of a unit whose entries have none of their own: past the header of a list section, in the unit's format.
@@ -12,45 +12,37 @@ pub fn list_base(e: Encoding) -> u64
     (length_bytes(e.offset_size) + 8) as u64
 }
 
-#[derive(Clone, Copy)]
-pub enum ListOffset {
-    At(Cursor),
-    Unresolved,
-}
-
 // The list of an index: its offset stands in the table at the base, and counts from there.
-pub fn list_offset(s: &[u8], base: u64, index: u64, e: Encoding) -> ListOffset
+pub fn list_offset(s: &[u8], base: u64, index: u64, e: Encoding) -> Option<Cursor>
     ensures { result ≡ list_offset e s.now base index }
 {
     let len = s.len() as u64;
     if base > len {
-        return ListOffset::Unresolved;
+        return None;
     }
     let size = e.offset_size as u64;
     if size == 0 {
         return list_start(s, base);
     }
     if index > (len - base) / size {
-        return ListOffset::Unresolved;
+        return None;
     }
     let place = base + index * size;
-    let Number::Value(offset, _) = (Cursor { at: place as usize }).offset(s, e) else {
-        return ListOffset::Unresolved;
-    };
+    let (offset, _) = (Cursor { at: place as usize }).offset(s, e)?;
     if offset > len - base {
-        return ListOffset::Unresolved;
+        return None;
     }
     list_start(s, base + offset)
 }
 
 // The list at an offset of the section. The section's end is a list with no entries.
-pub fn list_start(s: &[u8], offset: u64) -> ListOffset
+pub fn list_start(s: &[u8], offset: u64) -> Option<Cursor>
     ensures { result ≡ list_start s.now offset }
 {
     if offset > (s.len() as u64) {
-        return ListOffset::Unresolved;
+        return None;
     }
-    ListOffset::At(Cursor {
+    Some(Cursor {
         at: offset as usize,
     })
 }

@@ -11,8 +11,8 @@ use crate::codes::{
     DW_OP_fbreg, DW_OP_lit0, DW_OP_piece, DW_OP_plus_uconst, DW_OP_reg31, DW_OP_stack_value,
     DW_RLE_end_of_list,
 };
-use crate::cursor::{Cursor, Encoding, Number};
-use crate::fields::{Field, FieldRead, OperandsRead, number_field};
+use crate::cursor::{Cursor, Encoding};
+use crate::fields::{Field, Operands, number_field};
 use crate::layouts::*;
 
 // The row of operands of each operation, by its code (specs/Operations.antt).
@@ -317,12 +317,6 @@ pub struct Operation {
     pub next: Cursor,
 }
 
-#[derive(Clone, Copy)]
-pub enum OperationRead {
-    Read(Operation),
-    Unreadable,
-}
-
 // A list entry: its kind, its operands, and the cursor past it.
 #[derive(Clone, Copy)]
 pub struct ListEntry {
@@ -338,7 +332,6 @@ pub struct ListEntry {
 pub enum ListStep {
     Entry(ListEntry),
     End,
-    Unreadable,
 }
 
 // The row of an operation code. The common codes are tested before the table is looked into.
@@ -421,101 +414,87 @@ fn one_uleb128(row: u8) -> bool
 }
 
 // An operation of one operand, or of none: the second field has no bytes.
-fn one_operand(row: u8, read: FieldRead) -> OperationRead
+fn one_operand(row: u8, read: Option<Field>) -> Option<Operation>
     ensures { result ≡ one_operand row read }
 {
-    match read {
-        FieldRead::Read(first) => {
-            let end = first.end;
-            OperationRead::Read(Operation {
-                row,
-                first,
-                second: Field {
-                    value: 0,
-                    start: end,
-                    end,
-                },
-                next: Cursor { at: end },
-            })
-        }
-        FieldRead::Unreadable => OperationRead::Unreadable,
-    }
+    let first = read?;
+    let end = first.end;
+    Some(Operation {
+        row,
+        first,
+        second: Field {
+            value: 0,
+            start: end,
+            end,
+        },
+        next: Cursor { at: end },
+    })
 }
 
 // An operation with the operands of its row.
-fn operation_of(row: u8, read: OperandsRead) -> OperationRead
+fn operation_of(row: u8, read: Option<Operands>) -> Option<Operation>
     ensures { result ≡ row_operation row read }
 {
-    match read {
-        OperandsRead::Read(r) => {
-            let first = r.first;
-            let second = r.second;
-            let third = r.third;
-            OperationRead::Read(Operation {
-                row,
-                first,
-                second,
-                next: third.next(),
-            })
-        }
-        OperandsRead::Unreadable => OperationRead::Unreadable,
-    }
+    let Operands {
+        first,
+        second,
+        third,
+    } = read?;
+    Some(Operation {
+        row,
+        first,
+        second,
+        next: third.next(),
+    })
 }
 
 // A list entry with the operands of its row.
-fn entry_of(kind: u8, read: OperandsRead) -> ListStep
+fn entry_of(kind: u8, read: Option<Operands>) -> Option<ListStep>
     ensures { result ≡ row_entry kind read }
 {
-    match read {
-        OperandsRead::Read(r) => {
-            let first = r.first;
-            let second = r.second;
-            let third = r.third;
-            ListStep::Entry(ListEntry {
-                kind,
-                first,
-                second,
-                third,
-                next: third.next(),
-            })
-        }
-        OperandsRead::Unreadable => ListStep::Unreadable,
-    }
+    let Operands {
+        first,
+        second,
+        third,
+    } = read?;
+    Some(ListStep::Entry(ListEntry {
+        kind,
+        first,
+        second,
+        third,
+        next: third.next(),
+    }))
 }
 
 // A list entry of two operands and a third one.
-fn third_operand(kind: u8, first: Field, second: Field, read: FieldRead) -> ListStep
+fn third_operand(kind: u8, first: Field, second: Field, read: Option<Field>) -> Option<ListStep>
     ensures { result ≡ third_operand kind first second read }
 {
-    match read {
-        FieldRead::Read(third) => {
-            ListStep::Entry(ListEntry {
-                kind,
-                first,
-                second,
-                third,
-                next: third.next(),
-            })
-        }
-        FieldRead::Unreadable => ListStep::Unreadable,
-    }
+    let third = read?;
+    Some(ListStep::Entry(ListEntry {
+        kind,
+        first,
+        second,
+        third,
+        next: third.next(),
+    }))
 }
 
 impl Cursor {
     // The operation at a place. A nested expression is stepped over, not read.
-    pub fn operation(self, s: &[u8], e: Encoding) -> OperationRead
+    pub fn operation(self, s: &[u8], e: Encoding) -> Option<Operation>
         ensures { result ≡ operation_at e s.now self.at }
     {
         let at = self.at;
         if at >= s.len() {
-            return OperationRead::Unreadable;
+            return None;
         }
         let row = operation_row(s[at]);
         let start = at + 1;
         if row == ROW_NONE {
             return one_operand(
                 row,
-                FieldRead::Read(Field {
+                Some(Field {
                     value: 0,
                     start,
                     end: start,
@@ -541,16 +520,16 @@ impl Cursor {
     }
 
     // The entry of a range list, or of a location list, at a place.
-    pub fn list_entry(self, s: &[u8], location: bool, e: Encoding) -> ListStep
+    pub fn list_entry(self, s: &[u8], location: bool, e: Encoding) -> Option<ListStep>
         ensures { result ≡ list_entry_at e location s.now self.at }
     {
         let at = self.at;
         if at >= s.len() {
-            return ListStep::End;
+            return Some(ListStep::End);
         }
         let kind = s[at];
         if kind == DW_RLE_end_of_list {
-            return ListStep::End;
+            return Some(ListStep::End);
         }
         let row = list_row(e.version, location, kind);
         let start = at + 1;
@@ -564,18 +543,14 @@ impl Cursor {
     }
 
     // A list entry whose operands are two ULEB128 numbers, and an expression behind them where there is one.
-    fn two_numbers(self, s: &[u8], kind: u8, expression: bool) -> ListStep
+    fn two_numbers(self, s: &[u8], kind: u8, expression: bool) -> Option<ListStep>
         ensures { (e : Encoding) →
             result ≡ row_entry kind (row_at e s.now self.at (two_numbers_row expression)) }
     {
         let start = self.at;
-        let Number::Value(a, after) = self.uleb(s) else {
-            return ListStep::Unreadable;
-        };
+        let (a, after) = self.uleb(s)?;
         let middle = after.at;
-        let Number::Value(b, last) = after.uleb(s) else {
-            return ListStep::Unreadable;
-        };
+        let (b, last) = after.uleb(s)?;
         let end = last.at;
         let first = Field {
             value: a,
@@ -594,7 +569,7 @@ impl Cursor {
             kind,
             first,
             second,
-            FieldRead::Read(Field {
+            Some(Field {
                 value: 0,
                 start: end,
                 end,

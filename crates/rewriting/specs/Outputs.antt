@@ -1,7 +1,6 @@
 -- What collect leaves in the lent slices, and its answer in numbers (document 01, "collect"; demand 1: "Output, map and
 -- index lists hold the answer, and zeros everywhere else, for every input").
-use Rattle.std.specs.Prelude.{ℕ, ◌/◌, List, length}
-use Rattle.std.proofs.Math.Option.{Option, none, some}
+use Rattle.std.specs.Prelude.{ℕ, ◌/◌, List, length, None, Option, Some}
 use Rattle.readers.specs.Choice.{zeros}
 use Rattle.marking.specs.Analysis.{Rooms}
 use Rattle.marking.specs.Columns.{pad_to, unit_rooms}
@@ -31,8 +30,8 @@ room_of marks pairs offsets parents roots ends targets map ranges locations stri
     room_by (unit_rooms marks pairs offsets parents roots ends targets) map ranges locations strings out
 
 unfoldable pub list_count : Option (List ℕ) → ListCount
-list_count none = Absent
-list_count (some xs) = Present (length xs)
+list_count None = Absent
+list_count (Some xs) = Present (length xs)
 
 abbrev pub counts_of : ℕ → ℕ → ℕ → ℕ → Lists → Counts
 counts_of entries kept places bytes l =
@@ -62,8 +61,8 @@ output_for n (rewritten w) = pad_to n w.output
 output_for n (refused k) = zeros n
 
 unfoldable pub list_or : ℕ → Option (List ℕ) → List ℕ
-list_or n none = zeros n
-list_or n (some xs) = pad_to n (list_bytes xs)
+list_or n None = zeros n
+list_or n (Some xs) = pad_to n (list_bytes xs)
 
 unfoldable pub list_for : (Lists → Option (List ℕ)) → ℕ → Collected → List ℕ
 list_for f n (untouched k l) = list_or n (f l)

@@ -1,7 +1,6 @@
 -- What is kept of a unit, and where it comes to stand (document 01, "Rewriting"): "each kept entry and each terminator of
 -- a kept parent is written at its own width".
-use Rattle.std.specs.Prelude.{ℕ, suc, ◌+◌, ◌-◌, Bool, true, false, List, [], ◌∷◌, length, leb, eqb}
-use Rattle.std.proofs.Math.Option.{Option, none, some}
+use Rattle.std.specs.Prelude.{ℕ, suc, ◌+◌, ◌-◌, Bool, true, false, List, [], ◌∷◌, length, leb, eqb, None, Option, Some}
 use Rattle.readers.specs.Choice.{pick, ◌and◌}
 use Rattle.marking.specs.Marks.{is_kept}
 use Rattle.readers.specs.Nesting.{opened, closed}
@@ -56,17 +55,17 @@ size_from (x ∷ xs) = size_of x.item + size_from xs
 
 -- the new offset of an old one that is in the map
 unfoldable pub new_of : List Place → ℕ → Option ℕ
-new_of [] v = none
-new_of (p ∷ ps) v = pick (eqb p.old v) (some p.new) (new_of ps v)
+new_of [] v = None
+new_of (p ∷ ps) v = pick (eqb p.old v) (Some p.new) (new_of ps v)
 
 -- the first place at or after an old offset that is no deeper than so
 unfoldable pub first_from : List Place → ℕ → ℕ → Option ℕ
-first_from [] depth v = none
-first_from (p ∷ ps) depth v = pick (leb v p.old and leb p.depth depth) (some p.new) (first_from ps depth v)
+first_from [] depth v = None
+first_from (p ∷ ps) depth v = pick (leb v p.old and leb p.depth depth) (Some p.new) (first_from ps depth v)
 
 unfoldable pub or_else : Option ℕ → Option ℕ → Option ℕ
-or_else none b = b
-or_else (some v) b = some v
+or_else None b = b
+or_else (Some v) b = Some v
 
 -- "A sibling whose target isn't in the map gets the first mapped place at or after it that is no deeper than the sibling's owner."
 unfoldable pub sibling_of : List Place → ℕ → ℕ → Option ℕ

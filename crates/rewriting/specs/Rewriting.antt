@@ -1,6 +1,5 @@
 -- What collect answers (document 01, "collect" and "Rewriting").
-use Rattle.std.specs.Prelude.{ℕ, ◌+◌, Bool, true, false, List, [], ◌∷◌, ◌++◌, length, take, drop, leb, eqb}
-use Rattle.std.proofs.Math.Option.{Option, none, some}
+use Rattle.std.specs.Prelude.{ℕ, ◌+◌, Bool, true, false, List, [], ◌∷◌, ◌++◌, length, take, drop, leb, eqb, Err, None, Ok, Option, Result, Some}
 use Rattle.readers.specs.Choice.{pick, ◌and◌, ◌or◌}
 use Rattle.readers.specs.Codes.{DW_AT_location, DW_AT_ranges}
 use Rattle.readers.specs.Layout.{Role, reference, type_reference, sibling, index, absolute, fits}
@@ -10,8 +9,6 @@ use Rattle.readers.specs.Entries.{entry_layout}
 use Rattle.readers.specs.Abbreviations.{Placed, declared_in, abbreviations_of}
 use Rattle.readers.specs.declared.cursor.Encoding.{Encoding}
 use Rattle.readers.specs.declared.header.UnitHeader.{UnitHeader}
-use Rattle.readers.specs.declared.header.HeaderRead.{HeaderRead}
-use Rattle.readers.specs.declared.header.HeaderRead.TheVariants.{Unit as Unit', Empty, Refused}
 use Rattle.marking.specs.Marks.{kept_count}
 use Rattle.readers.specs.Stream.{Item, entry, terminator, items_from}
 use Rattle.marking.specs.Analysis.{Sections, Rooms, EntryRow, Analysed, analysed, refused as not_analysed, values_of_entry, header_by, analysis_of}
@@ -46,8 +43,8 @@ module _ (x : Sections) (u : Unit) where
 
   -- what was read of an entry or terminator, its expressions operation by operation; nothing where one can't be read, which no accepted unit has
   unfoldable pub reads_or : Option RunOf → List Read
-  reads_or none = []
-  reads_or (some r) = r.0
+  reads_or None = []
+  reads_or (Some r) = r.0
 
   unfoldable pub reads_at : ℕ → List Read
   reads_at at =
@@ -77,7 +74,7 @@ module _ (x : Sections) (u : Unit) where
   any_declares name (i ∷ rest) = item_declares name i or any_declares name rest
 
   unfoldable pub list_of : Bool → ℕ → List NestedItem → Option (List ℕ)
-  list_of absent k kept = pick absent none (some (insert_all (indices_from k kept) []))
+  list_of absent k kept = pick absent None (Some (insert_all (indices_from k kept) []))
 
   -- DW_AT_ranges, DW_AT_location
   unfoldable pub lists_of : Bool → List NestedItem → Lists
@@ -91,12 +88,12 @@ module _ (x : Sections) (u : Unit) where
 -- ---- new values
 
 unfoldable pub or_self : ℕ → Option ℕ → ℕ
-or_self v none = v
-or_self v (some n) = n
+or_self v None = v
+or_self v (Some n) = n
 
 unfoldable pub is_some : Option ℕ → Bool
-is_some none = false
-is_some (some n) = true
+is_some None = false
+is_some (Some n) = true
 
 unfoldable pub list_at : Lists → ℕ → Option (List ℕ)
 list_at lists k = pick (eqb k 0) lists.ranges (pick (eqb k 1) lists.locations lists.strings)
@@ -178,7 +175,7 @@ pub data Collected : Type 0 where
   refused : ℕ → Collected
 
 abbrev pub no_lists : Lists
-no_lists = record { ranges = none; locations = none; strings = none }
+no_lists = record { ranges = None; locations = None; strings = None }
 
 unfoldable pub lists_fit : Room → Lists → Bool
 lists_fit room l =
@@ -221,14 +218,14 @@ module _ (x : Sections) (room : Room) where
   analysed_collected type_units u (analysed rows) = rows_collected type_units u rows
 
   unfoldable pub declared_collected : Bool → List ℕ → UnitHeader → Option (List Placed) → Collected
-  declared_collected type_units section h none = refused 3
-  declared_collected type_units section h (some ds) =
+  declared_collected type_units section h None = refused 3
+  declared_collected type_units section h (Some ds) =
       analysed_collected type_units (unit_of h section ds) (analysis_of x section room.tables)
 
-  unfoldable pub header_collected : Bool → List ℕ → HeaderRead → Collected
-  header_collected type_units section Empty = untouched 0 no_lists
-  header_collected type_units section (Refused n) = refused n
-  header_collected type_units section (Unit' h) = declared_collected type_units section h (abbreviations_of x.abbreviations h.abbreviations)
+  unfoldable pub header_collected : Bool → List ℕ → Result (Option UnitHeader) ℕ → Collected
+  header_collected type_units section (Ok None) = untouched 0 no_lists
+  header_collected type_units section (Err n) = refused n
+  header_collected type_units section (Ok (Some h)) = declared_collected type_units section h (abbreviations_of x.abbreviations h.abbreviations)
 
   -- THE answer of collect
   unfoldable pub collect_of : Bool → List ℕ → Collected

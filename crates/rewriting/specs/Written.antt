@@ -3,8 +3,8 @@ use Rattle.std.specs.Prelude.{ℕ, zero, suc, ◌+◌, ◌*◌, ◌-◌, ◌^◌
 use Rattle.readers.specs.Choice.{pick, ◌and◌, zeros, put}
 use Rattle.readers.specs.Numbers.{padded, fixed_bytes, fixed_value}
 use Rattle.readers.specs.Cursors.{fixed_at}
-use Rattle.readers.specs.declared.cursor.Number.{Number}
-use Rattle.readers.specs.declared.cursor.Number.TheVariants.{Value, Unreadable}
+use Rattle.std.specs.Prelude.{None, Option, Some}
+use Rattle.readers.specs.declared.cursor.Cursor.{Cursor}
 use Rattle.rewriting.specs.Places.{Place}
 use Rattle.rewriting.specs.declared.numbers.Padded.{Padded}
 use Rattle.rewriting.specs.declared.numbers.Padded.TheVariants.{Written, Refused}
@@ -43,9 +43,9 @@ unfoldable pub row_number : ℕ → ℕ → ℕ → List ℕ → ℕ → ℕ
 row_number row byte width table i = pick (ltb i (length table / row)) (number_at width table (row * i + byte)) 0
 
 -- the number that is read, 0 where there is none
-unfoldable pub value_or : Number → ℕ
-value_or (Value v c) = v
-value_or Unreadable = 0
+unfoldable pub value_or : Option (ℕ × Cursor) → ℕ
+value_or (Some (v, c)) = v
+value_or None = 0
 
 unfoldable pub number_there : ℕ → List ℕ → ℕ → ℕ
 number_there width s at = value_or (fixed_at true width s at)

@@ -24,7 +24,7 @@ use marking::analysis::clear_columns;
 use marking::setting::Setting;
 use marking::units::{UnitMarking, UnitMarks, mark_unit};
 use readers::codes::{DW_AT_location, DW_AT_ranges};
-use readers::header::{HeaderRead, UnitHeader, unit_part};
+use readers::header::{UnitHeader, unit_part};
 use readers::offsets::UnitOffset;
 use readers::tables::{clear, clear_bytes, clear_indexes};
 
@@ -454,13 +454,13 @@ fn task_of(unit: UnitMarking) -> Task
                 return Task::Done(nothing());
             }
             match header {
-                HeaderRead::Unit(header) => Task::Rewrite {
+                Ok(Some(header)) => Task::Rewrite {
                     header,
                     entries,
                     kept,
                 },
-                HeaderRead::Empty => Task::Done(nothing()),
-                HeaderRead::Refused(n) => Task::Done(Collected::Refused(n)),
+                Ok(None) => Task::Done(nothing()),
+                Err(n) => Task::Done(Collected::Refused(n)),
             }
         }
     }

@@ -28,14 +28,14 @@ use crate::map::{Mapped, hinted_offset};
 use crate::numbers::{put_bytes, put_number};
 use crate::siblings::sibling_offset;
 use readers::abbreviations::SpecStep;
-use readers::attributes::{AttributeRead, list_of};
+use readers::attributes::{Attribute, list_of};
 use readers::codes::{
     DW_AT_sibling, DW_FORM_GNU_str_index, DW_FORM_exprloc, DW_FORM_indirect, DW_FORM_loclistx,
     DW_FORM_ref_udata, DW_FORM_ref1, DW_FORM_rnglistx, DW_FORM_strx,
 };
-use readers::cursor::{Cursor, Encoding, Moved};
+use readers::cursor::{Cursor, Encoding};
 use readers::entry_attributes::EntryAttribute;
-use readers::expressions::Yield;
+use readers::expressions::Reference;
 use readers::fields::Field;
 use readers::offsets::UnitOffset;
 
@@ -131,7 +131,7 @@ fn emit_expression(
     let mut copied: usize = 0;
     let mut to: usize = 0;
     loop {
-        let Yield::Reference(r) = from.next_reference(s, e) else {
+        let Some(r) = from.next_reference(s, e) else {
             let n = emit_bytes(&s[copied..], &mut out[to..]);
             return Emitted::To(to + n);
         };
@@ -340,15 +340,15 @@ fn next_plan(unit: &[u8], abbreviations: &[u8], specs: Cursor, values: Cursor, e
     ensures { Planned (next_attribute e abbreviations.now specs.at unit.now values.at) result }
 {
     match specs.attribute_spec(abbreviations) {
-        SpecStep::Attribute(a) => {
+        Some(SpecStep::Attribute(a)) => {
             let next = a.next;
             if copies(a.form) {
-                let Moved::To(past) = values.past_attribute(unit, a.name, a.form, e) else {
+                let Some(past) = values.past_attribute(unit, a.name, a.form, e) else {
                     return Plan::Over;
                 };
                 return Plan::Copy(past, next);
             }
-            let AttributeRead::Read(value) = values.attribute(unit, a.name, a.form, e) else {
+            let Some(value) = values.attribute(unit, a.name, a.form, e) else {
                 return Plan::Over;
             };
             let name = a.name;
@@ -363,8 +363,8 @@ fn next_plan(unit: &[u8], abbreviations: &[u8], specs: Cursor, values: Cursor, e
                 values: past,
             })
         }
-        SpecStep::Last(_) => Plan::Over,
-        SpecStep::Unreadable => Plan::Over,
+        Some(SpecStep::Last(_)) => Plan::Over,
+        None => Plan::Over,
     }
 }
 

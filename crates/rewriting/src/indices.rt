@@ -20,7 +20,7 @@ use readers::attributes::list_of;
 use readers::codes::DW_FORM_sec_offset;
 use readers::cursor::{Cursor, Encoding};
 use readers::entries::{Nesting, Step};
-use readers::entry_attributes::{NextAttribute, next_attribute};
+use readers::entry_attributes::{EntryAttribute, next_attribute};
 use readers::offsets::{EntryIndex, UnitOffset};
 use readers::tables::clear_bytes;
 
@@ -38,7 +38,7 @@ fn entry_declares(
     let mut p = specs;
     let mut from = values;
     loop {
-        let NextAttribute::More(a) = next_attribute(unit, abbreviations, p, from, e) else {
+        let Some(a) = next_attribute(unit, abbreviations, p, from, e) else {
             return false;
         };
         p = a.next;
@@ -70,7 +70,7 @@ fn any_declares(
     };
     loop {
         match at.step(unit, abbreviations, r.from, index, r.encoding) {
-            Step::Entry(x) => {
+            Some(Step::Entry(x)) => {
                 let declaration = x.declaration;
                 let next = x.next;
                 if entry_declares(
@@ -85,13 +85,13 @@ fn any_declares(
                 }
                 at = next;
             }
-            Step::Terminator(next) => {
+            Some(Step::Terminator(next)) => {
                 at = next;
             }
-            Step::End => {
+            Some(Step::End) => {
                 return false;
             }
-            Step::Unreadable => {
+            None => {
                 return false;
             }
         }
@@ -171,7 +171,7 @@ fn entry_gather(
     let mut from = values;
     let mut g = counts;
     loop {
-        let NextAttribute::More(a) = next_attribute(unit, abbreviations, p, from, e) else {
+        let Some(a) = next_attribute(unit, abbreviations, p, from, e) else {
             return g;
         };
         let v = a.value;
@@ -293,7 +293,7 @@ fn specs_declare(abbreviations: &[u8], specs: Cursor, name: u64) -> bool
     let mut p = specs;
     loop {
         match p.attribute_spec(abbreviations) {
-            SpecStep::Attribute(a) => {
+            Some(SpecStep::Attribute(a)) => {
                 p = a.next;
                 if a.name == name {
                     if a.form == DW_FORM_sec_offset {
@@ -301,10 +301,10 @@ fn specs_declare(abbreviations: &[u8], specs: Cursor, name: u64) -> bool
                     }
                 }
             }
-            SpecStep::Last(_) => {
+            Some(SpecStep::Last(_)) => {
                 return false;
             }
-            SpecStep::Unreadable => {
+            None => {
                 return false;
             }
         }
@@ -319,16 +319,16 @@ fn table_declares(abbreviations: &[u8], from: u64, name: u64) -> bool
     let mut at = Cursor { at: from as usize };
     loop {
         match at.declaration(abbreviations) {
-            DeclarationStep::Declaration(d, next) => {
+            Some(DeclarationStep::Declaration(d, next)) => {
                 if specs_declare(abbreviations, d.attributes, name) {
                     return true;
                 }
                 at = next;
             }
-            DeclarationStep::Last(_) => {
+            Some(DeclarationStep::Last(_)) => {
                 return false;
             }
-            DeclarationStep::Unreadable => {
+            None => {
                 return false;
             }
         }

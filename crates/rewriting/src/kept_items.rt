@@ -6,8 +6,8 @@ ghost use Rattle.rewriting.specs.Inner.Ends.{end_number, EndsHeld};
 ghost use Rattle.rewriting.specs.Inner.NextKept.{closes_kept, items_by, Answers};
 
 use marking::columns::place;
-use readers::abbreviations::{DeclarationFound, find_declaration};
-use readers::cursor::{Cursor, Encoding, Number};
+use readers::abbreviations::{Declaration, find_declaration};
+use readers::cursor::{Cursor, Encoding};
 use readers::entries::{Nesting, Step};
 use readers::offsets::{EntryIndex, UnitOffset};
 
@@ -111,7 +111,7 @@ pub(crate) fn fill_ends(
     let mut count = EntryIndex(0);
     loop {
         match at.step(unit, abbreviations, r.from, index, r.encoding) {
-            Step::Entry(x) => {
+            Some(Step::Entry(x)) => {
                 let k = place(count);
                 if k >= ends.len() {
                     return;
@@ -122,14 +122,14 @@ pub(crate) fn fill_ends(
                 count = EntryIndex(count.0 + 1);
                 at = next;
             }
-            Step::Terminator(next) => {
+            Some(Step::Terminator(next)) => {
                 at = next;
             }
-            Step::End => {
+            Some(Step::End) => {
                 end_column(ends, count);
                 return;
             }
-            Step::Unreadable => {
+            None => {
                 end_column(ends, count);
                 return;
             }
@@ -158,7 +158,7 @@ pub(crate) fn next_kept(
         if at.at >= unit.len() {
             return KeptStep::End;
         }
-        let Number::Value(code, values) = at.uleb(unit) else {
+        let Some((code, values)) = at.uleb(unit) else {
             return KeptStep::End;
         };
         let start = UnitOffset(at.at as u64);
@@ -196,7 +196,7 @@ pub(crate) fn next_kept(
             count = EntryIndex(count.0 + 1);
             at = Cursor { at: end };
             if kept {
-                let DeclarationFound::Declaration(d) = find_declaration(
+                let Some(d) = find_declaration(
                     abbreviations,
                     r.from,
                     index,

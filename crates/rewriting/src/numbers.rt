@@ -7,7 +7,7 @@ ghost use Rattle.rewriting.specs.Written.{groups_fit, padded_answer, padded_out}
 ghost use Rattle.rewriting.specs.Inner.Written.{bytes_fit, number_fits, unfit, Put};
 ghost use Rattle.rewriting.specs.Written.{over, put_in, number_there};
 
-use readers::cursor::{Cursor, Number};
+use readers::cursor::Cursor;
 use readers::tables::clear_bytes;
 
 // The answer of write_uleb128_padded.
@@ -174,8 +174,8 @@ pub fn big_endian_at(s: &[u8], at: usize, width: usize) -> u64
 {
     let c = Cursor { at };
     match c.fixed(s, width, true) {
-        Number::Value(value, _) => value,
-        Number::Unreadable => 0,
+        Some((value, _)) => value,
+        None => 0,
     }
 }
 

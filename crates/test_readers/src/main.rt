@@ -3,7 +3,7 @@
 #![tactic(auto)]
 
 use printing::text::{number, text};
-use readers::expressions::{References, references_of_expression};
+use readers::expressions::references_of_expression;
 use std::io;
 use std::io::{BufWriter, Write};
 
@@ -25,10 +25,10 @@ fn told(
     }
     let mut table = [7u64; 9];
     match references_of_expression(s, address_size, offset_size, big_endian, &mut table) {
-        References::Count(n) => {
+        Ok(n) => {
             number(to, b": references ", n as u64)?;
         }
-        References::Refused(n) => {
+        Err(n) => {
             number(to, b": refused ", n as u64)?;
         }
     }

@@ -12,7 +12,7 @@ use Rattle.marking.proofs.EachRow.{items-whole}
 use Rattle.rewriting.specs.Rewriting.{Room, unit_of, Unit as Unit', Lists, no_lists, lists_of, refusal_from, unit_bytes, Rewrite, Collected, untouched, rewritten, refused, lists_fit, or_refused, rewrite_of, marks_collected, rows_collected, analysed_collected, declared_collected, header_collected, collect_of}
 use Rattle.readers.proofs.HeaderLaws.{HeaderLaw, header-laws}
 use Rattle.rewriting.proofs.Whole.AcceptedUnits.{Accepted}
-use mathlib.Core.Option.{Option, none, some}
+use Rattle.std.specs.Prelude.{Err, None, Ok, Option, Result, Some}
 use native.Mathlib.Omega.{arith}
 use lib.Dec.{leb, eqb}
 use mir.Facts.{eqb_yes, eqb_no}
@@ -20,8 +20,6 @@ use Rattle.readers.specs.Choice.{pick}
 use Rattle.readers.proofs.Choice.{pick-either}
 use Rattle.readers.specs.Header.{length_size, header_of}
 use Rattle.rewriting.proofs.WritePass.HeaderEmits.{length-wide}
-use Rattle.readers.specs.declared.header.HeaderRead.{HeaderRead}
-use Rattle.readers.specs.declared.header.HeaderRead.TheVariants.{Unit as Header', Empty, Refused}
 use Rattle.marking.specs.Below.{count}
 use Rattle.marking.specs.Marks.{is_kept, kept_count}
 use Rattle.marking.specs.Resolution.{marks_in}
@@ -157,23 +155,23 @@ module _ (x : Sections) (room : Room) (type_units : Bool) (section : List ℕ) w
   rows_told h ds [] a = (λ n. absurd (omega arith), λ z. (a.analysis, refl))
   rows_told h ds (r ∷ rows) a = marks-told h ds (r ∷ rows) a (omega (arith, marks-each (r ∷ rows)))
 
-  analysed-told : (h : UnitHeader) (ds : List Placed) → header_of x.setting.big_endian section ≡ Header' h → abbreviations_of x.abbreviations h.abbreviations ≡ some ds
+  analysed-told : (h : UnitHeader) (ds : List Placed) → header_of x.setting.big_endian section ≡ Ok (Some h) → abbreviations_of x.abbreviations h.abbreviations ≡ Some ds
       → (o : Analysed) → analysis_of x section room.tables ≡ o → Told (analysed_collected x room type_units (unit_of h section ds) o)
   unfolding analysed_collected Told
   analysed-told h ds q d (analysed rows) r = rows_told h ds rows (record { header = q; declared = d; analysis = r })
   analysed-told h ds q d (not_analysed n) r = tt
 
-  declared-told : (h : UnitHeader) → header_of x.setting.big_endian section ≡ Header' h → (o : Option (List Placed)) → abbreviations_of x.abbreviations h.abbreviations ≡ o
+  declared-told : (h : UnitHeader) → header_of x.setting.big_endian section ≡ Ok (Some h) → (o : Option (List Placed)) → abbreviations_of x.abbreviations h.abbreviations ≡ o
       → Told (declared_collected x room type_units section h o)
   unfolding declared_collected Told
-  declared-told h q none d = tt
-  declared-told h q (some ds) d = analysed-told h ds q d (analysis_of x section room.tables) refl
+  declared-told h q None d = tt
+  declared-told h q (Some ds) d = analysed-told h ds q d (analysis_of x section room.tables) refl
 
-  header-told : (o : HeaderRead) → header_by x section ≡ o → Told (header_collected x room type_units section o)
+  header-told : (o : Result (Option UnitHeader) ℕ) → header_by x section ≡ o → Told (header_collected x room type_units section o)
   unfolding header_collected Told analysis_of header_analysed
-  header-told Empty q = (λ n. absurd (omega arith), λ z. (ap (header_analysed x section room.tables) q, refl))
-  header-told (Refused n) q = tt
-  header-told (Header' h) q = declared-told h (unit-listed x section h q).0 (abbreviations_of x.abbreviations h.abbreviations) refl
+  header-told (Ok None) q = (λ n. absurd (omega arith), λ z. (ap (header_analysed x section room.tables) q, refl))
+  header-told (Err n) q = tt
+  header-told (Ok (Some h)) q = declared-told h (unit-listed x section h q).0 (abbreviations_of x.abbreviations h.abbreviations) refl
 
   told : Told (collect_of x room type_units section)
   unfolding collect_of

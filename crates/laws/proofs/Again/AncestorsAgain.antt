@@ -3,7 +3,7 @@ use mathlib.Core.Path.{◌≡◌, refl}
 use Prim.Native.Nat.{ℕ, suc, ◌+◌}
 use mathlib.Core.Bool.{Bool, true, false}
 use mathlib.Core.List.{List, [], ◌∷◌}
-use mathlib.Core.Option.{some}
+use Rattle.std.specs.Prelude.{Some}
 use lib.ListN.{length}
 use lib.Dec.{T}
 use Rattle.readers.specs.Choice.{pick}
@@ -30,7 +30,7 @@ module _ (map : List Place) where
   Thinned [] (v ∷ vs) ns = ⊥
   Thinned (b ∷ bs) [] ns = ⊥
   Thinned (true ∷ bs) (v ∷ vs) [] = ⊥
-  Thinned (true ∷ bs) (v ∷ vs) (n ∷ ns) = (new_of map v ≡ some n) × Thinned bs vs ns
+  Thinned (true ∷ bs) (v ∷ vs) (n ∷ ns) = (new_of map v ≡ Some n) × Thinned bs vs ns
   Thinned (false ∷ bs) (v ∷ vs) ns = Thinned bs vs ns
 
   all-thinned : (bs : List Bool) (vs ns : List ℕ) → AllKept bs → Thinned bs vs ns → MapTo map vs ns
@@ -43,7 +43,7 @@ module _ (map : List Place) where
   all-thinned (true ∷ bs) (v ∷ vs) (n ∷ ns) a t = (t.0, all-thinned bs vs ns a.1 t.1)
   all-thinned (false ∷ bs) (v ∷ vs) ns a t = absurd a.0
 
-  thinned-kept : (children : Bool) (v n : ℕ) (bs : List Bool) (vs ns : List ℕ) → new_of map v ≡ some n → Thinned bs vs ns
+  thinned-kept : (children : Bool) (v n : ℕ) (bs : List Bool) (vs ns : List ℕ) → new_of map v ≡ Some n → Thinned bs vs ns
       → Thinned (opened children true bs) (opened children v vs) (opened children n ns)
   unfolding opened Thinned
   thinned-kept true v n bs vs ns q t = (q, t)
@@ -56,9 +56,9 @@ module _ (map : List Place) where
 
   -- places that the map holds
   abbrev Placed : ℕ → List NestedItem → Type 0
-  Placed n kept = (v m : ℕ) → MappedTo (places_from n kept) v m → new_of map v ≡ some m
+  Placed n kept = (v m : ℕ) → MappedTo (places_from n kept) v m → new_of map v ≡ Some m
 
-  placed_first : (n : ℕ) (s : NestedItem) (kept : List NestedItem) → Placed n (s ∷ kept) → new_of map (offset_of s.item) ≡ some n
+  placed_first : (n : ℕ) (s : NestedItem) (kept : List NestedItem) → Placed n (s ∷ kept) → new_of map (offset_of s.item) ≡ Some n
   unfolding places_from
   placed_first n s kept h = h (offset_of s.item) n (record { place = record { old = offset_of s.item; new = n; depth = s.depth }; within = here refl; old = refl; new = refl })
 

@@ -5,7 +5,7 @@ use Prim.Native.Nat.{ℕ, zero, suc, ◌+◌, ◌-◌, ◌<◌}
 use native.Mathlib.Omega.{arith}
 use mathlib.Core.Bool.{Bool}
 use mathlib.Core.List.{List, [], ◌++◌, append_assoc}
-use mathlib.Core.Option.{Option, none, some}
+use Rattle.std.specs.Prelude.{None, Ok, Option, Some}
 use mathlib.Core.Logic.{◌↔◌}
 use lib.ListN.{length, take, drop}
 use lib.Dec.{T}
@@ -16,7 +16,6 @@ use Rattle.readers.specs.Abbreviations.{Placed, declared_in, abbreviations_of}
 use Rattle.readers.specs.Header.{length_size, header_of, with_end}
 use Rattle.readers.specs.Stream.{Item, Items}
 use Rattle.readers.specs.declared.header.UnitHeader.{UnitHeader}
-use Rattle.readers.specs.declared.header.HeaderRead.TheVariants.{Unit as Header'}
 use Rattle.marking.specs.Below.{Number}
 use Rattle.marking.specs.Survivors.{Survivor}
 use Rattle.marking.specs.Marks.{is_kept, kept_count}
@@ -60,14 +59,14 @@ pub record ListLaw (x : Sections) (u : Unit') (kept : List NestedItem) (k : ℕ)
   pub ranks : (v : ℕ) → Member v xs → Ranked xs v (rank_in xs v)
 
 module _ (x : Sections) (u : Unit') (type_units : Bool) (kept : List NestedItem) (xs : List ℕ) where
-  list-present : (absent : Bool) (k : ℕ) → list_of x u absent k kept ≡ some xs → insert_all (indices_from x u k kept) [] ≡ xs
+  list-present : (absent : Bool) (k : ℕ) → list_of x u absent k kept ≡ Some xs → insert_all (indices_from x u k kept) [] ≡ xs
   unfolding list_of
   list-present absent k =
-      pick-either (λ (o : Option (List ℕ)). o ≡ some xs → insert_all (indices_from x u k kept) [] ≡ xs) absent none (some (insert_all (indices_from x u k kept) []))
+      pick-either (λ (o : Option (List ℕ)). o ≡ Some xs → insert_all (indices_from x u k kept) [] ≡ xs) absent None (Some (insert_all (indices_from x u k kept) []))
       (λ _ q. let z : ◌≡◌ {A = ℕ} 0 1 = cc in absurd (omega arith))
       (λ _ q. cc)
 
-  list-is : (k : ℕ) → k < 3 → list_at (lists_of x u type_units kept) k ≡ some xs → insert_all (indices_from x u k kept) [] ≡ xs
+  list-is : (k : ℕ) → k < 3 → list_at (lists_of x u type_units kept) k ≡ Some xs → insert_all (indices_from x u k kept) [] ≡ xs
   unfolding list_at lists_of pick
   list-is zero h q = list-present _ 0 q
   list-is (suc zero) h q = list-present _ 1 q
@@ -89,7 +88,7 @@ module _ (x : Sections) (u : Unit') (type_units : Bool) (kept : List NestedItem)
         });
       })
 
-  pub listed-law : (lists : Lists) → lists ≡ lists_of x u type_units kept → (k : ℕ) → k < 3 → list_at lists k ≡ some xs → ListLaw x u kept k xs
+  pub listed-law : (lists : Lists) → lists ≡ lists_of x u type_units kept → (k : ℕ) → k < 3 → list_at lists k ≡ Some xs → ListLaw x u kept k xs
   listed-law lists q k h p = sorted-law k (list-is k h (sym (ap (λ (z : Lists). list_at z k) q) ∙ p))
 
 -- ---- a rewritten unit
@@ -170,7 +169,7 @@ module _ (x : Sections) (room : Room) (type_units : Bool) (section : List ℕ) (
   abbrev front : ℕ
   front = length_size it.header.encoding
 
-  header_again : header_of x.setting.big_endian w.output ≡ Header' (with_end it.header (length w.output))
+  header_again : header_of x.setting.big_endian w.output ≡ Ok (Some (with_end it.header (length w.output)))
   unfolding unit_bytes header_bytes
   header_again =
       let a : List ℕ = take (front - offset) unit.bytes in
@@ -184,24 +183,24 @@ module _ (x : Sections) (room : Room) (type_units : Bool) (section : List ℕ) (
       ∙ ap₂ (λ (o : Bool) (n : ℕ). a ++ (fixed_bytes o offset n ++ (m ++ b)))
       header-law.known.order_is (let q : start + size_from kept - front ≡ length w.output - front = omega (arith, again-law.size) in q))
 
-  same-header : (h : UnitHeader) → header_of x.setting.big_endian section ≡ Header' h → it.header ≡ h
-  same-header h q = let z : Header' it.header ≡ Header' h = sym accepted.header ∙ q in cc
+  same-header : (h : UnitHeader) → header_of x.setting.big_endian section ≡ Ok (Some h) → it.header ≡ h
+  same-header h q = let z : Ok (Some it.header) ≡ Ok (Some h) = sym accepted.header ∙ q in cc
 
   -- what holds of the header, the declarations and the rows above holds of any that are read
   pub of-read : (P : UnitHeader → List Placed → List EntryRow → Type 0) → P it.header it.declared it.rows
-      → (h : UnitHeader) (ds : List Placed) (rows : List EntryRow) → header_of x.setting.big_endian section ≡ Header' h
-      → abbreviations_of x.abbreviations h.abbreviations ≡ some ds → analysis_of x section room.tables ≡ analysed rows → P h ds rows
+      → (h : UnitHeader) (ds : List Placed) (rows : List EntryRow) → header_of x.setting.big_endian section ≡ Ok (Some h)
+      → abbreviations_of x.abbreviations h.abbreviations ≡ Some ds → analysis_of x section room.tables ≡ analysed rows → P h ds rows
   of-read P p h ds rows q d a =
       let f : it.header ≡ h = same-header h q in
-      let z : some it.declared ≡ some ds = sym accepted.declared ∙ ap (λ (g : UnitHeader). abbreviations_of x.abbreviations g.abbreviations) f ∙ d in
+      let z : Some it.declared ≡ Some ds = sym accepted.declared ∙ ap (λ (g : UnitHeader). abbreviations_of x.abbreviations g.abbreviations) f ∙ d in
       let e : it.declared ≡ ds = cc in
       let y : analysed it.rows ≡ analysed rows = sym accepted.analysis ∙ a in
       let r : it.rows ≡ rows = cc in
       subst (λ (g : UnitHeader). P g ds rows) f (subst (λ (l : List Placed). P it.header l rows) e (subst (P it.header it.declared) r p))
 
   -- its header is the old one, but for where the unit ends
-  pub again-header : (h : UnitHeader) → header_of x.setting.big_endian section ≡ Header' h → header_of x.setting.big_endian w.output ≡ Header' (with_end h (length w.output))
-  again-header h q = subst (λ (g : UnitHeader). header_of x.setting.big_endian w.output ≡ Header' (with_end g (length w.output))) (same-header h q) header_again
+  pub again-header : (h : UnitHeader) → header_of x.setting.big_endian section ≡ Ok (Some h) → header_of x.setting.big_endian w.output ≡ Ok (Some (with_end h (length w.output)))
+  again-header h q = subst (λ (g : UnitHeader). header_of x.setting.big_endian w.output ≡ Ok (Some (with_end g (length w.output)))) (same-header h q) header_again
 
   -- ---- the map
 
@@ -244,7 +243,7 @@ module _ (x : Sections) (room : Room) (type_units : Bool) (section : List ℕ) (
   -- ---- index lists
 
   -- each list that is present: ascending, without repeats, exactly the indices of what is kept
-  pub list_law : (k : ℕ) → k < 3 → (xs : List ℕ) → list_at w.lists k ≡ some xs → ListLaw x unit kept k xs
+  pub list_law : (k : ℕ) → k < 3 → (xs : List ℕ) → list_at w.lists k ≡ Some xs → ListLaw x unit kept k xs
   list_law k h xs q = listed-law x unit type_units kept xs w.lists it.lists-is k h q
 
 -- ---- an untouched unit
@@ -263,7 +262,7 @@ module _ (x : Sections) (room : Room) (type_units : Bool) (section : List ℕ) (
       (accepted-count x room section whole.header whole.declared whole.rows a))
       (whole.none-dead ∙ sym whole.entries-is)
 
-  pub whole-list-law : (k : ℕ) → k < 3 → (xs : List ℕ) → list_at lists k ≡ some xs
+  pub whole-list-law : (k : ℕ) → k < 3 → (xs : List ℕ) → list_at lists k ≡ Some xs
       → ListLaw x (unit_of whole.header section whole.declared) (survivors_in x (unit_of whole.header section whole.declared) whole.rows) k xs
   whole-list-law k h xs q =
       listed-law x (unit_of whole.header section whole.declared) type_units (survivors_in x (unit_of whole.header section whole.declared) whole.rows) xs lists

@@ -4,7 +4,7 @@ use mathlib.Core.Path.{◌≡◌, refl, sym, ap, ◌∙◌}
 use mathlib.Core.Bool.{Bool, true, false}
 use mathlib.Core.List.{List, [], ◌∷◌}
 use mathlib.Core.Logic.{◌⊎◌, inr, ⊎_elim}
-use mathlib.Core.Option.{Option, some}
+use Rattle.std.specs.Prelude.{Option, Some}
 use native.Mathlib.Omega.{arith}
 use lib.ListN.{length}
 use lib.Dec.{eqb}
@@ -79,18 +79,18 @@ old-member p [] m = absurd (nothing-in p m)
 old-member p (q ∷ ps) (here e) = here (ap (λ (x : Place). x.old) e)
 old-member p (q ∷ ps) (there m) = there (old-member p ps m)
 
-new-of : (low : ℕ) (p : Place) (map : List Place) → From low (old_offsets map) → Member p map → new_of map p.old ≡ some p.new
+new-of : (low : ℕ) (p : Place) (map : List Place) → From low (old_offsets map) → Member p map → new_of map p.old ≡ Some p.new
 unfolding new_of old_offsets From
 new-of low p [] f m = absurd (nothing-in p m)
 new-of low p (q ∷ ps) f (here e) =
-    pick_yes _ _ _ (yes_eqb {a = q.old} {b = p.old} (ap (λ (x : Place). x.old) (sym e))) ∙ ap (λ (x : Place). some x.new) (sym e)
+    pick_yes _ _ _ (yes_eqb {a = q.old} {b = p.old} (ap (λ (x : Place). x.old) (sym e))) ∙ ap (λ (x : Place). Some x.new) (sym e)
 new-of low p (q ∷ ps) f (there m) =
     let h : suc q.old ≤ p.old = from_member (suc q.old) p.old (old_offsets ps) f.1 (old-member p ps m) in
     pick_no _ _ _ (no_eqb {a = q.old} {b = p.old} (omega arith)) ∙ new-of (suc q.old) p ps f.1 m
 
 -- in an ascending map an old offset has the new one that a place in it gives
-pub mapped_in : (map : List Place) (v n : ℕ) → Ascending (old_offsets map) → MappedTo map v n → new_of map v ≡ some n
-mapped_in map v n f l = ap (new_of map) (sym l.old) ∙ new-of 0 l.place map f l.within ∙ ap (λ (x : ℕ). some x) l.new
+pub mapped_in : (map : List Place) (v n : ℕ) → Ascending (old_offsets map) → MappedTo map v n → new_of map v ≡ Some n
+mapped_in map v n f l = ap (new_of map) (sym l.old) ∙ new-of 0 l.place map f l.within ∙ ap (λ (x : ℕ). Some x) l.new
 
 -- ---- every kept item has its place
 
@@ -99,4 +99,4 @@ unfolding places_from new_of is_some
 has_new n [] x m = absurd (nothing-in x m)
 has_new n (y ∷ kept) x (here e) = ap is_some (pick_yes _ _ _ (yes_eqb {a = offset_of y.item} {b = offset_of x.item} (ap (λ (z : NestedItem). offset_of z.item) (sym e))))
 has_new n (y ∷ kept) x (there m) =
-    pick-either (λ (o : Option ℕ). is_some o ≡ true) (eqb (offset_of y.item) (offset_of x.item)) (some n) _ (λ t. refl) (λ t. has_new (n + size_of y.item) kept x m)
+    pick-either (λ (o : Option ℕ). is_some o ≡ true) (eqb (offset_of y.item) (offset_of x.item)) (Some n) _ (λ t. refl) (λ t. has_new (n + size_of y.item) kept x m)

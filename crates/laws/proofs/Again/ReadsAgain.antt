@@ -1,7 +1,7 @@
 -- What is read deep at the new places: what was read at the old ones, patched. Assumes nothing.
 use mathlib.Core.Path.{◌≡◌, ap, ap₂, sym, ◌∙◌}
 use Prim.Native.Nat.{ℕ, ◌+◌}
-use mathlib.Core.Option.{some}
+use Rattle.std.specs.Prelude.{Some}
 use mathlib.Core.List.{List, [], ◌∷◌, ◌++◌, append_assoc}
 use lib.ListN.{length, drop, length-append}
 use lib.Seq.{drop_at}
@@ -28,7 +28,7 @@ module _ (x : Sections) (u : Unit') (lists : Lists) (places : List Place) where
     -- at each new place stands what was read, patched, and the next place follows
     unfoldable pub PatchedFrom : ℕ → List NestedItem → Type 0
     PatchedFrom n [] = Unit {0}
-    PatchedFrom n (s ∷ kept) = (deep_at x (with_bytes u unit) n ≡ some (patched s, drop (n + size_of s.item) unit)) × PatchedFrom (n + size_of s.item) kept
+    PatchedFrom n (s ∷ kept) = (deep_at x (with_bytes u unit) n ≡ Some (patched s, drop (n + size_of s.item) unit)) × PatchedFrom (n + size_of s.item) kept
 
     pub reads-again : (kept : List NestedItem) → Every (Rewritable x u lists places) kept → (front : List ℕ) (n : ℕ) → length front ≡ n
         → unit ≡ front ++ bytes_from x u lists places kept → PatchedFrom n kept
@@ -42,6 +42,6 @@ module _ (x : Sections) (u : Unit') (lists : Lists) (places : List Place) where
           ap (λ z. deep_at x (with_bytes u z) n) q
               ∙ deep-again u.header.encoding x.abbreviations (declared_in u.declared) (expression_in u.header.encoding) (expression-law u.header.encoding) u.bytes
               (offset_of s.item) (reads_at x u (offset_of s.item)) h.0.deep.run.1 (deep-read x u lists places s h.0) (new_value lists places s.depth) h.0.fit front more n l
-              ∙ ap (λ (z : List ℕ). some (patched s, z)) (sym (ap (drop (n + size_of s.item)) q' ∙ drop_at (front ++ w) more (n + size_of s.item) m)),
+              ∙ ap (λ (z : List ℕ). Some (patched s, z)) (sym (ap (drop (n + size_of s.item)) q' ∙ drop_at (front ++ w) more (n + size_of s.item) m)),
           reads-again kept h.1 (front ++ w) (n + size_of s.item) m q',
         )

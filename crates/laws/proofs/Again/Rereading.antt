@@ -3,7 +3,9 @@
 use mathlib.Core.Path.{◌≡◌, refl, ap, ap₂, sym, ◌∙◌}
 use Prim.Native.Nat.{ℕ, ◌+◌}
 use mathlib.Core.Bool.{true}
-use mathlib.Core.Option.{some}
+use Rattle.std.specs.Prelude.{Option, Some}
+use Rattle.readers.specs.declared.abbreviations.Declaration.{Declaration}
+use Rattle.readers.specs.declared.entries.Step.{Step}
 use mathlib.Core.List.{List, [], ◌∷◌, ◌++◌, map, append_assoc, append-nil}
 use native.Mathlib.Omega.{arith}
 use lib.ListN.{length, length-append}
@@ -14,8 +16,6 @@ use Rattle.readers.proofs.Expression.{expression-law}
 use Rattle.readers.specs.Entries.{step_at}
 use Rattle.readers.specs.Abbreviations.{declared_in}
 use Rattle.readers.specs.declared.cursor.Encoding.{Encoding}
-use Rattle.readers.specs.declared.abbreviations.DeclarationFound.{DeclarationFound}
-use Rattle.readers.specs.declared.entries.Step.{Step}
 use Rattle.readers.proofs.Values.{step_end}
 use Rattle.readers.specs.Stream.{Item, entry, terminator, Items, push, on_step, items_from}
 use Rattle.marking.specs.Analysis.{Sections}
@@ -30,9 +30,9 @@ use Rattle.rewriting.proofs.KeptPass.ItemDepths.{Every, Stands, Readable, Stands
 
 -- ---- one item
 
-module _ (e : Encoding) (abbreviations : List ℕ) (look : ℕ → DeclarationFound) (unit : List ℕ) where
+module _ (e : Encoding) (abbreviations : List ℕ) (look : ℕ → Option Declaration) (unit : List ℕ) where
   -- the turn of a moved step
-  turn_moved : (i : Item) (n : ℕ) (r : Step) → Stands e abbreviations look unit i → r ≡ moved_step (offset_of i) n (step_at e abbreviations look unit (offset_of i))
+  turn_moved : (i : Item) (n : ℕ) (r : Option Step) → Stands e abbreviations look unit i → r ≡ moved_step (offset_of i) n (step_at e abbreviations look unit (offset_of i))
       → (k : ℕ → Items) → on_step n r k ≡ push (moved_item n i) (k (n + size_of i))
   unfolding Stands on_step moved_item moved_step moved_entry offset_of size_of
   turn_moved (entry x) n r s q k = ap (λ t. on_step n t k) (q ∙ ap (moved_step x.offset.0 n) s)
@@ -46,7 +46,7 @@ module _ (x : Sections) (u : Unit') (lists : Lists) (places : List Place) where
   abbrev encoding : Encoding
   encoding = u.header.encoding
 
-  abbrev look : ℕ → DeclarationFound
+  abbrev look : ℕ → Option Declaration
   look = declared_in u.declared
 
   abbrev pub Fits : NestedItem → Type 0
@@ -76,8 +76,8 @@ module _ (x : Sections) (u : Unit') (lists : Lists) (places : List Place) where
     unfolding reads_at reads_or
     reads-are = ap (reads_or x u) h.deep.is
 
-    pub deep-read : deep_at x u (offset_of s.item) ≡ some (reads, h.deep.run.1)
-    deep-read = h.deep.is ∙ ap (λ (rs : List Read). some (rs, h.deep.run.1)) (sym reads-are)
+    pub deep-read : deep_at x u (offset_of s.item) ≡ Some (reads, h.deep.run.1)
+    deep-read = h.deep.is ∙ ap (λ (rs : List Read). Some (rs, h.deep.run.1)) (sym reads-are)
 
     pub length-written : length written ≡ size_of s.item
     length-written =

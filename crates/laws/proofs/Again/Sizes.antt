@@ -9,7 +9,8 @@ use Rattle.marking.specs.Marks.{is_kept}
 use Rattle.readers.specs.Entries.{step_at}
 use Rattle.readers.specs.declared.cursor.Encoding.{Encoding}
 use Rattle.readers.specs.declared.cursor.Cursor.{Cursor}
-use Rattle.readers.specs.declared.abbreviations.DeclarationFound.{DeclarationFound}
+use Rattle.std.specs.Prelude.{Option, Some}
+use Rattle.readers.specs.declared.abbreviations.Declaration.{Declaration}
 use Rattle.readers.specs.declared.entries.Entry.{Entry}
 use Rattle.readers.specs.declared.entries.Step.TheVariants.{Entry as Entry', Terminator}
 use Rattle.readers.specs.Stream.{Item, entry, terminator, Items, push, items_from}
@@ -55,21 +56,21 @@ inside_on : (unit : List ℕ) (at n : ℕ) (i : Item) (items : List Item) → In
 inside_on unit at n i items j h k x (here e) = rw e j
 inside_on unit at n i items j h k x (there m) = inside-less unit at n x h (k x m)
 
-module _ (e : Encoding) (abbreviations : List ℕ) (look : ℕ → DeclarationFound) (unit : List ℕ) where
+module _ (e : Encoding) (abbreviations : List ℕ) (look : ℕ → Option Declaration) (unit : List ℕ) where
   abbrev from : ℕ → Items
   from = items_from e abbreviations look unit
 
   abbrev Fills : ℕ → Items → Type 0
   Fills at r = r.1 ≡ true → at ≤ length unit → at + sizes_of r.0 ≡ length unit
 
-  fills-entry : (at : ℕ) (x : Entry) → step_at e abbreviations look unit at ≡ Entry' x → EntryInside unit at x → Fills x.next.at (from x.next.at)
+  fills-entry : (at : ℕ) (x : Entry) → step_at e abbreviations look unit at ≡ Some (Entry' x) → EntryInside unit at x → Fills x.next.at (from x.next.at)
       → Fills at (push (entry x) (from x.next.at))
   unfolding push sizes_of size_of
   fills-entry at x q i f t h =
       let s : x.next.at + sizes_of (from x.next.at).0 ≡ length unit = f t i.within in
       omega (arith, i.here, i.coded, i.ahead)
 
-  fills-terminator : (at : ℕ) (c : Cursor) → step_at e abbreviations look unit at ≡ Terminator c → at < c.at → c.at ≤ length unit → Fills c.at (from c.at)
+  fills-terminator : (at : ℕ) (c : Cursor) → step_at e abbreviations look unit at ≡ Some (Terminator c) → at < c.at → c.at ≤ length unit → Fills c.at (from c.at)
       → Fills at (push (terminator at c.at) (from c.at))
   unfolding push sizes_of size_of
   fills-terminator at c q lo hi f t h =
@@ -97,7 +98,7 @@ module _ (e : Encoding) (abbreviations : List ℕ) (look : ℕ → DeclarationFo
   abbrev Insides : ℕ → Items → Type 0
   Insides at r = AllInside unit at r.0
 
-  insides-entry : (at : ℕ) (x : Entry) → step_at e abbreviations look unit at ≡ Entry' x → EntryInside unit at x → Insides x.next.at (from x.next.at)
+  insides-entry : (at : ℕ) (x : Entry) → step_at e abbreviations look unit at ≡ Some (Entry' x) → EntryInside unit at x → Insides x.next.at (from x.next.at)
       → Insides at (push (entry x) (from x.next.at))
   unfolding push offset_of size_of
   insides-entry at x q i f =
@@ -105,7 +106,7 @@ module _ (e : Encoding) (abbreviations : List ℕ) (look : ℕ → DeclarationFo
       (record { after = omega (arith, i.here); sized = omega (arith, i.here, i.coded, i.ahead); within = omega (arith, i.here, i.coded, i.ahead, i.within) })
       (omega (arith, i.here, i.coded, i.ahead)) f
 
-  insides-terminator : (at : ℕ) (c : Cursor) → step_at e abbreviations look unit at ≡ Terminator c → at < c.at → c.at ≤ length unit → Insides c.at (from c.at)
+  insides-terminator : (at : ℕ) (c : Cursor) → step_at e abbreviations look unit at ≡ Some (Terminator c) → at < c.at → c.at ≤ length unit → Insides c.at (from c.at)
       → Insides at (push (terminator at c.at) (from c.at))
   unfolding push offset_of size_of
   insides-terminator at c q lo hi f =

@@ -3,7 +3,8 @@ use mathlib.Core.Path.{◌≡◌, refl, ap, ap₂, sym, ◌∙◌, subst}
 use Prim.Native.Nat.{ℕ, suc, ◌+◌, ◌-◌}
 use native.Mathlib.Omega.{arith}
 use mathlib.Core.Bool.{Bool}
-use mathlib.Core.Option.{Option, none, some}
+use Rattle.std.specs.Prelude.{None, Ok, Option, Some}
+use Rattle.readers.specs.declared.abbreviations.Declaration.{Declaration}
 use mathlib.Core.List.{List, [], ◌∷◌, ◌++◌, append_assoc}
 use mathlib.Core.Logic.{⊎_elim}
 use lib.ListN.{length, drop, length-append}
@@ -21,13 +22,10 @@ use Rattle.readers.specs.Scan.{Scanned}
 use Rattle.readers.specs.Abbreviations.{Placed, declared_in, attributes_from, abbreviations_of}
 use Rattle.readers.specs.Header.{header_of}
 use Rattle.readers.specs.declared.header.UnitHeader.{UnitHeader}
-use Rattle.readers.specs.declared.header.HeaderRead.TheVariants.{Unit as Header'}
 use Rattle.readers.specs.Entries.{attributes_layout, specs_layout, found_layout, entry_layout, entry_found, step_of_reads, step_at}
 use Rattle.readers.specs.Stream.{Item, entry, Items}
 use Rattle.readers.specs.declared.cursor.Encoding.{Encoding}
 use Rattle.readers.specs.declared.abbreviations.AttributeSpec.{AttributeSpec}
-use Rattle.readers.specs.declared.abbreviations.DeclarationFound.{DeclarationFound}
-use Rattle.readers.specs.declared.abbreviations.DeclarationFound.TheVariants.{Declaration as Found', Nothing}
 use Rattle.readers.specs.declared.entries.Entry.{Entry}
 use Rattle.readers.specs.declared.entries.Step.TheVariants.{Entry as Entry'}
 use Rattle.readers.specs.EntryAttributes.{Valued, values_of, specs_from, entry_values}
@@ -53,7 +51,7 @@ use Rattle.laws.proofs.Attributes.AttributesAgain.{ValuesTwice, values-twice}
 
 -- ---- an entry that was read deep: its code, and the values of its specifications
 
-module _ (e : Encoding) (x : Sections) (look : ℕ → DeclarationFound) (unit : List ℕ) where
+module _ (e : Encoding) (x : Sections) (look : ℕ → Option Declaration) (unit : List ℕ) where
   abbrev big : Bool
   big = e.big_endian
 
@@ -63,19 +61,19 @@ module _ (e : Encoding) (x : Sections) (look : ℕ → DeclarationFound) (unit :
   pub record SpecsRead (p : ℕ) (s : List ℕ) (rs : List Read) (rest : List ℕ) : Type 0 where
     pub specs : List AttributeSpec
     pub are : specs_from x.abbreviations p ≡ specs
-    pub reads : read_in big ex (attributes_layout e specs) s ≡ some (rs, rest)
+    pub reads : read_in big ex (attributes_layout e specs) s ≡ Some (rs, rest)
 
   by-specs : (p : ℕ) (o : Option (Scanned AttributeSpec ℕ)) → attributes_from x.abbreviations p ≡ o → (s : List ℕ) (rs : List Read) (rest : List ℕ)
-      → read_in big ex (specs_layout e o) s ≡ some (rs, rest) → SpecsRead p s rs rest
+      → read_in big ex (specs_layout e o) s ≡ Some (rs, rest) → SpecsRead p s rs rest
   unfolding specs_layout read_in
-  by-specs p none q s rs rest h = let z : ◌≡◌ {A = ℕ} 0 1 = cc in absurd (omega arith)
-  by-specs p (some r) q s rs rest h = record { specs = r.0; are = specs-all x.abbreviations p r q; reads = h }
+  by-specs p None q s rs rest h = let z : ◌≡◌ {A = ℕ} 0 1 = cc in absurd (omega arith)
+  by-specs p (Some r) q s rs rest h = record { specs = r.0; are = specs-all x.abbreviations p r q; reads = h }
 
-  by-found : (at values next : ℕ) (y : Entry) (s : List ℕ) (rs : List Read) (rest : List ℕ) (o : DeclarationFound) → entry_found e x.abbreviations look at values next o ≡ Entry' y
-      → read_in big ex (found_layout e x.abbreviations look o) s ≡ some (rs, rest) → (y.values.at ≡ values) × SpecsRead y.declaration.attributes.at s rs rest
+  by-found : (at values next : ℕ) (y : Entry) (s : List ℕ) (rs : List Read) (rest : List ℕ) (o : Option Declaration) → entry_found e x.abbreviations look at values next o ≡ Some (Entry' y)
+      → read_in big ex (found_layout e x.abbreviations look o) s ≡ Some (rs, rest) → (y.values.at ≡ values) × SpecsRead y.declaration.attributes.at s rs rest
   unfolding entry_found found_layout
-  by-found at values next y s rs rest Nothing q h = let z : ◌≡◌ {A = ℕ} 0 1 = cc in absurd (omega arith)
-  by-found at values next y s rs rest (Found' d) q h =
+  by-found at values next y s rs rest None q h = let z : ◌≡◌ {A = ℕ} 0 1 = cc in absurd (omega arith)
+  by-found at values next y s rs rest (Some d) q h =
       let z : record { offset = record { 0 = at }; declaration = d; values = cursor values; next = cursor next } ≡ y = cc in (
         sym (ap (λ (k : Entry). k.values.at) z),
         subst (λ (k : Entry). SpecsRead k.declaration.attributes.at s rs rest) z (by-specs d.attributes.at (attributes_from x.abbreviations d.attributes.at) refl s rs rest h),
@@ -90,13 +88,13 @@ module _ (e : Encoding) (x : Sections) (look : ℕ → DeclarationFound) (unit :
 
   module _ (at : ℕ) (y : Entry) where
     abbrev Step' : RunOf → Type 0
-    Step' r = step_of_reads e x.abbreviations look at r.0 ≡ Entry' y → Headed at y r.0 r.1
+    Step' r = step_of_reads e x.abbreviations look at r.0 ≡ Some (Entry' y) → Headed at y r.0 r.1
 
     abbrev code_layout : ℕ → Layout
     code_layout code = pick (eqb code 0) done (found_layout e x.abbreviations look (look code))
 
-    after-code : (c : Read) (mid : List ℕ) → mid ≡ drop (at + size big c) unit → (rs : List Read) (rest : List ℕ) → read_in big ex (code_layout c.seen) mid ≡ some (rs, rest)
-        → step_of_reads e x.abbreviations look at (c ∷ rs) ≡ Entry' y → Headed at y (c ∷ rs) rest
+    after-code : (c : Read) (mid : List ℕ) → mid ≡ drop (at + size big c) unit → (rs : List Read) (rest : List ℕ) → read_in big ex (code_layout c.seen) mid ≡ Some (rs, rest)
+        → step_of_reads e x.abbreviations look at (c ∷ rs) ≡ Some (Entry' y) → Headed at y (c ∷ rs) rest
     unfolding step_of_reads
     after-code c mid i rs rest h q =
         ⊎_elim
@@ -115,14 +113,14 @@ module _ (e : Encoding) (x : Sections) (look : ℕ → DeclarationFound) (unit :
         (λ c q law. all-bind (λ _. Unit {0}) Step' (read_in big ex (code_layout c.0.seen) c.1) (before c.0) (all-triv _)
         (λ r p _. all-some Step' (after-code c.0 c.1 (law.0.1 ∙ drop-drop (size big c.0) at unit) r.0 r.1 p)))
 
-    pub headed : (rs : List Read) (rest : List ℕ) → read_in big ex (entry_layout e x.abbreviations look) (drop at unit) ≡ some (rs, rest)
-        → step_at e x.abbreviations look unit at ≡ Entry' y → Headed at y rs rest
+    pub headed : (rs : List Read) (rest : List ℕ) → read_in big ex (entry_layout e x.abbreviations look) (drop at unit) ≡ Some (rs, rest)
+        → step_at e x.abbreviations look unit at ≡ Some (Entry' y) → Headed at y rs rest
     headed rs rest d q = all_of Step' headed-all d (sym (deep_step e x.abbreviations look ex (expression-law e) unit at rs rest d) ∙ q)
 
   -- ---- an entry, and the same patched at another place
 
-  entry-twice : (f : Patch) (output : List ℕ) (y : Entry) (new : ℕ) (rs : List Read) (rest back : List ℕ) → step_at e x.abbreviations look unit y.offset.0 ≡ Entry' y
-      → read_in big ex (entry_layout e x.abbreviations look) (drop y.offset.0 unit) ≡ some (rs, rest) → FitAll f rs → drop new output ≡ write_all big (patch_all f rs) ++ back
+  entry-twice : (f : Patch) (output : List ℕ) (y : Entry) (new : ℕ) (rs : List Read) (rest back : List ℕ) → step_at e x.abbreviations look unit y.offset.0 ≡ Some (Entry' y)
+      → read_in big ex (entry_layout e x.abbreviations look) (drop y.offset.0 unit) ≡ Some (rs, rest) → FitAll f rs → drop new output ≡ write_all big (patch_all f rs) ++ back
       → AttributesAgain f e x unit output new y
   unfolding values_of_entry entry_values moved_entry FitAll write_all patch_all patch_read size
   entry-twice f output y new rs rest back q d fit h =
@@ -237,8 +235,8 @@ module _ (x : Sections) (room : Room) (type_units : Bool) (section : List ℕ) (
 
   -- "Read again, a rewritten unit is the old tree less its dead entries, with order, nesting and, as document 01 has it, values kept.": the attributes of the m-th kept item, an entry, by the
   -- public reader of attributes at its new place
-  pub attributes-law : (h : UnitHeader) (ds : List Placed) (rows : List EntryRow) → header_of x.setting.big_endian section ≡ Header' h
-      → abbreviations_of x.abbreviations h.abbreviations ≡ some ds → analysis_of x section room.tables ≡ analysed rows
+  pub attributes-law : (h : UnitHeader) (ds : List Placed) (rows : List EntryRow) → header_of x.setting.big_endian section ≡ Ok (Some h)
+      → abbreviations_of x.abbreviations h.abbreviations ≡ Some ds → analysis_of x section room.tables ≡ analysed rows
       → (m : ℕ) (s : NestedItem) (y : Entry) → Nth s m (survivors_in x (unit_of h section ds) rows) → s.item ≡ entry y
       → EntryAgain w.lists w.map h.encoding x (unit_of h section ds).bytes w.output (items_in x (thinned_of h w.output ds)) m s y
   unfolding items_in

@@ -3,7 +3,7 @@ use mathlib.Core.Path.{◌≡◌, refl, ap, sym, ◌∙◌, subst}
 use Prim.Native.Nat.{ℕ, suc, ◌+◌}
 use native.Mathlib.Omega.{arith}
 use mathlib.Core.Bool.{Bool, true, false, not}
-use mathlib.Core.Option.{Option, some}
+use Rattle.std.specs.Prelude.{Option, Some}
 use mathlib.Core.List.{List, [], ◌∷◌, ◌++◌, append_assoc, append-nil}
 use mathlib.Core.Logic.{⊎_elim}
 use lib.ListN.{length, drop, length-append}
@@ -21,8 +21,6 @@ use Rattle.readers.specs.Entries.{attribute_of_reads, as_attribute, attribute_at
 use Rattle.readers.specs.declared.cursor.Encoding.{Encoding}
 use Rattle.readers.specs.declared.abbreviations.AttributeSpec.{AttributeSpec}
 use Rattle.readers.specs.declared.attributes.Attribute.{Attribute}
-use Rattle.readers.specs.declared.attributes.AttributeRead.{AttributeRead}
-use Rattle.readers.specs.declared.attributes.AttributeRead.TheVariants.{Read as Attribute'}
 use Rattle.readers.proofs.Values.{joined, read-then}
 use Rattle.readers.specs.EntryAttributes.{Valued, on_attribute, values_of}
 use Rattle.rewriting.specs.Emission.{between}
@@ -62,16 +60,16 @@ module _ (e : Encoding) (f : Patch) (unit output : List ℕ) where
 
   record AttributeTwice (name declared at at' width : ℕ) : Type 0 where
     pub a : Attribute
-    pub is : attribute_at e unit at name declared ≡ Attribute' a
+    pub is : attribute_at e unit at name declared ≡ Some a
     pub ends : a.field.end ≡ at + width
     pub b : Attribute
-    pub is' : attribute_at e output at' name declared ≡ Attribute' b
+    pub is' : attribute_at e output at' name declared ≡ Some b
     pub ends' : b.field.end ≡ at' + width
     pub same : (old new : ℕ) → at' + old ≡ at + new → SameAttribute f e old new unit output (attribute name declared a) (attribute name declared b)
 
   -- a value that a form's token reads, at o and at o'
   module _ (name declared form : ℕ) (indirect : Bool) (o o' : ℕ) (v : Read) (mid back : List ℕ)
-      (q : token_in big ex (value_token e indirect name form) (drop o unit) ≡ some (v, mid))
+      (q : token_in big ex (value_token e indirect name form) (drop o unit) ≡ Some (v, mid))
       (t : TokenTwice e f (value_token e indirect name form) (drop o unit) (drop o' output) v mid back) where
     abbrev token : Token
     token = value_token e indirect name form
@@ -111,7 +109,7 @@ module _ (e : Encoding) (f : Patch) (unit output : List ℕ) where
   -- the reads of a value, direct or after the form numbers of DW_FORM_indirect
   pub record Direct (t : Token) (s : List ℕ) (r : RunOf) : Type 0 where
     pub v : Read
-    pub is : token_in big ex t s ≡ some (v, r.1)
+    pub is : token_in big ex t s ≡ Some (v, r.1)
     pub one : r.0 ≡ v ∷ []
 
   pub direct-all : (t : Token) (s : List ℕ) → All (Direct t s) (read_in big ex (field t (λ _. done)) s)
@@ -121,9 +119,9 @@ module _ (e : Encoding) (f : Patch) (unit output : List ℕ) where
   pub record Indirect (name : ℕ) (s : List ℕ) (r : RunOf) : Type 0 where
     pub c : Read
     pub mid : List ℕ
-    pub is : token_in big ex forms s ≡ some (c, mid)
+    pub is : token_in big ex forms s ≡ Some (c, mid)
     pub v : Read
-    pub value : token_in big ex (value_token e true name c.seen) mid ≡ some (v, r.1)
+    pub value : token_in big ex (value_token e true name c.seen) mid ≡ Some (v, r.1)
     pub two : r.0 ≡ c ∷ v ∷ []
 
   pub indirect-all : (name : ℕ) (s : List ℕ) → All (Indirect name s) (read_in big ex (field forms (λ g. field (value_token e true name g) (λ _. done))) s)
@@ -134,13 +132,13 @@ module _ (e : Encoding) (f : Patch) (unit output : List ℕ) where
       (direct-all (value_token e true name c.0.seen) c.1)
       (λ r k d. all-some (Indirect name s) (record { c = c.0; mid = c.1; is = q; v = d.v; value = d.is; two = ap (λ (l : List Read). c.0 ∷ l) d.one })))
 
-  pub shallow-one : (t : Token) (s : List ℕ) (it : Read) (rest : List ℕ) → token_in big as_bytes t s ≡ some (it, rest) → read_in big as_bytes (field t (λ _. done)) s ≡ some (it ∷ [], rest)
+  pub shallow-one : (t : Token) (s : List ℕ) (it : Read) (rest : List ℕ) → token_in big as_bytes t s ≡ Some (it, rest) → read_in big as_bytes (field t (λ _. done)) s ≡ Some (it ∷ [], rest)
   unfolding read_in before bind
   shallow-one t s it rest q = bind-at _ q
 
-  pub shallow-two : (name : ℕ) (s : List ℕ) (c : Read) (mid : List ℕ) (it : Read) (rest : List ℕ) → token_in big as_bytes forms s ≡ some (c, mid)
-      → token_in big as_bytes (value_token e true name c.seen) mid ≡ some (it, rest)
-      → read_in big as_bytes (field forms (λ g. field (value_token e true name g) (λ _. done))) s ≡ some (c ∷ it ∷ [], rest)
+  pub shallow-two : (name : ℕ) (s : List ℕ) (c : Read) (mid : List ℕ) (it : Read) (rest : List ℕ) → token_in big as_bytes forms s ≡ Some (c, mid)
+      → token_in big as_bytes (value_token e true name c.seen) mid ≡ Some (it, rest)
+      → read_in big as_bytes (field forms (λ g. field (value_token e true name g) (λ _. done))) s ≡ Some (c ∷ it ∷ [], rest)
   unfolding read_in before bind
   shallow-two name s c mid it rest q k = bind-at _ q ∙ ap (λ (o : Option RunOf). bind o (before c)) (shallow-one (value_token e true name c.seen) mid it rest k)
 
@@ -148,7 +146,7 @@ module _ (e : Encoding) (f : Patch) (unit output : List ℕ) where
     abbrev Twice : List Read → Type 0
     Twice one = FitAll f one → drop at' output ≡ write_all big (patch_all f one) ++ back → AttributeTwice name declared at at' (length (write_all big one))
 
-    direct-twice : T (not (eqb declared 0x16)) → (v : Read) → token_in big ex (value_token e false name declared) (drop at unit) ≡ some (v, rest) → Twice (v ∷ [])
+    direct-twice : T (not (eqb declared 0x16)) → (v : Read) → token_in big ex (value_token e false name declared) (drop at unit) ≡ Some (v, rest) → Twice (v ∷ [])
     unfolding FitAll write_all patch_all patch_read attribute_at attribute_layout as_attribute attribute_of_reads field_of size
     direct-twice n v q fit h =
         let tok : Token = value_token e false name declared in
@@ -169,8 +167,8 @@ module _ (e : Encoding) (f : Patch) (unit output : List ℕ) where
           same = same-value name declared declared false at at' v rest back q t;
         }
 
-    indirect-twice : T (eqb declared 0x16) → (c : Read) (mid : List ℕ) → token_in big ex forms (drop at unit) ≡ some (c, mid)
-        → (v : Read) → token_in big ex (value_token e true name c.seen) mid ≡ some (v, rest) → Twice (c ∷ v ∷ [])
+    indirect-twice : T (eqb declared 0x16) → (c : Read) (mid : List ℕ) → token_in big ex forms (drop at unit) ≡ Some (c, mid)
+        → (v : Read) → token_in big ex (value_token e true name c.seen) mid ≡ Some (v, rest) → Twice (c ∷ v ∷ [])
     unfolding FitAll write_all patch_all patch_read attribute_at attribute_layout as_attribute attribute_of_reads field_of is_expression size
     indirect-twice n c mid q v k fit h =
         let tok : Token = value_token e true name c.seen in
@@ -183,11 +181,11 @@ module _ (e : Encoding) (f : Patch) (unit output : List ℕ) where
         let i : mid ≡ drop (at + w) unit =
         (all_of (TokenLaw big ex forms (drop at unit)) (token-law big ex (expression-law e) forms (drop at unit)) q).0.1 ∙ drop-drop w at unit in
         let i' : pv ++ back ≡ drop (at' + w) output = sym (drop_at pc (pv ++ back) w lc) ∙ ap (drop w) (sym p) ∙ drop-drop w at' output in
-        let k₁ : token_in big ex tok (drop (at + w) unit) ≡ some (v, rest) = ap (token_in big ex tok) (sym i) ∙ k in
+        let k₁ : token_in big ex tok (drop (at + w) unit) ≡ Some (v, rest) = ap (token_in big ex tok) (sym i) ∙ k in
         let t : TokenTwice e f tok (drop (at + w) unit) (drop (at' + w) output) v rest back =
         token_twice e f (drop (at + w) unit) (drop (at' + w) output) v rest back fit.1.0 (sym i') tok k₁ in
-        let q₀ : token_in big as_bytes forms (drop at unit) ≡ some (c, mid) = sym (same-reader e f forms tt (drop at unit)) ∙ q in
-        let q₁ : token_in big as_bytes forms (drop at' output) ≡ some (patch_read f c, pv ++ back) =
+        let q₀ : token_in big as_bytes forms (drop at unit) ≡ Some (c, mid) = sym (same-reader e f forms tt (drop at unit)) ∙ q in
+        let q₁ : token_in big as_bytes forms (drop at' output) ≡ Some (patch_read f c, pv ++ back) =
         sym (same-reader e f forms tt (drop at' output)) ∙ again e f (drop at unit) (drop at' output) c mid (pv ++ back) fit.0 p forms q in
         let m : w + size big v ≡ length (bytes_of big c.pieces ++ (bytes_of big v.pieces ++ [])) =
         omega (arith, length-append (bytes_of big c.pieces) (bytes_of big v.pieces ++ []), length-append (bytes_of big v.pieces) []) in
@@ -203,12 +201,12 @@ module _ (e : Encoding) (f : Patch) (unit output : List ℕ) where
           is' =
               ap (λ (g : Layout). as_attribute big declared at' (read_in big as_bytes g (drop at' output))) (pick_yes _ _ _ n)
               ∙ ap (as_attribute big declared at') (shallow-two name (drop at' output) (patch_read f c) (pv ++ back) t.it' back q₁ (ap (token_in big as_bytes tok) i' ∙ t.is'))
-              ∙ ap (λ (z : ℕ). Attribute' (record { form = c.seen; field = field_of big (at' + z) t.it' })) lc;
+              ∙ ap (λ (z : ℕ). Some (record { form = c.seen; field = field_of big (at' + z) t.it' })) lc;
           ends' = (let z : at' + w + size big t.it' ≡ at' + length (bytes_of big c.pieces ++ (bytes_of big v.pieces ++ [])) = omega arith in z);
           same = (λ old new g. same-value name declared c.seen true (at + w) (at' + w) v rest back k₁ t old new (let z : at' + w + old ≡ at + w + new = omega arith in z));
         }
 
-    attribute-twice : (one : List Read) → read_in big ex (attribute_layout e name declared) (drop at unit) ≡ some (one, rest) → Twice one
+    attribute-twice : (one : List Read) → read_in big ex (attribute_layout e name declared) (drop at unit) ≡ Some (one, rest) → Twice one
     unfolding attribute_layout
     attribute-twice one q =
         ⊎_elim
@@ -226,9 +224,9 @@ module _ (e : Encoding) (f : Patch) (unit output : List ℕ) where
   pub record Divided (g h : Layout) (s : List ℕ) (r : RunOf) : Type 0 where
     pub one : List Read
     pub mid : List ℕ
-    pub first : read_in big ex g s ≡ some (one, mid)
+    pub first : read_in big ex g s ≡ Some (one, mid)
     pub others : List Read
-    pub next : read_in big ex h mid ≡ some (others, r.1)
+    pub next : read_in big ex h mid ≡ Some (others, r.1)
     pub both : r.0 ≡ one ++ others
 
   divided-all : (g h : Layout) (s : List ℕ) → All (Divided g h s) (bind (read_in big ex g s) (λ r. bind (read_in big ex h r.1) (joined r.0)))
@@ -238,18 +236,18 @@ module _ (e : Encoding) (f : Patch) (unit output : List ℕ) where
       (λ r q _. all-bind (λ _. Unit {0}) (Divided g h s) (read_in big ex h r.1) _ (all-triv _)
       (λ z k _. all-some (Divided g h s) (record { one = r.0; mid = r.1; first = q; others = z.0; next = k; both = refl })))
 
-  pub divided : (g h : Layout) (s : List ℕ) (rs : List Read) (rest : List ℕ) → read_in big ex (then g h) s ≡ some (rs, rest) → Divided g h s (rs, rest)
+  pub divided : (g h : Layout) (s : List ℕ) (rs : List Read) (rest : List ℕ) → read_in big ex (then g h) s ≡ Some (rs, rest) → Divided g h s (rs, rest)
   divided g h s rs rest q = all_of (Divided g h s) (divided-all g h s) (sym (read-then big ex g h s) ∙ q)
 
   pub record ValuesTwice (specs : List AttributeSpec) (at at' : ℕ) : Type 0 where
     pub each : length (values_of e unit specs at) ≡ length specs
     pub same : (old new : ℕ) → at' + old ≡ at + new → SameAttributes f e old new unit output (values_of e unit specs at) (values_of e output specs at')
 
-  pub more : (s : List ℕ) (a : AttributeSpec) (specs : List AttributeSpec) (at : ℕ) (v : Attribute) (n : ℕ) → attribute_at e s at a.name a.form ≡ Attribute' v → v.field.end ≡ n
+  pub more : (s : List ℕ) (a : AttributeSpec) (specs : List AttributeSpec) (at : ℕ) (v : Attribute) (n : ℕ) → attribute_at e s at a.name a.form ≡ Some v → v.field.end ≡ n
       → values_of e s (a ∷ specs) at ≡ attribute a.name a.form v ∷ values_of e s specs n
   unfolding values_of on_attribute
   more s a specs at v n q z =
-      ap (λ (o : AttributeRead). on_attribute a o (λ next. values_of e s specs next)) q
+      ap (λ (o : Option Attribute). on_attribute a o (λ next. values_of e s specs next)) q
       ∙ ap (λ (k : ℕ). attribute a.name a.form v ∷ values_of e s specs k) z
 
   none-twice : (at at' : ℕ) → ValuesTwice [] at at'
@@ -269,7 +267,7 @@ module _ (e : Encoding) (f : Patch) (unit output : List ℕ) where
             (t.same old new z, n.same old new (let y : at' + w + old ≡ at + w + new = omega arith in y))));
       }
 
-  pub values-twice : (specs : List AttributeSpec) (at at' : ℕ) (rs : List Read) (rest back : List ℕ) → read_in big ex (attributes_layout e specs) (drop at unit) ≡ some (rs, rest)
+  pub values-twice : (specs : List AttributeSpec) (at at' : ℕ) (rs : List Read) (rest back : List ℕ) → read_in big ex (attributes_layout e specs) (drop at unit) ≡ Some (rs, rest)
       → FitAll f rs → drop at' output ≡ write_all big (patch_all f rs) ++ back → ValuesTwice specs at at'
   unfolding attributes_layout
   values-twice [] at at' rs rest back q fit h = none-twice at at'

@@ -3,7 +3,8 @@ use mathlib.Core.Path.{◌≡◌, refl, ap, sym, ◌∙◌, subst}
 use Prim.Native.Nat.{ℕ, zero, suc, ◌+◌, ◌<◌}
 use native.Mathlib.Omega.{arith}
 use mathlib.Core.Bool.{Bool, true, false, not}
-use mathlib.Core.Option.{some}
+use Rattle.std.specs.Prelude.{Ok, Option, Some}
+use Rattle.readers.specs.declared.abbreviations.Declaration.{Declaration}
 use mathlib.Core.List.{List, [], ◌∷◌, ◌++◌, append-nil}
 use mathlib.Core.Logic.{⊎_elim}
 use lib.ListN.{length, drop, length-append}
@@ -21,15 +22,12 @@ use Rattle.readers.specs.Forms.{use_of, value_token, attribute_layout, list_form
 use Rattle.readers.specs.Fields.{size, linked_value, field_of}
 use Rattle.readers.specs.Abbreviations.{Placed, declared_in, abbreviations_of}
 use Rattle.readers.specs.Header.{header_of}
-use Rattle.readers.specs.declared.header.HeaderRead.TheVariants.{Unit as Header'}
 use Rattle.readers.specs.declared.header.UnitHeader.{UnitHeader}
 use Rattle.readers.specs.Entries.{attribute_of_reads, as_attribute, attribute_at, attributes_layout, entry_layout, step_at}
 use Rattle.readers.specs.Stream.{Item, entry}
 use Rattle.readers.specs.declared.cursor.Encoding.{Encoding}
 use Rattle.readers.specs.declared.abbreviations.AttributeSpec.{AttributeSpec}
-use Rattle.readers.specs.declared.abbreviations.DeclarationFound.{DeclarationFound}
 use Rattle.readers.specs.declared.attributes.Attribute.{Attribute}
-use Rattle.readers.specs.declared.attributes.AttributeRead.TheVariants.{Read as Attribute'}
 use Rattle.readers.specs.declared.entries.Entry.{Entry}
 use Rattle.readers.specs.declared.entries.Step.TheVariants.{Entry as Entry'}
 use Rattle.readers.specs.EntryAttributes.{Valued, values_of, specs_from, entry_values}
@@ -85,7 +83,7 @@ module _ (e : Encoding) (unit : List ℕ) where
 
   record TokenHeld (t : Token) (s : List ℕ) (v : Read) (rest : List ℕ) : Type 0 where
     pub it : Read
-    pub is : token_in big as_bytes t s ≡ some (it, rest)
+    pub is : token_in big as_bytes t s ≡ Some (it, rest)
     pub wide : size big it ≡ size big v
     pub held : (k : Kind) (role : Role) → t ≡ link k role → RoleAmong role (linked_value it.pieces it.seen) (v ∷ [])
 
@@ -93,13 +91,13 @@ module _ (e : Encoding) (unit : List ℕ) where
   keep r v = v
 
   module _ (s : List ℕ) (v : Read) (rest : List ℕ) where
-    other-held : (t : Token) → T (not (is_expression t)) → ((k : Kind) (role : Role) → t ≡ link k role → ⊥) → token_in big ex t s ≡ some (v, rest) → TokenHeld t s v rest
+    other-held : (t : Token) → T (not (is_expression t)) → ((k : Kind) (role : Role) → t ≡ link k role → ⊥) → token_in big ex t s ≡ Some (v, rest) → TokenHeld t s v rest
     other-held t n o q = record { it = v; is = sym (same-reader e keep t n s) ∙ q; wide = refl; held = (λ k role z. absurd (o k role z)) }
 
     role-of : (k j : Kind) (a b : Role) → link k a ≡ link j b → a ≡ b
     role-of k j a b q = cc
 
-    link-held : (k : Kind) (role : Role) → token_in big ex (link k role) s ≡ some (v, rest) → TokenHeld (link k role) s v rest
+    link-held : (k : Kind) (role : Role) → token_in big ex (link k role) s ≡ Some (v, rest) → TokenHeld (link k role) s v rest
     unfolding is_expression linked_value
     link-held k role q =
         let c : LinkRead e keep role (v, rest) = all_of (LinkRead e keep role) (link-read e keep k role s) q in
@@ -113,12 +111,12 @@ module _ (e : Encoding) (unit : List ℕ) where
           held = (λ j other z. subst (λ (r : Role). RoleAmong r (linked_value v.pieces v.seen) (v ∷ [])) (role-of k j role other z) h);
         }
 
-    expression-held : token_in big ex expression s ≡ some (v, rest) → TokenHeld expression s v rest
+    expression-held : token_in big ex expression s ≡ Some (v, rest) → TokenHeld expression s v rest
     expression-held q =
         let c : ExpressionRead e keep s (v, rest) = all_of (ExpressionRead e keep s) (expression-read e keep s) q in
         record { it = c.it; is = c.is; wide = c.wide; held = (λ k role z. let y : ◌≡◌ {A = ℕ} 0 1 = cc in absurd (omega arith)) }
 
-    token-held : (t : Token) → token_in big ex t s ≡ some (v, rest) → TokenHeld t s v rest
+    token-held : (t : Token) → token_in big ex t s ≡ Some (v, rest) → TokenHeld t s v rest
     unfolding is_expression
     token-held nothing q = other-held nothing tt (λ k role z. let y : ◌≡◌ {A = ℕ} 0 1 = cc in absurd (omega arith)) q
     token-held (number w) q = other-held (number w) tt (λ k role z. let y : ◌≡◌ {A = ℕ} 0 1 = cc in absurd (omega arith)) q
@@ -136,7 +134,7 @@ module _ (e : Encoding) (unit : List ℕ) where
 
   record AttributeHeld (name declared at width : ℕ) (one : List Read) : Type 0 where
     pub a : Attribute
-    pub is : attribute_at e unit at name declared ≡ Attribute' a
+    pub is : attribute_at e unit at name declared ≡ Some a
     pub ends : a.field.end ≡ at + width
     pub held : HeldBy one (record { name = name; declared = declared; value = a })
 
@@ -144,7 +142,7 @@ module _ (e : Encoding) (unit : List ℕ) where
     abbrev One : List Read → Type 0
     One one = AttributeHeld name declared at (length (write_all big one)) one
 
-    direct-held : T (not (eqb declared 0x16)) → (v : Read) → token_in big ex (value_token e false name declared) (drop at unit) ≡ some (v, rest) → One (v ∷ [])
+    direct-held : T (not (eqb declared 0x16)) → (v : Read) → token_in big ex (value_token e false name declared) (drop at unit) ≡ Some (v, rest) → One (v ∷ [])
     unfolding write_all attribute_at attribute_layout as_attribute attribute_of_reads field_of size
     direct-held n v q =
         let tok : Token = value_token e false name declared in
@@ -159,14 +157,14 @@ module _ (e : Encoding) (unit : List ℕ) where
           held = (λ role l. t.held l.kind role (token-known e false name declared e.big_endian (expression_in e) (drop at unit) (v, rest) q ∙ l.token));
         }
 
-    indirect-held : T (eqb declared 0x16) → (c : Read) (mid : List ℕ) → token_in big ex forms (drop at unit) ≡ some (c, mid)
-        → (v : Read) → token_in big ex (value_token e true name c.seen) mid ≡ some (v, rest) → One (c ∷ v ∷ [])
+    indirect-held : T (eqb declared 0x16) → (c : Read) (mid : List ℕ) → token_in big ex forms (drop at unit) ≡ Some (c, mid)
+        → (v : Read) → token_in big ex (value_token e true name c.seen) mid ≡ Some (v, rest) → One (c ∷ v ∷ [])
     unfolding write_all attribute_at attribute_layout as_attribute attribute_of_reads field_of is_expression size
     indirect-held n c mid q v k =
         let tok : Token = value_token e true name c.seen in
         let w : ℕ = size big c in
         let t : TokenHeld tok mid v rest = token-held mid v rest tok k in
-        let q₀ : token_in big as_bytes forms (drop at unit) ≡ some (c, mid) = sym (same-reader e keep forms tt (drop at unit)) ∙ q in
+        let q₀ : token_in big as_bytes forms (drop at unit) ≡ Some (c, mid) = sym (same-reader e keep forms tt (drop at unit)) ∙ q in
         let m : w + size big v ≡ length (bytes_of big c.pieces ++ (bytes_of big v.pieces ++ [])) =
         omega (arith, length-append (bytes_of big c.pieces) (bytes_of big v.pieces ++ []), length-append (bytes_of big v.pieces) []) in
         let w₁ : size big t.it ≡ size big v = t.wide in
@@ -180,7 +178,7 @@ module _ (e : Encoding) (unit : List ℕ) where
               (t.held l.kind role (token-known e true name c.seen e.big_endian (expression_in e) mid (v, rest) k ∙ l.token)));
         }
 
-    attribute-held : (one : List Read) → read_in big ex (attribute_layout e name declared) (drop at unit) ≡ some (one, rest) → One one
+    attribute-held : (one : List Read) → read_in big ex (attribute_layout e name declared) (drop at unit) ≡ Some (one, rest) → One one
     unfolding attribute_layout
     attribute-held one q =
         ⊎_elim
@@ -205,7 +203,7 @@ module _ (e : Encoding) (unit : List ℕ) where
   joined-held one others v values h t a (there m) =
       λ role l. held_in role _ others (one ++ others) (λ r n. in_right r one others n) (t a m role l)
 
-  values-held : (specs : List AttributeSpec) (at : ℕ) (rs : List Read) (rest : List ℕ) → read_in big ex (attributes_layout e specs) (drop at unit) ≡ some (rs, rest)
+  values-held : (specs : List AttributeSpec) (at : ℕ) (rs : List Read) (rest : List ℕ) → read_in big ex (attributes_layout e specs) (drop at unit) ≡ Some (rs, rest)
       → AllHeld rs (values_of e unit specs at)
   unfolding attributes_layout
   values-held [] at rs rest q = none-held rs at
@@ -222,8 +220,8 @@ module _ (e : Encoding) (unit : List ℕ) where
       (subst (AllHeld (d.one ++ d.others)) (sym (more e keep unit unit unit a specs at t.a (at + w) t.is t.ends))
       (joined-held d.one d.others (record { name = a.name; declared = a.form; value = t.a }) (values_of e unit specs (at + w)) t.held n))
 
-  entry-held : (x : Sections) (look : ℕ → DeclarationFound) (y : Entry) (rs : List Read) (rest : List ℕ) → step_at e x.abbreviations look unit y.offset.0 ≡ Entry' y
-      → read_in big ex (entry_layout e x.abbreviations look) (drop y.offset.0 unit) ≡ some (rs, rest) → AllHeld rs (values_of_entry e x unit y)
+  entry-held : (x : Sections) (look : ℕ → Option Declaration) (y : Entry) (rs : List Read) (rest : List ℕ) → step_at e x.abbreviations look unit y.offset.0 ≡ Some (Entry' y)
+      → read_in big ex (entry_layout e x.abbreviations look) (drop y.offset.0 unit) ≡ Some (rs, rest) → AllHeld rs (values_of_entry e x unit y)
   unfolding values_of_entry entry_values
   entry-held x look y rs rest q d =
       let g : Headed e x look unit y.offset.0 y rs rest = headed e x look unit y.offset.0 y rs rest d q in
@@ -375,8 +373,8 @@ module _ (x : Sections) (room : Room) (type_units : Bool) (section : List ℕ) (
       }
 
   -- THE NUMBERS OF ATTRIBUTES, BY FORM: of the m-th kept item, an entry
-  pub form-law : (h : UnitHeader) (ds : List Placed) (rows : List EntryRow) → header_of x.setting.big_endian section ≡ Header' h
-      → abbreviations_of x.abbreviations h.abbreviations ≡ some ds → analysis_of x section room.tables ≡ analysed rows
+  pub form-law : (h : UnitHeader) (ds : List Placed) (rows : List EntryRow) → header_of x.setting.big_endian section ≡ Ok (Some h)
+      → abbreviations_of x.abbreviations h.abbreviations ≡ Some ds → analysis_of x section room.tables ≡ analysed rows
       → (m : ℕ) (s : NestedItem) (y : Entry) → Nth s m (survivors_in x (unit_of h section ds) rows) → s.item ≡ entry y
       → EntryByForm x (unit_of h section ds) (thinned_of h w.output ds) w.lists w.map (survivors_in x (unit_of h section ds) rows) m s y
   form-law =

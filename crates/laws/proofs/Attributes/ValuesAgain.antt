@@ -4,7 +4,7 @@ use mathlib.Core.Path.{◌≡◌, refl, ap, ap₂, sym, ◌∙◌, subst}
 use Prim.Native.Nat.{ℕ, suc, ◌+◌, ◌-◌, ◌≤◌}
 use native.Mathlib.Omega.{arith}
 use mathlib.Core.Bool.{Bool, false, not}
-use mathlib.Core.Option.{some}
+use Rattle.std.specs.Prelude.{Some}
 use mathlib.Core.List.{List, [], ◌∷◌, ◌++◌, append-nil}
 use mathlib.Core.Logic.{⊎_elim}
 use lib.ListN.{length, take, drop, length-append, length-drop, take-append-drop, drop_of_length-le}
@@ -190,14 +190,14 @@ module _ (e : Encoding) (f : Patch) where
   -- an expression: read as bytes too, its payload is what was read
   pub record ExpressionRead (s : List ℕ) (r : ReadOf) : Type 0 where
     pub it : Read
-    pub is : token_in big as_bytes expression s ≡ some (it, r.1)
+    pub is : token_in big as_bytes expression s ≡ Some (it, r.1)
     pub length-bytes : List ℕ
     pub length-width : length length-bytes ≡ it.start
     pub pieces : List Piece
     pub shape : r.0 ≡ record { seen = 0; start = it.start; pieces = verbatim length-bytes ∷ pieces }
     pub value : linked_value it.pieces it.seen ≡ 0
     pub wide : size big it ≡ size big r.0
-    pub inner : ex (part_of big s it) ≡ some pieces
+    pub inner : ex (part_of big s it) ≡ Some pieces
 
   pub expression-read : (s : List ℕ) → All (ExpressionRead s) (token_in big ex expression s)
   unfolding token_in as_expression as_bytes bytes_of piece_bytes size linked_value bind
@@ -230,10 +230,10 @@ module _ (e : Encoding) (f : Patch) where
   -- what t read of s as v, and what it reads of the patched bytes of v: both as bytes
   pub record TokenTwice (t : Token) (s s' : List ℕ) (v : Read) (rest back : List ℕ) : Type 0 where
     pub it : Read
-    pub is : token_in big as_bytes t s ≡ some (it, rest)
+    pub is : token_in big as_bytes t s ≡ Some (it, rest)
     pub wide : size big it ≡ size big v
     pub it' : Read
-    pub is' : token_in big as_bytes t s' ≡ some (it', back)
+    pub is' : token_in big as_bytes t s' ≡ Some (it', back)
     pub wide' : size big it' ≡ size big v
     pub start : it'.start ≡ it.start
     pub number : linked_value it'.pieces it'.seen ≡ token_number f t (linked_value it.pieces it.seen)
@@ -242,14 +242,14 @@ module _ (e : Encoding) (f : Patch) where
 
   module _ (s s' : List ℕ) (v : Read) (rest back : List ℕ) (fit : FitPieces f v.pieces) (after : s' ≡ bytes_of big (patch_pieces f v.pieces) ++ back) where
     -- patched it is read again
-    pub again : (t : Token) → token_in big ex t s ≡ some (v, rest) → token_in big ex t s' ≡ some (patch_read f v, back)
+    pub again : (t : Token) → token_in big ex t s ≡ Some (v, rest) → token_in big ex t s' ≡ Some (patch_read f v, back)
     again t q = ap (token_in big ex t) after ∙ (all_of (TokenLaw big ex t s) (token-law big ex (expression-law e) t s) q).1 f back fit
 
     pub patched-size : size big (patch_read f v) ≡ size big v
     unfolding size patch_read
     patched-size = same_size big f v.pieces
 
-    verbatim-twice : (t : Token) → T (token_ok no_role t) → T (not (is_expression t)) → (t ≡ expression → ⊥) → token_in big ex t s ≡ some (v, rest) → TokenTwice t s s' v rest back
+    verbatim-twice : (t : Token) → T (token_ok no_role t) → T (not (is_expression t)) → (t ≡ expression → ⊥) → token_in big ex t s ≡ Some (v, rest) → TokenTwice t s s' v rest back
     unfolding patch_read size
     verbatim-twice t o x n q =
         let c : CopiedRead s (v, rest) = all_of (CopiedRead s) (verbatim-read t o x s) q in
@@ -260,7 +260,7 @@ module _ (e : Encoding) (f : Patch) where
           is = sym (same-reader t x s) ∙ q;
           wide = refl;
           it' = v;
-          is' = sym (same-reader t x s') ∙ again t q ∙ ap (λ (ps : List Piece). some (record { seen = v.seen; start = v.start; pieces = ps }, back)) c.same;
+          is' = sym (same-reader t x s') ∙ again t q ∙ ap (λ (ps : List Piece). Some (record { seen = v.seen; start = v.start; pieces = ps }, back)) c.same;
           wide' = refl;
           start = refl;
           number = sym (no-link f t o (linked_value v.pieces v.seen));
@@ -269,7 +269,7 @@ module _ (e : Encoding) (f : Patch) where
           operations = (λ z. absurd (n z));
         }
 
-    link-twice : (k : Kind) (role : Role) → token_in big ex (link k role) s ≡ some (v, rest) → TokenTwice (link k role) s s' v rest back
+    link-twice : (k : Kind) (role : Role) → token_in big ex (link k role) s ≡ Some (v, rest) → TokenTwice (link k role) s s' v rest back
     unfolding patch_read patch_pieces patch_piece linked_value token_number token_ok is_expression
     link-twice k role q =
         let c : LinkRead role (v, rest) = all_of (LinkRead role) (link-read k role s) q in
@@ -288,7 +288,7 @@ module _ (e : Encoding) (f : Patch) where
           operations = (λ z. let y : ◌≡◌ {A = ℕ} 0 1 = cc in absurd (omega arith));
         }
 
-    expression-twice : token_in big ex expression s ≡ some (v, rest) → TokenTwice expression s s' v rest back
+    expression-twice : token_in big ex expression s ≡ Some (v, rest) → TokenTwice expression s s' v rest back
     unfolding patch_read patch_pieces patch_piece token_number is_expression tail_of bytes_of piece_bytes size
     expression-twice q =
         let c : ExpressionRead s (v, rest) = all_of (ExpressionRead s) (expression-read s) q in
@@ -317,13 +317,13 @@ module _ (e : Encoding) (f : Patch) where
           operations = (λ _. record {
             pieces = c.pieces;
             were = c.inner;
-            are = d.inner ∙ ap (λ (l : List Piece). some l) ps;
+            are = d.inner ∙ ap (λ (l : List Piece). Some l) ps;
             old_bytes = (λ h. sym (all_of (Exactly big in_expression (part_of big s c.it)) (expression-exactly e (part_of big s c.it) h) c.inner).0);
             new_bytes = part;
           });
         }
 
-    pub token_twice : (t : Token) → token_in big ex t s ≡ some (v, rest) → TokenTwice t s s' v rest back
+    pub token_twice : (t : Token) → token_in big ex t s ≡ Some (v, rest) → TokenTwice t s s' v rest back
     unfolding token_ok is_expression
     token_twice nothing q = verbatim-twice nothing tt tt (λ z. let y : ◌≡◌ {A = ℕ} 0 1 = cc in absurd (omega arith)) q
     token_twice (number k) q = verbatim-twice (number k) tt tt (λ z. let y : ◌≡◌ {A = ℕ} 0 1 = cc in absurd (omega arith)) q

@@ -16,8 +16,7 @@ use Rattle.readers.specs.Steps.{operation_at}
 use Rattle.readers.proofs.Steps.{operation-stepped}
 use Rattle.readers.specs.declared.cursor.Encoding.{Encoding}
 use Rattle.readers.specs.declared.operations.Operation.{Operation}
-use Rattle.readers.specs.declared.operations.OperationRead.{OperationRead}
-use Rattle.readers.specs.declared.operations.OperationRead.TheVariants.{Read as Operation', Unreadable as NoOperation}
+use Rattle.std.specs.Prelude.{None, Option, Some}
 use Rattle.marking.specs.declared.addresses.AddressLookup.{AddressLookup}
 use Rattle.marking.specs.declared.addresses.AddressLookup.TheVariants.{Live as Alive, Dead as NotAlive, Fails}
 use Rattle.marking.specs.declared.root_test.Verdict.{Verdict}
@@ -49,7 +48,7 @@ module _ (e : Encoding) (table s : List ℕ) where
   at-end fixed at n true h = sym (location-live e fixed table s at true h n refl)
   at-end fixed at n false h = sym (location-dead e fixed table s at false h n refl)
 
-  fixed-here : (at : ℕ) → Outermost e s at → (op : Operation) → operation_at e s at ≡ Operation' op → IsFixed e op → FixedAddress e s
+  fixed-here : (at : ℕ) → Outermost e s at → (op : Operation) → operation_at e s at ≡ Some op → IsFixed e op → FixedAddress e s
   fixed-here at o op q f =
       record {
         at = at;
@@ -73,10 +72,10 @@ module _ (e : Encoding) (table s : List ℕ) where
   ended at n a b (inr q) f g = inr (at-end true at n b g ∙ ap (λ (c : Bool). pick c Live Dead) q.0, q.1)
 
   module _ (at : ℕ) (i : at < length s) (o : Outermost e s at) (a b : Bool) (flags : Flags a b) (f : From false at a) (g : From true at b) where
-    unread : operation_at e s at ≡ NoOperation → Both
+    unread : operation_at e s at ≡ None → Both
     unread q = inl (sym (location-none e true table s at b g i _ refl q) ∙ location-none e false table s at a f i _ refl q)
 
-    module _ (op : Operation) (q : operation_at e s at ≡ Operation' op)
+    module _ (op : Operation) (q : operation_at e s at ≡ Some op)
         (next : (a b : Bool) → Flags a b → From false op.next.at a → From true op.next.at b → Both) where
       by-same : (l : AddressLookup) → l ≡ operation_live e true table op → l ≡ operation_live e false table op → Both
       by-same Alive u v =
@@ -95,12 +94,12 @@ module _ (e : Encoding) (table s : List ℕ) where
           next a true (inr (refl, fixed-here at o op q w)) (operation-passed e false table s at a f i _ refl op q NotAlive (sym u) refl)
           (operation-met e true table s at b g i _ refl op q Alive (sym v) refl)
 
-    by_read : (r : OperationRead) → operation_at e s at ≡ r
-        → ((op : Operation) → operation_at e s at ≡ Operation' op → (c d : Bool) → Flags c d → From false op.next.at c
+    by_read : (r : Option Operation) → operation_at e s at ≡ r
+        → ((op : Operation) → operation_at e s at ≡ Some op → (c d : Bool) → Flags c d → From false op.next.at c
         → From true op.next.at d → Both)
         → Both
-    by_read NoOperation q next = unread q
-    by_read (Operation' op) q next = by_said op q (next op q) (operation-said e table op)
+    by_read None q next = unread q
+    by_read (Some op) q next = by_said op q (next op q) (operation-said e table op)
 
   both-from : (k at : ℕ) → length s - at < k → Outermost e s at → (a b : Bool) → Flags a b → From false at a → From true at b → Both
   both-from zero at l o a b flags f g = absurd (omega arith)
@@ -132,7 +131,7 @@ module _ (e : Encoding) (table s : List ℕ) where
     pub holds : P live
     pub from : From true at live
 
-  past-operation : (P : Bool → Type 0) → P true → (at : ℕ) (op : Operation) → operation_at e s at ≡ Operation' op → Comes P at → (l : AddressLookup)
+  past-operation : (P : Bool → Type 0) → P true → (at : ℕ) (op : Operation) → operation_at e s at ≡ Some op → Comes P at → (l : AddressLookup)
       → l ≡ operation_live e true table op → RefusedOr (Comes P op.next.at)
   past-operation P t at op q h Alive u =
       let i : at < length s = (operation-stepped e s at op q).here in
@@ -156,10 +155,10 @@ module _ (e : Encoding) (table s : List ℕ) where
   abbrev Met : Bool → Type 0
   Met live = live ≡ true
 
-  live-read : (at : ℕ) → at < length s → Comes Met at → (r : OperationRead) → operation_at e s at ≡ r
-      → ((op : Operation) → operation_at e s at ≡ Operation' op → Comes Met op.next.at → RefusedOr (test true ≡ Live)) → RefusedOr (test true ≡ Live)
-  live-read at i h NoOperation q on = refuses 5 (sym (location-none e true table s at h.live h.from i _ refl q))
-  live-read at i h (Operation' op) q on = then (past-operation Met refl at op q h (operation_live e true table op) refl) (on op q)
+  live-read : (at : ℕ) → at < length s → Comes Met at → (r : Option Operation) → operation_at e s at ≡ r
+      → ((op : Operation) → operation_at e s at ≡ Some op → Comes Met op.next.at → RefusedOr (test true ≡ Live)) → RefusedOr (test true ≡ Live)
+  live-read at i h None q on = refuses 5 (sym (location-none e true table s at h.live h.from i _ refl q))
+  live-read at i h (Some op) q on = then (past-operation Met refl at op q h (operation_live e true table op) refl) (on op q)
 
   live-from : (k at : ℕ) → length s - at < k → Comes Met at → RefusedOr (test true ≡ Live)
   live-from zero at l h = absurd (omega arith)

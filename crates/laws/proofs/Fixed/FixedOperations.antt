@@ -14,7 +14,7 @@ use Rattle.readers.specs.Operations.{Codes, row_unreadable, row_address, row_add
 use Rattle.readers.specs.declared.cursor.Encoding.{Encoding}
 use Rattle.readers.specs.declared.cursor.Cursor.{Cursor}
 use Rattle.readers.specs.declared.operations.Operation.{Operation}
-use Rattle.readers.specs.declared.operations.OperationRead.TheVariants.{Read as Operation'}
+use Rattle.std.specs.Prelude.{Some}
 use Rattle.marking.specs.Addresses.{is_tombstone, lookup_at}
 use Rattle.marking.specs.Members.{Member, here, there}
 use Rattle.marking.specs.Walking.{go, stop}
@@ -117,7 +117,7 @@ module _ (e : Encoding) (table : List ℕ) where
 
   -- so the step past an operation of a location is the one that was there without the choice
   pub off-step : (live : Bool) (op : Operation)
-      → operation_step e false table live (Operation' op)
+      → operation_step e false table live (Some op)
       ≡ pick (eqb op.row row_address_index)
       (on_lookup (lookup_at table op.first.value) stop (go (record { at = op.next.at; flag = true }))
       (go (record { at = op.next.at; flag = live })))
@@ -148,7 +148,7 @@ module _ (e : Encoding) (table : List ℕ) where
   -- "as a live addrx does": wherever it stands, what follows is what follows a live index that ends at the same place
   pub as-live-index : (op index : Operation) → op.row ≡ row_address → NoTombstone e op → index.row ≡ row_address_index
       → lookup_at table index.first.value ≡ Live → op.next ≡ index.next → (live : Bool)
-      → operation_step e true table live (Operation' op) ≡ operation_step e true table live (Operation' index)
+      → operation_step e true table live (Some op) ≡ operation_step e true table live (Some index)
   unfolding operation_step on_lookup
   as-live-index op index a f r l n live =
       let t : operation_live e true table index ≡ Live = sym (index_live e true table index r Live (sym l)) in

@@ -4,7 +4,8 @@ use Prim.Native.Nat.{ℕ}
 use mathlib.Core.Bool.{Bool}
 use mathlib.Core.List.{List, [], ◌∷◌}
 use Rattle.readers.specs.Choice.{◌and◌, ◌or◌}
-use Rattle.readers.specs.declared.header.HeaderRead.{HeaderRead}
+use Rattle.std.specs.Prelude.{Option, Result}
+use Rattle.readers.specs.declared.header.UnitHeader.{UnitHeader}
 use Rattle.marking.specs.KeepList.{keep_refusal}
 use Rattle.marking.specs.Analysis.{Sections, Rooms, refused as not_analysed, header_analysed, analysis_of}
 use Rattle.marking.proofs.ListedHeaders.{by-list}
@@ -23,7 +24,7 @@ module _ (x : Sections) (n : ℕ) (q : keep_refusal x.keep ≡ n) (some : n ≡ 
   pub list-first-analysis : (section : List ℕ) (room : Rooms) → analysis_of x section room ≡ not_analysed n
   unfolding analysis_of header_analysed
   list-first-analysis section room =
-      by-list x section (λ (o : HeaderRead). header_analysed x section room o ≡ not_analysed n) (λ z. absurd (some (sym q ∙ z))) (λ _. ap not_analysed q)
+      by-list x section (λ (o : Result (Option UnitHeader) ℕ). header_analysed x section room o ≡ not_analysed n) (λ z. absurd (some (sym q ∙ z))) (λ _. ap not_analysed q)
 
 module _ (x : Sections) (room : Room) (type_units : Bool) (section : List ℕ) where
   at-list-alone : (n : ℕ) → ListRefusal n → StageOf x room type_units section n → keep_refusal x.keep ≡ n

@@ -6,7 +6,8 @@ use mathlib.Core.Bool.{Bool, true, false}
 use mathlib.Core.List.{List, [], ◌∷◌}
 use Rattle.readers.specs.Choice.{pick, ◌and◌, ◌or◌}
 use Rattle.readers.specs.Header.{header_of}
-use Rattle.readers.specs.declared.header.HeaderRead.{HeaderRead}
+use Rattle.std.specs.Prelude.{Option, Result}
+use Rattle.readers.specs.declared.header.UnitHeader.{UnitHeader}
 use Rattle.marking.specs.declared.root_test.Verdict.{Verdict}
 use Rattle.marking.specs.declared.root_test.Verdict.TheVariants.{Live, Dead, Refused}
 use Rattle.marking.specs.Roots.{or_else}
@@ -114,7 +115,7 @@ same-but-roots a b f =
     }
 
 module _ (x : Sections) (one other : KeepList) (taken : keep_refusal one ≡ 0) (too : keep_refusal other ≡ 0) (section : List ℕ) where
-  abbrev header : HeaderRead
+  abbrev header : Result (Option UnitHeader) ℕ
   header = header_of x.setting.big_endian section
 
   by-header : (room : Rooms) → Beside (header_analysed (with_keep x one) section room header) (header_analysed (with_keep x other) section room header)
@@ -129,10 +130,10 @@ module _ (x : Sections) (one other : KeepList) (taken : keep_refusal one ≡ 0) 
   unfolding analysis_of
   same-refusals-law room =
       same-but-roots _ _
-      (subst (λ (h : HeaderRead).
+      (subst (λ (h : Result (Option UnitHeader) ℕ).
       Beside (header_analysed (with_keep x one) section room h) (header_analysed (with_keep x other) section room (header_by (with_keep x other) section)))
       (sym (header-taken (with_keep x one) section taken))
-      (subst (λ (h : HeaderRead). Beside (header_analysed (with_keep x one) section room header) (header_analysed (with_keep x other) section room h))
+      (subst (λ (h : Result (Option UnitHeader) ℕ). Beside (header_analysed (with_keep x one) section room header) (header_analysed (with_keep x other) section room h))
       (sym (header-taken (with_keep x other) section too)) (by-header room)))
 
 -- ---- collect

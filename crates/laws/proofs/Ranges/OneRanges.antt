@@ -8,15 +8,14 @@ use lib.ListN.{take}
 use Rattle.readers.specs.Header.{header_of}
 use Rattle.readers.specs.declared.cursor.Encoding.{Encoding}
 use Rattle.readers.specs.declared.header.UnitHeader.{UnitHeader}
-use Rattle.readers.specs.declared.header.HeaderRead.{HeaderRead}
-use Rattle.readers.specs.declared.header.HeaderRead.TheVariants.{Unit as Unit', Empty, Refused}
+use Rattle.std.specs.Prelude.{Err, None, Ok, Option, Result, Some}
 use Rattle.marking.specs.Analysis.{Sections, sections, ranges_for, Rooms, Analysed, header_analysed, unit_analysed, analysis_of, header_by}
 use Rattle.marking.proofs.RangeSections.{debug-ranges-for, rnglists-for, unit-same}
 use Rattle.laws.specs.RangeSections.{with_ranges, with_debug_ranges, SameAnswers, OneRanges}
 use Rattle.laws.proofs.Tables.SameRewriting.{same-collected}
 use Rattle.marking.proofs.ListedHeaders.{by-list}
 
-module _ (x : Sections) (section : List ℕ) (h : UnitHeader) (header : header_of x.setting.big_endian section ≡ Unit' h) where
+module _ (x : Sections) (section : List ℕ) (h : UnitHeader) (header : header_of x.setting.big_endian section ≡ Ok (Some h)) where
   abbrev e : Encoding
   e = h.encoding
 
@@ -27,7 +26,7 @@ module _ (x : Sections) (section : List ℕ) (h : UnitHeader) (header : header_o
       room h.abbreviations h.first.0
 
   -- it is that with the chosen one
-  chosen : (y : Sections) (room : Rooms) → header_of y.setting.big_endian section ≡ Unit' h
+  chosen : (y : Sections) (room : Rooms) → header_of y.setting.big_endian section ≡ Ok (Some h)
       → header_analysed y section room (header_of y.setting.big_endian section) ≡ within y (ranges_for e y.ranges y.debug_ranges) room
   unfolding header_analysed within
   chosen y room q =
@@ -42,7 +41,7 @@ module _ (x : Sections) (section : List ℕ) (h : UnitHeader) (header : header_o
     same_rows : (room : Rooms) → analysis_of other section room ≡ analysis_of x section room
     unfolding analysis_of header_by header_analysed within
     same_rows room =
-        by-list x section (λ (o : HeaderRead). header_analysed other section room o ≡ header_analysed x section room o)
+        by-list x section (λ (o : Result (Option UnitHeader) ℕ). header_analysed other section room o ≡ header_analysed x section room o)
         (λ _. chosen other room header ∙ ap (λ (lists : List ℕ). within x lists room) same ∙ sym (chosen x room header)) (λ _. refl)
 
     same-answers : SameAnswers other x section
@@ -54,7 +53,7 @@ module _ (x : Sections) (section : List ℕ) (h : UnitHeader) (header : header_o
               same-collected other x.locations x.ranges x.addresses x.debug_ranges x.keep room type_units section (same_rows room.tables) refl);
         }
 
-  of-unit : OneRanges x section (Unit' h)
+  of-unit : OneRanges x section (Ok (Some h))
   unfolding OneRanges
   of-unit = (
     (λ v ranges.
@@ -67,14 +66,14 @@ module _ (x : Sections) (section : List ℕ) (h : UnitHeader) (header : header_o
 
 module _ (x : Sections) (section : List ℕ) where
   -- where no header is read, no section is
-  without : (r : HeaderRead) → header_of x.setting.big_endian section ≡ r
+  without : (r : Result (Option UnitHeader) ℕ) → header_of x.setting.big_endian section ≡ r
       → ((y z : Sections) (room : Rooms) → header_analysed y section room r ≡ header_analysed z section room r)
       → (a b : List ℕ) → SameAnswers (with_debug_ranges (with_ranges x a) b) x section
   unfolding analysis_of header_by header_analysed
   without r q same a b =
       let rows : (room : Rooms) → analysis_of (with_debug_ranges (with_ranges x a) b) section room ≡ analysis_of x section room =
       (λ room. by-list x section
-      (λ (o : HeaderRead). header_analysed (with_debug_ranges (with_ranges x a) b) section room o ≡ header_analysed x section room o)
+      (λ (o : Result (Option UnitHeader) ℕ). header_analysed (with_debug_ranges (with_ranges x a) b) section room o ≡ header_analysed x section room o)
       (λ _. ap (header_analysed (with_debug_ranges (with_ranges x a) b) section room) q ∙ same _ x room ∙ sym (ap (header_analysed x section room) q))
       (λ _. refl)) in
       record {
@@ -83,11 +82,11 @@ module _ (x : Sections) (section : List ℕ) where
             same-collected (with_debug_ranges (with_ranges x a) b) x.locations x.ranges x.addresses x.debug_ranges x.keep room type_units section (rows room.tables) refl);
       }
 
-  by-header : (r : HeaderRead) → header_of x.setting.big_endian section ≡ r → OneRanges x section r
+  by-header : (r : Result (Option UnitHeader) ℕ) → header_of x.setting.big_endian section ≡ r → OneRanges x section r
   unfolding OneRanges header_analysed
-  by-header (Unit' h) q = of-unit x section h q
-  by-header Empty q = without Empty q (λ y z room. refl)
-  by-header (Refused n) q = without (Refused n) q (λ y z room. refl)
+  by-header (Ok (Some h)) q = of-unit x section h q
+  by-header (Ok None) q = without (Ok None) q (λ y z room. refl)
+  by-header (Err n) q = without (Err n) q (λ y z room. refl)
 
   -- THE LAW of the two sections
   pub one-ranges-law : OneRanges x section (header_of x.setting.big_endian section)

@@ -4,7 +4,9 @@ use Prim.Native.Nat.{ℕ, suc, ◌+◌, ◌-◌, ◌≤◌}
 use native.Mathlib.Omega.{arith}
 use mathlib.Core.Bool.{Bool, true, false, not}
 use mathlib.Core.List.{List, [], ◌∷◌, ◌++◌, append-nil}
-use mathlib.Core.Option.{some}
+use Rattle.std.specs.Prelude.{Option, Some}
+use Rattle.readers.specs.declared.abbreviations.Declaration.{Declaration}
+use Rattle.readers.specs.declared.entries.Step.{Step}
 use mathlib.Core.Logic.{⊎_elim}
 use lib.ListN.{length, take, drop, length-append}
 use lib.Seq.{length-take-le, drop-drop}
@@ -22,9 +24,7 @@ use Rattle.readers.specs.Fields.{size, linked_value, field_of}
 use Rattle.readers.specs.Entries.{entry_layout, step_at}
 use Rattle.readers.specs.declared.cursor.Encoding.{Encoding}
 use Rattle.readers.specs.declared.fields.Field.{Field}
-use Rattle.readers.specs.declared.abbreviations.DeclarationFound.{DeclarationFound}
 use Rattle.readers.specs.declared.attributes.Attribute.{Attribute}
-use Rattle.readers.specs.declared.entries.Step.{Step}
 use Rattle.readers.specs.EntryAttributes.{Valued}
 use Rattle.marking.specs.EntryReferences.{part_of}
 use Rattle.rewriting.proofs.WritePass.Expressions.{is_expression, value-exprloc}
@@ -82,7 +82,7 @@ module _ (e : Encoding) (unit : List ℕ) where
   -- a token that was read deep at a place: read as bytes too, and its references by its field
   record NamedToken (t : Token) (at : ℕ) (r : ReadOf) : Type 0 where
     pub it : Read
-    pub is : token_in big as_bytes t (drop at unit) ≡ some (it, r.1)
+    pub is : token_in big as_bytes t (drop at unit) ≡ Some (it, r.1)
     pub names : pieces_names r.0.pieces ≡ token_names t (field_of big at it)
 
   -- an expression's payload
@@ -275,7 +275,7 @@ module _ (e : Encoding) (unit : List ℕ) where
 
   -- ---- an entry or a terminator
 
-  no_code : (at : ℕ) (r : ReadOf) → token_in big deep (number leb128) (drop at unit) ≡ some r → pieces_names r.0.pieces ≡ []
+  no_code : (at : ℕ) (r : ReadOf) → token_in big deep (number leb128) (drop at unit) ≡ Some r → pieces_names r.0.pieces ≡ []
   unfolding token_names
   no_code at r q = (all_of (NamedToken (number leb128) at) (token-named (number leb128) at) q).names
 
@@ -295,12 +295,12 @@ module _ (e : Encoding) (unit : List ℕ) where
   unfolding values_names
   no-values = refl
 
-  module _ (abbreviations : List ℕ) (look : ℕ → DeclarationFound) where
-    abbrev pub StepNames : Step → List ℕ → Type 0
+  module _ (abbreviations : List ℕ) (look : ℕ → Option Declaration) where
+    abbrev pub StepNames : Option Step → List ℕ → Type 0
     StepNames s ns = StepBy values_names e unit abbreviations s ns
 
     -- THE references of what is read deep at a place, by the step there
-    pub deep-names : (at : ℕ) (all : RunOf) → read_in big deep (entry_layout e abbreviations look) (drop at unit) ≡ some all
+    pub deep-names : (at : ℕ) (all : RunOf) → read_in big deep (entry_layout e abbreviations look) (drop at unit) ≡ Some all
         → StepNames (step_at e abbreviations look unit at) (reads_names all.0)
     deep-names at all q =
         deep-by pieces_names reads_names values_names value_names no_reads more-reads no-values more-values e unit token-read copied_none no_code abbreviations look at all q

@@ -5,7 +5,9 @@ use Prim.Native.Nat.{ℕ, zero, suc, ◌≤◌}
 use native.Mathlib.Omega.{arith}
 use mathlib.Core.Bool.{Bool, true, false, not}
 use mathlib.Core.List.{List, [], ◌∷◌, ◌++◌, append_assoc, append-nil}
-use mathlib.Core.Option.{some}
+use Rattle.std.specs.Prelude.{Option, Some}
+use Rattle.readers.specs.declared.abbreviations.Declaration.{Declaration}
+use Rattle.readers.specs.declared.entries.Step.{Step}
 use mathlib.Core.Logic.{⊎_elim, ◌↔◌}
 use lib.ListN.{length, get_or, take, drop}
 use lib.Dec.{T, eqb, leb}
@@ -21,9 +23,7 @@ use Rattle.readers.specs.Forms.{form_tokens, token_among, form_token, use_of, va
 use Rattle.readers.specs.Fields.{linked_value, field_of}
 use Rattle.readers.specs.Entries.{entry_layout, step_at}
 use Rattle.readers.specs.declared.cursor.Encoding.{Encoding}
-use Rattle.readers.specs.declared.abbreviations.DeclarationFound.{DeclarationFound}
 use Rattle.readers.specs.declared.attributes.Attribute.{Attribute}
-use Rattle.readers.specs.declared.entries.Step.{Step}
 use Rattle.readers.specs.EntryAttributes.{Valued}
 use Rattle.marking.specs.Members.{Member, here, there}
 use Rattle.marking.proofs.Members.{nothing-in, in_left, in_right, in_either}
@@ -141,7 +141,7 @@ module _ (sought : Role → Bool) (no_reference : sought reference ≡ false) (n
     -- a token that was read: read as bytes too, and what is sought of it by its value
     record SoughtToken (t : Token) (s : List ℕ) (r : ReadOf) : Type 0 where
       pub it : Read
-      pub is : token_in big as_bytes t s ≡ some (it, r.1)
+      pub is : token_in big as_bytes t s ≡ Some (it, r.1)
       pub alike : r.0.seen ≡ it.seen
       pub numbers : pieces_sought r.0.pieces ≡ token_sought t (linked_value it.pieces it.seen)
 
@@ -428,7 +428,7 @@ module _ (sought : Role → Bool) (no_reference : sought reference ≡ false) (n
 
       -- ---- an entry or a terminator
 
-      no_code : (at : ℕ) (r : ReadOf) → token_in big deep (number leb128) (drop at unit) ≡ some r → pieces_sought r.0.pieces ≡ []
+      no_code : (at : ℕ) (r : ReadOf) → token_in big deep (number leb128) (drop at unit) ≡ Some r → pieces_sought r.0.pieces ≡ []
       unfolding token_sought
       no_code at r q =
           (all_of (SoughtToken big deep (number leb128) (drop at unit)) (token-sought big deep expression-none (number leb128) (drop at unit)) q).numbers
@@ -449,12 +449,12 @@ module _ (sought : Role → Bool) (no_reference : sought reference ≡ false) (n
       unfolding values_sought
       no-values = refl
 
-      module _ (abbreviations : List ℕ) (look : ℕ → DeclarationFound) where
-        abbrev pub StepSought : Step → List ℕ → Type 0
+      module _ (abbreviations : List ℕ) (look : ℕ → Option Declaration) where
+        abbrev pub StepSought : Option Step → List ℕ → Type 0
         StepSought s ns = StepBy values_sought e unit abbreviations s ns
 
         -- THE numbers sought in what is read deep at a place, by the step there
-        pub deep-sought : (at : ℕ) (all : RunOf) → read_in big deep (entry_layout e abbreviations look) (drop at unit) ≡ some all
+        pub deep-sought : (at : ℕ) (all : RunOf) → read_in big deep (entry_layout e abbreviations look) (drop at unit) ≡ Some all
             → StepSought (step_at e abbreviations look unit at) (reads_sought all.0)
         deep-sought at all q =
             deep-by pieces_sought reads_sought values_sought own_sought no_reads more-reads no-values more-values e unit token-read copied_none no_code abbreviations look at all q

@@ -4,7 +4,8 @@ use Prim.Native.Nat.{ℕ, zero, suc, ◌-◌, ◌≤◌, ◌<◌}
 use native.Mathlib.Omega.{arith}
 use mathlib.Core.Bool.{Bool, true, false, not}
 use mathlib.Core.List.{List, [], ◌∷◌, ◌++◌}
-use mathlib.Core.Option.{Option, none, some}
+use Rattle.std.specs.Prelude.{None, Option, Some}
+use Rattle.readers.specs.declared.operations.ListStep.{ListStep}
 use mathlib.Core.Logic.{◌⊎◌, inl, inr, ⊎_elim, ◌↔◌}
 use lib.ListN.{length}
 use lib.Dec.{T, eqb, leb}
@@ -20,11 +21,8 @@ use Rattle.readers.proofs.Steps.{entry-inside}
 use Rattle.readers.specs.declared.cursor.Encoding.{Encoding}
 use Rattle.readers.specs.declared.cursor.Cursor.{Cursor}
 use Rattle.readers.specs.declared.fields.Field.{Field}
-use Rattle.readers.specs.declared.lists.ListOffset.{ListOffset}
-use Rattle.readers.specs.declared.lists.ListOffset.TheVariants.{At, Unresolved}
 use Rattle.readers.specs.declared.operations.ListEntry.{ListEntry}
-use Rattle.readers.specs.declared.operations.ListStep.{ListStep}
-use Rattle.readers.specs.declared.operations.ListStep.TheVariants.{Entry, End, Unreadable as NoEntry}
+use Rattle.readers.specs.declared.operations.ListStep.TheVariants.{Entry, End}
 use Rattle.marking.specs.Walking.{Next, on_next, walk}
 use Rattle.marking.proofs.Walking.{Forward, walk_step}
 use Rattle.readers.specs.EntryAttributes.{Valued}
@@ -57,10 +55,10 @@ module _ (e : Encoding) (s : List ℕ) (v : ℕ) where
 
   in-expression : (f : Field) (o : Option (List Piece)) → expression_in e (part_of s f) ≡ o → Member v (names_of o) ↔ InExpression e s v f
   unfolding names_of
-  in-expression f none p = (λ m. absurd (nothing-in v m), λ q. let r : none ≡ some q.pieces = sym p ∙ q.read in let z : ◌≡◌ {A = ℕ} 0 1 = cc in absurd (omega arith))
-  in-expression f (some ps) p = (
+  in-expression f None p = (λ m. absurd (nothing-in v m), λ q. let r : None ≡ Some q.pieces = sym p ∙ q.read in let z : ◌≡◌ {A = ℕ} 0 1 = cc in absurd (omega arith))
+  in-expression f (Some ps) p = (
     λ m. record { pieces = ps; read = p; held = (pieces-members v ps).0 m },
-    λ q. let r : some q.pieces ≡ some ps = sym q.read ∙ p in
+    λ q. let r : Some q.pieces ≡ Some ps = sym q.read ∙ p in
         let z : q.pieces ≡ ps = cc in
         (pieces-members v ps).1 (subst (λ (l : List Piece). NamedIn l v) z q.held),
   )
@@ -89,39 +87,39 @@ module _ (e : Encoding) (s : List ℕ) (v : ℕ) where
   found-forward p x (found ys) lo hi = (lo, hi)
   found-forward p x (refused ys n) lo hi = tt
 
-  list-forward : (p : ListReached) (o : ListStep) → list_entry_at e true s p.at ≡ o → Forward reached_at (length s) p (location_step e s p.sofar o)
+  list-forward : (p : ListReached) (o : Option ListStep) → list_entry_at e true s p.at ≡ o → Forward reached_at (length s) p (location_step e s p.sofar o)
   unfolding location_step Forward
-  list-forward p (Entry x) q = found-forward p x (location_found e s x) (entry-inside e true s p.at x q).0 (entry-inside e true s p.at x q).1
-  list-forward p End q = tt
-  list-forward p NoEntry q = tt
+  list-forward p (Some (Entry x)) q = found-forward p x (location_found e s x) (entry-inside e true s p.at x q).0 (entry-inside e true s p.at x q).1
+  list-forward p (Some End) q = tt
+  list-forward p None q = tt
 
   abbrev turn : ListReached → Next ListReached ReferencesFound
   turn p = location_step e s p.sofar (list_entry_at e true s p.at)
 
-  list-turn : (at : ℕ) (sofar : List ℕ) (o : ListStep) → list_entry_at e true s at ≡ o → list_from e s at sofar ≡ on_next (location_step e s sofar o) (walk reached_at (length s) turn (found []))
+  list-turn : (at : ℕ) (sofar : List ℕ) (o : Option ListStep) → list_entry_at e true s at ≡ o → list_from e s at sofar ≡ on_next (location_step e s sofar o) (walk reached_at (length s) turn (found []))
   unfolding list_from
   list-turn at sofar o q =
       walk_step reached_at (length s) turn (found []) (λ p. list-forward p (list_entry_at e true s p.at) refl) (record { at = at; sofar = sofar })
-      ∙ ap (λ (w : ListStep). on_next (location_step e s sofar w) (walk reached_at (length s) turn (found []))) q
+      ∙ ap (λ (w : Option ListStep). on_next (location_step e s sofar w) (walk reached_at (length s) turn (found []))) q
 
   -- what follows an entry, by what is found in it
-  list_on : (at : ℕ) (sofar : List ℕ) (x : ListEntry) → list_entry_at e true s at ≡ Entry x → (f : ReferencesFound) → location_found e s x ≡ f
+  list_on : (at : ℕ) (sofar : List ℕ) (x : ListEntry) → list_entry_at e true s at ≡ Some (Entry x) → (f : ReferencesFound) → location_found e s x ≡ f
       → list_from e s at sofar ≡ on_next (on_location sofar x f) (walk reached_at (length s) turn (found []))
   unfolding location_step
-  list_on at sofar x q f p = list-turn at sofar (Entry x) q ∙ ap (λ (g : ReferencesFound). on_next (on_location sofar x g) (walk reached_at (length s) turn (found []))) p
+  list_on at sofar x q f p = list-turn at sofar (Some (Entry x)) q ∙ ap (λ (g : ReferencesFound). on_next (on_location sofar x g) (walk reached_at (length s) turn (found []))) p
 
-  in-ended : {at : ℕ} → InList e s v at → list_entry_at e true s at ≡ End → ⊥
-  in-ended (this x p i) q = let r : Entry x ≡ End = sym p ∙ q in let z : ◌≡◌ {A = ℕ} 0 1 = cc in omega arith
-  in-ended (later x p i) q = let r : Entry x ≡ End = sym p ∙ q in let z : ◌≡◌ {A = ℕ} 0 1 = cc in omega arith
+  in-ended : {at : ℕ} → InList e s v at → list_entry_at e true s at ≡ Some End → ⊥
+  in-ended (this x p i) q = let r : Some (Entry x) ≡ Some End = sym p ∙ q in let z : ◌≡◌ {A = ℕ} 0 1 = cc in omega arith
+  in-ended (later x p i) q = let r : Some (Entry x) ≡ Some End = sym p ∙ q in let z : ◌≡◌ {A = ℕ} 0 1 = cc in omega arith
 
-  in-here : {at : ℕ} → InList e s v at → (y : ListEntry) → list_entry_at e true s at ≡ Entry y → InEntry e s v y ⊎ InList e s v y.next.at
-  in-here (this x p i) y q = let r : Entry x ≡ Entry y = sym p ∙ q in let z : x ≡ y = cc in inl (subst (λ (w : ListEntry). InEntry e s v w) z i)
-  in-here (later x p i) y q = let r : Entry x ≡ Entry y = sym p ∙ q in let z : x ≡ y = cc in inr (subst (λ (w : ListEntry). InList e s v w.next.at) z i)
+  in-here : {at : ℕ} → InList e s v at → (y : ListEntry) → list_entry_at e true s at ≡ Some (Entry y) → InEntry e s v y ⊎ InList e s v y.next.at
+  in-here (this x p i) y q = let r : Some (Entry x) ≡ Some (Entry y) = sym p ∙ q in let z : x ≡ y = cc in inl (subst (λ (w : ListEntry). InEntry e s v w) z i)
+  in-here (later x p i) y q = let r : Some (Entry x) ≡ Some (Entry y) = sym p ∙ q in let z : x ≡ y = cc in inr (subst (λ (w : ListEntry). InList e s v w.next.at) z i)
 
   abbrev From : ℕ → Type 0
   From at = (sofar ys : List ℕ) → list_from e s at sofar ≡ found ys → Member v ys ↔ (Member v sofar ⊎ InList e s v at)
 
-  by-found : (at : ℕ) (x : ListEntry) → list_entry_at e true s at ≡ Entry x → From x.next.at → (f : ReferencesFound) → location_found e s x ≡ f → From at
+  by-found : (at : ℕ) (x : ListEntry) → list_entry_at e true s at ≡ Some (Entry x) → From x.next.at → (f : ReferencesFound) → location_found e s x ≡ f → From at
   unfolding on_next on_location list_from
   by-found at x q ih (refused zs n) p sofar ys r = absurd (not_found (sofar ++ zs) ys n (sym (list_on at sofar x q (refused zs n) p) ∙ r))
   by-found at x q ih (found zs) p sofar ys r =
@@ -133,14 +131,14 @@ module _ (e : Encoding) (s : List ℕ) (v : ℕ) where
             (λ i. ⊎_elim (λ k. iff.1 (inl (in_right v sofar zs (one.1 k)))) (λ k. iff.1 (inr k)) (in-here i x q)) m,
       )
 
-  by-step : (at : ℕ) → ((n : ℕ) → at < n → n ≤ length s → From n) → (o : ListStep) → list_entry_at e true s at ≡ o → From at
+  by-step : (at : ℕ) → ((n : ℕ) → at < n → n ≤ length s → From n) → (o : Option ListStep) → list_entry_at e true s at ≡ o → From at
   unfolding on_next location_step
-  by-step at ih (Entry x) q sofar ys r =
+  by-step at ih (Some (Entry x)) q sofar ys r =
       by-found at x q (ih x.next.at (entry-inside e true s at x q).0 (entry-inside e true s at x q).1) (location_found e s x) refl sofar ys r
-  by-step at ih End q sofar ys r =
-      let same : ys ≡ sofar = found-same sofar ys (sym (list-turn at sofar End q) ∙ r) in
+  by-step at ih (Some End) q sofar ys r =
+      let same : ys ≡ sofar = found-same sofar ys (sym (list-turn at sofar (Some End) q) ∙ r) in
       (λ m. inl (subst (Member v) same m), λ m. ⊎_elim (λ n. subst (Member v) (sym same) n) (λ i. absurd (in-ended i q)) m)
-  by-step at ih NoEntry q sofar ys r = absurd (not_found sofar ys 5 (sym (list-turn at sofar NoEntry q) ∙ r))
+  by-step at ih None q sofar ys r = absurd (not_found sofar ys 5 (sym (list-turn at sofar None q) ∙ r))
 
   from-within : (k at : ℕ) → length s - at < k → From at
   from-within zero at h = absurd (omega arith)
@@ -148,18 +146,18 @@ module _ (e : Encoding) (s : List ℕ) (v : ℕ) where
 
   -- ---- the list of a value
 
-  record ListAt (o : ListOffset) : Type 0 where
+  record ListAt (o : Option Cursor) : Type 0 where
     pub start : Cursor
-    pub starts : o ≡ At start
+    pub starts : o ≡ Some start
     pub inside : InList e s v start.at
 
-  in_list : (o : ListOffset) (ys : List ℕ) → list_found e s o ≡ found ys → Member v ys ↔ ListAt o
+  in_list : (o : Option Cursor) (ys : List ℕ) → list_found e s o ≡ found ys → Member v ys ↔ ListAt o
   unfolding list_found
-  in_list Unresolved ys q = absurd (not_found [] ys 5 q)
-  in_list (At c) ys q =
+  in_list None ys q = absurd (not_found [] ys 5 q)
+  in_list (Some c) ys q =
       let iff : Member v ys ↔ (Member v [] ⊎ InList e s v c.at) = from-within (suc (length s - c.at)) c.at (omega arith) [] ys (sym (list-start e s c) ∙ q) in (
         λ m. ⊎_elim (λ n. absurd (nothing-in v n)) (λ i. record { start = c; starts = refl; inside = i }) (iff.0 m),
-        λ l. let r : At c ≡ At l.start = l.starts in let z : c ≡ l.start = cc in iff.1 (inr (subst (λ (d : Cursor). InList e s v d.at) (sym z) l.inside)),
+        λ l. let r : Some c ≡ Some l.start = l.starts in let z : c ≡ l.start = cc in iff.1 (inr (subst (λ (d : Cursor). InList e s v d.at) (sym z) l.inside)),
       )
 
 -- ---- an attribute
@@ -190,7 +188,7 @@ module _ (e : Encoding) (unit locations : List ℕ) (base v : ℕ) where
       λ m. ⊎_elim (λ k. subst (Member v) (p ∙ sym q) k) (λ i. absurd (n i)) m,
     )
 
-    listed-only : (ys : List ℕ) → own ≡ [] → (o : ListOffset) → a.name ≡ 0x02 → location_list e locations v base a.value ≡ o → list_found e locations o ≡ found ys
+    listed-only : (ys : List ℕ) → own ≡ [] → (o : Option Cursor) → a.name ≡ 0x02 → location_list e locations v base a.value ≡ o → list_found e locations o ≡ found ys
         → Member v ys ↔ (Member v own ⊎ Listed)
     listed-only ys p o n k q =
         let iff : Member v ys ↔ ListAt e locations v o = in_list e locations v o ys q in (
@@ -204,7 +202,7 @@ module _ (e : Encoding) (unit locations : List ℕ) (base v : ℕ) where
     not-list : (form ≡ 0x22 → ⊥) → (form ≡ 0x17 → ⊥) → Listed → ⊥
     unfolding location_list
     not-list n m i =
-        let r : Unresolved ≡ At i.start = sym (pick_no _ _ _ (no_eqb {a = form} {b = 0x22} n) ∙ pick_no _ _ _ (no_eqb {a = form} {b = 0x17} m)) ∙ i.starts in
+        let r : None ≡ Some i.start = sym (pick_no _ _ _ (no_eqb {a = form} {b = 0x22} n) ∙ pick_no _ _ _ (no_eqb {a = form} {b = 0x17} m)) ∙ i.starts in
         let z : ◌≡◌ {A = ℕ} 0 1 = cc in omega arith
 
     is-not : (b : Bool) → T (not (not b)) → T b
@@ -226,16 +224,16 @@ module _ (e : Encoding) (unit locations : List ℕ) (base v : ℕ) where
         (λ t q. own-only ys (names_of (expression_in e part)) (expression-names e part ys q) (pick_no _ _ _ t1 ∙ pick_no _ _ _ t3 ∙ pick_yes _ _ _ t)
         (let h : form ≡ 0x18 = eqb_yes {a = form} {b = 0x18} t in not-list (λ z. omega arith) (λ z. omega arith)))
         (λ t4.
-        let none : own ≡ [] = pick_no _ _ _ t1 ∙ pick_no _ _ _ t3 ∙ pick_no _ _ _ t4 in
+        let None : own ≡ [] = pick_no _ _ _ t1 ∙ pick_no _ _ _ t3 ∙ pick_no _ _ _ t4 in
         pick-either (Same ys) (not (eqb a.name 0x02)) (found []) _
-        (λ t q. own-only ys [] (found-same [] ys q) none (not-location (eqb_no {a = a.name} {b = 0x02} t)))
+        (λ t q. own-only ys [] (found-same [] ys q) None (not-location (eqb_no {a = a.name} {b = 0x02} t)))
         (λ t5.
         let n : a.name ≡ 0x02 = eqb_yes {a = a.name} {b = 0x02} (is-not (eqb a.name 0x02) t5) in
         pick-either (Same ys) (eqb form 0x22) (list_found e locations (list_offset e locations base a.value.field.value)) _
-        (λ t q. listed-only ys none (list_offset e locations base a.value.field.value) n (pick_yes _ _ _ t) q)
+        (λ t q. listed-only ys None (list_offset e locations base a.value.field.value) n (pick_yes _ _ _ t) q)
         (λ t6. pick-either (Same ys) (eqb form 0x17) (list_found e locations (list_start locations a.value.field.value)) (found [])
-        (λ t q. listed-only ys none (list_start locations a.value.field.value) n (pick_no _ _ _ t6 ∙ pick_yes _ _ _ t) q)
-        (λ t7 q. own-only ys [] (found-same [] ys q) none (not-list (eqb_no {a = form} {b = 0x22} t6) (eqb_no {a = form} {b = 0x17} t7)))))))))
+        (λ t q. listed-only ys None (list_start locations a.value.field.value) n (pick_no _ _ _ t6 ∙ pick_yes _ _ _ t) q)
+        (λ t7 q. own-only ys [] (found-same [] ys q) None (not-list (eqb_no {a = form} {b = 0x22} t6) (eqb_no {a = form} {b = 0x17} t7)))))))))
 
     -- ---- what its value names, by its form
 

@@ -5,7 +5,7 @@ use native.Mathlib.Omega.{arith}
 use mathlib.Core.Bool.{Bool, true, false}
 use mathlib.Core.List.{List, [], ◌∷◌, ◌++◌, append_assoc}
 use mathlib.Core.Logic.{⊎_elim, ◌↔◌}
-use mathlib.Core.Option.{Option, none, some}
+use Rattle.std.specs.Prelude.{None, Option, Some}
 use lib.ListN.{length}
 use lib.Dec.{eqb}
 use mir.Facts.{eqb_no, no_eqb}
@@ -16,8 +16,6 @@ use Rattle.readers.specs.Expression.{expression_in}
 use Rattle.readers.specs.References.{Named, name_in, names_in, names_or, references_in, walk_of, flat_from}
 use Rattle.readers.proofs.Answers.{walked-flat}
 use Rattle.readers.specs.declared.cursor.Encoding.{Encoding}
-use Rattle.readers.specs.declared.expressions.Walk.{Walk}
-use Rattle.readers.specs.declared.expressions.Walk.TheVariants.{Walked, Unreadable}
 use Rattle.marking.specs.EntryReferences.{found, targets, walk_found, expression_found}
 use Rattle.marking.specs.Members.{Member, here, there}
 use Rattle.laws.specs.SameReferences.{Names, NamedIn, RoleReference}
@@ -45,8 +43,8 @@ reads_names [] = []
 reads_names (r ∷ rs) = pieces_names r.pieces ++ reads_names rs
 
 unfoldable pub names_of : Option (List Piece) → List ℕ
-names_of none = []
-names_of (some ps) = pieces_names ps
+names_of None = []
+names_of (Some ps) = pieces_names ps
 
 pub reads-append : (rs qs : List Read) → reads_names (rs ++ qs) ≡ reads_names rs ++ reads_names qs
 unfolding reads_names
@@ -83,16 +81,16 @@ pieces-targets big at (p ∷ ps) =
 
 or-targets : (big : Bool) (o : Option (List Piece)) → targets (names_or big o) ≡ names_of o
 unfolding targets names_or names_of
-or-targets big none = refl
-or-targets big (some ps) = pieces-targets big 0 ps
+or-targets big None = refl
+or-targets big (Some ps) = pieces-targets big 0 ps
 
 module _ (e : Encoding) (s : List ℕ) where
-  walk-found : (ys : List ℕ) (w : Walk) → walk_of e s ≡ w → walk_found (targets (references_in e s)) w ≡ found ys
+  walk-found : (ys : List ℕ) (w : Option (ℕ × Bool)) → walk_of e s ≡ w → walk_found (targets (references_in e s)) w ≡ found ys
       → (ys ≡ targets (references_in e s)) × (flat_from e s 0 ≡ references_in e s)
   unfolding walk_found
-  walk-found ys Unreadable w q = let z : ◌≡◌ {A = ℕ} 0 1 = cc in absurd (omega arith)
-  walk-found ys (Walked n true) w q = let z : ◌≡◌ {A = ℕ} 0 1 = cc in absurd (omega arith)
-  walk-found ys (Walked n false) w q = (cc, (walked-flat e s n false w).0)
+  walk-found ys None w q = let z : ◌≡◌ {A = ℕ} 0 1 = cc in absurd (omega arith)
+  walk-found ys (Some (n, true)) w q = let z : ◌≡◌ {A = ℕ} 0 1 = cc in absurd (omega arith)
+  walk-found ys (Some (n, false)) w q = (cc, (walked-flat e s n false w).0)
 
   -- what an expression's scan finds is what its pieces hold
   pub expression-names : (ys : List ℕ) → expression_found e s ≡ found ys → ys ≡ names_of (expression_in e s)

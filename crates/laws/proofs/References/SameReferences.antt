@@ -2,7 +2,8 @@
 use mathlib.Core.Path.{◌≡◌, refl, ap, sym, ◌∙◌, subst}
 use Prim.Native.Nat.{ℕ, suc}
 use mathlib.Core.List.{List, [], ◌∷◌}
-use mathlib.Core.Option.{Option, none, some}
+use Rattle.std.specs.Prelude.{Err, None, Ok, Option, Result, Some}
+use Rattle.readers.specs.declared.entries.Step.{Step}
 use mathlib.Core.Logic.{◌⊎◌, inl, inr, ⊎_elim, ◌↔◌}
 use native.Mathlib.Omega.{arith}
 use lib.ListN.{take, drop}
@@ -15,10 +16,7 @@ use Rattle.readers.specs.Header.{header_of}
 use Rattle.readers.specs.Nesting.{opened, closed}
 use Rattle.readers.specs.Stream.{Item, entry, terminator, items_from}
 use Rattle.readers.specs.declared.entries.Entry.{Entry}
-use Rattle.readers.specs.declared.entries.Step.{Step}
 use Rattle.readers.specs.declared.entries.Step.TheVariants.{Entry as Entry'}
-use Rattle.readers.specs.declared.header.HeaderRead.{HeaderRead}
-use Rattle.readers.specs.declared.header.HeaderRead.TheVariants.{Unit as Header', Empty, Refused}
 use Rattle.readers.specs.declared.header.UnitHeader.{UnitHeader}
 use Rattle.marking.specs.EntryReferences.{found}
 use Rattle.marking.specs.Analysis.{Sections, Rooms, EntryRow, analysed, refused as not_analysed, start_of, analyse_items, on_declared, unit_analysed, header_analysed, analysis_of, values_of_entry, names_of, base_of}
@@ -41,24 +39,24 @@ module _ (x : Sections) (u : Unit') where
   deep_at at = read_in u.header.encoding.big_endian (expression_in u.header.encoding) (entry_layout u.header.encoding x.abbreviations (declared_in u.declared)) (drop at u.bytes)
 
   abbrev There : Entry → Type 0
-  There y = step_at u.header.encoding x.abbreviations (declared_in u.declared) u.bytes y.offset.0 ≡ Entry' y
+  There y = step_at u.header.encoding x.abbreviations (declared_in u.declared) u.bytes y.offset.0 ≡ Some (Entry' y)
 
   -- ---- one entry
 
-  reads-are : (at : ℕ) (all : RunOf) → deep_at at ≡ some all → reads_at x u at ≡ all.0
+  reads-are : (at : ℕ) (all : RunOf) → deep_at at ≡ Some all → reads_at x u at ≡ all.0
   unfolding reads_at reads_or
   reads-are at all q = ap (λ (o : Option RunOf). reads_or x u o) q
 
-  entry-names : (y : Entry) → There y → (all : RunOf) → deep_at y.offset.0 ≡ some all
+  entry-names : (y : Entry) → There y → (all : RunOf) → deep_at y.offset.0 ≡ Some all
       → reads_names (reads_at x u y.offset.0) ≡ values_names u.header.encoding u.bytes (values_of_entry u.header.encoding x u.bytes y)
   unfolding StepBy values_of_entry
   entry-names y s all q =
       ap reads_names (reads-are y.offset.0 all q)
-      ∙ subst (λ (w : Step). StepNames u.header.encoding u.bytes x.abbreviations (declared_in u.declared) w (reads_names all.0)) s
+      ∙ subst (λ (w : Option Step). StepNames u.header.encoding u.bytes x.abbreviations (declared_in u.declared) w (reads_names all.0)) s
       (deep-names u.header.encoding u.bytes x.abbreviations (declared_in u.declared) y.offset.0 all q)
 
   -- an entry that stands at its offset and is read deep: the names of its attributes are its references
-  pub entry-references : (y : Entry) → There y → (all : RunOf) → deep_at y.offset.0 ≡ some all
+  pub entry-references : (y : Entry) → There y → (all : RunOf) → deep_at y.offset.0 ≡ Some all
       → (base : ℕ) (names : List ℕ) → names_of u.header.encoding x u.bytes base y ≡ found names → (v : ℕ) → SameReferences x u base y names v
   unfolding names_of
   entry-references y s all q base names p v =
@@ -84,8 +82,8 @@ module _ (x : Sections) (u : Unit') where
       (subst (JudgedStep u.header.encoding x (declared_in u.declared) u.bytes) (sym s) (record { base = base; names = names; names_are = p })))
     where
       by-reads : (o : Option RunOf) → deep_at y.offset.0 ≡ o → Is o → (v : ℕ) → SameReferences x u base y names v
-      by-reads none q i = absurd i
-      by-reads (some all) q i = entry-references y s all q base names p
+      by-reads None q i = absurd i
+      by-reads (Some all) q i = entry-references y s all q base names p
 
   -- ---- row by row
 
@@ -162,16 +160,16 @@ module _ (x : Sections) (section : List ℕ) (room : Rooms) (rows : List EntryRo
   not-analysed : (n : ℕ) → not_analysed n ≡ analysed rows → ⊥
   not-analysed n q = let z : ◌≡◌ {A = ℕ} 0 1 = cc in omega arith
 
-  by-declared : analysis_of x section room ≡ analysed rows → (h : UnitHeader) → header_of x.setting.big_endian section ≡ Header' h
+  by-declared : analysis_of x section room ≡ analysed rows → (h : UnitHeader) → header_of x.setting.big_endian section ≡ Ok (Some h)
       → (o : Option (List Placed)) → abbreviations_of x.abbreviations h.abbreviations ≡ o
       → UnitReferences x section rows
   unfolding analysis_of header_analysed unit_analysed on_declared
-  by-declared q h p none d =
+  by-declared q h p None d =
       absurd (not-analysed 3 (sym (ap (header_analysed x section room) (analysed-listed x section room rows q ∙ p)
       ∙ ap (λ (o : Option (List Placed)). on_declared o (λ ds. analyse_items h.encoding x (take h.end section) room (start_of h.encoding)
       (items_from h.encoding x.abbreviations (declared_in ds) (take h.end section) h.first.0).0
       (items_from h.encoding x.abbreviations (declared_in ds) (take h.end section) h.first.0).1)) d) ∙ q))
-  by-declared q h p (some ds) d =
+  by-declared q h p (Some ds) d =
       let a : Accepted x tables_only section h ds rows = record { header = p; declared = d; analysis = q } in
       record {
         header = h;
@@ -182,14 +180,14 @@ module _ (x : Sections) (section : List ℕ) (room : Rooms) (rows : List EntryRo
         each = each-references x tables_only section h ds rows a;
       }
 
-  by-header : analysis_of x section room ≡ analysed rows → (o : HeaderRead) → header_of x.setting.big_endian section ≡ o
-      → ((header_of x.setting.big_endian section ≡ Empty) × (rows ≡ [])) ⊎ UnitReferences x section rows
+  by-header : analysis_of x section room ≡ analysed rows → (o : Result (Option UnitHeader) ℕ) → header_of x.setting.big_endian section ≡ o
+      → ((header_of x.setting.big_endian section ≡ Ok None) × (rows ≡ [])) ⊎ UnitReferences x section rows
   unfolding analysis_of header_analysed
-  by-header q Empty p = let z : analysed [] ≡ analysed rows = sym (ap (header_analysed x section room) (analysed-listed x section room rows q ∙ p)) ∙ q in inl (p, cc)
-  by-header q (Refused n) p = absurd (not-analysed n (sym (ap (header_analysed x section room) (analysed-listed x section room rows q ∙ p)) ∙ q))
-  by-header q (Header' h) p = inr (by-declared q h p (abbreviations_of x.abbreviations h.abbreviations) refl)
+  by-header q (Ok None) p = let z : analysed [] ≡ analysed rows = sym (ap (header_analysed x section room) (analysed-listed x section room rows q ∙ p)) ∙ q in inl (p, cc)
+  by-header q (Err n) p = absurd (not-analysed n (sym (ap (header_analysed x section room) (analysed-listed x section room rows q ∙ p)) ∙ q))
+  by-header q (Ok (Some h)) p = inr (by-declared q h p (abbreviations_of x.abbreviations h.abbreviations) refl)
 
   -- THE LAW: where a unit is analysed, what keeps entries and what is patched are the same references; an empty section has no rows
   pub analysed-references : analysis_of x section room ≡ analysed rows
-      → ((header_of x.setting.big_endian section ≡ Empty) × (rows ≡ [])) ⊎ UnitReferences x section rows
+      → ((header_of x.setting.big_endian section ≡ Ok None) × (rows ≡ [])) ⊎ UnitReferences x section rows
   analysed-references q = by-header q (header_of x.setting.big_endian section) refl

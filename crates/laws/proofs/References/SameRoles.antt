@@ -3,7 +3,8 @@ use mathlib.Core.Path.{◌≡◌, refl, ap, sym, ◌∙◌, subst}
 use Prim.Native.Nat.{ℕ, suc, ◌≤◌, ◌<◌}
 use mathlib.Core.Bool.{Bool, true, false}
 use mathlib.Core.List.{List, [], ◌∷◌}
-use mathlib.Core.Option.{Option, none, some}
+use Rattle.std.specs.Prelude.{Err, None, Ok, Option, Result, Some}
+use Rattle.readers.specs.declared.entries.Step.{Step}
 use mathlib.Core.Logic.{⊎_elim, ◌⊎◌, inl, inr, ◌↔◌}
 use native.Mathlib.Omega.{arith}
 use lib.ListN.{take, drop}
@@ -23,10 +24,7 @@ use Rattle.readers.specs.Nesting.{opened, closed}
 use Rattle.readers.specs.Stream.{Item, entry, terminator, items_from}
 use Rattle.readers.specs.declared.attributes.Attribute.{Attribute}
 use Rattle.readers.specs.declared.entries.Entry.{Entry}
-use Rattle.readers.specs.declared.entries.Step.{Step}
 use Rattle.readers.specs.declared.entries.Step.TheVariants.{Entry as Entry'}
-use Rattle.readers.specs.declared.header.HeaderRead.{HeaderRead}
-use Rattle.readers.specs.declared.header.HeaderRead.TheVariants.{Unit as Header', Empty, Refused}
 use Rattle.readers.specs.declared.header.UnitHeader.{UnitHeader}
 use Rattle.readers.specs.EntryAttributes.{Valued}
 use Rattle.marking.specs.Analysis.{Sections, Rooms, EntryRow, analysed, refused as not_analysed, start_of, analyse_items, on_declared, unit_analysed, header_analysed, analysis_of, values_of_entry, base_of}
@@ -284,18 +282,18 @@ module _ (x : Sections) (u : Unit') where
   deep_at at = read_in u.header.encoding.big_endian (expression_in u.header.encoding) (entry_layout u.header.encoding x.abbreviations (declared_in u.declared)) (drop at u.bytes)
 
   abbrev There : Entry → Type 0
-  There y = step_at u.header.encoding x.abbreviations (declared_in u.declared) u.bytes y.offset.0 ≡ Entry' y
+  There y = step_at u.header.encoding x.abbreviations (declared_in u.declared) u.bytes y.offset.0 ≡ Some (Entry' y)
 
-  reads-are : (at : ℕ) (all : RunOf) → deep_at at ≡ some all → reads_at x u at ≡ all.0
+  reads-are : (at : ℕ) (all : RunOf) → deep_at at ≡ Some all → reads_at x u at ≡ all.0
   unfolding reads_at reads_or
   reads-are at all q = ap (λ (o : Option RunOf). reads_or x u o) q
 
-  module _ (y : Entry) (s : There y) (all : RunOf) (q : deep_at y.offset.0 ≡ some all) where
+  module _ (y : Entry) (s : There y) (all : RunOf) (q : deep_at y.offset.0 ≡ Some all) where
     entry-indices : (k : ℕ) → k < 3 → read_indices k (reads_in x u y) ≡ value_indices k (values_in x u y)
     unfolding StepBy values_of_entry
     entry-indices k small =
         ap (read_indices k) (reads-are y.offset.0 all q)
-        ∙ subst (λ (w : Step). StepBy (value_indices k) u.header.encoding u.bytes x.abbreviations w (read_indices k all.0)) s
+        ∙ subst (λ (w : Option Step). StepBy (value_indices k) u.header.encoding u.bytes x.abbreviations w (read_indices k all.0)) s
         (deep-indices k small u.header.encoding u.bytes x.abbreviations (declared_in u.declared) y.offset.0 all q)
 
     entry-indexed : (k v : ℕ) → k < 3 → RoleRead (reads_in x u y) (index k) v ↔ FormIndex (values_in x u y) k v
@@ -312,7 +310,7 @@ module _ (x : Sections) (u : Unit') where
     unfolding StepBy values_of_entry
     same-indices k =
         ap (reads_indices k) (reads-are y.offset.0 all q)
-        ∙ subst (λ (w : Step). StepSought (is_index k) (index-no-reference k) (index-no-type k) (index-no-absolute k) u.header.encoding u.bytes x.abbreviations (declared_in u.declared) w (reads_indices k all.0)) s
+        ∙ subst (λ (w : Option Step). StepSought (is_index k) (index-no-reference k) (index-no-type k) (index-no-absolute k) u.header.encoding u.bytes x.abbreviations (declared_in u.declared) w (reads_indices k all.0)) s
         (deep-sought (is_index k) (index-no-reference k) (index-no-type k) (index-no-absolute k) u.header.encoding u.bytes x.abbreviations (declared_in u.declared) y.offset.0 all q)
 
     entry-lists : (k v : ℕ) → RoleRead (reads_in x u y) (index k) v → k < 3
@@ -327,7 +325,7 @@ module _ (x : Sections) (u : Unit') where
     unfolding StepBy values_of_entry
     same-siblings =
         ap reads_siblings (reads-are y.offset.0 all q)
-        ∙ subst (λ (w : Step). StepSought is_sibling no_reference no-type no-absolute u.header.encoding u.bytes x.abbreviations (declared_in u.declared) w (reads_siblings all.0)) s
+        ∙ subst (λ (w : Option Step). StepSought is_sibling no_reference no-type no-absolute u.header.encoding u.bytes x.abbreviations (declared_in u.declared) w (reads_siblings all.0)) s
         (deep-sought is_sibling no_reference no-type no-absolute u.header.encoding u.bytes x.abbreviations (declared_in u.declared) y.offset.0 all q)
 
     entry-siblings : (v : ℕ) → RoleRead (reads_in x u y) sibling v ↔ FormSibling (values_in x u y) v
@@ -344,7 +342,7 @@ module _ (x : Sections) (u : Unit') where
     entry-roles = record { indexed = entry-indexed; lists = entry-lists; siblings = entry-siblings }
 
   -- one that was judged is read deep
-  judged-roles : (y : Entry) → There y → JudgedStep u.header.encoding x (declared_in u.declared) u.bytes (Entry' y) → SameRoles x u y
+  judged-roles : (y : Entry) → There y → JudgedStep u.header.encoding x (declared_in u.declared) u.bytes (Some (Entry' y)) → SameRoles x u y
   unfolding Is
   judged-roles y s j =
       by-reads (deep_at y.offset.0) refl
@@ -352,8 +350,8 @@ module _ (x : Sections) (u : Unit') where
       (subst (JudgedStep u.header.encoding x (declared_in u.declared) u.bytes) (sym s) j))
     where
       by-reads : (o : Option RunOf) → deep_at y.offset.0 ≡ o → Is o → SameRoles x u y
-      by-reads none q i = absurd i
-      by-reads (some all) q i = entry-roles y s all q
+      by-reads None q i = absurd i
+      by-reads (Some all) q i = entry-roles y s all q
 
   -- ---- entry by entry
 
@@ -405,25 +403,25 @@ module _ (x : Sections) (section : List ℕ) (room : Rooms) (rows : List EntryRo
   not-analysed : (n : ℕ) → not_analysed n ≡ analysed rows → ⊥
   not-analysed n q = let z : ◌≡◌ {A = ℕ} 0 1 = cc in omega arith
 
-  by-declared : analysis_of x section room ≡ analysed rows → (h : UnitHeader) → header_of x.setting.big_endian section ≡ Header' h
+  by-declared : analysis_of x section room ≡ analysed rows → (h : UnitHeader) → header_of x.setting.big_endian section ≡ Ok (Some h)
       → (o : Option (List Placed)) → abbreviations_of x.abbreviations h.abbreviations ≡ o
       → UnitRoles x section
   unfolding analysis_of header_analysed unit_analysed on_declared
-  by-declared q h p none d =
+  by-declared q h p None d =
       absurd (not-analysed 3 (sym (ap (header_analysed x section room) (analysed-listed x section room rows q ∙ p)
       ∙ ap (λ (o : Option (List Placed)). on_declared o (λ ds. analyse_items h.encoding x (take h.end section) room (start_of h.encoding)
       (items_from h.encoding x.abbreviations (declared_in ds) (take h.end section) h.first.0).0
       (items_from h.encoding x.abbreviations (declared_in ds) (take h.end section) h.first.0).1)) d) ∙ q))
-  by-declared q h p (some ds) d =
+  by-declared q h p (Some ds) d =
       accepted-roles x tables_only section h ds rows (record { header = p; declared = d; analysis = q })
 
-  by-header : analysis_of x section room ≡ analysed rows → (o : HeaderRead) → header_of x.setting.big_endian section ≡ o
-      → (header_of x.setting.big_endian section ≡ Empty) ⊎ UnitRoles x section
+  by-header : analysis_of x section room ≡ analysed rows → (o : Result (Option UnitHeader) ℕ) → header_of x.setting.big_endian section ≡ o
+      → (header_of x.setting.big_endian section ≡ Ok None) ⊎ UnitRoles x section
   unfolding analysis_of header_analysed
-  by-header q Empty p = inl p
-  by-header q (Refused n) p = absurd (not-analysed n (sym (ap (header_analysed x section room) (analysed-listed x section room rows q ∙ p)) ∙ q))
-  by-header q (Header' h) p = inr (by-declared q h p (abbreviations_of x.abbreviations h.abbreviations) refl)
+  by-header q (Ok None) p = inl p
+  by-header q (Err n) p = absurd (not-analysed n (sym (ap (header_analysed x section room) (analysed-listed x section room rows q ∙ p)) ∙ q))
+  by-header q (Ok (Some h)) p = inr (by-declared q h p (abbreviations_of x.abbreviations h.abbreviations) refl)
 
   -- THE LAW: where a unit is analysed, what is patched by roles is what its attributes hold by names and forms
-  pub analysed-roles : analysis_of x section room ≡ analysed rows → (header_of x.setting.big_endian section ≡ Empty) ⊎ UnitRoles x section
+  pub analysed-roles : analysis_of x section room ≡ analysed rows → (header_of x.setting.big_endian section ≡ Ok None) ⊎ UnitRoles x section
   analysed-roles q = by-header q (header_of x.setting.big_endian section) refl

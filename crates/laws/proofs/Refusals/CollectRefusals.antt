@@ -6,7 +6,7 @@ use native.Mathlib.Omega.{arith}
 use mathlib.Core.Bool.{Bool, true, false, not, false≢true}
 use mathlib.Core.List.{List, [], ◌∷◌}
 use mathlib.Core.Logic.{◌⊎◌, inl, inr, ⊎_elim}
-use mathlib.Core.Option.{Option, none, some}
+use Rattle.std.specs.Prelude.{Err, None, Ok, Option, Result, Some}
 use lib.ListN.{length, take}
 use lib.Dec.{T, leb, eqb}
 use mir.Facts.{eqb_no, leb_yes, leb_no, no_eqb, yes_leb, no_leb}
@@ -17,8 +17,6 @@ use Rattle.readers.specs.Abbreviations.{Placed, abbreviations_of}
 use Rattle.readers.specs.Header.{header_of}
 use Rattle.readers.specs.Layout.{Piece, verbatim, patchable, Read}
 use Rattle.readers.specs.declared.header.UnitHeader.{UnitHeader}
-use Rattle.readers.specs.declared.header.HeaderRead.{HeaderRead}
-use Rattle.readers.specs.declared.header.HeaderRead.TheVariants.{Unit as Header', Empty, Refused}
 use Rattle.laws.proofs.Refusals.ReaderRefusals.{is_one_of, are_of, one_of, wider, are_apart, apart, header-refusal, list-refusal, not-one-of}
 use Rattle.marking.specs.Analysis.{Sections, EntryRow, Analysed, analysed, refused as not_analysed, analysis_of, header_by, header_analysed, unit_analysed, on_declared}
 use Rattle.marking.specs.Marks.{kept_count}
@@ -162,14 +160,14 @@ module _ (x : Sections) (room : Room) (type_units : Bool) (section : List ℕ) w
   abbrev as_read : UnitHeader → List Placed → Unit'
   as_read h ds = record { header = h; bytes = take h.end section; declared = ds }
 
-  module _ (taken : keep_refusal x.keep ≡ 0) (h : UnitHeader) (header : header_of x.setting.big_endian section ≡ Header' h) where
-    rows-staged : (ds : List Placed) → abbreviations_of x.abbreviations h.abbreviations ≡ some ds → (rows : List EntryRow) → analysis_of x section room.tables ≡ analysed rows
+  module _ (taken : keep_refusal x.keep ≡ 0) (h : UnitHeader) (header : header_of x.setting.big_endian section ≡ Ok (Some h)) where
+    rows-staged : (ds : List Placed) → abbreviations_of x.abbreviations h.abbreviations ≡ Some ds → (rows : List EntryRow) → analysis_of x section room.tables ≡ analysed rows
         → Staged (rows_collected x room type_units (as_read h ds) rows)
     unfolding rows_collected
     rows-staged ds d [] a = staged-untouched _ _
     rows-staged ds d (r ∷ rows) a = marks-staged (record { header = h; declared = ds; rows = r ∷ rows; header_is = header; declared_are = d; rows_are = a }) (omega arith)
 
-    analysed-staged : (ds : List Placed) → abbreviations_of x.abbreviations h.abbreviations ≡ some ds → (o : Analysed) → analysis_of x section room.tables ≡ o
+    analysed-staged : (ds : List Placed) → abbreviations_of x.abbreviations h.abbreviations ≡ Some ds → (o : Analysed) → analysis_of x section room.tables ≡ o
         → Staged (analysed_collected x room type_units (as_read h ds) o)
     unfolding analysed_collected
     analysed-staged ds d (analysed rows) a = rows-staged ds d rows a
@@ -177,20 +175,20 @@ module _ (x : Sections) (room : Room) (type_units : Bool) (section : List ℕ) w
 
     declared-staged : (o : Option (List Placed)) → abbreviations_of x.abbreviations h.abbreviations ≡ o → Staged (declared_collected x room type_units section h o)
     unfolding declared_collected
-    declared-staged none d = staged-refused 3 (at_abbreviations taken header d)
-    declared-staged (some ds) d = analysed-staged ds d (analysis_of x section room.tables) refl
+    declared-staged None d = staged-refused 3 (at_abbreviations taken header d)
+    declared-staged (Some ds) d = analysed-staged ds d (analysis_of x section room.tables) refl
 
-  header-staged : keep_refusal x.keep ≡ 0 → (o : HeaderRead) → header_of x.setting.big_endian section ≡ o
+  header-staged : keep_refusal x.keep ≡ 0 → (o : Result (Option UnitHeader) ℕ) → header_of x.setting.big_endian section ≡ o
       → Staged (header_collected x room type_units section o)
   unfolding header_collected
-  header-staged z Empty q = staged-untouched _ _
-  header-staged z (Refused n) q = staged-refused n (at_header z q (header-refusal x.setting.big_endian section n q))
-  header-staged z (Header' h) q = declared-staged z h q (abbreviations_of x.abbreviations h.abbreviations) refl
+  header-staged z (Ok None) q = staged-untouched _ _
+  header-staged z (Err n) q = staged-refused n (at_header z q (header-refusal x.setting.big_endian section n q))
+  header-staged z (Ok (Some h)) q = declared-staged z h q (abbreviations_of x.abbreviations h.abbreviations) refl
 
   list-staged : Staged (header_collected x room type_units section (header_by x section))
   unfolding header_collected
   list-staged =
-      by-list x section (λ (o : HeaderRead). Staged (header_collected x room type_units section o))
+      by-list x section (λ (o : Result (Option UnitHeader) ℕ). Staged (header_collected x room type_units section o))
       (λ z. header-staged z (header_of x.setting.big_endian section) refl)
       (λ n. staged-refused _ (at_list refl (list-refusal x.keep n)))
 
@@ -216,8 +214,8 @@ module _ (x : Sections) (room : Room) (type_units : Bool) (section : List ℕ) w
   -- and each of them is answered so
   pub refused-law : (n : ℕ) → RefusedAt x room type_units section n → collect_of x room type_units section ≡ refused n
   unfolding collect_of header_collected declared_collected analysed_collected marks_collected rewrite_of is_one_of ◌or◌
-  refused-law n (at_list q r) = ap (header_collected x room type_units section) (by-list x section (λ (o : HeaderRead). o ≡ Refused n)
-      (λ z. absurd (not-one-of list_numbers n 0 (sym q ∙ z) tt r)) (λ _. ap Refused q))
+  refused-law n (at_list q r) = ap (header_collected x room type_units section) (by-list x section (λ (o : Result (Option UnitHeader) ℕ). o ≡ Err n)
+      (λ z. absurd (not-one-of list_numbers n 0 (sym q ∙ z) tt r)) (λ _. ap Err q))
   refused-law n (at_header z q r) = ap (header_collected x room type_units section) (header-taken x section z ∙ q)
   refused-law n (at_abbreviations {h} z q d) =
       ap (header_collected x room type_units section) (header-taken x section z ∙ q) ∙ ap (declared_collected x room type_units section h) d
@@ -250,7 +248,7 @@ module _ (x : Sections) (room : Room) (type_units : Bool) (section : List ℕ) w
   stage-of n (at_header z q r) =
       of-reading (ap (header_analysed x section room.tables) (header-taken x section z ∙ q)) (wider header_numbers read_numbers n tt r)
   stage-of n (at_abbreviations {h} z q d) =
-      let three : header_analysed x section room.tables (Header' h) ≡ not_analysed 3 = rw d in
+      let three : header_analysed x section room.tables (Ok (Some h)) ≡ not_analysed 3 = rw d in
       of-reading (ap (header_analysed x section room.tables) (header-taken x section z ∙ q) ∙ three) (one_of read_numbers 3 tt)
   stage-of n (at_entries z q d a r) = of-reading a (wider entries_numbers read_numbers n tt r)
   stage-of n (at_lists u m l) = of_room (one_of _ 12 tt)

@@ -14,10 +14,8 @@ use Rattle.readers.proofs.Choice.{pick_yes, pick-either}
 use Rattle.readers.specs.Numbers.{fixed_value}
 use Rattle.readers.specs.Cursors.{cursor, fixed_at}
 use Rattle.readers.specs.Header.{SaysWidth, length_bytes, header_in, header_of}
-use Rattle.readers.specs.declared.cursor.Number.TheVariants.{Value}
+use Rattle.std.specs.Prelude.{Err, Ok, Option, Result, Some}
 use Rattle.readers.specs.declared.header.UnitHeader.{UnitHeader}
-use Rattle.readers.specs.declared.header.HeaderRead.{HeaderRead}
-use Rattle.readers.specs.declared.header.HeaderRead.TheVariants.{Unit as Header', Refused}
 use Rattle.readers.proofs.Widths.{fixed-is, fixed-short}
 use Rattle.readers.proofs.Headers.{four_bytes, eight-bytes, in-over, length-reserved, length-four, eight-none, length-said}
 use Rattle.readers.proofs.HeaderLaws.{header-laws}
@@ -30,25 +28,25 @@ use Rattle.marking.proofs.ListedHeaders.{header-taken}
 -- ---- what the header is, by the first four bytes
 
 module _ (big : Bool) (section : List ℕ) where
-  read4 : 4 ≤ length section → fixed_at big 4 section 0 ≡ Value (start big section) (cursor 4)
+  read4 : 4 ≤ length section → fixed_at big 4 section 0 ≡ Some (start big section, cursor 4)
   read4 there = fixed-is big 4 section 0 (omega arith) (omega arith)
 
   -- a length of m behind a length field of k bytes
   abbrev Said : ℕ → ℕ → Type 0
   Said w k =
       (m : ℕ) → m ≡ fixed_value big (take w (drop (k - w) section)) → k ≤ length section
-      → header_of big section ≡ pick (ltb (k + m) (2 ^ 64)) (header_in big w section m) (Refused 1)
+      → header_of big section ≡ pick (ltb (k + m) (2 ^ 64)) (header_in big w section m) (Err 1)
 
   four-said : start big section < 0xfffffff0 → Said 4 4
   four-said lo m q there =
       let less : m < 0xfffffff0 = subst (λ (z : ℕ). z < 0xfffffff0) (sym q) lo in
-      length-four big section (λ z. absurd (omega (arith, z))) m (cursor 4) (read4 there ∙ ap (λ (z : ℕ). Value z (cursor 4)) (sym q)) less
+      length-four big section (λ z. absurd (omega (arith, z))) m (cursor 4) (read4 there ∙ ap (λ (z : ℕ). Some (z, cursor 4)) (sym q)) less
       ∙ sym (pick_yes _ _ _ (yes_ltb {a = 4 + m} {b = 2 ^ 64} (omega arith)))
 
   eight-said : start big section ≡ 0xffffffff → Said 8 12
   eight-said escape m q there =
       length-said big section (λ z. absurd (omega (arith, z))) (start big section) (cursor 4) (read4 (omega arith)) escape m (cursor 12)
-      (fixed-is big 8 section 4 (omega arith) (omega arith) ∙ ap (λ (z : ℕ). Value z (cursor 12)) (sym q))
+      (fixed-is big 8 section 4 (omega arith) (omega arith) ∙ ap (λ (z : ℕ). Some (z, cursor 12)) (sym q))
 
   by_width : (w : ℕ) → SaysWidth (start big section) w → Said w (length_bytes w)
   by_width w says =
@@ -62,7 +60,7 @@ module _ (x : Sections) (section : List ℕ) where
   big = x.setting.big_endian
 
   -- a unit that is read: 0xffffffff says that offsets have eight bytes
-  pub format-law : (h : UnitHeader) → header_of x.setting.big_endian section ≡ Header' h
+  pub format-law : (h : UnitHeader) → header_of x.setting.big_endian section ≡ Ok (Some h)
       → SaysWidth (start x.setting.big_endian (take h.end section)) h.encoding.offset_size
   format-law h q = (header-laws x.setting.big_endian section h q).format
 
@@ -71,7 +69,7 @@ module _ (x : Sections) (section : List ℕ) where
   pub length-said-law : (w : ℕ) → SaysWidth (start x.setting.big_endian section) w → length_bytes w ≤ length section
       → let m = length_said x.setting.big_endian section w in
       header_of x.setting.big_endian section
-      ≡ pick (ltb (length_bytes w + m) (2 ^ 64)) (header_in x.setting.big_endian w section m) (Refused 1)
+      ≡ pick (ltb (length_bytes w + m) (2 ^ 64)) (header_in x.setting.big_endian w section m) (Err 1)
   length-said-law w says there = by_width big section w says (length_said big section w) refl there
 
   -- "Number 2 still stands for 0xfffffff0 to 0xfffffffe."
@@ -91,7 +89,7 @@ module _ (x : Sections) (section : List ℕ) where
   length-past-law w says there over z room type_units =
       ap (header_collected x room type_units section)
       (header-taken x section z ∙ length-said-law w says there
-      ∙ pick-either (λ (r : HeaderRead). r ≡ Refused 1) (ltb (length_bytes w + length_said big section w) (2 ^ 64)) _ _
+      ∙ pick-either (λ (r : Result (Option UnitHeader) ℕ). r ≡ Err 1) (ltb (length_bytes w + length_said big section w) (2 ^ 64)) _ _
       (λ _. in-over big w section (length_bytes w) refl (length_said big section w) (omega arith)) (λ _. refl))
 
   -- and so is a length of the 64-bit format that is cut short

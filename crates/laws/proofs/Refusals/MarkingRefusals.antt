@@ -5,7 +5,7 @@ use Prim.Native.Nat.{ℕ}
 use native.Mathlib.Omega.{arith}
 use mathlib.Core.Bool.{Bool}
 use mathlib.Core.List.{List, ◌∷◌}
-use mathlib.Core.Option.{Option, none, some}
+use Rattle.std.specs.Prelude.{None, Ok, Option, Some}
 use lib.ListN.{take}
 use lib.Dec.{T, eqb}
 use Rattle.readers.specs.Choice.{◌and◌, ◌or◌}
@@ -18,7 +18,6 @@ use Rattle.readers.specs.Abbreviations.{Placed, declared_in, abbreviations_of}
 use Rattle.readers.specs.Stream.{items_from}
 use Rattle.readers.specs.declared.cursor.Encoding.{Encoding}
 use Rattle.readers.specs.declared.header.UnitHeader.{UnitHeader}
-use Rattle.readers.specs.declared.header.HeaderRead.TheVariants.{Unit as Unit'}
 use Rattle.readers.specs.declared.entries.Entry.{Entry as Entry'}
 use Rattle.laws.proofs.Refusals.ReaderRefusals.{is_one_of, are_of, one_of, wider}
 use Rattle.marking.specs.declared.root_test.Verdict.{Verdict}
@@ -165,18 +164,18 @@ declared_analysed x section room h o =
     analyse_items h.encoding x (take h.end section) room (start_of h.encoding) items.0 items.1)
 
 -- where the abbreviations are read too, it is one of the entries
-declared-entries : (x : Sections) (section : List ℕ) (room : Rooms) (h : UnitHeader) (o : Option (List Placed)) (ds : List Placed) → o ≡ some ds
+declared-entries : (x : Sections) (section : List ℕ) (room : Rooms) (h : UnitHeader) (o : Option (List Placed)) (ds : List Placed) → o ≡ Some ds
     → AnalysedOf entries_numbers (declared_analysed x section room h o)
 unfolding on_declared is_one_of are_of ◌or◌ ◌and◌
-declared-entries x section room h none ds q = let z : ◌≡◌ {A = ℕ} 0 1 = cc in absurd (omega arith)
-declared-entries x section room h (some es) ds q =
+declared-entries x section room h None ds q = let z : ◌≡◌ {A = ℕ} 0 1 = cc in absurd (omega arith)
+declared-entries x section room h (Some es) ds q =
     settled-of x.addresses entries_numbers (either-failure entries_numbers x.addresses tt) not_analysed (AnalysedOf entries_numbers)
     (analysed-fine entries_numbers) (none_of entries_numbers) _
     (items-told (settling x.addresses entries_numbers) (λ n o. wider entry_numbers_but_table entries_numbers n tt o) x h.encoding
     (take h.end section) room (start_of h.encoding) _ _)
 
 pub entries-refusal : (x : Sections) (section : List ℕ) (room : Rooms) (h : UnitHeader) (ds : List Placed) (n : ℕ)
-    → keep_refusal x.keep ≡ 0 → header_of x.setting.big_endian section ≡ Unit' h → abbreviations_of x.abbreviations h.abbreviations ≡ some ds → analysis_of x section room ≡ not_analysed n → EntriesRefusal n
+    → keep_refusal x.keep ≡ 0 → header_of x.setting.big_endian section ≡ Ok (Some h) → abbreviations_of x.abbreviations h.abbreviations ≡ Some ds → analysis_of x section room ≡ not_analysed n → EntriesRefusal n
 unfolding analysis_of header_analysed unit_analysed
 entries-refusal x section room h ds n z q d a =
     analysed-of entries_numbers _ n (declared-entries x section room h (abbreviations_of x.abbreviations h.abbreviations) ds d)

@@ -4,7 +4,7 @@ use mathlib.Core.Path.{◌≡◌, refl, sym, ap, ◌∙◌, subst}
 use mathlib.Core.Bool.{Bool, true, false, not, false≢true}
 use mathlib.Core.List.{List, [], ◌∷◌}
 use mathlib.Core.Logic.{◌⊎◌, inl, inr}
-use mathlib.Core.Option.{Option, none, some}
+use Rattle.std.specs.Prelude.{None, Option, Some}
 use native.Mathlib.Omega.{arith}
 use native.Mathlib.Nat.{add-zero, add_assoc}
 use lib.ListN.{length, get_or, drop}
@@ -39,11 +39,11 @@ at_on first kept y v n r =
       new_is = r.new_is ∙ add_assoc first (size_of y.item) (size_from r.split.before);
     }
 
-pub at-by : (first : ℕ) (kept : List NestedItem) (v n : ℕ) → new_of (places_from first kept) v ≡ some n → NewAt first kept v n
+pub at-by : (first : ℕ) (kept : List NestedItem) (v n : ℕ) → new_of (places_from first kept) v ≡ Some n → NewAt first kept v n
 unfolding places_from new_of size_from
 at-by first [] v n = λ e. let z : ◌≡◌ {A = ℕ} 0 1 = cc in absurd (omega arith)
 at-by first (y ∷ kept) v n =
-    pick-either (λ (o : Option ℕ). o ≡ some n → NewAt first (y ∷ kept) v n) (eqb (offset_of y.item) v) (some first)
+    pick-either (λ (o : Option ℕ). o ≡ Some n → NewAt first (y ∷ kept) v n) (eqb (offset_of y.item) v) (Some first)
     (new_of (places_from (first + size_of y.item) kept) v)
     (λ t e.
     let q : first ≡ n = cc in
@@ -82,11 +82,11 @@ after_on first kept y depth v n h r =
       first_one = passed depth v y r.split.before h r.first_one;
     }
 
-pub after-by : (first : ℕ) (kept : List NestedItem) (depth v n : ℕ) → first_from (places_from first kept) depth v ≡ some n → NewAfter first kept depth v n
+pub after-by : (first : ℕ) (kept : List NestedItem) (depth v n : ℕ) → first_from (places_from first kept) depth v ≡ Some n → NewAfter first kept depth v n
 unfolding places_from first_from size_from
 after-by first [] depth v n = λ e. let z : ◌≡◌ {A = ℕ} 0 1 = cc in absurd (omega arith)
 after-by first (y ∷ kept) depth v n =
-    pick-either (λ (o : Option ℕ). o ≡ some n → NewAfter first (y ∷ kept) depth v n) (leb v (offset_of y.item) and leb y.depth depth) (some first)
+    pick-either (λ (o : Option ℕ). o ≡ Some n → NewAfter first (y ∷ kept) depth v n) (leb v (offset_of y.item) and leb y.depth depth) (Some first)
     (first_from (places_from (first + size_of y.item) kept) depth v)
     (λ t e.
     let p = and_both (leb v (offset_of y.item)) (leb y.depth depth) t in
@@ -112,11 +112,11 @@ module _ (lists : Lists) (first : ℕ) (kept : List NestedItem) (depth : ℕ) wh
   abbrev map : List Place
   map = places_from first kept
 
-  sibling-by : (v n : ℕ) (o : Option ℕ) → new_of map v ≡ o → or_else o (first_from map depth v) ≡ some n
+  sibling-by : (v n : ℕ) (o : Option ℕ) → new_of map v ≡ o → or_else o (first_from map depth v) ≡ Some n
       → NewAt first kept v n ⊎ ((KeptAt kept v → ⊥) × NewAfter first kept depth v n)
   unfolding or_else is_some
-  sibling-by v n (some k) h q = inl (at-by first kept v n (h ∙ q))
-  sibling-by v n none h q =
+  sibling-by v n (Some k) h q = inl (at-by first kept v n (h ∙ q))
+  sibling-by v n None h q =
       inr (λ k. absurd (false≢true (sym (ap is_some h) ∙ new-out first kept v k)), after-by first kept depth v n q)
 
   -- THE new value of a number that has a place
@@ -140,18 +140,18 @@ module _ (lists : Lists) (first : ℕ) (kept : List NestedItem) (depth : ℕ) wh
 
 record ReadBy (o : Option RunOf) (r : Read) : Type 0 where
   run : RunOf
-  is : o ≡ some run
+  is : o ≡ Some run
   among : Member r run.0
 
 read_by : (x : Sections) (u : Unit') (o : Option RunOf) (r : Read) → Member r (reads_or x u o) → ReadBy o r
 unfolding reads_or
-read_by x u none r m = absurd (nothing-in r m)
-read_by x u (some run) r m = record { run = run; is = refl; among = m }
+read_by x u None r m = absurd (nothing-in r m)
+read_by x u (Some run) r m = record { run = run; is = refl; among = m }
 
 module _ (x : Sections) (u : Unit') (type_units : Bool) (first : ℕ) (kept : List NestedItem) where
   -- so its new value is its place in the list
   pub new-index-law : (s : NestedItem) → Member s kept → (r : Read) → Member r (reads_at x u (offset_of s.item)) → (e : Encoded) (k v : ℕ)
-      → Member (patchable e (index k) v) r.pieces → (xs : List ℕ) → list_at (lists_of x u type_units kept) k ≡ some xs
+      → Member (patchable e (index k) v) r.pieces → (xs : List ℕ) → list_at (lists_of x u type_units kept) k ≡ Some xs
       → Nth v (new_value (lists_of x u type_units kept) (places_from first kept) s.depth (index k) v) xs
   unfolding reads_at new_value rank_or
   new-index-law s m r i e k v p xs q =

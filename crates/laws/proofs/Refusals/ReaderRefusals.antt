@@ -12,12 +12,8 @@ use Rattle.readers.specs.Header.{size_known, encoding_of, header_of}
 use Rattle.readers.proofs.HeaderLaws.{header-cases}
 use Rattle.readers.specs.References.{walk_of, walk_answer, references_answer}
 use Rattle.laws.specs.RefusalNumbers.{OneOf, HeaderRefusal, ReferencesRefusal, list_numbers, header_numbers, ListRefusal}
-use Rattle.readers.specs.declared.header.HeaderRead.{HeaderRead}
-use Rattle.readers.specs.declared.header.HeaderRead.TheVariants.{Unit as Unit', Empty, Refused}
-use Rattle.readers.specs.declared.expressions.Walk.{Walk}
-use Rattle.readers.specs.declared.expressions.Walk.TheVariants.{Walked, Unreadable as NoWalk}
-use Rattle.readers.specs.declared.expressions.References.{References}
-use Rattle.readers.specs.declared.expressions.References.TheVariants.{Count, Refused as Refused'}
+use Rattle.std.specs.Prelude.{Err, None, Ok, Option, Result, Some}
+use Rattle.readers.specs.declared.header.UnitHeader.{UnitHeader}
 use Rattle.marking.specs.Analysis.{header_by, Sections}
 use Rattle.marking.specs.KeepList.{keep_refusal, KeepList}
 use Rattle.marking.proofs.ListedHeaders.{by-list}
@@ -86,12 +82,12 @@ alone m n (inr o) = absurd o
 
 -- ---- the header: 1 or 2
 
-unfoldable pub HeaderNumbered : List ℕ → HeaderRead → Type 0
-HeaderNumbered ms Empty = Unit {0}
-HeaderNumbered ms (Refused n) = OneOf ms n
-HeaderNumbered ms (Unit' h) = Unit {0}
+unfoldable pub HeaderNumbered : List ℕ → Result (Option UnitHeader) ℕ → Type 0
+HeaderNumbered ms (Ok None) = Unit {0}
+HeaderNumbered ms (Err n) = OneOf ms n
+HeaderNumbered ms (Ok (Some h)) = Unit {0}
 
-refused-numbered : (ms : List ℕ) (n : ℕ) → OneOf ms n → HeaderNumbered ms (Refused n)
+refused-numbered : (ms : List ℕ) (n : ℕ) → OneOf ms n → HeaderNumbered ms (Err n)
 unfolding HeaderNumbered
 refused-numbered ms n o = o
 
@@ -100,7 +96,7 @@ unfolding HeaderNumbered
 header-among ms one two big s =
     header-cases big s (HeaderNumbered ms) (λ _. tt) (refused-numbered ms 1 one) (refused-numbered ms 2 two) (λ h l. tt)
 
-pub header-refusal : (big : Bool) (s : List ℕ) (n : ℕ) → header_of big s ≡ Refused n → HeaderRefusal n
+pub header-refusal : (big : Bool) (s : List ℕ) (n : ℕ) → header_of big s ≡ Err n → HeaderRefusal n
 unfolding HeaderNumbered is_one_of ◌or◌
 header-refusal big s n q = subst (HeaderNumbered header_numbers) q (header-among header_numbers (one_of _ 1 tt) (one_of _ 2 tt) big s)
 
@@ -127,26 +123,26 @@ early-numbered x s =
     (λ _. header-among early_numbers (one_of _ 1 tt) (one_of _ 2 tt) x.setting.big_endian s)
     (λ n. refused-numbered early_numbers _ (wider list_numbers early_numbers _ tt (list-refusal x.keep n)))
 
-pub early-refusal : (x : Sections) (s : List ℕ) (n : ℕ) → header_by x s ≡ Refused n → OneOf early_numbers n
+pub early-refusal : (x : Sections) (s : List ℕ) (n : ℕ) → header_by x s ≡ Err n → OneOf early_numbers n
 unfolding HeaderNumbered
 early-refusal x s n q = subst (HeaderNumbered early_numbers) q (early-numbered x s)
 
 -- ---- the references of an expression: 2, 5, 7 or 11
 
-unfoldable ReferencesNumbered : References → Type 0
-ReferencesNumbered (Count n) = Unit {0}
-ReferencesNumbered (Refused' n) = ReferencesRefusal n
+unfoldable ReferencesNumbered : Result ℕ ℕ → Type 0
+ReferencesNumbered (Ok n) = Unit {0}
+ReferencesNumbered (Err n) = ReferencesRefusal n
 
-walk-numbered : (room : ℕ) (w : Walk) → ReferencesNumbered (walk_answer room w)
+walk-numbered : (room : ℕ) (w : Option (ℕ × Bool)) → ReferencesNumbered (walk_answer room w)
 unfolding walk_answer ReferencesNumbered is_one_of ◌or◌
-walk-numbered room NoWalk = one_of _ 5 tt
-walk-numbered room (Walked n true) = one_of _ 7 tt
-walk-numbered room (Walked n false) = pick-either ReferencesNumbered (leb n room) (Count n) (Refused' 11) (λ _. tt) (λ _. one_of _ 11 tt)
+walk-numbered room None = one_of _ 5 tt
+walk-numbered room (Some (n, true)) = one_of _ 7 tt
+walk-numbered room (Some (n, false)) = pick-either ReferencesNumbered (leb n room) (Ok n) (Err 11) (λ _. tt) (λ _. one_of _ 11 tt)
 
-pub references-refusal : (a w : ℕ) (big : Bool) (numbers : ℕ) (s : List ℕ) (k : ℕ) → references_answer a w big numbers s ≡ Refused' k
+pub references-refusal : (a w : ℕ) (big : Bool) (numbers : ℕ) (s : List ℕ) (k : ℕ) → references_answer a w big numbers s ≡ Err k
     → ReferencesRefusal k
 unfolding references_answer ReferencesNumbered is_one_of ◌or◌
 references-refusal a w big numbers s k q =
     subst ReferencesNumbered q
-    (pick-either ReferencesNumbered (size_known a and size_known w) (walk_answer (numbers / 3) (walk_of (encoding_of big 5 w a) s)) (Refused' 2)
+    (pick-either ReferencesNumbered (size_known a and size_known w) (walk_answer (numbers / 3) (walk_of (encoding_of big 5 w a) s)) (Err 2)
     (λ _. walk-numbered (numbers / 3) (walk_of (encoding_of big 5 w a) s)) (λ _. one_of _ 2 tt))

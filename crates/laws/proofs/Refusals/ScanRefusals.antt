@@ -7,13 +7,11 @@ use Rattle.readers.specs.Choice.{◌or◌}
 use Rattle.readers.proofs.Choice.{pick-either}
 use Rattle.laws.specs.RefusalNumbers.{ScanRefusal}
 use Rattle.readers.specs.declared.cursor.Encoding.{Encoding}
-use Rattle.readers.specs.declared.expressions.Walk.{Walk}
-use Rattle.readers.specs.declared.expressions.Walk.TheVariants.{Walked, Unreadable as NoWalk}
-use Rattle.readers.specs.declared.lists.ListOffset.{ListOffset}
-use Rattle.readers.specs.declared.lists.ListOffset.TheVariants.{At, Unresolved}
-use Rattle.readers.specs.declared.operations.ListEntry.{ListEntry}
+use Rattle.std.specs.Prelude.{Bool, None, Option, Some}
+use Rattle.readers.specs.declared.cursor.Cursor.{Cursor}
 use Rattle.readers.specs.declared.operations.ListStep.{ListStep}
-use Rattle.readers.specs.declared.operations.ListStep.TheVariants.{Entry, End, Unreadable as NoEntry}
+use Rattle.readers.specs.declared.operations.ListEntry.{ListEntry}
+use Rattle.readers.specs.declared.operations.ListStep.TheVariants.{Entry, End}
 use Rattle.laws.proofs.Refusals.ReaderRefusals.{is_one_of, one_of}
 use Rattle.readers.specs.EntryAttributes.{Valued}
 use Rattle.marking.specs.EntryReferences.{ReferencesFound, found, refused as refused_after, after, and_then, walk_found, expression_found, ListReached, location_found, on_location, location_step, list_found, Locations, attribute_found, attributes_found}
@@ -49,11 +47,11 @@ unfolding and_then FoundNumbered
 then-numbered (found xs) g p q = after-numbered xs g q
 then-numbered (refused_after xs n) g p q = p
 
-walk-found-numbered : (xs : List ℕ) (w : Walk) → FoundNumbered (walk_found xs w)
+walk-found-numbered : (xs : List ℕ) (w : Option (ℕ × Bool)) → FoundNumbered (walk_found xs w)
 unfolding walk_found FoundNumbered
-walk-found-numbered xs NoWalk = no-five
-walk-found-numbered xs (Walked n true) = no_seven
-walk-found-numbered xs (Walked n false) = tt
+walk-found-numbered xs None = no-five
+walk-found-numbered xs (Some (n, true)) = no_seven
+walk-found-numbered xs (Some (n, false)) = tt
 
 expression-numbered : (e : Encoding) (s : List ℕ) → FoundNumbered (expression_found e s)
 unfolding expression_found
@@ -68,16 +66,16 @@ unfolding on_location NextNumbered FoundNumbered
 on-numbered sofar x (found ys) q = tt
 on-numbered sofar x (refused_after ys n) q = q
 
-location-step-numbered : (e : Encoding) (s sofar : List ℕ) (t : ListStep) → NextNumbered {S = ListReached} FoundNumbered (location_step e s sofar t)
+location-step-numbered : (e : Encoding) (s sofar : List ℕ) (t : Option ListStep) → NextNumbered {S = ListReached} FoundNumbered (location_step e s sofar t)
 unfolding location_step NextNumbered FoundNumbered
-location-step-numbered e s sofar (Entry x) = on-numbered sofar x _ (located-numbered e s x)
-location-step-numbered e s sofar End = tt
-location-step-numbered e s sofar NoEntry = no-five
+location-step-numbered e s sofar (Some (Entry x)) = on-numbered sofar x _ (located-numbered e s x)
+location-step-numbered e s sofar (Some End) = tt
+location-step-numbered e s sofar None = no-five
 
-list-numbered : (e : Encoding) (s : List ℕ) (o : ListOffset) → FoundNumbered (list_found e s o)
+list-numbered : (e : Encoding) (s : List ℕ) (o : Option Cursor) → FoundNumbered (list_found e s o)
 unfolding list_found
-list-numbered e s (At c) = walk-numbered {S = ListReached} FoundNumbered _ _ (λ p. location-step-numbered e s _ _) (found-numbered []) _ _ _
-list-numbered e s Unresolved = no-numbered [] 5 no-five
+list-numbered e s (Some c) = walk-numbered {S = ListReached} FoundNumbered _ _ (λ p. location-step-numbered e s _ _) (found-numbered []) _ _ _
+list-numbered e s None = no-numbered [] 5 no-five
 
 attribute-numbered : (e : Encoding) (x : Locations) (a : Valued) → FoundNumbered (attribute_found e x a)
 unfolding attribute_found

@@ -4,7 +4,7 @@ use mathlib.Core.Path.{◌≡◌, refl, sym, ap, ◌∙◌, subst}
 use mathlib.Core.Bool.{Bool, true, false, not, false≢true}
 use mathlib.Core.List.{List, [], ◌∷◌}
 use mathlib.Core.Logic.{◌⊎◌, inl, inr, ⊎_elim, ◌↔◌}
-use mathlib.Core.Option.{Option, none, some}
+use Rattle.std.specs.Prelude.{None, Option, Some}
 use native.Mathlib.Omega.{arith}
 use lib.Dec.{T, leb, eqb}
 use mir.Facts.{eqb_yes, eqb_no, yes_eqb, no_eqb, leb_yes, yes_leb}
@@ -74,7 +74,7 @@ new_in : (n : ℕ) (kept : List NestedItem) (v : ℕ) → is_some (new_of (place
 unfolding places_from new_of is_some
 new_in n [] v = λ q. absurd (false≢true q)
 new_in n (y ∷ kept) v =
-    pick-either (λ (o : Option ℕ). is_some o ≡ true → KeptAt (y ∷ kept) v) (eqb (offset_of y.item) v) (some n) (new_of (places_from (n + size_of y.item) kept) v)
+    pick-either (λ (o : Option ℕ). is_some o ≡ true → KeptAt (y ∷ kept) v) (eqb (offset_of y.item) v) (Some n) (new_of (places_from (n + size_of y.item) kept) v)
     (λ t _. record { s = y; in_kept = here refl; named = eqb_yes {a = offset_of y.item} {b = v} t })
     (λ _ q. at_next y kept v (new_in (n + size_of y.item) kept v q))
 
@@ -85,7 +85,7 @@ after-in : (n : ℕ) (kept : List NestedItem) (depth v : ℕ) → is_some (first
 unfolding places_from first_from is_some
 after-in n [] depth v = λ q. absurd (false≢true q)
 after-in n (y ∷ kept) depth v =
-    pick-either (λ (o : Option ℕ). is_some o ≡ true → KeptAfter (y ∷ kept) depth v) (leb v (offset_of y.item) and leb y.depth depth) (some n)
+    pick-either (λ (o : Option ℕ). is_some o ≡ true → KeptAfter (y ∷ kept) depth v) (leb v (offset_of y.item) and leb y.depth depth) (Some n)
     (first_from (places_from (n + size_of y.item) kept) depth v)
     (λ t _. let p = and_both (leb v (offset_of y.item)) (leb y.depth depth) t in
     record { s = y; in_kept = here refl; after = leb_yes {a = v} {b = offset_of y.item} p.0; no_deeper = leb_yes {a = y.depth} {b = depth} p.1 })
@@ -100,7 +100,7 @@ after-by n (y ∷ kept) depth v s (here e) a d =
     (yes_leb {a = v} {b = offset_of y.item} (subst (λ (z : NestedItem). v ≤ offset_of z.item) e a))
     (yes_leb {a = y.depth} {b = depth} (subst (λ (z : NestedItem). z.depth ≤ depth) e d))))
 after-by n (y ∷ kept) depth v s (there m) a d =
-    pick-either (λ (o : Option ℕ). is_some o ≡ true) (leb v (offset_of y.item) and leb y.depth depth) (some n) _
+    pick-either (λ (o : Option ℕ). is_some o ≡ true) (leb v (offset_of y.item) and leb y.depth depth) (Some n) _
     (λ _. refl) (λ _. after-by (n + size_of y.item) kept depth v s m a d)
 
 after-out : (n : ℕ) (kept : List NestedItem) (depth v : ℕ) → KeptAfter kept depth v → is_some (first_from (places_from n kept) depth v) ≡ true
@@ -108,18 +108,18 @@ after-out n kept depth v k = after-by n kept depth v k.s k.in_kept k.after k.no_
 
 or-in : (a b : Option ℕ) → is_some (or_else a b) ≡ true → (is_some a ≡ true) ⊎ (is_some b ≡ true)
 unfolding or_else is_some
-or-in none b q = inr q
-or-in (some v) b q = inl refl
+or-in None b q = inr q
+or-in (Some v) b q = inl refl
 
 or_left : (a b : Option ℕ) → is_some a ≡ true → is_some (or_else a b) ≡ true
 unfolding or_else is_some
-or_left none b q = absurd (false≢true q)
-or_left (some v) b q = refl
+or_left None b q = absurd (false≢true q)
+or_left (Some v) b q = refl
 
 or_right : (a b : Option ℕ) → is_some b ≡ true → is_some (or_else a b) ≡ true
 unfolding or_else is_some
-or_right none b q = q
-or_right (some v) b q = refl
+or_right None b q = q
+or_right (Some v) b q = refl
 
 one_in : (a b : Bool) → (a or b) ≡ true → T a ⊎ (b ≡ true)
 unfolding ◌or◌

@@ -6,7 +6,7 @@ use native.Mathlib.Omega.{arith}
 use mathlib.Core.Bool.{Bool, true, false, not}
 use mathlib.Core.List.{List, [], ◌∷◌}
 use mathlib.Core.Logic.{◌⊎◌, inl, inr, ⊎_elim}
-use mathlib.Core.Option.{Option, none, some}
+use Rattle.std.specs.Prelude.{Err, None, Ok, Option, Result, Some}
 use lib.ListN.{length, take, length-append}
 use lib.Seq.{take_all}
 use lib.Dec.{T, leb, ltb, eqb}
@@ -18,8 +18,6 @@ use Rattle.readers.specs.Abbreviations.{Placed, abbreviations_of}
 use Rattle.readers.specs.Header.{header_of}
 use Rattle.readers.specs.Stream.{Item, entry, terminator}
 use Rattle.readers.specs.declared.header.UnitHeader.{UnitHeader}
-use Rattle.readers.specs.declared.header.HeaderRead.{HeaderRead}
-use Rattle.readers.specs.declared.header.HeaderRead.TheVariants.{Unit as Header', Empty, Refused}
 use Rattle.readers.specs.Nesting.{opened, closed}
 use Rattle.laws.proofs.Refusals.ReaderRefusals.{is_one_of, are_of, one_of, wider, are_apart, apart, header-refusal, list-refusal}
 use Rattle.marking.specs.Analysis.{Sections, Rooms, EntryRow, Analysed, analysed, refused as not_analysed, on_declared, unit_analysed, header_analysed, analysis_of, header_by}
@@ -100,8 +98,8 @@ unfolding rows_collected
 rows-marked x lent type_units u [] h = absurd (omega arith)
 rows-marked x lent type_units u (r ∷ rows) h = refl
 
-module _ (x : Sections) (type_units : Bool) (section : List ℕ) (h : UnitHeader) (ds : List Placed) (header : header_of x.setting.big_endian section ≡ Header' h)
-    (declared : abbreviations_of x.abbreviations h.abbreviations ≡ some ds) (rows : List EntryRow) (some-row : 0 < length rows) (tables : TableLaw x section rows) where
+module _ (x : Sections) (type_units : Bool) (section : List ℕ) (h : UnitHeader) (ds : List Placed) (header : header_of x.setting.big_endian section ≡ Ok (Some h))
+    (declared : abbreviations_of x.abbreviations h.abbreviations ≡ Some ds) (rows : List EntryRow) (some-row : 0 < length rows) (tables : TableLaw x section rows) where
   abbrev unit : Unit'
   unit = unit_of h section ds
 
@@ -219,21 +217,21 @@ module _ (x : Sections) (type_units : Bool) (section : List ℕ) (h : UnitHeader
 -- ---- a unit without entries
 
 module _ (x : Sections) (type_units : Bool) (section : List ℕ) (lent : Room) where
-  declared-empty : (h : UnitHeader) (o : Option (List Placed)) → abbreviations_of x.abbreviations h.abbreviations ≡ o → header_by x section ≡ Header' h
+  declared-empty : (h : UnitHeader) (o : Option (List Placed)) → abbreviations_of x.abbreviations h.abbreviations ≡ o → header_by x section ≡ Ok (Some h)
       → analysis_of x section lent.tables ≡ analysed [] → declared_collected x lent type_units section h o ≡ untouched 0 no_lists
   unfolding declared_collected analysed_collected rows_collected analysis_of header_analysed unit_analysed on_declared
-  declared-empty h none d q a =
+  declared-empty h None d q a =
       let r : on_declared (abbreviations_of x.abbreviations h.abbreviations) _ ≡ analysed [] = sym (ap (header_analysed x section lent.tables) q) ∙ a in
       let z : ◌≡◌ {A = ℕ} 0 1 = cc in absurd (omega arith)
-  declared-empty h (some ds) d q a = ap (analysed_collected x lent type_units (unit_of h section ds)) a
+  declared-empty h (Some ds) d q a = ap (analysed_collected x lent type_units (unit_of h section ds)) a
 
-  header-empty : (o : HeaderRead) → header_by x section ≡ o → analysis_of x section lent.tables ≡ analysed [] → header_collected x lent type_units section o ≡ untouched 0 no_lists
+  header-empty : (o : Result (Option UnitHeader) ℕ) → header_by x section ≡ o → analysis_of x section lent.tables ≡ analysed [] → header_collected x lent type_units section o ≡ untouched 0 no_lists
   unfolding header_collected analysis_of header_analysed
-  header-empty Empty q a = refl
-  header-empty (Refused n) q a =
+  header-empty (Ok None) q a = refl
+  header-empty (Err n) q a =
       let r : not_analysed n ≡ analysed [] = sym (ap (header_analysed x section lent.tables) q) ∙ a in
       let z : ◌≡◌ {A = ℕ} 0 1 = cc in absurd (omega arith)
-  header-empty (Header' h) q a = declared-empty h (abbreviations_of x.abbreviations h.abbreviations) refl q a
+  header-empty (Ok (Some h)) q a = declared-empty h (abbreviations_of x.abbreviations h.abbreviations) refl q a
 
   collected-empty : analysis_of x section lent.tables ≡ analysed [] → collect_of x lent type_units section ≡ untouched 0 no_lists
   unfolding collect_of
@@ -475,7 +473,7 @@ insert-all-length (v ∷ vs) xs = omega (arith, insert-length v xs, insert-all-l
 list_count_lem : (x : Sections) (u : Unit') (absent : Bool) (k : ℕ) (kept : List NestedItem) → count_of (list_of x u absent k kept) ≤ length (indices_from x u k kept)
 unfolding list_of count_of
 list_count_lem x u absent k kept =
-    pick-either (λ (o : Option (List ℕ)). count_of o ≤ length (indices_from x u k kept)) absent none (some (insert_all (indices_from x u k kept) [])) (λ _. omega arith)
+    pick-either (λ (o : Option (List ℕ)). count_of o ≤ length (indices_from x u k kept)) absent None (Some (insert_all (indices_from x u k kept) [])) (λ _. omega arith)
     (λ _. omega (arith, insert-all-length (indices_from x u k kept) []))
 
 -- ---- with it, neither 10 to 14
@@ -531,19 +529,19 @@ module _ (x : Sections) (lent : Room) (type_units : Bool) (section : List ℕ) w
 
   declared-roomy : (h : UnitHeader) (o : Option (List Placed)) → Within (declared_room x section h o) lent → Roomy (declared_collected x lent type_units section h o)
   unfolding declared_collected declared_room Roomy is_one_of ◌or◌
-  declared-roomy h none w = one_of roomy_numbers 3 tt
-  declared-roomy h (some ds) w = analysed-roomy (unit_of h section ds) w (analysis_of x section lent.tables) refl
+  declared-roomy h None w = one_of roomy_numbers 3 tt
+  declared-roomy h (Some ds) w = analysed-roomy (unit_of h section ds) w (analysis_of x section lent.tables) refl
 
-  header-roomy : (o : HeaderRead) → header_of x.setting.big_endian section ≡ o → Within (header_room x section o) lent → Roomy (header_collected x lent type_units section o)
+  header-roomy : (o : Result (Option UnitHeader) ℕ) → header_of x.setting.big_endian section ≡ o → Within (header_room x section o) lent → Roomy (header_collected x lent type_units section o)
   unfolding header_collected header_room Roomy are_of is_one_of ◌or◌ ◌and◌
-  header-roomy Empty q w = tt
-  header-roomy (Refused n) q w = wider header_numbers roomy_numbers n tt (header-refusal x.setting.big_endian section n q)
-  header-roomy (Header' h) q w = declared-roomy h (abbreviations_of x.abbreviations h.abbreviations) w
+  header-roomy (Ok None) q w = tt
+  header-roomy (Err n) q w = wider header_numbers roomy_numbers n tt (header-refusal x.setting.big_endian section n q)
+  header-roomy (Ok (Some h)) q w = declared-roomy h (abbreviations_of x.abbreviations h.abbreviations) w
 
   list-roomy : Within (enough_room x section) lent → Roomy (header_collected x lent type_units section (header_by x section))
   unfolding header_collected enough_room Roomy are_of is_one_of ◌or◌ ◌and◌
   list-roomy w =
-      by-list x section (λ (o : HeaderRead). Roomy (header_collected x lent type_units section o))
+      by-list x section (λ (o : Result (Option UnitHeader) ℕ). Roomy (header_collected x lent type_units section o))
       (λ _. header-roomy (header_of x.setting.big_endian section) refl w) (λ n. wider list_numbers roomy_numbers _ tt (list-refusal x.keep n))
 
   -- "with enough room 10 to 14 never come"

@@ -6,7 +6,7 @@ use native.Mathlib.Omega.{arith}
 use mathlib.Core.Bool.{Bool, true, false}
 use mathlib.Core.List.{List, [], ◌∷◌, ◌++◌}
 use mathlib.Core.Logic.{⊎_elim}
-use mathlib.Core.Option.{Option, none, some}
+use Rattle.std.specs.Prelude.{Err, None, Ok, Option, Result, Some}
 use lib.ListN.{length, take, length-append}
 use lib.Seq.{take_all}
 use lib.Dec.{ltb, leb}
@@ -20,8 +20,6 @@ use Rattle.readers.specs.Stream.{Item, entry, terminator, items_from, entry_coun
 use Rattle.readers.specs.declared.cursor.Encoding.{Encoding}
 use Rattle.readers.specs.declared.entries.Entry.{Entry}
 use Rattle.readers.specs.declared.header.UnitHeader.{UnitHeader}
-use Rattle.readers.specs.declared.header.HeaderRead.{HeaderRead}
-use Rattle.readers.specs.declared.header.HeaderRead.TheVariants.{Unit as Unit', Empty, Refused}
 use Rattle.laws.proofs.Refusals.ReaderRefusals.{is_one_of, are_of, one_of, wider, HeaderNumbered, list-refusal, early-numbered, early_numbers}
 use Rattle.marking.specs.EntryReferences.{ReferencesFound, found}
 use Rattle.marking.specs.Analysis.{Sections, Rooms, EntryRow, Analysed, analysed, refused, onto, on_verdict, on_found, Reached, reached, start_of, root_of, names_of, base_of, analyse_items, on_declared, unit_analysed, header_analysed, analysis_of, header_by}
@@ -182,14 +180,14 @@ module _ (x : Sections) (w r : Rooms) where
         → Gives (λ rows. Told 0 0 rows r (on_declared o (λ ds. analyse_items e x unit r (start_of e) (items_from e x.abbreviations (declared_in ds) unit first).0 (items_from e x.abbreviations (declared_in ds) unit first).1)))
         (on_declared o (λ ds. analyse_items e x unit w (start_of e) (items_from e x.abbreviations (declared_in ds) unit first).0 (items_from e x.abbreviations (declared_in ds) unit first).1))
     unfolding on_declared
-    declared-told first none = gives-refused _ 3
-    declared-told first (some ds) = items-told (start_of e) (items_from e x.abbreviations (declared_in ds) unit first).0 (items_from e x.abbreviations (declared_in ds) unit first).1
+    declared-told first None = gives-refused _ 3
+    declared-told first (Some ds) = items-told (start_of e) (items_from e x.abbreviations (declared_in ds) unit first).0 (items_from e x.abbreviations (declared_in ds) unit first).1
 
-  header-told : (section : List ℕ) (o : HeaderRead) → Gives (λ rows. Told 0 0 rows r (header_analysed x section r o)) (header_analysed x section w o)
+  header-told : (section : List ℕ) (o : Result (Option UnitHeader) ℕ) → Gives (λ rows. Told 0 0 rows r (header_analysed x section r o)) (header_analysed x section w o)
   unfolding header_analysed unit_analysed
-  header-told section Empty = end-given _ (told-end r 0 0)
-  header-told section (Refused n) = gives-refused _ n
-  header-told section (Unit' u) = declared-told u.encoding (take u.end section) u.first.0 (abbreviations_of x.abbreviations u.abbreviations)
+  header-told section (Ok None) = end-given _ (told-end r 0 0)
+  header-told section (Err n) = gives-refused _ n
+  header-told section (Ok (Some u)) = declared-told u.encoding (take u.end section) u.first.0 (abbreviations_of x.abbreviations u.abbreviations)
 
   rooms-told : (section : List ℕ) (rows : List EntryRow) → analysis_of x section w ≡ analysed rows → Told 0 0 rows r (analysis_of x section r)
   unfolding analysis_of
@@ -250,20 +248,20 @@ module _ (x : Sections) (section : List ℕ) (room : Rooms) where
   declared-input : (h : UnitHeader) (o : Option (List Placed)) → TablesWithin (declared_tables h.encoding x (take h.end section) h.first.0 o) room
       → AnalysedOf input_numbers (declared_analysed x section room h o)
   unfolding on_declared declared_tables is_one_of ◌or◌
-  declared-input h none t = none_of input_numbers 3 (one_of input_numbers 3 tt)
-  declared-input h (some ds) t =
+  declared-input h None t = none_of input_numbers 3 (one_of input_numbers 3 tt)
+  declared-input h (Some ds) t =
       items-input h.encoding x (take h.end section) room (start_of h.encoding) _ _ (omega (arith, t.entries)) (omega (arith, t.references))
 
-  header-input : (h : HeaderRead) → HeaderNumbered early_numbers h → TablesWithin (header_tables x section h) room → AnalysedOf input_numbers (header_analysed x section room h)
+  header-input : (h : Result (Option UnitHeader) ℕ) → HeaderNumbered early_numbers h → TablesWithin (header_tables x section h) room → AnalysedOf input_numbers (header_analysed x section room h)
   unfolding header_analysed unit_analysed header_tables HeaderNumbered is_one_of are_of ◌or◌ ◌and◌
-  header-input Empty q t = rows_of input_numbers []
-  header-input (Refused n) q t = none_of input_numbers n (wider early_numbers input_numbers n tt q)
-  header-input (Unit' h) q t = declared-input h (abbreviations_of x.abbreviations h.abbreviations) t
+  header-input (Ok None) q t = rows_of input_numbers []
+  header-input (Err n) q t = none_of input_numbers n (wider early_numbers input_numbers n tt q)
+  header-input (Ok (Some h)) q t = declared-input h (abbreviations_of x.abbreviations h.abbreviations) t
 
   list-input : TablesWithin (enough_tables x section) room → AnalysedOf input_numbers (header_analysed x section room (header_by x section))
   unfolding header_analysed enough_tables is_one_of are_of ◌or◌ ◌and◌
   list-input t =
-      by-list x section (λ (o : HeaderRead). AnalysedOf input_numbers (header_analysed x section room o))
+      by-list x section (λ (o : Result (Option UnitHeader) ℕ). AnalysedOf input_numbers (header_analysed x section room o))
       (λ z. header-input (header_of x.setting.big_endian section) (subst (HeaderNumbered early_numbers) (header-taken x section z) (early-numbered x section)) t)
       (λ n. none_of input_numbers _ (wider list_numbers input_numbers _ tt (list-refusal x.keep n)))
 

@@ -4,7 +4,7 @@ use Prim.Native.Nat.{ℕ, zero, suc, ◌+◌, ◌*◌, ◌≤◌, ◌<◌}
 use native.Mathlib.Omega.{arith}
 use mathlib.Core.Bool.{true}
 use mathlib.Core.List.{List, [], ◌∷◌, ◌++◌}
-use mathlib.Core.Option.{Option, none, some}
+use Rattle.std.specs.Prelude.{None, Option, Some}
 use mathlib.Core.Logic.{◌⊎◌, inl, inr, ⊎_elim, ◌↔◌}
 use lib.ListN.{length, get_or}
 use lib.Dec.{eqb}
@@ -95,11 +95,11 @@ record EntryAt (rows : List EntryRow) (k v t : ℕ) : Type 0 where
   pub is : t ≡ k + place
   pub offset_is : row.offset ≡ v
 
-entry-out : (rows : List EntryRow) (k v t : ℕ) → entry_from k (offsets_in rows) v ≡ some t → EntryAt rows k v t
+entry-out : (rows : List EntryRow) (k v t : ℕ) → entry_from k (offsets_in rows) v ≡ Some t → EntryAt rows k v t
 unfolding entry_from offsets_in
 entry-out [] k v t q = let z : ◌≡◌ {A = ℕ} 0 1 = cc in absurd (omega arith)
 entry-out (r ∷ rows) k v t q =
-    pick-either (λ (o : Option ℕ). o ≡ some t → EntryAt (r ∷ rows) k v t) (eqb r.offset v) (some k) (entry_from (suc k) (offsets_in rows) v)
+    pick-either (λ (o : Option ℕ). o ≡ Some t → EntryAt (r ∷ rows) k v t) (eqb r.offset v) (Some k) (entry_from (suc k) (offsets_in rows) v)
     (λ e p. record { row = r; place = 0; at = now refl; is = (let z : k ≡ t = cc in omega arith); offset_is = eqb_yes {a = r.offset} {b = v} e })
     (λ e p. let a : EntryAt rows (suc k) v t = entry-out rows (suc k) v t p in
     record { row = a.row; place = suc a.place; at = later a.at; is = omega (arith, a.is); offset_is = a.offset_is }) q
@@ -110,16 +110,16 @@ offset-member r i [] m = elim m [ ]
 offset-member r i (x ∷ rows) (now e) = here (ap (λ (z : EntryRow). z.offset) e)
 offset-member r i (x ∷ rows) (later {n = j} m) = there (offset-member r j rows m)
 
-entry_in : (low : ℕ) (rows : List EntryRow) → Ascending low (offsets_in rows) → (k i : ℕ) (r : EntryRow) → Nth r i rows → entry_from k (offsets_in rows) r.offset ≡ some (k + i)
+entry_in : (low : ℕ) (rows : List EntryRow) → Ascending low (offsets_in rows) → (k i : ℕ) (r : EntryRow) → Nth r i rows → entry_from k (offsets_in rows) r.offset ≡ Some (k + i)
 unfolding entry_from offsets_in Ascending
 entry_in low [] f k i r m = elim m [ ]
 entry_in low (x ∷ rows) f k i r (now e) =
-    pick_yes _ _ _ (yes_eqb {a = x.offset} {b = r.offset} (ap (λ (z : EntryRow). z.offset) (sym e))) ∙ ap (λ (z : ℕ). some z) (let q : k ≡ k + 0 = omega arith in q)
+    pick_yes _ _ _ (yes_eqb {a = x.offset} {b = r.offset} (ap (λ (z : EntryRow). z.offset) (sym e))) ∙ ap (λ (z : ℕ). Some z) (let q : k ≡ k + 0 = omega arith in q)
 entry_in low (x ∷ rows) f k i r (later {n = j} m) =
     let h : suc x.offset ≤ r.offset = from_member (suc x.offset) r.offset (offsets_in rows) f.1 (offset-member r j rows m) in
     pick_no _ _ _ (no_eqb {a = x.offset} {b = r.offset} (omega arith))
     ∙ entry_in (suc x.offset) rows f.1 (suc k) j r m
-    ∙ ap (λ (z : ℕ). some z) (let q : suc k + j ≡ k + suc j = omega arith in q)
+    ∙ ap (λ (z : ℕ). Some z) (let q : suc k + j ≡ k + suc j = omega arith in q)
 
 -- ---- pairs
 
@@ -167,7 +167,7 @@ module _ (s t : ℕ) where
   record NamedAmong (os : List ℕ) (ts : List ℕ) : Type 0 where
     pub offset : ℕ
     pub among : Member offset ts
-    pub finds : entry_from 0 os offset ≡ some t
+    pub finds : entry_from 0 os offset ≡ Some t
 
   module _ (os : List ℕ) (i : ℕ) where
     held_more : (v : ℕ) (ts ys : List ℕ) → ((i ≡ s) × NamedAmong os ts) ⊎ Pair ys → ((i ≡ s) × NamedAmong os (v ∷ ts)) ⊎ Pair ys
@@ -177,10 +177,10 @@ module _ (s t : ℕ) where
     held_one : (v : ℕ) (ts ys zs : List ℕ) → (Pair (zs ++ ys) → ((i ≡ s) × NamedAmong os ts) ⊎ Pair ys) → (o : Option ℕ) → entry_from 0 os v ≡ o
         → Pair ((pair_for i o ++ zs) ++ ys) → ((i ≡ s) × NamedAmong os (v ∷ ts)) ⊎ Pair ys
     unfolding pair_for Pair
-    held_one v ts ys zs k none q p = held_more v ts ys (k p)
-    held_one v ts ys zs k (some u) q p =
+    held_one v ts ys zs k None q p = held_more v ts ys (k p)
+    held_one v ts ys zs k (Some u) q p =
         ⊎_elim
-        (λ (h : (i ≡ s) × (u ≡ t)). inl (h.0, record { offset = v; among = here refl; finds = q ∙ ap (λ (z : ℕ). some z) h.1 }))
+        (λ (h : (i ≡ s) × (u ≡ t)). inl (h.0, record { offset = v; among = here refl; finds = q ∙ ap (λ (z : ℕ). Some z) h.1 }))
         (λ (h : Pair (zs ++ ys)). held_more v ts ys (k h)) p
 
     held_out : (ts ys : List ℕ) → Pair (pairs_of_entry os i ts ++ ys) → ((i ≡ s) × NamedAmong os ts) ⊎ Pair ys
@@ -190,20 +190,20 @@ module _ (s t : ℕ) where
 
     over-one : (o : Option ℕ) (zs ys : List ℕ) → Pair (zs ++ ys) → Pair ((pair_for i o ++ zs) ++ ys)
     unfolding pair_for Pair
-    over-one none zs ys p = p
-    over-one (some u) zs ys p = inr p
+    over-one None zs ys p = p
+    over-one (Some u) zs ys p = inr p
 
-    this-one : (o : Option ℕ) (zs ys : List ℕ) → i ≡ s → o ≡ some t → Pair ((pair_for i o ++ zs) ++ ys)
+    this-one : (o : Option ℕ) (zs ys : List ℕ) → i ≡ s → o ≡ Some t → Pair ((pair_for i o ++ zs) ++ ys)
     unfolding pair_for Pair
-    this-one none zs ys e q = let z : ◌≡◌ {A = ℕ} 0 1 = cc in absurd (omega arith)
-    this-one (some u) zs ys e q = inl (e, cc)
+    this-one None zs ys e q = let z : ◌≡◌ {A = ℕ} 0 1 = cc in absurd (omega arith)
+    this-one (Some u) zs ys e q = inl (e, cc)
 
     held-over : (ts ys : List ℕ) → Pair ys → Pair (pairs_of_entry os i ts ++ ys)
     unfolding pairs_of_entry
     held-over [] ys p = p
     held-over (v ∷ ts) ys p = over-one (entry_from 0 os v) (pairs_of_entry os i ts) ys (held-over ts ys p)
 
-    held_in : (ts ys : List ℕ) → i ≡ s → (v : ℕ) → Member v ts → entry_from 0 os v ≡ some t → Pair (pairs_of_entry os i ts ++ ys)
+    held_in : (ts ys : List ℕ) → i ≡ s → (v : ℕ) → Member v ts → entry_from 0 os v ≡ Some t → Pair (pairs_of_entry os i ts ++ ys)
     unfolding pairs_of_entry
     held_in [] ys e v m q = absurd (nothing-in v m)
     held_in (z ∷ ts) ys e v (here h) q = this-one (entry_from 0 os z) (pairs_of_entry os i ts) ys e (ap (entry_from 0 os) (sym h) ∙ q)
@@ -254,8 +254,8 @@ module _ (rows : List EntryRow) (low : ℕ) (ascending : Ascending low (offsets_
   names-row : NamesIn rows s t → names (graph_of rows) s t ≡ true
   unfolding graph_of references pairs_in
   names-row n =
-      let f : entry_from 0 (offsets_in rows) n.named.offset ≡ some t =
-      entry_in low rows ascending 0 t n.named n.named_at ∙ ap (λ (z : ℕ). some z) (let e : 0 + t ≡ t = omega arith in e) in
+      let f : entry_from 0 (offsets_in rows) n.named.offset ≡ Some t =
+      entry_in low rows ascending 0 t n.named n.named_at ∙ ap (λ (z : ℕ). Some z) (let e : 0 + t ≡ t = omega arith in e) in
       let a : PairAt s t (pairs_from (offsets_in rows) 0 rows) =
       pair-at s t (pairs_from (offsets_in rows) 0 rows)
       (rows_in s t (offsets_in rows) 0 rows s n.row n.at (omega arith) (record { offset = n.named.offset; among = n.among; finds = f })) in

@@ -5,7 +5,7 @@ use Prim.Native.Nat.{ℕ, suc, ◌<◌}
 use native.Mathlib.Omega.{arith}
 use mathlib.Core.Bool.{Bool, true}
 use mathlib.Core.List.{List, [], ◌∷◌}
-use mathlib.Core.Option.{Option, none, some}
+use Rattle.std.specs.Prelude.{Err, None, Ok, Option, Result, Some}
 use mathlib.Core.Logic.{◌⊎◌, inl, inr, ⊎_elim}
 use lib.ListN.{length, get_or, take}
 use Rattle.readers.specs.Lists.{list_base}
@@ -16,8 +16,6 @@ use Rattle.readers.specs.Header.{header_of}
 use Rattle.readers.specs.declared.cursor.Encoding.{Encoding}
 use Rattle.readers.specs.declared.entries.Entry.{Entry}
 use Rattle.readers.specs.declared.header.UnitHeader.{UnitHeader}
-use Rattle.readers.specs.declared.header.HeaderRead.{HeaderRead}
-use Rattle.readers.specs.declared.header.HeaderRead.TheVariants.{Unit as Unit', Empty, Refused}
 use Rattle.readers.proofs.Headers.{header-empty}
 use Rattle.readers.proofs.HeaderLaws.{HeaderLaw, header-cases, header-laws}
 use Rattle.marking.specs.Below.{Number}
@@ -46,12 +44,12 @@ use Rattle.marking.proofs.ListedHeaders.{analysed-listed}
 
 -- ---- only an empty section has no header
 
-unfoldable NotEmpty : HeaderRead → Type 0
-NotEmpty Empty = ⊥
-NotEmpty (Refused n) = Unit {0}
-NotEmpty (Unit' h) = Unit {0}
+unfoldable NotEmpty : Result (Option UnitHeader) ℕ → Type 0
+NotEmpty (Ok None) = ⊥
+NotEmpty (Err n) = Unit {0}
+NotEmpty (Ok (Some h)) = Unit {0}
 
-empty-section : (big : Bool) (s : List ℕ) → header_of big s ≡ Empty → s ≡ []
+empty-section : (big : Bool) (s : List ℕ) → header_of big s ≡ Ok None → s ≡ []
 unfolding NotEmpty
 empty-section big [] q = refl
 empty-section big (b ∷ s) q =
@@ -88,16 +86,16 @@ module _ (x : Sections) (section : List ℕ) (room : Rooms) (rows : List EntryRo
 
   -- ---- the unit
 
-  undeclared : (h : UnitHeader) → header_of x.setting.big_endian section ≡ Unit' h → abbreviations_of x.abbreviations h.abbreviations ≡ none → ⊥
+  undeclared : (h : UnitHeader) → header_of x.setting.big_endian section ≡ Ok (Some h) → abbreviations_of x.abbreviations h.abbreviations ≡ None → ⊥
   unfolding analysis_of header_analysed unit_analysed on_declared
   undeclared h q d =
       let p = sym (ap (header_analysed x section room) (analysed-listed x section room rows analysis ∙ q)) ∙ analysis in
       let z : ◌≡◌ {A = ℕ} 0 1 = cc in omega arith
 
-  declared-unit : (h : UnitHeader) → header_of x.setting.big_endian section ≡ Unit' h
+  declared-unit : (h : UnitHeader) → header_of x.setting.big_endian section ≡ Ok (Some h)
       → (o : Option (List Placed)) → abbreviations_of x.abbreviations h.abbreviations ≡ o → FirstUnit x section rows
-  declared-unit h q none d = absurd (undeclared h q d)
-  declared-unit h q (some ds) d =
+  declared-unit h q None d = absurd (undeclared h q d)
+  declared-unit h q (Some ds) d =
       record {
         header = h;
         declared = ds;
@@ -108,12 +106,12 @@ module _ (x : Sections) (section : List ℕ) (room : Rooms) (rows : List EntryRo
         each = items-rows x section room h ds rows q d analysis;
       }
 
-  header-unit : (o : HeaderRead) → header_of x.setting.big_endian section ≡ o → header_analysed x section room o ≡ analysed rows
+  header-unit : (o : Result (Option UnitHeader) ℕ) → header_of x.setting.big_endian section ≡ o → header_analysed x section room o ≡ analysed rows
       → ((section ≡ []) × (rows ≡ [])) ⊎ FirstUnit x section rows
   unfolding header_analysed
-  header-unit Empty q a = inl (empty-section x.setting.big_endian section q, (let z : rows ≡ [] = cc in z))
-  header-unit (Refused n) q a = let z : ◌≡◌ {A = ℕ} 0 1 = cc in absurd (omega arith)
-  header-unit (Unit' h) q a = inr (declared-unit h q (abbreviations_of x.abbreviations h.abbreviations) refl)
+  header-unit (Ok None) q a = inl (empty-section x.setting.big_endian section q, (let z : rows ≡ [] = cc in z))
+  header-unit (Err n) q a = let z : ◌≡◌ {A = ℕ} 0 1 = cc in absurd (omega arith)
+  header-unit (Ok (Some h)) q a = inr (declared-unit h q (abbreviations_of x.abbreviations h.abbreviations) refl)
 
   first-unit : ((section ≡ []) × (rows ≡ [])) ⊎ FirstUnit x section rows
   unfolding analysis_of
@@ -194,9 +192,9 @@ module _ (x : Sections) (section : List ℕ) (a b : List EntryRow) where
 
   same_units : FirstUnit x section a → FirstUnit x section b → a ≡ b
   same_units u v =
-      let h : u.header ≡ v.header = (let z : Unit' u.header ≡ Unit' v.header = sym u.header_is ∙ v.header_is in cc) in
+      let h : u.header ≡ v.header = (let z : Ok (Some u.header) ≡ Ok (Some v.header) = sym u.header_is ∙ v.header_is in cc) in
       let d : u.declared ≡ v.declared =
-      (let z : some u.declared ≡ some v.declared =
+      (let z : Some u.declared ≡ Some v.declared =
       sym u.declared_is ∙ ap (λ (n : UnitHeader). abbreviations_of x.abbreviations n.abbreviations) h ∙ v.declared_is in cc) in
       same_rows v.header.encoding x (take v.header.end section) 0 [] (list_base v.header.encoding) (list_base v.header.encoding) (unit_items x section v.header v.declared).0 a b
       (subst (λ (n : UnitHeader). Each n v.declared) h (subst (Each u.header) d u.each))
@@ -204,8 +202,8 @@ module _ (x : Sections) (section : List ℕ) (a b : List EntryRow) where
 
   no-first : section ≡ [] → (rows : List EntryRow) → FirstUnit x section rows → ⊥
   no-first s rows u =
-      let p : header_of x.setting.big_endian section ≡ Empty = header-empty x.setting.big_endian section (ap length s) in
-      let q : header_of x.setting.big_endian section ≡ Unit' u.header = u.header_is in
+      let p : header_of x.setting.big_endian section ≡ Ok None = header-empty x.setting.big_endian section (ap length s) in
+      let q : header_of x.setting.big_endian section ≡ Ok (Some u.header) = u.header_is in
       let z : ◌≡◌ {A = ℕ} 0 1 = cc in omega arith
 
   -- what is promised of the rows is so of no others: no parent, list base or reference can be another one, and none can be missing

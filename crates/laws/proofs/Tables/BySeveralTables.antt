@@ -3,7 +3,9 @@
 use Prim.Native.Nat.{ℕ, ◌+◌}
 use mathlib.Core.Bool.{Bool, true, false}
 use mathlib.Core.List.{List, [], ◌∷◌}
-use mathlib.Core.Option.{Option, none, some}
+use Rattle.std.specs.Prelude.{Err, None, Ok, Option, Result, Some}
+use Rattle.readers.specs.declared.cursor.Cursor.{Cursor}
+use Rattle.readers.specs.declared.header.UnitHeader.{UnitHeader}
 use lib.ListN.{length, take}
 use lib.Dec.{eqb, ltb, leb}
 use Rattle.readers.specs.Choice.{pick, ◌and◌, ◌or◌}
@@ -15,9 +17,6 @@ use Rattle.readers.specs.Abbreviations.{Placed, abbreviations_of}
 use Rattle.readers.specs.Stream.{Item, entry, terminator}
 use Rattle.readers.specs.declared.attributes.Attribute.{Attribute}
 use Rattle.readers.specs.declared.cursor.Encoding.{Encoding}
-use Rattle.readers.specs.declared.header.HeaderRead.{HeaderRead}
-use Rattle.readers.specs.declared.header.HeaderRead.TheVariants.{Unit as Unit', Empty, Refused}
-use Rattle.readers.specs.declared.lists.ListOffset.{ListOffset}
 use Rattle.marking.specs.declared.root_test.Verdict.{Verdict}
 use Rattle.marking.specs.declared.root_test.Verdict.TheVariants.{Live, Dead}
 use Rattle.marking.specs.EntryReferences.{ReferencesFound, found, refused as refused_after}
@@ -50,8 +49,8 @@ pub record Verdicts {I : Type 0} (fixed : I → Bool) (table : I → List ℕ) (
   pub of-else : (v w : I → Verdict) → P v → P w → P (λ i. or_else (v i) (w i))
   pub of-low-pc : (e : Encoding) (a : Attribute) → P (λ i. low_pc e (table i) a)
   pub of-location : (e : Encoding) (s : List ℕ) → P (λ i. location_live e (fixed i) (table i) s)
-  pub of-ranges : (e : Encoding) (s : List ℕ) (o : ListOffset) → P (λ i. ranges_live e (table i) s o)
-  pub of-offset : (e : Encoding) (s : List ℕ) (o : ListOffset) → P (λ i. offset_live e s o)
+  pub of-ranges : (e : Encoding) (s : List ℕ) (o : Option Cursor) → P (λ i. ranges_live e (table i) s o)
+  pub of-offset : (e : Encoding) (s : List ℕ) (o : Option Cursor) → P (λ i. offset_live e s o)
 
 -- analyses, one by each; N is what holds of the numbers that say whether an entry is a root
 pub record Analyses {I : Type 0} (P : (I → Verdict) → Type 0) (N : (I → ℕ) → Type 0) (Q : (I → Analysed) → Type 0) : Type 0 where
@@ -139,15 +138,15 @@ module _ {I : Type 0} (fixed : I → Bool) (table : I → List ℕ) where
       declared-by : (o : Option (List Placed)) (k : I → List Placed → Analysed) → ((ds : List Placed) → Q (λ i. k i ds))
           → Q (λ i. on_declared o (k i))
       unfolding on_declared is_one_of ◌or◌
-      declared-by none k each = early 3 (one_of _ 3 tt)
-      declared-by (some ds) k each = each ds
+      declared-by None k each = early 3 (one_of _ 3 tt)
+      declared-by (Some ds) k each = each ds
 
-      pub header-by : (section : List ℕ) (room : Rooms) (h : HeaderRead) → HeaderNumbered early_numbers h
+      pub header-by : (section : List ℕ) (room : Rooms) (h : Result (Option UnitHeader) ℕ) → HeaderNumbered early_numbers h
           → Q (λ i. header_analysed (by i) section room h)
       unfolding header_analysed unit_analysed HeaderNumbered is_one_of are_of ◌or◌ ◌and◌
-      header-by section room Empty q = a.of_end
-      header-by section room (Refused n) q = early n (wider early_numbers _ n tt q)
-      header-by section room (Unit' h) q =
+      header-by section room (Ok None) q = a.of_end
+      header-by section room (Err n) q = early n (wider early_numbers _ n tt q)
+      header-by section room (Ok (Some h)) q =
           declared-by (abbreviations_of x.abbreviations h.abbreviations) _
           (λ ds. items-by h.encoding (take h.end section) room (start_of h.encoding) _ _)
 

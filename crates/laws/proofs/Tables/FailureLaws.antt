@@ -5,16 +5,14 @@ use Prim.Native.Nat.{ℕ}
 use native.Mathlib.Omega.{arith}
 use mathlib.Core.Bool.{Bool, false}
 use mathlib.Core.List.{List, [], ◌∷◌}
-use mathlib.Core.Option.{Option, none, some}
+use Rattle.std.specs.Prelude.{Err, None, Ok, Option, Result, Some}
+use Rattle.readers.specs.declared.cursor.Cursor.{Cursor}
 use Rattle.readers.specs.Choice.{◌and◌, ◌or◌}
 use Rattle.readers.specs.Abbreviations.{Placed, abbreviations_of}
 use Rattle.readers.specs.EntryAttributes.{Valued}
 use Rattle.readers.specs.declared.cursor.Encoding.{Encoding}
 use Rattle.readers.specs.declared.attributes.Attribute.{Attribute}
 use Rattle.readers.specs.declared.header.UnitHeader.{UnitHeader}
-use Rattle.readers.specs.declared.header.HeaderRead.{HeaderRead}
-use Rattle.readers.specs.declared.header.HeaderRead.TheVariants.{Unit as Header', Empty, Refused as NoHeader}
-use Rattle.readers.specs.declared.lists.ListOffset.{ListOffset}
 use Rattle.marking.specs.declared.root_test.Verdict.{Verdict}
 use Rattle.marking.specs.declared.root_test.Verdict.TheVariants.{Refused as Failed}
 use Rattle.marking.specs.declared.units.UnitMarks.{UnitMarks}
@@ -63,7 +61,7 @@ module _ (table : List ℕ) (n : ℕ) (o : OneOf table_numbers n) (e : Encoding)
   pub failure-location : (fixed : Bool) (s : List ℕ) → location_live e fixed table s ≡ Failed n → FailedBy (λ t. location_live e fixed t s) Failed table n
   failure-location fixed s = verdict-failed _ ((verdicts-told (settling table others) fixed five).of-location e s)
 
-  pub failure-ranges : (s : List ℕ) (l : ListOffset) → ranges_live e table s l ≡ Failed n → FailedBy (λ t. ranges_live e t s l) Failed table n
+  pub failure-ranges : (s : List ℕ) (l : Option Cursor) → ranges_live e table s l ≡ Failed n → FailedBy (λ t. ranges_live e t s l) Failed table n
   failure-ranges s l = verdict-failed _ ((verdicts-told (settling table others) false five).of-ranges e s l)
 
   pub failure-root : (ranges : List ℕ) (ranges_base rnglists_base : ℕ) (fixed : Bool) (unit : List ℕ) (tag : ℕ) (vs : List Valued)
@@ -119,21 +117,21 @@ module _ (x : Sections) (section : List ℕ) (room : Rooms) where
 
 module _ (x : Sections) (room : Room) (type_units : Bool) (section : List ℕ) where
   module _ (n : ℕ) (q : analysis_of x section room.tables ≡ not_analysed n) where
-    by-declared : (h : UnitHeader) → header_by x section ≡ Header' h → (o : Option (List Placed))
+    by-declared : (h : UnitHeader) → header_by x section ≡ Ok (Some h) → (o : Option (List Placed))
         → abbreviations_of x.abbreviations h.abbreviations ≡ o → declared_collected x room type_units section h o ≡ refused n
     unfolding declared_collected analysed_collected analysis_of header_analysed unit_analysed on_declared
-    by-declared h e (some ds) d = ap (analysed_collected x room type_units (unit_of h section ds)) q
-    by-declared h e none d =
-        let three : header_analysed x section room.tables (Header' h) ≡ not_analysed 3 = rw d in
+    by-declared h e (Some ds) d = ap (analysed_collected x room type_units (unit_of h section ds)) q
+    by-declared h e None d =
+        let three : header_analysed x section room.tables (Ok (Some h)) ≡ not_analysed 3 = rw d in
         ap refused (same-refusal 3 n (sym (ap (header_analysed x section room.tables) e ∙ three) ∙ q))
 
-    by-header : (h : HeaderRead) → header_by x section ≡ h → header_collected x room type_units section h ≡ refused n
+    by-header : (h : Result (Option UnitHeader) ℕ) → header_by x section ≡ h → header_collected x room type_units section h ≡ refused n
     unfolding header_collected analysis_of header_analysed
-    by-header Empty e =
+    by-header (Ok None) e =
         let r : analysed [] ≡ not_analysed n = sym (ap (header_analysed x section room.tables) e) ∙ q in
         let z : ◌≡◌ {A = ℕ} 0 1 = cc in absurd (omega arith)
-    by-header (NoHeader k) e = ap refused (same-refusal k n (sym (ap (header_analysed x section room.tables) e) ∙ q))
-    by-header (Header' h) e = by-declared h e (abbreviations_of x.abbreviations h.abbreviations) refl
+    by-header (Err k) e = ap refused (same-refusal k n (sym (ap (header_analysed x section room.tables) e) ∙ q))
+    by-header (Ok (Some h)) e = by-declared h e (abbreviations_of x.abbreviations h.abbreviations) refl
 
     -- an analysis that is refused is collect's refusal
     pub analysis-refused : collect_of x room type_units section ≡ refused n

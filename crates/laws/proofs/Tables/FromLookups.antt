@@ -12,16 +12,13 @@ use Rattle.readers.specs.Operations.{row_address_address}
 use Rattle.readers.specs.Fields.{row_at}
 use Rattle.readers.specs.Steps.{operation_at, list_entry_at}
 use Rattle.readers.specs.declared.cursor.Encoding.{Encoding}
-use Rattle.readers.specs.declared.fields.OperandsRead.{OperandsRead}
-use Rattle.readers.specs.declared.fields.OperandsRead.TheVariants.{Read as Row', Unreadable as NoRow}
-use Rattle.readers.specs.declared.lists.ListOffset.{ListOffset}
-use Rattle.readers.specs.declared.lists.ListOffset.TheVariants.{At, Unresolved}
-use Rattle.readers.specs.declared.operations.ListEntry.{ListEntry}
+use Rattle.std.specs.Prelude.{None, Option, Some}
+use Rattle.readers.specs.declared.cursor.Cursor.{Cursor}
 use Rattle.readers.specs.declared.operations.ListStep.{ListStep}
-use Rattle.readers.specs.declared.operations.ListStep.TheVariants.{Entry, End, Unreadable as NoEntry}
+use Rattle.readers.specs.declared.fields.Operands.{Operands}
+use Rattle.readers.specs.declared.operations.ListEntry.{ListEntry}
+use Rattle.readers.specs.declared.operations.ListStep.TheVariants.{Entry, End}
 use Rattle.readers.specs.declared.operations.Operation.{Operation}
-use Rattle.readers.specs.declared.operations.OperationRead.{OperationRead}
-use Rattle.readers.specs.declared.operations.OperationRead.TheVariants.{Read as Operation', Unreadable as NoOperation}
 use Rattle.readers.specs.declared.attributes.Attribute.{Attribute}
 use Rattle.readers.specs.Stream.{Item}
 use Rattle.marking.specs.Addresses.{lookup_at}
@@ -148,30 +145,30 @@ module _ {I : Type 0} {table : I → List ℕ} {others : List ℕ} {Holds : (X :
     abbrev turn-pick : (b : Bool) (f g : I → RootTurn) → TurnTold f → TurnTold g → TurnTold (λ i. pick b (f i) (g i))
     turn-pick b f g p q = pick-of TurnTold b f g p q
 
-    older-turn : (t : ListStep) → TurnTold (λ i. older_step t)
+    older-turn : (t : Option ListStep) → TurnTold (λ i. older_step t)
     unfolding older_step
-    older-turn (Entry x) = turn-pick _ _ _ (go-told _) stop-live
-    older-turn End = stop-dead
-    older-turn NoEntry = c.of-refusal ends 5 five
+    older-turn (Some (Entry x)) = turn-pick _ _ _ (go-told _) stop-live
+    older-turn (Some End) = stop-dead
+    older-turn None = c.of-refusal ends 5 five
 
-    older-told : (s : List ℕ) (o : ListOffset) → Told (λ i. older_live e s o)
+    older-told : (s : List ℕ) (o : Option Cursor) → Told (λ i. older_live e s o)
     unfolding older_live
-    older-told s (At d) = walk-told (λ i p. older_step (list_entry_at e false s p.at)) (λ p. older-turn _) (length s) _
-    older-told s Unresolved = live-told
+    older-told s (Some d) = walk-told (λ i p. older_step (list_entry_at e false s p.at)) (λ p. older-turn _) (length s) _
+    older-told s None = live-told
 
-    pair_turn_lem : (dead : Bool) (t : OperandsRead) → TurnTold (λ i. pair_step e dead t)
+    pair_turn_lem : (dead : Bool) (t : Option Operands) → TurnTold (λ i. pair_step e dead t)
     unfolding pair_step range_pair
-    pair_turn_lem dead (Row' r) = turn-pick _ _ _ stop-dead (turn-pick _ _ _ (go-told _) (turn-pick _ _ _ (go-told _) stop-live))
-    pair_turn_lem dead NoRow = c.of-refusal ends 5 five
+    pair_turn_lem dead (Some r) = turn-pick _ _ _ stop-dead (turn-pick _ _ _ (go-told _) (turn-pick _ _ _ (go-told _) stop-live))
+    pair_turn_lem dead None = c.of-refusal ends 5 five
 
-    pairs-told : (s : List ℕ) (o : ListOffset) → Told (λ i. pairs_live e s o)
+    pairs-told : (s : List ℕ) (o : Option Cursor) → Told (λ i. pairs_live e s o)
     unfolding pairs_live
-    pairs-told s (At d) =
+    pairs-told s (Some d) =
         walk-told (λ i p. pick (ltb p.at (length s)) (pair_step e p.flag (row_at e s p.at row_address_address)) (stop Dead))
         (λ p. turn-pick _ _ _ (pair_turn_lem _ _) stop-dead) (length s) _
-    pairs-told s Unresolved = live-told
+    pairs-told s None = live-told
 
-    offset-told : (s : List ℕ) (o : ListOffset) → Told (λ i. offset_live e s o)
+    offset-told : (s : List ℕ) (o : Option Cursor) → Told (λ i. offset_live e s o)
     unfolding offset_live
     offset-told s o = pick-of Told _ _ _ (pairs-told s o) (older-told s o)
 
@@ -184,17 +181,17 @@ module _ {I : Type 0} {table : I → List ℕ} {others : List ℕ} {Holds : (X :
         (turn-pick _ _ _ (go-told _)
         (turn-pick _ _ _ (go-told _) stop-live))))
 
-    range-turn : (dead : Bool) (t : ListStep) → TurnTold (λ i. range_step e (table i) dead t)
+    range-turn : (dead : Bool) (t : Option ListStep) → TurnTold (λ i. range_step e (table i) dead t)
     unfolding range_step
-    range-turn dead (Entry x) = entry-turn dead x
-    range-turn dead End = stop-dead
-    range-turn dead NoEntry = c.of-refusal ends 5 five
+    range-turn dead (Some (Entry x)) = entry-turn dead x
+    range-turn dead (Some End) = stop-dead
+    range-turn dead None = c.of-refusal ends 5 five
 
-    ranges-told : (s : List ℕ) (o : ListOffset) → Told (λ i. ranges_live e (table i) s o)
+    ranges-told : (s : List ℕ) (o : Option Cursor) → Told (λ i. ranges_live e (table i) s o)
     unfolding ranges_live
-    ranges-told s (At d) =
+    ranges-told s (Some d) =
         walk-told (λ i p. range_step e (table i) p.flag (list_entry_at e false s p.at)) (λ p. range-turn p.flag _) (length s) _
-    ranges-told s Unresolved = live-told
+    ranges-told s None = live-told
 
     operation-told : (counted : Bool) (op : Operation) → Holds AddressLookup Fails (λ i. operation_live e counted (table i) op)
     unfolding operation_live
@@ -202,11 +199,11 @@ module _ {I : Type 0} {table : I → List ℕ} {others : List ℕ} {Holds : (X :
         pick-of (Holds AddressLookup Fails) _ _ _ (c.of-lookup _)
         (pick-of (Holds AddressLookup Fails) _ _ _ (c.of-value Fails Alive alive-no-failure) (c.of-value Fails NotAlive not-alive-no-failure))
 
-    operation-turn : (counted live : Bool) (o : OperationRead) → TurnTold (λ i. operation_step e counted (table i) live o)
+    operation-turn : (counted live : Bool) (o : Option Operation) → TurnTold (λ i. operation_step e counted (table i) live o)
     unfolding operation_step
-    operation-turn counted live (Operation' op) =
+    operation-turn counted live (Some op) =
         looked stop _ _ (go-told _) (go-told _) (λ i. operation_live e counted (table i) op) (operation-told counted op)
-    operation-turn counted live NoOperation = c.of-refusal ends 5 five
+    operation-turn counted live None = c.of-refusal ends 5 five
 
     end-turn : (live : Bool) → TurnTold (λ i. stop (pick live Live Dead))
     unfolding pick

@@ -8,14 +8,12 @@ use lib.ListN.{length}
 use Rattle.readers.specs.Choice.{pick}
 use Rattle.readers.specs.Steps.{operation_at, list_entry_at}
 use Rattle.readers.specs.declared.cursor.Encoding.{Encoding}
-use Rattle.readers.specs.declared.lists.ListOffset.{ListOffset}
-use Rattle.readers.specs.declared.lists.ListOffset.TheVariants.{At, Unresolved}
-use Rattle.readers.specs.declared.operations.ListEntry.{ListEntry}
+use Rattle.std.specs.Prelude.{None, Option, Some}
+use Rattle.readers.specs.declared.cursor.Cursor.{Cursor}
 use Rattle.readers.specs.declared.operations.ListStep.{ListStep}
-use Rattle.readers.specs.declared.operations.ListStep.TheVariants.{Entry, End, Unreadable as NoEntry}
+use Rattle.readers.specs.declared.operations.ListEntry.{ListEntry}
+use Rattle.readers.specs.declared.operations.ListStep.TheVariants.{Entry, End}
 use Rattle.readers.specs.declared.operations.Operation.{Operation}
-use Rattle.readers.specs.declared.operations.OperationRead.{OperationRead}
-use Rattle.readers.specs.declared.operations.OperationRead.TheVariants.{Read as Operation', Unreadable as NoOperation}
 use Rattle.readers.specs.declared.attributes.Attribute.{Attribute}
 use Rattle.marking.specs.Addresses.{lookup_at}
 use Rattle.marking.proofs.Lookups.{no_table}
@@ -171,18 +169,18 @@ module _ (e : Encoding) (table : List ℕ) where
       (both-pick (Turns Base) _ _ _ _ _ (on (λ z. z))
       (both-pick (Turns Base) _ _ _ _ _ (on q) found))))
 
-  step-held : (t : ListStep) (a b : Bool) → Base a b → Turns Base (range_step e table a t) (range_step e [] b t)
+  step-held : (t : Option ListStep) (a b : Bool) → Base a b → Turns Base (range_step e table a t) (range_step e [] b t)
   unfolding range_step
-  step-held (Entry x) a b q = entry-held x a b q
-  step-held End a b q = ended (held_same Dead)
-  step-held NoEntry a b q = failed
+  step-held (Some (Entry x)) a b q = entry-held x a b q
+  step-held (Some End) a b q = ended (held_same Dead)
+  step-held None a b q = failed
 
-  ranges-held : (s : List ℕ) (o : ListOffset) → Held (ranges_live e table s o) (ranges_live e [] s o)
+  ranges-held : (s : List ℕ) (o : Option Cursor) → Held (ranges_live e table s o) (ranges_live e [] s o)
   unfolding ranges_live
-  ranges-held s (At c) =
+  ranges-held s (Some c) =
       walk-held Base (λ p. range_step e table p.flag (list_entry_at e false s p.at)) (λ p. range_step e [] p.flag (list_entry_at e false s p.at))
       (λ n a b q. step-held (list_entry_at e false s n) a b q) (length s) c.at false false (λ z. z)
-  ranges-held s Unresolved = held_same Live
+  ranges-held s None = held_same Live
 
 -- ---- locations: a live index that was met by the table was met by none
 
@@ -194,11 +192,11 @@ module _ (e : Encoding) (fixed : Bool) (table : List ℕ) where
   unfolding operation_live
   operation-shown op = both-pick Shown _ _ _ _ _ (looked-shown table _) (shown-same _)
 
-  operation-held : (o : OperationRead) (a b : Bool) → Met a b → Turns Met (operation_step e fixed table a o) (operation_step e fixed [] b o)
+  operation-held : (o : Option Operation) (a b : Bool) → Met a b → Turns Met (operation_step e fixed table a o) (operation_step e fixed [] b o)
   unfolding operation_step
-  operation-held (Operation' op) a b q =
+  operation-held (Some op) a b q =
       by-lookup (Turns Met) stop (λ n u. failed) _ _ (operation-shown op) _ _ _ _ (on (λ z. refl)) (on (λ z. refl)) (on q)
-  operation-held NoOperation a b q = failed
+  operation-held None a b q = failed
 
   end-held : (a b : Bool) → Met a b → Held (pick a Live Dead) (pick b Live Dead)
   unfolding pick

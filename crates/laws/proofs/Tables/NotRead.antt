@@ -6,7 +6,9 @@ use native.Mathlib.Omega.{arith}
 use mathlib.Core.Bool.{Bool, true, false}
 use mathlib.Core.List.{List, [], ◌∷◌, ◌++◌, append_assoc}
 use mathlib.Core.Logic.{◌⊎◌, inl, inr, ⊎_elim}
-use mathlib.Core.Option.{Option, none, some}
+use Rattle.std.specs.Prelude.{None, Option, Some}
+use Rattle.readers.specs.declared.cursor.Cursor.{Cursor}
+use Rattle.readers.specs.declared.operations.ListStep.{ListStep}
 use lib.ListN.{length, take, drop, length-append, take-append-drop}
 use lib.Seq.{drop-append-le}
 use lib.Dec.{T, ltb, leb, eqb}
@@ -24,14 +26,9 @@ use Rattle.readers.specs.Steps.{list_entry}
 use Rattle.readers.specs.Steps.{as_operation, operation_at, as_list_step, list_entry_at}
 use Rattle.readers.proofs.Steps.{operation-stepped, entry-entered}
 use Rattle.readers.specs.declared.cursor.Encoding.{Encoding}
-use Rattle.readers.specs.declared.lists.ListOffset.{ListOffset}
-use Rattle.readers.specs.declared.lists.ListOffset.TheVariants.{At, Unresolved}
 use Rattle.readers.specs.declared.operations.Operation.{Operation}
-use Rattle.readers.specs.declared.operations.OperationRead.{OperationRead}
-use Rattle.readers.specs.declared.operations.OperationRead.TheVariants.{Read as Operation', Unreadable as NoOperation}
 use Rattle.readers.specs.declared.operations.ListEntry.{ListEntry}
-use Rattle.readers.specs.declared.operations.ListStep.{ListStep}
-use Rattle.readers.specs.declared.operations.ListStep.TheVariants.{Entry, End, Unreadable as NoEntry}
+use Rattle.readers.specs.declared.operations.ListStep.TheVariants.{Entry, End}
 use Rattle.marking.specs.declared.root_test.Verdict.{Verdict}
 use Rattle.marking.specs.declared.root_test.Verdict.TheVariants.{Live, Dead, Refused}
 use Rattle.marking.specs.Walking.{go, stop, on_next, walk_within, walk}
@@ -49,9 +46,9 @@ use Rattle.laws.proofs.Tables.FromLookups.{live-no-refusal, dead-no-refusal, row
 -- a run with the same reads
 record SameReads (r : RunOf) (o : Option RunOf) : Type 0 where
   pub rest : List ℕ
-  pub is : o ≡ some (r.0, rest)
+  pub is : o ≡ Some (r.0, rest)
 
-read-longer : (big : Bool) (g : Layout) (s more : List ℕ) (r : RunOf) → read_in big as_bytes g s ≡ some r
+read-longer : (big : Bool) (g : Layout) (s more : List ℕ) (r : RunOf) → read_in big as_bytes g s ≡ Some r
     → SameReads r (read_in big as_bytes g (s ++ more))
 unfolding All
 read-longer big g s more r q =
@@ -68,13 +65,13 @@ inside-longer s more at h = yes_ltb {a = at} {b = length (s ++ more)} (omega (ar
 
 module _ (e : Encoding) (s more : List ℕ) (at : ℕ) where
   as-operation : (o : Option RunOf) (x : Operation) → read_in e.big_endian as_bytes (operation e) (drop at s) ≡ o
-      → as_operation e.big_endian at o ≡ Operation' x
-      → as_operation e.big_endian at (read_in e.big_endian as_bytes (operation e) (drop at s ++ more)) ≡ Operation' x
+      → as_operation e.big_endian at o ≡ Some x
+      → as_operation e.big_endian at (read_in e.big_endian as_bytes (operation e) (drop at s ++ more)) ≡ Some x
   unfolding as_operation
-  as-operation none x q a = let z : ◌≡◌ {A = ℕ} 0 1 = cc in absurd (omega arith)
-  as-operation (some r) x q a = ap (as_operation e.big_endian at) (read-longer e.big_endian (operation e) (drop at s) more r q).is ∙ a
+  as-operation None x q a = let z : ◌≡◌ {A = ℕ} 0 1 = cc in absurd (omega arith)
+  as-operation (Some r) x q a = ap (as_operation e.big_endian at) (read-longer e.big_endian (operation e) (drop at s) more r q).is ∙ a
 
-  operation-longer : (x : Operation) → operation_at e s at ≡ Operation' x → operation_at e (s ++ more) at ≡ Operation' x
+  operation-longer : (x : Operation) → operation_at e s at ≡ Some x → operation_at e (s ++ more) at ≡ Some x
   unfolding operation_at
   operation-longer x q =
       let h : at < length s = (operation-stepped e s at x q).here in
@@ -82,13 +79,13 @@ module _ (e : Encoding) (s more : List ℕ) (at : ℕ) where
       ∙ as-operation _ x refl q
 
   as-entry : (o : Option RunOf) (x : ListEntry) → read_in e.big_endian as_bytes (list_entry e false) (drop at s) ≡ o
-      → as_list_step e.big_endian at o ≡ Entry x
-      → as_list_step e.big_endian at (read_in e.big_endian as_bytes (list_entry e false) (drop at s ++ more)) ≡ Entry x
+      → as_list_step e.big_endian at o ≡ Some (Entry x)
+      → as_list_step e.big_endian at (read_in e.big_endian as_bytes (list_entry e false) (drop at s ++ more)) ≡ Some (Entry x)
   unfolding as_list_step
-  as-entry none x q a = let z : ◌≡◌ {A = ℕ} 0 1 = cc in absurd (omega arith)
-  as-entry (some r) x q a = ap (as_list_step e.big_endian at) (read-longer e.big_endian (list_entry e false) (drop at s) more r q).is ∙ a
+  as-entry None x q a = let z : ◌≡◌ {A = ℕ} 0 1 = cc in absurd (omega arith)
+  as-entry (Some r) x q a = ap (as_list_step e.big_endian at) (read-longer e.big_endian (list_entry e false) (drop at s) more r q).is ∙ a
 
-  entry-longer : (x : ListEntry) → list_entry_at e false s at ≡ Entry x → list_entry_at e false (s ++ more) at ≡ Entry x
+  entry-longer : (x : ListEntry) → list_entry_at e false s at ≡ Some (Entry x) → list_entry_at e false (s ++ more) at ≡ Some (Entry x)
   unfolding list_entry_at
   entry-longer x q =
       let h : at < length s = (entry-entered e false s at x q).here in
@@ -138,14 +135,14 @@ module _ (e : Encoding) (fixed : Bool) (table s more : List ℕ) (n : ℕ) (o : 
   abbrev operation_turn : List ℕ → Flagged → RootTurn
   operation_turn s p = pick (ltb p.at (length s)) (operation_step e fixed table p.flag (operation_at e s p.at)) (stop (pick p.flag Live Dead))
 
-  by-operation : (p : Flagged) → p.at < length s → (r : OperationRead) → operation_at e s p.at ≡ r
+  by-operation : (p : Flagged) → p.at < length s → (r : Option Operation) → operation_at e s p.at ≡ r
       → (operation_turn (s ++ more) p ≡ operation_turn s p) ⊎ Otherwise n (operation_turn s p)
   unfolding operation_step
-  by-operation p h (Operation' x) q =
+  by-operation p h (Some x) q =
       inl (pick_yes (ltb p.at (length (s ++ more))) _ _ (inside-longer s more p.at h)
       ∙ ap (operation_step e fixed table p.flag) (operation-longer e s more p.at x q ∙ sym q)
       ∙ sym (pick_yes (ltb p.at (length s)) _ _ (yes_ltb h)))
-  by-operation p h NoOperation q =
+  by-operation p h None q =
       inr (record {
         verdict = Refused 5;
         is = pick_yes (ltb p.at (length s)) _ _ (yes_ltb h) ∙ ap (operation_step e fixed table p.flag) q;
@@ -166,20 +163,20 @@ module _ (e : Encoding) (fixed : Bool) (table s more : List ℕ) (n : ℕ) (o : 
   abbrev range_turn : List ℕ → Flagged → RootTurn
   range_turn s p = range_step e table p.flag (list_entry_at e false s p.at)
 
-  by-entry : (p : Flagged) (r : ListStep) → list_entry_at e false s p.at ≡ r
+  by-entry : (p : Flagged) (r : Option ListStep) → list_entry_at e false s p.at ≡ r
       → (range_turn (s ++ more) p ≡ range_turn s p) ⊎ Otherwise n (range_turn s p)
   unfolding range_step
-  by-entry p (Entry x) q = inl (ap (range_step e table p.flag) (entry-longer e s more p.at x q ∙ sym q))
-  by-entry p End q = inr (record { verdict = Dead; is = ap (range_step e table p.flag) q; other = dead-no-refusal n })
-  by-entry p NoEntry q = inr (record { verdict = Refused 5; is = ap (range_step e table p.flag) q; other = five-apart n o })
+  by-entry p (Some (Entry x)) q = inl (ap (range_step e table p.flag) (entry-longer e s more p.at x q ∙ sym q))
+  by-entry p (Some End) q = inr (record { verdict = Dead; is = ap (range_step e table p.flag) q; other = dead-no-refusal n })
+  by-entry p None q = inr (record { verdict = Refused 5; is = ap (range_step e table p.flag) q; other = five-apart n o })
 
   -- and so is a list of a section
-  pub behind-ranges : (l : ListOffset) → ranges_live e table s l ≡ Refused n → ranges_live e table (s ++ more) l ≡ Refused n
+  pub behind-ranges : (l : Option Cursor) → ranges_live e table s l ≡ Refused n → ranges_live e table (s ++ more) l ≡ Refused n
   unfolding ranges_live walk
-  behind-ranges (At c) q =
+  behind-ranges (Some c) q =
       walk-longer n (range_turn s) (range_turn (s ++ more)) (λ p. by-entry p (list_entry_at e false s p.at) refl) _ _
       (omega (arith, length-append s more)) _ q
-  behind-ranges Unresolved q = absurd (live-no-refusal n q)
+  behind-ranges None q = absurd (live-no-refusal n q)
 
 -- ---- attributes and entries
 

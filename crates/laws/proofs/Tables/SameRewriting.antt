@@ -4,15 +4,13 @@ use mathlib.Core.Path.{◌≡◌, refl, ap, ap₂, ◌∙◌}
 use Prim.Native.Nat.{ℕ}
 use mathlib.Core.Bool.{Bool}
 use mathlib.Core.List.{List, [], ◌∷◌, ◌++◌}
-use mathlib.Core.Option.{Option, none, some}
+use Rattle.std.specs.Prelude.{Err, None, Ok, Option, Result, Some}
 use Rattle.readers.specs.Choice.{◌or◌}
 use Rattle.readers.specs.Codes.{DW_AT_location, DW_AT_ranges}
 use Rattle.readers.specs.Layout.{Read, RunOf, patch_all, write_all}
 use Rattle.readers.specs.Stream.{Item, entry, terminator}
 use Rattle.readers.specs.Abbreviations.{Placed, abbreviations_of}
 use Rattle.readers.specs.declared.header.UnitHeader.{UnitHeader}
-use Rattle.readers.specs.declared.header.HeaderRead.{HeaderRead}
-use Rattle.readers.specs.declared.header.HeaderRead.TheVariants.{Unit as Unit', Empty, Refused}
 use Rattle.marking.specs.Analysis.{Sections, sections, EntryRow, Analysed, analysed, refused as not_analysed, values_of_entry, header_by, analysis_of}
 use Rattle.marking.specs.KeepList.{KeepList}
 use Rattle.marking.specs.Resolution.{marks_in}
@@ -33,8 +31,8 @@ module _ (x : Sections) (l r t o : List ℕ) (keep : KeepList) (u : Unit) where
 
   same_or : (o : Option RunOf) → reads_or x u o ≡ reads_or y u o
   unfolding reads_or
-  same_or none = refl
-  same_or (some z) = refl
+  same_or None = refl
+  same_or (Some z) = refl
 
   same_reads : (at : ℕ) → reads_at x u at ≡ reads_at y u at
   unfolding reads_at
@@ -108,14 +106,14 @@ module _ (x : Sections) (l r t o : List ℕ) (keep : KeepList) (room : Room) (ty
     same-declared : (h : UnitHeader) (d : Option (List Placed))
         → declared_collected x room type_units section h d ≡ declared_collected other room type_units section h d
     unfolding declared_collected
-    same-declared h none = refl
-    same-declared h (some ds) = ap (analysed_collected x room type_units _) q ∙ same-analysed _ _
+    same-declared h None = refl
+    same-declared h (Some ds) = ap (analysed_collected x room type_units _) q ∙ same-analysed _ _
 
-    same-headers : (h : HeaderRead) → header_collected x room type_units section h ≡ header_collected other room type_units section h
+    same-headers : (h : Result (Option UnitHeader) ℕ) → header_collected x room type_units section h ≡ header_collected other room type_units section h
     unfolding header_collected
-    same-headers Empty = refl
-    same-headers (Refused n) = refl
-    same-headers (Unit' h) = same-declared h (abbreviations_of x.abbreviations h.abbreviations)
+    same-headers (Ok None) = refl
+    same-headers (Err n) = refl
+    same-headers (Ok (Some h)) = same-declared h (abbreviations_of x.abbreviations h.abbreviations)
 
     pub same-collected : header_by x section ≡ header_by other section
         → collect_of x room type_units section ≡ collect_of other room type_units section

@@ -4,7 +4,7 @@ use Prim.Native.Nat.{ℕ, zero, suc, ◌<◌}
 use native.Mathlib.Omega.{arith}
 use mathlib.Core.Bool.{Bool, true, false, false≢true}
 use mathlib.Core.List.{List, [], ◌∷◌}
-use mathlib.Core.Option.{none}
+use Rattle.std.specs.Prelude.{None}
 use mathlib.Core.Logic.{◌⊎◌, inl, inr, ⊎_elim, ◌↔◌}
 use lib.Dec.{eqb}
 use borrow.Author.Tests.{eqb-true, eq-eqb}
@@ -83,14 +83,14 @@ module _ (x : Sections) (u : Unit') where
   -- ---- the lists
 
   module _ (type_units : Bool) (kept : List NestedItem) where
-    list-absent : (absent : Bool) (k : ℕ) → (list_of x u absent k kept ≡ none) ↔ (absent ≡ true)
+    list-absent : (absent : Bool) (k : ℕ) → (list_of x u absent k kept ≡ None) ↔ (absent ≡ true)
     unfolding list_of pick
     list-absent true k = (λ _. refl, λ _. refl)
     list-absent false k = (λ q. (let z : ◌≡◌ {A = ℕ} 0 1 = cc in absurd (omega arith)), λ q. absurd (false≢true q))
 
     -- a list with an attribute
     with-attribute : (k name : ℕ) → ListAttribute k name → ((n : ℕ) → ListAttribute k n → n ≡ name)
-        → (list_of x u (type_units or any_declares x u name (items_in x u)) k kept ≡ none) ↔ ((type_units ≡ true) ⊎ DeclaresOffset x u k)
+        → (list_of x u (type_units or any_declares x u name (items_in x u)) k kept ≡ None) ↔ ((type_units ≡ true) ⊎ DeclaresOffset x u k)
     with-attribute k name h only = (
       λ q. ⊎_elim (λ t. inl t)
           (λ e. let d = any-declares-out name (items_in x u) e in
@@ -115,7 +115,7 @@ module _ (x : Sections) (u : Unit') where
         ⊎_elim (λ (p : (2 ≡ 0) × (n ≡ 0x55)). let q : 2 ≡ 0 = p.0 in omega arith)
         (λ (p : (2 ≡ 1) × (n ≡ 0x02)). let q : 2 ≡ 1 = p.0 in omega arith)
 
-    strings-absent : (list_of x u type_units 2 kept ≡ none) ↔ ((type_units ≡ true) ⊎ DeclaresOffset x u 2)
+    strings-absent : (list_of x u type_units 2 kept ≡ None) ↔ ((type_units ≡ true) ⊎ DeclaresOffset x u 2)
     strings-absent = (
       λ q. inl ((list-absent type_units 2).0 q),
       λ c. (list-absent type_units 2).1
@@ -128,7 +128,7 @@ module _ (x : Sections) (u : Unit') where
     only-locations : (n : ℕ) → ListAttribute 1 n → n ≡ 0x02
     only-locations n = ⊎_elim (λ (p : (1 ≡ 0) × (n ≡ 0x55)). let q : 1 ≡ 0 = p.0 in absurd (omega arith)) (λ (p : (1 ≡ 1) × (n ≡ 0x02)). p.1)
 
-    absent-at : (k : ℕ) → k < 3 → (list_at (lists_of x u type_units kept) k ≡ none) ↔ ((type_units ≡ true) ⊎ DeclaresOffset x u k)
+    absent-at : (k : ℕ) → k < 3 → (list_at (lists_of x u type_units kept) k ≡ None) ↔ ((type_units ≡ true) ⊎ DeclaresOffset x u k)
     unfolding list_at lists_of pick
     absent-at zero h = with-attribute 0 0x55 (inl (refl, refl)) only-ranges
     absent-at (suc zero) h = with-attribute 1 0x02 (inr (refl, refl)) only-locations
@@ -137,7 +137,7 @@ module _ (x : Sections) (u : Unit') where
 
     -- THE LAW OF ABSENT LISTS
     pub absent-law : (lists : Lists) → lists ≡ lists_of x u type_units kept
-        → (k : ℕ) → k < 3 → (list_at lists k ≡ none) ↔ ((type_units ≡ true) ⊎ DeclaresOffset x u k)
+        → (k : ℕ) → k < 3 → (list_at lists k ≡ None) ↔ ((type_units ≡ true) ⊎ DeclaresOffset x u k)
     absent-law lists q k h = (
       λ p. (absent-at k h).0 (sym (ap (λ (z : Lists). list_at z k) q) ∙ p),
       λ c. ap (λ (z : Lists). list_at z k) q ∙ (absent-at k h).1 c,

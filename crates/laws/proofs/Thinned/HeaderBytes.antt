@@ -10,7 +10,7 @@ use lib.Seq.{length-take-le, take_at, drop_at, take-add, drop-drop}
 use Rattle.readers.specs.Numbers.{fixed_bytes, fixed_value}
 use Rattle.readers.proofs.Numbers.{length-fixed, fixed-value}
 use Rattle.readers.specs.Cursors.{cursor, fixed_at}
-use Rattle.readers.specs.declared.cursor.Number.TheVariants.{Value}
+use Rattle.std.specs.Prelude.{Some}
 use Rattle.readers.proofs.Widths.{fixed-is}
 use Rattle.readers.specs.Header.{length_size}
 use Rattle.readers.specs.declared.header.UnitHeader.{UnitHeader}
@@ -106,7 +106,7 @@ module _ (x : Sections) (room : Room) (type_units : Bool) (section : List ℕ) (
       ∙ ap (λ (k : ℕ). take (front - offset) u.bytes ++ fixed_bytes h.encoding.big_endian offset (k - front)) (sym size_is)
 
   -- the number of the length is read: the size less the length field
-  pub length-law : fixed_at h.encoding.big_endian offset w.output (front - offset) ≡ Value (length w.output - front) (cursor front)
+  pub length-law : fixed_at h.encoding.big_endian offset w.output (front - offset) ≡ Some (length w.output - front, cursor front)
   length-law =
       let a : List ℕ = take (front - offset) u.bytes in
       let m : List ℕ = fixed_bytes h.encoding.big_endian offset (length w.output - front) in
@@ -121,9 +121,9 @@ module _ (x : Sections) (room : Room) (type_units : Bool) (section : List ℕ) (
       let part : take offset (drop (front - offset) w.output) ≡ m =
       ap (λ (z : List ℕ). take offset (drop (front - offset) z)) whole ∙ ap (take offset) (drop_at a (m ++ r) (front - offset) la) ∙ take_at m r offset lm in
       fixed-is h.encoding.big_endian offset w.output (front - offset) few (omega (arith, wide))
-      ∙ ap (λ (z : ℕ). Value z (cursor (front - offset + offset)))
+      ∙ ap (λ (z : ℕ). Some (z, cursor (front - offset + offset)))
       (ap (fixed_value h.encoding.big_endian) part ∙ fixed-value h.encoding.big_endian offset (length w.output - front) (omega (arith, law.short)))
-      ∙ ap (λ (k : ℕ). Value (length w.output - front) (cursor k)) (let q : front - offset + offset ≡ front = omega (arith, wide) in q)
+      ∙ ap (λ (k : ℕ). Some (length w.output - front, cursor k)) (let q : front - offset + offset ≡ front = omega (arith, wide) in q)
 
   pub header-size : length header-part ≡ n
   unfolding header_bytes

@@ -5,7 +5,7 @@ use Prim.Native.Nat.{ℕ, zero, suc, ◌+◌, ◌*◌, ◌-◌, ◌^◌, ◌/◌
 use native.Mathlib.Omega.{arith}
 use mathlib.Core.Bool.{Bool, true, false}
 use mathlib.Core.List.{List, [], ◌∷◌, ◌++◌}
-use mathlib.Core.Option.{Option, none, some}
+use Rattle.std.specs.Prelude.{Err, None, Ok, Option, Result, Some}
 use mathlib.Core.Logic.{◌⊎◌, inr, ⊎_elim}
 use lib.ListN.{length, get_or, take, drop, length-append, length-replicate}
 use lib.Seq.{take_at, drop_at}
@@ -22,8 +22,6 @@ use Rattle.readers.specs.Abbreviations.{Placed, declared_in, abbreviations_of}
 use Rattle.readers.specs.Stream.{Item, entry, terminator}
 use Rattle.readers.specs.declared.cursor.Encoding.{Encoding}
 use Rattle.readers.specs.declared.header.UnitHeader.{UnitHeader}
-use Rattle.readers.specs.declared.header.HeaderRead.{HeaderRead}
-use Rattle.readers.specs.declared.header.HeaderRead.TheVariants.{Unit as Header', Empty, Refused}
 use Rattle.readers.proofs.Nesting.{length-opened, length-closed}
 use Rattle.readers.specs.Nesting.{opened, closed}
 use Rattle.marking.specs.Marks.{is_kept, kept_count}
@@ -154,10 +152,10 @@ module _ (size : ℕ) (xs : List ℕ) (r : length xs ≤ size / number_size) (h 
         after = padded-after size (list_bytes xs) (8 * length xs) (length_run 8 xs);
       }
 
-present-reads : (size : ℕ) (o : Option (List ℕ)) → count_of o ≤ size / number_size → ((xs : List ℕ) → o ≡ some xs → (v : ℕ) → Member v xs → v < 2 ^ 64) → PresentReads size o (list_or size o)
+present-reads : (size : ℕ) (o : Option (List ℕ)) → count_of o ≤ size / number_size → ((xs : List ℕ) → o ≡ Some xs → (v : ℕ) → Member v xs → v < 2 ^ 64) → PresentReads size o (list_or size o)
 unfolding PresentReads list_or count_of
-present-reads size none r h = refl
-present-reads size (some xs) r h = list-reads size xs r (h xs refl)
+present-reads size None r h = refl
+present-reads size (Some xs) r h = list-reads size xs r (h xs refl)
 
 -- ---- the numbers of a map are small
 
@@ -263,8 +261,8 @@ read-rights r (q ∷ rs) h (there m) = read-rights r rs h.1 m
 module _ (x : Sections) (u : Unit') (b : T (are_bytes u.bytes)) where
   reads-or : (s : List ℕ) (o : Option RunOf) → All (RunExact u.header.encoding.big_endian any_role s) o → AllRights any_role (reads_or x u o)
   unfolding reads_or All AllRights
-  reads-or s none h = tt
-  reads-or s (some r) h = h.1
+  reads-or s None h = tt
+  reads-or s (Some r) h = h.1
 
   reads-right : (at : ℕ) → AllRights any_role (reads_at x u at)
   unfolding reads_at
@@ -357,14 +355,14 @@ module _ (x : Sections) (room : Room) (type_units : Bool) (section : List ℕ) w
 
   declared-roomed : (h : UnitHeader) (o : Option (List Placed)) → Roomed (declared_collected x room type_units section h o)
   unfolding declared_collected Roomed
-  declared-roomed h none = tt
-  declared-roomed h (some ds) = analysed-roomed _ (analysis_of x section room.tables)
+  declared-roomed h None = tt
+  declared-roomed h (Some ds) = analysed-roomed _ (analysis_of x section room.tables)
 
-  header-roomed : (o : HeaderRead) → Roomed (header_collected x room type_units section o)
+  header-roomed : (o : Result (Option UnitHeader) ℕ) → Roomed (header_collected x room type_units section o)
   unfolding header_collected Roomed
-  header-roomed Empty = (none-fit, λ _. refl)
-  header-roomed (Refused n) = tt
-  header-roomed (Header' h) = declared-roomed h (abbreviations_of x.abbreviations h.abbreviations)
+  header-roomed (Ok None) = (none-fit, λ _. refl)
+  header-roomed (Err n) = tt
+  header-roomed (Ok (Some h)) = declared-roomed h (abbreviations_of x.abbreviations h.abbreviations)
 
   roomed : Roomed (collect_of x room type_units section)
   unfolding collect_of
@@ -485,7 +483,7 @@ module _ (x : Sections) (room : Room) (type_units : Bool) (section : List ℕ) (
 
 -- ---- an untouched unit
 
-none-listed : (b c : Bool) (xs : List ℕ) → pick b none (pick c none none) ≡ some xs → ⊥
+none-listed : (b c : Bool) (xs : List ℕ) → pick b None (pick c None None) ≡ Some xs → ⊥
 unfolding pick
 none-listed true c xs h = let z : ◌≡◌ {A = ℕ} 0 1 = cc in absurd (omega arith)
 none-listed false true xs h = let z : ◌≡◌ {A = ℕ} 0 1 = cc in absurd (omega arith)
@@ -501,11 +499,11 @@ module _ (x : Sections) (room : Room) (type_units : Bool) (section : List ℕ) (
   unfolding output_for
   untouched-output-law n size = refl
 
-  none-there : (k : ℕ) (xs : List ℕ) → l ≡ no_lists → list_at l k ≡ some xs → ⊥
+  none-there : (k : ℕ) (xs : List ℕ) → l ≡ no_lists → list_at l k ≡ Some xs → ⊥
   unfolding list_at
   none-there k xs e q = none-listed (eqb k 0) (eqb k 1) xs (sym (ap (λ (z : Lists). list_at z k) e) ∙ q)
 
-  untouched-small : (n : ℕ) → collect_of x room type_units section ≡ untouched n l → T (are_bytes section) → (k : ℕ) → k < 3 → (xs : List ℕ) → list_at l k ≡ some xs
+  untouched-small : (n : ℕ) → collect_of x room type_units section ≡ untouched n l → T (are_bytes section) → (k : ℕ) → k < 3 → (xs : List ℕ) → list_at l k ≡ Some xs
       → (v : ℕ) → Member v xs → v < 2 ^ 64
   untouched-small zero answer b k h xs q v m = absurd (none-there k xs ((untouched-fit x room type_units section zero l answer).1 refl) q)
   untouched-small (suc n) answer b k h xs q v m =

@@ -3,7 +3,7 @@ use Prim.Native.Nat.{ℕ}
 use mathlib.Core.Path.{◌≡◌, refl, sym, ap, ◌∙◌}
 use mathlib.Core.Bool.{Bool, true, false, false≢true}
 use mathlib.Core.List.{List, [], ◌∷◌}
-use mathlib.Core.Option.{Option, none, some}
+use Rattle.std.specs.Prelude.{None, Option, Some}
 use lib.Dec.{T, eqb}
 use borrow.Author.Tests.{ne_eqb}
 use Rattle.readers.specs.Choice.{pick, ◌or◌}
@@ -18,10 +18,10 @@ use Rattle.laws.proofs.Again.Fitting.{link_fits, next-none}
 
 -- ---- one number
 
-some-self : (v : ℕ) (o : Option ℕ) → is_some o ≡ true → o ≡ some (or_self v o)
+some-self : (v : ℕ) (o : Option ℕ) → is_some o ≡ true → o ≡ Some (or_self v o)
 unfolding is_some or_self
-some-self v none t = absurd (false≢true t)
-some-self v (some n) t = refl
+some-self v None t = absurd (false≢true t)
+some-self v (Some n) t = refl
 
 so-is : (b : Bool) → T b → b ≡ true
 so-is true t = refl
@@ -32,23 +32,23 @@ module _ (lists : Lists) (map : List Place) (depth : ℕ) where
   link-lands e role v h = let p = link_fits lists map depth e role v h in record { placed = so-is (has_place lists map depth role v) p.0; fit = p.1 }
 
   -- a reference leads to its new value
-  pub reference-lands : (v : ℕ) → has_place lists map depth reference v ≡ true → new_of map v ≡ some (new_value lists map depth reference v)
+  pub reference-lands : (v : ℕ) → has_place lists map depth reference v ≡ true → new_of map v ≡ Some (new_value lists map depth reference v)
   unfolding has_place new_value
   reference-lands v h = some-self v (new_of map v) h
 
-  pub type-lands : (v : ℕ) → (v ≡ 0 → ⊥) → has_place lists map depth type_reference v ≡ true → new_of map v ≡ some (new_value lists map depth type_reference v)
+  pub type-lands : (v : ℕ) → (v ≡ 0 → ⊥) → has_place lists map depth type_reference v ≡ true → new_of map v ≡ Some (new_value lists map depth type_reference v)
   unfolding has_place new_value pick ◌or◌
   type-lands v n h =
       let z : eqb v 0 ≡ false = ne_eqb v 0 n in
       let t : is_some (new_of map v) ≡ true = rw z at h in
-      some-self v (new_of map v) t ∙ ap (λ (b : Bool). some (pick b 0 (or_self v (new_of map v)))) (sym z)
+      some-self v (new_of map v) t ∙ ap (λ (b : Bool). Some (pick b 0 (or_self v (new_of map v)))) (sym z)
 
   -- no type stays no type
   pub no-type : new_value lists map depth type_reference 0 ≡ 0
   unfolding new_value pick
   no-type = refl
 
-  pub sibling-lands : (v : ℕ) → has_place lists map depth sibling v ≡ true → sibling_of map depth v ≡ some (new_value lists map depth sibling v)
+  pub sibling-lands : (v : ℕ) → has_place lists map depth sibling v ≡ true → sibling_of map depth v ≡ Some (new_value lists map depth sibling v)
   unfolding has_place new_value
   sibling-lands v h = some-self v (sibling_of map depth v) h
 
@@ -87,11 +87,11 @@ module _ (x : Sections) (u : Unit') (lists : Lists) (map : List Place) where
       pub number-lands : (role : Role) (v : ℕ) → Member (patchable e role v) r.pieces → Lands lists map s.depth e role v
       number-lands role v p = pieces-land lists map s.depth r.pieces (read-clean lists map s.depth (reads_at x u (offset_of s.item)) (clean_at kept h s m) r i) e role v p
 
-      pub item-reference : (v : ℕ) → Member (patchable e reference v) r.pieces → new_of map v ≡ some (new_value lists map s.depth reference v)
+      pub item-reference : (v : ℕ) → Member (patchable e reference v) r.pieces → new_of map v ≡ Some (new_value lists map s.depth reference v)
       item-reference v p = reference-lands lists map s.depth v (number-lands reference v p).placed
 
-      pub item-type : (v : ℕ) → (v ≡ 0 → ⊥) → Member (patchable e type_reference v) r.pieces → new_of map v ≡ some (new_value lists map s.depth type_reference v)
+      pub item-type : (v : ℕ) → (v ≡ 0 → ⊥) → Member (patchable e type_reference v) r.pieces → new_of map v ≡ Some (new_value lists map s.depth type_reference v)
       item-type v n p = type-lands lists map s.depth v n (number-lands type_reference v p).placed
 
-      pub item-sibling : (v : ℕ) → Member (patchable e sibling v) r.pieces → sibling_of map s.depth v ≡ some (new_value lists map s.depth sibling v)
+      pub item-sibling : (v : ℕ) → Member (patchable e sibling v) r.pieces → sibling_of map s.depth v ≡ Some (new_value lists map s.depth sibling v)
       item-sibling v p = sibling-lands lists map s.depth v (number-lands sibling v p).placed

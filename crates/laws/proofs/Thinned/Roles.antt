@@ -4,7 +4,8 @@ use Prim.Native.Nat.{ℕ, zero, suc, ◌<◌}
 use native.Mathlib.Omega.{arith}
 use mathlib.Core.Bool.{Bool, true, false}
 use mathlib.Core.List.{List, [], ◌∷◌, ◌++◌}
-use mathlib.Core.Option.{Option, none, some}
+use Rattle.std.specs.Prelude.{None, Option, Some}
+use Rattle.readers.specs.declared.abbreviations.Declaration.{Declaration}
 use lib.ListN.{length, get_or, take}
 use lib.Dec.{T, ltb, eqb, leb}
 use mir.Facts.{ltb_yes}
@@ -20,8 +21,6 @@ use Rattle.readers.specs.Scan.{Scanned}
 use Rattle.readers.specs.Abbreviations.{attributes_from}
 use Rattle.readers.specs.Entries.{then, attributes_layout, specs_layout, found_layout, entry_layout}
 use Rattle.readers.specs.declared.abbreviations.AttributeSpec.{AttributeSpec}
-use Rattle.readers.specs.declared.abbreviations.DeclarationFound.{DeclarationFound}
-use Rattle.readers.specs.declared.abbreviations.DeclarationFound.TheVariants.{Declaration as Found', Nothing}
 use Rattle.readers.specs.declared.cursor.Encoding.{Encoding}
 use Rattle.marking.specs.Members.{Member, here, there}
 use Rattle.marking.proofs.Members.{nothing-in}
@@ -210,14 +209,14 @@ module _ (e : Encoding) where
 
   specs-listed : (o : Option (Scanned AttributeSpec ℕ)) → LayoutListed (specs_layout e o)
   unfolding specs_layout LayoutListed
-  specs-listed none = tt
-  specs-listed (some r) = attributes-listed r.0
+  specs-listed None = tt
+  specs-listed (Some r) = attributes-listed r.0
 
-  module _ (abbreviations : List ℕ) (look : ℕ → DeclarationFound) where
-    found-listed : (f : DeclarationFound) → LayoutListed (found_layout e abbreviations look f)
+  module _ (abbreviations : List ℕ) (look : ℕ → Option Declaration) where
+    found-listed : (f : Option Declaration) → LayoutListed (found_layout e abbreviations look f)
     unfolding found_layout LayoutListed
-    found-listed Nothing = tt
-    found-listed (Found' d) = specs-listed (attributes_from abbreviations d.attributes.at)
+    found-listed None = tt
+    found-listed (Some d) = specs-listed (attributes_from abbreviations d.attributes.at)
 
     entry_listed : LayoutListed (entry_layout e abbreviations look)
     unfolding entry_layout LayoutListed TokenListed
@@ -240,7 +239,7 @@ module _ (e : Encoding) where
     read-kind (q ∷ rs) h r (there i) c k v m = read-kind rs h.1 r i c k v m
 
     -- THE kind of an index of an entry
-    pub index-kind : (s : List ℕ) (all : RunOf) → read_in e.big_endian (expression_in e) (entry_layout e abbreviations look) s ≡ some all
+    pub index-kind : (s : List ℕ) (all : RunOf) → read_in e.big_endian (expression_in e) (entry_layout e abbreviations look) s ≡ Some all
         → (r : Read) → Member r all.0 → (c : Encoded) (k v : ℕ) → Member (patchable c (index k) v) r.pieces → k < 3
     index-kind s all q r i c k v m =
         ltb_yes {a = k} {b = 3}

@@ -6,7 +6,7 @@ use native.Mathlib.Omega.{arith}
 use mathlib.Core.Bool.{Bool, true, false, not}
 use mathlib.Core.List.{List, [], ◌∷◌, map}
 use mathlib.Core.Logic.{◌↔◌}
-use mathlib.Core.Option.{Option, some}
+use Rattle.std.specs.Prelude.{Option, Some}
 use lib.ListN.{length, drop}
 use lib.Dec.{T, eqb, leb}
 use mir.Facts.{eqb_yes, leb_yes, leb_no, yes_leb}
@@ -126,11 +126,11 @@ stands first (t ∷ kept) m s (later n) = stands_on first kept _ t s (stands (fi
 -- what is read at the new place
 module _ (x : Sections) (u : Unit') (lists : Lists) (places : List Place) (unit : List ℕ) where
   pub deep-at : (first : ℕ) (kept : List NestedItem) (m : ℕ) (s : NestedItem) → PatchedFrom x u lists places unit first kept → (n : Nth s m kept)
-      → deep_at x (with_bytes u unit) (stands first kept m s n).new ≡ some (patched x u lists places s, drop ((stands first kept m s n).new + size_of s.item) unit)
+      → deep_at x (with_bytes u unit) (stands first kept m s n).new ≡ Some (patched x u lists places s, drop ((stands first kept m s n).new + size_of s.item) unit)
   unfolding PatchedFrom stands size_of stands_here stands_on
   deep-at first [] m s h n = elim n [ ]
   deep-at first (t ∷ kept) m s h (now q) =
-      subst (λ (z : NestedItem). deep_at x (with_bytes u unit) first ≡ some (patched x u lists places z, drop (first + size_of z.item) unit)) (sym q) h.0
+      subst (λ (z : NestedItem). deep_at x (with_bytes u unit) first ≡ Some (patched x u lists places z, drop (first + size_of z.item) unit)) (sym q) h.0
   deep-at first (t ∷ kept) m s h (later n) = deep-at (first + size_of t.item) kept _ s h.1 n
 
 -- the kept item that an old offset is mapped by, and its new place
@@ -146,11 +146,11 @@ unfolding stands_on
 found-on first kept t v n r =
     record { m = suc r.m; s = r.s; there = stands_on first kept r.m t r.s r.there; named = r.named; new_is = r.new_is }
 
-pub found-by : (first : ℕ) (kept : List NestedItem) (v n : ℕ) → new_of (places_from first kept) v ≡ some n → ItemFound first kept v n
+pub found-by : (first : ℕ) (kept : List NestedItem) (v n : ℕ) → new_of (places_from first kept) v ≡ Some n → ItemFound first kept v n
 unfolding places_from new_of stands_here
 found-by first [] v n = λ e. let z : ◌≡◌ {A = ℕ} 0 1 = cc in absurd (omega arith)
 found-by first (t ∷ kept) v n =
-    pick-either (λ (o : Option ℕ). o ≡ some n → ItemFound first (t ∷ kept) v n) (eqb (offset_of t.item) v) (some first) (new_of (places_from (first + size_of t.item) kept) v)
+    pick-either (λ (o : Option ℕ). o ≡ Some n → ItemFound first (t ∷ kept) v n) (eqb (offset_of t.item) v) (Some first) (new_of (places_from (first + size_of t.item) kept) v)
     (λ y e. record { m = 0; s = t; there = stands_here first kept t t refl; named = eqb_yes {a = offset_of t.item} {b = v} y; new_is = cc })
     (λ y e. found-on first kept t v n (found-by (first + size_of t.item) kept v n e))
 
@@ -195,11 +195,11 @@ first_on first kept t depth v n h r =
       first_one = earlier kept t depth v r.m h r.first_one;
     }
 
-pub first_by : (first : ℕ) (kept : List NestedItem) (depth v n : ℕ) → first_from (places_from first kept) depth v ≡ some n → FirstFound first kept depth v n
+pub first_by : (first : ℕ) (kept : List NestedItem) (depth v n : ℕ) → first_from (places_from first kept) depth v ≡ Some n → FirstFound first kept depth v n
 unfolding places_from first_from stands_here
 first_by first [] depth v n = λ e. let z : ◌≡◌ {A = ℕ} 0 1 = cc in absurd (omega arith)
 first_by first (t ∷ kept) depth v n =
-    pick-either (λ (o : Option ℕ). o ≡ some n → FirstFound first (t ∷ kept) depth v n) (leb v (offset_of t.item) and leb t.depth depth) (some first)
+    pick-either (λ (o : Option ℕ). o ≡ Some n → FirstFound first (t ∷ kept) depth v n) (leb v (offset_of t.item) and leb t.depth depth) (Some first)
     (first_from (places_from (first + size_of t.item) kept) depth v)
     (λ y e.
     let b = and_both (leb v (offset_of t.item)) (leb t.depth depth) y in

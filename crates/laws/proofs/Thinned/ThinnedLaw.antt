@@ -5,7 +5,7 @@ use native.Mathlib.Omega.{arith}
 use mathlib.Core.Bool.{Bool, true}
 use mathlib.Core.List.{List, [], ◌∷◌}
 use mathlib.Core.Logic.{◌⊎◌, inl, inr, ◌↔◌}
-use mathlib.Core.Option.{Option, none, some}
+use Rattle.std.specs.Prelude.{None, Option, Some}
 use lib.ListN.{length, drop, get_or}
 use Rattle.readers.specs.Layout.{Encoded, Role, reference, type_reference, sibling, index, absolute, Piece, verbatim, patchable, Read, RunOf, Patch, patch_piece, patch_pieces, patch_read, patch_all}
 use Rattle.readers.specs.Abbreviations.{Placed, declared_in}
@@ -67,7 +67,7 @@ every-member P (t ∷ ss) s h (there m) = every-member P ss s h.1 m
 -- ---- the index lists of a unit whose kept items can be read
 
 module _ (x : Sections) (u : Unit') where
-  reads_of : (at : ℕ) (run : RunOf) → read_at x u at ≡ some run → reads_at x u at ≡ run.0
+  reads_of : (at : ℕ) (run : RunOf) → read_at x u at ≡ Some run → reads_at x u at ≡ run.0
   unfolding reads_at reads_or
   reads_of at run q = ap (reads_or x u) q
 
@@ -147,7 +147,7 @@ module _ (x : Sections) (room : Room) (type_units : Bool) (section : List ℕ) (
       }
 
   -- where the map leads a reference
-  lands : (v n : ℕ) → new_of w.map v ≡ some n → Lands v n
+  lands : (v n : ℕ) → new_of w.map v ≡ Some n → Lands v n
   lands v n q =
       let r : ItemFound first items v n = found-by first items v n (sym (ap (λ (z : List Place). new_of z v) map_is) ∙ q) in
       record {
@@ -160,7 +160,7 @@ module _ (x : Sections) (room : Room) (type_units : Bool) (section : List ℕ) (
         lands = moved-offset r.there.new r.s.item ∙ r.new_is;
       }
 
-  first-from : (depth v n : ℕ) → new_of w.map v ≡ none → first_from w.map depth v ≡ some n → FirstFrom x was new w.lists w.map items depth v n
+  first-from : (depth v n : ℕ) → new_of w.map v ≡ None → first_from w.map depth v ≡ Some n → FirstFrom x was new w.lists w.map items depth v n
   unfolding is_some
   first-from depth v n o q =
       let r : FirstFound first items depth v n = first_by first items depth v n (sym (ap (λ (z : List Place). first_from z depth v) map_is) ∙ q) in
@@ -175,18 +175,18 @@ module _ (x : Sections) (room : Room) (type_units : Bool) (section : List ℕ) (
         lands = moved-offset r.there.new r.s.item ∙ r.new_is;
         unmapped = (λ t m e.
             let y : is_some (new_of (places_from first items) v) ≡ true = subst (λ (k : ℕ). is_some (new_of (places_from first items) k) ≡ true) e (has_new first items t m) in
-            let z : is_some none ≡ true = subst (λ (k : Option ℕ). is_some k ≡ true) (sym (ap (λ (k : List Place). new_of k v) map_is) ∙ o) y in
+            let z : is_some None ≡ true = subst (λ (k : Option ℕ). is_some k ≡ true) (sym (ap (λ (k : List Place). new_of k v) map_is) ∙ o) y in
             let z' : ◌≡◌ {A = ℕ} 0 1 = cc in absurd (omega arith));
         first = r.first_one;
       }
 
-  sibling-by : (depth v n : ℕ) (o : Option ℕ) → new_of w.map v ≡ o → or_else o (first_from w.map depth v) ≡ some n
+  sibling-by : (depth v n : ℕ) (o : Option ℕ) → new_of w.map v ≡ o → or_else o (first_from w.map depth v) ≡ Some n
       → Lands v n ⊎ FirstFrom x was new w.lists w.map items depth v n
   unfolding or_else
-  sibling-by depth v n none h q = inr (first-from depth v n h q)
-  sibling-by depth v n (some k) h q = inl (lands v n (h ∙ q))
+  sibling-by depth v n None h q = inr (first-from depth v n h q)
+  sibling-by depth v n (Some k) h q = inl (lands v n (h ∙ q))
 
-  sibling-lands : (depth v n : ℕ) → sibling_of w.map depth v ≡ some n → Lands v n ⊎ FirstFrom x was new w.lists w.map items depth v n
+  sibling-lands : (depth v n : ℕ) → sibling_of w.map depth v ≡ Some n → Lands v n ⊎ FirstFrom x was new w.lists w.map items depth v n
   unfolding sibling_of
   sibling-lands depth v n q = sibling-by depth v n (new_of w.map v) refl q
 
@@ -311,7 +311,7 @@ module _ (x : Sections) (room : Room) (type_units : Bool) (section : List ℕ) (
         same_open = all-land a.opens l.opens-again l.leading;
       }
 
-  lists-law : (k : ℕ) → k < 3 → (xs : List ℕ) → list_at w.lists k ≡ some xs → IndexList x was items k xs
+  lists-law : (k : ℕ) → k < 3 → (xs : List ℕ) → list_at w.lists k ≡ Some xs → IndexList x was items k xs
   lists-law k h xs q = index-list x was items (readable-law x room type_units section w answer) k xs (list_law x room type_units section w answer k h xs q)
 
   header-law : HeaderLaw x.setting.big_endian was.bytes (it x room type_units section w answer).header

@@ -1,6 +1,5 @@
 -- The entries open around kept items, before and after.
-use Rattle.std.specs.Prelude.{ℕ, suc, ◌≡◌, Bool, List, [], ◌∷◌}
-use Rattle.std.proofs.Math.Option.{some}
+use Rattle.std.specs.Prelude.{ℕ, suc, ◌≡◌, Bool, List, [], ◌∷◌, Some}
 use Rattle.readers.specs.Choice.{pick}
 use Rattle.readers.specs.Nesting.{opened, closed}
 use Rattle.readers.specs.Stream.{Item, entry, terminator}
@@ -23,7 +22,7 @@ unfoldable pub MapTo : List Place → List ℕ → List ℕ → Type 0
 MapTo map [] [] = Unit {0}
 MapTo map [] (n ∷ ns) = ⊥
 MapTo map (v ∷ vs) [] = ⊥
-MapTo map (v ∷ vs) (n ∷ ns) = (new_of map v ≡ some n) × MapTo map vs ns
+MapTo map (v ∷ vs) (n ∷ ns) = (new_of map v ≡ Some n) × MapTo map vs ns
 
 unfoldable pub AllMapTo : List Place → List (List ℕ) → List (List ℕ) → Type 0
 AllMapTo map [] [] = Unit {0}

@@ -1,8 +1,8 @@
 -- Kept items one after another at their new places.
-use Rattle.std.specs.Prelude.{ℕ, suc, ◌+◌, ◌-◌, ◌<◌, Bool, List, [], ◌∷◌, length, T}
+use Rattle.std.specs.Prelude.{ℕ, suc, ◌+◌, ◌-◌, ◌<◌, Bool, List, [], ◌∷◌, length, T, None, Option, Some}
 use Rattle.readers.specs.Cursors.{cursor}
 use Rattle.readers.specs.declared.entries.Step.{Step}
-use Rattle.readers.specs.declared.entries.Step.TheVariants.{Entry as Entry', Terminator, End, Unreadable}
+use Rattle.readers.specs.declared.entries.Step.TheVariants.{Entry as Entry', Terminator, End}
 use Rattle.marking.specs.Marks.{is_kept}
 use Rattle.readers.specs.Stream.{Item, entry, terminator}
 use Rattle.readers.specs.Nesting.{opened, closed}
@@ -10,11 +10,11 @@ use Rattle.rewriting.specs.Places.{NestedItem, innermost, size_of}
 use Rattle.laws.specs.Moved.{moved_entry, moved_item}
 
 -- a step from one place, as a step from another
-unfoldable pub moved_step : ℕ → ℕ → Step → Step
-moved_step at n (Entry' x) = Entry' (moved_entry n x)
-moved_step at n (Terminator c) = Terminator (cursor (n + (c.at - at)))
-moved_step at n End = End
-moved_step at n Unreadable = Unreadable
+unfoldable pub moved_step : ℕ → ℕ → Option Step → Option Step
+moved_step at n (Some (Entry' x)) = Some (Entry' (moved_entry n x))
+moved_step at n (Some (Terminator c)) = Some (Terminator (cursor (n + (c.at - at))))
+moved_step at n (Some End) = Some End
+moved_step at n None = None
 
 -- the kept items one after the other from a new place on
 unfoldable pub moved_from : ℕ → List NestedItem → List Item

@@ -1,5 +1,5 @@
 -- What the parts of an analysis ask of the lent columns, answer, and leave in them.
-use Rattle.std.specs.Prelude.{◌≡◌, ℕ, ◌≤◌, List, length}
+use Rattle.std.specs.Prelude.{◌≡◌, ℕ, ◌≤◌, List, length, Err, None, Ok, Option, Result, Some}
 use Rattle.readers.specs.Choice.{zeros}
 use Rattle.readers.specs.Abbreviations.{checked_of, index_of}
 use Rattle.readers.specs.Inner.Entries.{entry_of}
@@ -7,14 +7,9 @@ use Rattle.readers.specs.Refusals.{refusal_of_checked, refusal_of_step}
 use Rattle.readers.specs.declared.abbreviations.Checked.{Checked}
 use Rattle.readers.specs.declared.abbreviations.Checked.TheVariants.{Accepted, Refused as Undeclared}
 use Rattle.readers.specs.declared.cursor.Cursor.{Cursor}
-use Rattle.readers.specs.declared.cursor.Moved.{Moved}
-use Rattle.readers.specs.declared.cursor.Moved.TheVariants.{To, Unreadable as Nowhere}
 use Rattle.readers.specs.declared.entries.Entry.{Entry}
 use Rattle.readers.specs.declared.entries.EntryHead.{EntryHead}
-use Rattle.readers.specs.declared.entries.Step.TheVariants.{Unreadable as NoEntry}
 use Rattle.readers.specs.declared.header.UnitHeader.{UnitHeader}
-use Rattle.readers.specs.declared.header.HeaderRead.{HeaderRead}
-use Rattle.readers.specs.declared.header.HeaderRead.TheVariants.{Unit as Unit', Empty, Refused}
 use Rattle.marking.specs.EntryReferences.{ReferencesFound, found, refused as refused_after}
 use Rattle.marking.specs.declared.root_test.Verdict.{Verdict}
 use Rattle.marking.specs.declared.root_test.Verdict.TheVariants.{Live, Dead, Refused as Failed}
@@ -71,10 +66,10 @@ unfoldable pub unit_checked : UnitHeader → Checked → UnitFound
 unit_checked h Accepted = Found' h
 unit_checked h Undeclared = Answered (Refused' (refusal_of_checked Undeclared))
 
-unfoldable pub unit_found : List ℕ → HeaderRead → UnitFound
-unit_found abbreviations Empty = Answered (Entries 0 0)
-unit_found abbreviations (Refused n) = Answered (Refused' n)
-unit_found abbreviations (Unit' h) = unit_checked h (checked_of abbreviations h.abbreviations)
+unfoldable pub unit_found : List ℕ → Result (Option UnitHeader) ℕ → UnitFound
+unit_found abbreviations (Ok None) = Answered (Entries 0 0)
+unit_found abbreviations (Err n) = Answered (Refused' n)
+unit_found abbreviations (Ok (Some h)) = unit_checked h (checked_of abbreviations h.abbreviations)
 
 -- an entry by its head alone: where it ends is not asked by its root test, nor by its references
 abbrev pub headed : EntryHead → Entry
@@ -85,16 +80,16 @@ unfoldable pub root_found : ℕ → ℕ → Cursor → ℕ → ReferencesFound �
 root_found room at next root (found xs) = RowFound root (placed room at xs) next
 root_found room at next root (refused_after xs n) = NoRow n
 
-unfoldable pub entry_answer : ℕ → ℕ → Moved → Verdict → ReferencesFound → EntryAnalysis
-entry_answer room at Nowhere v f = NoRow (refusal_of_step NoEntry)
-entry_answer room at (To next) Live f = root_found room at next 1 f
-entry_answer room at (To next) Dead f = root_found room at next 0 f
-entry_answer room at (To next) (Failed n) f = NoRow n
+unfoldable pub entry_answer : ℕ → ℕ → Option Cursor → Verdict → ReferencesFound → EntryAnalysis
+entry_answer room at None v f = NoRow (refusal_of_step None)
+entry_answer room at (Some next) Live f = root_found room at next 1 f
+entry_answer room at (Some next) Dead f = root_found room at next 0 f
+entry_answer room at (Some next) (Failed n) f = NoRow n
 
 -- any other refusal of it
-unfoldable pub refusal_of : Moved → ℕ → ℕ
-refusal_of Nowhere n = refusal_of_step NoEntry
-refusal_of (To next) n = n
+unfoldable pub refusal_of : Option Cursor → ℕ → ℕ
+refusal_of None n = refusal_of_step None
+refusal_of (Some next) n = n
 
 unfoldable pub entry_table : List ℕ → ℕ → Verdict → ReferencesFound → List ℕ
 entry_table table at Live f = table_after table at f

@@ -1,11 +1,9 @@
 -- The attributes of one name among those of an entry.
-use Rattle.std.specs.Prelude.{◌≡◌, ℕ, ◌≤◌, ◌<◌, List, [], ◌∷◌, length, eqb}
+use Rattle.std.specs.Prelude.{◌≡◌, ℕ, ◌≤◌, ◌<◌, List, [], ◌∷◌, length, eqb, None, Option, Some}
 use Rattle.readers.specs.Choice.{pick}
 use Rattle.readers.specs.EntryAttributes.{Valued, entry_values}
 use Rattle.readers.specs.declared.cursor.Encoding.{Encoding}
 use Rattle.readers.specs.declared.entry_attributes.EntryAttribute.{EntryAttribute}
-use Rattle.readers.specs.declared.entry_attributes.NextAttribute.{NextAttribute}
-use Rattle.readers.specs.declared.entry_attributes.NextAttribute.TheVariants.{More, NoMore}
 use Rattle.marking.specs.Inner.ReferenceTable.{valued_by}
 
 unfoldable pub of_name : ℕ → List Valued → List Valued
@@ -21,6 +19,6 @@ module _ (e : Encoding) (s : List ℕ) (p : ℕ) (unit : List ℕ) (at name : �
     pub inside : x.next.at ≤ length s
 
   -- as the code answers it
-  unfoldable pub NamedAt : NextAttribute → Type 0
-  NamedAt NoMore = of_name name (entry_values e s p unit at) ≡ []
-  NamedAt (More x) = FirstNamed x
+  unfoldable pub NamedAt : Option EntryAttribute → Type 0
+  NamedAt None = of_name name (entry_values e s p unit at) ≡ []
+  NamedAt (Some x) = FirstNamed x

@@ -1,6 +1,5 @@
 -- What the parts of `mark_unit` ask of the lent columns.
-use Rattle.std.specs.Prelude.{◌≡◌, ℕ, ◌+◌, ◌*◌, ◌-◌, ◌≤◌, true, List, length, take}
-use Rattle.std.proofs.Math.Option.{Option, none, some}
+use Rattle.std.specs.Prelude.{◌≡◌, ℕ, ◌+◌, ◌*◌, ◌-◌, ◌≤◌, true, List, length, take, None, Option, Some}
 use Rattle.readers.specs.Choice.{zeros}
 use Rattle.marking.specs.Graph.{takes}
 use Rattle.marking.specs.Analysis.{EntryRow}
@@ -11,8 +10,8 @@ use Rattle.marking.specs.Resolution.{Ascending, graph_of}
 
 -- as the code answers it
 unfoldable pub as_entry : Option ℕ → EntryFound
-as_entry none = Nothing
-as_entry (some i) = Entry (record { 0 = i })
+as_entry None = Nothing
+as_entry (Some i) = Entry (record { 0 = i })
 
 -- the offsets of n entries that can be searched by halves
 pub record Searched (offsets : List ℕ) (n : ℕ) : Type 0 where

@@ -1,14 +1,11 @@
 -- How many declarations there are, and their slots as they are gathered.
-use Rattle.std.specs.Prelude.{ℕ, ◌≤◌, ◌<◌, ◌≡◌, List, ◌++◌, length, drop}
-use Rattle.std.proofs.Math.Option.{Option, none, some}
+use Rattle.std.specs.Prelude.{ℕ, ◌≤◌, ◌<◌, ◌≡◌, List, ◌++◌, length, drop, None, Option, Some}
 use Rattle.readers.specs.Codes.{DW_CHILDREN_yes, DW_FORM_implicit_const}
 use Rattle.readers.specs.Scan.{Scanned}
 use Rattle.readers.specs.declared.abbreviations.Checked.{Checked}
 use Rattle.readers.specs.declared.abbreviations.Checked.TheVariants.{Accepted, Refused}
 use Rattle.readers.specs.declared.slots.Arranged.{Arranged}
 use Rattle.readers.specs.declared.slots.Arranged.TheVariants.{Ascending, Repeated}
-use Rattle.readers.specs.declared.abbreviations.Count.{Count}
-use Rattle.readers.specs.declared.abbreviations.Count.TheVariants.{Of, Unreadable as Uncounted}
 use Rattle.readers.specs.Abbreviations.{Placed, declarations_from, slots_of}
 
 -- declarations whose codes ascend, or of which two have one code
@@ -17,14 +14,14 @@ accepted Ascending = Accepted
 accepted Repeated = Refused
 
 -- how many there are
-unfoldable pub count_of : Option (Scanned Placed ℕ) → Count
-count_of none = Uncounted
-count_of (some r) = Of (length r.0)
+unfoldable pub count_of : Option (Scanned Placed ℕ) → Option ℕ
+count_of None = None
+count_of (Some r) = Some (length r.0)
 
 -- from l to m the slots of the declarations are written, if there is room for them
 abbrev pub Gathered : List ℕ → ℕ → List ℕ → List ℕ → Type 0
 Gathered s at l m =
-    (ds : List Placed) (e : ℕ) → declarations_from s at ≡ some (ds, e) → length ds ≤ length l
+    (ds : List Placed) (e : ℕ) → declarations_from s at ≡ Some (ds, e) → length ds ≤ length l
     → m ≡ slots_of ds ++ drop (length ds) l
 
 -- a name and a form of one byte each, of a specification with no value of its own

@@ -1,25 +1,23 @@
 -- Numbers as fields, and by the number of their token.
-use Rattle.std.specs.Prelude.{ℕ, List, leb, eqb}
+use Rattle.std.specs.Prelude.{ℕ, List, leb, eqb, None, Option, Some}
 use Rattle.readers.specs.Choice.{pick}
 use Rattle.readers.specs.Numbers.{uleb}
 use Rattle.readers.specs.Tokens.{bytes, address, offset}
 use Rattle.readers.specs.Cursors.{leb_at, fixed_at}
 use Rattle.readers.specs.declared.cursor.Encoding.{Encoding}
-use Rattle.readers.specs.declared.cursor.Number.{Number}
-use Rattle.readers.specs.declared.cursor.Number.TheVariants.{Value, Unreadable}
-use Rattle.readers.specs.declared.fields.FieldRead.{FieldRead}
-use Rattle.readers.specs.declared.fields.FieldRead.TheVariants.{Read as Field', Unreadable as NoField}
+use Rattle.readers.specs.declared.cursor.Cursor.{Cursor}
+use Rattle.readers.specs.declared.fields.Field.{Field}
 
-unfoldable pub number_field : ℕ → Number → FieldRead
-number_field at (Value v c) = Field' (record { value = v; start = at; end = c.at })
-number_field at Unreadable = NoField
+unfoldable pub number_field : ℕ → Option (ℕ × Cursor) → Option Field
+number_field at (Some (v, c)) = Some (record { value = v; start = at; end = c.at })
+number_field at None = None
 
-unfoldable pub bounded_field : ℕ → Number → FieldRead
-bounded_field at (Value v c) = pick (leb v 65535) (Field' (record { value = v; start = at; end = c.at })) NoField
-bounded_field at Unreadable = NoField
+unfoldable pub bounded_field : ℕ → Option (ℕ × Cursor) → Option Field
+bounded_field at (Some (v, c)) = pick (leb v 65535) (Some (record { value = v; start = at; end = c.at })) None
+bounded_field at None = None
 
 -- a number by its token
-unfoldable pub number_at : Encoding → List ℕ → ℕ → ℕ → Number
+unfoldable pub number_at : Encoding → List ℕ → ℕ → ℕ → Option (ℕ × Cursor)
 number_at e s at t =
     pick (leb t (bytes 8)) (fixed_at e.big_endian t s at)
     (pick (eqb t address) (fixed_at e.big_endian e.address_size s at)

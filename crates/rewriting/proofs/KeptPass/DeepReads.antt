@@ -3,7 +3,8 @@
 use mathlib.Core.Path.{◌≡◌, refl, ap, ap₂, sym, ◌∙◌, subst}
 use Prim.Native.Nat.{ℕ, suc, ◌+◌, ◌≤◌, ◌<◌}
 use mathlib.Core.Bool.{Bool, not}
-use mathlib.Core.Option.{Option, none, some}
+use Rattle.std.specs.Prelude.{None, Option, Some}
+use Rattle.readers.specs.declared.entries.Step.{Step}
 use mathlib.Core.List.{List, [], ◌∷◌, ◌++◌}
 use mathlib.Core.Logic.{◌⊎◌, inl, inr, ⊎_elim}
 use native.Mathlib.Omega.{arith}
@@ -21,10 +22,7 @@ use Rattle.readers.specs.Cursors.{cursor}
 use Rattle.readers.specs.Entries.{found_layout, entry_layout, entry_found, step_of_reads, as_step, step_at}
 use Rattle.readers.specs.declared.cursor.Encoding.{Encoding}
 use Rattle.readers.specs.declared.abbreviations.Declaration.{Declaration}
-use Rattle.readers.specs.declared.abbreviations.DeclarationFound.{DeclarationFound}
-use Rattle.readers.specs.declared.abbreviations.DeclarationFound.TheVariants.{Declaration as Found', Nothing}
-use Rattle.readers.specs.declared.entries.Step.{Step}
-use Rattle.readers.specs.declared.entries.Step.TheVariants.{Entry as Entry', Terminator, End, Unreadable}
+use Rattle.readers.specs.declared.entries.Step.TheVariants.{Entry as Entry', Terminator, End}
 
 -- ---- reads that see the same and are as wide, one by one
 
@@ -55,18 +53,18 @@ like-patched big f (r ∷ rs) = (refl, same_size big f r.pieces, like-patched bi
 module _ (big : Bool) (ex : ExpressionReader) where
   pub record TokenAsBytes (t : Token) (s : List ℕ) (r : ReadOf) : Type 0 where
     pub it : Read
-    pub is : token_in big as_bytes t s ≡ some (it, r.1)
+    pub is : token_in big as_bytes t s ≡ Some (it, r.1)
     pub alike : r.0.seen ≡ it.seen
     pub wide : size big r.0 ≡ size big it
 
   same-token : (t : Token) (s : List ℕ) (o : Option ReadOf) → token_in big as_bytes t s ≡ o → All (TokenAsBytes t s) o
   unfolding All
-  same-token t s none q = tt
-  same-token t s (some r) q = record { it = r.0; is = q; alike = refl; wide = refl }
+  same-token t s None q = tt
+  same-token t s (Some r) q = record { it = r.0; is = q; alike = refl; wide = refl }
 
   pub record LayoutAsBytes (g : Layout) (s : List ℕ) (r : RunOf) : Type 0 where
     pub those : List Read
-    pub are : read_in big as_bytes g s ≡ some (those, r.1)
+    pub are : read_in big as_bytes g s ≡ Some (those, r.1)
     pub like : Like big r.0 those
 
   module _ (law : ExpressionLaw big ex) where
@@ -116,7 +114,7 @@ module _ (big : Bool) (ex : ExpressionReader) where
         })))
 
     -- what is read deep is read as bytes, with the same values seen, the same widths and the same rest
-    pub as_bytes_lem : (g : Layout) (s : List ℕ) (rs : List Read) (rest : List ℕ) → read_in big ex g s ≡ some (rs, rest) → LayoutAsBytes g s (rs, rest)
+    pub as_bytes_lem : (g : Layout) (s : List ℕ) (rs : List Read) (rest : List ℕ) → read_in big ex g s ≡ Some (rs, rest) → LayoutAsBytes g s (rs, rest)
     as_bytes_lem g s rs rest h = all_of (LayoutAsBytes g s) (all-as-bytes g s) h
 
 -- ---- a layout that begins with a LEB128 number takes at least a byte
@@ -139,13 +137,13 @@ takes-leb b ex k s =
 -- ---- entries and terminators
 
 -- where a step comes to, if it is one over an entry or a terminator
-unfoldable pub EndsAt : ℕ → Step → Type 0
-EndsAt n (Entry' x) = x.next.at ≡ n
-EndsAt n (Terminator c) = c.at ≡ n
-EndsAt n End = ⊥
-EndsAt n Unreadable = ⊥
+unfoldable pub EndsAt : ℕ → Option Step → Type 0
+EndsAt n (Some (Entry' x)) = x.next.at ≡ n
+EndsAt n (Some (Terminator c)) = c.at ≡ n
+EndsAt n (Some End) = ⊥
+EndsAt n None = ⊥
 
-module _ (e : Encoding) (abbreviations : List ℕ) (look : ℕ → DeclarationFound) where
+module _ (e : Encoding) (abbreviations : List ℕ) (look : ℕ → Option Declaration) where
   abbrev order : Bool
   order = e.big_endian
 
@@ -156,8 +154,8 @@ module _ (e : Encoding) (abbreviations : List ℕ) (look : ℕ → DeclarationFo
   like-step at [] (q ∷ qs) h = absurd h
   like-step at (r ∷ rs) [] h = absurd h
   like-step at (r ∷ rs) (q ∷ qs) h =
-      ap₂ (λ (c w : ℕ). pick (eqb c 0) (Terminator (cursor (at + w))) (entry_found e abbreviations look at (at + w) (at + w + length (write_all order rs)) (look c))) h.0 h.1
-      ∙ ap (λ (n : ℕ). pick (eqb q.seen 0) (Terminator (cursor (at + size order q))) (entry_found e abbreviations look at (at + size order q) (at + size order q + n) (look q.seen)))
+      ap₂ (λ (c w : ℕ). pick (eqb c 0) (Some (Terminator (cursor (at + w)))) (entry_found e abbreviations look at (at + w) (at + w + length (write_all order rs)) (look c))) h.0 h.1
+      ∙ ap (λ (n : ℕ). pick (eqb q.seen 0) (Some (Terminator (cursor (at + size order q)))) (entry_found e abbreviations look at (at + size order q) (at + size order q + n) (look q.seen)))
       (like-width order rs qs h.2)
 
   -- what the reads of a terminator are, and those of an entry
@@ -172,19 +170,19 @@ module _ (e : Encoding) (abbreviations : List ℕ) (look : ℕ → DeclarationFo
     pub is : rs ≡ code ∷ others
     pub other : T (not (eqb code.seen 0))
     pub declaration : Declaration
-    pub found : look code.seen ≡ Found' declaration
+    pub found : look code.seen ≡ Some declaration
 
   abbrev pub Sort : RunOf → Type 0
   Sort r = TerminatorRead r.0 ⊎ EntryRead r.0
 
   module _ (ex : ExpressionReader) where
-    found-kind : (c : Read) → T (not (eqb c.seen 0)) → (s : List ℕ) (f : DeclarationFound) → look c.seen ≡ f
+    found-kind : (c : Read) → T (not (eqb c.seen 0)) → (s : List ℕ) (f : Option Declaration) → look c.seen ≡ f
         → All Sort (bind (read_in order ex (found_layout e abbreviations look f) s) (before c))
     unfolding found_layout before bind read_in
-    found-kind c t s (Found' d) h =
-        all-bind _ _ (read_in order ex (found_layout e abbreviations look (Found' d)) s) _ (all-triv _)
+    found-kind c t s (Some d) h =
+        all-bind _ _ (read_in order ex (found_layout e abbreviations look (Some d)) s) _ (all-triv _)
         (λ r q _. all-some Sort (inr (record { code = c; others = r.0; is = refl; other = t; declaration = d; found = h })))
-    found-kind c t s Nothing h = all_none _
+    found-kind c t s None h = all_none _
 
     pub kind-read : (s : List ℕ) → All Sort (read_in order ex (entry_layout e abbreviations look) s)
     unfolding read_in entry_layout before bind
@@ -197,18 +195,18 @@ module _ (e : Encoding) (abbreviations : List ℕ) (look : ℕ → DeclarationFo
         (found-kind r.0 t r.1 (look r.0.seen) refl))
         (either (eqb r.0.seen 0)))
 
-  pub terminator-step : (at : ℕ) (rs : List Read) → TerminatorRead rs → step_of_reads e abbreviations look at rs ≡ Terminator (cursor (at + length (write_all order rs)))
+  pub terminator-step : (at : ℕ) (rs : List Read) → TerminatorRead rs → step_of_reads e abbreviations look at rs ≡ Some (Terminator (cursor (at + length (write_all order rs))))
   unfolding step_of_reads write_all size
   terminator-step at rs h =
       ap (step_of_reads e abbreviations look at) h.is
       ∙ pick_yes _ _ _ h.zero
-      ∙ ap (λ (n : ℕ). Terminator (cursor (at + n)))
+      ∙ ap (λ (n : ℕ). Some (Terminator (cursor (at + n))))
       (let n : length (bytes_of order h.code.pieces) ≡ length (bytes_of order h.code.pieces ++ []) = omega (arith, length-append (bytes_of order h.code.pieces) []) in n)
-      ∙ ap (λ l. Terminator (cursor (at + length (write_all order l)))) (sym h.is)
+      ∙ ap (λ l. Some (Terminator (cursor (at + length (write_all order l))))) (sym h.is)
 
   pub entry-step : (at : ℕ) (rs : List Read) (h : EntryRead rs)
       → step_of_reads e abbreviations look at rs
-      ≡ Entry' (record { offset = record { 0 = at }; declaration = h.declaration; values = cursor (at + size order h.code); next = cursor (at + length (write_all order rs)) })
+      ≡ Some (Entry' (record { offset = record { 0 = at }; declaration = h.declaration; values = cursor (at + size order h.code); next = cursor (at + length (write_all order rs)) }))
   unfolding step_of_reads entry_found write_all size
   entry-step at rs h =
       let a : List ℕ = bytes_of order h.code.pieces in
@@ -216,12 +214,12 @@ module _ (e : Encoding) (abbreviations : List ℕ) (look : ℕ → DeclarationFo
       ap (step_of_reads e abbreviations look at) h.is
       ∙ pick_no _ _ _ h.other
       ∙ ap (entry_found e abbreviations look at (at + length a) (at + length a + length b)) h.found
-      ∙ ap (λ (n : ℕ). Entry' (record { offset = record { 0 = at }; declaration = h.declaration; values = cursor (at + length a); next = cursor n }))
+      ∙ ap (λ (n : ℕ). Some (Entry' (record { offset = record { 0 = at }; declaration = h.declaration; values = cursor (at + length a); next = cursor n })))
       (let n : at + length a + length b ≡ at + length (a ++ b) = omega (arith, length-append a b) in n)
-      ∙ ap (λ l. Entry' (record { offset = record { 0 = at }; declaration = h.declaration; values = cursor (at + length a); next = cursor (at + length (write_all order l)) })) (sym h.is)
+      ∙ ap (λ l. Some (Entry' (record { offset = record { 0 = at }; declaration = h.declaration; values = cursor (at + length a); next = cursor (at + length (write_all order l)) }))) (sym h.is)
 
   module _ (ex : ExpressionReader) (law : ExpressionLaw order ex) (unit : List ℕ) (at : ℕ) (rs : List Read) (rest : List ℕ)
-      (deep : read_in order ex (entry_layout e abbreviations look) (drop at unit) ≡ some (rs, rest)) where
+      (deep : read_in order ex (entry_layout e abbreviations look) (drop at unit) ≡ Some (rs, rest)) where
     abbrev deep_law : ReadLaw order ex (entry_layout e abbreviations look) (drop at unit) (rs, rest)
     deep_law = all_of (ReadLaw order ex (entry_layout e abbreviations look) (drop at unit)) (read-law order ex law (entry_layout e abbreviations look) (drop at unit)) deep
 
@@ -246,11 +244,11 @@ module _ (e : Encoding) (abbreviations : List ℕ) (look : ℕ → DeclarationFo
     pub deep-kind : TerminatorRead rs ⊎ EntryRead rs
     deep-kind = all_of Sort (kind-read ex (drop at unit)) deep
 
-    pub deep-terminator : TerminatorRead rs → step_at e abbreviations look unit at ≡ Terminator (cursor (at + length (write_all order rs)))
+    pub deep-terminator : TerminatorRead rs → step_at e abbreviations look unit at ≡ Some (Terminator (cursor (at + length (write_all order rs))))
     deep-terminator h = deep_step ∙ terminator-step at rs h
 
     pub deep-entry : (h : EntryRead rs) → step_at e abbreviations look unit at
-        ≡ Entry' (record { offset = record { 0 = at }; declaration = h.declaration; values = cursor (at + size order h.code); next = cursor (at + length (write_all order rs)) })
+        ≡ Some (Entry' (record { offset = record { 0 = at }; declaration = h.declaration; values = cursor (at + size order h.code); next = cursor (at + length (write_all order rs)) }))
     deep-entry h = deep_step ∙ entry-step at rs h
 
     -- it is one over an entry or a terminator, and comes to where the deep reading does

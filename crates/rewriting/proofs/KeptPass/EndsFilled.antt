@@ -14,8 +14,9 @@ use Rattle.readers.specs.Stream.{Item, entry, terminator}
 use Rattle.readers.proofs.Streams.{EntryInside, step-inside, terminator-inside}
 use Rattle.readers.specs.declared.cursor.Cursor.{Cursor}
 use Rattle.readers.specs.declared.entries.Entry.{Entry}
+use Rattle.std.specs.Prelude.{None, Option, Some}
 use Rattle.readers.specs.declared.entries.Step.{Step}
-use Rattle.readers.specs.declared.entries.Step.TheVariants.{Entry as Entry', Terminator, End, Unreadable}
+use Rattle.readers.specs.declared.entries.Step.TheVariants.{Entry as Entry', Terminator, End}
 use Rattle.readers.specs.Stream.{entry_count}
 use Rattle.rewriting.specs.Inner.Ends.{end_number, EndsHeld}
 use Rattle.rewriting.specs.Inner.NextKept.{items_by}
@@ -49,7 +50,7 @@ module _ (r : Reading) (abbreviations index unit : List ℕ) (first : ℕ) (ends
   abbrev items : ℕ → List Item
   items = items_by r abbreviations index unit
 
-  abbrev step : ℕ → Step
+  abbrev step : ℕ → Option Step
   step = step_at r.encoding abbreviations (find_at abbreviations r.from index) unit
 
   -- so many entries were put
@@ -66,19 +67,19 @@ module _ (r : Reading) (abbreviations index unit : List ℕ) (first : ℕ) (ends
   pub ending-start : Ending ends₀ first 0
   ending-start = record { size = refl; many = (let z : entry_count (items first) ≡ 0 + entry_count (items first) = omega arith in z); passed = omega arith; onward = λ final a h. h }
 
-  module _ (ends : List ℕ) (at count : ℕ) (g : Ending ends at count) (o : Step) (p : o ≡ step at) where
+  module _ (ends : List ℕ) (at count : ℕ) (g : Ending ends at count) (o : Option Step) (p : o ≡ step at) where
     module _ (final : List ℕ) (z : get_or final count 0 ≡ 0) (a : (i : ℕ) → i < count → get_or final i 0 ≡ get_or ends i 0) where
       last : items at ≡ [] → Ended final
       unfolding EndsHeld
       last q _ = g.onward final a (subst (λ (is : List Item). EndsHeld final count is) (sym q) z)
 
-      pub ending-end : o ≡ End → Ended final
+      pub ending-end : o ≡ Some End → Ended final
       ending-end q = last (items-end r.encoding abbreviations (find_at abbreviations r.from index) unit at (sym p ∙ q))
 
-      pub ending-bad : o ≡ Unreadable → Ended final
+      pub ending-bad : o ≡ None → Ended final
       ending-bad q = last (items-bad r.encoding abbreviations (find_at abbreviations r.from index) unit at (sym p ∙ q))
 
-    module _ (c : Cursor) (q : o ≡ Terminator c) where
+    module _ (c : Cursor) (q : o ≡ Some (Terminator c)) where
       pub ending-terminator-less : length unit - c.at < length unit - at
       ending-terminator-less = let i = terminator-inside r.encoding abbreviations (find_at abbreviations r.from index) unit at c (sym p ∙ q) in omega (arith, i.0, i.1)
 
@@ -93,7 +94,7 @@ module _ (r : Reading) (abbreviations index unit : List ℕ) (first : ℕ) (ends
             onward = λ final a h. g.onward final a (subst (λ (is : List Item). EndsHeld final count is) (sym e) h);
           }
 
-    module _ (x : Entry) (q : o ≡ Entry' x) where
+    module _ (x : Entry) (q : o ≡ Some (Entry' x)) where
       inside : EntryInside unit at x
       inside = step-inside r.encoding abbreviations (find_at abbreviations r.from index) unit at x (sym p ∙ q)
 

@@ -4,7 +4,9 @@ use mathlib.Core.Path.{◌≡◌, refl, ap, ap₂, sym, ◌∙◌, subst}
 use Prim.Native.Nat.{ℕ, ◌+◌}
 use mathlib.Core.Bool.{Bool, true, false, not}
 use mathlib.Core.List.{List, [], ◌∷◌, ◌++◌, append_assoc, append-nil}
-use mathlib.Core.Option.{Option, none, some}
+use Rattle.std.specs.Prelude.{None, Option, Some}
+use Rattle.readers.specs.declared.abbreviations.Declaration.{Declaration}
+use Rattle.readers.specs.declared.entries.Step.{Step}
 use mathlib.Core.Logic.{⊎_elim}
 use lib.ListN.{drop}
 use lib.Seq.{drop-drop}
@@ -26,13 +28,8 @@ use Rattle.readers.specs.Entries.{attribute_at, attributes_layout, specs_layout,
 use Rattle.readers.proofs.Values.{joined, read-then, valued, behind_forms, attribute-direct, attribute-indirect}
 use Rattle.readers.specs.declared.cursor.Encoding.{Encoding}
 use Rattle.readers.specs.declared.abbreviations.AttributeSpec.{AttributeSpec}
-use Rattle.readers.specs.declared.abbreviations.DeclarationFound.{DeclarationFound}
-use Rattle.readers.specs.declared.abbreviations.DeclarationFound.TheVariants.{Declaration as Found', Nothing}
 use Rattle.readers.specs.declared.attributes.Attribute.{Attribute}
-use Rattle.readers.specs.declared.attributes.AttributeRead.{AttributeRead}
-use Rattle.readers.specs.declared.attributes.AttributeRead.TheVariants.{Read as Attribute'}
-use Rattle.readers.specs.declared.entries.Step.{Step}
-use Rattle.readers.specs.declared.entries.Step.TheVariants.{Entry as Entry', Terminator, End, Unreadable}
+use Rattle.readers.specs.declared.entries.Step.TheVariants.{Entry as Entry', Terminator, End}
 use Rattle.readers.specs.EntryAttributes.{Valued, on_attribute, values_of, entry_values}
 use Rattle.readers.proofs.EntryAttributes.{specs-all}
 use Rattle.rewriting.proofs.KeptPass.DeepReads.{deep_step}
@@ -41,23 +38,23 @@ use Rattle.rewriting.proofs.KeptPass.DeepReads.{deep_step}
 pub record TokenRead (in_pieces : List Piece → List ℕ) (own : ℕ → Attribute → List ℕ) (e : Encoding) (unit : List ℕ)
     (indirect : Bool) (name form at : ℕ) (r : ReadOf) : Type 0 where
   pub it : Read
-  pub is : token_in e.big_endian as_bytes (value_token e indirect name form) (drop at unit) ≡ some (it, r.1)
+  pub is : token_in e.big_endian as_bytes (value_token e indirect name form) (drop at unit) ≡ Some (it, r.1)
   pub numbers : in_pieces r.0.pieces ≡ own name (record { form = form; field = field_of e.big_endian at it })
 
 -- an attribute: its value, where it ends, and what is gathered of it
 record ValueRead (in_reads : List Read → List ℕ) (own : ℕ → Attribute → List ℕ) (e : Encoding) (unit : List ℕ)
     (name form at : ℕ) (r : RunOf) : Type 0 where
   pub value : Attribute
-  pub is : attribute_at e unit at name form ≡ Attribute' value
+  pub is : attribute_at e unit at name form ≡ Some value
   pub rest : r.1 ≡ drop value.field.end unit
   pub numbers : in_reads r.0 ≡ own name value
 
 -- what is gathered at a step: of an entry's values
-unfoldable pub StepBy : (List Valued → List ℕ) → Encoding → List ℕ → List ℕ → Step → List ℕ → Type 0
-StepBy in_values e unit abbreviations (Entry' y) ns = ns ≡ in_values (entry_values e abbreviations y.declaration.attributes.at unit y.values.at)
-StepBy in_values e unit abbreviations (Terminator c) ns = ns ≡ []
-StepBy in_values e unit abbreviations End ns = Unit {0}
-StepBy in_values e unit abbreviations Unreadable ns = Unit {0}
+unfoldable pub StepBy : (List Valued → List ℕ) → Encoding → List ℕ → List ℕ → Option Step → List ℕ → Type 0
+StepBy in_values e unit abbreviations (Some (Entry' y)) ns = ns ≡ in_values (entry_values e abbreviations y.declaration.attributes.at unit y.values.at)
+StepBy in_values e unit abbreviations (Some (Terminator c)) ns = ns ≡ []
+StepBy in_values e unit abbreviations (Some End) ns = Unit {0}
+StepBy in_values e unit abbreviations None ns = Unit {0}
 
 module _ (in_pieces : List Piece → List ℕ) (in_reads : List Read → List ℕ) (in_values : List Valued → List ℕ) (own : ℕ → Attribute → List ℕ)
     (no_reads : in_reads [] ≡ []) (more-reads : (r : Read) (rs : List Read) → in_reads (r ∷ rs) ≡ in_pieces r.pieces ++ in_reads rs)
@@ -81,11 +78,11 @@ module _ (in_pieces : List Piece → List ℕ) (in_reads : List Read → List �
   module _ (token-read : (indirect : Bool) (name form at : ℕ)
       → All (TokenRead in_pieces own e unit indirect name form at) (token_in big deep (value_token e indirect name form) (drop at unit)))
       (Copied-none : (l : List ℕ) → in_pieces (verbatim l ∷ []) ≡ [])
-      (code-none : (at : ℕ) (r : ReadOf) → token_in big deep (number leb128) (drop at unit) ≡ some r → in_pieces r.0.pieces ≡ []) where
+      (code-none : (at : ℕ) (r : ReadOf) → token_in big deep (number leb128) (drop at unit) ≡ Some r → in_pieces r.0.pieces ≡ []) where
     -- ---- a value
 
     -- where a token ends
-    token-rest : (t : Token) (n : ℕ) (r : ReadOf) → token_in big as_bytes t (drop n unit) ≡ some r → r.1 ≡ drop (field_of big n r.0).end unit
+    token-rest : (t : Token) (n : ℕ) (r : ReadOf) → token_in big as_bytes t (drop n unit) ≡ Some r → r.1 ≡ drop (field_of big n r.0).end unit
     unfolding field_of size
     token-rest t n r q =
         let l : TokenLaw big as_bytes t (drop n unit) r = all_of (TokenLaw big as_bytes t (drop n unit)) (token-law big as_bytes (as-bytes-law big) t (drop n unit)) q in
@@ -113,14 +110,14 @@ module _ (in_pieces : List Piece → List ℕ) (in_reads : List Read → List �
       behind f = field (value_token e true name f) (λ _. done)
 
       -- the value after its form numbers
-      value-behind : T (eqb form 0x16) → (f : ℕ × ℕ) → forms_in (drop at unit) ≡ some f
+      value-behind : T (eqb form 0x16) → (f : ℕ × ℕ) → forms_in (drop at unit) ≡ Some f
           → All Whole (bind (read_in big deep (behind f.1) (drop (at + f.0) unit)) (before (copy f.1 0 f.0 (drop at unit)).0))
       unfolding read_in before bind copy token_at as_field valued forms_at as_form_number behind_forms
       value-behind h f q =
           let t : Token = value_token e true name f.1 in
           let n : ℕ = at + f.0 in
           let g : Read = (copy f.1 0 f.0 (drop at unit)).0 in
-          subst (All Whole) (sym (bind-bind (token_in big deep t (drop n unit)) (λ (r : ReadOf). some (r.0 ∷ [], r.1)) (before g)))
+          subst (All Whole) (sym (bind-bind (token_in big deep t (drop n unit)) (λ (r : ReadOf). Some (r.0 ∷ [], r.1)) (before g)))
           (all-bind (TokenRead in_pieces own e unit true name f.1 n) Whole (token_in big deep t (drop n unit)) _ (token-read true name f.1 n)
           (λ r p i.
           all-some Whole
@@ -169,32 +166,32 @@ module _ (in_pieces : List Piece → List ℕ) (in_reads : List Read → List �
         (λ r' q' i. all-some (Values (a ∷ rest) at)
         (reads-append r.0 r'.0
         ∙ ap₂ ◌++◌ v.numbers i
-        ∙ sym (ap (λ (o : AttributeRead). in_values (on_attribute a o (λ next. values_of e unit rest next))) v.is
+        ∙ sym (ap (λ (o : Option Attribute). in_values (on_attribute a o (λ next. values_of e unit rest next))) v.is
         ∙ more-values (record { name = a.name; declared = a.form; value = v.value }) (values_of e unit rest v.value.field.end))))))
 
-    module _ (abbreviations : List ℕ) (look : ℕ → DeclarationFound) where
+    module _ (abbreviations : List ℕ) (look : ℕ → Option Declaration) where
       abbrev At : ℕ → RunOf → Type 0
       At at r = StepBy in_values e unit abbreviations (step_of_reads e abbreviations look at r.0) (in_reads r.0)
 
       entry-values : (p at : ℕ) (o : Option (Scanned AttributeSpec ℕ)) → attributes_from abbreviations p ≡ o
           → All (λ (r : RunOf). in_reads r.0 ≡ in_values (entry_values e abbreviations p unit at)) (read_in big deep (specs_layout e o) (drop at unit))
       unfolding specs_layout read_in entry_values
-      entry-values p at none q = all_none _
-      entry-values p at (some o) q =
+      entry-values p at None q = all_none _
+      entry-values p at (Some o) q =
           subst (λ (l : List AttributeSpec). All (λ (r : RunOf). in_reads r.0 ≡ in_values (values_of e unit l at)) (read_in big deep (attributes_layout e o.0) (drop at unit)))
           (sym (specs-all abbreviations p o q)) (values-read o.0 at)
 
       module _ (at : ℕ) (c : Read) (none_in : in_pieces c.pieces ≡ []) where
-        found_at : T (not (eqb c.seen 0)) → (f : DeclarationFound) → look c.seen ≡ f
+        found_at : T (not (eqb c.seen 0)) → (f : Option Declaration) → look c.seen ≡ f
             → All (At at) (bind (read_in big deep (found_layout e abbreviations look f) (drop (at + size big c) unit)) (before c))
         unfolding found_layout read_in before bind step_of_reads entry_found StepBy
-        found_at t Nothing h = all_none _
-        found_at t (Found' d) h =
+        found_at t None h = all_none _
+        found_at t (Some d) h =
             all-bind (λ (r : RunOf). in_reads r.0 ≡ in_values (entry_values e abbreviations d.attributes.at unit (at + size big c))) _
             (read_in big deep (specs_layout e (attributes_from abbreviations d.attributes.at)) (drop (at + size big c) unit)) _
             (entry-values d.attributes.at (at + size big c) (attributes_from abbreviations d.attributes.at) refl)
             (λ r q i. all-some (At at)
-            (subst (λ (s : Step). StepBy in_values e unit abbreviations s (in_reads (c ∷ r.0)))
+            (subst (λ (s : Option Step). StepBy in_values e unit abbreviations s (in_reads (c ∷ r.0)))
             (sym (pick_no _ _ _ t ∙ ap (entry_found e abbreviations look at (at + size big c) _) h))
             (more-reads c r.0 ∙ ap₂ ◌++◌ none_in i)))
 
@@ -203,7 +200,7 @@ module _ (in_pieces : List Piece → List ℕ) (in_reads : List Read → List �
         code_at =
             ⊎_elim
             (λ t. subst (λ g. All (At at) (bind (read_in big deep g (drop (at + size big c) unit)) (before c))) (sym (pick_yes _ _ _ t))
-            (all-some (At at) (subst (λ (s : Step). StepBy in_values e unit abbreviations s (in_reads (c ∷ []))) (sym (pick_yes _ _ _ t)) (more-reads c [] ∙ ap₂ ◌++◌ none_in no_reads))))
+            (all-some (At at) (subst (λ (s : Option Step). StepBy in_values e unit abbreviations s (in_reads (c ∷ []))) (sym (pick_yes _ _ _ t)) (more-reads c [] ∙ ap₂ ◌++◌ none_in no_reads))))
             (λ t. subst (λ g. All (At at) (bind (read_in big deep g (drop (at + size big c) unit)) (before c))) (sym (pick_no _ _ _ t))
             (found_at t (look c.seen) refl))
             (either (eqb c.seen 0))
@@ -220,8 +217,8 @@ module _ (in_pieces : List Piece → List ℕ) (in_reads : List Read → List �
           (sym (l.0.1 ∙ drop-drop _ at unit)) (code_at at r.0 (code-none at r q)))
 
       -- THE numbers gathered of what is read deep at a place, by the step there
-      pub deep-by : (at : ℕ) (all : RunOf) → read_in big deep (entry_layout e abbreviations look) (drop at unit) ≡ some all
+      pub deep-by : (at : ℕ) (all : RunOf) → read_in big deep (entry_layout e abbreviations look) (drop at unit) ≡ Some all
           → StepBy in_values e unit abbreviations (step_at e abbreviations look unit at) (in_reads all.0)
       deep-by at all q =
-          subst (λ (s : Step). StepBy in_values e unit abbreviations s (in_reads all.0))
+          subst (λ (s : Option Step). StepBy in_values e unit abbreviations s (in_reads all.0))
           (sym (deep_step e abbreviations look deep (expression-law e) unit at all.0 all.1 q)) (all_of (At at) (all-at at) q)

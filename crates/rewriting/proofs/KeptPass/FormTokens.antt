@@ -5,7 +5,7 @@ use Prim.Native.Nat.{ℕ}
 use native.Mathlib.Omega.{arith}
 use mathlib.Core.Bool.{Bool, not}
 use mathlib.Core.List.{List}
-use mathlib.Core.Option.{none, some}
+use Rattle.std.specs.Prelude.{None, Some}
 use lib.Dec.{eqb}
 use Rattle.readers.specs.Choice.{◌and◌, ◌or◌}
 use Rattle.readers.proofs.Choice.{pick_yes, pick_no, either, All, all_none}
@@ -26,14 +26,14 @@ module _ (e : Encoding) (indirect : Bool) (name f : ℕ) where
 
   module _ (big : Bool) (ex : ExpressionReader) (s : List ℕ) where
     -- nothing is read of a value that is barred
-    unread : value_token e indirect name f ≡ unknown → token_in big ex (value_token e indirect name f) s ≡ none
+    unread : value_token e indirect name f ≡ unknown → token_in big ex (value_token e indirect name f) s ≡ None
     unfolding token_in
     unread q = ap (λ (t : Token). token_in big ex t s) q
 
-    pub token-known : (r : ReadOf) → token_in big ex (value_token e indirect name f) s ≡ some r → value_token e indirect name f ≡ by_form
+    pub token-known : (r : ReadOf) → token_in big ex (value_token e indirect name f) s ≡ Some r → value_token e indirect name f ≡ by_form
     token-known r q =
         ⊎_elim
-        (λ b. let z : none ≡ some r = sym (unread b) ∙ q in let y : ◌≡◌ {A = ℕ} 0 1 = cc in absurd (omega arith))
+        (λ b. let z : None ≡ Some r = sym (unread b) ∙ q in let y : ◌≡◌ {A = ℕ} 0 1 = cc in absurd (omega arith))
         (λ k. k)
         barred-or
 

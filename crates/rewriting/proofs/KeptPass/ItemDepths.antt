@@ -7,14 +7,14 @@ use lib.ListN.{length, drop}
 use Rattle.readers.specs.Cursors.{cursor}
 use Rattle.readers.specs.Entries.{step_at, entry_layout}
 use Rattle.readers.specs.declared.cursor.Encoding.{Encoding}
-use Rattle.readers.specs.declared.abbreviations.DeclarationFound.{DeclarationFound}
+use Rattle.std.specs.Prelude.{None, Option, Some}
+use Rattle.readers.specs.declared.abbreviations.Declaration.{Declaration}
 use Rattle.readers.specs.declared.entries.Step.{Step}
-use Rattle.readers.specs.declared.entries.Step.TheVariants.{Entry as Entry', Terminator, End, Unreadable}
+use Rattle.readers.specs.declared.entries.Step.TheVariants.{Entry as Entry', Terminator, End}
 use Rattle.marking.specs.Marks.{is_kept}
 use Rattle.readers.specs.Stream.{Item, entry, terminator, Items, push, on_step, items_within, items_from}
 use Rattle.rewriting.specs.Places.{NestedItem, innermost, with_if, kept_from, offset_of, size_of}
 use Rattle.readers.proofs.Streams.{EntryInside, step-inside}
-use mathlib.Core.Option.{Option, some}
 use native.Mathlib.Omega.{arith}
 use Rattle.readers.specs.Layout.{RunOf, read_in}
 use Rattle.readers.specs.Expression.{expression_in}
@@ -49,19 +49,19 @@ module _ (P : Item → Type 0) where
 
 -- ---- what stands at a place
 
-module _ (e : Encoding) (abbreviations : List ℕ) (look : ℕ → DeclarationFound) (unit : List ℕ) where
+module _ (e : Encoding) (abbreviations : List ℕ) (look : ℕ → Option Declaration) (unit : List ℕ) where
   unfoldable pub Stands : Item → Type 0
-  Stands (entry x) = step_at e abbreviations look unit x.offset.0 ≡ Entry' x
-  Stands (terminator a b) = step_at e abbreviations look unit a ≡ Terminator (cursor b)
+  Stands (entry x) = step_at e abbreviations look unit x.offset.0 ≡ Some (Entry' x)
+  Stands (terminator a b) = step_at e abbreviations look unit a ≡ Some (Terminator (cursor b))
 
-  turn-stands : (at : ℕ) (r : Step) → step_at e abbreviations look unit at ≡ r → (k : ℕ → Items) → ((n : ℕ) → EveryItem Stands (k n).0) → EveryItem Stands (on_step at r k).0
+  turn-stands : (at : ℕ) (r : Option Step) → step_at e abbreviations look unit at ≡ r → (k : ℕ → Items) → ((n : ℕ) → EveryItem Stands (k n).0) → EveryItem Stands (on_step at r k).0
   unfolding on_step push EveryItem Stands
-  turn-stands at (Entry' x) q k h =
+  turn-stands at (Some (Entry' x)) q k h =
       let i : EntryInside unit at x = step-inside e abbreviations look unit at x q in
       (ap (step_at e abbreviations look unit) i.here ∙ q, h x.next.at)
-  turn-stands at (Terminator c) q k h = (q, h c.at)
-  turn-stands at End q k h = tt
-  turn-stands at Unreadable q k h = tt
+  turn-stands at (Some (Terminator c)) q k h = (q, h c.at)
+  turn-stands at (Some End) q k h = tt
+  turn-stands at None q k h = tt
 
   within-stand : (j at : ℕ) → EveryItem Stands (items_within e abbreviations look unit j at).0
   unfolding items_within EveryItem
@@ -75,7 +75,7 @@ module _ (e : Encoding) (abbreviations : List ℕ) (look : ℕ → DeclarationFo
   pub kept-stand : (marks : List ℕ) (k : ℕ) (stack : List Bool) (at : ℕ) → Every (λ t. Stands t.item) (kept_from marks k stack (items_from e abbreviations look unit at).0)
   kept-stand marks k stack at = every-kept Stands marks k stack (items_from e abbreviations look unit at).0 (items-stand at)
 
-module _ (e : Encoding) (abbreviations : List ℕ) (look : ℕ → DeclarationFound) (unit : List ℕ) where
+module _ (e : Encoding) (abbreviations : List ℕ) (look : ℕ → Option Declaration) (unit : List ℕ) where
   -- a step that ends at a place is as long as the item that stands there
   pub size-of : (i : Item) (w : ℕ) → Stands e abbreviations look unit i → EndsAt (offset_of i + w) (step_at e abbreviations look unit (offset_of i)) → w ≡ size_of i
   unfolding Stands EndsAt offset_of size_of
@@ -96,4 +96,4 @@ module _ (x : Sections) (u : Unit') where
 
   pub record Readable (s : NestedItem) : Type 0 where
     pub run : RunOf
-    pub is : deep_at (offset_of s.item) ≡ some run
+    pub is : deep_at (offset_of s.item) ≡ Some run

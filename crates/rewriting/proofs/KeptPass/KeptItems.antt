@@ -8,7 +8,8 @@ use Rattle.readers.specs.Cursors.{cursor}
 use Rattle.readers.specs.Entries.{step_at}
 use Rattle.readers.specs.Stream.{Item, entry, terminator}
 use Rattle.readers.specs.declared.cursor.Encoding.{Encoding}
-use Rattle.readers.specs.declared.abbreviations.DeclarationFound.{DeclarationFound}
+use Rattle.std.specs.Prelude.{Option, Some}
+use Rattle.readers.specs.declared.abbreviations.Declaration.{Declaration}
 use Rattle.readers.specs.declared.entries.Entry.{Entry}
 use Rattle.readers.specs.declared.entries.Step.TheVariants.{Entry as Entry', Terminator}
 use Rattle.rewriting.specs.Inner.NextKept.{open_kept, ShowsItem, NextItem}
@@ -17,19 +18,19 @@ use Rattle.rewriting.specs.declared.kept_items.KeptItem.{KeptItem}
 use Rattle.rewriting.proofs.KeptPass.ItemDepths.{Every, Stands, kept-stand}
 use Rattle.rewriting.proofs.KeptPass.KeptSteps.{items}
 
-module _ (e : Encoding) (abbreviations : List ℕ) (look : ℕ → DeclarationFound) (unit : List ℕ) where
+module _ (e : Encoding) (abbreviations : List ℕ) (look : ℕ → Option Declaration) (unit : List ℕ) where
   -- the item of an answer is the entry at its start
   pub record EntryShown (x : KeptItem) (i : Item) : Type 0 where
     pub it : Entry
     pub item : i ≡ entry it
-    pub here : step_at e abbreviations look unit x.start.0 ≡ Entry' it
+    pub here : step_at e abbreviations look unit x.start.0 ≡ Some (Entry' it)
     pub end : x.end.at ≡ it.next.at
     pub specs : x.specs ≡ it.declaration.attributes
     pub values : x.values ≡ it.values
 
   pub record TerminatorShown (x : KeptItem) (i : Item) : Type 0 where
     pub item : i ≡ terminator x.start.0 x.end.at
-    pub here : step_at e abbreviations look unit x.start.0 ≡ Terminator (cursor x.end.at)
+    pub here : step_at e abbreviations look unit x.start.0 ≡ Some (Terminator (cursor x.end.at))
 
   entry_of : (x : KeptItem) (i : Item) → ShowsItem x i → Stands e abbreviations look unit i → x.is_entry ≡ true → EntryShown x i
   unfolding ShowsItem Stands
@@ -43,7 +44,7 @@ module _ (e : Encoding) (abbreviations : List ℕ) (look : ℕ → DeclarationFo
   terminator-of x (terminator a b) h s q =
       record {
         item = ap₂ (λ (m n : ℕ). terminator m n) (sym h.1) (sym h.2);
-        here = ap (step_at e abbreviations look unit) h.1 ∙ s ∙ ap (λ (n : ℕ). Terminator (cursor n)) (sym h.2);
+        here = ap (step_at e abbreviations look unit) h.1 ∙ s ∙ ap (λ (n : ℕ). Some (Terminator (cursor n))) (sym h.2);
       }
 
   module _ (parents ends marks : List ℕ) (s : PassPosition) (stack : List ℕ) (x : KeptItem) (y : NextItem (items e abbreviations look unit) parents ends marks s stack x) where

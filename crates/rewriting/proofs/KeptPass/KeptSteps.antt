@@ -24,18 +24,13 @@ use Rattle.readers.specs.Stream.{Item, entry, terminator, Items, push, on_step, 
 use Rattle.readers.proofs.Streams.{EntryInside, step-inside, terminator-inside, items-step}
 use Rattle.readers.specs.declared.cursor.Encoding.{Encoding}
 use Rattle.readers.specs.declared.cursor.Cursor.{Cursor}
-use Rattle.readers.specs.declared.cursor.Number.{Number}
-use Rattle.readers.specs.declared.cursor.Number.TheVariants.{Value, Unreadable as NoNumber}
-use Rattle.readers.specs.declared.cursor.Moved.{Moved}
-use Rattle.readers.specs.declared.cursor.Moved.TheVariants.{To, Unreadable as Nowhere}
+use Rattle.std.specs.Prelude.{None, Option, Some}
+use Rattle.readers.specs.declared.entries.Step.{Step}
 use Rattle.readers.specs.declared.abbreviations.Declaration.{Declaration}
 use Rattle.readers.specs.declared.abbreviations.DeclarationStep.TheVariants.{Declaration as Declared}
-use Rattle.readers.specs.declared.abbreviations.DeclarationFound.{DeclarationFound}
-use Rattle.readers.specs.declared.abbreviations.DeclarationFound.TheVariants.{Declaration as Found', Nothing}
 use Rattle.readers.specs.declared.entries.Entry.{Entry}
 use Rattle.readers.specs.declared.entries.Nesting.{Nesting}
-use Rattle.readers.specs.declared.entries.Step.{Step}
-use Rattle.readers.specs.declared.entries.Step.TheVariants.{Entry as Entry', Terminator, End as StepEnd, Unreadable}
+use Rattle.readers.specs.declared.entries.Step.TheVariants.{Entry as Entry', Terminator, End as StepEnd}
 use Rattle.marking.specs.Marks.{is_kept}
 use Rattle.rewriting.specs.Places.{NestedItem, innermost, with_if, kept_from}
 use Rattle.rewriting.specs.Inner.Parents.{parents_from, HoldsFrom}
@@ -111,66 +106,66 @@ odd n true = eq-eqb ((2 * n + 1) % 2) 1 (let z : (2 * n + 1) % 2 ≡ 1 = omega a
 odd n false = ne_eqb (2 * n % 2) 1 (λ q. let z : 2 * n % 2 ≡ 0 = omega arith in let y : 2 * n % 2 ≡ 1 = q in absurd (omega arith))
 
 -- what is found by its head is the declaration that is found
-whole_same : (s : List ℕ) (d d' : Declaration) → whole_found s (Found' d) ≡ Found' d' → d ≡ d'
+whole_same : (s : List ℕ) (d d' : Declaration) → whole_found s (Some d) ≡ Some d' → d ≡ d'
 unfolding whole_found whole_declaration moved_declaration declaration_found
 whole_same s d d' q = of (past_attributes s d.attributes.at) q
   where
-    of : (m : Moved) → declaration_found (moved_declaration m (Declared d)) ≡ Found' d' → d ≡ d'
-    of (To c) k = cc
-    of Nowhere k = let z : ◌≡◌ {A = ℕ} 0 1 = cc in absurd (omega arith)
+    of : (m : Option Cursor) → declaration_found (moved_declaration m (λ c. Some (Declared d c))) ≡ Some d' → d ≡ d'
+    of (Some c) k = cc
+    of None k = let z : ◌≡◌ {A = ℕ} 0 1 = cc in absurd (omega arith)
 
 -- ---- one step
 
 abbrev pub stand : ℕ → ℕ → Nesting → PassPosition
 stand at count n = record { at = record { at = at }; count = record { 0 = count }; nesting = n }
 
-module _ (e : Encoding) (abbreviations : List ℕ) (look : ℕ → DeclarationFound) (unit : List ℕ) where
+module _ (e : Encoding) (abbreviations : List ℕ) (look : ℕ → Option Declaration) (unit : List ℕ) where
   abbrev pub items : ℕ → List Item
   items at = (items_from e abbreviations look unit at).0
 
-  items-by : (at : ℕ) (o : Step) → step_at e abbreviations look unit at ≡ o → items at ≡ (on_step at o (items_from e abbreviations look unit)).0
+  items-by : (at : ℕ) (o : Option Step) → step_at e abbreviations look unit at ≡ o → items at ≡ (on_step at o (items_from e abbreviations look unit)).0
   items-by at o q =
-      ap (λ (r : Items). r.0) (items-step e abbreviations look unit at) ∙ ap (λ (o : Step). (on_step at o (items_from e abbreviations look unit)).0) q
+      ap (λ (r : Items). r.0) (items-step e abbreviations look unit at) ∙ ap (λ (o : Option Step). (on_step at o (items_from e abbreviations look unit)).0) q
 
-  pub items-entry : (at : ℕ) (x : Entry) → step_at e abbreviations look unit at ≡ Entry' x → items at ≡ entry x ∷ items x.next.at
+  pub items-entry : (at : ℕ) (x : Entry) → step_at e abbreviations look unit at ≡ Some (Entry' x) → items at ≡ entry x ∷ items x.next.at
   unfolding on_step push
-  items-entry at x q = items-by at (Entry' x) q
+  items-entry at x q = items-by at (Some (Entry' x)) q
 
-  pub items-terminator : (at : ℕ) (c : Cursor) → step_at e abbreviations look unit at ≡ Terminator c → items at ≡ terminator at c.at ∷ items c.at
+  pub items-terminator : (at : ℕ) (c : Cursor) → step_at e abbreviations look unit at ≡ Some (Terminator c) → items at ≡ terminator at c.at ∷ items c.at
   unfolding on_step push
-  items-terminator at c q = items-by at (Terminator c) q
+  items-terminator at c q = items-by at (Some (Terminator c)) q
 
-  pub items-end : (at : ℕ) → step_at e abbreviations look unit at ≡ StepEnd → items at ≡ []
+  pub items-end : (at : ℕ) → step_at e abbreviations look unit at ≡ Some StepEnd → items at ≡ []
   unfolding on_step
-  items-end at q = items-by at StepEnd q
+  items-end at q = items-by at (Some StepEnd) q
 
-  pub items-bad : (at : ℕ) → step_at e abbreviations look unit at ≡ Unreadable → items at ≡ []
+  pub items-bad : (at : ℕ) → step_at e abbreviations look unit at ≡ None → items at ≡ []
   unfolding on_step
-  items-bad at q = items-by at Unreadable q
+  items-bad at q = items-by at None q
 
   -- ---- a code that is not 0: an entry, or nothing can be read
 
   pub record CodedEntry (at code : ℕ) (values : Cursor) : Type 0 where
     pub of : Entry
-    pub is : step_at e abbreviations look unit at ≡ Entry' of
+    pub is : step_at e abbreviations look unit at ≡ Some (Entry' of)
     pub from : of.values ≡ values
-    pub declared : look code ≡ Found' of.declaration
+    pub declared : look code ≡ Some of.declaration
 
   module _ (at code : ℕ) (values : Cursor) where
     abbrev Coded : Type 0
-    Coded = CodedEntry at code values ⊎ (step_at e abbreviations look unit at ≡ Unreadable)
+    Coded = CodedEntry at code values ⊎ (step_at e abbreviations look unit at ≡ None)
 
-    coded-values : (d : Declaration) → look code ≡ Found' d → (m : Moved) → step_at e abbreviations look unit at ≡ entry_step e abbreviations look unit at values d m → Coded
+    coded-values : (d : Declaration) → look code ≡ Some d → (m : Option Cursor) → step_at e abbreviations look unit at ≡ entry_step e abbreviations look unit at values d m → Coded
     unfolding entry_step
-    coded-values d k (To next) q = inl (record { of = record { offset = record { 0 = at }; declaration = d; values = values; next = next }; is = q; from = refl; declared = k })
-    coded-values d k Nowhere q = inr q
+    coded-values d k (Some next) q = inl (record { of = record { offset = record { 0 = at }; declaration = d; values = values; next = next }; is = q; from = refl; declared = k })
+    coded-values d k None q = inr q
 
-    coded-found : (f : DeclarationFound) → look code ≡ f → step_at e abbreviations look unit at ≡ found_step e abbreviations look unit at values f → Coded
+    coded-found : (f : Option Declaration) → look code ≡ f → step_at e abbreviations look unit at ≡ found_step e abbreviations look unit at values f → Coded
     unfolding found_step
-    coded-found (Found' d) k q = coded-values d k (values_at e abbreviations d.attributes.at unit values.at) q
-    coded-found Nothing k q = inr q
+    coded-found (Some d) k q = coded-values d k (values_at e abbreviations d.attributes.at unit values.at) q
+    coded-found None k q = inr q
 
-    coded : at < length unit → (n : Number) → n ≡ leb_at uleb unit at → n ≡ Value code values → (code ≡ 0 → ⊥) → Coded
+    coded : at < length unit → (n : Option (ℕ × Cursor)) → n ≡ leb_at uleb unit at → n ≡ Some (code, values) → (code ≡ 0 → ⊥) → Coded
     unfolding code_step
     coded h n p q z =
         coded-found (look code) refl
@@ -179,7 +174,7 @@ module _ (e : Encoding) (abbreviations : List ℕ) (look : ℕ → DeclarationFo
   module _ (parents ends marks : List ℕ) where
     -- ---- after an entry
 
-    entry-holds : (t : PassPosition) (stack : List ℕ) (x : Entry) → step_at e abbreviations look unit t.at.at ≡ Entry' x → Stood items parents ends t stack
+    entry-holds : (t : PassPosition) (stack : List ℕ) (x : Entry) → step_at e abbreviations look unit t.at.at ≡ Some (Entry' x) → Stood items parents ends t stack
         → (get_or parents t.count.0 no_parent ≡ top stack)
         × HoldsFrom parents (t.count.0 + 1) (parents_from (t.count.0 + 1) (opened x.declaration.children t.count.0 stack) (items x.next.at))
     unfolding parents_from HoldsFrom
@@ -191,12 +186,12 @@ module _ (e : Encoding) (abbreviations : List ℕ) (look : ℕ → DeclarationFo
               (sym (add-one t.count.0)) h.1,
         )
 
-    entry-ends : (t : PassPosition) (x : Entry) → step_at e abbreviations look unit t.at.at ≡ Entry' x → EndsHeld ends t.count.0 (items t.at.at)
+    entry-ends : (t : PassPosition) (x : Entry) → step_at e abbreviations look unit t.at.at ≡ Some (Entry' x) → EndsHeld ends t.count.0 (items t.at.at)
         → (get_or ends t.count.0 0 ≡ end_number x.next.at x.declaration.children) × EndsHeld ends (suc t.count.0) (items x.next.at)
     unfolding EndsHeld
     entry-ends t x q h = subst (EndsHeld ends t.count.0) (items-entry t.at.at x q) h
 
-    entry-stood : (t : PassPosition) (stack : List ℕ) (x : Entry) (n : Nesting) → step_at e abbreviations look unit t.at.at ≡ Entry' x
+    entry-stood : (t : PassPosition) (stack : List ℕ) (x : Entry) (n : Nesting) → step_at e abbreviations look unit t.at.at ≡ Some (Entry' x)
         → n ≡ nesting_opened x.declaration.children t.count.0 t.nesting → t.count.0 < 2 ^ 64 - 1 → Stood items parents ends t stack
         → Stood items parents ends (stand x.next.at (t.count.0 + 1) n) (opened x.declaration.children t.count.0 stack)
     entry-stood t stack x n q m few s =
@@ -212,7 +207,7 @@ module _ (e : Encoding) (abbreviations : List ℕ) (look : ℕ → DeclarationFo
           ends_hold = subst (λ (k : ℕ). EndsHeld ends k (items x.next.at)) (sym (add-one t.count.0)) (entry-ends t x q s.ends_hold).1;
         }
 
-    entry_kept : (t : PassPosition) (stack : List ℕ) (x : Entry) → step_at e abbreviations look unit t.at.at ≡ Entry' x
+    entry_kept : (t : PassPosition) (stack : List ℕ) (x : Entry) → step_at e abbreviations look unit t.at.at ≡ Some (Entry' x)
         → kept_at items parents ends marks t stack
         ≡ with_if (is_kept marks t.count.0) (record { item = entry x; depth = length stack })
         (kept_from marks (t.count.0 + 1) (open_kept marks (opened x.declaration.children t.count.0 stack)) (items x.next.at))
@@ -226,11 +221,11 @@ module _ (e : Encoding) (abbreviations : List ℕ) (look : ℕ → DeclarationFo
 
     -- ---- after a terminator
 
-    terminator-ends : (t : PassPosition) (c : Cursor) → step_at e abbreviations look unit t.at.at ≡ Terminator c → EndsHeld ends t.count.0 (items t.at.at) → EndsHeld ends t.count.0 (items c.at)
+    terminator-ends : (t : PassPosition) (c : Cursor) → step_at e abbreviations look unit t.at.at ≡ Some (Terminator c) → EndsHeld ends t.count.0 (items t.at.at) → EndsHeld ends t.count.0 (items c.at)
     unfolding EndsHeld
     terminator-ends t c q h = subst (EndsHeld ends t.count.0) (items-terminator t.at.at c q) h
 
-    terminator-stood : (t : PassPosition) (stack : List ℕ) (c : Cursor) (n : Nesting) → step_at e abbreviations look unit t.at.at ≡ Terminator c
+    terminator-stood : (t : PassPosition) (stack : List ℕ) (c : Cursor) (n : Nesting) → step_at e abbreviations look unit t.at.at ≡ Some (Terminator c)
         → n ≡ nesting_closed parents t.nesting → Stood items parents ends t stack → Stood items parents ends (stand c.at t.count.0 n) (closed stack)
     unfolding parents_from
     terminator-stood t stack c n q m s =
@@ -244,7 +239,7 @@ module _ (e : Encoding) (abbreviations : List ℕ) (look : ℕ → DeclarationFo
           ends_hold = terminator-ends t c q s.ends_hold;
         }
 
-    terminator-kept : (t : PassPosition) (stack : List ℕ) (c : Cursor) → step_at e abbreviations look unit t.at.at ≡ Terminator c → t.nesting ≡ nesting_of stack
+    terminator-kept : (t : PassPosition) (stack : List ℕ) (c : Cursor) → step_at e abbreviations look unit t.at.at ≡ Some (Terminator c) → t.nesting ≡ nesting_of stack
         → kept_at items parents ends marks t stack
         ≡ with_if (closes_kept marks t.nesting) (record { item = terminator t.at.at c.at; depth = length stack })
         (kept_from marks t.count.0 (open_kept marks (closed stack)) (items c.at))
@@ -274,7 +269,7 @@ module _ (e : Encoding) (abbreviations : List ℕ) (look : ℕ → DeclarationFo
     depth-of t stack m = ap (λ (n : Nesting). n.depth) m
 
     module _ (s t : PassPosition) (w : Walking s t) where
-      pub end-end : step_at e abbreviations look unit t.at.at ≡ StepEnd → Answers items parents ends marks unit s End
+      pub end-end : step_at e abbreviations look unit t.at.at ≡ Some StepEnd → Answers items parents ends marks unit s End
       unfolding Forward Next kept_from
       end-end q =
           record {
@@ -284,7 +279,7 @@ module _ (e : Encoding) (abbreviations : List ℕ) (look : ℕ → DeclarationFo
                 v.same ∙ ap (kept_from marks t.count.0 (open_kept marks v.now)) (items-end t.at.at q);
           }
 
-      pub end-bad : step_at e abbreviations look unit t.at.at ≡ Unreadable → Answers items parents ends marks unit s End
+      pub end-bad : step_at e abbreviations look unit t.at.at ≡ None → Answers items parents ends marks unit s End
       unfolding Forward Next kept_from
       end-bad q =
           record {
@@ -294,7 +289,7 @@ module _ (e : Encoding) (abbreviations : List ℕ) (look : ℕ → DeclarationFo
                 v.same ∙ ap (kept_from marks t.count.0 (open_kept marks v.now)) (items-bad t.at.at q);
           }
 
-      module _ (x : Entry) (q : step_at e abbreviations look unit t.at.at ≡ Entry' x) where
+      module _ (x : Entry) (q : step_at e abbreviations look unit t.at.at ≡ Some (Entry' x)) where
         module _ (n : Nesting) (m : n ≡ nesting_opened x.declaration.children t.count.0 t.nesting) (few : t.count.0 < 2 ^ 64 - 1) where
           pub entry-item : is_kept marks t.count.0 ≡ true
               → Answers items parents ends marks unit s (Item' (record {
@@ -337,7 +332,7 @@ module _ (e : Encoding) (abbreviations : List ℕ) (look : ℕ → DeclarationFo
                     },
               )
 
-      module _ (c : Cursor) (q : step_at e abbreviations look unit t.at.at ≡ Terminator c) where
+      module _ (c : Cursor) (q : step_at e abbreviations look unit t.at.at ≡ Some (Terminator c)) where
         pub terminator-less : length unit - c.at < length unit - t.at.at
         terminator-less = let i = terminator-inside e abbreviations look unit t.at.at c q in omega (arith, i.0, i.1)
 
@@ -385,19 +380,19 @@ module _ (e : Encoding) (abbreviations : List ℕ) (look : ℕ → DeclarationFo
 
       -- ---- an entry, by the column of ends
 
-      module _ (h : t.at.at < length unit) (b : Number) (p : b ≡ leb_at uleb unit t.at.at) where
-        pub stop-none : b ≡ NoNumber → Answers items parents ends marks unit s End
+      module _ (h : t.at.at < length unit) (b : Option (ℕ × Cursor)) (p : b ≡ leb_at uleb unit t.at.at) where
+        pub stop-none : b ≡ None → Answers items parents ends marks unit s End
         stop-none q = end-bad (sym (step-none e abbreviations look unit t.at.at h b p q))
 
-        module _ (code : ℕ) (values : Cursor) (q : b ≡ Value code values) where
-          pub at-terminator : code ≡ 0 → step_at e abbreviations look unit t.at.at ≡ Terminator values
+        module _ (code : ℕ) (values : Cursor) (q : b ≡ Some (code, values)) where
+          pub at-terminator : code ≡ 0 → step_at e abbreviations look unit t.at.at ≡ Some (Terminator values)
           at-terminator z = sym (step-terminator e abbreviations look unit t.at.at h b p code values q z)
 
           past-code : (t.at.at < values.at) × (values.at ≤ length unit)
           past-code = uleb-inside unit t.at.at code values (sym p ∙ q)
 
           module _ (z : code ≡ 0 → ⊥) where
-            pub stop-unknown : (f : DeclarationFound) → whole_found abbreviations f ≡ look code → f ≡ Nothing → Answers items parents ends marks unit s End
+            pub stop-unknown : (f : Option Declaration) → whole_found abbreviations f ≡ look code → f ≡ None → Answers items parents ends marks unit s End
             stop-unknown f k l = end-bad (sym (step-unknown e abbreviations look unit t.at.at h b p code values q z f k l))
 
             stop-unless : ((x : CodedEntry t.at.at code values) (stack : List ℕ) → Stood items parents ends t stack → ⊥) → Answers items parents ends marks unit s End
@@ -464,7 +459,7 @@ module _ (e : Encoding) (abbreviations : List ℕ) (look : ℕ → DeclarationFo
                         ((entry-on x.of x.is m (o ∙ ap (λ (c : Bool). nesting_opened c t.count.0 t.nesting) (opens x v.now v.stood)) few k).1 stack g),
                   )
 
-                  pub ends-item : (f : DeclarationFound) → whole_found abbreviations f ≡ look code → (d : Declaration) → f ≡ Found' d → is_kept marks t.count.0 ≡ true
+                  pub ends-item : (f : Option Declaration) → whole_found abbreviations f ≡ look code → (d : Declaration) → f ≡ Some d → is_kept marks t.count.0 ≡ true
                       → Answers items parents ends marks unit s (Item' (record {
                         start = record { 0 = t.at.at };
                         end = record { at = n / 2 };

@@ -4,7 +4,7 @@ use Prim.Native.Nat.{ℕ, suc, ◌+◌}
 use native.Mathlib.Omega.{arith}
 use mathlib.Core.Bool.{Bool, true, false}
 use mathlib.Core.List.{List, [], ◌∷◌, ◌++◌, append_assoc}
-use mathlib.Core.Option.{Option, none, some}
+use Rattle.std.specs.Prelude.{None, Option, Some}
 use lib.ListN.{length, get_or, length-append}
 use lib.Dec.{ltb, leb}
 use Rattle.readers.proofs.Choice.{pick-either}
@@ -88,7 +88,7 @@ rows_at P a rows q h = subst (Rows P) q h
 -- the declarations of a unit, and its rows by the items that they give
 pub record UnitRows (e : Encoding) (x : Sections) (unit : List ℕ) (from first : ℕ) (rows : List EntryRow) : Type 0 where
   pub declarations : List Placed
-  pub declared : abbreviations_of x.abbreviations from ≡ some declarations
+  pub declared : abbreviations_of x.abbreviations from ≡ Some declarations
   pub are : RowsOf 0 [] (items_from e x.abbreviations (declared_in declarations) unit first).0 rows
 
 module _ (e : Encoding) (x : Sections) (unit : List ℕ) (room : Rooms) (from first : ℕ) where
@@ -96,8 +96,8 @@ module _ (e : Encoding) (x : Sections) (unit : List ℕ) (room : Rooms) (from fi
       → Rows (UnitRows e x unit from first)
       (on_declared o (λ ds. analyse_items e x unit room (start_of e) (items_from e x.abbreviations (declared_in ds) unit first).0 (items_from e x.abbreviations (declared_in ds) unit first).1))
   unfolding Rows on_declared
-  by-declared none q = tt
-  by-declared (some ds) q =
+  by-declared None q = tt
+  by-declared (Some ds) q =
       let items : Items = items_from e x.abbreviations (declared_in ds) unit first in
       rows-map (RowsOf 0 [] items.0) (UnitRows e x unit from first) (analyse_items e x unit room (start_of e) items.0 items.1)
       (λ rows h. record { declarations = ds; declared = q; are = h }) (rows_of e x unit room (start_of e) items.0 items.1)
@@ -108,13 +108,13 @@ module _ (e : Encoding) (x : Sections) (unit : List ℕ) (room : Rooms) (from fi
   unit-rows rows q = rows_at (UnitRows e x unit from first) _ rows q (by-declared (abbreviations_of x.abbreviations from) refl)
 
   -- by the declarations
-  pub parents-of : (rows : List EntryRow) → unit_analysed e x unit room from first ≡ analysed rows → (ds : List Placed) → abbreviations_of x.abbreviations from ≡ some ds
+  pub parents-of : (rows : List EntryRow) → unit_analysed e x unit room from first ≡ analysed rows → (ds : List Placed) → abbreviations_of x.abbreviations from ≡ Some ds
       → RowsOf 0 [] (items_from e x.abbreviations (declared_in ds) unit first).0 rows
   parents-of rows q ds h =
       let u : UnitRows e x unit from first rows = unit-rows rows q in
       subst (λ (ds : List Placed). RowsOf 0 [] (items_from e x.abbreviations (declared_in ds) unit first).0 rows) (some_same (sym u.declared ∙ h)) u.are
     where
-      some_same : {a b : List Placed} → some a ≡ some b → a ≡ b
+      some_same : {a b : List Placed} → Some a ≡ Some b → a ≡ b
       some_same q = cc
 
   -- as the code finds them, through an index

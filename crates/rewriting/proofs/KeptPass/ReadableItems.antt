@@ -4,7 +4,8 @@ use Prim.Native.Nat.{ℕ, suc, ◌+◌, ◌-◌, ◌≤◌}
 use native.Mathlib.Omega.{arith}
 use mathlib.Core.Bool.{Bool, true, false, not}
 use mathlib.Core.List.{List, [], ◌∷◌, ◌++◌}
-use mathlib.Core.Option.{Option, none, some}
+use Rattle.std.specs.Prelude.{None, Option, Some}
+use Rattle.readers.specs.declared.entries.Step.{Step}
 use mathlib.Core.Logic.{⊎_elim}
 use lib.ListN.{length, take, drop, length-append}
 use lib.Seq.{length-take-le, drop-drop}
@@ -31,14 +32,9 @@ use Rattle.readers.proofs.Values.{valued, behind_forms, attribute-direct, attrib
 use Rattle.readers.specs.declared.cursor.Encoding.{Encoding}
 use Rattle.readers.specs.declared.abbreviations.AttributeSpec.{AttributeSpec}
 use Rattle.readers.specs.declared.abbreviations.Declaration.{Declaration}
-use Rattle.readers.specs.declared.abbreviations.DeclarationFound.{DeclarationFound as Declared}
-use Rattle.readers.specs.declared.abbreviations.DeclarationFound.TheVariants.{Declaration as Found', Nothing}
 use Rattle.readers.specs.declared.entries.Entry.{Entry}
-use Rattle.readers.specs.declared.entries.Step.{Step}
-use Rattle.readers.specs.declared.entries.Step.TheVariants.{Entry as Entry', Terminator, End, Unreadable as NoStep}
+use Rattle.readers.specs.declared.entries.Step.TheVariants.{Entry as Entry', Terminator, End}
 use Rattle.readers.specs.declared.attributes.Attribute.{Attribute}
-use Rattle.readers.specs.declared.attributes.AttributeRead.{AttributeRead}
-use Rattle.readers.specs.declared.attributes.AttributeRead.TheVariants.{Read as Attribute'}
 use Rattle.readers.specs.EntryAttributes.{Valued, on_attribute, values_of, entry_values}
 use Rattle.marking.specs.EntryReferences.{ReferencesFound, found, refused, after, and_then, targets, walk_found, expression_found, part_of, Locations, locations_by, attribute_found, attributes_found}
 use Rattle.readers.proofs.EntryAttributes.{specs-all}
@@ -52,26 +48,26 @@ use Rattle.rewriting.proofs.WritePass.Expressions.{is_expression, value-exprloc}
 
 -- something was read
 unfoldable pub Is : {A : Type 0} → Option A → Type 0
-Is none = ⊥
-Is (some a) = Unit {0}
+Is None = ⊥
+Is (Some a) = Unit {0}
 
 module _ {A B : Type 0} where
-  is-bind : (o : Option A) (f : A → Option B) → Is o → ((a : A) → o ≡ some a → Is (f a)) → Is (bind o f)
+  is-bind : (o : Option A) (f : A → Option B) → Is o → ((a : A) → o ≡ Some a → Is (f a)) → Is (bind o f)
   unfolding Is bind
-  is-bind none f h k = absurd h
-  is-bind (some a) f h k = k a refl
+  is-bind None f h k = absurd h
+  is-bind (Some a) f h k = k a refl
 
   pub record Bound (o : Option A) (f : A → Option B) : Type 0 where
     pub first : A
-    pub first_is : o ≡ some first
+    pub first_is : o ≡ Some first
     pub then_is : Is (f first)
 
   bound : (o : Option A) (f : A → Option B) → Is (bind o f) → Bound o f
   unfolding Is bind
-  bound none f h = absurd h
-  bound (some a) f h = record { first = a; first_is = refl; then_is = h }
+  bound None f h = absurd h
+  bound (Some a) f h = record { first = a; first_is = refl; then_is = h }
 
-is_at : {A : Type 0} {o : Option A} {a : A} → o ≡ some a → Is o
+is_at : {A : Type 0} {o : Option A} {a : A} → o ≡ Some a → Is o
 unfolding Is
 is_at q = subst Is (sym q) tt
 
@@ -87,7 +83,7 @@ module _ (e : Encoding) (unit : List ℕ) where
   -- read deep it comes as far
   record DeepToken (t : Token) (s : List ℕ) (r : ReadOf) : Type 0 where
     pub it : Read
-    pub is : token_in big deep t s ≡ some (it, r.1)
+    pub is : token_in big deep t s ≡ Some (it, r.1)
 
   -- the expression of a token that was read at a place
   abbrev Judged : Token → ℕ → Read → Type 0
@@ -115,18 +111,18 @@ module _ (e : Encoding) (unit : List ℕ) where
       let i : Is (deep (take t.1 t.2)) = subst (λ z. Is (deep z)) (part-is at (suc t.0) t.1 t.2 u.0.1 (leb_yes {a = t.1} {b = length t.2} w) u.0.0) (j tt) in
       by-pieces t q w (deep (take t.1 t.2)) refl i)))
     where
-      by-pieces : (t : _) → uleb (drop at unit) ≡ some t → T (leb t.1 (length t.2)) → (o : Option (List Piece)) → deep (take t.1 t.2) ≡ o → Is o
+      by-pieces : (t : _) → uleb (drop at unit) ≡ Some t → T (leb t.1 (length t.2)) → (o : Option (List Piece)) → deep (take t.1 t.2) ≡ o → Is o
           → DeepToken expression (drop at unit) (record { seen = 0; start = suc t.0; pieces = verbatim (take (suc t.0) (drop at unit)) ∷ verbatim (take t.1 t.2) ∷ [] }, drop t.1 t.2)
-      by-pieces t q w none p i = absurd i
-      by-pieces t q w (some ps) p i = record {
+      by-pieces t q w None p i = absurd i
+      by-pieces t q w (Some ps) p i = record {
         it = record { seen = 0; start = suc t.0; pieces = verbatim (take (suc t.0) (drop at unit)) ∷ ps };
         is = bind-at _ q ∙ check-yes _ _ w ∙ bind-at _ p;
       }
 
   same-deep : (t : Token) (at : ℕ) (o : Option ReadOf) → token_in big deep t (drop at unit) ≡ o → All (λ r. Judged t at r.0 → DeepToken t (drop at unit) r) o
   unfolding All
-  same-deep t at none q = tt
-  same-deep t at (some r) q = λ _. record { it = r.0; is = q }
+  same-deep t at None q = tt
+  same-deep t at (Some r) q = λ _. record { it = r.0; is = q }
 
   token-deep : (t : Token) (at : ℕ) → All (λ r. Judged t at r.0 → DeepToken t (drop at unit) r) (token_in big as_bytes t (drop at unit))
   unfolding token_in
@@ -147,15 +143,15 @@ module _ (e : Encoding) (unit : List ℕ) where
   -- read deep it comes as far, to the end of the attribute's field
   record DeepValue (g : Layout) (name form at : ℕ) (r : RunOf) : Type 0 where
     pub value : Attribute
-    pub is : attribute_at e unit at name form ≡ Attribute' value
+    pub is : attribute_at e unit at name form ≡ Some value
     pub those : List Read
-    pub are : read_in big deep g (drop at unit) ≡ some (those, r.1)
+    pub are : read_in big deep g (drop at unit) ≡ Some (those, r.1)
     pub rest : r.1 ≡ drop value.field.end unit
 
   module _ (name form at : ℕ)
-      (judged : (v : Attribute) → attribute_at e unit at name form ≡ Attribute' v → v.form ≡ 0x18 → (name ≡ 0x01 → ⊥) → Is (deep (part_of unit v.field))) where
+      (judged : (v : Attribute) → attribute_at e unit at name form ≡ Some v → v.form ≡ 0x18 → (name ≡ 0x01 → ⊥) → Is (deep (part_of unit v.field))) where
     -- a token at a place, and where the rest starts
-    token-rest : (t : Token) (n : ℕ) (r : ReadOf) → token_in big as_bytes t (drop n unit) ≡ some r → r.1 ≡ drop (field_of big n r.0).end unit
+    token-rest : (t : Token) (n : ℕ) (r : ReadOf) → token_in big as_bytes t (drop n unit) ≡ Some r → r.1 ≡ drop (field_of big n r.0).end unit
     unfolding field_of size
     token-rest t n r q =
         let l : TokenLaw big as_bytes t (drop n unit) r = all_of (TokenLaw big as_bytes t (drop n unit)) (token-law big as_bytes (as-bytes-law big) t (drop n unit)) q in
@@ -169,7 +165,7 @@ module _ (e : Encoding) (unit : List ℕ) where
         all-bind (λ r. Judged t at r.0 → DeepToken t (drop at unit) r) _ (token_in big as_bytes t (drop at unit)) _ (token-deep t at)
         (λ r q d.
         let v : Attribute = record { form = form; field = field_of big at r.0 } in
-        let i : attribute_at e unit at name form ≡ Attribute' v = attribute-direct e unit at name form (eqb_no {a = form} {b = 0x16} n) ∙ ap (λ o. valued form (as_field big at o)) q in
+        let i : attribute_at e unit at name form ≡ Some v = attribute-direct e unit at name form (eqb_no {a = form} {b = 0x16} n) ∙ ap (λ o. valued form (as_field big at o)) q in
         let dt : DeepToken t (drop at unit) r = d (λ x. let p = value-exprloc e false name form x in judged v i p.0 p.1) in
         all-some (DeepValue (field t (λ _. done)) name form at)
         (record { value = v; is = i; those = dt.it ∷ []; are = bind-at _ dt.is; rest = token-rest t at r q }))
@@ -178,18 +174,18 @@ module _ (e : Encoding) (unit : List ℕ) where
     behind f = field (value_token e true name f) (λ _. done)
 
     -- the value after its form numbers, which take m bytes and end in f
-    value-behind : T (eqb form 0x16) → (f : ℕ × ℕ) → forms_in (drop at unit) ≡ some f
+    value-behind : T (eqb form 0x16) → (f : ℕ × ℕ) → forms_in (drop at unit) ≡ Some f
         → All (DeepValue (field forms behind) name form at) (bind (read_in big as_bytes (behind f.1) (drop (at + f.0) unit)) (before (copy f.1 0 f.0 (drop at unit)).0))
     unfolding read_in before bind token_in as_forms copy token_at as_field valued forms_at as_form_number behind_forms
     value-behind h f q =
         let t : Token = value_token e true name f.1 in
         let n : ℕ = at + f.0 in
         let P : RunOf → Type 0 = DeepValue (field forms behind) name form at in
-        subst (All P) (sym (bind-bind (token_in big as_bytes t (drop n unit)) (λ (r : ReadOf). some (r.0 ∷ [], r.1)) (before (copy f.1 0 f.0 (drop at unit)).0)))
+        subst (All P) (sym (bind-bind (token_in big as_bytes t (drop n unit)) (λ (r : ReadOf). Some (r.0 ∷ [], r.1)) (before (copy f.1 0 f.0 (drop at unit)).0)))
         (all-bind (λ r. Judged t n r.0 → DeepToken t (drop n unit) r) P (token_in big as_bytes t (drop n unit)) _ (token-deep t n)
         (λ r p d.
         let v : Attribute = record { form = f.1; field = field_of big n r.0 } in
-        let i : attribute_at e unit at name form ≡ Attribute' v =
+        let i : attribute_at e unit at name form ≡ Some v =
         attribute-indirect e unit at name form (eqb_yes {a = form} {b = 0x16} h)
         ∙ ap (λ o. behind_forms e unit at name form (as_form_number at o)) q
         ∙ ap (λ o. valued f.1 (as_field big n o)) p in
@@ -236,8 +232,8 @@ both_found (refused ys n) g names q = let z : ◌≡◌ {A = ℕ} 0 1 = cc in ab
 
 walk_is : (big : Bool) (xs ys : List ℕ) (o : Option (List Piece)) → walk_found xs (as_walk big o) ≡ found ys → Is o
 unfolding walk_found as_walk Is
-walk_is big xs ys none q = let z : ◌≡◌ {A = ℕ} 0 1 = cc in absurd (omega arith)
-walk_is big xs ys (some ps) q = tt
+walk_is big xs ys None q = let z : ◌≡◌ {A = ℕ} 0 1 = cc in absurd (omega arith)
+walk_is big xs ys (Some ps) q = tt
 
 expression-is : (e : Encoding) (s ys : List ℕ) → expression_found e s ≡ found ys → Is (expression_in e s)
 unfolding expression_found walk_of
@@ -268,11 +264,11 @@ module _ (e : Encoding) (unit : List ℕ) (l : Locations) (own : l.unit ≡ unit
   unfolding joined Is
   is-joined rs r = tt
 
-  found-more : (a : AttributeSpec) (rest : List AttributeSpec) (at : ℕ) (v : Attribute) → attribute_at e unit at a.name a.form ≡ Attribute' v
+  found-more : (a : AttributeSpec) (rest : List AttributeSpec) (at : ℕ) (v : Attribute) → attribute_at e unit at a.name a.form ≡ Some v
       → attributes_found e l (values_of e unit (a ∷ rest) at)
       ≡ and_then (attribute_found e l (record { name = a.name; declared = a.form; value = v })) (attributes_found e l (values_of e unit rest v.field.end))
   unfolding values_of on_attribute attributes_found
-  found-more a rest at v p = ap (λ (o : AttributeRead). attributes_found e l (on_attribute a o (λ next. values_of e unit rest next))) p
+  found-more a rest at v p = ap (λ (o : Option Attribute). attributes_found e l (on_attribute a o (λ next. values_of e unit rest next))) p
 
   values-deep : (specs : List AttributeSpec) (at : ℕ) (names : List ℕ) → attributes_found e l (values_of e unit specs at) ≡ found names
       → Is (read_in (big e unit) as_bytes (attributes_layout e specs) (drop at unit)) → Is (read_in (big e unit) (expression_in e) (attributes_layout e specs) (drop at unit))
@@ -285,7 +281,7 @@ module _ (e : Encoding) (unit : List ℕ) (l : Locations) (own : l.unit ≡ unit
       let b : Bound (read_in (big e unit) as_bytes g s) (λ r. bind (read_in (big e unit) as_bytes h r.1) (joined r.0)) =
       bound _ _ (subst Is (read-then (big e unit) as_bytes g h s) i) in
       let c : Bound (read_in (big e unit) as_bytes h b.first.1) (joined b.first.0) = bound _ _ b.then_is in
-      let next : (v : Attribute) → attribute_at e unit at a.name a.form ≡ Attribute' v
+      let next : (v : Attribute) → attribute_at e unit at a.name a.form ≡ Some v
       → Both (attribute_found e l (record { name = a.name; declared = a.form; value = v })) (attributes_found e l (values_of e unit rest v.field.end)) =
       (λ v p. both_found _ _ names (sym (found-more a rest at v p) ∙ q)) in
       let d : DeepValue e unit g a.name a.form at b.first =
@@ -301,7 +297,7 @@ module _ (e : Encoding) (unit : List ℕ) (l : Locations) (own : l.unit ≡ unit
 
 -- ---- entries and terminators
 
-module _ (e : Encoding) (x : Sections) (look : ℕ → Declared) (unit : List ℕ) where
+module _ (e : Encoding) (x : Sections) (look : ℕ → Option Declaration) (unit : List ℕ) where
   abbrev order : Bool
   order = e.big_endian
 
@@ -314,26 +310,26 @@ module _ (e : Encoding) (x : Sections) (look : ℕ → Declared) (unit : List �
     pub names : List ℕ
     pub names_are : names_of e x unit base y ≡ found names
 
-  unfoldable pub JudgedStep : Step → Type 0
-  JudgedStep (Entry' y) = JudgedEntry y
-  JudgedStep (Terminator c) = Unit {0}
-  JudgedStep End = ⊥
-  JudgedStep NoStep = ⊥
+  unfoldable pub JudgedStep : Option Step → Type 0
+  JudgedStep (Some (Entry' y)) = JudgedEntry y
+  JudgedStep (Some (Terminator c)) = Unit {0}
+  JudgedStep (Some End) = ⊥
+  JudgedStep None = ⊥
 
   specs-deep : (d : Declaration) (values at : ℕ) (next : ℕ) → JudgedEntry (record { offset = record { 0 = at }; declaration = d; values = cursor values; next = cursor next })
       → (o : Option (Scanned AttributeSpec ℕ)) → attributes_from x.abbreviations d.attributes.at ≡ o
       → Is (read_in order as_bytes (specs_layout e o) (drop values unit)) → Is (read_in order (expression_in e) (specs_layout e o) (drop values unit))
   unfolding specs_layout read_in Is names_of values_of_entry entry_values
-  specs-deep d values at next j none q i = absurd i
-  specs-deep d values at next j (some r) q i =
+  specs-deep d values at next j None q i = absurd i
+  specs-deep d values at next j (Some r) q i =
       values-deep e unit (locations_by unit x.locations j.base) refl r.0 values j.names
       (ap (λ (l : List AttributeSpec). attributes_found e (locations_by unit x.locations j.base) (values_of e unit l values)) (sym (specs-all x.abbreviations d.attributes.at r q)) ∙ j.names_are) i
 
-  found-deep : (at values next : ℕ) (f : Declared) → JudgedStep (entry_found e x.abbreviations look at values next f)
+  found-deep : (at values next : ℕ) (f : Option Declaration) → JudgedStep (entry_found e x.abbreviations look at values next f)
       → Is (read_in order as_bytes (found_layout e x.abbreviations look f) (drop values unit)) → Is (read_in order (expression_in e) (found_layout e x.abbreviations look f) (drop values unit))
   unfolding entry_found found_layout JudgedStep
-  found-deep at values next Nothing j i = absurd j
-  found-deep at values next (Found' d) j i = specs-deep d values at next j (attributes_from x.abbreviations d.attributes.at) refl i
+  found-deep at values next None j i = absurd j
+  found-deep at values next (Some d) j i = specs-deep d values at next j (attributes_from x.abbreviations d.attributes.at) refl i
 
   -- what follows the code
   abbrev code_layout : ℕ → Layout
@@ -372,8 +368,8 @@ module _ (e : Encoding) (x : Sections) (look : ℕ → Declared) (unit : List �
   by-reads : (at : ℕ) (o : Option RunOf) → All (λ r. JudgedStep (step_of_reads e x.abbreviations look at r.0) → Is (read_in order (expression_in e) layout (drop at unit))) o
       → JudgedStep (as_step e x.abbreviations look at o) → Is (read_in order (expression_in e) layout (drop at unit))
   unfolding as_step All JudgedStep
-  by-reads at none h j = absurd j
-  by-reads at (some r) h j = h j
+  by-reads at None h j = absurd j
+  by-reads at (Some r) h j = h j
 
   -- a step over a terminator, or over an entry that was judged, is read deep
   pub step-deep : (at : ℕ) → JudgedStep (step_at e x.abbreviations look unit at) → Is (read_in order (expression_in e) layout (drop at unit))
@@ -416,8 +412,8 @@ every_map P Q f (s ∷ kept) h = (f s h.0, every_map P Q f kept h.1)
 module _ (x : Sections) (u : Unit') (s : NestedItem) where
   is-readable : (o : Option RunOf) → deep_at x u (offset_of s.item) ≡ o → Is o → Readable x u s
   unfolding Is
-  is-readable none q i = absurd i
-  is-readable (some r) q i = record { run = r; is = q }
+  is-readable None q i = absurd i
+  is-readable (Some r) q i = record { run = r; is = q }
 
 module _ (x : Sections) (room : Room) (section : List ℕ) (h : UnitHeader) (ds : List Placed) (rows : List EntryRow) (a : Accepted x room section h ds rows) where
   abbrev unit : Unit'

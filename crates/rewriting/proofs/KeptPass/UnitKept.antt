@@ -2,7 +2,7 @@
 use mathlib.Core.Path.{◌≡◌, ap}
 use Prim.Native.Nat.{ℕ, ◌*◌, ◌≤◌}
 use mathlib.Core.List.{List, []}
-use mathlib.Core.Option.{some}
+use Rattle.std.specs.Prelude.{Some}
 use lib.ListN.{length}
 use Rattle.readers.specs.Choice.{zeros}
 use Rattle.readers.specs.Abbreviations.{Placed, declared_in, abbreviations_of, index_of, find_at}
@@ -25,12 +25,12 @@ abbrev pub reading : ℕ → Encoding → Reading
 reading from e = record { from = from; encoding = e }
 
 -- by an index of any length
-pub items-read : (from : ℕ) (e : Encoding) (abbreviations unit : List ℕ) (n : ℕ) (ds : List Placed) → abbreviations_of abbreviations from ≡ some ds → (at : ℕ)
+pub items-read : (from : ℕ) (e : Encoding) (abbreviations unit : List ℕ) (n : ℕ) (ds : List Placed) → abbreviations_of abbreviations from ≡ Some ds → (at : ℕ)
     → items_by (reading from e) abbreviations (index_of abbreviations from n) unit at ≡ (items_from e abbreviations (declared_in ds) unit at).0
 items-read from e abbreviations unit n ds h at =
     ap (λ (i : Items). i.0) (items-look e abbreviations (find_at abbreviations from (index_of abbreviations from n)) (declared_in ds) (find-plain abbreviations from n ds h) unit at)
 
-module _ (x : Sections) (u : Unit') (from n : ℕ) (h : abbreviations_of x.abbreviations from ≡ some u.declared) where
+module _ (x : Sections) (u : Unit') (from n : ℕ) (h : abbreviations_of x.abbreviations from ≡ Some u.declared) where
   abbrev pub read : ℕ → List Item
   read = items_by (reading from u.header.encoding) x.abbreviations (index_of x.abbreviations from n) u.bytes
 

@@ -4,7 +4,8 @@ use Prim.Native.Nat.{ℕ, zero, suc, ◌≤◌, ◌<◌}
 use native.Mathlib.Omega.{arith}
 use mathlib.Core.Bool.{Bool, true, false, not}
 use mathlib.Core.List.{List, [], ◌∷◌, ◌++◌, append_assoc, append-nil}
-use mathlib.Core.Option.{some}
+use Rattle.std.specs.Prelude.{Option, Some}
+use Rattle.readers.specs.declared.abbreviations.Declaration.{Declaration}
 use mathlib.Core.Logic.{⊎_elim}
 use lib.ListN.{length, get_or, take, drop}
 use lib.Dec.{T, eqb, leb}
@@ -20,7 +21,6 @@ use Rattle.readers.specs.Forms.{form_tokens, token_among, form_token, use_of, va
 use Rattle.readers.specs.Fields.{linked_value, field_of}
 use Rattle.readers.specs.Entries.{entry_layout, step_at}
 use Rattle.readers.specs.declared.cursor.Encoding.{Encoding}
-use Rattle.readers.specs.declared.abbreviations.DeclarationFound.{DeclarationFound}
 use Rattle.readers.specs.declared.attributes.Attribute.{Attribute}
 use Rattle.readers.specs.EntryAttributes.{Valued}
 use Rattle.rewriting.specs.Indices.{index_in, indices_in, read_indices}
@@ -72,7 +72,7 @@ module _ (k : ℕ) where
     -- a token that was read: read as bytes too, and its indices by its value
     record Indexed (t : Token) (s : List ℕ) (r : ReadOf) : Type 0 where
       pub it : Read
-      pub is : token_in big as_bytes t s ≡ some (it, r.1)
+      pub is : token_in big as_bytes t s ≡ Some (it, r.1)
       pub alike : r.0.seen ≡ it.seen
       pub indices : indices_in k r.0.pieces ≡ token_index t (linked_value it.pieces it.seen)
 
@@ -345,7 +345,7 @@ module _ (k : ℕ) where
 
         -- ---- an entry or a terminator
 
-        no_code : (at : ℕ) (r : ReadOf) → token_in big deep (number leb128) (drop at unit) ≡ some r → indices_in k r.0.pieces ≡ []
+        no_code : (at : ℕ) (r : ReadOf) → token_in big deep (number leb128) (drop at unit) ≡ Some r → indices_in k r.0.pieces ≡ []
         unfolding token_index
         no_code at r q = (all_of (Indexed big deep (number leb128) (drop at unit)) (token-indexed big deep expression-none (number leb128) (drop at unit)) q).indices
 
@@ -366,8 +366,8 @@ module _ (k : ℕ) where
         more-values a rest = refl
 
         -- THE indices of what is read deep at a place, by the step there: those of an entry's values
-        pub deep-indices : (abbreviations : List ℕ) (look : ℕ → DeclarationFound) (at : ℕ) (all : RunOf)
-            → read_in big deep (entry_layout e abbreviations look) (drop at unit) ≡ some all
+        pub deep-indices : (abbreviations : List ℕ) (look : ℕ → Option Declaration) (at : ℕ) (all : RunOf)
+            → read_in big deep (entry_layout e abbreviations look) (drop at unit) ≡ Some all
             → StepBy (value_indices k) e unit abbreviations (step_at e abbreviations look unit at) (read_indices k all.0)
         deep-indices abbreviations look at all q =
             deep-by (indices_in k) (read_indices k) (value_indices k) own no_reads more-reads no-values more-values e unit token-read copied_none no_code abbreviations look at all q

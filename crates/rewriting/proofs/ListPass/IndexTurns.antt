@@ -15,14 +15,13 @@ use Rattle.readers.specs.Stream.{Item, entry}
 use Rattle.readers.proofs.Streams.{EntryInside, step-inside, terminator-inside}
 use Rattle.readers.specs.declared.cursor.Encoding.{Encoding}
 use Rattle.readers.specs.declared.cursor.Cursor.{Cursor}
-use Rattle.readers.specs.declared.abbreviations.DeclarationFound.{DeclarationFound as Declared}
-use Rattle.readers.specs.declared.entries.Entry.{Entry}
+use Rattle.std.specs.Prelude.{None, Option, Some}
+use Rattle.readers.specs.declared.abbreviations.Declaration.{Declaration}
 use Rattle.readers.specs.declared.entries.Step.{Step}
-use Rattle.readers.specs.declared.entries.Step.TheVariants.{Entry as Entry', Terminator, End as StepEnd, Unreadable}
+use Rattle.readers.specs.declared.entries.Entry.{Entry}
+use Rattle.readers.specs.declared.entries.Step.TheVariants.{Entry as Entry', Terminator, End as StepEnd}
 use Rattle.readers.specs.EntryAttributes.{entry_values, next_attribute}
 use Rattle.readers.specs.declared.entry_attributes.EntryAttribute.{EntryAttribute}
-use Rattle.readers.specs.declared.entry_attributes.NextAttribute.{NextAttribute}
-use Rattle.readers.specs.declared.entry_attributes.NextAttribute.TheVariants.{More, NoMore}
 use Rattle.readers.proofs.EntryAttributes.{stepped, stepped-on, no_more}
 use Rattle.marking.specs.Analysis.{Sections, values_of_entry}
 use Rattle.rewriting.specs.Indices.{declares, is_short}
@@ -59,16 +58,16 @@ module _ (x : Sections) (u : Unit') (name : ℕ) (items : List Item) where
 
 -- ---- whether an entry declares
 
-module _ (e : Encoding) (s unit : List ℕ) (p at : ℕ) (n : NextAttribute) (q : n ≡ next_attribute e s p unit at) where
-  pub attributes-less : (x : EntryAttribute) → n ≡ More x → length s - x.next.at < length s - p
+module _ (e : Encoding) (s unit : List ℕ) (p at : ℕ) (n : Option EntryAttribute) (q : n ≡ next_attribute e s p unit at) where
+  pub attributes-less : (x : EntryAttribute) → n ≡ Some x → length s - x.next.at < length s - p
   attributes-less x r = omega (arith, (stepped e s p unit at x (sym q ∙ r)).ahead, (stepped e s p unit at x (sym q ∙ r)).inside)
 
   module _ (name p₀ at₀ : ℕ) (h : declares name (entry_values e s p₀ unit at₀) ≡ declares name (entry_values e s p unit at)) where
-    pub declares-end : n ≡ NoMore → false ≡ declares name (entry_values e s p₀ unit at₀)
+    pub declares-end : n ≡ None → false ≡ declares name (entry_values e s p₀ unit at₀)
     unfolding declares
     declares-end r = sym (h ∙ ap (declares name) (no_more e s p unit at (sym q ∙ r)))
 
-    module _ (x : EntryAttribute) (r : n ≡ More x) where
+    module _ (x : EntryAttribute) (r : n ≡ Some x) where
       declares-turn : declares name (entry_values e s p₀ unit at₀)
           ≡ (eqb x.name name and eqb x.declared 0x17) or declares name (entry_values e s x.next.at unit x.values.at)
       unfolding declares
@@ -91,7 +90,7 @@ module _ (e : Encoding) (s unit : List ℕ) (p at : ℕ) (n : NextAttribute) (q 
 -- ---- whether any entry does
 
 module _ (r : Reading) (s table unit : List ℕ) (name : ℕ) where
-  abbrev look : ℕ → Declared
+  abbrev look : ℕ → Option Declaration
   look = find_at s r.from table
 
   -- from one place on as from another
@@ -106,16 +105,16 @@ module _ (r : Reading) (s table unit : List ℕ) (name : ℕ) where
       ∙ ap (λ (l : List ℕ). declares name (entry_values r.encoding l y.declaration.attributes.at u.bytes y.values.at)) w.abbreviations_are
       ∙ ap (λ (l : List ℕ). declares name (entry_values r.encoding s y.declaration.attributes.at l y.values.at)) w.bytes_are
 
-  module _ (at₀ at : ℕ) (h : SameFrom at₀ at) (o : Step) (q : o ≡ step_at r.encoding s look unit at) where
-    pub any-end : o ≡ StepEnd → (x : Sections) (u : Unit') → ReadAs x u r s unit → false ≡ any_declares x u name (items_by r s table unit at₀)
+  module _ (at₀ at : ℕ) (h : SameFrom at₀ at) (o : Option Step) (q : o ≡ step_at r.encoding s look unit at) where
+    pub any-end : o ≡ Some StepEnd → (x : Sections) (u : Unit') → ReadAs x u r s unit → false ≡ any_declares x u name (items_by r s table unit at₀)
     unfolding any_declares
     any-end k x u w = sym (h x u w ∙ ap (any_declares x u name) (items-end r.encoding s look unit at (sym q ∙ k)))
 
-    pub any-bad : o ≡ Unreadable → (x : Sections) (u : Unit') → ReadAs x u r s unit → false ≡ any_declares x u name (items_by r s table unit at₀)
+    pub any-bad : o ≡ None → (x : Sections) (u : Unit') → ReadAs x u r s unit → false ≡ any_declares x u name (items_by r s table unit at₀)
     unfolding any_declares
     any-bad k x u w = sym (h x u w ∙ ap (any_declares x u name) (items-bad r.encoding s look unit at (sym q ∙ k)))
 
-    module _ (c : Cursor) (k : o ≡ Terminator c) where
+    module _ (c : Cursor) (k : o ≡ Some (Terminator c)) where
       pub any-terminator-less : length unit - c.at < length unit - at
       any-terminator-less = let i = terminator-inside r.encoding s look unit at c (sym q ∙ k) in omega (arith, i.0, i.1)
 
@@ -123,7 +122,7 @@ module _ (r : Reading) (s table unit : List ℕ) (name : ℕ) where
       unfolding any_declares item_declares ◌or◌
       any-terminator x u w = h x u w ∙ ap (any_declares x u name) (items-terminator r.encoding s look unit at c (sym q ∙ k))
 
-    module _ (y : Entry) (k : o ≡ Entry' y) where
+    module _ (y : Entry) (k : o ≡ Some (Entry' y)) where
       pub any-entry-less : length unit - y.next.at < length unit - at
       any-entry-less = let i : EntryInside unit at y = step-inside r.encoding s look unit at y (sym q ∙ k) in omega (arith, i.coded, i.ahead, i.within)
 
@@ -150,12 +149,12 @@ module _ (k : ℕ) (e : Encoding) (s unit : List ℕ) where
   abbrev pub Indices : ℕ → ℕ → List ℕ
   Indices p at = value_indices k (entry_values e s p unit at)
 
-  module _ (p at : ℕ) (n : NextAttribute) (q : n ≡ next_attribute e s p unit at) where
-    pub indices-end : n ≡ NoMore → Indices p at ≡ []
+  module _ (p at : ℕ) (n : Option EntryAttribute) (q : n ≡ next_attribute e s p unit at) where
+    pub indices-end : n ≡ None → Indices p at ≡ []
     unfolding value_indices
     indices-end r = ap (value_indices k) (no_more e s p unit at (sym q ∙ r))
 
-    pub indices-more : (x : EntryAttribute) → n ≡ More x → (i : ℕ) → ((name : ℕ) → i ≡ use_list (use_of name x.value.form))
+    pub indices-more : (x : EntryAttribute) → n ≡ Some x → (i : ℕ) → ((name : ℕ) → i ≡ use_list (use_of name x.value.form))
         → Indices p at ≡ kind_index k i x.value.field.value ++ Indices x.next.at x.values.at
     unfolding value_indices value_index form_list
     indices-more x r i l =

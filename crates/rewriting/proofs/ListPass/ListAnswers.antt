@@ -4,7 +4,7 @@ use Prim.Native.Nat.{ℕ, ◌-◌, ◌*◌, ◌/◌, ◌≤◌, ◌<◌}
 use native.Mathlib.Omega.{arith}
 use mathlib.Core.Bool.{Bool, true, false, not}
 use mathlib.Core.List.{List, [], ◌∷◌}
-use mathlib.Core.Option.{Option, none, some}
+use Rattle.std.specs.Prelude.{None, Option, Some}
 use mathlib.Core.Logic.{⊎_elim}
 use lib.ListN.{length}
 use lib.Dec.{T, ltb, leb}
@@ -85,15 +85,15 @@ module _ (x : Sections) (u : Unit') where
 
   -- with type units
   module _ (t : Bool) (kept : List NestedItem) (h : t ≡ true) where
-    pub no-ranges : (lists_of x u t kept).ranges ≡ none
+    pub no-ranges : (lists_of x u t kept).ranges ≡ None
     unfolding lists_of list_of pick ◌or◌
     no-ranges = ap (λ (t : Bool). (lists_of x u t kept).ranges) h
 
-    pub no-locations : (lists_of x u t kept).locations ≡ none
+    pub no-locations : (lists_of x u t kept).locations ≡ None
     unfolding lists_of list_of pick ◌or◌
     no-locations = ap (λ (t : Bool). (lists_of x u t kept).locations) h
 
-    pub no-strings : (lists_of x u t kept).strings ≡ none
+    pub no-strings : (lists_of x u t kept).strings ≡ None
     unfolding lists_of list_of pick
     no-strings = ap (λ (t : Bool). (lists_of x u t kept).strings) h
 
@@ -119,18 +119,18 @@ filled-short ys list n after f =
 pub answer-short : (o : Option (List ℕ)) (list : List ℕ) (c : ListCount) (after : List ℕ) → ListAnswer o list c after
     → is_short c (length list / 8) ≡ ltb (length list / 8) (count_of o)
 unfolding ListAnswer is_short count_of
-answer-short none list Absent after h = sym (le-ltb (length list / 8) 0 (omega arith))
-answer-short none list (Present n) after h = absurd h
-answer-short (some ys) list Absent after h = absurd h
-answer-short (some ys) list (Present n) after h = filled-short ys list n after h
+answer-short None list Absent after h = sym (le-ltb (length list / 8) 0 (omega arith))
+answer-short None list (Present n) after h = absurd h
+answer-short (Some ys) list Absent after h = absurd h
+answer-short (Some ys) list (Present n) after h = filled-short ys list n after h
 
-pub answer-held : (ys list : List ℕ) (c : ListCount) (after : List ℕ) → ListAnswer (some ys) list c after → length ys ≤ length list / 8
+pub answer-held : (ys list : List ℕ) (c : ListCount) (after : List ℕ) → ListAnswer (Some ys) list c after → length ys ≤ length list / 8
     → (c ≡ Present (length ys)) × ListHeld ys after
 unfolding ListAnswer
 answer-held ys list Absent after h l = absurd h
 answer-held ys list (Present n) after h l = (ap (λ (m : ℕ). Present m) (h.counted l), h.holds l)
 
-pub answer-absent : (list : List ℕ) (c : ListCount) (after : List ℕ) → ListAnswer none list c after → (c ≡ Absent) × (after ≡ list)
+pub answer-absent : (list : List ℕ) (c : ListCount) (after : List ℕ) → ListAnswer None list c after → (c ≡ Absent) × (after ≡ list)
 unfolding ListAnswer
 answer-absent list Absent after h = (refl, h)
 answer-absent list (Present n) after h = absurd h
@@ -148,13 +148,13 @@ nothing-held (y ∷ ys) list after f =
     (either (leb (length (y ∷ ys)) (length list / 8))))
 
 module _ (ys list₀ : List ℕ) (n : ℕ) (list : List ℕ) (z : list₀ ≡ zeros (length list)) (f : Filled ys list₀ n list) (a b : Bool) (q : b ≡ a) where
-  pub settle-absent : b ≡ true → (after : List ℕ) → after ≡ zeros (length list) → ListAnswer (pick a none (some ys)) list₀ Absent after
+  pub settle-absent : b ≡ true → (after : List ℕ) → after ≡ zeros (length list) → ListAnswer (pick a None (Some ys)) list₀ Absent after
   unfolding ListAnswer pick
-  settle-absent h after e = subst (λ (a : Bool). ListAnswer (pick a none (some ys)) list₀ Absent after) (sym h ∙ q) (e ∙ sym z)
+  settle-absent h after e = subst (λ (a : Bool). ListAnswer (pick a None (Some ys)) list₀ Absent after) (sym h ∙ q) (e ∙ sym z)
 
-  pub settle-empty : b ≡ true → n ≤ 0 → ListAnswer (pick a none (some ys)) list₀ Absent list
+  pub settle-empty : b ≡ true → n ≤ 0 → ListAnswer (pick a None (Some ys)) list₀ Absent list
   settle-empty h l = settle-absent h list (nothing-held ys list₀ list (subst (λ (n : ℕ). Filled ys list₀ n list) (let e : n ≡ 0 = omega arith in e) f))
 
-  pub settle-present : b ≡ false → ListAnswer (pick a none (some ys)) list₀ (Present n) list
+  pub settle-present : b ≡ false → ListAnswer (pick a None (Some ys)) list₀ (Present n) list
   unfolding ListAnswer pick
-  settle-present h = subst (λ (a : Bool). ListAnswer (pick a none (some ys)) list₀ (Present n) list) (sym h ∙ q) f
+  settle-present h = subst (λ (a : Bool). ListAnswer (pick a None (Some ys)) list₀ (Present n) list) (sym h ∙ q) f

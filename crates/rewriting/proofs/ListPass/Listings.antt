@@ -4,7 +4,7 @@ use Prim.Native.Nat.{ℕ, ◌-◌, ◌*◌, ◌/◌}
 use native.Mathlib.Omega.{arith}
 use mathlib.Core.Bool.{Bool, true, false, false≢true}
 use mathlib.Core.List.{List, [], ◌++◌}
-use mathlib.Core.Option.{Option, none, some}
+use Rattle.std.specs.Prelude.{None, Option, Some}
 use lib.ListN.{length}
 use lib.Dec.{ltb, leb}
 use borrow.Author.Tests.{ltb-true, ltb-false, leb-true, le-leb, lt-leb}
@@ -71,8 +71,8 @@ pub record MadeList (o : Option (List ℕ)) (n : ℕ) (c : ListCount) (after : L
 made_list : (o : Option (List ℕ)) (list : List ℕ) (c : ListCount) (after : List ℕ) → ListAnswer o list c after → length after ≡ length list → list ≡ zeros (length list)
     → leb (count_of o) (length list / 8) ≡ true → MadeList o (length list) c after
 unfolding list_count Lent list_or count_of pad_to
-made_list none list c after h l z t = let p = answer-absent list c after h in record { counted = p.0; lent = tt; left = p.1 ∙ z }
-made_list (some ys) list c after h l z t =
+made_list None list c after h l z t = let p = answer-absent list c after h in record { counted = p.0; lent = tt; left = p.1 ∙ z }
+made_list (Some ys) list c after h l z t =
     let p = answer-held ys list c after h (leb-true (length ys) (length list / 8) t) in
     record {
       counted = p.0;
@@ -96,7 +96,7 @@ module _ (t : Bool) (r : Reading) (s table unit parents ends marks : List ℕ) (
 
   -- it is absent with type units
   module _ (h : t ≡ true) (list : List ℕ) where
-    absent : (o : Option (List ℕ)) → o ≡ none → ListAnswer o list Absent list
+    absent : (o : Option (List ℕ)) → o ≡ None → ListAnswer o list Absent list
     unfolding ListAnswer
     absent o e = subst (λ (o : Option (List ℕ)). ListAnswer o list Absent list) (sym e) refl
 

@@ -8,7 +8,8 @@ use lib.ListN.{length}
 use Rattle.readers.specs.Entries.{step_at}
 use Rattle.readers.specs.declared.cursor.Encoding.{Encoding}
 use Rattle.readers.specs.declared.cursor.Cursor.{Cursor}
-use Rattle.readers.specs.declared.abbreviations.DeclarationFound.{DeclarationFound}
+use Rattle.std.specs.Prelude.{Option, Some}
+use Rattle.readers.specs.declared.abbreviations.Declaration.{Declaration}
 use Rattle.readers.specs.declared.entries.Entry.{Entry}
 use Rattle.readers.specs.declared.entries.Step.TheVariants.{Entry as Entry', Terminator}
 use Rattle.readers.specs.Stream.{entry, terminator, Items, push, items_from, Item}
@@ -27,7 +28,7 @@ unfoldable pub offsets_of : List Item → List ℕ
 offsets_of [] = []
 offsets_of (i ∷ rest) = offset_of i ∷ offsets_of rest
 
-module _ (e : Encoding) (abbreviations : List ℕ) (look : ℕ → DeclarationFound) (unit : List ℕ) where
+module _ (e : Encoding) (abbreviations : List ℕ) (look : ℕ → Option Declaration) (unit : List ℕ) where
   abbrev pub from : ℕ → Items
   from = items_from e abbreviations look unit
 
@@ -36,13 +37,13 @@ module _ (e : Encoding) (abbreviations : List ℕ) (look : ℕ → DeclarationFo
   abbrev OffsetsFrom : ℕ → Items → Type 0
   OffsetsFrom at r = From at (offsets_of r.0)
 
-  follow-entry : (at : ℕ) (x : Entry) → step_at e abbreviations look unit at ≡ Entry' x → EntryInside unit at x → OffsetsFrom x.next.at (from x.next.at)
+  follow-entry : (at : ℕ) (x : Entry) → step_at e abbreviations look unit at ≡ Some (Entry' x) → EntryInside unit at x → OffsetsFrom x.next.at (from x.next.at)
       → OffsetsFrom at (push (entry x) (from x.next.at))
   unfolding push offsets_of offset_of From
   follow-entry at x q i f =
       (omega (arith, i.here), from_less (suc x.offset.0) x.next.at (offsets_of (from x.next.at).0) (omega (arith, i.here, i.coded, i.ahead)) f)
 
-  follow-terminator : (at : ℕ) (c : Cursor) → step_at e abbreviations look unit at ≡ Terminator c → at < c.at → c.at ≤ length unit → OffsetsFrom c.at (from c.at)
+  follow-terminator : (at : ℕ) (c : Cursor) → step_at e abbreviations look unit at ≡ Some (Terminator c) → at < c.at → c.at ≤ length unit → OffsetsFrom c.at (from c.at)
       → OffsetsFrom at (push (terminator at c.at) (from c.at))
   unfolding push offsets_of offset_of From
   follow-terminator at c q lo hi f = (omega arith, from_less (suc at) c.at (offsets_of (from c.at).0) lo f)

@@ -3,7 +3,7 @@ use Prim.Native.Nat.{ℕ, zero, suc, ◌+◌, ◌-◌, ◌*◌, ◌/◌, ◌≤�
 use mathlib.Core.Path.{◌≡◌, refl, ap, sym, ◌∙◌, subst}
 use mathlib.Core.List.{List}
 use mathlib.Core.Logic.{⊎_elim}
-use mathlib.Core.Option.{none, some}
+use Rattle.std.specs.Prelude.{None, Some}
 use native.Mathlib.Omega.{arith}
 use lib.ListN.{length, get_or, set, drop, drop_of_length-le, length-set, get_or-eq_default}
 use lib.Seq.{get_or-set_same, get_or-set_other}
@@ -59,14 +59,14 @@ pub record Seeking (map : List ℕ) (places : ℕ) (bounds : List ℕ) (old dept
 
 -- no place has the old offset, and these many are before it
 abbrev pub Unfound : List ℕ → ℕ → ℕ → ℕ → Type 0
-Unfound map places old i = (ps : List Place) → MapHeld ps map → places ≡ length ps → (new_of ps old ≡ none) × (i ≡ rank_in (old_offsets ps) old)
+Unfound map places old i = (ps : List Place) → MapHeld ps map → places ≡ length ps → (new_of ps old ≡ None) × (i ≡ rank_in (old_offsets ps) old)
 
 pub seeking-start : (map : List ℕ) (places : ℕ) (bounds : List ℕ) (old depth i : ℕ) → Unfound map places old i → Seeking map places bounds old depth i
 unfolding sibling_of or_else
 seeking-start map places bounds old depth i f =
     record {
       seek = λ ps h e b.
-          let q : new_of ps old ≡ none = (f ps h e).0 in
+          let q : new_of ps old ≡ None = (f ps h e).0 in
           let r : i ≡ rank_in (old_offsets ps) old = (f ps h e).1 in
           (rw (q, r) (first-skip ps depth old), omega arith);
     }
@@ -92,9 +92,9 @@ module _ (map : List ℕ) (places : ℕ) (bounds : List ℕ) (old depth i : ℕ)
     unfolding as_mapped
     seeking-here n b f ps h e w =
         let k : d ≡ (get_or ps i nowhere).depth = depth-held ps map h i (omega arith) d is-depth in
-        let q : sibling_of ps depth old ≡ some n.0 =
+        let q : sibling_of ps depth old ≡ Some n.0 =
         (p.seek ps h e w).0 ∙ first-here ps depth old i (omega arith) (at_or_after ps depth old h.ascending i (p.seek ps h e w).1 i (omega arith) (omega arith)) (omega arith)
-        ∙ ap (λ x. some x) (sym (new-held ps map h i (omega arith) n.0 f)) in
+        ∙ ap (λ x. Some x) (sym (new-held ps map h i (omega arith) n.0 f)) in
         rw q
 
     pub seeking-more : depth < d → Seeking map places bounds old depth (i + 1)
@@ -109,7 +109,7 @@ module _ (map : List ℕ) (places : ℕ) (bounds : List ℕ) (old depth i : ℕ)
   pub seeking-done : places ≤ i → (ps : List Place) → MapHeld ps map → places ≡ length ps → Bounds ps bounds → Nothing ≡ as_mapped (sibling_of ps depth old)
   unfolding as_mapped first_from
   seeking-done l ps h e w =
-      let q : sibling_of ps depth old ≡ none = (p.seek ps h e w).0 ∙ ap (λ x. first_from x depth old) (drop_of_length-le ps {i = i} (omega arith)) in rw q
+      let q : sibling_of ps depth old ≡ None = (p.seek ps h e w).0 ∙ ap (λ x. first_from x depth old) (drop_of_length-le ps {i = i} (omega arith)) in rw q
 
 -- ---- the least depth of some places
 

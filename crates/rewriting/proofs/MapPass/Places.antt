@@ -4,7 +4,7 @@ use mathlib.Core.Path.{◌≡◌, refl, ap, sym, ◌∙◌}
 use mathlib.Core.Bool.{true, false}
 use mathlib.Core.List.{List, [], ◌∷◌, ◌++◌}
 use mathlib.Core.Logic.{⊎_elim}
-use mathlib.Core.Option.{none, some}
+use Rattle.std.specs.Prelude.{None, Some}
 use native.Mathlib.Numerals.{add-one}
 use native.Mathlib.Omega.{arith}
 use lib.ListN.{length, get_or, drop, length-append}
@@ -104,7 +104,7 @@ module _ (ps : List Place) (map : List ℕ) (h : MapHeld ps map) (i : ℕ) (l : 
 
 -- ---- the place of an old offset
 
-new-from : (low : ℕ) (ps : List Place) (v i : ℕ) → From low (old_offsets ps) → i < length ps → (get_or ps i nowhere).old ≡ v → new_of ps v ≡ some (get_or ps i nowhere).new
+new-from : (low : ℕ) (ps : List Place) (v i : ℕ) → From low (old_offsets ps) → i < length ps → (get_or ps i nowhere).old ≡ v → new_of ps v ≡ Some (get_or ps i nowhere).new
 unfolding new_of old_offsets From
 new-from low [] v i f h e = absurd (omega arith)
 new-from low (p ∷ ps) v zero f h e = pick_yes _ _ _ (yes_eqb {a = p.old} {b = v} e)
@@ -117,7 +117,7 @@ new-from low (p ∷ ps) v (suc i) f h e =
     from_old low (p ∷ ps) zero f h = f.0
     from_old low (p ∷ ps) (suc i) f h = let k : low ≤ p.old = f.0 in let l : suc p.old ≤ (get_or ps i nowhere).old = from_old (suc p.old) ps i f.1 (omega arith) in omega arith
 
-new-absent : (ps : List Place) (v : ℕ) → ((i : ℕ) → i < length ps → (get_or ps i nowhere).old ≡ v → ⊥) → new_of ps v ≡ none
+new-absent : (ps : List Place) (v : ℕ) → ((i : ℕ) → i < length ps → (get_or ps i nowhere).old ≡ v → ⊥) → new_of ps v ≡ None
 unfolding new_of
 new-absent [] v f = refl
 new-absent (p ∷ ps) v f = pick_no _ _ _ (no_eqb {a = p.old} {b = v} (λ e. f 0 (omega arith) e)) ∙ new-absent ps v (λ i h e. f (suc i) (omega arith) e)
@@ -129,7 +129,7 @@ unfolding first_from old_offsets rank_in ◌and◌
 first-skip [] depth v = refl
 first-skip (p ∷ ps) depth v =
     ⊎_elim
-    (λ t. ap (λ b. pick (b and leb p.depth depth) (some p.new) (first_from ps depth v)) (lt-leb v p.old (ltb_yes {a = p.old} {b = v} t))
+    (λ t. ap (λ b. pick (b and leb p.depth depth) (Some p.new) (first_from ps depth v)) (lt-leb v p.old (ltb_yes {a = p.old} {b = v} t))
     ∙ pick_no false _ _ tt ∙ first-skip ps depth v
     ∙ ap (λ n. first_from (drop n (p ∷ ps)) depth v) (sym (pick_yes (ltb p.old v) (suc (rank_in (old_offsets ps) v)) 0 t)))
     (λ t. ap (λ n. first_from (drop n (p ∷ ps)) depth v) (sym (pick_no (ltb p.old v) (suc (rank_in (old_offsets ps) v)) 0 t)))
@@ -137,11 +137,11 @@ first-skip (p ∷ ps) depth v =
 
 module _ (ps : List Place) (depth v i : ℕ) (l : i < length ps) where
   first-open : first_from (drop i ps) depth v
-      ≡ pick (leb v (get_or ps i nowhere).old and leb (get_or ps i nowhere).depth depth) (some (get_or ps i nowhere).new) (first_from (drop (suc i) ps) depth v)
+      ≡ pick (leb v (get_or ps i nowhere).old and leb (get_or ps i nowhere).depth depth) (Some (get_or ps i nowhere).new) (first_from (drop (suc i) ps) depth v)
   unfolding first_from
   first-open = ap (λ x. first_from x depth v) (drop-cons ps i nowhere l)
 
-  pub first-here : v ≤ (get_or ps i nowhere).old → (get_or ps i nowhere).depth ≤ depth → first_from (drop i ps) depth v ≡ some (get_or ps i nowhere).new
+  pub first-here : v ≤ (get_or ps i nowhere).old → (get_or ps i nowhere).depth ≤ depth → first_from (drop i ps) depth v ≡ Some (get_or ps i nowhere).new
   unfolding pick ◌and◌
   first-here a b = first-open ∙ rw (le-leb v (get_or ps i nowhere).old a, le-leb (get_or ps i nowhere).depth depth b)
 
@@ -153,30 +153,30 @@ module _ (ps : List Place) (depth v i : ℕ) (l : i < length ps) where
 
 module _ (ps : List Place) (map : List ℕ) (places old i o : ℕ) (h : MapHeld ps map) (e : places ≡ length ps) where
   module _ (l : i < places) (is-old : i < length map / place_size → o ≡ number_at number_size map (place_size * i)) where
-    pub found-new : (n : ℕ) → o ≡ old → (i < length map / place_size → n ≡ number_at number_size map (place_size * i + number_size)) → new_of ps old ≡ some n
+    pub found-new : (n : ℕ) → o ≡ old → (i < length map / place_size → n ≡ number_at number_size map (place_size * i + number_size)) → new_of ps old ≡ Some n
     found-new n q f =
-        new-from 0 ps old i h.ascending (omega arith) (sym (old-held ps map h i (omega arith) o is-old) ∙ q) ∙ ap (λ x. some x) (sym (new-held ps map h i (omega arith) n f))
+        new-from 0 ps old i h.ascending (omega arith) (sym (old-held ps map h i (omega arith) o is-old) ∙ q) ∙ ap (λ x. Some x) (sym (new-held ps map h i (omega arith) n f))
 
-    pub other_none : i ≡ rank_in (old_offsets ps) old → (o ≡ old → ⊥) → new_of ps old ≡ none
+    pub other_none : i ≡ rank_in (old_offsets ps) old → (o ≡ old → ⊥) → new_of ps old ≡ None
     other_none r q =
         new-absent ps old (λ j b k.
         let s : rank_in (old_offsets ps) old ≡ j = rank_is (old_offsets ps) old j h.ascending (omega (arith, length-olds ps)) (old_of ps j ∙ k) in
         q (old-held ps map h i (omega arith) o is-old ∙ ap (λ m. (get_or ps m nowhere).old) (r ∙ s) ∙ k))
 
-  pub beyond-none : places ≤ i → i ≡ rank_in (old_offsets ps) old → new_of ps old ≡ none
+  pub beyond-none : places ≤ i → i ≡ rank_in (old_offsets ps) old → new_of ps old ≡ None
   beyond-none l r =
       new-absent ps old (λ j b k.
       let s : rank_in (old_offsets ps) old ≡ j = rank_is (old_offsets ps) old j h.ascending (omega (arith, length-olds ps)) (old_of ps j ∙ k) in omega arith)
 
-pub sibling-to : (ps : List Place) (depth old : ℕ) (n : UnitOffset) → new_of ps old ≡ some n.0 → To n ≡ as_mapped (sibling_of ps depth old)
+pub sibling-to : (ps : List Place) (depth old : ℕ) (n : UnitOffset) → new_of ps old ≡ Some n.0 → To n ≡ as_mapped (sibling_of ps depth old)
 unfolding as_mapped sibling_of or_else
 sibling-to ps depth old n e = rw e
 
-pub moved_to : (ps : List Place) (old : ℕ) (n : UnitOffset) → new_of ps old ≡ some n.0 → To n ≡ as_mapped (new_of ps old)
+pub moved_to : (ps : List Place) (old : ℕ) (n : UnitOffset) → new_of ps old ≡ Some n.0 → To n ≡ as_mapped (new_of ps old)
 unfolding as_mapped
 moved_to ps old n e = rw e
 
-pub moved_none : (ps : List Place) (old : ℕ) → new_of ps old ≡ none → Nothing ≡ as_mapped (new_of ps old)
+pub moved_none : (ps : List Place) (old : ℕ) → new_of ps old ≡ None → Nothing ≡ as_mapped (new_of ps old)
 unfolding as_mapped
 moved_none ps old e = rw e
 
@@ -267,11 +267,11 @@ looked-held ps map places v h e =
     pick_yes _ _ _ t
     ∙ ⊎_elim
     (λ u. let q : old_at map i ≡ v = eqb_yes {a = old_at map i} {b = v} u in
-    let f : new_of ps v ≡ some (new_at map i) = found-new ps map places v i (old_at map i) h e l o (new_at map i) q (new-there map i (new_at map i) refl) in
+    let f : new_of ps v ≡ Some (new_at map i) = found-new ps map places v i (old_at map i) h e l o (new_at map i) q (new-there map i (new_at map i) refl) in
     pick_yes _ _ _ u ∙ sym (ap as_mapped f))
-    (λ u. let f : new_of ps v ≡ none = other_none ps map places v i (old_at map i) h e l o r (λ q. eqb_no {a = old_at map i} {b = v} u q) in
+    (λ u. let f : new_of ps v ≡ None = other_none ps map places v i (old_at map i) h e l o r (λ q. eqb_no {a = old_at map i} {b = v} u q) in
     pick_no _ _ _ u ∙ sym (ap as_mapped f))
     (either (eqb (old_at map i) v)))
-    (λ t. let f : new_of ps v ≡ none = beyond-none ps map places v i 0 h e (ltb_no {a = i} {b = places} t) r in
+    (λ t. let f : new_of ps v ≡ None = beyond-none ps map places v i 0 h e (ltb_no {a = i} {b = places} t) r in
     pick_no _ _ _ t ∙ sym (ap as_mapped f))
     (either (ltb i places))

@@ -10,13 +10,12 @@ use Rattle.marking.specs.Analysis.{Sections, EntryRow, analysed, analysis_of}
 use Rattle.marking.specs.EntryRows.{RowsOf}
 use Rattle.marking.proofs.EachRow.{items-rows}
 use Rattle.rewriting.specs.Rewriting.{Room, items_in, unit_of}
-use mathlib.Core.Option.{some}
+use Rattle.std.specs.Prelude.{Ok, Some}
 use Rattle.readers.specs.Header.{header_of}
-use Rattle.readers.specs.declared.header.HeaderRead.TheVariants.{Unit as Header'}
 
 pub record Accepted (x : Sections) (room : Room) (section : List ℕ) (h : UnitHeader) (ds : List Placed) (rows : List EntryRow) : Type 0 where
-  pub header : header_of x.setting.big_endian section ≡ Header' h
-  pub declared : abbreviations_of x.abbreviations h.abbreviations ≡ some ds
+  pub header : header_of x.setting.big_endian section ≡ Ok (Some h)
+  pub declared : abbreviations_of x.abbreviations h.abbreviations ≡ Some ds
   pub analysis : analysis_of x section room.tables ≡ analysed rows
 
 module _ (x : Sections) (room : Room) (section : List ℕ) (h : UnitHeader) (ds : List Placed) (rows : List EntryRow) (a : Accepted x room section h ds rows) where

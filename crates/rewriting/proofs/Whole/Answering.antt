@@ -4,7 +4,7 @@ use Prim.Native.Nat.{ℕ, ◌≤◌, ◌<◌}
 use native.Mathlib.Omega.{arith}
 use mathlib.Core.Bool.{Bool}
 use mathlib.Core.List.{List, [], ◌∷◌}
-use mathlib.Core.Option.{Option, none, some}
+use Rattle.std.specs.Prelude.{Err, None, Ok, Option, Result, Some}
 use lib.ListN.{length}
 use lib.Dec.{leb, eqb}
 use mir.Facts.{leb_yes, leb_no, eqb_yes, eqb_no, yes_eqb, no_eqb}
@@ -12,8 +12,6 @@ use Rattle.readers.specs.Choice.{zeros}
 use Rattle.readers.proofs.Choice.{pick_yes, pick_no, pick-either}
 use Rattle.readers.specs.Abbreviations.{Placed, abbreviations_of}
 use Rattle.readers.specs.declared.header.UnitHeader.{UnitHeader}
-use Rattle.readers.specs.declared.header.HeaderRead.{HeaderRead}
-use Rattle.readers.specs.declared.header.HeaderRead.TheVariants.{Unit as Header', Empty, Refused as NoHeader}
 use Rattle.marking.specs.Analysis.{Sections, Rooms, EntryRow, Analysed, analysed, refused as not_analysed, on_declared, unit_analysed, header_by, header_analysed, analysis_of}
 use Rattle.marking.specs.Columns.{column, parents_in, index_after, least, rooms_of, unit_rooms}
 use Rattle.marking.specs.Marks.{kept_count}
@@ -128,7 +126,7 @@ analysed-none rows k q = let z : ◌≡◌ {A = ℕ} 0 1 = cc in absurd (omega a
 none-analysed : (rows : List EntryRow) (k : ℕ) → not_analysed k ≡ analysed rows → ⊥
 none-analysed rows k q = let z : ◌≡◌ {A = ℕ} 0 1 = cc in absurd (omega arith)
 
-undeclared : (o : Option (List Placed)) (k : List Placed → Analysed) → o ≡ none → on_declared o k ≡ not_analysed 3
+undeclared : (o : Option (List Placed)) (k : List Placed → Analysed) → o ≡ None → on_declared o k ≡ not_analysed 3
 unfolding on_declared
 undeclared o k q = ap (λ (z : Option (List Placed)). on_declared z k) q
 
@@ -136,41 +134,41 @@ module _ (x : Sections) (room : Room) (t : Bool) (section : List ℕ) where
   abbrev tables : Rooms
   tables = room.tables
 
-  analysis-undeclared : (h : UnitHeader) → header_by x section ≡ Header' h → abbreviations_of x.abbreviations h.abbreviations ≡ none → analysis_of x section tables ≡ not_analysed 3
+  analysis-undeclared : (h : UnitHeader) → header_by x section ≡ Ok (Some h) → abbreviations_of x.abbreviations h.abbreviations ≡ None → analysis_of x section tables ≡ not_analysed 3
   unfolding analysis_of header_analysed unit_analysed
   analysis-undeclared h q d = ap (header_analysed x section tables) q ∙ undeclared (abbreviations_of x.abbreviations h.abbreviations) _ d
 
   -- by its header
-  pub collected-empty : header_by x section ≡ Empty → collect_of x room t section ≡ untouched 0 no_lists
+  pub collected-empty : header_by x section ≡ Ok None → collect_of x room t section ≡ untouched 0 no_lists
   unfolding collect_of header_collected
   collected-empty q = ap (header_collected x room t section) q
 
-  pub collected-no : (k : ℕ) → header_by x section ≡ NoHeader k → collect_of x room t section ≡ refused k
+  pub collected-no : (k : ℕ) → header_by x section ≡ Err k → collect_of x room t section ≡ refused k
   unfolding collect_of header_collected
   collected-no k q = ap (header_collected x room t section) q
 
   -- by its analysis
-  by-declared : (h : UnitHeader) → header_by x section ≡ Header' h → (o : Option (List Placed)) → abbreviations_of x.abbreviations h.abbreviations ≡ o
+  by-declared : (h : UnitHeader) → header_by x section ≡ Ok (Some h) → (o : Option (List Placed)) → abbreviations_of x.abbreviations h.abbreviations ≡ o
       → ((k : ℕ) → analysis_of x section tables ≡ not_analysed k → declared_collected x room t section h o ≡ refused k)
       × (analysis_of x section tables ≡ analysed [] → declared_collected x room t section h o ≡ untouched 0 no_lists)
   unfolding declared_collected analysed_collected rows_collected
-  by-declared h q none d =
+  by-declared h q None d =
       let a : analysis_of x section tables ≡ not_analysed 3 = analysis-undeclared h q d in
       (λ k e. let z : not_analysed 3 ≡ not_analysed k = sym a ∙ e in let w : 3 ≡ k = cc in ap (λ (m : ℕ). refused m) w, λ e. absurd (none-analysed [] 3 (sym a ∙ e)))
-  by-declared h q (some ds) d =
+  by-declared h q (Some ds) d =
       (λ k e. ap (analysed_collected x room t (unit_of h section ds)) e, λ e. ap (analysed_collected x room t (unit_of h section ds)) e)
 
-  by-header : (o : HeaderRead) → header_by x section ≡ o
+  by-header : (o : Result (Option UnitHeader) ℕ) → header_by x section ≡ o
       → ((k : ℕ) → analysis_of x section tables ≡ not_analysed k → header_collected x room t section o ≡ refused k)
       × (analysis_of x section tables ≡ analysed [] → header_collected x room t section o ≡ untouched 0 no_lists)
   unfolding header_collected analysis_of header_analysed
-  by-header Empty q =
+  by-header (Ok None) q =
       let a : analysis_of x section tables ≡ analysed [] = ap (header_analysed x section tables) q in
       (λ k e. absurd (analysed-none [] k (sym a ∙ e)), λ e. refl)
-  by-header (NoHeader n) q =
+  by-header (Err n) q =
       let a : analysis_of x section tables ≡ not_analysed n = ap (header_analysed x section tables) q in
       (λ k e. let z : not_analysed n ≡ not_analysed k = sym a ∙ e in let w : n ≡ k = cc in ap (λ (m : ℕ). refused m) w, λ e. absurd (none-analysed [] n (sym a ∙ e)))
-  by-header (Header' h) q = by-declared h q (abbreviations_of x.abbreviations h.abbreviations) refl
+  by-header (Ok (Some h)) q = by-declared h q (abbreviations_of x.abbreviations h.abbreviations) refl
 
   pub collected-refused : (k : ℕ) → unit_marks (analysis_of x section tables) ≡ NotMarked k → collect_of x room t section ≡ refused k
   unfolding collect_of
@@ -186,7 +184,7 @@ module _ (x : Sections) (room : Room) (t : Bool) (section : List ℕ) where
   pub record Marking (h : UnitHeader) (entries kept : ℕ) : Type 0 where
     pub declared : List Placed
     pub rows : List EntryRow
-    pub declared_are : abbreviations_of x.abbreviations h.abbreviations ≡ some declared
+    pub declared_are : abbreviations_of x.abbreviations h.abbreviations ≡ Some declared
     pub analysis_is : analysis_of x section tables ≡ analysed rows
     pub entries_are : entries ≡ length (marks_in rows)
     pub kept_are : kept ≡ kept_count (marks_in rows)
@@ -197,12 +195,12 @@ module _ (x : Sections) (room : Room) (t : Bool) (section : List ℕ) where
   of-rows h ds [] e = absurd (e refl)
   of-rows h ds (r ∷ rows) e = refl
 
-  marking-declared : (h : UnitHeader) → header_by x section ≡ Header' h → (entries kept : ℕ) → Counted (analysis_of x section tables) entries kept → (entries ≡ 0 → ⊥)
+  marking-declared : (h : UnitHeader) → header_by x section ≡ Ok (Some h) → (entries kept : ℕ) → Counted (analysis_of x section tables) entries kept → (entries ≡ 0 → ⊥)
       → (o : Option (List Placed)) → abbreviations_of x.abbreviations h.abbreviations ≡ o → Marking h entries kept
   unfolding collect_of header_collected declared_collected analysed_collected
-  marking-declared h q entries kept w n none d =
+  marking-declared h q entries kept w n None d =
       absurd (none-analysed w.rows 3 (sym (analysis-undeclared h q d) ∙ w.is))
-  marking-declared h q entries kept w n (some ds) d =
+  marking-declared h q entries kept w n (Some ds) d =
       record {
         declared = ds;
         rows = w.rows;
@@ -217,7 +215,7 @@ module _ (x : Sections) (room : Room) (t : Bool) (section : List ℕ) where
             ∙ of-rows h ds w.rows (λ e. n (w.entries_are ∙ sym e));
       }
 
-  pub marking : (h : UnitHeader) → header_by x section ≡ Header' h → (entries kept : ℕ) → unit_marks (analysis_of x section tables) ≡ Marked entries kept → (entries ≡ 0 → ⊥) → Marking h entries kept
+  pub marking : (h : UnitHeader) → header_by x section ≡ Ok (Some h) → (entries kept : ℕ) → unit_marks (analysis_of x section tables) ≡ Marked entries kept → (entries ≡ 0 → ⊥) → Marking h entries kept
   marking h q entries kept m n =
       marking-declared h q entries kept (marks-counted (analysis_of x section tables) entries kept m) n (abbreviations_of x.abbreviations h.abbreviations) refl
 
@@ -240,44 +238,44 @@ ends-enough marks pairs offsets parents roots ends targets =
 -- ---- by the tables that marking leaves
 
 -- what is to be done, by the marks and the header
-pub task-refused : (o : HeaderRead) (m : UnitMarks) (k : ℕ) → m ≡ NotMarked k → Done (Refused k) ≡ task_of o m
+pub task-refused : (o : Result (Option UnitHeader) ℕ) (m : UnitMarks) (k : ℕ) → m ≡ NotMarked k → Done (Refused k) ≡ task_of o m
 unfolding task_of
 task-refused o m k q = sym (ap (task_of o) q)
 
-pub task-none : (o : HeaderRead) (m : UnitMarks) (n k : ℕ) (a : Answer) → m ≡ Marked n k → n ≡ 0 → a ≡ answer_for (untouched 0 no_lists) → Done a ≡ task_of o m
+pub task-none : (o : Result (Option UnitHeader) ℕ) (m : UnitMarks) (n k : ℕ) (a : Answer) → m ≡ Marked n k → n ≡ 0 → a ≡ answer_for (untouched 0 no_lists) → Done a ≡ task_of o m
 unfolding task_of
 task-none o m n k a q z e =
     ap (λ (b : Answer). Done b) e ∙ sym (ap (task_of o) q ∙ pick_yes (eqb n 0) _ _ (yes_eqb {a = n} {b = 0} z))
 
-pub task-some : (o : HeaderRead) (m : UnitMarks) (n k : ℕ) (t : Task) → m ≡ Marked n k → (n ≡ 0 → ⊥) → t ≡ header_task o n k → t ≡ task_of o m
+pub task-some : (o : Result (Option UnitHeader) ℕ) (m : UnitMarks) (n k : ℕ) (t : Task) → m ≡ Marked n k → (n ≡ 0 → ⊥) → t ≡ header_task o n k → t ≡ task_of o m
 unfolding task_of
 task-some o m n k t q z e = e ∙ sym (ap (task_of o) q ∙ pick_no (eqb n 0) _ _ (no_eqb {a = n} {b = 0} z))
 
-pub task-empty : (o : HeaderRead) (n k : ℕ) (a : Answer) → o ≡ Empty → a ≡ answer_for (untouched 0 no_lists) → Done a ≡ header_task o n k
+pub task-empty : (o : Result (Option UnitHeader) ℕ) (n k : ℕ) (a : Answer) → o ≡ Ok None → a ≡ answer_for (untouched 0 no_lists) → Done a ≡ header_task o n k
 unfolding header_task
-task-empty o n k a q e = ap (λ (b : Answer). Done b) e ∙ sym (ap (λ (h : HeaderRead). header_task h n k) q)
+task-empty o n k a q e = ap (λ (b : Answer). Done b) e ∙ sym (ap (λ (h : Result (Option UnitHeader) ℕ). header_task h n k) q)
 
-pub task-no-header : (o : HeaderRead) (n k j : ℕ) → o ≡ NoHeader j → Done (Refused j) ≡ header_task o n k
+pub task-no-header : (o : Result (Option UnitHeader) ℕ) (n k j : ℕ) → o ≡ Err j → Done (Refused j) ≡ header_task o n k
 unfolding header_task
-task-no-header o n k j q = sym (ap (λ (h : HeaderRead). header_task h n k) q)
+task-no-header o n k j q = sym (ap (λ (h : Result (Option UnitHeader) ℕ). header_task h n k) q)
 
-pub task-header : (o : HeaderRead) (n k : ℕ) (h : UnitHeader) → o ≡ Header' h → Rewrite h n k ≡ header_task o n k
+pub task-header : (o : Result (Option UnitHeader) ℕ) (n k : ℕ) (h : UnitHeader) → o ≡ Ok (Some h) → Rewrite h n k ≡ header_task o n k
 unfolding header_task
-task-header o n k h q = sym (ap (λ (h : HeaderRead). header_task h n k) q)
+task-header o n k h q = sym (ap (λ (h : Result (Option UnitHeader) ℕ). header_task h n k) q)
 
 -- what is to be done is to rewrite a unit
-task-rewrite : (o : HeaderRead) (m : UnitMarks) (h : UnitHeader) (entries kept : ℕ) → task_of o m ≡ Rewrite h entries kept
-    → (o ≡ Header' h) × (m ≡ Marked entries kept) × (entries ≡ 0 → ⊥)
+task-rewrite : (o : Result (Option UnitHeader) ℕ) (m : UnitMarks) (h : UnitHeader) (entries kept : ℕ) → task_of o m ≡ Rewrite h entries kept
+    → (o ≡ Ok (Some h)) × (m ≡ Marked entries kept) × (entries ≡ 0 → ⊥)
 unfolding task_of header_task
 task-rewrite o (NotMarked n) h entries kept e = let z : ◌≡◌ {A = ℕ} 0 1 = cc in absurd (omega arith)
-task-rewrite Empty (Marked n k) h entries kept e =
+task-rewrite (Ok None) (Marked n k) h entries kept e =
     let P : Task → Type 0 = (λ w. w ≡ Rewrite h entries kept → ⊥) in
     absurd (pick-either P (eqb n 0) _ _ (λ t d. let z : ◌≡◌ {A = ℕ} 0 1 = cc in omega arith) (λ t d. let z : ◌≡◌ {A = ℕ} 0 1 = cc in omega arith) e)
-task-rewrite (NoHeader j) (Marked n k) h entries kept e =
+task-rewrite (Err j) (Marked n k) h entries kept e =
     let P : Task → Type 0 = (λ w. w ≡ Rewrite h entries kept → ⊥) in
     absurd (pick-either P (eqb n 0) _ _ (λ t d. let z : ◌≡◌ {A = ℕ} 0 1 = cc in omega arith) (λ t d. let z : ◌≡◌ {A = ℕ} 0 1 = cc in omega arith) e)
-task-rewrite (Header' g) (Marked n k) h entries kept e =
-    let P : Task → Type 0 = (λ w. w ≡ Rewrite h entries kept → (Header' g ≡ Header' h) × (Marked n k ≡ Marked entries kept) × (entries ≡ 0 → ⊥)) in
+task-rewrite (Ok (Some g)) (Marked n k) h entries kept e =
+    let P : Task → Type 0 = (λ w. w ≡ Rewrite h entries kept → (Ok (Some g) ≡ Ok (Some h)) × (Marked n k ≡ Marked entries kept) × (entries ≡ 0 → ⊥)) in
     pick-either P (eqb n 0) _ _ (λ t d. let z : ◌≡◌ {A = ℕ} 0 1 = cc in absurd (omega arith))
     (λ t d. (cc, cc, let y : n ≡ entries = cc in λ i. eqb_no {a = n} {b = 0} t (y ∙ i))) e
 
@@ -298,16 +296,16 @@ module _ (x : Sections) (tables : Rooms) (t : Bool) (section : List ℕ) (task :
   no_entries q a e =
       nothing-answers _ _ _ _ _ _ _ _ _ _ _ _ q (let z : a ≡ answer_for (untouched 0 no_lists) = cc in z) b.map_blank b.ranges_blank b.locations_blank b.strings_blank b.out_blank
 
-  by-task : (m : UnitMarks) → unit_marks (analysis_of x section tables) ≡ m → (o : HeaderRead) → header_by x section ≡ o → (a : Answer) → task_of o m ≡ Done a → Answered a map ranges locations strings out
+  by-task : (m : UnitMarks) → unit_marks (analysis_of x section tables) ≡ m → (o : Result (Option UnitHeader) ℕ) → header_by x section ≡ o → (a : Answer) → task_of o m ≡ Done a → Answered a map ranges locations strings out
   unfolding task_of header_task
   by-task (NotMarked k) u o q a = no-unit k (collected-refused x room t section k u) a
-  by-task (Marked n k) u Empty q a =
+  by-task (Marked n k) u (Ok None) q a =
       pick-either (λ (z : Task). z ≡ Done a → Answered a map ranges locations strings out) (eqb n 0) _ _
       (λ y. no_entries (collected-none x room t section n k u (eqb_yes {a = n} {b = 0} y)) a) (λ y. no_entries (collected-empty x room t section q) a)
-  by-task (Marked n k) u (NoHeader j) q a =
+  by-task (Marked n k) u (Err j) q a =
       pick-either (λ (z : Task). z ≡ Done a → Answered a map ranges locations strings out) (eqb n 0) _ _
       (λ y. no_entries (collected-none x room t section n k u (eqb_yes {a = n} {b = 0} y)) a) (λ y. no-unit j (collected-no x room t section j q) a)
-  by-task (Marked n k) u (Header' h) q a =
+  by-task (Marked n k) u (Ok (Some h)) q a =
       pick-either (λ (z : Task). z ≡ Done a → Answered a map ranges locations strings out) (eqb n 0) _ _
       (λ y. no_entries (collected-none x room t section n k u (eqb_yes {a = n} {b = 0} y)) a) (λ y e. let z : ◌≡◌ {A = ℕ} 0 1 = cc in absurd (omega arith))
 
@@ -316,7 +314,7 @@ module _ (x : Sections) (tables : Rooms) (t : Bool) (section : List ℕ) (task :
 
   -- a unit that has entries
   module _ (h : UnitHeader) (entries kept : ℕ) (e : task ≡ Rewrite h entries kept) where
-    task-parts : (header_by x section ≡ Header' h) × (unit_marks (analysis_of x section tables) ≡ Marked entries kept) × (entries ≡ 0 → ⊥)
+    task-parts : (header_by x section ≡ Ok (Some h)) × (unit_marks (analysis_of x section tables) ≡ Marked entries kept) × (entries ≡ 0 → ⊥)
     task-parts = task-rewrite (header_by x section) (unit_marks (analysis_of x section tables)) h entries kept (sym w.task_is ∙ e)
 
     marked : Marking x room t section h entries kept
@@ -330,7 +328,7 @@ module _ (x : Sections) (tables : Rooms) (t : Bool) (section : List ℕ) (task :
           header_is = (unit-listed x section h task-parts.0).0;
           declared_are = marked.declared_are;
           analysis_is = marked.analysis_is;
-          index_is = w.index_is ∙ ap (λ (o : HeaderRead). index_after x.abbreviations o (length index)) task-parts.0;
+          index_is = w.index_is ∙ ap (λ (o : Result (Option UnitHeader) ℕ). index_after x.abbreviations o (length index)) task-parts.0;
           parents_are = w.parents_are ∙ ap (column parents_in (length parents)) marked.analysis_is;
           marks_are = w.marks_are ∙ ap (column marks_in (length marks)) marked.analysis_is;
           ends_room = w.ends_room;
@@ -381,7 +379,7 @@ by_lengths f a map' ranges' locations' strings' out' m m₀ r r₀ l l₀ s s₀
     (subst (λ (z : ℕ). Answers (f z r l s o) a z r l s o map' ranges' locations' strings' out') em h))))
 
 -- the answer for marked tables and cleared outputs
-pub unit-answers : (x : Sections) (tables : Rooms) (t : Bool) (section : List ℕ) (task : Task) (h : HeaderRead) (u : UnitMarks) (n p e k m r l s o : ℕ)
+pub unit-answers : (x : Sections) (tables : Rooms) (t : Bool) (section : List ℕ) (task : Task) (h : Result (Option UnitHeader) ℕ) (u : UnitMarks) (n p e k m r l s o : ℕ)
     (index parents ends marks map ranges locations strings out map' ranges' locations' strings' out' : List ℕ) (a : Answer)
     → task ≡ task_of h u → h ≡ header_by x section → u ≡ unit_marks (analysis_of x section tables)
     → index ≡ index_after x.abbreviations (header_by x section) n → length index ≡ n

@@ -12,9 +12,10 @@ use Rattle.readers.specs.Stream.{Item, entry, terminator}
 use Rattle.readers.proofs.Streams.{step-look}
 use Rattle.readers.specs.declared.cursor.Encoding.{Encoding}
 use Rattle.readers.specs.declared.cursor.Cursor.{Cursor}
-use Rattle.readers.specs.declared.abbreviations.DeclarationFound.{DeclarationFound as Declared}
-use Rattle.readers.specs.declared.entries.Nesting.{Nesting}
+use Rattle.std.specs.Prelude.{Option, Some}
+use Rattle.readers.specs.declared.abbreviations.Declaration.{Declaration}
 use Rattle.readers.specs.declared.entries.Step.{Step}
+use Rattle.readers.specs.declared.entries.Nesting.{Nesting}
 use Rattle.readers.specs.declared.entries.Step.TheVariants.{Entry as Entry', Terminator}
 use Rattle.readers.specs.EntryAttributes.{entry_values}
 use Rattle.marking.specs.Analysis.{Sections}
@@ -37,7 +38,7 @@ use Rattle.rewriting.proofs.ListPass.GatherLaws.{gathered_none}
 use Rattle.rewriting.proofs.ListPass.Holdings.{Onward, onward-start, onward-on, onward-more, onward-end}
 
 module _ (r : Reading) (s table unit : List ℕ) (k : ℕ) where
-  abbrev look : ℕ → Declared
+  abbrev look : ℕ → Option Declaration
   look = find_at s r.from table
 
   -- ---- the indices of a kept item
@@ -67,14 +68,14 @@ module _ (r : Reading) (s table unit : List ℕ) (k : ℕ) where
     item-indices : (i : Item) → Stands r.encoding s look unit i → ReadDeep x u (offset_of i) → ItemIndices i (read_indices k (reads_at x u (offset_of i)))
     unfolding ItemIndices Stands offset_of StepBy
     item-indices (entry y) q d =
-        let g : StepBy (value_indices k) u.header.encoding u.bytes x.abbreviations (Entry' y) (read_indices k d.run.0) =
-        subst (λ (o : Step). StepBy (value_indices k) u.header.encoding u.bytes x.abbreviations o (read_indices k d.run.0))
+        let g : StepBy (value_indices k) u.header.encoding u.bytes x.abbreviations (Some (Entry' y)) (read_indices k d.run.0) =
+        subst (λ (o : Option Step). StepBy (value_indices k) u.header.encoding u.bytes x.abbreviations o (read_indices k d.run.0))
         (same_step y.offset.0 ∙ q)
         (deep-indices k small u.header.encoding u.bytes x.abbreviations (declared_in u.declared) y.offset.0 d.run d.is) in
         ap (read_indices k) (reads-are y.offset.0 d) ∙ g ∙ same-values y.declaration.attributes.at y.values.at
     item-indices (terminator a b) q d =
-        let g : StepBy (value_indices k) u.header.encoding u.bytes x.abbreviations (Terminator (record { at = b })) (read_indices k d.run.0) =
-        subst (λ (o : Step). StepBy (value_indices k) u.header.encoding u.bytes x.abbreviations o (read_indices k d.run.0))
+        let g : StepBy (value_indices k) u.header.encoding u.bytes x.abbreviations (Some (Terminator (record { at = b }))) (read_indices k d.run.0) =
+        subst (λ (o : Option Step). StepBy (value_indices k) u.header.encoding u.bytes x.abbreviations o (read_indices k d.run.0))
         (same_step a ∙ q)
         (deep-indices k small u.header.encoding u.bytes x.abbreviations (declared_in u.declared) a d.run d.is) in
         ap (read_indices k) (reads-are a d) ∙ g

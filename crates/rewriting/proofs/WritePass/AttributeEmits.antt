@@ -2,7 +2,7 @@
 use mathlib.Core.Path.{◌≡◌, refl, ap, sym, ◌∙◌}
 use Prim.Native.Nat.{ℕ, ◌-◌, ◌≤◌}
 use mathlib.Core.Bool.{Bool, false}
-use mathlib.Core.Option.{Option, some}
+use Rattle.std.specs.Prelude.{Option, Some}
 use mathlib.Core.List.{List}
 use lib.ListN.{length, drop}
 use lib.Dec.{T, leb}
@@ -18,7 +18,6 @@ use Rattle.readers.specs.Forms.{use_of, form_token, attribute_layout, list_form}
 use Rattle.readers.specs.Entries.{attribute_at}
 use Rattle.readers.specs.declared.cursor.Encoding.{Encoding}
 use Rattle.readers.specs.declared.attributes.Attribute.{Attribute}
-use Rattle.readers.specs.declared.attributes.AttributeRead.TheVariants.{Read as Attribute'}
 use Rattle.marking.specs.EntryReferences.{part_of}
 use Rattle.rewriting.specs.Places.{Place, new_of, sibling_of}
 use Rattle.rewriting.specs.Indices.{rank_or}
@@ -38,8 +37,8 @@ use Rattle.rewriting.proofs.WritePass.ValueParts.{Value, value_of, direct-form}
 use Rattle.rewriting.proofs.WritePass.ValueEmits.{expression-emits, reference-emits, sibling-emits, index-emits, copied-emits, copied-whole}
 
 module _ (e : Encoding) (unit : List ℕ) (values name declared : ℕ) (value : Attribute) (b : T (are_bytes unit)) (i : values ≤ length unit)
-    (attribute : attribute_at e unit values name declared ≡ Attribute' value) (rs : List Read) (rest : List ℕ)
-    (deep : read_in e.big_endian (expression_in e) (attribute_layout e name declared) (drop values unit) ≡ some (rs, rest))
+    (attribute : attribute_at e unit values name declared ≡ Some value) (rs : List Read) (rest : List ℕ)
+    (deep : read_in e.big_endian (expression_in e) (attribute_layout e name declared) (drop values unit) ≡ Some (rs, rest))
     (out : List ℕ) (at to : ℕ) (out₁ : List ℕ)
     (first : values ≤ value.field.start → value.field.start ≤ length unit → EmitsAt 0 (between unit values value.field.start) out at (To to) out₁)
     (lists : Lists) (map : List Place) (depth : ℕ) where
@@ -50,7 +49,7 @@ module _ (e : Encoding) (unit : List ℕ) (values name declared : ℕ) (value : 
   Whole r out₂ = EmitsAt (reads_refusal lists map depth rs) (write_all e.big_endian (patch_all (new_value lists map depth) rs)) out at r out₂
 
   pub attribute-expression : value.form ≡ 0x18 → (part : List ℕ) → part ≡ part_of unit value.field → (r : Emitted) (out₂ : List ℕ)
-      → ((pieces : List Piece) → expression_in e part ≡ some pieces → EmitsAt (pieces_refusal lists map depth pieces) (bytes_of e.big_endian (patch_pieces (new_value lists map depth) pieces)) out₁ to r out₂)
+      → ((pieces : List Piece) → expression_in e part ≡ Some pieces → EmitsAt (pieces_refusal lists map depth pieces) (bytes_of e.big_endian (patch_pieces (new_value lists map depth) pieces)) out₁ to r out₂)
       → Whole r out₂
   attribute-expression x part p r out₂ h =
       expression-emits e unit values name value rs w b out at to out₁ first lists map depth (expression-form e name value.form x) part p r out₂ h
@@ -101,8 +100,8 @@ module _ (e : Encoding) (unit : List ℕ) (values name declared : ℕ) (value : 
 
 -- at once, where its declared form says so
 pub attribute-whole : (e : Encoding) (unit : List ℕ) (values name declared : ℕ) (value : Attribute) → T (are_bytes unit) → values ≤ length unit
-    → attribute_at e unit values name declared ≡ Attribute' value → (rs : List Read) (rest : List ℕ)
-    → read_in e.big_endian (expression_in e) (attribute_layout e name declared) (drop values unit) ≡ some (rs, rest)
+    → attribute_at e unit values name declared ≡ Some value → (rs : List Read) (rest : List ℕ)
+    → read_in e.big_endian (expression_in e) (attribute_layout e name declared) (drop values unit) ≡ Some (rs, rest)
     → (lists : Lists) (map : List Place) (depth : ℕ) → Copies declared → (out : List ℕ) (at to₂ : ℕ) (out₂ : List ℕ)
     → EmitsAt 0 (between unit values value.field.end) out at (To to₂) out₂
     → EmitsAt (reads_refusal lists map depth rs) (write_all e.big_endian (patch_all (new_value lists map depth) rs)) out at (To to₂) out₂

@@ -4,7 +4,7 @@ use Prim.Native.Nat.{ℕ, suc, ◌+◌, ◌-◌, ◌^◌, ◌≤◌, ◌<◌}
 use native.Mathlib.Omega.{arith}
 use mathlib.Core.Bool.{Bool, true, false}
 use mathlib.Core.List.{List, [], ◌++◌, append_assoc, append-nil}
-use mathlib.Core.Option.{Option, none, some}
+use Rattle.std.specs.Prelude.{None, Option, Some}
 use mathlib.Core.Logic.{⊎_elim}
 use lib.ListN.{length, take, drop, length-append, length-drop, drop_of_length-le, take-append-drop}
 use lib.Seq.{length-take-le, take_at, drop-append-add, drop-drop, take_all, take-nil}
@@ -420,15 +420,15 @@ module _ (value w : ℕ) (leb' big : Bool) (out : List ℕ) where
 
 -- ---- offsets
 
-mapped-some : (o : Option ℕ) (value : UnitOffset) → Mapped' value ≡ as_mapped o → o ≡ some value.0
+mapped-some : (o : Option ℕ) (value : UnitOffset) → Mapped' value ≡ as_mapped o → o ≡ Some value.0
 unfolding as_mapped
-mapped-some none value h = let z : ◌≡◌ {A = ℕ} 0 1 = cc in absurd (omega arith)
-mapped-some (some n) value h = let z : value ≡ record { 0 = n } = cc in ap (λ (y : UnitOffset). some y.0) (sym z)
+mapped-some None value h = let z : ◌≡◌ {A = ℕ} 0 1 = cc in absurd (omega arith)
+mapped-some (Some n) value h = let z : value ≡ record { 0 = n } = cc in ap (λ (y : UnitOffset). Some y.0) (sym z)
 
-mapped-none : (o : Option ℕ) → Nothing ≡ as_mapped o → o ≡ none
+mapped-none : (o : Option ℕ) → Nothing ≡ as_mapped o → o ≡ None
 unfolding as_mapped
-mapped-none none h = refl
-mapped-none (some n) h = let z : ◌≡◌ {A = ℕ} 0 1 = cc in absurd (omega arith)
+mapped-none None h = refl
+mapped-none (Some n) h = let z : ◌≡◌ {A = ℕ} 0 1 = cc in absurd (omega arith)
 
 module _ (new : Mapped) (w : ℕ) (leb' big : Bool) (out : List ℕ) where
   pub offset-some : (value : UnitOffset) → new ≡ Mapped' value → (r : Emitted) (out' : List ℕ)
@@ -451,10 +451,10 @@ module _ (list : List ℕ) (count : ListCount) (value : ℕ) where
   pub index-rank : (n : ℕ) → count ≡ Present n → (r : ℕ) → ((xs : List ℕ) → ListHeld xs list → n ≡ length xs → r ≡ rank_in xs value)
       → (o : Option (List ℕ)) → Lent o list count → r ≡ rank_or o value
   unfolding Lent rank_or
-  index-rank n q r f none h = absurd (subst (Lent none list) q h)
-  index-rank n q r f (some xs) h = let k : ListHeld xs list × (n ≡ length xs) = subst (Lent (some xs) list) q h in f xs k.0 k.1
+  index-rank n q r f None h = absurd (subst (Lent None list) q h)
+  index-rank n q r f (Some xs) h = let k : ListHeld xs list × (n ≡ length xs) = subst (Lent (Some xs) list) q h in f xs k.0 k.1
 
   pub index-self : count ≡ Absent → (o : Option (List ℕ)) → Lent o list count → value ≡ rank_or o value
   unfolding Lent rank_or
-  index-self q none h = refl
-  index-self q (some xs) h = absurd (subst (Lent (some xs) list) q h)
+  index-self q None h = refl
+  index-self q (Some xs) h = absurd (subst (Lent (Some xs) list) q h)

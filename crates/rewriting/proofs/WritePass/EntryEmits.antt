@@ -3,7 +3,8 @@ use mathlib.Core.Path.{◌≡◌, refl, ap, ap₂, sym, ◌∙◌, subst}
 use Prim.Native.Nat.{ℕ, ◌+◌, ◌-◌, ◌≤◌, ◌<◌}
 use native.Mathlib.Omega.{arith}
 use mathlib.Core.Bool.{Bool, not}
-use mathlib.Core.Option.{Option, none, some}
+use Rattle.std.specs.Prelude.{None, Option, Some}
+use Rattle.readers.specs.declared.abbreviations.SpecStep.{SpecStep}
 use mathlib.Core.List.{List, [], ◌∷◌, ◌++◌, append_assoc, append-nil}
 use mathlib.Core.Logic.{◌⊎◌, inl, inr, ⊎_elim}
 use lib.ListN.{length, take, drop, length-append, length-drop}
@@ -24,16 +25,10 @@ use Rattle.readers.specs.Entries.{attribute_of_reads, as_attribute, attribute_at
 use Rattle.readers.specs.declared.cursor.Encoding.{Encoding}
 use Rattle.readers.specs.declared.cursor.Cursor.{Cursor}
 use Rattle.readers.specs.declared.fields.Field.{Field}
-use Rattle.readers.specs.declared.fields.FieldRead.TheVariants.{Read as Field'}
 use Rattle.readers.specs.declared.abbreviations.AttributeSpec.{AttributeSpec}
-use Rattle.readers.specs.declared.abbreviations.SpecStep.{SpecStep}
-use Rattle.readers.specs.declared.abbreviations.SpecStep.TheVariants.{Attribute as Spec, Last as LastSpec, Unreadable as NoSpec}
+use Rattle.readers.specs.declared.abbreviations.SpecStep.TheVariants.{Attribute as Spec, Last as LastSpec}
 use Rattle.readers.specs.declared.abbreviations.Declaration.{Declaration}
-use Rattle.readers.specs.declared.abbreviations.DeclarationFound.{DeclarationFound}
-use Rattle.readers.specs.declared.abbreviations.DeclarationFound.TheVariants.{Declaration as Found', Nothing}
 use Rattle.readers.specs.declared.attributes.Attribute.{Attribute}
-use Rattle.readers.specs.declared.attributes.AttributeRead.{AttributeRead}
-use Rattle.readers.specs.declared.attributes.AttributeRead.TheVariants.{Read as Attribute', Unreadable as NoAttribute}
 use Rattle.readers.specs.declared.entries.Entry.{Entry}
 use Rattle.readers.specs.declared.entries.Step.TheVariants.{Entry as Entry', Terminator}
 use Rattle.readers.proofs.Values.{joined, read-then}
@@ -41,8 +36,6 @@ use Rattle.readers.proofs.Specs.{attributes-more, attributes-last, attributes-ba
 use Rattle.readers.specs.EntryAttributes.{taken, taken_by, next_attribute}
 use Rattle.readers.specs.declared.entry_attributes.EntryAttribute.{EntryAttribute}
 use Rattle.readers.proofs.EntryAttributes.{Stepped, stepped}
-use Rattle.readers.specs.declared.entry_attributes.NextAttribute.{NextAttribute}
-use Rattle.readers.specs.declared.entry_attributes.NextAttribute.TheVariants.{More, NoMore}
 use Rattle.rewriting.specs.Places.{Place}
 use Rattle.rewriting.specs.Rewriting.{Lists, new_value, reads_refusal, pieces_refusal, or_next}
 use Rattle.rewriting.specs.Emission.{between}
@@ -80,7 +73,7 @@ module _ (lists : Lists) (map : List Place) (depth : ℕ) where
 
 -- ---- how far an attribute comes
 
-field_is : (big : Bool) (o : ℕ) (r : ReadOf) (f : Field) → as_field big o (some r) ≡ Field' f → field_of big o r.0 ≡ f
+field_is : (big : Bool) (o : ℕ) (r : ReadOf) (f : Field) → as_field big o (Some r) ≡ Some f → field_of big o r.0 ≡ f
 unfolding as_field
 field_is big o r f h = cc
 
@@ -95,7 +88,7 @@ module _ (e : Encoding) where
         let t : Token = value_token e w.indirect name value.form in
         let a : TokenAsBytes big (expression_in e) t (drop w.o unit) (w.v, w.rest) =
         all_of (TokenAsBytes big (expression_in e) t (drop w.o unit)) (token-as-bytes big (expression_in e) (expression-law e) t (drop w.o unit)) w.deep in
-        let s : as_field big w.o (some (a.it, w.rest)) ≡ Field' value.field =
+        let s : as_field big w.o (Some (a.it, w.rest)) ≡ Some value.field =
         ap (as_field big w.o) (sym a.is) ∙ w.shallow in
         ap (λ (y : Field). y.end) (sym (field_is big w.o (a.it, w.rest) value.field s))
         ∙ ap (λ n. w.o + n) (sym a.wide)
@@ -117,24 +110,24 @@ module _ (e : Encoding) where
 
   -- ---- one attribute, and then the others
 
-  bind-nowhere : (o : Option RunOf) → bind o (λ r. bind none (joined r.0)) ≡ none
+  bind-nowhere : (o : Option RunOf) → bind o (λ r. bind None (joined r.0)) ≡ None
   unfolding bind
-  bind-nowhere none = refl
-  bind-nowhere (some a) = refl
+  bind-nowhere None = refl
+  bind-nowhere (Some a) = refl
 
   specs-read : (a : AttributeSpec) (o : Option (Scanned AttributeSpec ℕ)) (s : List ℕ)
       → read_in big (expression_in e) (specs_layout e (bind o (push a))) s
       ≡ bind (read_in big (expression_in e) (attribute_layout e a.name a.form) s) (λ r. bind (read_in big (expression_in e) (specs_layout e o) r.1) (joined r.0))
   unfolding specs_layout bind push attributes_layout read_in
-  specs-read a none s = sym (bind-nowhere (read_in big (expression_in e) (attribute_layout e a.name a.form) s))
-  specs-read a (some r) s = read-then big (expression_in e) (attribute_layout e a.name a.form) (attributes_layout e r.0) s
+  specs-read a None s = sym (bind-nowhere (read_in big (expression_in e) (attribute_layout e a.name a.form) s))
+  specs-read a (Some r) s = read-then big (expression_in e) (attribute_layout e a.name a.form) (attributes_layout e r.0) s
 
   record Divided (a : AttributeSpec) (o : Option (Scanned AttributeSpec ℕ)) (s : List ℕ) (r : RunOf) : Type 0 where
     pub one : List Read
     pub mid : List ℕ
     pub others : List Read
-    pub first : read_in big (expression_in e) (attribute_layout e a.name a.form) s ≡ some (one, mid)
-    pub then' : read_in big (expression_in e) (specs_layout e o) mid ≡ some (others, r.1)
+    pub first : read_in big (expression_in e) (attribute_layout e a.name a.form) s ≡ Some (one, mid)
+    pub then' : read_in big (expression_in e) (specs_layout e o) mid ≡ Some (others, r.1)
     pub both : r.0 ≡ one ++ others
 
   divided-all : (a : AttributeSpec) (o : Option (Scanned AttributeSpec ℕ)) (s : List ℕ)
@@ -146,42 +139,42 @@ module _ (e : Encoding) where
       (λ z k _. all-some (Divided a o s) (record { one = r.0; mid = r.1; others = z.0; first = q; then' = k; both = refl })))
 
   divided : (a : AttributeSpec) (o : Option (Scanned AttributeSpec ℕ)) (s : List ℕ) (rs : List Read) (rest : List ℕ)
-      → read_in big (expression_in e) (specs_layout e (bind o (push a))) s ≡ some (rs, rest) → Divided a o s (rs, rest)
+      → read_in big (expression_in e) (specs_layout e (bind o (push a))) s ≡ Some (rs, rest) → Divided a o s (rs, rest)
   divided a o s rs rest q = all_of (Divided a o s) (divided-all a o s) (sym (specs-read a o s) ∙ q)
 
   -- ---- the attribute that is next
 
   record Taken (abbreviations : List ℕ) (p : ℕ) (unit : List ℕ) (from : ℕ) (x : EntryAttribute) : Type 0 where
     pub spec : AttributeSpec
-    pub there : spec_at abbreviations p ≡ Spec spec
-    pub value : attribute_at e unit from spec.name spec.form ≡ Attribute' x.value
+    pub there : spec_at abbreviations p ≡ Some (Spec spec)
+    pub value : attribute_at e unit from spec.name spec.form ≡ Some x.value
     pub name : spec.name ≡ x.name
     pub declared : spec.form ≡ x.declared
     pub next : spec.next ≡ x.next
 
   module _ (abbreviations : List ℕ) (p : ℕ) (unit : List ℕ) (from : ℕ) where
-    taken-value : (x : EntryAttribute) (a : AttributeSpec) → spec_at abbreviations p ≡ Spec a → (o : AttributeRead) → attribute_at e unit from a.name a.form ≡ o → taken a o ≡ More x
+    taken-value : (x : EntryAttribute) (a : AttributeSpec) → spec_at abbreviations p ≡ Some (Spec a) → (o : Option Attribute) → attribute_at e unit from a.name a.form ≡ o → taken a o ≡ Some x
         → Taken abbreviations p unit from x
     unfolding taken
-    taken-value x a q (Attribute' v) k g =
+    taken-value x a q (Some v) k g =
         let z : record { name = a.name; declared = a.form; value = v; next = a.next; values = cursor v.field.end } ≡ x = cc in
         record {
           spec = a;
           there = q;
-          value = k ∙ ap (λ (y : EntryAttribute). Attribute' y.value) z;
+          value = k ∙ ap (λ (y : EntryAttribute). Some y.value) z;
           name = ap (λ (y : EntryAttribute). y.name) z;
           declared = ap (λ (y : EntryAttribute). y.declared) z;
           next = ap (λ (y : EntryAttribute). y.next) z;
         }
-    taken-value x a q NoAttribute k g = let z : ◌≡◌ {A = ℕ} 0 1 = cc in absurd (omega arith)
+    taken-value x a q None k g = let z : ◌≡◌ {A = ℕ} 0 1 = cc in absurd (omega arith)
 
-    taken-spec : (x : EntryAttribute) (r : SpecStep) → spec_at abbreviations p ≡ r → taken_by e unit from r ≡ More x → Taken abbreviations p unit from x
+    taken-spec : (x : EntryAttribute) (r : Option SpecStep) → spec_at abbreviations p ≡ r → taken_by e unit from r ≡ Some x → Taken abbreviations p unit from x
     unfolding taken_by
-    taken-spec x (Spec a) q g = taken-value x a q (attribute_at e unit from a.name a.form) refl g
-    taken-spec x (LastSpec c) q g = let z : ◌≡◌ {A = ℕ} 0 1 = cc in absurd (omega arith)
-    taken-spec x NoSpec q g = let z : ◌≡◌ {A = ℕ} 0 1 = cc in absurd (omega arith)
+    taken-spec x (Some (Spec a)) q g = taken-value x a q (attribute_at e unit from a.name a.form) refl g
+    taken-spec x (Some (LastSpec c)) q g = let z : ◌≡◌ {A = ℕ} 0 1 = cc in absurd (omega arith)
+    taken-spec x None q g = let z : ◌≡◌ {A = ℕ} 0 1 = cc in absurd (omega arith)
 
-    taken_is : (x : EntryAttribute) → next_attribute e abbreviations p unit from ≡ More x → Taken abbreviations p unit from x
+    taken_is : (x : EntryAttribute) → next_attribute e abbreviations p unit from ≡ Some x → Taken abbreviations p unit from x
     unfolding next_attribute
     taken_is x g = taken-spec x (spec_at abbreviations p) refl g
 
@@ -200,7 +193,7 @@ module _ (e : Encoding) where
         (λ t. subst (λ g. All (λ (r : RunOf). r.0 ≡ [] → ⊥) (read_in big (expression_in e) g s)) (sym (pick_no _ _ _ t)) (some_read _ _ s))
         (either (eqb form 0x16))
 
-    none_of : (form : ℕ) (those : List Read) → attribute_of_reads big form from those ≡ NoAttribute → those ≡ []
+    none_of : (form : ℕ) (those : List Read) → attribute_of_reads big form from those ≡ None → those ≡ []
     unfolding attribute_of_reads
     none_of form [] h = refl
     none_of form (v ∷ []) h = let z : ◌≡◌ {A = ℕ} 0 1 = cc in absurd (omega arith)
@@ -212,37 +205,37 @@ module _ (e : Encoding) where
     like-none (r ∷ a) [] h q = absurd h
     like-none (r ∷ a) (x ∷ b) h q = let z : ◌≡◌ {A = ℕ} 0 1 = cc in absurd (omega arith)
 
-    readable : (name form : ℕ) (one : List Read) (mid : List ℕ) → read_in big (expression_in e) (attribute_layout e name form) (drop from unit) ≡ some (one, mid)
-        → attribute_at e unit from name form ≡ NoAttribute → ⊥
+    readable : (name form : ℕ) (one : List Read) (mid : List ℕ) → read_in big (expression_in e) (attribute_layout e name form) (drop from unit) ≡ Some (one, mid)
+        → attribute_at e unit from name form ≡ None → ⊥
     unfolding attribute_at as_attribute
     readable name form one mid q k =
         let a : LayoutAsBytes big (expression_in e) (attribute_layout e name form) (drop from unit) (one, mid) = as_bytes_lem big (expression_in e) (expression-law e) (attribute_layout e name form) (drop from unit) one mid q in
-        let z : attribute_of_reads big form from a.those ≡ NoAttribute =
+        let z : attribute_of_reads big form from a.those ≡ None =
         sym (ap (as_attribute big form from) a.are) ∙ k in
         all_of (λ (r : RunOf). r.0 ≡ [] → ⊥) (some-attribute name form (drop from unit)) q (like-none one a.those a.like (none_of form a.those z))
 
-    module _ (rs : List Read) (rest : List ℕ) (deep : read_in big (expression_in e) (specs_layout e (attributes_from abbreviations p)) (drop from unit) ≡ some (rs, rest)) where
-      last-value : (a : AttributeSpec) → spec_at abbreviations p ≡ Spec a → (o : AttributeRead) → attribute_at e unit from a.name a.form ≡ o → taken a o ≡ NoMore → rs ≡ []
+    module _ (rs : List Read) (rest : List ℕ) (deep : read_in big (expression_in e) (specs_layout e (attributes_from abbreviations p)) (drop from unit) ≡ Some (rs, rest)) where
+      last-value : (a : AttributeSpec) → spec_at abbreviations p ≡ Some (Spec a) → (o : Option Attribute) → attribute_at e unit from a.name a.form ≡ o → taken a o ≡ None → rs ≡ []
       unfolding taken
-      last-value a q (Attribute' v) k g = let z : ◌≡◌ {A = ℕ} 0 1 = cc in absurd (omega arith)
-      last-value a q NoAttribute k g =
+      last-value a q (Some v) k g = let z : ◌≡◌ {A = ℕ} 0 1 = cc in absurd (omega arith)
+      last-value a q None k g =
           let d : Divided a (attributes_from abbreviations a.next.at) (drop from unit) (rs, rest) =
           divided a (attributes_from abbreviations a.next.at) (drop from unit) rs rest
           (ap (λ y. read_in big (expression_in e) (specs_layout e y) (drop from unit)) (sym (attributes-more abbreviations p a q)) ∙ deep) in
           absurd (readable a.name a.form d.one d.mid d.first k)
 
-      last-spec : (r : SpecStep) → spec_at abbreviations p ≡ r → taken_by e unit from r ≡ NoMore → rs ≡ []
+      last-spec : (r : Option SpecStep) → spec_at abbreviations p ≡ r → taken_by e unit from r ≡ None → rs ≡ []
       unfolding taken_by specs_layout attributes_layout read_in
-      last-spec (Spec a) q g = last-value a q (attribute_at e unit from a.name a.form) refl g
-      last-spec (LastSpec c) q g =
-          let z : ◌≡◌ {A = Option RunOf} (some ([], drop from unit)) (some (rs, rest)) =
+      last-spec (Some (Spec a)) q g = last-value a q (attribute_at e unit from a.name a.form) refl g
+      last-spec (Some (LastSpec c)) q g =
+          let z : ◌≡◌ {A = Option RunOf} (Some ([], drop from unit)) (Some (rs, rest)) =
           ap (λ y. read_in big (expression_in e) (specs_layout e y) (drop from unit)) (sym (attributes-last abbreviations p c q)) ∙ deep in
           let y : ◌≡◌ {A = RunOf} ([], drop from unit) (rs, rest) = cc in sym (ap (λ (r : RunOf). r.0) y)
-      last-spec NoSpec q g =
-          let z : ◌≡◌ {A = Option RunOf} none (some (rs, rest)) = ap (λ y. read_in big (expression_in e) (specs_layout e y) (drop from unit)) (sym (attributes-bad abbreviations p q)) ∙ deep in
+      last-spec None q g =
+          let z : ◌≡◌ {A = Option RunOf} None (Some (rs, rest)) = ap (λ y. read_in big (expression_in e) (specs_layout e y) (drop from unit)) (sym (attributes-bad abbreviations p q)) ∙ deep in
           let y : ◌≡◌ {A = ℕ} 0 1 = cc in absurd (omega arith)
 
-      none_left : next_attribute e abbreviations p unit from ≡ NoMore → rs ≡ []
+      none_left : next_attribute e abbreviations p unit from ≡ None → rs ≡ []
       unfolding next_attribute
       none_left g = last-spec (spec_at abbreviations p) refl g
 
@@ -252,31 +245,31 @@ pub record Entering (lists : Lists) (map : List Place) (depth : ℕ) (e : Encodi
   pub reads : List Read
   pub rest : List ℕ
   pub inside : from ≤ length unit
-  pub deep : read_in (big e) (expression_in e) (specs_layout e (attributes_from abbreviations p)) (drop from unit) ≡ some (reads, rest)
+  pub deep : read_in (big e) (expression_in e) (specs_layout e (attributes_from abbreviations p)) (drop from unit) ≡ Some (reads, rest)
   pub onward : (r : Emitted) (out' : List ℕ)
       → EmitsAt (reads_refusal lists map depth reads) (write_all (big e) (patch_all (new_value lists map depth) reads)) out to r out'
       → EmitsAt (reads_refusal lists map depth whole) (write_all (big e) (patch_all (new_value lists map depth) whole)) out₀ at r out'
 
 -- the measure
-pub entering-less : (e : Encoding) (abbreviations : List ℕ) (p : ℕ) (unit : List ℕ) (from : ℕ) (x : EntryAttribute) (y : NextAttribute) → y ≡ next_attribute e abbreviations p unit from → y ≡ More x
+pub entering-less : (e : Encoding) (abbreviations : List ℕ) (p : ℕ) (unit : List ℕ) (from : ℕ) (x : EntryAttribute) (y : Option EntryAttribute) → y ≡ next_attribute e abbreviations p unit from → y ≡ Some x
     → length abbreviations - x.next.at < length abbreviations - p
 entering-less e abbreviations p unit from x y q g =
     let t : Stepped e abbreviations p unit from x = stepped e abbreviations p unit from x (sym q ∙ g) in
     omega (arith, t.ahead, t.inside)
 
 pub entering-begin : (lists : Lists) (map : List Place) (depth : ℕ) (e : Encoding) (abbreviations unit : List ℕ) (whole : List Read) (out : List ℕ) (p from to : ℕ) (after : List ℕ) → from ≤ length unit
-    → read_in (big e) (expression_in e) (specs_layout e (attributes_from abbreviations p)) (drop from unit) ≡ some (whole, after) → Entering lists map depth e abbreviations unit whole out to out p from to
+    → read_in (big e) (expression_in e) (specs_layout e (attributes_from abbreviations p)) (drop from unit) ≡ Some (whole, after) → Entering lists map depth e abbreviations unit whole out to out p from to
 entering-begin lists map depth e abbreviations unit whole out p from to after i d = record { reads = whole; rest = after; inside = i; deep = d; onward = λ r out' h. h }
 
 module _ (lists : Lists) (map : List Place) (depth : ℕ) (e : Encoding) (abbreviations unit : List ℕ) (whole : List Read) (out₀ : List ℕ) (at : ℕ) where
-  module _ (out : List ℕ) (p from to : ℕ) (g : Entering lists map depth e abbreviations unit whole out₀ at out p from to) (y : NextAttribute) (q : y ≡ next_attribute e abbreviations p unit from) where
-    pub entering-end : y ≡ NoMore → EmitsAt (reads_refusal lists map depth whole) (write_all (big e) (patch_all (new_value lists map depth) whole)) out₀ at (To to) out
+  module _ (out : List ℕ) (p from to : ℕ) (g : Entering lists map depth e abbreviations unit whole out₀ at out p from to) (y : Option EntryAttribute) (q : y ≡ next_attribute e abbreviations p unit from) where
+    pub entering-end : y ≡ None → EmitsAt (reads_refusal lists map depth whole) (write_all (big e) (patch_all (new_value lists map depth) whole)) out₀ at (To to) out
     unfolding reads_refusal write_all patch_all
     entering-end h =
         let n : g.reads ≡ [] = none_left e abbreviations p unit from g.reads g.rest g.deep (sym q ∙ h) in
         g.onward (To to) out (emits-as (ap (reads_refusal lists map depth) (sym n)) (ap (λ rs. write_all (big e) (patch_all (new_value lists map depth) rs)) (sym n)) (emits_none out to))
 
-    module _ (x : EntryAttribute) (h : y ≡ More x) where
+    module _ (x : EntryAttribute) (h : y ≡ Some x) where
       it : Taken e abbreviations p unit from x
       it = taken_is e abbreviations p unit from x (sym q ∙ h)
 
@@ -285,10 +278,10 @@ module _ (lists : Lists) (map : List Place) (depth : ℕ) (e : Encoding) (abbrev
           divided e it.spec (attributes_from abbreviations it.spec.next.at) (drop from unit) g.reads g.rest
           (ap (λ z. read_in (big e) (expression_in e) (specs_layout e z) (drop from unit)) (sym (attributes-more abbreviations p it.spec it.there)) ∙ g.deep)
 
-      its-value : attribute_at e unit from x.name x.declared ≡ Attribute' x.value
+      its-value : attribute_at e unit from x.name x.declared ≡ Some x.value
       its-value = ap₂ (λ (n m : ℕ). attribute_at e unit from n m) (sym it.name) (sym it.declared) ∙ it.value
 
-      its-reads : read_in (big e) (expression_in e) (attribute_layout e x.name x.declared) (drop from unit) ≡ some (parts.one, parts.mid)
+      its-reads : read_in (big e) (expression_in e) (attribute_layout e x.name x.declared) (drop from unit) ≡ Some (parts.one, parts.mid)
       its-reads = ap₂ (λ (n m : ℕ). read_in (big e) (expression_in e) (attribute_layout e n m) (drop from unit)) (sym it.name) (sym it.declared) ∙ parts.first
 
       its-end : x.values.at ≡ from + length (write_all (big e) parts.one)
@@ -312,8 +305,8 @@ module _ (lists : Lists) (map : List Place) (depth : ℕ) (e : Encoding) (abbrev
       mid-is = took.1 ∙ drop-drop (length (write_all (big e) parts.one)) from unit ∙ ap (λ n. drop n unit) (sym its-end)
 
       module _ (a : Emitted) (out₁ : List ℕ)
-          (f : (rs : List Read) (rest : List ℕ) → from ≤ length unit → attribute_at e unit from x.name x.declared ≡ Attribute' x.value
-          → read_in (big e) (expression_in e) (attribute_layout e x.name x.declared) (drop from unit) ≡ some (rs, rest)
+          (f : (rs : List Read) (rest : List ℕ) → from ≤ length unit → attribute_at e unit from x.name x.declared ≡ Some x.value
+          → read_in (big e) (expression_in e) (attribute_layout e x.name x.declared) (drop from unit) ≡ Some (rs, rest)
           → EmitsAt (reads_refusal lists map depth rs) (write_all (big e) (patch_all (new_value lists map depth) rs)) out to a out₁) where
         here : EmitsAt (reads_refusal lists map depth parts.one) (write_all (big e) (patch_all (new_value lists map depth) parts.one)) out to a out₁
         here = f parts.one parts.mid g.inside its-value its-reads
@@ -353,7 +346,7 @@ module _ (lists : Lists) (map : List Place) (depth : ℕ) (e : Encoding) (abbrev
 
 -- ---- the code
 
-module _ (e : Encoding) (abbreviations : List ℕ) (look : ℕ → DeclarationFound) (unit : List ℕ) (start : ℕ) where
+module _ (e : Encoding) (abbreviations : List ℕ) (look : ℕ → Option Declaration) (unit : List ℕ) (start : ℕ) where
   -- an entry's code, and how its attributes were read
   record Coded (r : RunOf) : Type 0 where
     pub code : Read
@@ -364,16 +357,16 @@ module _ (e : Encoding) (abbreviations : List ℕ) (look : ℕ → DeclarationFo
     pub is : r.0 ≡ code ∷ others
     pub other : T (not (eqb code.seen 0))
     pub declaration : Declaration
-    pub found : look code.seen ≡ Found' declaration
-    pub deep : read_in (big e) (expression_in e) (specs_layout e (attributes_from abbreviations declaration.attributes.at)) (drop wide (drop start unit)) ≡ some (others, r.1)
+    pub found : look code.seen ≡ Some declaration
+    pub deep : read_in (big e) (expression_in e) (specs_layout e (attributes_from abbreviations declaration.attributes.at)) (drop wide (drop start unit)) ≡ Some (others, r.1)
 
   abbrev Kinds : RunOf → Type 0
   Kinds r = TerminatorRead e abbreviations look r.0 ⊎ Coded r
 
-  found-kinds : (v n : ℕ) → n ≤ length (drop start unit) → T (not (eqb v 0)) → (f : DeclarationFound) → look v ≡ f
+  found-kinds : (v n : ℕ) → n ≤ length (drop start unit) → T (not (eqb v 0)) → (f : Option Declaration) → look v ≡ f
       → All Kinds (bind (read_in (big e) (expression_in e) (found_layout e abbreviations look f) (drop n (drop start unit))) (before (copy v 0 n (drop start unit)).0))
   unfolding found_layout before bind read_in copy
-  found-kinds v n i t (Found' d) h =
+  found-kinds v n i t (Some d) h =
       all-bind (λ _. Unit {0}) Kinds (read_in (big e) (expression_in e) (specs_layout e (attributes_from abbreviations d.attributes.at)) (drop n (drop start unit))) _ (all-triv _)
       (λ r q _. all-some Kinds (inr (record {
         code = (copy v 0 n (drop start unit)).0;
@@ -387,7 +380,7 @@ module _ (e : Encoding) (abbreviations : List ℕ) (look : ℕ → DeclarationFo
         found = h;
         deep = q;
       })))
-  found-kinds v n i t Nothing h = all_none _
+  found-kinds v n i t None h = all_none _
 
   kinds-all : All Kinds (read_in (big e) (expression_in e) (entry_layout e abbreviations look) (drop start unit))
   unfolding read_in entry_layout token_in as_number before bind copy
@@ -407,12 +400,12 @@ module _ (e : Encoding) (abbreviations : List ℕ) (look : ℕ → DeclarationFo
           (found-kinds v n i t (look v) refl))
           (either (eqb v 0))
 
-  module _ (x : Entry) (step : step_at e abbreviations look unit start ≡ Entry' x) (rs : List Read) (rest : List ℕ)
-      (deep : read_in (big e) (expression_in e) (entry_layout e abbreviations look) (drop start unit) ≡ some (rs, rest)) where
+  module _ (x : Entry) (step : step_at e abbreviations look unit start ≡ Some (Entry' x)) (rs : List Read) (rest : List ℕ)
+      (deep : read_in (big e) (expression_in e) (entry_layout e abbreviations look) (drop start unit) ≡ Some (rs, rest)) where
     coded : Coded (rs, rest)
     coded =
         ⊎_elim
-        (λ t. let z : Terminator _ ≡ Entry' x = sym (deep-terminator e abbreviations look (expression_in e) (expression-law e) unit start rs rest deep t) ∙ step in
+        (λ t. let z : Some (Terminator _) ≡ Some (Entry' x) = sym (deep-terminator e abbreviations look (expression_in e) (expression-law e) unit start rs rest deep t) ∙ step in
         let y : ◌≡◌ {A = ℕ} 0 1 = cc in absurd (omega arith))
         (λ c. c)
         (all_of Kinds kinds-all deep)
@@ -439,7 +432,7 @@ module _ (e : Encoding) (abbreviations : List ℕ) (look : ℕ → DeclarationFo
 
     entry-is : x ≡ stepped-to
     entry-is =
-        let z : Entry' x ≡ Entry' stepped-to = sym step ∙ deep-entry e abbreviations look (expression_in e) (expression-law e) unit start rs rest deep entry_read in
+        let z : Some (Entry' x) ≡ Some (Entry' stepped-to) = sym step ∙ deep-entry e abbreviations look (expression_in e) (expression-law e) unit start rs rest deep entry_read in
         cc
 
     code-wide : size (big e) coded.code ≡ coded.wide
@@ -484,7 +477,7 @@ module _ (e : Encoding) (abbreviations : List ℕ) (look : ℕ → DeclarationFo
     -- what is said of the attributes after the code is said of the entry
     pub entry_done : (specs values : ℕ) → specs ≡ x.declaration.attributes.at → values ≡ x.values.at → (lists : Lists) (map : List Place) (depth : ℕ) (out : List ℕ) (at to : ℕ) (out₁ : List ℕ)
         → (start ≤ values → values ≤ length unit → EmitsAt 0 (between unit start values) out at (To to) out₁) → (r : Emitted) (out₂ : List ℕ)
-        → ((reads : List Read) (after : List ℕ) → values ≤ length unit → read_in (big e) (expression_in e) (specs_layout e (attributes_from abbreviations specs)) (drop values unit) ≡ some (reads, after)
+        → ((reads : List Read) (after : List ℕ) → values ≤ length unit → read_in (big e) (expression_in e) (specs_layout e (attributes_from abbreviations specs)) (drop values unit) ≡ Some (reads, after)
         → EmitsAt (reads_refusal lists map depth reads) (write_all (big e) (patch_all (new_value lists map depth) reads)) out₁ to r out₂)
         → EmitsAt (reads_refusal lists map depth rs) (write_all (big e) (patch_all (new_value lists map depth) rs)) out at r out₂
     entry_done specs values p q lists map depth out at to out₁ f r out₂ h =

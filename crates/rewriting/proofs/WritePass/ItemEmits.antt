@@ -3,7 +3,9 @@ use mathlib.Core.Path.{◌≡◌, refl, ap, ap₂, sym, ◌∙◌, subst}
 use Prim.Native.Nat.{ℕ, ◌+◌, ◌≤◌, ◌<◌}
 use native.Mathlib.Omega.{arith}
 use mathlib.Core.Bool.{Bool, true, false}
-use mathlib.Core.Option.{some}
+use Rattle.std.specs.Prelude.{Option, Some}
+use Rattle.readers.specs.declared.abbreviations.Declaration.{Declaration}
+use Rattle.readers.specs.declared.entries.Step.{Step}
 use mathlib.Core.List.{List, [], ◌∷◌, ◌++◌, append-nil}
 use mathlib.Core.Logic.{⊎_elim}
 use lib.ListN.{length, take, drop}
@@ -21,10 +23,8 @@ use Rattle.readers.specs.Stream.{Item}
 use Rattle.readers.proofs.Streams.{step-look}
 use Rattle.readers.specs.declared.cursor.Encoding.{Encoding}
 use Rattle.readers.specs.declared.cursor.Cursor.{Cursor}
-use Rattle.readers.specs.declared.abbreviations.DeclarationFound.{DeclarationFound}
 use Rattle.readers.specs.declared.entries.Entry.{Entry}
 use Rattle.readers.specs.declared.entries.Nesting.{Nesting}
-use Rattle.readers.specs.declared.entries.Step.{Step}
 use Rattle.readers.specs.declared.entries.Step.TheVariants.{Entry as Entry', Terminator}
 use Rattle.marking.specs.Analysis.{Sections}
 use Rattle.rewriting.specs.Places.{Place, NestedItem, kept_from, offset_of}
@@ -70,9 +70,9 @@ module _ (big : Bool) (ex : ExpressionReader) (s : List ℕ) where
       (λ r q h. all-bind (λ _. Unit {0}) Headed (read_in big ex (k r.0.seen) r.1) _ (all-triv _)
       (λ r' q' _. all-some Headed (record { code = r.0; others = r'.0; wide = h.0; fits = h.1.0; is = refl; pieces = h.1.1 })))
 
-module _ (e : Encoding) (abbreviations : List ℕ) (look : ℕ → DeclarationFound) (unit : List ℕ) (start end : ℕ)
-    (step : step_at e abbreviations look unit start ≡ Terminator (cursor end)) (rs : List Read) (rest : List ℕ)
-    (deep : read_in e.big_endian (expression_in e) (entry_layout e abbreviations look) (drop start unit) ≡ some (rs, rest)) where
+module _ (e : Encoding) (abbreviations : List ℕ) (look : ℕ → Option Declaration) (unit : List ℕ) (start end : ℕ)
+    (step : step_at e abbreviations look unit start ≡ Some (Terminator (cursor end))) (rs : List Read) (rest : List ℕ)
+    (deep : read_in e.big_endian (expression_in e) (entry_layout e abbreviations look) (drop start unit) ≡ Some (rs, rest)) where
   abbrev big : Bool
   big = e.big_endian
 
@@ -80,7 +80,7 @@ module _ (e : Encoding) (abbreviations : List ℕ) (look : ℕ → DeclarationFo
   sort =
       ⊎_elim
       (λ t. t)
-      (λ y. let z : Entry' _ ≡ Terminator (cursor end) = sym (deep-entry e abbreviations look (expression_in e) (expression-law e) unit start rs rest deep y) ∙ step in
+      (λ y. let z : Some (Entry' _) ≡ Some (Terminator (cursor end)) = sym (deep-entry e abbreviations look (expression_in e) (expression-law e) unit start rs rest deep y) ∙ step in
       let n : ◌≡◌ {A = ℕ} 0 1 = cc in absurd (omega arith))
       (deep-kind e abbreviations look (expression_in e) (expression-law e) unit start rs rest deep)
 
@@ -109,7 +109,7 @@ module _ (e : Encoding) (abbreviations : List ℕ) (look : ℕ → DeclarationFo
   terminator-end : end ≡ start + head.wide
   terminator-end =
       let n : ℕ = start + length (write_all big rs) in
-      let z : Terminator (cursor end) ≡ Terminator (cursor n) =
+      let z : Some (Terminator (cursor end)) ≡ Some (Terminator (cursor n)) =
       sym step ∙ deep-terminator e abbreviations look (expression_in e) (expression-law e) unit start rs rest deep sort in
       let w : cursor end ≡ cursor n = cc in
       ap (λ (c : Cursor). c.at) w ∙ ap (λ (q : List ℕ). start + length q) terminator-written
@@ -129,7 +129,7 @@ module _ (e : Encoding) (abbreviations : List ℕ) (look : ℕ → DeclarationFo
 -- ---- the loop
 
 module _ (r : Reading) (s table unit parents ends marks : List ℕ) (first : ℕ) where
-  abbrev look : ℕ → DeclarationFound
+  abbrev look : ℕ → Option Declaration
   look = find_at s r.from table
 
   abbrev items : ℕ → List Item
@@ -186,7 +186,7 @@ module _ (r : Reading) (s table unit parents ends marks : List ℕ) (first : ℕ
           unfolding reads_at reads_or
           reads-are = ap (reads_or x u) read_here.0.is
 
-          deep-here : read_in r.encoding.big_endian (expression_in r.encoding) (entry_layout r.encoding s (declared_in u.declared)) (drop y.start.0 unit) ≡ some (reads, read_here.0.run.1)
+          deep-here : read_in r.encoding.big_endian (expression_in r.encoding) (entry_layout r.encoding s (declared_in u.declared)) (drop y.start.0 unit) ≡ Some (reads, read_here.0.run.1)
           deep-here =
               ap (λ (e : Encoding). read_in e.big_endian (expression_in e) (entry_layout e s (declared_in u.declared)) (drop y.start.0 unit)) (sym p.read.encoding_is)
               ∙ ap (λ (z : List ℕ). read_in u.header.encoding.big_endian (expression_in u.header.encoding) (entry_layout u.header.encoding z (declared_in u.declared)) (drop y.start.0 unit)) (sym p.read.abbreviations_are)
@@ -194,7 +194,7 @@ module _ (r : Reading) (s table unit parents ends marks : List ℕ) (first : ℕ
               (sym (shown-offset y next.standing.item next.shows)) (sym p.read.bytes_are)
               ∙ read_here.0.is
 
-          step-here : (z : Step) → step_at r.encoding s look unit y.start.0 ≡ z → step_at r.encoding s (declared_in u.declared) unit y.start.0 ≡ z
+          step-here : (z : Option Step) → step_at r.encoding s look unit y.start.0 ≡ z → step_at r.encoding s (declared_in u.declared) unit y.start.0 ≡ z
           step-here z h = sym (step-look r.encoding s look (declared_in u.declared) p.found unit y.start.0) ∙ h
 
           -- the emission of this item alone
@@ -236,13 +236,13 @@ module _ (r : Reading) (s table unit parents ends marks : List ℕ) (first : ℕ
 
           -- an entry
           module _ (i : y.is_entry ≡ true) (b : Emitted) (out₁ : List ℕ)
-              (f : (look' : ℕ → DeclarationFound) (z : Entry) (rs : List Read) (rest : List ℕ) → step_at r.encoding s look' unit y.start.0 ≡ Entry' z → y.specs ≡ z.declaration.attributes → y.values ≡ z.values
-              → read_in r.encoding.big_endian (expression_in r.encoding) (entry_layout r.encoding s look') (drop y.start.0 unit) ≡ some (rs, rest)
+              (f : (look' : ℕ → Option Declaration) (z : Entry) (rs : List Read) (rest : List ℕ) → step_at r.encoding s look' unit y.start.0 ≡ Some (Entry' z) → y.specs ≡ z.declaration.attributes → y.values ≡ z.values
+              → read_in r.encoding.big_endian (expression_in r.encoding) (entry_layout r.encoding s look') (drop y.start.0 unit) ≡ Some (rs, rest)
               → EmitsAt (reads_refusal lists ps y.depth rs) (write_all r.encoding.big_endian (patch_all (new_value lists ps y.depth) rs)) out to b out₁) where
             entry_here : Here b out₁
             entry_here =
                 let w = next-entry r.encoding s look unit parents ends marks t g.stack y next i in
-                f (declared_in u.declared) w.it reads read_here.0.run.1 (step-here (Entry' w.it) w.here) w.specs w.values deep-here
+                f (declared_in u.declared) w.it reads read_here.0.run.1 (step-here (Some (Entry' w.it)) w.here) w.specs w.values deep-here
 
             pub writing-refused : (k : ℕ) → b ≡ Refused k → Whole out₀ (Refused k) out₁
             writing-refused = refused-here b out₁ entry_here
@@ -258,6 +258,6 @@ module _ (r : Reading) (s table unit parents ends marks : List ℕ) (first : ℕ
               let d = next-forward items parents ends marks unit t o a y q in
               let d1 : y.start.0 < y.end.at = d.1 in
               on-here (To to₁) out₁
-              (terminator-emits r.encoding s (declared_in u.declared) unit y.start.0 y.end.at (step-here (Terminator (cursor y.end.at)) w.here) reads read_here.0.run.1 deep-here
+              (terminator-emits r.encoding s (declared_in u.declared) unit y.start.0 y.end.at (step-here (Some (Terminator (cursor y.end.at))) w.here) reads read_here.0.run.1 deep-here
               lists ps y.depth out to (To to₁) out₁ (f (omega arith) d.2))
               to₁ refl

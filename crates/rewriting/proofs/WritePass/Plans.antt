@@ -15,17 +15,12 @@ use Rattle.readers.specs.EntryAttributes.{next_attribute}
 use Rattle.readers.proofs.EntryAttributes.{taken_none, taken_more, taken-last, taken-bad}
 use Rattle.readers.specs.declared.cursor.Encoding.{Encoding}
 use Rattle.readers.specs.declared.cursor.Cursor.{Cursor}
-use Rattle.readers.specs.declared.cursor.Moved.{Moved}
-use Rattle.readers.specs.declared.cursor.Moved.TheVariants.{To as Moved', Unreadable as Nowhere}
-use Rattle.readers.specs.declared.abbreviations.AttributeSpec.{AttributeSpec}
+use Rattle.std.specs.Prelude.{None, Option, Some}
 use Rattle.readers.specs.declared.abbreviations.SpecStep.{SpecStep}
-use Rattle.readers.specs.declared.abbreviations.SpecStep.TheVariants.{Attribute as Spec, Last as LastSpec, Unreadable as NoSpec}
+use Rattle.readers.specs.declared.abbreviations.AttributeSpec.{AttributeSpec}
+use Rattle.readers.specs.declared.abbreviations.SpecStep.TheVariants.{Attribute as Spec, Last as LastSpec}
 use Rattle.readers.specs.declared.attributes.Attribute.{Attribute}
-use Rattle.readers.specs.declared.attributes.AttributeRead.{AttributeRead}
-use Rattle.readers.specs.declared.attributes.AttributeRead.TheVariants.{Read as Attribute', Unreadable as NoAttribute}
 use Rattle.readers.specs.declared.entry_attributes.EntryAttribute.{EntryAttribute}
-use Rattle.readers.specs.declared.entry_attributes.NextAttribute.{NextAttribute}
-use Rattle.readers.specs.declared.entry_attributes.NextAttribute.TheVariants.{More, NoMore}
 use Rattle.rewriting.specs.Places.{Place}
 use Rattle.rewriting.specs.Rewriting.{Lists}
 use Rattle.rewriting.specs.Emission.{between}
@@ -37,42 +32,42 @@ use Rattle.rewriting.proofs.WritePass.Emissions.{EmitsAt}
 use Rattle.rewriting.proofs.WritePass.AttributeEmits.{attribute-whole}
 use Rattle.rewriting.proofs.WritePass.EntryEmits.{Entering, entering-less, entering-on}
 
-module _ (e : Encoding) (s : List ℕ) (p : ℕ) (unit : List ℕ) (at : ℕ) (r : SpecStep) (q : r ≡ spec_at s p) where
-  pub plan-last : (c : Cursor) → r ≡ LastSpec c → Planned (next_attribute e s p unit at) Over
+module _ (e : Encoding) (s : List ℕ) (p : ℕ) (unit : List ℕ) (at : ℕ) (r : Option SpecStep) (q : r ≡ spec_at s p) where
+  pub plan-last : (c : Cursor) → r ≡ Some (LastSpec c) → Planned (next_attribute e s p unit at) Over
   unfolding Planned
   plan-last c k = sym (taken-last e s p unit at r q c k)
 
-  pub plan-bad : r ≡ NoSpec → Planned (next_attribute e s p unit at) Over
+  pub plan-bad : r ≡ None → Planned (next_attribute e s p unit at) Over
   unfolding Planned
   plan-bad k = sym (taken-bad e s p unit at r q k)
 
-  module _ (a : AttributeSpec) (k : r ≡ Spec a) where
-    abbrev there : AttributeRead
+  module _ (a : AttributeSpec) (k : r ≡ Some (Spec a)) where
+    abbrev there : Option Attribute
     there = attribute_at e unit at a.name a.form
 
-    pub plan-none : (o : AttributeRead) → o ≡ there → o ≡ NoAttribute → Planned (next_attribute e s p unit at) Over
+    pub plan-none : (o : Option Attribute) → o ≡ there → o ≡ None → Planned (next_attribute e s p unit at) Over
     unfolding Planned
     plan-none o l h = sym (taken_none e s p unit at r q a k o l h)
 
-    pub plan-change : (o : AttributeRead) → o ≡ there → (v : Attribute) → o ≡ Attribute' v → (c : Cursor) → c ≡ cursor v.field.end
+    pub plan-change : (o : Option Attribute) → o ≡ there → (v : Attribute) → o ≡ Some v → (c : Cursor) → c ≡ cursor v.field.end
         → Planned (next_attribute e s p unit at) (Change (record { name = a.name; declared = a.form; value = v; next = a.next; values = c }))
     unfolding Planned
     plan-change o l v h c i = sym (taken_more e s p unit at r q a k o l v h c i)
 
     -- a value whose end alone is read
-    module _ (m : Moved) (l : m ≡ attribute_end there) where
-      plan-past : (o : AttributeRead) → there ≡ o → m ≡ Nowhere → Planned (next_attribute e s p unit at) Over
+    module _ (m : Option Cursor) (l : m ≡ attribute_end there) where
+      plan-past : (o : Option Attribute) → there ≡ o → m ≡ None → Planned (next_attribute e s p unit at) Over
       unfolding attribute_end
-      plan-past (Attribute' v) g h = let y : m ≡ Moved' (cursor v.field.end) = l ∙ ap attribute_end g in let z : ◌≡◌ {A = ℕ} 0 1 = cc in absurd (omega arith)
-      plan-past NoAttribute g h = plan-none there refl g
+      plan-past (Some v) g h = let y : m ≡ Some (cursor v.field.end) = l ∙ ap attribute_end g in let z : ◌≡◌ {A = ℕ} 0 1 = cc in absurd (omega arith)
+      plan-past None g h = plan-none there refl g
 
-      pub plan-nowhere : m ≡ Nowhere → Planned (next_attribute e s p unit at) Over
+      pub plan-nowhere : m ≡ None → Planned (next_attribute e s p unit at) Over
       plan-nowhere h = plan-past there refl h
 
-      plan-to : (past : Cursor) → Copies a.form → (o : AttributeRead) → there ≡ o → m ≡ Moved' past → Copied (next_attribute e s p unit at) past a.next
+      plan-to : (past : Cursor) → Copies a.form → (o : Option Attribute) → there ≡ o → m ≡ Some past → Copied (next_attribute e s p unit at) past a.next
       unfolding attribute_end
-      plan-to past c (Attribute' v) g h =
-          let y : m ≡ Moved' (cursor v.field.end) = l ∙ ap attribute_end g in
+      plan-to past c (Some v) g h =
+          let y : m ≡ Some (cursor v.field.end) = l ∙ ap attribute_end g in
           let i : cursor v.field.end ≡ past = cc in
           record {
             attribute = record { name = a.name; declared = a.form; value = v; next = a.next; values = cursor v.field.end };
@@ -82,9 +77,9 @@ module _ (e : Encoding) (s : List ℕ) (p : ℕ) (unit : List ℕ) (at : ℕ) (r
             next_is = refl;
             copies = c;
           }
-      plan-to past c NoAttribute g h = let y : m ≡ Nowhere = l ∙ ap attribute_end g in let z : ◌≡◌ {A = ℕ} 0 1 = cc in absurd (omega arith)
+      plan-to past c None g h = let y : m ≡ None = l ∙ ap attribute_end g in let z : ◌≡◌ {A = ℕ} 0 1 = cc in absurd (omega arith)
 
-      pub plan-copy : (b : Bool) → (b ≡ true → Copies a.form) → b ≡ true → (past : Cursor) → m ≡ Moved' past → Planned (next_attribute e s p unit at) (Copy past a.next)
+      pub plan-copy : (b : Bool) → (b ≡ true → Copies a.form) → b ≡ true → (past : Cursor) → m ≡ Some past → Planned (next_attribute e s p unit at) (Copy past a.next)
       unfolding Planned
       plan-copy b f t past h = plan-to past (f t) there refl h
 
@@ -117,12 +112,12 @@ module _ (e : Encoding) (abbreviations : List ℕ) (p : ℕ) (unit : List ℕ) (
 
 -- ---- as it is read
 
-module _ (y : NextAttribute) (r : Plan) (w : Planned y r) where
-  pub plan-over : r ≡ Over → NoMore ≡ y
+module _ (y : Option EntryAttribute) (r : Plan) (w : Planned y r) where
+  pub plan-over : r ≡ Over → None ≡ y
   unfolding Planned
   plan-over h = sym (subst (Planned y) h w)
 
-  pub plan-more : (a : EntryAttribute) → r ≡ Change a → More a ≡ y
+  pub plan-more : (a : EntryAttribute) → r ≡ Change a → Some a ≡ y
   unfolding Planned
   plan-more a h = sym (subst (Planned y) h w)
 

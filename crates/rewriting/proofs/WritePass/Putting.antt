@@ -25,8 +25,7 @@ use Rattle.readers.specs.References.{encoded_by}
 use Rattle.readers.specs.Cursors.{fixed_at}
 use Rattle.readers.proofs.Widths.{fixed-is}
 use Rattle.readers.specs.declared.cursor.Cursor.{Cursor}
-use Rattle.readers.specs.declared.cursor.Number.{Number}
-use Rattle.readers.specs.declared.cursor.Number.TheVariants.{Value, Unreadable}
+use Rattle.std.specs.Prelude.{None, Option, Some}
 
 -- ---- from the start of a part
 
@@ -391,12 +390,12 @@ put_first value width s after q h =
 
 -- ---- a big-endian number that is read
 
-module _ (w : ℕ) (s : List ℕ) (at : ℕ) (o : Number) (q : o ≡ fixed_at true w s at) where
-  pub read-value : (v : ℕ) (c : Cursor) → o ≡ Value v c → v ≡ number_there w s at
+module _ (w : ℕ) (s : List ℕ) (at : ℕ) (o : Option (ℕ × Cursor)) (q : o ≡ fixed_at true w s at) where
+  pub read-value : (v : ℕ) (c : Cursor) → o ≡ Some (v, c) → v ≡ number_there w s at
   unfolding number_there value_or
   read-value v c g = sym (ap value_or (sym q ∙ g))
 
-  pub read-nothing : o ≡ Unreadable → 0 ≡ number_there w s at
+  pub read-nothing : o ≡ None → 0 ≡ number_there w s at
   unfolding number_there value_or
   read-nothing g = sym (ap value_or (sym q ∙ g))
 

@@ -4,7 +4,7 @@ use mathlib.Core.Path.{◌≡◌, refl, ap, ap₂, sym, ◌∙◌, subst}
 use Prim.Native.Nat.{ℕ, suc, ◌+◌, ◌-◌, ◌≤◌, ◌<◌}
 use native.Mathlib.Omega.{arith}
 use mathlib.Core.Bool.{Bool, true, false, not}
-use mathlib.Core.Option.{Option, some}
+use Rattle.std.specs.Prelude.{None, Option, Some}
 use mathlib.Core.List.{List, [], ◌∷◌, ◌++◌, append_assoc}
 use mathlib.Core.Logic.{⊎_elim}
 use lib.ListN.{length, take, drop, length-append, length-drop, take-append-drop}
@@ -20,8 +20,6 @@ use Rattle.readers.specs.Expression.{expression_in}
 use Rattle.readers.specs.References.{Named, name_in, names_in, encoded_by, flat_from, next_reference}
 use Rattle.readers.specs.declared.cursor.Encoding.{Encoding}
 use Rattle.readers.specs.declared.expressions.Reference.{Reference}
-use Rattle.readers.specs.declared.expressions.Yield.{Yield}
-use Rattle.readers.specs.declared.expressions.Yield.TheVariants.{Reference as Yielded, End}
 use Rattle.readers.proofs.Yields.{flat_by, flat-next, next-wide, yields-all}
 use Rattle.rewriting.specs.Places.{Place, new_of}
 use Rattle.rewriting.specs.Inner.Written.{as_mapped}
@@ -254,7 +252,7 @@ pub record Going (lists : Lists) (map : List Place) (depth : ℕ) (pieces : List
       → EmitsAt (pieces_refusal lists map depth pieces) (bytes_of e.big_endian (patch_pieces (new_value lists map depth) pieces)) out₀ at r out'
 
 module _ (lists : Lists) (map : List Place) (depth : ℕ) (pieces : List Piece) (e : Encoding) (s out₀ : List ℕ) (at : ℕ) where
-  pub going_start : T (are_bytes s) → expression_in e s ≡ some pieces → Going lists map depth pieces e s out₀ at out₀ 0 0 at
+  pub going_start : T (are_bytes s) → expression_in e s ≡ Some pieces → Going lists map depth pieces e s out₀ at out₀ 0 0 at
   going_start b q =
       let big : Bool = e.big_endian in
       let x : Exactly big in_expression s pieces = all_of (Exactly big in_expression s) (expression-exactly e s b) q in
@@ -271,12 +269,12 @@ module _ (lists : Lists) (map : List Place) (depth : ℕ) (pieces : List Piece) 
             h;
       }
 
-  module _ (out : List ℕ) (from verbatim to : ℕ) (g : Going lists map depth pieces e s out₀ at out from verbatim to) (y : Yield) (q : y ≡ next_reference e s from) where
-    none_left : y ≡ End → flat_from e s from ≡ []
+  module _ (out : List ℕ) (from verbatim to : ℕ) (g : Going lists map depth pieces e s out₀ at out from verbatim to) (y : Option Reference) (q : y ≡ next_reference e s from) where
+    none_left : y ≡ None → flat_from e s from ≡ []
     unfolding flat_by
     none_left p = flat-next e s from ∙ ap (flat_by e s) (sym q ∙ p)
 
-    pub going_end : y ≡ End → (to' : ℕ) (out' : List ℕ)
+    pub going_end : y ≡ None → (to' : ℕ) (out' : List ℕ)
         → (verbatim ≤ length s → length s ≤ length s → EmitsAt 0 (between s verbatim (length s)) out to (To to') out')
         → EmitsAt (pieces_refusal lists map depth pieces) (bytes_of e.big_endian (patch_pieces (new_value lists map depth) pieces)) out₀ at (To to') out'
     unfolding InOrder names_refusal splice between
@@ -286,7 +284,7 @@ module _ (lists : Lists) (map : List Place) (depth : ℕ) (pieces : List Piece) 
         g.onward (To to') out'
         (emits-as (ap (names_refusal lists map depth) (sym n)) (take_all (length s - verbatim) (drop verbatim s) (omega (arith, length-drop verbatim s)) ∙ ap (splice lists map depth e.big_endian s verbatim) (sym n)) (f c (omega arith)))
 
-    module _ (r : Reference) (p : y ≡ Yielded r) where
+    module _ (r : Reference) (p : y ≡ Some r) where
       abbrev code : Encoded
       code = encoded_by r.leb r.width
 

@@ -4,7 +4,7 @@ use Prim.Native.Nat.{ℕ, ◌+◌, ◌-◌, ◌*◌, ◌/◌, ◌^◌, ◌≤◌
 use native.Mathlib.Omega.{arith}
 use mathlib.Core.Bool.{true}
 use mathlib.Core.List.{List, [], ◌∷◌, ◌++◌, append_assoc}
-use mathlib.Core.Option.{Option, none, some}
+use Rattle.std.specs.Prelude.{None, Option, Some}
 use mathlib.Core.Logic.{⊎_elim}
 use lib.ListN.{length, take, drop, length-append}
 use lib.Seq.{take_at, drop-append-add}
@@ -71,7 +71,7 @@ module _ (x : Sections) (u : Unit') (lists : Lists) (places : List Place) where
       let at : ℕ = offset_of s.item in
       let rs : List Read = reads_at x u at in
       let f : Patch = new_value lists places s.depth in
-      let q : deep_at x u at ≡ some (rs, d.run.1) = d.is ∙ ap (λ (ys : List Read). some (ys, d.run.1)) (sym (reads_of at d)) in
+      let q : deep_at x u at ≡ Some (rs, d.run.1) = d.is ∙ ap (λ (ys : List Read). Some (ys, d.run.1)) (sym (reads_of at d)) in
       like-width e.big_endian (patch_all f rs) rs (like-patched e.big_endian f rs)
       ∙ size-of e x.abbreviations (declared_in u.declared) u.bytes s.item _ t
       (deep-ends e x.abbreviations (declared_in u.declared) (expression_in e) (expression-law e) u.bytes at rs d.run.1 q)
@@ -107,10 +107,10 @@ out-is front body out out₁ out₂ first l z p q =
 
 lent-count : (o : Option (List ℕ)) (list : List ℕ) (c : ListCount) → Lent o list c → c ≡ list_count o
 unfolding Lent list_count
-lent-count none list Absent h = refl
-lent-count none list (Present n) h = absurd h
-lent-count (some xs) list Absent h = absurd h
-lent-count (some xs) list (Present n) h = ap (λ (k : ℕ). Present k) h.1
+lent-count None list Absent h = refl
+lent-count None list (Present n) h = absurd h
+lent-count (Some xs) list Absent h = absurd h
+lent-count (Some xs) list (Present n) h = ap (λ (k : ℕ). Present k) h.1
 
 write-refused : (c : Collected) (k map out : ℕ) (map' out' : List ℕ) → c ≡ refused k → WriteAnswer c (Refused k) map out map' out'
 unfolding answer_for Accepts

@@ -3,7 +3,7 @@ use mathlib.Core.Path.{◌≡◌, refl, ap, ap₂, sym, ◌∙◌, subst}
 use Prim.Native.Nat.{ℕ, suc, ◌+◌, ◌-◌, ◌≤◌}
 use native.Mathlib.Omega.{arith}
 use mathlib.Core.Bool.{Bool, false}
-use mathlib.Core.Option.{Option, some}
+use Rattle.std.specs.Prelude.{Option, Some}
 use mathlib.Core.List.{List, [], ◌∷◌, ◌++◌, append_assoc, append-nil}
 use lib.ListN.{length, take, drop, length-append}
 use lib.Seq.{length-take-le, take_at, drop-drop}
@@ -21,7 +21,6 @@ use Rattle.readers.specs.Forms.{value_token}
 use Rattle.readers.specs.Fields.{linked_value, size, field_of, as_field, token_at}
 use Rattle.readers.specs.declared.cursor.Encoding.{Encoding}
 use Rattle.readers.specs.declared.fields.Field.{Field}
-use Rattle.readers.specs.declared.fields.FieldRead.TheVariants.{Read as Field'}
 use Rattle.readers.specs.declared.attributes.Attribute.{Attribute}
 use Rattle.readers.proofs.OperationPieces.{is_leb, is_expression}
 use Rattle.readers.proofs.Deep.{plain-token}
@@ -110,11 +109,11 @@ link-read e kind role s h =
 
 record ExpressionRead (e : Encoding) (s : List ℕ) (r : ReadOf) : Type 0 where
   pub t : Groups
-  pub there : uleb s ≡ some t
+  pub there : uleb s ≡ Some t
   pub law : LebLaw uleb s t
   pub fits_in : t.1 ≤ length t.2
   pub pieces : List Piece
-  pub inner : expression_in e (take t.1 t.2) ≡ some pieces
+  pub inner : expression_in e (take t.1 t.2) ≡ Some pieces
   pub is : r.0 ≡ record { seen = 0; start = suc t.0; pieces = verbatim (take (suc t.0) s) ∷ pieces }
 
 expression-read : (e : Encoding) (s : List ℕ) → All (ExpressionRead e s) (token_in e.big_endian (expression_in e) expression s)
@@ -129,7 +128,7 @@ as-bytes-exact : (big : Bool) (ok : Role → Bool) → ExactReader big ok as_byt
 unfolding as_bytes bytes_of piece_bytes Rights Right
 as-bytes-exact big ok s h = all-some (Exactly big ok s) (append-nil s, (tt, tt))
 
-field_is : (big : Bool) (o : ℕ) (r : ReadOf) (f : Field) → as_field big o (some r) ≡ Field' f → field_of big o r.0 ≡ f
+field_is : (big : Bool) (o : ℕ) (r : ReadOf) (f : Field) → as_field big o (Some r) ≡ Some f → field_of big o r.0 ≡ f
 unfolding as_field
 field_is big o r f h = cc
 
@@ -149,10 +148,10 @@ module _ (e : Encoding) (unit : List ℕ) (values name : ℕ) (value : Attribute
   known : value_token e w.indirect name f ≡ form_number_is e name f
   known = token-known e w.indirect name f big (expression_in e) there (w.v, w.rest) w.deep
 
-  deeply : token_in big (expression_in e) (form_number_is e name f) there ≡ some (w.v, w.rest)
+  deeply : token_in big (expression_in e) (form_number_is e name f) there ≡ Some (w.v, w.rest)
   deeply = ap (λ g. token_in big (expression_in e) g there) (sym known) ∙ w.deep
 
-  shallowly : as_field big w.o (token_in big as_bytes (form_number_is e name f) there) ≡ Field' value.field
+  shallowly : as_field big w.o (token_in big as_bytes (form_number_is e name f) there) ≡ Some value.field
   unfolding token_at
   shallowly = ap (λ g. as_field big w.o (token_in big as_bytes g there)) (sym known) ∙ w.shallow
 
@@ -231,7 +230,7 @@ module _ (e : Encoding) (unit : List ℕ) (values name : ℕ) (value : Attribute
       abbrev bytes_read : Read
       bytes_read = record { seen = 0; start = k; pieces = verbatim (take k there) ∷ verbatim (take m read_of.t.2) ∷ [] }
 
-      as-bytes-read : token_in big as_bytes expression there ≡ some (bytes_read, drop m read_of.t.2)
+      as-bytes-read : token_in big as_bytes expression there ≡ Some (bytes_read, drop m read_of.t.2)
       unfolding token_in as_expression as_bytes bind
       as-bytes-read = bind-at _ read_of.there ∙ check-yes _ _ (yes_leb {a = m} {b = length read_of.t.2} read_of.fits_in)
 
@@ -264,7 +263,7 @@ module _ (e : Encoding) (unit : List ℕ) (values name : ℕ) (value : Attribute
       its-pieces = ap (λ (y : Read). y.pieces) read_of.is
 
       pub expression-emits : (part : List ℕ) → part ≡ part_of unit value.field → (r : Emitted) (out₂ : List ℕ)
-          → ((pieces : List Piece) → expression_in e part ≡ some pieces → EmitsAt (pieces_refusal lists map depth pieces) (bytes_of big (patch_pieces (new_value lists map depth) pieces)) out₁ to r out₂)
+          → ((pieces : List Piece) → expression_in e part ≡ Some pieces → EmitsAt (pieces_refusal lists map depth pieces) (bytes_of big (patch_pieces (new_value lists map depth) pieces)) out₁ to r out₂)
           → Whole r out₂
       unfolding bytes_of piece_bytes patch_pieces patch_piece
       expression-emits part p r out₂ h =

@@ -3,7 +3,8 @@ use mathlib.Core.Path.{◌≡◌, refl, ap, ap₂, sym, ◌∙◌, subst}
 use Prim.Native.Nat.{ℕ, ◌+◌, ◌-◌, ◌≤◌}
 use native.Mathlib.Omega.{arith}
 use mathlib.Core.Bool.{Bool, true, false}
-use mathlib.Core.Option.{some}
+use Rattle.std.specs.Prelude.{None, Option, Some}
+use Rattle.readers.specs.declared.fields.Field.{Field}
 use mathlib.Core.List.{List, [], ◌∷◌, ◌++◌, append-nil}
 use mathlib.Core.Logic.{⊎_elim}
 use lib.ListN.{length, take, drop, length-drop}
@@ -20,10 +21,7 @@ use Rattle.readers.specs.Cursors.{as_form_number, forms_at}
 use Rattle.readers.specs.Fields.{token_at}
 use Rattle.readers.specs.Entries.{attribute_at}
 use Rattle.readers.specs.declared.cursor.Encoding.{Encoding}
-use Rattle.readers.specs.declared.fields.FieldRead.{FieldRead}
-use Rattle.readers.specs.declared.fields.FieldRead.TheVariants.{Read as Field', Unreadable as NoField}
 use Rattle.readers.specs.declared.attributes.Attribute.{Attribute}
-use Rattle.readers.specs.declared.attributes.AttributeRead.TheVariants.{Read as Attribute'}
 use Rattle.readers.proofs.Values.{valued, behind_forms, attribute-direct, attribute-indirect}
 use Rattle.rewriting.specs.Places.{Place}
 use Rattle.rewriting.specs.Rewriting.{Lists, piece_refusal, pieces_refusal, reads_refusal, or_next}
@@ -71,12 +69,12 @@ copied-written big f c l h rs =
 
 -- ---- values
 
-valued-form : (form : ℕ) (r : FieldRead) (v : Attribute) → valued form r ≡ Attribute' v → (r ≡ Field' v.field) × (form ≡ v.form)
+valued-form : (form : ℕ) (r : Option Field) (v : Attribute) → valued form r ≡ Some v → (r ≡ Some v.field) × (form ≡ v.form)
 unfolding valued
-valued-form form (Field' f) v g =
+valued-form form (Some f) v g =
     let z : record { form = form; field = f } ≡ v = cc in
-    (ap (λ (a : Attribute). Field' a.field) z, ap (λ (a : Attribute). a.form) z)
-valued-form form NoField v g = let z : ◌≡◌ {A = ℕ} 0 1 = cc in absurd (omega arith)
+    (ap (λ (a : Attribute). Some a.field) z, ap (λ (a : Attribute). a.form) z)
+valued-form form None v g = let z : ◌≡◌ {A = ℕ} 0 1 = cc in absurd (omega arith)
 
 -- how a value was read: from o on, after form numbers where it is indirect
 pub record Value (e : Encoding) (unit : List ℕ) (values name : ℕ) (value : Attribute) (rs : List Read) : Type 0 where
@@ -88,11 +86,11 @@ pub record Value (e : Encoding) (unit : List ℕ) (values name : ℕ) (value : A
   pub inside : o ≤ length unit
   pub written : (f : Patch) → write_all e.big_endian (patch_all f rs) ≡ between unit values o ++ bytes_of e.big_endian (patch_pieces f v.pieces)
   pub refused : (lists : Lists) (map : List Place) (depth : ℕ) → reads_refusal lists map depth rs ≡ pieces_refusal lists map depth v.pieces
-  pub deep : token_in e.big_endian (expression_in e) (value_token e indirect name value.form) (drop o unit) ≡ some (v, rest)
-  pub shallow : token_at e unit o (value_token e indirect name value.form) ≡ Field' value.field
+  pub deep : token_in e.big_endian (expression_in e) (value_token e indirect name value.form) (drop o unit) ≡ Some (v, rest)
+  pub shallow : token_at e unit o (value_token e indirect name value.form) ≡ Some value.field
 
 module _ (e : Encoding) (unit : List ℕ) (values name declared : ℕ) (value : Attribute) (i : values ≤ length unit)
-    (attribute : attribute_at e unit values name declared ≡ Attribute' value) where
+    (attribute : attribute_at e unit values name declared ≡ Some value) where
   abbrev big : Bool
   big = e.big_endian
 
@@ -102,10 +100,10 @@ module _ (e : Encoding) (unit : List ℕ) (values name declared : ℕ) (value : 
   abbrev Shape : RunOf → Type 0
   Shape r = Value e unit values name value r.0
 
-  direct-value : (declared ≡ 0x16 → ⊥) → (r : ReadOf) → token_in big ex (value_token e false name declared) (drop values unit) ≡ some r
+  direct-value : (declared ≡ 0x16 → ⊥) → (r : ReadOf) → token_in big ex (value_token e false name declared) (drop values unit) ≡ Some r
       → Value e unit values name value (r.0 ∷ [])
   direct-value d r q =
-      let g : (token_at e unit values (value_token e false name declared) ≡ Field' value.field) × (declared ≡ value.form) =
+      let g : (token_at e unit values (value_token e false name declared) ≡ Some value.field) × (declared ≡ value.form) =
       valued-form declared _ value (sym (attribute-direct e unit values name declared d) ∙ attribute) in
       record {
         indirect = false;
@@ -129,13 +127,13 @@ module _ (e : Encoding) (unit : List ℕ) (values name declared : ℕ) (value : 
       all-bind _ Shape (token_in big ex (value_token e false name declared) (drop values unit)) _ (all-triv _)
       (λ r q _. all-some Shape (direct-value d r q))
 
-  indirect-value : declared ≡ 0x16 → (t : ℕ × ℕ) → forms_in (drop values unit) ≡ some t → FormsLaw (drop values unit) t → (r : ReadOf)
-      → token_in big ex (value_token e true name t.1) (drop t.0 (drop values unit)) ≡ some r
+  indirect-value : declared ≡ 0x16 → (t : ℕ × ℕ) → forms_in (drop values unit) ≡ Some t → FormsLaw (drop values unit) t → (r : ReadOf)
+      → token_in big ex (value_token e true name t.1) (drop t.0 (drop values unit)) ≡ Some r
       → Value e unit values name value ((copy t.1 0 t.0 (drop values unit)).0 ∷ r.0 ∷ [])
   unfolding forms_at as_form_number behind_forms copy
   indirect-value d t k law r q =
       let n : t.0 ≤ length (drop values unit) = law.0 in
-      let g : (token_at e unit (values + t.0) (value_token e true name t.1) ≡ Field' value.field) × (t.1 ≡ value.form) =
+      let g : (token_at e unit (values + t.0) (value_token e true name t.1) ≡ Some value.field) × (t.1 ≡ value.form) =
       valued-form t.1 _ value
       (sym (attribute-indirect e unit values name declared d ∙ ap (λ z. behind_forms e unit values name declared (as_form_number values z)) k) ∙ attribute) in
       record {
@@ -158,19 +156,19 @@ module _ (e : Encoding) (unit : List ℕ) (values name declared : ℕ) (value : 
   indirect-all : declared ≡ 0x16 → All Shape (read_in big ex (field forms (λ g. field (value_token e true name g) (λ _. done))) (drop values unit))
   unfolding read_in token_in bind before as_forms copy
   indirect-all d =
-      all-bind (λ (r : ReadOf). (t : ℕ × ℕ) × ((forms_in (drop values unit) ≡ some t) × FormsLaw (drop values unit) t × (r ≡ copy t.1 0 t.0 (drop values unit)))) Shape
+      all-bind (λ (r : ReadOf). (t : ℕ × ℕ) × ((forms_in (drop values unit) ≡ Some t) × FormsLaw (drop values unit) t × (r ≡ copy t.1 0 t.0 (drop values unit)))) Shape
       (bind (forms_in (drop values unit)) (as_forms (drop values unit))) _
       (all-bind (FormsLaw (drop values unit)) _ (forms_in (drop values unit)) _ (forms-law (drop values unit)) (λ t k law. all-some _ (t, (k, law, refl))))
       (λ f q h.
       all-bind _ Shape (read_in big ex (field (value_token e true name f.0.seen) (λ _. done)) f.1) _
-      (all-bind (λ _. Unit {0}) (λ (z : RunOf). (r : ReadOf) × ((token_in big ex (value_token e true name f.0.seen) f.1 ≡ some r) × (z.0 ≡ r.0 ∷ [])))
+      (all-bind (λ _. Unit {0}) (λ (z : RunOf). (r : ReadOf) × ((token_in big ex (value_token e true name f.0.seen) f.1 ≡ Some r) × (z.0 ≡ r.0 ∷ [])))
       (token_in big ex (value_token e true name f.0.seen) f.1) _ (all-triv _) (λ r k _. all-some _ (r, (k, refl))))
       (λ z k y. all-some Shape
       (subst (λ (l : List Read). Value e unit values name value (f.0 ∷ l)) (sym y.1.1)
       (subst (λ (g : ReadOf). Value e unit values name value (g.0 ∷ y.0.0 ∷ [])) (sym h.1.2)
-      (indirect-value d h.0 h.1.0 h.1.1 y.0 (subst (λ (g : ReadOf). token_in big ex (value_token e true name g.0.seen) g.1 ≡ some y.0) h.1.2 y.1.0))))))
+      (indirect-value d h.0 h.1.0 h.1.1 y.0 (subst (λ (g : ReadOf). token_in big ex (value_token e true name g.0.seen) g.1 ≡ Some y.0) h.1.2 y.1.0))))))
 
-  pub value_of : (rs : List Read) (rest : List ℕ) → read_in big ex (attribute_layout e name declared) (drop values unit) ≡ some (rs, rest) → Value e unit values name value rs
+  pub value_of : (rs : List Read) (rest : List ℕ) → read_in big ex (attribute_layout e name declared) (drop values unit) ≡ Some (rs, rest) → Value e unit values name value rs
   unfolding attribute_layout
   value_of rs rest q =
       ⊎_elim

@@ -18,13 +18,9 @@ use Rattle.readers.specs.References.{named, named_type, reference_of, next_refer
 use Rattle.readers.specs.declared.cursor.Encoding.{Encoding}
 use Rattle.readers.specs.declared.cursor.Cursor.{Cursor}
 use Rattle.readers.specs.declared.fields.Field.{Field}
-use Rattle.readers.specs.declared.fields.FieldRead.TheVariants.{Read as Field'}
+use Rattle.std.specs.Prelude.{None, Option, Some}
 use Rattle.readers.specs.declared.operations.Operation.{Operation}
-use Rattle.readers.specs.declared.operations.OperationRead.{OperationRead}
-use Rattle.readers.specs.declared.operations.OperationRead.TheVariants.{Read as Operation', Unreadable as NoOperation}
 use Rattle.readers.specs.declared.expressions.Reference.{Reference}
-use Rattle.readers.specs.declared.expressions.Yield.{Yield}
-use Rattle.readers.specs.declared.expressions.Yield.TheVariants.{Reference as Yielded, End}
 use Rattle.readers.proofs.OperationReads.{OperationHeld, token2, token-took, first-from, past, operation-held, operation-inside}
 use Rattle.readers.proofs.Tokens.{Inside, token-inside}
 use Rattle.readers.proofs.Yields.{next-end, next-none, next-entry, next-own, next-pass}
@@ -33,14 +29,14 @@ module _ (e : Encoding) (s : List ℕ) where
   abbrev big : Bool
   big = e.big_endian
 
-  unfoldable Placed : ℕ → Yield → Type 0
-  Placed at (Yielded r) = (at ≤ r.place) × (r.place + r.width ≤ r.next.at) × (r.next.at ≤ length s)
-  Placed at End = Unit {0}
+  unfoldable Placed : ℕ → Option Reference → Type 0
+  Placed at (Some r) = (at ≤ r.place) × (r.place + r.width ≤ r.next.at) × (r.next.at ≤ length s)
+  Placed at None = Unit {0}
 
-  placed-from : (at n : ℕ) (y : Yield) → at ≤ n → Placed n y → Placed at y
+  placed-from : (at n : ℕ) (y : Option Reference) → at ≤ n → Placed n y → Placed at y
   unfolding Placed
-  placed-from at n (Yielded r) h p = let k : n ≤ r.place = p.0 in (omega arith, p.1, p.2)
-  placed-from at n End h p = tt
+  placed-from at n (Some r) h p = let k : n ≤ r.place = p.0 in (omega arith, p.1, p.2)
+  placed-from at n None h p = tt
 
   -- a field of an operation
   abbrev FieldIn : ℕ → Field → Cursor → Type 0
@@ -63,7 +59,7 @@ module _ (e : Encoding) (s : List ℕ) where
       pick-either (Placed at) _ _ _ (λ _. type-in at op.second op.next g) (λ _.
       pick-either (Placed at) _ _ _ (λ _. type-in at op.first op.next f) (λ _. tt)))))
 
-  module _ (at : ℕ) (op : Operation) (q : operation_at e s at ≡ Operation' op) where
+  module _ (at : ℕ) (op : Operation) (q : operation_at e s at ≡ Some op) where
     held : OperationHeld e (drop at s) at op
     held = operation-held e s at op q
 
@@ -78,12 +74,12 @@ module _ (e : Encoding) (s : List ℕ) where
         ap (λ (o : Operation). o.second) held.made
         ∙ ap (λ n. field_of big n held.b) (let z : at + size big held.c + size big held.a ≡ at + before = omega arith in z)
 
-    second-read : token_at e s (at + before) (token2 e (operation_row held.c.seen)) ≡ Field' op.second
+    second-read : token_at e s (at + before) (token2 e (operation_row held.c.seen)) ≡ Some op.second
     unfolding token_at as_field
     second-read =
         ap (λ (x : List ℕ). as_field big (at + before) (token_in big as_bytes (token2 e (operation_row held.c.seen)) x)) (sym (drop-drop before at s) ∙ sym took.1)
         ∙ ap (as_field big (at + before)) held.second
-        ∙ ap Field' (sym second_at)
+        ∙ ap Some (sym second_at)
 
     second-in : FieldIn at op.second op.next
     unfolding field_of
@@ -100,14 +96,14 @@ module _ (e : Encoding) (s : List ℕ) where
         let a : at < op.first.start = w.2 in
         (omega arith, w.3, w.4, w.1)
 
-  placed-own : (at : ℕ) (y : Yield) → Placed at y → (z : Yield) → (y ≡ End → Placed at z) → ((r : Reference) → y ≡ Yielded r → z ≡ Yielded r) → Placed at z
-  placed-own at End w z f h = f refl
-  placed-own at (Yielded r) w z f h = subst (Placed at) (sym (h r refl)) w
+  placed-own : (at : ℕ) (y : Option Reference) → Placed at y → (z : Option Reference) → (y ≡ None → Placed at z) → ((r : Reference) → y ≡ Some r → z ≡ Some r) → Placed at z
+  placed-own at None w z f h = f refl
+  placed-own at (Some r) w z f h = subst (Placed at) (sym (h r refl)) w
 
-  placed-operation : (at : ℕ) → at < length s → ((n : ℕ) → at < n → Placed n (next_reference e s n)) → (o : OperationRead) → operation_at e s at ≡ o → Placed at (next_reference e s at)
+  placed-operation : (at : ℕ) → at < length s → ((n : ℕ) → at < n → Placed n (next_reference e s n)) → (o : Option Operation) → operation_at e s at ≡ o → Placed at (next_reference e s at)
   unfolding Placed
-  placed-operation at l ih NoOperation q = subst (Placed at) (sym (next-none e s at l q)) tt
-  placed-operation at l ih (Operation' op) q =
+  placed-operation at l ih None q = subst (Placed at) (sym (next-none e s at l q)) tt
+  placed-operation at l ih (Some op) q =
       let i : (at < op.next.at) × (op.next.at ≤ length s) × (at < op.first.start) × (op.first.start ≤ op.first.end) × (op.first.end ≤ op.next.at) = operation-inside e s at op q in
       let lo : at < op.next.at = i.0 in
       let fo : at < op.first.start = i.2 in
@@ -127,12 +123,12 @@ module _ (e : Encoding) (s : List ℕ) where
       (λ t. let l : length s ≤ at = ltb_no t in subst (Placed at) (sym (next-end e s at l)) tt)
       (either (ltb at (length s)))
 
-  pub next-placed : (at : ℕ) (y : Yield) → y ≡ next_reference e s at → (r : Reference) → y ≡ Yielded r
+  pub next-placed : (at : ℕ) (y : Option Reference) → y ≡ next_reference e s at → (r : Reference) → y ≡ Some r
       → (at ≤ r.place) × (r.place + r.width ≤ r.next.at) × (r.next.at ≤ length s)
   unfolding Placed
   next-placed at y q r p = subst (Placed at) (sym q ∙ p) (placed-within (length s - at) at (omega arith))
 
-  pub next_small : (at : ℕ) (y : Yield) → y ≡ next_reference e s at → (r : Reference) → y ≡ Yielded r → length s < 2 ^ 64 → r.place + r.width < 2 ^ 64
+  pub next_small : (at : ℕ) (y : Option Reference) → y ≡ next_reference e s at → (r : Reference) → y ≡ Some r → length s < 2 ^ 64 → r.place + r.width < 2 ^ 64
   next_small at y q r p l =
       let i : (at ≤ r.place) × (r.place + r.width ≤ r.next.at) × (r.next.at ≤ length s) = next-placed at y q r p in
       let a : r.place + r.width ≤ r.next.at = i.1 in

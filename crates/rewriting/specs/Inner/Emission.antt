@@ -1,6 +1,5 @@
 -- What the parts of emission answer and leave, and the lists that they are lent.
-use Rattle.std.specs.Prelude.{◌≡◌, ℕ, ◌+◌, ◌≤◌, ◌<◌, Bool, true, false, List, ◌++◌, length, drop, eqb}
-use Rattle.std.proofs.Math.Option.{Option, none, some}
+use Rattle.std.specs.Prelude.{◌≡◌, ℕ, ◌+◌, ◌≤◌, ◌<◌, Bool, true, false, List, ◌++◌, length, drop, eqb, None, Option, Some}
 use Rattle.readers.specs.Choice.{pick, ◌or◌}
 use Rattle.readers.specs.Codes.{DW_FORM_GNU_str_index, DW_FORM_loclistx, DW_FORM_ref_udata, DW_FORM_rnglistx, DW_FORM_strx}
 use Rattle.readers.specs.Layout.{Encoded, fits}
@@ -53,10 +52,10 @@ leb_form f = eqb f DW_FORM_ref_udata or eqb f DW_FORM_strx or eqb f DW_FORM_locl
 
 -- an absent list, or the numbers of one that is there
 unfoldable pub Lent : Option (List ℕ) → List ℕ → ListCount → Type 0
-Lent none list Absent = Unit {0}
-Lent none list (Present n) = ⊥
-Lent (some xs) list Absent = ⊥
-Lent (some xs) list (Present n) = ListHeld xs list × (n ≡ length xs)
+Lent None list Absent = Unit {0}
+Lent None list (Present n) = ⊥
+Lent (Some xs) list Absent = ⊥
+Lent (Some xs) list (Present n) = ListHeld xs list × (n ≡ length xs)
 
 -- the three lists of a rewriting
 pub record ListsLent (lists : Lists) (ranges : List ℕ) (ranges' : ListCount) (locations : List ℕ) (locations' : ListCount)

@@ -1,6 +1,5 @@
 -- What the functions of the index lists answer.
-use Rattle.std.specs.Prelude.{◌≡◌, ℕ, Bool, false, List, [], ◌∷◌, ◌++◌, length, drop, eqb}
-use Rattle.std.proofs.Math.Option.{Option, none, some}
+use Rattle.std.specs.Prelude.{◌≡◌, ℕ, Bool, false, List, [], ◌∷◌, ◌++◌, length, drop, eqb, None, Option, Some}
 use Rattle.readers.specs.Choice.{pick, zeros}
 use Rattle.readers.specs.Layout.{RunOf, read_in}
 use Rattle.readers.specs.Expression.{expression_in}
@@ -49,7 +48,7 @@ pub record ReadAs (x : Sections) (u : Unit') (r : Reading) (abbreviations unit :
   pub abbreviations_are : x.abbreviations ≡ abbreviations
   pub bytes_are : u.bytes ≡ unit
   pub encoding_is : u.header.encoding ≡ r.encoding
-  pub declared_are : abbreviations_of abbreviations r.from ≡ some u.declared
+  pub declared_are : abbreviations_of abbreviations r.from ≡ Some u.declared
 
 -- its declarations are found as the code finds them
 abbrev pub TablesFound : Unit' → Reading → List ℕ → List ℕ → Type 0
@@ -61,7 +60,7 @@ module _ (x : Sections) (u : Unit') where
     pub run : RunOf
     pub is : read_in u.header.encoding.big_endian (expression_in u.header.encoding)
         (entry_layout u.header.encoding x.abbreviations (declared_in u.declared)) (drop at u.bytes)
-        ≡ some run
+        ≡ Some run
 
   unfoldable pub AllRead : List NestedItem → Type 0
   AllRead [] = Unit {0}
@@ -98,14 +97,14 @@ unfoldable pub is_absent : Sections → Unit' → ℕ → List Item → Bool
 is_absent x u name items = pick (eqb name 0) false (any_declares x u name items)
 
 unfoldable pub ListAnswer : Option (List ℕ) → List ℕ → ListCount → List ℕ → Type 0
-ListAnswer none list Absent after = after ≡ list
-ListAnswer none list (Present n) after = ⊥
-ListAnswer (some ys) list Absent after = ⊥
-ListAnswer (some ys) list (Present n) after = Filled ys list n after
+ListAnswer None list Absent after = after ≡ list
+ListAnswer None list (Present n) after = ⊥
+ListAnswer (Some ys) list Absent after = ⊥
+ListAnswer (Some ys) list (Present n) after = Filled ys list n after
 
 -- what is answered for a list that was gathered into zeros: absent, and zeros again, or its count
 abbrev pub Settles : Reading → List ℕ → List ℕ → List ℕ → ℕ → ℕ → ℕ → List ℕ → ListCount → List ℕ → Type 0
 Settles r abbreviations table unit first name count list c after =
     (x : Sections) (u : Unit') (ys list₀ : List ℕ) → ReadAs x u r abbreviations unit → TablesFound u r abbreviations table
     → list₀ ≡ zeros (length list) → Filled ys list₀ count list
-    → ListAnswer (pick (is_absent x u name (items_by r abbreviations table unit first)) none (some ys)) list₀ c after
+    → ListAnswer (pick (is_absent x u name (items_by r abbreviations table unit first)) None (Some ys)) list₀ c after

@@ -1,12 +1,9 @@
 -- What the parts of collect answer, and what they leave in the lent slices: after a refusal nothing is said of these.
-use Rattle.std.specs.Prelude.{◌≡◌, ℕ, ◌+◌, ◌/◌, ◌^◌, ◌≤◌, ◌<◌, Bool, true, false, List, [], ◌⊎◌, length, eqb}
-use Rattle.std.proofs.Math.Option.{some}
+use Rattle.std.specs.Prelude.{◌≡◌, ℕ, ◌+◌, ◌/◌, ◌^◌, ◌≤◌, ◌<◌, Bool, true, false, List, [], ◌⊎◌, length, eqb, Err, None, Ok, Option, Result, Some}
 use Rattle.readers.specs.Choice.{pick, zeros}
 use Rattle.readers.specs.Abbreviations.{Placed, abbreviations_of, index_of}
 use Rattle.readers.specs.Header.{length_size, header_of}
 use Rattle.readers.specs.declared.header.UnitHeader.{UnitHeader}
-use Rattle.readers.specs.declared.header.HeaderRead.{HeaderRead}
-use Rattle.readers.specs.declared.header.HeaderRead.TheVariants.{Unit as Header', Empty, Refused as NoHeader}
 use Rattle.marking.specs.Analysis.{Sections, Rooms, rooms, EntryRow, analysed, header_by, analysis_of}
 use Rattle.marking.specs.Columns.{pad_to, column, parents_in, index_after}
 use Rattle.marking.specs.Marks.{kept_count}
@@ -52,12 +49,12 @@ left_by (Refused n) s = zeros (length s)
 
 -- ---- what is to be done once the entries are marked
 
-unfoldable pub header_task : HeaderRead → ℕ → ℕ → Task
-header_task Empty entries kept = Done (answer_for (untouched 0 no_lists))
-header_task (NoHeader n) entries kept = Done (Refused n)
-header_task (Header' h) entries kept = Rewrite h entries kept
+unfoldable pub header_task : Result (Option UnitHeader) ℕ → ℕ → ℕ → Task
+header_task (Ok None) entries kept = Done (answer_for (untouched 0 no_lists))
+header_task (Err n) entries kept = Done (Refused n)
+header_task (Ok (Some h)) entries kept = Rewrite h entries kept
 
-unfoldable pub task_of : HeaderRead → UnitMarks → Task
+unfoldable pub task_of : Result (Option UnitHeader) ℕ → UnitMarks → Task
 task_of o (NotMarked n) = Done (Refused n)
 task_of o (Marked entries kept) = pick (eqb entries 0) (Done (answer_for (untouched 0 no_lists))) (header_task o entries kept)
 
@@ -77,8 +74,8 @@ pub record MarkedTables (x : Sections) (tables : Rooms) (section : List ℕ) (ta
 pub record Tabled (x : Sections) (tables : Rooms) (section : List ℕ) (h : UnitHeader) (ds : List Placed) (rows : List EntryRow)
     (abbreviations index parents ends marks : List ℕ) (entries kept : ℕ) : Type 0 where
   pub abbreviations_are : x.abbreviations ≡ abbreviations
-  pub header_is : header_of x.setting.big_endian section ≡ Header' h
-  pub declared_are : abbreviations_of x.abbreviations h.abbreviations ≡ some ds
+  pub header_is : header_of x.setting.big_endian section ≡ Ok (Some h)
+  pub declared_are : abbreviations_of x.abbreviations h.abbreviations ≡ Some ds
   pub analysis_is : analysis_of x section tables ≡ analysed rows
   pub index_is : index ≡ index_of x.abbreviations h.abbreviations (length index)
   pub parents_are : parents ≡ pad_to (length parents) (parents_in rows)

@@ -1,12 +1,10 @@
 -- What is to be done with the next attribute of an entry that is written.
-use Rattle.std.specs.Prelude.{◌≡◌, ℕ, false, leb}
+use Rattle.std.specs.Prelude.{◌≡◌, ℕ, false, leb, None, Option, Some}
 use Rattle.readers.specs.Choice.{◌and◌}
 use Rattle.readers.specs.Cursors.{cursor}
 use Rattle.readers.specs.Forms.{list_form}
 use Rattle.readers.specs.declared.cursor.Cursor.{Cursor}
 use Rattle.readers.specs.declared.entry_attributes.EntryAttribute.{EntryAttribute}
-use Rattle.readers.specs.declared.entry_attributes.NextAttribute.{NextAttribute}
-use Rattle.readers.specs.declared.entry_attributes.NextAttribute.TheVariants.{More, NoMore}
 use Rattle.rewriting.specs.declared.emit_entry.Plan.{Plan}
 use Rattle.rewriting.specs.declared.emit_entry.Plan.TheVariants.{Copy, Change, Over}
 
@@ -18,15 +16,15 @@ pub record Copies (form : ℕ) : Type 0 where
   pub no_index : list_form form ≡ 3
 
 -- the next attribute is one of those: past its value, past its specification
-pub record Copied (y : NextAttribute) (past next : Cursor) : Type 0 where
+pub record Copied (y : Option EntryAttribute) (past next : Cursor) : Type 0 where
   pub attribute : EntryAttribute
-  pub is : y ≡ More attribute
+  pub is : y ≡ Some attribute
   pub ends : attribute.values ≡ cursor attribute.value.field.end
   pub past_is : attribute.values ≡ past
   pub next_is : attribute.next ≡ next
   pub copies : Copies attribute.declared
 
-unfoldable pub Planned : NextAttribute → Plan → Type 0
+unfoldable pub Planned : Option EntryAttribute → Plan → Type 0
 Planned y (Copy past next) = Copied y past next
-Planned y (Change a) = y ≡ More a
-Planned y Over = y ≡ NoMore
+Planned y (Change a) = y ≡ Some a
+Planned y Over = y ≡ None

@@ -1,6 +1,5 @@
 -- What the writers of numbers, lists and places answer and leave; tables that hold numbers.
-use Rattle.std.specs.Prelude.{◌≡◌, ℕ, suc, ◌*◌, ◌-◌, ◌^◌, ◌/◌, ◌≤◌, ◌<◌, Bool, List, [], ◌∷◌, ◌++◌, length, take, drop, ltb, leb}
-use Rattle.std.proofs.Math.Option.{Option, none, some}
+use Rattle.std.specs.Prelude.{◌≡◌, ℕ, suc, ◌*◌, ◌-◌, ◌^◌, ◌/◌, ◌≤◌, ◌<◌, Bool, List, [], ◌∷◌, ◌++◌, length, take, drop, ltb, leb, None, Option, Some}
 use Rattle.readers.specs.Choice.{pick, ◌and◌, zeros}
 use Rattle.marking.specs.Members.{Member}
 use Rattle.rewriting.specs.Ascending.{Ascending}
@@ -65,5 +64,5 @@ pub record MapHeld (ps : List Place) (bytes : List ℕ) : Type 0 where
   pub ascending : Ascending (old_offsets ps)
 
 unfoldable pub as_mapped : Option ℕ → Mapped
-as_mapped none = Nothing
-as_mapped (some n) = To (record { 0 = n })
+as_mapped None = Nothing
+as_mapped (Some n) = To (record { 0 = n })

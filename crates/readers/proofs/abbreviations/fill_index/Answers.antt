@@ -13,11 +13,11 @@ returns-in_default c = record {
 pub returns-then-count-index : goal.returns-then-count-index
 returns-then-count-index c = record {
   answer = c.check_plain.ensures;
-  filled = λ _. over-filled _ _ _ c.args.index.now c.gather.new.index c.gather.auto.index (sym c.in-Of.is ∙ c.gather.ensures.counted) _ c.if-count-index.true c.clear.ensures;
+  filled = λ _. over-filled _ _ _ c.args.index.now c.gather.new.index c.gather.auto.index (sym c.in-Some.is ∙ c.gather.ensures.counted) _ c.if-count-index.true c.clear.ensures;
 }
 
 pub slice_bounds-order-end-2 : goal.slice_bounds-order-end-2
 slice_bounds-order-end-2 c = sym (length-take-le _ _ c.if-count-index.false)
 
 pub returns : goal.returns
-returns c = let p = filled-index _ _ _ c.args.index.now c.gather.new.index c.gather.auto.index (sym c.in-Of.is ∙ c.gather.ensures.counted) _ _ _ c.requires c.gather.ensures.gathered c.if-count-index.false c.order.ensures c.accept.ensures in record { answer = p.0; filled = p.1 }
+returns c = let p = filled-index _ _ _ c.args.index.now c.gather.new.index c.gather.auto.index (sym c.in-Some.is ∙ c.gather.ensures.counted) _ _ _ c.requires c.gather.ensures.gathered c.if-count-index.false c.order.ensures c.accept.ensures in record { answer = p.0; filled = p.1 }

@@ -1,5 +1,6 @@
 -- `gather` meets its contract. The invariant: the slots hold the declarations before this place, as far as there is room. Assumes nothing.
-use mathlib.Core.Path.{sym, ◌∙◌}
+use Rattle.std.specs.Prelude.{Some}
+use mathlib.Core.Path.{ap, sym, ◌∙◌}
 use native.Mathlib.Omega.{arith}
 use Rattle.readers.proofs.Declarations.{declaration-ahead, gathering-none, gathering-count, gathering-more, gathering-over, gathering-last, gathering-bad}
 use Rattle.readers.proofs.abbreviations.gather.Goals as goal
@@ -8,28 +9,28 @@ pub loop-next-init : goal.loop-next-init
 loop-next-init c = gathering-none _ _ _
 
 pub overflow_add-index : goal.overflow_add-index
-overflow_add-index c = omega (arith, declaration-ahead _ _ _ _ (sym c.declaration.ensures ∙ c.in-Declaration.is))
+overflow_add-index c = omega (arith, declaration-ahead _ _ _ _ (sym c.declaration.ensures ∙ (c.in_ok-next.was ∙ ap Some c.in-Declaration.is)))
 
 pub overflow_add-count : goal.overflow_add-count
-overflow_add-count c = omega (arith, declaration-ahead _ _ _ _ (sym c.declaration.ensures ∙ c.in-Declaration.is), gathering-count _ _ _ _ _ _ c.loop-next.invariant)
+overflow_add-count c = omega (arith, declaration-ahead _ _ _ _ (sym c.declaration.ensures ∙ (c.in_ok-next.was ∙ ap Some c.in-Declaration.is)), gathering-count _ _ _ _ _ _ c.loop-next.invariant)
 
 pub loop-next-smaller-then-count-index : goal.loop-next-smaller-then-count-index
-loop-next-smaller-then-count-index c = omega (arith, declaration-ahead _ _ _ _ (sym c.declaration.ensures ∙ c.in-Declaration.is))
+loop-next-smaller-then-count-index c = omega (arith, declaration-ahead _ _ _ _ (sym c.declaration.ensures ∙ (c.in_ok-next.was ∙ ap Some c.in-Declaration.is)))
 
 pub loop-next-preserved-then-count-index : goal.loop-next-preserved-then-count-index
-loop-next-preserved-then-count-index c = gathering-more _ _ _ _ _ _ c.loop-next.invariant _ _ (sym c.declaration.ensures ∙ c.in-Declaration.is) c.if-count-index.true
+loop-next-preserved-then-count-index c = gathering-more _ _ _ _ _ _ c.loop-next.invariant _ _ (sym c.declaration.ensures ∙ (c.in_ok-next.was ∙ ap Some c.in-Declaration.is)) c.if-count-index.true
 
 pub overflow_add-count-else-count-index : goal.overflow_add-count-else-count-index
-overflow_add-count-else-count-index c = omega (arith, declaration-ahead _ _ _ _ (sym c.declaration.ensures ∙ c.in-Declaration.is), gathering-count _ _ _ _ _ _ c.loop-next.invariant)
+overflow_add-count-else-count-index c = omega (arith, declaration-ahead _ _ _ _ (sym c.declaration.ensures ∙ (c.in_ok-next.was ∙ ap Some c.in-Declaration.is)), gathering-count _ _ _ _ _ _ c.loop-next.invariant)
 
 pub loop-next-smaller : goal.loop-next-smaller
-loop-next-smaller c = omega (arith, declaration-ahead _ _ _ _ (sym c.declaration.ensures ∙ c.in-Declaration.is))
+loop-next-smaller c = omega (arith, declaration-ahead _ _ _ _ (sym c.declaration.ensures ∙ (c.in_ok-next.was ∙ ap Some c.in-Declaration.is)))
 
 pub loop-next-preserved : goal.loop-next-preserved
-loop-next-preserved c = gathering-over _ _ _ _ _ _ c.loop-next.invariant _ _ (sym c.declaration.ensures ∙ c.in-Declaration.is) c.if-count-index.false
+loop-next-preserved c = gathering-over _ _ _ _ _ _ c.loop-next.invariant _ _ (sym c.declaration.ensures ∙ (c.in_ok-next.was ∙ ap Some c.in-Declaration.is)) c.if-count-index.false
 
 pub returns-in-Last : goal.returns-in-Last
-returns-in-Last c = let p = gathering-last _ _ _ _ _ _ c.loop-next.invariant _ (sym c.declaration.ensures ∙ c.in-Last.is) in record { counted = p.0; gathered = p.1 }
+returns-in-Last c = let p = gathering-last _ _ _ _ _ _ c.loop-next.invariant _ (sym c.declaration.ensures ∙ (c.in_ok-next.was ∙ ap Some c.in-Last.is)) in record { counted = p.0; gathered = p.1 }
 
-pub returns-in-Unreadable : goal.returns-in-Unreadable
-returns-in-Unreadable c = let p = gathering-bad _ _ _ _ _ _ c.loop-next.invariant (sym c.declaration.ensures ∙ c.in-Unreadable.is) in record { counted = p.0; gathered = p.1 }
+pub returns-in_err-next : goal.returns-in_err-next
+returns-in_err-next c = let p = gathering-bad _ _ _ _ _ _ c.loop-next.invariant (sym c.declaration.ensures ∙ c.in_err-next.was) in record { counted = c.from_residual.ensures ∙ p.0; gathered = p.1 }

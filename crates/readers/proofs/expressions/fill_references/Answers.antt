@@ -43,7 +43,7 @@ pub bounds-table-i-in-loop-i-2 : goal.bounds-table-i-in-loop-i-2
 bounds-table-i-in-loop-i-2 c = simp length-set (omega (arith, c.loop-i.invariant.fits))
 
 pub loop-i-preserved : goal.loop-i-preserved
-loop-i-preserved c = fill_more _ _ _ _ _ _ _ c.loop-i.invariant c.loop-i-test.true _ _ c.next_reference.ensures c.in-Reference.is
+loop-i-preserved c = fill_more _ _ _ _ _ _ _ c.loop-i.invariant c.loop-i-test.true _ _ c.next_reference.ensures c.in-Some.is
 
 pub returns : goal.returns
 returns c = fill_done _ _ _ _ _ _ _ c.loop-i.invariant c.loop-i-test.false

@@ -7,8 +7,8 @@ returns-then-row-eq-ROW_OFFSET c = section-20 _ c.if-row-eq-ROW_OFFSET.true
 pub returns-then-row-eq-ROW_OFFSET_SLEB128 : goal.returns-then-row-eq-ROW_OFFSET_SLEB128
 returns-then-row-eq-ROW_OFFSET_SLEB128 c = section-21 _ c.if-row-eq-ROW_OFFSET_SLEB128.true
 
-pub returns-in-Reference : goal.returns-in-Reference
-returns-in-Reference c = own-one _ c.if-row-eq-ROW_OFFSET.false c.if-row-eq-ROW_OFFSET_SLEB128.false _ c.reference_of.ensures _ c.in-Reference.is
+pub returns-in-Some : goal.returns-in-Some
+returns-in-Some c = own-one _ c.if-row-eq-ROW_OFFSET.false c.if-row-eq-ROW_OFFSET_SLEB128.false _ c.reference_of.ensures _ c.in-Some.is
 
-pub returns-in-End : goal.returns-in-End
-returns-in-End c = own-none _ c.if-row-eq-ROW_OFFSET.false c.if-row-eq-ROW_OFFSET_SLEB128.false _ c.reference_of.ensures c.in-End.is
+pub returns-in-None : goal.returns-in-None
+returns-in-None c = own-none _ c.if-row-eq-ROW_OFFSET.false c.if-row-eq-ROW_OFFSET_SLEB128.false _ c.reference_of.ensures c.in-None.is

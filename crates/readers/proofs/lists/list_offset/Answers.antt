@@ -20,11 +20,11 @@ overflow_mul-place c = omega (arith, within _ _ _ c.if-index-len.false)
 pub overflow_add-place : goal.overflow_add-place
 overflow_add-place c = omega (arith, within _ _ _ c.if-index-len.false)
 
-pub returns-in_default : goal.returns-in_default
-returns-in_default c = sym (unread _ _ _ _ (sym c.offset.ensures ∙ c.in_default.is))
+pub returns-in_err-offset : goal.returns-in_err-offset
+returns-in_err-offset c = c.from_residual.ensures ∙ sym (unread _ _ _ _ (sym c.offset.ensures ∙ c.in_err-offset.was))
 
 pub returns-then-offset-len : goal.returns-then-offset-len
-returns-then-offset-len c = sym (was_read _ _ _ _ _ _ (sym c.offset.ensures ∙ c.in-Value.is) ∙ start-past _ _ (omega arith))
+returns-then-offset-len c = sym (was_read _ _ _ _ _ _ (sym c.offset.ensures ∙ c.in_ok-offset.was) ∙ start-past _ _ (omega arith))
 
 pub returns : goal.returns
-returns c = c.list_start-2.ensures ∙ sym (was_read _ _ _ _ _ _ (sym c.offset.ensures ∙ c.in-Value.is))
+returns c = c.list_start-2.ensures ∙ sym (was_read _ _ _ _ _ _ (sym c.offset.ensures ∙ c.in_ok-offset.was))

@@ -1,9 +1,10 @@
 -- `one_operand` meets its contract. Assumes nothing.
+use mathlib.Core.Path.{◌∙◌}
 use Rattle.readers.proofs.ShortRows.{operand_read, operand-unread}
 use Rattle.readers.proofs.operations.one_operand.Goals as goal
 
-pub returns-in-Read : goal.returns-in-Read
-returns-in-Read c = operand_read _ _ _ c.in-Read.is
+pub returns : goal.returns
+returns c = operand_read _ _ _ c.in_ok-first.was
 
-pub returns-in-Unreadable : goal.returns-in-Unreadable
-returns-in-Unreadable c = operand-unread _ _ c.in-Unreadable.is
+pub returns-in_err-first : goal.returns-in_err-first
+returns-in_err-first c = c.from_residual.ensures ∙ operand-unread _ _ c.in_err-first.was

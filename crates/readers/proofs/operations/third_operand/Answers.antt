@@ -1,9 +1,10 @@
 -- `third_operand` meets its contract. Assumes nothing.
+use mathlib.Core.Path.{◌∙◌}
 use Rattle.readers.proofs.ShortRows.{third-read, third-unread}
 use Rattle.readers.proofs.operations.third_operand.Goals as goal
 
-pub returns-in-Read : goal.returns-in-Read
-returns-in-Read c = third-read _ _ _ _ _ _ c.in-Read.is c.next.ensures
+pub returns : goal.returns
+returns c = third-read _ _ _ _ _ _ c.in_ok-third.was c.next.ensures
 
-pub returns-in-Unreadable : goal.returns-in-Unreadable
-returns-in-Unreadable c = third-unread _ _ _ _ c.in-Unreadable.is
+pub returns-in_err-third : goal.returns-in_err-third
+returns-in_err-third c = c.from_residual.ensures ∙ third-unread _ _ _ _ c.in_err-third.was

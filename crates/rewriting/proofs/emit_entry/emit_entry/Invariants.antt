@@ -2,7 +2,7 @@
 use mathlib.Core.Path.{◌≡◌}
 use Prim.Native.Nat.{ℕ, ◌-◌, ◌≤◌}
 use mathlib.Core.List.{List}
-use mathlib.Core.Option.{some}
+use Rattle.std.specs.Prelude.{Some}
 use lib.ListN.{length, drop}
 use Rattle.readers.specs.Layout.{Read, read_in}
 use Rattle.readers.specs.Expression.{expression_in}
@@ -21,7 +21,7 @@ abbrev pub invariant-loop-past : goal.invariant-loop-past
 invariant-loop-past l = Within l.initial.out (To l.to) l.out
     × ((lists : Lists) (ps : List Place) (whole : List Read) (rest : List ℕ) → MapHeld ps l.map → l.places ≡ length ps → Bounds ps l.bounds
     → ListsLent lists l.ranges l.ranges_count l.locations l.locations_count l.strings l.strings_count → l.initial.from.at ≤ length l.unit
-    → read_in l.e.big_endian (expression_in l.e) (specs_layout l.e (attributes_from l.abbreviations l.initial.p.at)) (drop l.initial.from.at l.unit) ≡ some (whole, rest)
+    → read_in l.e.big_endian (expression_in l.e) (specs_layout l.e (attributes_from l.abbreviations l.initial.p.at)) (drop l.initial.from.at l.unit) ≡ Some (whole, rest)
     → Entering lists ps l.depth l.e l.abbreviations l.unit whole l.initial.out l.initial.to l.out l.p.at l.from.at l.to)
 
 abbrev pub decreases-loop-past : goal.decreases-loop-past

@@ -15,17 +15,17 @@ returns-then-token-le-ULEB128 c = c.number_field.ensures ∙ ap (number_field _)
 pub returns-then-token-eq-SLEB128 : goal.returns-then-token-eq-SLEB128
 returns-then-token-eq-SLEB128 c = c.number_field-then-token-eq-SLEB128.ensures ∙ ap (number_field _) c.long_sleb.ensures ∙ sym (field-signed _ _ _ _ c.if-token-eq-SLEB128.true)
 
-pub returns-in-To : goal.returns-in-To
-returns-in-To c = moved-read _ _ _ c.in-To.is ∙ ap (moved_field _) c.string.ensures ∙ sym (field-string _ _ _ _ c.if-token-eq-NULL_TERMINATED.true)
+pub returns-then-token-eq-NULL_TERMINATED : goal.returns-then-token-eq-NULL_TERMINATED
+returns-then-token-eq-NULL_TERMINATED c = moved-read _ _ _ c.in_ok-next.was ∙ ap (moved_field _) c.string.ensures ∙ sym (field-string _ _ _ _ c.if-token-eq-NULL_TERMINATED.true)
 
-pub returns-in-Unreadable : goal.returns-in-Unreadable
-returns-in-Unreadable c = moved-unread _ _ c.in-Unreadable.is ∙ ap (moved_field _) c.string.ensures ∙ sym (field-string _ _ _ _ c.if-token-eq-NULL_TERMINATED.true)
+pub returns-in_err-next : goal.returns-in_err-next
+returns-in_err-next c = c.from_residual.ensures ∙ moved-unread _ _ c.in_err-next.was ∙ ap (moved_field _) c.string.ensures ∙ sym (field-string _ _ _ _ c.if-token-eq-NULL_TERMINATED.true)
 
-pub returns-in-To-bytes : goal.returns-in-To-bytes
-returns-in-To-bytes c = moved-read _ _ _ c.in-To-bytes.is ∙ ap (moved_field _) c.bytes.ensures ∙ sym (field-run _ _ _ _ c.if-token-eq-DATA16.true)
+pub returns-then-token-eq-DATA16 : goal.returns-then-token-eq-DATA16
+returns-then-token-eq-DATA16 c = moved-read _ _ _ c.in_ok-next-2.was ∙ ap (moved_field _) c.bytes.ensures ∙ sym (field-run _ _ _ _ c.if-token-eq-DATA16.true)
 
-pub returns-in-Unreadable-bytes : goal.returns-in-Unreadable-bytes
-returns-in-Unreadable-bytes c = moved-unread _ _ c.in-Unreadable-bytes.is ∙ ap (moved_field _) c.bytes.ensures ∙ sym (field-run _ _ _ _ c.if-token-eq-DATA16.true)
+pub returns-in_err-next-2 : goal.returns-in_err-next-2
+returns-in_err-next-2 c = c.from_residual-in_err-next-2.ensures ∙ moved-unread _ _ c.in_err-next-2.was ∙ ap (moved_field _) c.bytes.ensures ∙ sym (field-run _ _ _ _ c.if-token-eq-DATA16.true)
 
 pub returns-then-token-eq-BLOCK1 : goal.returns-then-token-eq-BLOCK1
 returns-then-token-eq-BLOCK1 c = c.block_field.ensures ∙ ap (block_field _) c.number-then-token-eq-BLOCK1.ensures ∙ sym (field-block1 _ _ _ _ c.if-token-eq-BLOCK1.true)

@@ -9,13 +9,13 @@ pub loop-form-init : goal.loop-form-init
 loop-form-init c = refl
 
 pub returns-then-form-ne-DW_FORM_indirect : goal.returns-then-form-ne-DW_FORM_indirect
-returns-then-form-ne-DW_FORM_indirect c = forms-last _ _ _ _ (sym c.short.ensures ∙ c.in-Value.is) c.if-form-ne-DW_FORM_indirect.true ∙ sym c.loop-form.invariant
+returns-then-form-ne-DW_FORM_indirect c = forms-last _ _ _ _ (sym c.short.ensures ∙ c.in_ok-form.was) c.if-form-ne-DW_FORM_indirect.true ∙ sym c.loop-form.invariant
 
 pub loop-form-smaller : goal.loop-form-smaller
-loop-form-smaller c = omega (arith, short-inside _ _ _ _ (sym c.short.ensures ∙ c.in-Value.is))
+loop-form-smaller c = omega (arith, short-inside _ _ _ _ (sym c.short.ensures ∙ c.in_ok-form.was))
 
 pub loop-form-preserved : goal.loop-form-preserved
-loop-form-preserved c = c.loop-form.invariant ∙ forms-more _ _ _ _ (sym c.short.ensures ∙ c.in-Value.is) c.if-form-ne-DW_FORM_indirect.false
+loop-form-preserved c = c.loop-form.invariant ∙ forms-more _ _ _ _ (sym c.short.ensures ∙ c.in_ok-form.was) c.if-form-ne-DW_FORM_indirect.false
 
-pub returns-in-Unreadable : goal.returns-in-Unreadable
-returns-in-Unreadable c = forms-none _ _ (sym c.short.ensures ∙ c.in-Unreadable.is) ∙ sym c.loop-form.invariant
+pub returns-in_err-form : goal.returns-in_err-form
+returns-in_err-form c = c.from_residual.ensures ∙ forms-none _ _ (sym c.short.ensures ∙ c.in_err-form.was) ∙ sym c.loop-form.invariant

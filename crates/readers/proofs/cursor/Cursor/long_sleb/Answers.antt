@@ -1,40 +1,41 @@
 -- `Cursor::long_sleb` meets its contract. Assumes nothing.
+use mathlib.Core.Path.{◌∙◌}
 use native.Mathlib.Omega.{arith}
 use Rattle.readers.proofs.Lebs.{whole, sleb-up, sleb-down, sleb-no, sleb-plus, sleb-minus, light, sleb-none}
 use Rattle.readers.proofs.cursor.Cursor.long_sleb.Goals as goal
 
 pub returns-then-high-eq0 : goal.returns-then-high-eq0
-returns-then-high-eq0 c = sleb-up _ _ _ _ _ _ ((whole _ _ _ _ _ _ c.type_inv.s _ c.groups.ensures c.in-Whole.is)) c.if-weight.true c.if-high-eq0.true
+returns-then-high-eq0 c = sleb-up _ _ _ _ _ _ ((whole _ _ _ _ _ _ c.type_inv.s _ c.groups.ensures c.in_ok-low.was)) c.if-weight.true c.if-high-eq0.true
 
 pub overflow_add-result : goal.overflow_add-result
-overflow_add-result c = omega (arith, ((whole _ _ _ _ _ _ c.type_inv.s _ c.groups.ensures c.in-Whole.is)).small)
+overflow_add-result c = omega (arith, ((whole _ _ _ _ _ _ c.type_inv.s _ c.groups.ensures c.in_ok-low.was)).small)
 
 pub returns-then-high-eq127 : goal.returns-then-high-eq127
-returns-then-high-eq127 c = sleb-down _ _ _ _ _ _ ((whole _ _ _ _ _ _ c.type_inv.s _ c.groups.ensures c.in-Whole.is)) c.if-weight.true c.if-high-eq127.true
+returns-then-high-eq127 c = sleb-down _ _ _ _ _ _ ((whole _ _ _ _ _ _ c.type_inv.s _ c.groups.ensures c.in_ok-low.was)) c.if-weight.true c.if-high-eq127.true
 
 pub returns-then-weight : goal.returns-then-weight
-returns-then-weight c = sleb-no _ _ _ _ _ _ ((whole _ _ _ _ _ _ c.type_inv.s _ c.groups.ensures c.in-Whole.is)) c.if-weight.true c.if-high-eq0.false c.if-high-eq127.false
+returns-then-weight c = sleb-no _ _ _ _ _ _ ((whole _ _ _ _ _ _ c.type_inv.s _ c.groups.ensures c.in_ok-low.was)) c.if-weight.true c.if-high-eq0.false c.if-high-eq127.false
 
 pub overflow_mul-weight : goal.overflow_mul-weight
-overflow_mul-weight c = omega (arith, (light _ _ _ _ _ _ ((whole _ _ _ _ _ _ c.type_inv.s _ c.groups.ensures c.in-Whole.is)) c.if-weight.false).0)
+overflow_mul-weight c = omega (arith, (light _ _ _ _ _ _ ((whole _ _ _ _ _ _ c.type_inv.s _ c.groups.ensures c.in_ok-low.was)) c.if-weight.false).0)
 
 pub returns-then-low-weight : goal.returns-then-low-weight
-returns-then-low-weight c = sleb-plus _ _ _ _ _ _ ((whole _ _ _ _ _ _ c.type_inv.s _ c.groups.ensures c.in-Whole.is)) c.if-weight.false c.if-low-weight.true
+returns-then-low-weight c = sleb-plus _ _ _ _ _ _ ((whole _ _ _ _ _ _ c.type_inv.s _ c.groups.ensures c.in_ok-low.was)) c.if-weight.false c.if-low-weight.true
 
 pub overflow_mul-result : goal.overflow_mul-result
-overflow_mul-result c = omega (arith, (light _ _ _ _ _ _ ((whole _ _ _ _ _ _ c.type_inv.s _ c.groups.ensures c.in-Whole.is)) c.if-weight.false).0)
+overflow_mul-result c = omega (arith, (light _ _ _ _ _ _ ((whole _ _ _ _ _ _ c.type_inv.s _ c.groups.ensures c.in_ok-low.was)) c.if-weight.false).0)
 
 pub overflow_sub-result : goal.overflow_sub-result
-overflow_sub-result c = omega (arith, (light _ _ _ _ _ _ ((whole _ _ _ _ _ _ c.type_inv.s _ c.groups.ensures c.in-Whole.is)) c.if-weight.false).0)
+overflow_sub-result c = omega (arith, (light _ _ _ _ _ _ ((whole _ _ _ _ _ _ c.type_inv.s _ c.groups.ensures c.in_ok-low.was)) c.if-weight.false).0)
 
-pub overflow_add-result-in-Whole : goal.overflow_add-result-in-Whole
-overflow_add-result-in-Whole c = omega (arith, (light _ _ _ _ _ _ ((whole _ _ _ _ _ _ c.type_inv.s _ c.groups.ensures c.in-Whole.is)) c.if-weight.false).1)
+pub overflow_add-result-2 : goal.overflow_add-result-2
+overflow_add-result-2 c = omega (arith, (light _ _ _ _ _ _ ((whole _ _ _ _ _ _ c.type_inv.s _ c.groups.ensures c.in_ok-low.was)) c.if-weight.false).1)
 
-pub overflow_add-result-in-Whole-2 : goal.overflow_add-result-in-Whole-2
-overflow_add-result-in-Whole-2 c = omega (arith, (light _ _ _ _ _ _ ((whole _ _ _ _ _ _ c.type_inv.s _ c.groups.ensures c.in-Whole.is)) c.if-weight.false).0, (light _ _ _ _ _ _ ((whole _ _ _ _ _ _ c.type_inv.s _ c.groups.ensures c.in-Whole.is)) c.if-weight.false).1)
+pub overflow_add-result-3 : goal.overflow_add-result-3
+overflow_add-result-3 c = omega (arith, (light _ _ _ _ _ _ ((whole _ _ _ _ _ _ c.type_inv.s _ c.groups.ensures c.in_ok-low.was)) c.if-weight.false).0, (light _ _ _ _ _ _ ((whole _ _ _ _ _ _ c.type_inv.s _ c.groups.ensures c.in_ok-low.was)) c.if-weight.false).1)
 
-pub returns-else-low-weight : goal.returns-else-low-weight
-returns-else-low-weight c = sleb-minus _ _ _ _ _ _ ((whole _ _ _ _ _ _ c.type_inv.s _ c.groups.ensures c.in-Whole.is)) c.if-weight.false c.if-low-weight.false
+pub returns : goal.returns
+returns c = sleb-minus _ _ _ _ _ _ ((whole _ _ _ _ _ _ c.type_inv.s _ c.groups.ensures c.in_ok-low.was)) c.if-weight.false c.if-low-weight.false
 
-pub returns-in-Unreadable : goal.returns-in-Unreadable
-returns-in-Unreadable c = sleb-none _ _ _ c.groups.ensures c.in-Unreadable.is
+pub returns-in_err-low : goal.returns-in_err-low
+returns-in_err-low c = c.from_residual.ensures ∙ sleb-none _ _ _ c.groups.ensures c.in_err-low.was

@@ -3,20 +3,20 @@ use mathlib.Core.Path.{sym, ◌∙◌}
 use Rattle.readers.proofs.Specs.{spec-no-name, spec-no-form, spec-last, spec-half, spec-unformed, spec-whole}
 use Rattle.readers.proofs.cursor.Cursor.long_spec.Goals as goal
 
-pub returns-in_default : goal.returns-in_default
-returns-in_default c = spec-no-name _ _ (sym c.short.ensures ∙ c.in_default.is)
+pub returns-in_err-name : goal.returns-in_err-name
+returns-in_err-name c = c.from_residual.ensures ∙ spec-no-name _ _ (sym c.short.ensures ∙ c.in_err-name.was)
 
-pub returns-in_default-short : goal.returns-in_default-short
-returns-in_default-short c = spec-no-form _ _ _ _ (sym c.short.ensures ∙ c.in-Value.is) (sym c.short-2.ensures ∙ c.in_default-short.is)
+pub returns-in_err-form : goal.returns-in_err-form
+returns-in_err-form c = c.from_residual-in_err-form.ensures ∙ spec-no-form _ _ _ _ (sym c.short.ensures ∙ c.in_ok-name.was) (sym c.short-2.ensures ∙ c.in_err-form.was)
 
 pub returns-then-form-eq0 : goal.returns-then-form-eq0
-returns-then-form-eq0 c = spec-last _ _ _ _ (sym c.short.ensures ∙ c.in-Value.is) _ _ (sym c.short-2.ensures ∙ c.in-Value-short.is) c.if-name-eq0.true c.if-form-eq0.true
+returns-then-form-eq0 c = spec-last _ _ _ _ (sym c.short.ensures ∙ c.in_ok-name.was) _ _ (sym c.short-2.ensures ∙ c.in_ok-form.was) c.if-name-eq0.true c.if-form-eq0.true
 
 pub returns-then-name-eq0 : goal.returns-then-name-eq0
-returns-then-name-eq0 c = spec-half _ _ _ _ (sym c.short.ensures ∙ c.in-Value.is) _ _ (sym c.short-2.ensures ∙ c.in-Value-short.is) c.if-name-eq0.true c.if-form-eq0.false
+returns-then-name-eq0 c = spec-half _ _ _ _ (sym c.short.ensures ∙ c.in_ok-name.was) _ _ (sym c.short-2.ensures ∙ c.in_ok-form.was) c.if-name-eq0.true c.if-form-eq0.false
 
 pub returns-then-form-eq0-2 : goal.returns-then-form-eq0-2
-returns-then-form-eq0-2 c = spec-unformed _ _ _ _ (sym c.short.ensures ∙ c.in-Value.is) _ _ (sym c.short-2.ensures ∙ c.in-Value-short.is) c.if-name-eq0.false c.if-form-eq0-2.true
+returns-then-form-eq0-2 c = spec-unformed _ _ _ _ (sym c.short.ensures ∙ c.in_ok-name.was) _ _ (sym c.short-2.ensures ∙ c.in_ok-form.was) c.if-name-eq0.false c.if-form-eq0-2.true
 
 pub returns : goal.returns
-returns c = c.implicit_spec.ensures ∙ spec-whole _ _ _ _ (sym c.short.ensures ∙ c.in-Value.is) _ _ (sym c.short-2.ensures ∙ c.in-Value-short.is) c.if-name-eq0.false c.if-form-eq0-2.false
+returns c = c.implicit_spec.ensures ∙ spec-whole _ _ _ _ (sym c.short.ensures ∙ c.in_ok-name.was) _ _ (sym c.short-2.ensures ∙ c.in_ok-form.was) c.if-name-eq0.false c.if-form-eq0-2.false

@@ -1,5 +1,6 @@
 -- `Cursor::past_attributes` meets its contract. The invariant: past the specifications from here on is past them all. Assumes nothing.
-use mathlib.Core.Path.{refl, sym, ◌∙◌}
+use Rattle.std.specs.Prelude.{Some}
+use mathlib.Core.Path.{ap, refl, sym, ◌∙◌}
 use native.Mathlib.Omega.{arith}
 use Rattle.readers.proofs.Specs.{attribute-inside, past_more, past-last, past-bad}
 use Rattle.readers.proofs.cursor.Cursor.past_attributes.Goals as goal
@@ -8,13 +9,13 @@ pub loop-a-init : goal.loop-a-init
 loop-a-init c = refl
 
 pub loop-a-smaller : goal.loop-a-smaller
-loop-a-smaller c = omega (arith, attribute-inside _ _ _ (sym c.long_spec.ensures ∙ c.in-Attribute.is))
+loop-a-smaller c = omega (arith, attribute-inside _ _ _ (sym c.long_spec.ensures ∙ (c.in_ok-a.was ∙ ap Some c.in-Attribute.is)))
 
 pub loop-a-preserved : goal.loop-a-preserved
-loop-a-preserved c = c.loop-a.invariant ∙ past_more _ _ _ (sym c.long_spec.ensures ∙ c.in-Attribute.is)
+loop-a-preserved c = c.loop-a.invariant ∙ past_more _ _ _ (sym c.long_spec.ensures ∙ (c.in_ok-a.was ∙ ap Some c.in-Attribute.is))
 
 pub returns-in-Last : goal.returns-in-Last
-returns-in-Last c = past-last _ _ _ (sym c.long_spec.ensures ∙ c.in-Last.is) ∙ sym c.loop-a.invariant
+returns-in-Last c = past-last _ _ _ (sym c.long_spec.ensures ∙ (c.in_ok-a.was ∙ ap Some c.in-Last.is)) ∙ sym c.loop-a.invariant
 
-pub returns-in-Unreadable : goal.returns-in-Unreadable
-returns-in-Unreadable c = past-bad _ _ (sym c.long_spec.ensures ∙ c.in-Unreadable.is) ∙ sym c.loop-a.invariant
+pub returns-in_err-a : goal.returns-in_err-a
+returns-in_err-a c = c.from_residual.ensures ∙ past-bad _ _ (sym c.long_spec.ensures ∙ c.in_err-a.was) ∙ sym c.loop-a.invariant
