@@ -18,23 +18,12 @@ pub const RANGE_HINTS: usize = 15;
 fn least_shift(number: u64, bound: u64) -> u32
     ensures { result < 64 }
 {
-    let mut shift: u32 = 0;
-    while shift < 63 {
+    for shift in 0..63 {
         if number >> shift < bound {
             return shift;
         }
-        shift += 1;
     }
-    shift
-}
-
-// How many hints so many rows have in a part with room for so many: at most one a row.
-fn hint_count(rows: usize, room: usize) -> usize {
-    if rows < room { rows } else { room }
-}
-
-fn wide(x: u32) -> usize {
-    x as usize
+    63
 }
 
 // The hint for a value, by the hints from a place of the column on; 0 where there is none.
@@ -51,7 +40,7 @@ pub(crate) fn hint(column: &[u32], from: usize, value: u64) -> usize {
         return 0;
     }
     let at = from + 1 + run as usize;
-    wide(column[at])
+    column[at] as usize
 }
 
 // Fills the hints of a part of the column, which a shift begins.
@@ -70,15 +59,10 @@ fn fill_runs(
     requires width_bound { width ≤ 8 }
     requires shift_bound { shift < 64 }
 {
-    if count > 0xffffffff {
+    if count > 0xffffffff || to > column.len() || from >= to {
         return;
     }
-    if to > column.len() {
-        return;
-    }
-    if from >= to {
-        return;
-    }
+    // No for: two places move, each at its own speed.
     let mut i: usize = 0;
     let mut at = from + 1;
     while at < to {
@@ -109,17 +93,12 @@ pub(crate) fn fill_hints(
     requires width_le_row { width ≤ row }
     requires width_bound { width ≤ 8 }
 {
-    if count == 0 {
-        return;
-    }
-    if to > column.len() {
-        return;
-    }
-    if from >= to {
+    if count == 0 || to > column.len() || from >= to {
         return;
     }
     let last = row_number(table, row, 0, width, count - 1);
-    let hints = hint_count(count, to - from - 1);
+    // At most one hint a row.
+    let hints = count.min(to - from - 1);
     let shift = least_shift(last, hints as u64);
     column[from] = shift;
     fill_runs(table, row, width, count, column, from, to, shift);

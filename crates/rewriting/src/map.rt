@@ -81,10 +81,8 @@ pub fn new_offset(map: &[u8], places: usize, old: UnitOffset) -> Mapped
     ensures { result ≡ looked_up map.now places old.0 }
 {
     let i = before(map, places, old);
-    if i < places {
-        if has_old(map, i, old) {
-            return Mapped::To(new_at(map, i));
-        }
+    if i < places && has_old(map, i, old) {
+        return Mapped::To(new_at(map, i));
     }
     Mapped::Nothing
 }
@@ -104,10 +102,8 @@ pub(crate) fn hinted_offset(map: &[u8], places: usize, work: &[u32], old: UnitOf
     ensures { (ps : List Place) → MapHeld ps map.now → places ≡ length ps → result ≡ as_mapped (new_of ps old.0) }
 {
     let i = hinted_place(map, places, work, old);
-    if i < places {
-        if has_old(map, i, old) {
-            return Mapped::To(new_at(map, i));
-        }
+    if i < places && has_old(map, i, old) {
+        return Mapped::To(new_at(map, i));
     }
     Mapped::Nothing
 }

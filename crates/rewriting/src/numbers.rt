@@ -23,10 +23,8 @@ fn fits(value: u64, base: u64, width: usize) -> bool
     ensures { result ≡ ltb value (base ^ width) }
 {
     let mut rest = value;
-    let mut i: usize = 0;
-    while i < width {
+    for _i in 0..width {
         rest = rest / base;
-        i += 1;
     }
     rest == 0
 }
@@ -35,16 +33,7 @@ fn fits(value: u64, base: u64, width: usize) -> bool
 fn groups_fit(value: u64, width: usize, room: usize) -> bool
     ensures { result ≡ groups_fit value width room }
 {
-    if width == 0 {
-        return false;
-    }
-    if width > 10 {
-        return false;
-    }
-    if width > room {
-        return false;
-    }
-    fits(value, 128, width)
+    width > 0 && width <= 10 && width <= room && fits(value, 128, width)
 }
 
 // A ULEB128 number in exactly so many bytes at the start of a part, each but the last with its high bit set: whether it
@@ -58,13 +47,11 @@ fn put_groups(value: u64, width: usize, out: &mut [u8]) -> bool
     }
     let last = width - 1;
     let mut rest = value;
-    let mut i: usize = 0;
-    while i < last {
+    for i in 0..last {
         out[i] = (rest % 128) as u8 + 128;
         rest = rest / 128;
-        i += 1;
     }
-    out[i] = rest as u8;
+    out[last] = rest as u8;
     true
 }
 
@@ -72,13 +59,7 @@ fn put_groups(value: u64, width: usize, out: &mut [u8]) -> bool
 pub(crate) fn bytes_fit(value: u64, width: usize, room: usize) -> bool
     ensures { result ≡ bytes_fit value width room }
 {
-    if width > 8 {
-        return false;
-    }
-    if width > room {
-        return false;
-    }
-    fits(value, 256, width)
+    width <= 8 && width <= room && fits(value, 256, width)
 }
 
 // Writes a little-endian number at the start of a part that has room for it.
@@ -87,11 +68,9 @@ fn put_little_endian(value: u64, width: usize, out: &mut [u8])
     ensures { out.new ≡ fixed_bytes false width value ++ drop width out.old }
 {
     let mut rest = value;
-    let mut i: usize = 0;
-    while i < width {
+    for i in 0..width {
         out[i] = (rest % 256) as u8;
         rest = rest / 256;
-        i += 1;
     }
 }
 
@@ -158,13 +137,8 @@ pub(crate) fn put_number(
 pub fn put_bytes(bytes: &[u8], out: &mut [u8])
     ensures { out.new ≡ over bytes.now out.old }
 {
-    if bytes.len() > out.len() {
-        return;
-    }
-    let mut i: usize = 0;
-    while i < bytes.len() {
-        out[i] = bytes[i];
-        i += 1;
+    if bytes.len() <= out.len() {
+        out[..bytes.len()].copy_from_slice(bytes);
     }
 }
 
@@ -183,16 +157,11 @@ pub fn big_endian_at(s: &[u8], at: usize, width: usize) -> u64
 pub fn put_big_endian(s: &mut [u8], at: usize, width: usize, value: u64)
     ensures { s.new ≡ put_in s.old at (fixed_bytes true width value) }
 {
-    if at > s.len() {
-        return;
-    }
-    if width > s.len() - at {
+    if at > s.len() || width > s.len() - at {
         return;
     }
     let mut rest = value;
-    let mut i = width;
-    while i > 0 {
-        i -= 1;
+    for i in (0..width).rev() {
         s[at + i] = (rest % 256) as u8;
         rest = rest / 256;
     }

@@ -35,6 +35,7 @@ pub(crate) fn first_row(
     requires width_bound { width ≤ 8 }
     ensures { (result ≡ halved (to - from) (row_number row 0 width table.now) value from to) × (from ≤ to → result ≤ to) }
 {
+    // No partition_point: a row is some bytes of the table, no element of a slice.
     let mut low = from;
     let mut high = to;
     while low < high {
@@ -65,27 +66,17 @@ pub(crate) fn hinted_row(
         → ((i : ℕ) → i < length xs → row_number row 0 width table.now i ≡ get_or xs i 0)
         → result ≡ rank_in xs value }
 {
-    let mut i = guess;
-    let mut turns: usize = 0;
-    while turns < 8 {
-        if i >= count {
-            return first_row(table, row, width, 0, count, value);
-        }
+    for i in guess..count.min(guess.saturating_add(8)) {
         let number = row_number(table, row, 0, width, i);
         if number == value {
             return i;
         }
         if number > value {
-            if i == 0 {
-                return 0;
-            }
-            if row_number(table, row, 0, width, i - 1) < value {
+            if i == 0 || row_number(table, row, 0, width, i - 1) < value {
                 return i;
             }
-            return first_row(table, row, width, 0, count, value);
+            break;
         }
-        i += 1;
-        turns += 1;
     }
     first_row(table, row, width, 0, count, value)
 }

@@ -17,13 +17,7 @@ fn bound_at(bounds: &[u32], at: usize) -> u64
     if at >= bounds.len() {
         return 0;
     }
-    bounds[at] as u64
-}
-
-fn lesser(a: u64, b: u64) -> u64
-    ensures { (result ≤ a) × (result ≤ b) }
-{
-    if a < b { a } else { b }
+    u64::from(bounds[at])
 }
 
 // ---- the search
@@ -33,10 +27,7 @@ fn past_deeper(bounds: &[u32], i: usize, depth: u64) -> usize
     ensures { (ps : List Place) → Bounds ps bounds.now → AsDeep ps (depth + 1) i result }
 {
     let k = i / 8;
-    if 8 * k < i {
-        return i;
-    }
-    if bound_at(bounds, 2 * k + 1) <= depth {
+    if 8 * k < i || bound_at(bounds, 2 * k + 1) <= depth {
         return i;
     }
     8 * (bound_at(bounds, 2 * k) as usize)
@@ -54,11 +45,10 @@ pub(crate) fn sibling_offset(
         → result ≡ as_mapped (sibling_of ps depth old.0) }
 {
     let start = hinted_place(map, places, bounds, old);
-    if start < places {
-        if has_old(map, start, old) {
-            return Mapped::To(new_at(map, start));
-        }
+    if start < places && has_old(map, start, old) {
+        return Mapped::To(new_at(map, start));
     }
+    // No for: a step is one place, or a whole block.
     let mut i = start;
     while i < places {
         let past = past_deeper(bounds, i, depth);
@@ -82,13 +72,8 @@ fn shallowest(map: &[u8], places: usize, from: usize, to: usize) -> u64
         × ((ps : List Place) → MapHeld ps map.now → places ≡ length ps → AsDeep ps result from to) }
 {
     let mut least: u64 = 0xffffffff;
-    let mut i = from;
-    while i < to {
-        if i >= places {
-            return least;
-        }
-        least = lesser(least, depth_at(map, i));
-        i += 1;
+    for i in from..to.min(places) {
+        least = least.min(depth_at(map, i));
     }
     least
 }
@@ -115,13 +100,10 @@ fn block_bound(map: &[u8], places: usize, bounds: &[u32], k: usize) -> Bound
     if middle > k {
         let end = bound_at(bounds, 2 * middle);
         if 2 * middle == next + end as usize {
-            let least = lesser(
-                bound_at(bounds, 2 * next + 1),
-                bound_at(bounds, 2 * middle + 1),
-            );
+            let least = bound_at(bounds, 2 * next + 1).min(bound_at(bounds, 2 * middle + 1));
             return Bound {
                 end: end as u32,
-                least: lesser(own, least) as u32,
+                least: own.min(least) as u32,
             };
         }
     }
@@ -135,19 +117,14 @@ fn block_bound(map: &[u8], places: usize, bounds: &[u32], k: usize) -> Bound
 fn block_count(places: usize, numbers: usize) -> usize
     ensures { (result ≤ numbers / 2) × (result < numbers / 2 → places < 8 * result) }
 {
-    if places / 8 < numbers / 2 {
-        return places / 8 + 1;
-    }
-    numbers / 2
+    (places / 8 + 1).min(numbers / 2)
 }
 
 // Fills the table, from the last block to the first.
 pub(crate) fn fill_bounds(map: &[u8], places: usize, bounds: &mut [u32])
     ensures { (ps : List Place) → MapHeld ps map.now → places ≡ length ps → Bounds ps bounds.new }
 {
-    let mut k = block_count(places, bounds.len());
-    while k > 0 {
-        k -= 1;
+    for k in (0..block_count(places, bounds.len())).rev() {
         let bound = block_bound(map, places, bounds, k);
         bounds[2 * k] = bound.end;
         bounds[2 * k + 1] = bound.least;

@@ -149,7 +149,7 @@ module _ (at : ℕ → ℕ) (v : ℕ) where
     pub rank-here : (i r : ℕ) → i < count → r ≡ at i → r ≡ v → i ≡ rank_in xs v
     rank-here i r l s q = sym (rank_is xs v i f (omega arith) (sym (is i (omega arith)) ∙ sym s ∙ q))
 
-    pub rank-first : (i r : ℕ) → i < count → i ≡ 0 → r ≡ at i → v < r → 0 ≡ rank_in xs v
+    pub rank-first : (i r : ℕ) → i < count → i ≡ 0 → r ≡ at i → v < r → i ≡ rank_in xs v
     rank-first i r l z s q =
         let g : at i ≡ get_or xs i 0 = is i (omega arith) in
         let k : rank_in xs v ≤ i = rank_below xs v i (omega arith) (omega arith) in

@@ -1,5 +1,5 @@
 -- The search for a sibling's place by a table of bounds, and how the table is filled. Assumes nothing.
-use Prim.Native.Nat.{ℕ, zero, suc, ◌+◌, ◌-◌, ◌*◌, ◌/◌, ◌≤◌, ◌<◌}
+use Prim.Native.Nat.{ℕ, zero, suc, min, ◌+◌, ◌-◌, ◌*◌, ◌/◌, ◌≤◌, ◌<◌}
 use mathlib.Core.Path.{◌≡◌, refl, ap, sym, ◌∙◌, subst}
 use mathlib.Core.List.{List}
 use mathlib.Core.Logic.{⊎_elim}
@@ -140,10 +140,7 @@ least_more map places from i least d r p l is-depth a b =
     }
 
 -- past the last place, or past the last one that is asked for
-pub least-all : (map : List ℕ) (places from i to least : ℕ) → Least map places from i least → places ≤ i → (ps : List Place) → MapHeld ps map → places ≡ length ps → AsDeep ps least from to
-least-all map places from i to least p l ps h e = record { deep = λ j a b w. (p.deep ps h e).deep j a (omega arith) w }
-
-pub least-done : (map : List ℕ) (places from i to least : ℕ) → Least map places from i least → to ≤ i → (ps : List Place) → MapHeld ps map → places ≡ length ps → AsDeep ps least from to
+pub least-done : (map : List ℕ) (places from i to least : ℕ) → Least map places from i least → min to places ≤ i → (ps : List Place) → MapHeld ps map → places ≡ length ps → AsDeep ps least from to
 least-done map places from i to least p l ps h e = record { deep = λ j a b w. (p.deep ps h e).deep j a (omega arith) w }
 
 -- ---- a block

@@ -3,15 +3,17 @@ use mathlib.Core.Path.{sym, ◌∙◌}
 use native.Mathlib.Omega.{arith}
 use Rattle.rewriting.proofs.WritePass.Putting.{groups_none, groups-over, groups-beyond, groups-rest}
 use Rattle.rewriting.proofs.numbers.groups_fit.Goals as goal
-
-pub returns-then-width-eq0 : goal.returns-then-width-eq0
-returns-then-width-eq0 c = sym (groups_none _ _ _ c.if-width-eq0.true)
-
-pub returns-then-width-gt10 : goal.returns-then-width-gt10
-returns-then-width-gt10 c = sym (groups-over _ _ _ c.if-width-gt10.true)
+use Rattle.rewriting.proofs.numbers.groups_fit.Goals.{then-width-gt0, else-width-gt0, then-width-le10, else-width-le10}
 
 pub returns-then-width-room : goal.returns-then-width-room
-returns-then-width-room c = sym (groups-beyond _ _ _ c.if-width-room.true)
+returns-then-width-room c = c.fits.ensures ∙ sym (groups-rest _ _ _ (λ e. omega arith) (omega arith) (omega arith))
 
-pub returns : goal.returns
-returns c = c.fits.ensures ∙ sym (groups-rest _ _ _ c.if-width-eq0.false (omega arith) (omega arith))
+pub returns-else-width-room : goal.returns-else-width-room
+returns-else-width-room c =
+    elim c.if-width-le10.branch [
+      then-width-le10 w ↦ cc (groups-beyond c.args.value c.args.width c.args.room (omega arith))
+      | else-width-le10 w ↦ elim c.if-width-gt0.branch [
+          then-width-gt0 u ↦ cc (groups-over c.args.value c.args.width c.args.room (omega arith))
+          | else-width-gt0 u ↦ cc (groups_none c.args.value c.args.width c.args.room (omega arith))
+        ]
+    ]

@@ -4,6 +4,3 @@ use Rattle.rewriting.proofs.numbers.put_big_endian.Given as goal
 
 abbrev pub invariant-loop-i : goal.invariant-loop-i
 invariant-loop-i l = Backing l.value l.at l.width l.initial.s l.s l.rest l.i
-
-abbrev pub decreases-loop-i : goal.decreases-loop-i
-decreases-loop-i l = l.i

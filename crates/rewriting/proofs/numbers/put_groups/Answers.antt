@@ -23,8 +23,8 @@ loop-i-preserved c = grouping-more _ _ _ _ _ _ (omega arith) c.loop-i.invariant
 pub overflow_cast-out-2 : goal.overflow_cast-out-2
 overflow_cast-out-2 c = omega (arith, grouping-low _ _ _ _ _ _ (omega arith) c.loop-i.invariant)
 
-pub bounds-out-i-2 : goal.bounds-out-i-2
-bounds-out-i-2 c = grouping-room _ _ _ _ _ _ c.loop-i.invariant
+pub bounds-out-last : goal.bounds-out-last
+bounds-out-last c = omega (arith, c.loop-i.invariant.room)
 
 pub returns : goal.returns
 returns c = let f = sym c.groups_fit.ensures ∙ c.if-not-groups_fit.false in

@@ -4,6 +4,3 @@ use Rattle.rewriting.proofs.siblings.fill_bounds.Given as goal
 
 abbrev pub invariant-loop-k : goal.invariant-loop-k
 invariant-loop-k l = Filling l.map l.places l.initial.bounds l.bounds l.k
-
-abbrev pub decreases-loop-k : goal.decreases-loop-k
-decreases-loop-k l = l.k

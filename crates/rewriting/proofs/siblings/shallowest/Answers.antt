@@ -1,17 +1,14 @@
 -- `shallowest` meets its contract.
 use native.Mathlib.Omega.{arith}
-use Rattle.rewriting.proofs.MapPass.Bounded.{least_start, least_more, least-all, least-done}
+use Rattle.rewriting.proofs.MapPass.Bounded.{least_start, least_more, least-done}
 use Rattle.rewriting.proofs.MapPass.Places.{depth-there}
 use Rattle.rewriting.proofs.siblings.shallowest.Goals as goal
 
 pub loop-i-init : goal.loop-i-init
 loop-i-init c = least_start _ _ _
 
-pub returns-then-i-places : goal.returns-then-i-places
-returns-then-i-places c = (c.loop-i.invariant.fits, least-all _ _ _ _ _ _ c.loop-i.invariant c.if-i-places.true)
-
 pub loop-i-preserved : goal.loop-i-preserved
-loop-i-preserved c = least_more _ _ _ _ _ _ _ c.loop-i.invariant (omega arith) (depth-there _ _ _ c.depth_at.ensures) c.lesser-least.ensures.0 c.lesser-least.ensures.1
+loop-i-preserved c = least_more _ _ _ _ _ _ _ c.loop-i.invariant (omega arith) (depth-there _ _ _ c.depth_at.ensures) (omega arith) (omega arith)
 
 pub returns : goal.returns
-returns c = (c.loop-i.invariant.fits, least-done _ _ _ _ _ _ c.loop-i.invariant c.loop-i-test.false)
+returns c = (c.loop-i.invariant.fits, least-done _ _ _ _ _ _ c.loop-i.invariant (omega arith))

@@ -1,10 +1,6 @@
 -- `shallowest` meets its contract.
-use Prim.Native.Nat.{◌-◌}
 use Rattle.rewriting.proofs.MapPass.Bounded.{Least}
 use Rattle.rewriting.proofs.siblings.shallowest.Given as goal
 
 abbrev pub invariant-loop-i : goal.invariant-loop-i
 invariant-loop-i l = Least l.map l.places l.from l.i l.least
-
-abbrev pub decreases-loop-i : goal.decreases-loop-i
-decreases-loop-i l = l.to - l.i
